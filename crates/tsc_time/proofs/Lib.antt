@@ -1,0 +1,5 @@
+pub mod TimeOrder
+pub mod Members
+pub mod SharedOwner
+pub mod RatchetOrder
+pub mod JointLemmas

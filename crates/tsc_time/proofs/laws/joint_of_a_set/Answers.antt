@@ -1,0 +1,5 @@
+use Rattle.tsc_time.proofs.JointLemmas.{joint-of_a_set}
+use Rattle.tsc_time.proofs.laws.joint_of_a_set.Goals as goal
+
+pub returns : goal.returns
+returns c = joint-of_a_set

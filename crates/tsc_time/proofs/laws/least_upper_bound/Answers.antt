@@ -1,0 +1,5 @@
+use Rattle.tsc_time.proofs.JointLemmas.{joint-above, joint-least}
+use Rattle.tsc_time.proofs.laws.least_upper_bound.Goals as goal
+
+pub returns-clause-bound : goal.returns-clause-bound
+returns-clause-bound c = record { above = joint-above; least = joint-least }

@@ -1,0 +1,27 @@
+-- What follows from the definitions, stated for every value.
+use Rattle.std.specs.Prelude.{◌≡◌, ◌↔◌, List, ◌∷◌, Contains, true, false}
+use Rattle.tsc_time.specs.Time.{Time, is_in_range, is_before}
+use Rattle.tsc_time.specs.OwnedTime.{OwnedTime}
+use Rattle.tsc_time.specs.Joint.{joint, IsAtMost}
+
+-- both times are in range, and no time in range is before the first or after the last
+pub record IsRange (first last : Time) : Type 0 where
+  pub first_in_range : is_in_range first ≡ true
+  pub last_in_range : is_in_range last ≡ true
+  pub none_before : (t : Time) → is_in_range t ≡ true → is_before t first ≡ false
+  pub none_after : (t : Time) → is_in_range t ≡ true → is_before last t ≡ false
+
+-- the ratchet order is a partial order
+pub record IsRatchetOrder : Type 0 where
+  pub itself : (v : OwnedTime) → IsAtMost v v
+  pub antisymmetric : (v w : OwnedTime) → IsAtMost v w → IsAtMost w v → v ≡ w
+  pub transitive : (u v w : OwnedTime) → IsAtMost u v → IsAtMost v w → IsAtMost u w
+
+-- the joint value is the least that each of the list is at most
+pub record IsLeastAbove : Type 0 where
+  pub above : (v : OwnedTime) (vs : List OwnedTime) (x : OwnedTime) → Contains (v ∷ vs) x → IsAtMost x (joint v vs)
+  pub least : (v : OwnedTime) (vs : List OwnedTime) (u : OwnedTime) → ((x : OwnedTime) → Contains (v ∷ vs) x → IsAtMost x u) → IsAtMost (joint v vs) u
+
+-- lists of the same values, in whatever order and however often, have one joint value
+abbrev pub SameJoint : Type 0
+SameJoint = (v w : OwnedTime) (vs ws : List OwnedTime) → ((x : OwnedTime) → Contains (v ∷ vs) x ↔ Contains (w ∷ ws) x) → joint v vs ≡ joint w ws

@@ -1,0 +1,4 @@
+pub mod Time
+pub mod OwnedTime
+pub mod Joint
+pub mod Laws

@@ -1,0 +1,42 @@
+-- Timestamps: `hlc.Timestamp` of CockroachDB's pkg/util/hlc, without its negative values.
+use Rattle.std.specs.Prelude.{ℕ, ◌-◌, ◌^◌, ◌&&◌, ◌==◌, nat_lt, nat_le, Bool, Option, Some, None, if◌then◌else◌}
+use Rattle.std.specs.declared.cmp.Ordering.{Ordering}
+use Rattle.std.specs.Ordering.{nat_cmp, is_lt, ordering_then}
+
+-- a wall time in nanoseconds, and a logical count
+pub record Time : Type 0 where
+  pub wall : ℕ
+  pub logical : ℕ
+
+-- what a wall time stays below, and a logical count
+abbrev pub wall_limit : ℕ
+wall_limit = 2 ^ 63
+
+abbrev pub logical_limit : ℕ
+logical_limit = 2 ^ 31
+
+-- whether both parts are in range
+abbrev pub is_in_range : Time → Bool
+is_in_range t = nat_lt t.wall wall_limit && nat_lt t.logical logical_limit
+
+-- the earliest timestamp
+abbrev pub zero_time : Time
+zero_time = record { wall = 0; logical = 0 }
+
+-- the order of timestamps: by wall time, and then by logical count
+abbrev pub time_cmp : Time → Time → Ordering
+time_cmp a b = ordering_then (nat_cmp a.wall b.wall) (nat_cmp a.logical b.logical)
+
+abbrev pub is_before : Time → Time → Bool
+is_before a b = is_lt (time_cmp a b)
+
+abbrev pub is_same_time : Time → Time → Bool
+is_same_time a b = (a.wall == b.wall) && (a.logical == b.logical)
+
+-- the later of two
+abbrev pub later : Time → Time → Time
+later a b = if is_before a b then b else a
+
+-- a timestamp that many nanoseconds earlier, with the same logical count, where there is one
+abbrev pub time_minus : Time → ℕ → Option Time
+time_minus t ns = if nat_le ns t.wall then Some (record { wall = t.wall - ns; logical = t.logical }) else None

@@ -1,0 +1,84 @@
+ghost use Rattle.std.specs.Prelude.{◌≡◌, ◌≢◌, ◌↔◌, ◌∷◌, [], IsTrue, Some, None};
+ghost use Rattle.uuid.specs.Parts.{zero_bytes};
+ghost use Rattle.tsc_time.specs.OwnedTime.{unowned, owner_of};
+ghost use Rattle.tsc_time.specs.Joint.{joint, ratcheted};
+
+use crate::Timestamp;
+use std::marker::Model;
+use uuid::Uuid;
+
+/// What the cache holds for a key: the time of a read, and the transaction that owns it, if one does.
+/// It restates `cacheValue` of CockroachDB's `pkg/kv/kvserver/tscache`.
+///
+/// A transaction's own reads do not push its writes, so an owner is worth keeping. The nil UUID names
+/// no transaction, and is never an owner.
+#[derive(Clone, Copy, Debug, PartialEq, Eq)]
+pub struct Value {
+    time: Timestamp,
+    owner: Option<Uuid>,
+}
+
+impl Model for Value {
+    ghost use Rattle.std.specs.Prelude.{◌≢◌, Some};
+    ghost use Rattle.uuid.specs.Parts.{zero_bytes};
+    ghost use Rattle.tsc_time.specs.OwnedTime.{OwnedTime};
+
+    ghost Value = { OwnedTime };
+
+    ghost view = { λ v. record { time = v.time; owner = v.owner } };
+
+    ghost invariant = { λ v. v.owner ≢ Some zero_bytes };
+
+    ghost inverse = { λ v. record { time = v.time; owner = v.owner } };
+}
+
+impl Value {
+    /// A time with its owner. The nil UUID means none.
+    pub fn of(time: Timestamp, owner: Uuid) -> Value
+        ensures { result ≡ record { time = time; owner = owner_of owner } }
+    {
+        let owner = if owner.is_nil() { None } else { Some(owner) };
+        Value { time, owner }
+    }
+
+    /// A time that no transaction owns.
+    pub const fn unowned(time: Timestamp) -> Value
+        ensures { result ≡ unowned time }
+    {
+        Value { time, owner: None }
+    }
+
+    /// The time.
+    pub const fn time(self) -> Timestamp
+        ensures { result ≡ self.time }
+    {
+        self.time
+    }
+
+    /// The transaction that owns the time, if one does.
+    pub const fn owner(self) -> Option<Uuid>
+        ensures value { result ≡ self.owner }
+        ensures not_nil { result ≢ Some zero_bytes }
+    {
+        self.owner
+    }
+}
+
+/// What `new` makes of `old`, and whether that differs from `old`: `ratchetValue` of CockroachDB's
+/// `pkg/kv/kvserver/tscache/cache.go`.
+///
+/// The later time wins with its owner. At equal times a common owner stays, and otherwise nobody owns
+/// the time any longer, since the writes of each transaction have to heed the reads of the other.
+pub fn ratchet(old: Value, new: Value) -> (Value, bool)
+    ensures value { result.0 ≡ ratcheted old new }
+    ensures joint { result.0 ≡ joint old (new ∷ []) }
+    ensures updated { IsTrue result.1 ↔ (result.0 ≢ old) }
+{
+    if old.time < new.time {
+        return (new, true);
+    }
+    if new.time < old.time || new.owner == old.owner {
+        return (old, false);
+    }
+    (Value::unowned(old.time), old.owner.is_some())
+}

@@ -1,0 +1,19 @@
+-- The next mark comes last among those that were met.
+use Rattle.std.proofs.Common.{◌≡◌, ◌∙◌, sym, inl, inr, get_or, ◌<◌, length, arith}
+use Rattle.tscache.specs.Page.{Mark}
+use Rattle.tscache.specs.Span.{overlaps}
+use Rattle.tscache.proofs.Lookups.{met_one_more}
+use Rattle.tscache.proofs.plain.PlainCache.get_max.Goals as goal
+use Rattle.tscache.proofs.plain.PlainCache.get_max.Goals.{then-overlaps, else-overlaps}
+
+pub loop-mark-preserved : goal.loop-mark-preserved
+loop-mark-preserved c =
+    let m : Mark = record { span = c.mark.inside.span; value = c.mark.inside.value } in
+    let marks = c.deref-mark-items.result.now in
+    let at : m ≡ get_or marks c.loop-mark.mark-index c.mark-item.result = c.mark.view_is ∙ c.mark-item.is in
+    let within : c.loop-mark.mark-index < length marks = omega arith in
+    let met = met_one_more c.args.self.now.state.floor c.args.span.now marks c.loop-mark.mark-index m c.mark-item.result c.loop-mark.best c.if-overlaps.best within at c.loop-mark.invariant in
+    elim c.if-overlaps.branch [
+      | then-overlaps w ↦ met (inl (sym c.overlaps.ensures ∙ w.if-overlaps.true, w.best-is ∙ w.ratchet-best.ensures.joint))
+      | else-overlaps w ↦ met (inr (sym c.overlaps.ensures ∙ w.if-overlaps.false, w.best-is))
+    ]

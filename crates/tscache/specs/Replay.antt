@@ -1,0 +1,77 @@
+-- What a replay reads and writes.
+use Rattle.std.specs.Prelude.{◌≡◌, ◌≢◌, ◌++◌, ℕ, List, Option, Ok, Err, codes, decimal}
+use Rattle.std.specs.Io.KnownBytes.{Appends}
+use Rattle.tscache.specs.TraceText.{trace_of_bytes}
+use Rattle.tscache.specs.Log.{log_of}
+use Rattle.tscache.specs.LogText.{log_text}
+use Rattle.tscache.specs.Stream.{HasRead, HasWrittenFront}
+use Rattle.tscache.specs.declared.trace.Trace.{Trace}
+use Rattle.tscache.specs.declared.read.TraceFault.{TraceFault}
+use Rattle.tscache.specs.declared.read.TraceFault.TheVariants as trace_fault
+use Rattle.tscache.specs.declared.stream.InputFault.{InputFault}
+use Rattle.tscache.specs.declared.stream.InputFault.TheVariants as input_fault
+use Rattle.tscache.specs.declared.replay.ReplayFault.{ReplayFault}
+use Rattle.tscache.specs.declared.replay.ReplayFault.TheVariants.{Read, TooLong, Trace as Refused, Write, NoMemory}
+
+-- the text that a replay of a trace writes
+abbrev pub replay_text : Trace → List ℕ
+replay_text trace = log_text (log_of trace)
+
+-- A reader was read to its end and gave a trace, and this is the text of its replay.
+pub record ReplaysTo (reader reader' : Option (List ℕ)) (text : List ℕ) : Type 0 where
+  pub input : List ℕ
+  pub trace : Trace
+  pub read : HasRead reader reader' input
+  pub is_trace : trace_of_bytes input ≡ Ok trace
+  pub is_text : text ≡ replay_text trace
+
+-- All of a trace was read, and the text of its replay was written, and nothing else.
+pub record Replays (reader reader' writer writer' : Option (List ℕ)) : Type 0 where
+  pub text : List ℕ
+  pub read : ReplaysTo reader reader' text
+  pub wrote : Appends writer writer' text
+
+-- All of a trace was read, and a front of the text of its replay was written, and nothing else.
+pub record ReplaysFront (reader reader' writer writer' : Option (List ℕ)) : Type 0 where
+  pub text : List ℕ
+  pub read : ReplaysTo reader reader' text
+  pub wrote : HasWrittenFront writer writer' text
+
+-- A reader was read to its end, and gave what is no trace, for this reason.
+pub record Refuses (reader reader' : Option (List ℕ)) (fault : TraceFault) : Type 0 where
+  pub input : List ℕ
+  pub read : HasRead reader reader' input
+  pub is_none : trace_of_bytes input ≡ Err fault
+  pub is_seen : fault ≢ trace_fault.NoMemory
+
+-- how a fault of an input ends a replay
+abbrev pub fault_of_input : InputFault → ReplayFault
+fault_of_input input_fault.Read = Read
+fault_of_input input_fault.TooLong = TooLong
+fault_of_input input_fault.NoMemory = NoMemory
+
+-- how a fault of a trace ends a replay
+abbrev pub fault_of_trace : TraceFault → ReplayFault
+fault_of_trace trace_fault.NotJson = Refused trace_fault.NotJson
+fault_of_trace (trace_fault.Shape call) = Refused (trace_fault.Shape call)
+fault_of_trace trace_fault.NoMemory = NoMemory
+
+-- the exit status of a fault
+abbrev pub status_of : ReplayFault → ℕ
+status_of Read = 4
+status_of TooLong = 4
+status_of (Refused trace_fault.NotJson) = 1
+status_of (Refused (trace_fault.Shape call)) = 1
+status_of (Refused trace_fault.NoMemory) = 5
+status_of Write = 4
+status_of NoMemory = 5
+
+-- what tells a fault
+abbrev pub fault_text : ReplayFault → List ℕ
+fault_text Read = codes "read failed"
+fault_text TooLong = codes "input too long"
+fault_text (Refused trace_fault.NotJson) = codes "trace refused: fault 1"
+fault_text (Refused (trace_fault.Shape call)) = codes "trace refused: fault 2 at call " ++ decimal call
+fault_text (Refused trace_fault.NoMemory) = codes "out of memory"
+fault_text Write = codes "write failed"
+fault_text NoMemory = codes "out of memory"

@@ -1,0 +1,128 @@
+-- The cache as a floor and a list of pages: `intervalSkl` of CockroachDB's pkg/kv/kvserver/tscache, with its rotation of pages.
+use Rattle.std.specs.Prelude.{ℕ, suc, ◌+◌, ◌-◌, ◌^◌, ◌&&◌, ◌==◌, List, [], ◌∷◌, length, reverse, nat_lt, nat_le, not, Bool, true, false, Option, Some, None, Result, Ok, Err, if◌then◌else◌}
+use Rattle.std.specs.List.{flat_map}
+use Rattle.tsc_time.specs.Time.{Time, zero_time, wall_limit, time_minus, is_before, later}
+use Rattle.tsc_time.specs.OwnedTime.{OwnedTime}
+use Rattle.tsc_time.specs.Joint.{joint_above}
+use Rattle.tscache.specs.Span.{Interval, nothing, between}
+use Rattle.tscache.specs.Page.{Mark, PageMarks, empty_page, with_mark, top, values_on, has_room}
+use Rattle.tscache.specs.declared.cache.Added.{Added}
+use Rattle.tscache.specs.declared.config.ConfigFault.{ConfigFault}
+use Rattle.tscache.specs.declared.config.ConfigFault.TheVariants.{PageSize, MinPages, Retention}
+
+-- what a cache is configured with
+pub record Settings : Type 0 where
+  pub page_nodes : ℕ
+  pub min_pages : ℕ
+  pub retention : ℕ
+  pub low_water : Time
+
+-- The settings of these values, or the first fault: the size of a page is from 2 to 65,536 nodes, the least number of pages from 1 to 64, and the retention below 2 ^ 63 nanoseconds.
+abbrev pub settings_of : ℕ → ℕ → ℕ → Time → Result Settings ConfigFault
+settings_of page_nodes min_pages retention low_water =
+    if not (nat_le 2 page_nodes && nat_le page_nodes 65536) then Err PageSize
+    else if not (nat_le 1 min_pages && nat_le min_pages 64) then Err MinPages
+    else if not (nat_lt retention wall_limit) then Err Retention
+    else Ok (record { page_nodes = page_nodes; min_pages = min_pages; retention = retention; low_water = low_water })
+
+-- the floor, the pages from newest to oldest, and how often they rotated
+pub record CacheState : Type 0 where
+  pub floor : Time
+  pub pages : List PageMarks
+  pub rotations : ℕ
+
+-- the floor at the low-water time, and one empty page whose base is zero
+abbrev pub opening : Settings → CacheState
+opening settings = record { floor = settings.low_water; pages = empty_page zero_time ∷ []; rotations = 0 }
+
+-- A page is expired where its top is below the moment less the retention. One whose top equals that limit is not, and where the moment's wall time is smaller than the retention no page is.
+abbrev pub is_expired : ℕ → Time → PageMarks → Bool
+is_expired retention now p = is_below_limit (time_minus now retention)
+  where
+    is_below_limit : Option Time → Bool
+    is_below_limit None = false
+    is_below_limit (Some limit) = is_before (top p) limit
+
+-- what an eviction leaves: the floor, the pages from oldest to newest, and how many were dropped
+pub record Eviction : Type 0 where
+  pub floor : Time
+  pub pages : List PageMarks
+  pub evicted : ℕ
+
+-- Over the pages from oldest to newest: the oldest is dropped, and the floor rises to its top, while there are at least `min_pages` pages and it is expired.
+abbrev pub evict : Settings → Time → Time → List PageMarks → Eviction
+evict settings now floor [] = record { floor = floor; pages = []; evicted = 0 }
+evict settings now floor (oldest ∷ newer) =
+    if nat_le settings.min_pages (suc (length newer)) && is_expired settings.retention now oldest
+    then (let rest = evict settings now (later floor (top oldest)) newer in record { floor = rest.floor; pages = rest.pages; evicted = suc rest.evicted })
+    else record { floor = floor; pages = oldest ∷ newer; evicted = 0 }
+
+-- the top of the front page
+abbrev pub front_top : List PageMarks → Time
+front_top [] = zero_time
+front_top (front ∷ older) = top front
+
+-- a count of 64 bits that stays at its end
+abbrev pub counted_on : ℕ → ℕ
+counted_on n = if n == 2 ^ 64 - 1 then n else n + 1
+
+-- what a rotation leaves, and how many pages it dropped
+pub record Rotation : Type 0 where
+  pub state : CacheState
+  pub evicted : ℕ
+
+-- Pages are evicted, and then a new front page comes, whose base is the top of the page that was the front, evicted or not.
+abbrev pub rotate : Settings → CacheState → Time → Rotation
+rotate settings s now =
+    let kept = evict settings now s.floor (reverse s.pages) in
+    record { state = record { floor = kept.floor; pages = empty_page (front_top s.pages) ∷ reverse kept.pages; rotations = counted_on s.rotations }; evicted = kept.evicted }
+
+-- whether the front page has room for a span
+abbrev pub front_has_room : Settings → CacheState → Interval → Bool
+front_has_room settings s span = room_of s.pages
+  where
+    room_of : List PageMarks → Bool
+    room_of [] = false
+    room_of (front ∷ older) = has_room settings.page_nodes front span
+
+-- the pages with one more mark on the front page
+abbrev pub on_front : List PageMarks → Mark → List PageMarks
+on_front [] m = []
+on_front (front ∷ older) m = with_mark front m ∷ older
+
+-- the state with one more mark on its front page
+abbrev pub marked : CacheState → Mark → CacheState
+marked s m = record { floor = s.floor; pages = on_front s.pages m; rotations = s.rotations }
+
+abbrev pub is_empty_span : Interval → Bool
+is_empty_span nothing = true
+is_empty_span (between from to) = false
+
+-- An Add of the empty span, or at or below the floor, is not kept.
+abbrev pub is_kept : CacheState → Mark → Bool
+is_kept s m = not (is_empty_span m.span) && is_before s.floor m.value.time
+
+-- what an Add leaves, and what it answers
+pub record Stepped : Type 0 where
+  pub state : CacheState
+  pub added : Added
+
+-- What an Add makes of a state. One that is not kept leaves it. Any other goes to the front page, and where that has no room the pages rotate once first.
+abbrev pub step : Settings → CacheState → Mark → Time → Stepped
+step settings s m now =
+    if not (is_kept s m) then record { state = s; added = record { kept = false; rotated = false; evicted = 0 } }
+    else if front_has_room settings s m.span then record { state = marked s m; added = record { kept = true; rotated = false; evicted = 0 } }
+    else (let turned = rotate settings s now in record { state = marked turned.state m; added = record { kept = true; rotated = true; evicted = turned.evicted } })
+
+-- What a lookup answers: the joint value of all marks of all pages that overlap the span, together with the floor.
+abbrev pub look : CacheState → Interval → OwnedTime
+look s span = joint_above s.floor (flat_map (λ p. values_on span p.marks) s.pages)
+
+-- a cache's settings, with the state that it stands for
+pub record ConfiguredState : Type 0 where
+  pub settings : Settings
+  pub state : CacheState
+
+-- the state of a cache that has only ever had one page, with these marks
+abbrev pub one_page : Settings → List Mark → CacheState
+one_page settings marks = record { floor = settings.low_water; pages = record { base = zero_time; marks = marks } ∷ []; rotations = 0 }

@@ -1,0 +1,41 @@
+-- What is told of a reader and a writer, and how far they may go.
+use Rattle.std.specs.Prelude.{◌≡◌, ◌⊎◌, ℕ, ◌<◌, ◌≤◌, List, length, take, Bool, true, false, Option, Result, Ok, Err}
+use Rattle.std.specs.Io.KnownBytes.{Appends, Consumes, IsAtEnd}
+use Rattle.tscache.specs.declared.stream.Trouble.{Trouble}
+use Rattle.tscache.specs.declared.stream.Trouble.TheVariants.{Interrupted, Failed, Exhausted}
+
+-- how many bytes an input has at the most
+abbrev pub longest_input : ℕ
+longest_input = 16777216
+
+-- how many times a command reads, and how many times it writes, before it gives up
+abbrev pub most_turns : ℕ
+most_turns = 33554432
+
+-- whether a call failed for good
+abbrev pub is_failure : {T : Type 0} → Result T Trouble → Bool
+is_failure (Ok x) = false
+is_failure (Err Interrupted) = false
+is_failure (Err Failed) = true
+is_failure (Err Exhausted) = false
+
+-- A reader or a writer gave up: it failed, or it was called as often as it may be.
+abbrev pub GaveUp : Bool → ℕ → Type 0
+GaveUp failed turns_left = (failed ≡ true) ⊎ (turns_left ≡ 0)
+
+-- A reader was read to its end, and gave this input.
+pub record HasRead (old new : Option (List ℕ)) (input : List ℕ) : Type 0 where
+  pub consumed : Consumes old new input
+  pub ended : IsAtEnd new
+  pub within : length input ≤ longest_input
+
+-- More came from a reader than an input may have.
+pub record HasReadTooMuch (old new : Option (List ℕ)) : Type 0 where
+  pub read : List ℕ
+  pub consumed : Consumes old new read
+  pub beyond : longest_input < length read
+
+-- A writer took the front of a text.
+pub record HasWrittenFront (old new : Option (List ℕ)) (text : List ℕ) : Type 0 where
+  pub written : ℕ
+  pub appended : Appends old new (take written text)

@@ -1,0 +1,187 @@
+use super::*;
+use std::test::*;
+
+/// What reading says of a text: how many calls its list has, or why it is refused.
+fn said(alloc: Global, text: &str) -> Result<usize, TraceFault> {
+    let trace = read_trace(alloc, text.as_bytes())?;
+    Ok(trace.threads.list(0).map_or(0, |calls| calls.len()))
+}
+
+/// What reading says of a list of calls, on pages of this many keys.
+fn said_of_calls(
+    alloc: Global,
+    page_nodes: u32,
+    calls: &str,
+) -> Result<Result<usize, TraceFault>, Fail> {
+    let text = format!(in alloc;
+        "{{\"page_nodes\":{page_nodes},\"min_pages\":1,\"retention\":1000,\"low_water\":[5,0],\"threads\":[[{calls}]]}}"
+    )?;
+    Ok(said(alloc, &text))
+}
+
+const SHAPE: Result<usize, TraceFault> = Err(TraceFault::Shape(0));
+
+#[test]
+fn reads_a_trace(rt: HostRuntime) {
+    let text = r#"{"page_nodes":4,"min_pages":2,"retention":9223372036854775807,"low_water":[5,7],
+        "threads":[[
+            {"op":"add","span":{"start":"61","end":"63"},"time":[9,1],"owner":"00112233-4455-6677-8899-aabbccddeeff","now":[10,0]},
+            {"op":"get","span":{"start":"62"}},
+            {"op":"low"}
+        ]]}"#;
+    assert_eq!(rt; said(rt.alloc(), text), Ok(3));
+}
+
+#[test]
+fn tells_bytes_that_are_no_json(rt: HostRuntime) {
+    for bytes in [
+        b"".as_slice(),
+        b"{\"page_nodes\":4".as_slice(),
+        b"{} {}".as_slice(),
+        b"{\"threads\":\"\xff\"}".as_slice(),
+    ] {
+        assert_eq!(rt;
+            read_trace(rt.alloc(), bytes).err(),
+            Some(TraceFault::NotJson)
+        );
+    }
+}
+
+#[test]
+fn reads_heads(rt: HostRuntime) {
+    for (text, want) in [
+        (
+            r#"{"page_nodes":2,"min_pages":1,"retention":0,"low_water":[0,0],"threads":[[]]}"#,
+            Ok(0),
+        ),
+        (
+            r#"{"page_nodes":2,"min_pages":1,"min_pages":64,"retention":0,"low_water":[0,0],"threads":[[]]}"#,
+            Ok(0),
+        ),
+        (
+            r#"{"page_nodes":1,"min_pages":1,"retention":0,"low_water":[0,0],"threads":[[]]}"#,
+            SHAPE,
+        ),
+        (
+            r#"{"page_nodes":2,"min_pages":65,"retention":0,"low_water":[0,0],"threads":[[]]}"#,
+            SHAPE,
+        ),
+        (
+            r#"{"page_nodes":2,"retention":0,"low_water":[0,0],"threads":[[]]}"#,
+            SHAPE,
+        ),
+        (
+            r#"{"page_nodes":2,"min_pages":1,"retention":9223372036854775808,"low_water":[0,0],"threads":[[]]}"#,
+            SHAPE,
+        ),
+        (
+            r#"{"page_nodes":2,"min_pages":1,"retention":0,"low_water":[0,0],"threads":[[]],"more":1}"#,
+            SHAPE,
+        ),
+        (
+            r#"{"page_nodes":2,"min_pages":1,"retention":0,"low_water":[-1,0],"threads":[[]]}"#,
+            SHAPE,
+        ),
+        (
+            r#"{"page_nodes":2,"min_pages":1,"retention":0,"low_water":[0],"threads":[[]]}"#,
+            SHAPE,
+        ),
+        (
+            r#"{"page_nodes":2,"min_pages":1,"retention":0,"low_water":[0,0],"threads":[[],[]]}"#,
+            SHAPE,
+        ),
+        (
+            r#"{"page_nodes":2,"min_pages":1,"retention":0,"low_water":[0,0],"threads":[]}"#,
+            SHAPE,
+        ),
+        ("[]", SHAPE),
+    ] {
+        assert_eq!(rt; said(rt.alloc(), text), want, "at {text}");
+    }
+}
+
+#[test]
+fn reads_calls(rt: HostRuntime) -> Result<(), Fail> {
+    for (calls, want) in [
+        // An Add from one key to another.
+        (
+            r#"{"op":"add","span":{"start":"61","end":"62"},"time":[1,0],"now":[1,0]}"#,
+            Ok(1),
+        ),
+        // An empty end, a null owner, the nil UUID.
+        (
+            r#"{"op":"add","span":{"start":"61","end":""},"time":[1,0],"owner":null,"now":[1,0]}"#,
+            Ok(1),
+        ),
+        (
+            r#"{"op":"add","span":{"start":""},"time":[1,0],"owner":"00000000-0000-0000-0000-000000000000","now":[1,0]}"#,
+            Ok(1),
+        ),
+        // A lookup may be inverted, and an Add may not.
+        (r#"{"op":"get","span":{"start":"62","end":"61"}}"#, Ok(1)),
+        (
+            r#"{"op":"add","span":{"start":"62","end":"61"},"time":[1,0],"now":[1,0]}"#,
+            SHAPE,
+        ),
+        // Members that nobody reads.
+        (r#"{"op":"get","span":{"start":"61","ends":"()"}}"#, SHAPE),
+        (r#"{"op":"get","span":{"start":"61","onward":true}}"#, SHAPE),
+        (r#"{"op":"get","span":{"start":"61"},"now":[1,0]}"#, SHAPE),
+        (r#"{"op":"low","now":[1,0]}"#, SHAPE),
+        // Members that are missing.
+        (r#"{"op":"get"}"#, SHAPE),
+        (r#"{"op":"add","span":{"start":"61"},"time":[1,0]}"#, SHAPE),
+        // Digits, owners and times of a wrong form.
+        (r#"{"op":"get","span":{"start":"6g"}}"#, SHAPE),
+        (r#"{"op":"get","span":{"start":"616"}}"#, SHAPE),
+        (r#"{"op":"get","span":{"start":61}}"#, SHAPE),
+        (
+            r#"{"op":"add","span":{"start":"61"},"time":[1,0],"owner":"xyz","now":[1,0]}"#,
+            SHAPE,
+        ),
+        (
+            r#"{"op":"add","span":{"start":"61"},"time":[-1,0],"now":[1,0]}"#,
+            SHAPE,
+        ),
+        (
+            r#"{"op":"add","span":{"start":"61"},"time":[1,2147483648],"now":[1,0]}"#,
+            SHAPE,
+        ),
+        (
+            r#"{"op":"add","span":{"start":"61"},"time":[1,0.5],"now":[1,0]}"#,
+            SHAPE,
+        ),
+        (r#"{"op":"drop"}"#, SHAPE),
+        ("7", SHAPE),
+    ] {
+        let said = said_of_calls(rt.alloc(), 2, calls)?;
+        assert_eq!(rt; said, want, "at {calls}");
+    }
+    Ok(())
+}
+
+#[test]
+fn counts_the_end_keys_of_adds(rt: HostRuntime) -> Result<(), Fail> {
+    let calls = r#"{"op":"add","span":{"start":"61","end":"62"},"time":[1,0],"now":[1,0]},
+        {"op":"add","span":{"start":"62","end":"63"},"time":[1,0],"now":[1,0]},
+        {"op":"get","span":{"start":"64","end":"65"}},
+        {"op":"add","span":{"start":"61","end":"63"},"time":[1,0],"now":[1,0]}"#;
+    assert_eq!(rt; said_of_calls(rt.alloc(), 2, calls)?, SHAPE);
+    assert_eq!(rt; said_of_calls(rt.alloc(), 3, calls)?, Ok(4));
+    Ok(())
+}
+
+#[test]
+fn reads_keys_of_4096_bytes(rt: HostRuntime) -> Result<(), Fail> {
+    for (bytes, want) in [(4096, Ok(1)), (4097, SHAPE)] {
+        let mut digits = String::new(rt.alloc());
+        for _ in 0..bytes {
+            digits.push_str("61")?;
+        }
+        let call = format!(in rt.alloc();
+            "{{\"op\":\"get\",\"span\":{{\"start\":\"{digits}\"}}}}"
+        )?;
+        assert_eq!(rt; said_of_calls(rt.alloc(), 2, &call)?, want);
+    }
+    Ok(())
+}

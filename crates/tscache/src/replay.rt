@@ -1,0 +1,198 @@
+//! Replays of recorded traces from a reader to a writer.
+ghost use Rattle.std.specs.Prelude.{◌≡◌, ◌≢◌, ◌⊎◌, ◌∷◌, [], ◌++◌, Some, IfOk, IfErr, IsErrOf, OnOk};
+ghost use Rattle.std.specs.Io.KnownBytes.{Appends};
+ghost use Rattle.tscache.specs.LogText.{line_feed};
+ghost use Rattle.tscache.specs.Replay.{Replays, ReplaysFront, ReplaysTo, Refuses, fault_of_input, fault_of_trace, fault_text, status_of};
+ghost use Rattle.tscache.specs.Stream.{GaveUp, HasReadTooMuch};
+ghost use Rattle.tscache.specs.declared.replay.ReplayFault.TheVariants.{NoMemory};
+
+use crate::log::log_text;
+use crate::play::play;
+use crate::read::{TraceFault, read_trace};
+use crate::stream::{InputFault, Sink, Source, read_input, write_output};
+use std::alloc::Global;
+use std::error::Error;
+use std::io::Write;
+use std::{fmt, io};
+use tsc_time::NoMemory;
+
+/// Why a replay ended early. Only [`ReplayFault::Write`] can follow a written byte.
+#[derive(Clone, Copy, Debug, PartialEq, Eq)]
+pub enum ReplayFault {
+    /// A read failed, or there was no end after 33,554,432 reads.
+    Read,
+    /// There were more than 16,777,216 bytes.
+    TooLong,
+    /// The bytes are not a trace. Want of memory is [`ReplayFault::NoMemory`] instead.
+    Trace(TraceFault),
+    /// A write failed or took nothing, or there was no end after 33,554,432 writes.
+    Write,
+    /// A growth was refused. Nothing was written.
+    NoMemory,
+}
+
+impl fmt::Display for ReplayFault {
+    ghost output = { λ fault. Some (fault_text fault) };
+
+    fn fmt<W: fmt::Write>(&self, f: &mut fmt::Formatter<W>) -> fmt::Result {
+        match self {
+            ReplayFault::Read => write!(f, "read failed"),
+            ReplayFault::TooLong => write!(f, "input too long"),
+            ReplayFault::Trace(TraceFault::NotJson) => write!(f, "trace refused: fault 1"),
+            ReplayFault::Trace(TraceFault::Shape(call)) => {
+                write!(f, "trace refused: fault 2 at call {call}")
+            }
+            ReplayFault::Write => write!(f, "write failed"),
+            ReplayFault::NoMemory | ReplayFault::Trace(TraceFault::NoMemory) => {
+                write!(f, "out of memory")
+            }
+        }
+    }
+}
+
+impl Error for ReplayFault {}
+
+impl From<InputFault> for ReplayFault {
+    ghost from_gives = { λ fault given. given ≡ fault_of_input fault };
+
+    fn from(fault: InputFault) -> ReplayFault {
+        match fault {
+            InputFault::Read => ReplayFault::Read,
+            InputFault::TooLong => ReplayFault::TooLong,
+            InputFault::NoMemory => ReplayFault::NoMemory,
+        }
+    }
+}
+
+impl From<TraceFault> for ReplayFault {
+    ghost from_gives = { λ fault given. given ≡ fault_of_trace fault };
+
+    fn from(fault: TraceFault) -> ReplayFault {
+        match fault {
+            TraceFault::NoMemory => ReplayFault::NoMemory,
+            TraceFault::NotJson | TraceFault::Shape(_) => ReplayFault::Trace(fault),
+        }
+    }
+}
+
+impl From<NoMemory> for ReplayFault {
+    ghost from_gives = { λ _ given. given ≡ NoMemory };
+
+    fn from(_refused: NoMemory) -> ReplayFault {
+        ReplayFault::NoMemory
+    }
+}
+
+/// Reads a trace to its end, and writes the log of its replay on one thread.
+pub fn replay_stream<R: Source, W: Sink>(
+    alloc: Global,
+    reader: &mut R,
+    writer: &mut W,
+) -> Result<(), ReplayFault>
+    ensures ok { OnOk result (Replays (R.remaining reader.old) (R.remaining reader.new)
+        (W.contents writer.old) (W.contents writer.new)) }
+    ensures trace { (fault : TraceFault) → IsErrOf result (ReplayFault.Trace fault)
+        → Refuses (R.remaining reader.old) (R.remaining reader.new) fault }
+    ensures read { IsErrOf result ReplayFault.Read
+        → GaveUp (R.has_failed reader.new) (R.turns_left reader.new) }
+    ensures too_long { IsErrOf result ReplayFault.TooLong
+        → HasReadTooMuch (R.remaining reader.old) (R.remaining reader.new) }
+    ensures write { IsErrOf result ReplayFault.Write
+        → GaveUp (W.has_failed writer.new) (W.turns_left writer.new) }
+    ensures front { IsErrOf result ReplayFault.Write
+        → ReplaysFront (R.remaining reader.old) (R.remaining reader.new)
+        (W.contents writer.old) (W.contents writer.new) }
+    ensures silent { IfErr result (λ fault. (fault ≡ ReplayFault.Write)
+        ⊎ (writer.new ≡ writer.old)) }
+    // No failed call is passed over.
+    ensures failed_read { (R.has_failed reader.new ≡ R.has_failed reader.old)
+        ⊎ IsErrOf result ReplayFault.Read }
+    ensures failed_write { (W.has_failed writer.new ≡ W.has_failed writer.old)
+        ⊎ IsErrOf result ReplayFault.Write }
+{
+    let text = replay_text(alloc, reader)?;
+    write_output(writer, &text).map_err(|_| ReplayFault::Write)
+}
+
+/// The text of the log of the trace that a reader has left.
+fn replay_text<R: Source>(alloc: Global, reader: &mut R) -> Result<Vec<u8>, ReplayFault>
+    ensures ok { IfOk result (λ text.
+        ReplaysTo (R.remaining reader.old) (R.remaining reader.new) text.items) }
+    ensures trace { (fault : TraceFault) → IsErrOf result (ReplayFault.Trace fault)
+        → Refuses (R.remaining reader.old) (R.remaining reader.new) fault }
+    ensures read { IsErrOf result ReplayFault.Read
+        → GaveUp (R.has_failed reader.new) (R.turns_left reader.new) }
+    ensures too_long { IsErrOf result ReplayFault.TooLong
+        → HasReadTooMuch (R.remaining reader.old) (R.remaining reader.new) }
+    ensures write { IfErr result (λ fault. fault ≢ ReplayFault.Write) }
+    // No failed read is passed over.
+    ensures failed { (R.has_failed reader.new ≡ R.has_failed reader.old)
+        ⊎ IsErrOf result ReplayFault.Read }
+{
+    let input = read_input(alloc, reader)?;
+    let trace = read_trace(alloc, &input)?;
+    let log = play(alloc, &trace)?;
+    Ok(log_text(alloc, &log)?)
+}
+
+/// Replays a trace from a reader to a writer, tells a fault on `errors`, and gives the exit status.
+///
+/// The status is 0 where all went well, 1 where the trace was refused, 4 where reading or writing
+/// failed and 5 for want of memory. A fault is told by one line. Where `errors` fails too the
+/// status stays.
+pub fn replay_command<R: Source, W: Sink, E: Write>(
+    alloc: Global,
+    reader: &mut R,
+    writer: &mut W,
+    errors: &mut E,
+) -> u8
+    ensures status { (result ≡ 0) ⊎ ((result ≡ 1) ⊎ ((result ≡ 4) ⊎ (result ≡ 5))) }
+    ensures done { result ≡ 0 → Replays (R.remaining reader.old) (R.remaining reader.new)
+        (W.contents writer.old) (W.contents writer.new) }
+    ensures quiet { result ≡ 0 → errors.new ≡ errors.old }
+    ensures refused { result ≡ 1 → (fault : TraceFault)
+        × Refuses (R.remaining reader.old) (R.remaining reader.new) fault }
+    // It could not read, there was too much to read, or it could not write.
+    ensures failed { result ≡ 4
+        → (GaveUp (R.has_failed reader.new) (R.turns_left reader.new)
+        × (writer.new ≡ writer.old))
+        ⊎ ((HasReadTooMuch (R.remaining reader.old) (R.remaining reader.new)
+        × (writer.new ≡ writer.old))
+        ⊎ (GaveUp (W.has_failed writer.new) (W.turns_left writer.new)
+        × ReplaysFront (R.remaining reader.old) (R.remaining reader.new)
+        (W.contents writer.old) (W.contents writer.new))) }
+    ensures silent { (result ≡ 1) ⊎ (result ≡ 5) → writer.new ≡ writer.old }
+    // No failed call is passed over.
+    ensures failed_read { (R.has_failed reader.new ≡ R.has_failed reader.old) ⊎ (result ≡ 4) }
+    ensures failed_write { (W.has_failed writer.new ≡ W.has_failed writer.old) ⊎ (result ≡ 4) }
+{
+    match replay_stream(alloc, reader, writer) {
+        Ok(()) => 0,
+        Err(fault) => {
+            let _ = tell(errors, fault);
+            status_of(fault)
+        }
+    }
+}
+
+/// The exit status of a fault.
+fn status_of(fault: ReplayFault) -> u8
+    ensures { result ≡ status_of fault }
+{
+    match fault {
+        ReplayFault::Trace(TraceFault::NotJson | TraceFault::Shape(_)) => 1,
+        ReplayFault::Read | ReplayFault::TooLong | ReplayFault::Write => 4,
+        ReplayFault::NoMemory | ReplayFault::Trace(TraceFault::NoMemory) => 5,
+    }
+}
+
+/// Writes the line that tells a fault.
+fn tell<E: Write>(errors: &mut E, fault: ReplayFault) -> io::Result<()>
+    ensures { OnOk result (Appends (E.contents errors.old) (E.contents errors.new)
+        (fault_text fault ++ line_feed ∷ [])) }
+{
+    writeln!(errors, "{fault}")
+}
+
+#[cfg(test)]
+mod tests;
