@@ -19,3 +19,6 @@ pub mod Turns
 pub mod Reading
 pub mod Writing
 pub mod Statuses
+pub mod WordExamples
+pub mod WordLemmas
+pub mod FoundLemmas

@@ -15,3 +15,5 @@ pub mod PlayerParts
 pub mod Stream
 pub mod MeteredParts
 pub mod Replay
+pub mod Words
+pub mod Commands

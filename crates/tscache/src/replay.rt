@@ -196,3 +196,5 @@ fn tell<E: Write>(errors: &mut E, fault: ReplayFault) -> io::Result<()>
 
 #[cfg(test)]
 mod tests;
+#[cfg(test)]
+mod traces;

@@ -1,0 +1,43 @@
+-- What words ask for: a file by its name, and nothing where the words are of another form.
+use Rattle.std.proofs.Common.{◌≡◌, ◌==◌, ℕ, List, [], ◌∷◌, Some, None, codes, false, refl}
+use Rattle.std.specs.Str.{chars}
+use Rattle.tscache.specs.Words.{Word, replay, request_in}
+
+-- ---- a file that does not begin with a hyphen
+
+pub a_named_file_is_replayed : (name : Word) (first : ℕ) (rest : List ℕ) → (first == 45) ≡ false
+    → request_in (name ∷ codes "replay" ∷ (first ∷ rest) ∷ []) ≡ Some (replay (first ∷ rest))
+a_named_file_is_replayed name first rest e = rw e refl
+
+pub two_files_ask_for_nothing : (name : Word) (first second : ℕ) (rest more : List ℕ) → (first == 45) ≡ false → (second == 45) ≡ false
+    → request_in (name ∷ codes "replay" ∷ (first ∷ rest) ∷ (second ∷ more) ∷ []) ≡ None
+two_files_ask_for_nothing name first second rest more e f = rw (e, f) refl
+
+-- ---- fewer words
+
+pub no_words_ask_for_nothing : request_in [] ≡ None
+no_words_ask_for_nothing = refl
+
+pub a_name_asks_for_nothing : (name : Word) → request_in (name ∷ []) ≡ None
+a_name_asks_for_nothing name = refl
+
+pub a_replay_of_no_file_asks_for_nothing : (name : Word) → request_in (name ∷ codes "replay" ∷ []) ≡ None
+a_replay_of_no_file_asks_for_nothing name = refl
+
+-- ---- hyphens
+
+pub a_hyphen_is_a_file : (name : Word) → request_in (name ∷ codes "replay" ∷ codes "-" ∷ []) ≡ Some (replay (codes "-"))
+unfolding chars
+a_hyphen_is_a_file name = refl
+
+pub after_two_hyphens_each_word_is_a_file : (name file : Word) → request_in (name ∷ codes "replay" ∷ codes "--" ∷ file ∷ []) ≡ Some (replay file)
+after_two_hyphens_each_word_is_a_file name file = refl
+
+pub a_flag_asks_for_nothing : (name : Word) → request_in (name ∷ codes "replay" ∷ codes "--help" ∷ []) ≡ None
+unfolding chars
+a_flag_asks_for_nothing name = refl
+
+-- ---- other subcommands
+
+pub help_asks_for_nothing : (name : Word) → request_in (name ∷ codes "help" ∷ []) ≡ None
+help_asks_for_nothing name = refl
