@@ -1,5 +1,5 @@
 -- Reading calls one after the other, as a loop does.
-use Rattle.std.proofs.Common.{◌≡◌, ℕ, suc, ◌+◌, ◌<◌, ◌≤◌, List, [], ◌∷◌, ◌++◌, length, get_or, drop, drop-cons, add-one, subst, Option, Some, None, option_map, refl, sym, ap, ◌∙◌, append_assoc, arith}
+use Rattle.std.proofs.Common.{◌≡◌, ℕ, ◌+◌, ◌<◌, ◌≤◌, List, [], ◌∷◌, ◌++◌, length, get_or, drop, drop-cons, add-one, Option, Some, None, option_map, refl, sym, ap, ◌∙◌, append_assoc}
 use Rattle.std.proofs.lemmas.List.{append-nil}
 use Rattle.std.proofs.Math.ListN.{drop_of_length-le}
 use Rattle.serde_json.specs.Data.{Data, Items, item}
@@ -42,10 +42,6 @@ pub ends : (e : Refusal) (front : List Call) (vs : List Value) (i : ℕ) (v : Va
     → with_front front (calls_from i vs) ≡ total → Refuses e total
 ends refusal.Memory front vs i v total lt at is so_far = tt
 ends refusal.Shape front vs i v total lt at is so_far = sym so_far ∙ ap (λ ds. with_front front (calls_of ds)) (here vs i v lt at) ∙ refused front (view v) _ is
-
-pub begins : (total : Option (List Call)) → with_front [] total ≡ total
-begins (Some calls) = refl
-begins None = refl
 
 pub is_done : (front : List Call) (vs : List Value) (i : ℕ) (total : Option (List Call)) → length vs ≤ i → with_front front (calls_from i vs) ≡ total → total ≡ Some front
 unfolding calls_of

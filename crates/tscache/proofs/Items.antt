@@ -1,7 +1,6 @@
 -- The items of an array, by how many there are.
-use Rattle.std.proofs.Common.{◌≡◌, ◌≢◌, ℕ, ◌<◌, Bool, true, false, ◌||◌, List, [], ◌∷◌, length, get_or, map, Option, Some, None, Bor, zero, suc, refl, sym, ap, ◌∙◌, arith}
+use Rattle.std.proofs.Common.{◌≡◌, ◌≢◌, ℕ, ◌<◌, Bool, true, false, ◌||◌, List, [], ◌∷◌, length, get_or, map, Some, None, Bor, zero, suc, refl, ap, ◌∙◌, arith}
 use Rattle.std.specs.List.{list_any}
-use Rattle.serde_json.specs.Data.{Data}
 use Rattle.serde_json.specs.View.{view, items_view}
 use Rattle.serde_json.specs.declared.value.Value.{Value}
 use Rattle.tscache.specs.TraceText.{one_item, two_items}

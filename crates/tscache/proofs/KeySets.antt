@@ -1,18 +1,15 @@
 -- A set of keys, one key after the other.
 use Rattle.std.specs.Prelude.{not}
-use Rattle.std.proofs.Common.{◌≡◌, ℕ, suc, ◌+◌, Bool, true, false, ◌||◌, cond, List, [], ◌∷◌, ◌++◌, length, Bor, nat_cmp, is_eq, Ordering, refl, sym, ap, ◌∙◌, arith}
+use Rattle.std.proofs.Common.{◌≡◌, ℕ, suc, ◌+◌, Bool, true, false, ◌||◌, cond, List, [], ◌∷◌, ◌++◌, Bor, nat_cmp, is_eq, Ordering, refl, sym, ap, ◌∙◌, arith}
 use Rattle.std.specs.Cmp.Lexicographic.{slice_cmp}
 use Rattle.std.specs.Str.{bytes_eq}
-use Rattle.std.specs.BTreeSet.{BTreeSet, contains_by, btree_set_len, Updates, IsEmpty}
+use Rattle.std.specs.BTreeSet.{BTreeSet, contains_by, btree_set_len, Updates}
 use Rattle.std.proofs.lemmas.Cmp.{nat_list_eq_equiv}
 use Rattle.std.proofs.lemmas.Map.Text.{is_eq-slice_cmp}
 use Rattle.tscache.specs.Span.{KeyBytes}
 use Rattle.tscache.specs.Page.{count_distinct}
 use Rattle.tscache.specs.KeySet.{Holds}
 use Rattle.tscache.proofs.DistinctKeys.{is_in, is_in-push, count_distinct-push}
-
-pub holds_none : (set : BTreeSet (Bor (List ℕ))) → IsEmpty set → Holds set []
-holds_none set none = record { keys = λ q. rw none refl; len = rw none refl }
 
 -- how the set orders its keys
 abbrev pub order : Bor (List ℕ) → Bor (List ℕ) → Ordering

@@ -1,12 +1,11 @@
 -- A replay that goes on from where it stands gives the lines that are made anew from the opening state.
-use Rattle.std.proofs.Common.{◌≡◌, ◌∙◌, refl, sym, ap, ℕ, suc, ◌+◌, List, [], ◌∷◌, ◌++◌, length, length-append, arith, append_assoc}
+use Rattle.std.proofs.Common.{◌≡◌, ◌∙◌, refl, ap, ℕ, suc, List, [], ◌∷◌, ◌++◌, length, length-append, arith}
 use Rattle.tscache.specs.State.{Settings, CacheState, opening, step}
 use Rattle.tscache.specs.History.{Entry, History, own_count, mark_of, state_from, state_of}
 use Rattle.tscache.specs.Log.{answer_of, after_call, after_calls, lines_of_list, lines_of_lists}
-use Rattle.tscache.specs.Play.{Standing, standing_after, said_at, next, next_all, played, played_lists}
+use Rattle.tscache.specs.Play.{standing_after, said_at, next, next_all, played, played_lists}
 use Rattle.tscache.specs.declared.trace.Call.{Call}
 use Rattle.tscache.specs.declared.trace.Call.TheVariants.{Add, Get, Low}
-use Rattle.tscache.specs.declared.log.Line.{Line}
 
 -- a history and then another
 pub state_from-append : (settings : Settings) (s : CacheState) (h g : History) → state_from settings s (h ++ g) ≡ state_from settings (state_from settings s h) g

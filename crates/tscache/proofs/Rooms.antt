@@ -1,19 +1,16 @@
 -- Where the Adds of a whole trace fit one page, its replay keeps to one page.
-use Rattle.std.proofs.Common.{◌≡◌, ◌∙◌, refl, sym, ap, subst, ℕ, suc, ◌≤◌, Bool, true, false, ◌||◌, cond, ◌⊎◌, inl, inr, List, [], ◌∷◌, ◌++◌, arith, append_assoc, append-nil}
-use Rattle.std.specs.Prelude.{nat_le}
+use Rattle.std.proofs.Common.{◌≡◌, ◌∙◌, refl, sym, ap, subst, ℕ, suc, ◌≤◌, Bool, true, false, ◌||◌, cond, List, [], ◌∷◌, ◌++◌, arith, append_assoc, append-nil}
 use Rattle.std.specs.List.{flat_map}
 use Rattle.std.proofs.lemmas.Bool.{leb-true, le-leb}
 use Rattle.std.proofs.lemmas.Grind.{flat_map-append}
 use Rattle.std.proofs.lemmas.List.Folds.{list_any-append}
-use mathlib.Core.Bool.{true≢false}
 use Rattle.std.specs.Str.{bytes_eq}
 use Rattle.tsc_time.specs.Time.{Time}
-use Rattle.tsc_time.specs.OwnedTime.{OwnedTime}
 use Rattle.tscache.specs.Span.{KeyBytes, Interval, end_keys}
 use Rattle.tscache.specs.Page.{Mark, marked_keys, count_distinct}
-use Rattle.tscache.specs.State.{Settings, CacheState, one_page, step, is_kept, front_has_room, marked}
+use Rattle.tscache.specs.State.{Settings, one_page, step, is_kept, front_has_room}
 use Rattle.tscache.specs.Trace.{added_keys, is_small}
-use Rattle.tscache.specs.Play.{Standing, next, next_all, HasRoomFor, HasRoomForAll, HasRoomForLists}
+use Rattle.tscache.specs.Play.{Standing, next, next_all, HasRoomForAll, HasRoomForLists}
 use Rattle.tscache.specs.declared.trace.Call.{Call}
 use Rattle.tscache.specs.declared.trace.Call.TheVariants.{Add, Get, Low}
 use Rattle.tscache.specs.declared.trace.Trace.{Trace}

@@ -1,10 +1,10 @@
 -- Histories of Adds, and the state that one leaves.
-use Rattle.std.specs.Prelude.{ℕ, List, [], ◌∷◌, fold, count_by, ◌==◌}
+use Rattle.std.specs.Prelude.{ℕ, List, [], ◌∷◌, count_by, ◌==◌}
 use Rattle.tsc_time.specs.Time.{Time}
 use Rattle.tsc_time.specs.OwnedTime.{OwnedTime}
 use Rattle.tscache.specs.Span.{Interval}
 use Rattle.tscache.specs.Page.{Mark}
-use Rattle.tscache.specs.State.{Settings, CacheState, Stepped, opening, step}
+use Rattle.tscache.specs.State.{Settings, CacheState, opening, step}
 
 -- an Add: which seat made it, how many that seat had made before, and what was added at which moment
 pub record Entry : Type 0 where

@@ -1,8 +1,7 @@
 -- The log of a trace: what each call answers on one thread, the lists one after another.
 use Rattle.std.specs.Prelude.{ℕ, suc, List, [], ◌∷◌, ◌++◌, length}
-use Rattle.tscache.specs.Page.{Mark}
 use Rattle.tscache.specs.State.{Settings, step, look}
-use Rattle.tscache.specs.History.{Entry, History, own_count, state_of}
+use Rattle.tscache.specs.History.{History, own_count, state_of}
 use Rattle.tscache.specs.declared.trace.Call.{Call}
 use Rattle.tscache.specs.declared.trace.Call.TheVariants.{Add, Get, Low}
 use Rattle.tscache.specs.declared.trace.Trace.{Trace}

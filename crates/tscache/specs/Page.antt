@@ -1,5 +1,5 @@
 -- A page of the cache as the plain list of what was added to it (`intervalSkl` pages of CockroachDB's pkg/kv/kvserver/tscache).
-use Rattle.std.specs.Prelude.{ℕ, suc, ◌+◌, List, [], ◌∷◌, ◌++◌, map, filter, nat_le, Bool, if◌then◌else◌}
+use Rattle.std.specs.Prelude.{ℕ, suc, List, [], ◌∷◌, ◌++◌, map, filter, nat_le, Bool, if◌then◌else◌}
 use Rattle.std.specs.List.{flat_map, list_any}
 use Rattle.std.specs.Str.{bytes_eq}
 use Rattle.tsc_time.specs.Time.{Time}

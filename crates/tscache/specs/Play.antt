@@ -1,6 +1,5 @@
 -- A replay that goes on from where it stands, in place of making each state anew.
 use Rattle.std.specs.Prelude.{◌≡◌, ℕ, suc, List, [], ◌∷◌, ◌++◌, length, true}
-use Rattle.tscache.specs.Page.{Mark}
 use Rattle.tscache.specs.State.{Settings, CacheState, step, look, front_has_room}
 use Rattle.tscache.specs.History.{History, state_of}
 use Rattle.tscache.specs.declared.trace.Call.{Call}

@@ -1,5 +1,5 @@
 -- How the code keeps a span.
-use Rattle.std.specs.Prelude.{◌≡◌, Bool, true, Option, Some, None}
+use Rattle.std.specs.Prelude.{◌≡◌, true, Option, Some, None}
 use Rattle.std.specs.Ordering.{is_lt}
 use Rattle.tscache.specs.Span.{Cut, before, after, Interval, nothing, between, point, key_cmp, start_cut, end_cut}
 use Rattle.tscache.specs.declared.span.Cut as code

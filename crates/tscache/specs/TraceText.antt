@@ -1,5 +1,5 @@
 -- The trace that a text is: one JSON text. Of the traces that docs/FORMATS.md describes it takes those of one list, without `ends` and `onward`, whose Adds fit one page.
-use Rattle.std.specs.Prelude.{ℕ, ◌+◌, ◌^◌, ◌&&◌, ◌||◌, List, [], ◌∷◌, length, nat_lt, nat_le, Bool, true, Option, Some, None, option_map, option_and_then, unwrap_or, Result, Ok, Err, codes, if◌then◌else◌}
+use Rattle.std.specs.Prelude.{ℕ, ◌^◌, ◌&&◌, List, [], ◌∷◌, length, nat_lt, nat_le, Bool, true, Option, Some, None, option_map, option_and_then, unwrap_or, Result, Ok, Err, codes, if◌then◌else◌}
 use Rattle.std.specs.Result.{result_ok}
 use Rattle.std.specs.List.{list_any}
 use Rattle.std.specs.Str.{bytes_eq, is_utf8}
@@ -9,7 +9,7 @@ use Rattle.serde_json.specs.Data.{Data, null, boolean, number, string, array, ob
 use Rattle.serde_json.specs.Read.{read}
 use Rattle.serde_json.specs.Find.{get_member, as_number, as_u64, as_str, as_array, as_object}
 use Rattle.tsc_time.specs.Time.{Time, is_in_range}
-use Rattle.tsc_time.specs.OwnedTime.{Owner, OwnedTime, owner_of}
+use Rattle.tsc_time.specs.OwnedTime.{Owner, owner_of}
 use Rattle.tscache.specs.Span.{KeyBytes, Interval, nothing, point, start_to_end, fits_key}
 use Rattle.tscache.specs.State.{Settings, settings_of}
 use Rattle.tscache.specs.Trace.{most_calls, fits_one_page}

@@ -1,5 +1,5 @@
 //! Readers and writers that may be called a bounded number of times, and remember a failure.
-ghost use Rattle.std.specs.Prelude.{◌≡◌, ◌↔◌, ◌⊎◌, ℕ, ◌-◌, ◌<◌, ◌≤◌, ◌||◌, List, Bool, Option, length, take, vec_len, IfOk, IsErrOf, OnOk, OnErr, true, false};
+ghost use Rattle.std.specs.Prelude.{◌≡◌, ◌↔◌, ◌⊎◌, ℕ, ◌-◌, ◌<◌, ◌≤◌, ◌||◌, List, Bool, Option, length, take, vec_len, IfOk, IsErrOf, OnOk, OnErr, false};
 ghost use Rattle.std.specs.Io.KnownBytes.{Appends, ReadConsumes, WriteAppends};
 ghost use Rattle.tscache.specs.Stream.{GaveUp, HasRead, HasReadTooMuch, HasWrittenFront, is_failure, longest_input, most_turns};
 
@@ -162,7 +162,8 @@ pub(crate) enum InputFault {
 
 /// All that a reader has left. An interrupted read is tried again.
 pub(crate) fn read_input<R: Source>(alloc: Global, reader: &mut R) -> Result<Vec<u8>, InputFault>
-    ensures ok { IfOk result (λ input. HasRead (R.remaining reader.old) (R.remaining reader.new) input.items) }
+    ensures ok { IfOk result (λ input.
+        HasRead (R.remaining reader.old) (R.remaining reader.new) input.items) }
     ensures read { IsErrOf result InputFault.Read
         → GaveUp (R.has_failed reader.new) (R.turns_left reader.new) }
     ensures too_long { IsErrOf result InputFault.TooLong

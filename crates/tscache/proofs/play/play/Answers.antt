@@ -1,8 +1,7 @@
 -- The log is told list by list.
-use Rattle.std.proofs.Common.{◌≡◌, ◌∙◌, sym, ap, subst, [], ◌++◌, ◌*◌, ◌+◌, ◌<◌, length, Some, None, drop, option_map, arith}
+use Rattle.std.proofs.Common.{◌≡◌, ◌∙◌, sym, ap, subst, [], ◌++◌, ◌+◌, ◌<◌, length, Some, None, drop, option_map, arith}
 use Rattle.std.specs.Prelude.{slice_get}
-use Rattle.tscache.specs.State.{opening}
-use Rattle.tscache.specs.Play.{Standing, next_all, played, played_lists, HasRoomForAll, HasRoomForLists}
+use Rattle.tscache.specs.Play.{next_all, played, played_lists, HasRoomForAll, HasRoomForLists}
 use Rattle.tscache.specs.PlayerParts.{settings_of, standing_of}
 use Rattle.tscache.specs.Log.{log_of}
 use Rattle.tscache.proofs.Playing.{lists_anew}

@@ -1,4 +1,4 @@
-use Rattle.std.proofs.Common.{◌≡◌, ◌+◌, ◌≤◌, ◌++◌, drop, length}
+use Rattle.std.proofs.Common.{◌≡◌, ◌+◌, ◌≤◌, ◌++◌, drop}
 use Rattle.tscache.specs.Play.{next_all, played, HasRoomForAll}
 use Rattle.tscache.specs.PlayerParts.{settings_of, standing_of}
 use Rattle.tscache.proofs.play.Player.play_list.Given as goal
