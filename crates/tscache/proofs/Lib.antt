@@ -15,7 +15,7 @@ pub mod Texts
 pub mod Lookups
 pub mod Playing
 pub mod Rooms
-pub mod Turns
+pub mod ListSteps
 pub mod Reading
 pub mod Writing
 pub mod Statuses

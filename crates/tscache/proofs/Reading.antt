@@ -6,12 +6,13 @@ use Rattle.std.proofs.KnownBytes.{Consumes-trans}
 use Rattle.std.specs.Io.KnownBytes.{Consumes}
 use Rattle.tscache.specs.Stream.{longest_input, HasReadTooMuch}
 
--- The front of a buffer was filled by what was read, and no read has failed.
-pub record HasFilled (old new : Option (List ℕ)) (failed failed' : Bool) (buffer : List ℕ) (filled : ℕ) : Type 0 where
+-- The first bytes of a buffer are what was read, and no read has failed or told the end.
+pub record HasFilled (old new : Option (List ℕ)) (failed failed' ended ended' : Bool) (buffer : List ℕ) (filled : ℕ) : Type 0 where
   pub within : filled ≤ length buffer
   pub small : filled ≤ longest_input
   pub consumed : Consumes old new (take filled buffer)
   pub unfailed : failed' ≡ failed
+  pub unended : ended' ≡ ended
 
 -- a part that was read behind a front
 pub take-read_behind : (xs part after tail : List ℕ) (filled count len : ℕ) → filled ≤ length xs → count ≤ length part → filled + count ≤ len
@@ -28,11 +29,11 @@ take-read_behind xs part after tail filled count len within fits small =
     ∙ ap (λ l. front ++ l) (take-append-le count (part ++ after) tail shown ∙ take-append-le count part after fits)
 
 -- The front grows by what one more read gave.
-pub HasFilled-more : (old mid new : Option (List ℕ)) (failed failed' failed'' : Bool) (buffer xs part after tail : List ℕ) (filled count len : ℕ)
-    → HasFilled old mid failed failed' buffer filled → take filled xs ≡ take filled buffer → filled ≤ length xs → count ≤ length part
-    → Consumes mid new (take count part) → filled + count ≤ len → filled + count ≤ longest_input → failed'' ≡ failed'
-    → HasFilled old new failed failed'' (take len ((take filled xs ++ (part ++ after)) ++ tail)) (filled + count)
-HasFilled-more old mid new failed failed' failed'' buffer xs part after tail filled count len so_far front within fits read room small unfailed =
+pub HasFilled-more : (old mid new : Option (List ℕ)) (failed failed' failed'' ended ended' ended'' : Bool) (buffer xs part after tail : List ℕ) (filled count len : ℕ)
+    → HasFilled old mid failed failed' ended ended' buffer filled → take filled xs ≡ take filled buffer → filled ≤ length xs → count ≤ length part
+    → Consumes mid new (take count part) → filled + count ≤ len → filled + count ≤ longest_input → failed'' ≡ failed' → ended'' ≡ ended'
+    → HasFilled old new failed failed'' ended ended'' (take len ((take filled xs ++ (part ++ after)) ++ tail)) (filled + count)
+HasFilled-more old mid new failed failed' failed'' ended ended' ended'' buffer xs part after tail filled count len so_far front within fits read room small unfailed unended =
     let front_read = subst (Consumes old mid) (sym front) so_far.consumed in
     record {
       within = omega (
@@ -46,14 +47,15 @@ HasFilled-more old mid new failed failed' failed'' buffer xs part after tail fil
       small = small;
       consumed = subst (Consumes old new) (sym (take-read_behind xs part after tail filled count len within fits room)) (Consumes-trans _ _ _ _ _ front_read read);
       unfailed = unfailed ∙ so_far.unfailed;
+      unended = unended ∙ so_far.unended;
     }
 
 -- What one more read gave is too much.
-pub HasReadTooMuch-filled : (old mid new : Option (List ℕ)) (failed failed' : Bool) (buffer part : List ℕ) (filled count : ℕ)
-    → HasFilled old mid failed failed' buffer filled → count ≤ length part
+pub HasReadTooMuch-filled : (old mid new : Option (List ℕ)) (failed failed' ended ended' : Bool) (buffer part : List ℕ) (filled count : ℕ)
+    → HasFilled old mid failed failed' ended ended' buffer filled → count ≤ length part
     → Consumes mid new (take count part) → longest_input < filled + count
     → HasReadTooMuch old new
-HasReadTooMuch-filled old mid new failed failed' buffer part filled count so_far fits read beyond = record {
+HasReadTooMuch-filled old mid new failed failed' ended ended' buffer part filled count so_far fits read beyond = record {
   read = take filled buffer ++ take count part;
   consumed = Consumes-trans _ _ _ _ _ so_far.consumed read;
   beyond = omega (arith, length-append (take filled buffer) (take count part), length-take-le filled buffer so_far.within, length-take-le count part fits);

@@ -1,10 +1,10 @@
 -- Writing a text: how far it has come.
-use Rattle.std.proofs.Common.{◌≡◌, ℕ, ◌-◌, List, ◌++◌, Bool, Option, length, take, drop, sym, ap, ◌∙◌, subst, append_assoc, take-append-drop}
+use Rattle.std.proofs.Common.{◌≡◌, ℕ, ◌+◌, ◌-◌, ◌<◌, List, ◌++◌, Bool, Option, length, take, drop, sym, ap, ◌∙◌, subst, arith, length-append, append_assoc, take-append-drop}
 use Rattle.std.proofs.Math.Seq.{take-append_seam}
 use Rattle.std.proofs.lemmas.List.{take_rest}
 use Rattle.std.proofs.KnownBytes.{Appends-trans, Appends-kept}
 use Rattle.std.specs.Io.KnownBytes.{Appends, Keeps}
-use Rattle.tscache.specs.Stream.{HasWrittenFront}
+use Rattle.tscache.specs.Stream.{HasWrittenPrefix}
 
 -- The text is what was written and then the rest, and no write has failed.
 pub record HasWritten (old new : Option (List ℕ)) (failed failed' : Bool) (text rest : List ℕ) : Type 0 where
@@ -13,7 +13,7 @@ pub record HasWritten (old new : Option (List ℕ)) (failed failed' : Bool) (tex
   pub appended : Appends old new written
   pub unfailed : failed' ≡ failed
 
--- One more write took the front of the rest.
+-- One more write took the first bytes of the rest.
 pub HasWritten-more : (old mid new : Option (List ℕ)) (failed failed' failed'' : Bool) (text rest : List ℕ) (count : ℕ)
     → HasWritten old mid failed failed' text rest → Appends mid new (take count rest) → failed'' ≡ failed'
     → HasWritten old new failed failed'' text (take (length rest - count) (drop count rest))
@@ -27,10 +27,13 @@ HasWritten-more old mid new failed failed' failed'' text rest count so_far more 
     }
 
 -- A write that failed took nothing more.
-pub HasWrittenFront-kept : (old mid new : Option (List ℕ)) (failed failed' : Bool) (text rest : List ℕ)
-    → HasWritten old mid failed failed' text rest → Keeps mid new → HasWrittenFront old new text
-HasWrittenFront-kept old mid new failed failed' text rest so_far kept =
+pub HasWrittenPrefix-kept : (old mid new : Option (List ℕ)) (failed failed' : Bool) (text rest : List ℕ)
+    → HasWritten old mid failed failed' text rest → 0 < length rest → Keeps mid new → HasWrittenPrefix old new text
+HasWrittenPrefix-kept old mid new failed failed' text rest so_far left kept =
     let done = so_far.written in record {
       written = length done;
+      part =
+          let whole : length text ≡ length done + length rest = ap length so_far.split ∙ length-append done rest in
+          omega arith;
       appended = subst (Appends old new) (sym (ap (take (length done)) so_far.split ∙ take-append_seam done rest)) (Appends-kept _ _ _ _ so_far.appended kept);
     }

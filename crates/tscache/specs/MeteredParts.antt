@@ -10,6 +10,10 @@ inner_of m = m.inner
 abbrev pub has_failed : {T : Type 0} → Metered T → Bool
 has_failed m = m.failed
 
+-- whether a read has told the end
+abbrev pub has_ended : {T : Type 0} → Metered T → Bool
+has_ended m = m.ended
+
 -- how many more calls there may be
 abbrev pub turns_left : {T : Type 0} → Metered T → ℕ
 turns_left m = m.turns

@@ -4,7 +4,7 @@ use Rattle.std.specs.Io.KnownBytes.{Appends}
 use Rattle.tscache.specs.TraceText.{trace_of_bytes}
 use Rattle.tscache.specs.Log.{log_of}
 use Rattle.tscache.specs.LogText.{log_text}
-use Rattle.tscache.specs.Stream.{HasRead, HasWrittenFront}
+use Rattle.tscache.specs.Stream.{HasRead, HasWrittenPrefix}
 use Rattle.tscache.specs.declared.trace.Trace.{Trace}
 use Rattle.tscache.specs.declared.read.TraceFault.{TraceFault}
 use Rattle.tscache.specs.declared.read.TraceFault.TheVariants as trace_fault
@@ -31,11 +31,11 @@ pub record Replays (reader reader' writer writer' : Option (List ℕ)) : Type 0 
   pub read : ReplaysTo reader reader' text
   pub wrote : Appends writer writer' text
 
--- All of a trace was read, and a front of the text of its replay was written, and nothing else.
-pub record ReplaysFront (reader reader' writer writer' : Option (List ℕ)) : Type 0 where
+-- All of a trace was read, and a prefix of the text of its replay was written, and nothing else.
+pub record ReplaysPrefix (reader reader' writer writer' : Option (List ℕ)) : Type 0 where
   pub text : List ℕ
   pub read : ReplaysTo reader reader' text
-  pub wrote : HasWrittenFront writer writer' text
+  pub wrote : HasWrittenPrefix writer writer' text
 
 -- A reader was read to its end, and gave what is no trace, for this reason.
 pub record Refuses (reader reader' : Option (List ℕ)) (fault : TraceFault) : Type 0 where

@@ -1,5 +1,5 @@
 -- What is told of a reader and a writer, and how far they may go.
-use Rattle.std.specs.Prelude.{◌≡◌, ◌⊎◌, ℕ, ◌<◌, ◌≤◌, List, length, take, Bool, true, false, Option, Result, Ok, Err}
+use Rattle.std.specs.Prelude.{◌≡◌, ◌⊎◌, ℕ, ◌<◌, ◌≤◌, List, length, take, ◌==◌, Bool, true, false, Option, Result, Ok, Err}
 use Rattle.std.specs.Io.KnownBytes.{Appends, Consumes, IsAtEnd}
 use Rattle.tscache.specs.declared.stream.Trouble.{Trouble}
 use Rattle.tscache.specs.declared.stream.Trouble.TheVariants.{Interrupted, Failed, Exhausted}
@@ -19,9 +19,18 @@ is_failure (Err Interrupted) = false
 is_failure (Err Failed) = true
 is_failure (Err Exhausted) = false
 
--- A reader or a writer gave up: it failed, or it was called as often as it may be.
+-- whether a read told the end
+abbrev pub is_end : Result ℕ Trouble → Bool
+is_end (Ok n) = n == 0
+is_end (Err trouble) = false
+
+-- A reader or a writer may be called no more: it failed, or it was called as often as it may be.
 abbrev pub GaveUp : Bool → ℕ → Type 0
 GaveUp failed turns_left = (failed ≡ true) ⊎ (turns_left ≡ 0)
+
+-- A reader or a writer has not failed, and may be called as often as a command calls it.
+abbrev pub IsFresh : Bool → ℕ → Type 0
+IsFresh failed turns_left = (failed ≡ false) × (turns_left ≡ most_turns)
 
 -- A reader was read to its end, and gave this input.
 pub record HasRead (old new : Option (List ℕ)) (input : List ℕ) : Type 0 where
@@ -35,7 +44,8 @@ pub record HasReadTooMuch (old new : Option (List ℕ)) : Type 0 where
   pub consumed : Consumes old new read
   pub beyond : longest_input < length read
 
--- A writer took the front of a text.
-pub record HasWrittenFront (old new : Option (List ℕ)) (text : List ℕ) : Type 0 where
+-- A writer took a prefix of a text, and not the whole text.
+pub record HasWrittenPrefix (old new : Option (List ℕ)) (text : List ℕ) : Type 0 where
   pub written : ℕ
+  pub part : written < length text
   pub appended : Appends old new (take written text)

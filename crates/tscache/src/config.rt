@@ -8,20 +8,20 @@ use tsc_time::Timestamp;
 /// Why a configuration was refused.
 #[derive(Clone, Copy, Debug, PartialEq, Eq, Error)]
 pub enum ConfigFault {
-    /// A page has fewer than 2 or more than 65,536 nodes.
-    #[error("a page has 2 to 65536 nodes")]
+    /// `page_nodes` is below 2 or above 65,536.
+    #[error("page_nodes is 2 to 65536")]
     PageSize,
-    /// There are no pages, or more than 64, to be kept at the least.
-    #[error("there are at least 1 to 64 pages")]
+    /// `min_pages` is 0 or above 64.
+    #[error("min_pages is 1 to 64")]
     MinPages,
-    /// The retention is above 2^63 - 1 nanoseconds.
-    #[error("the retention is at most 2^63 - 1 nanoseconds")]
+    /// `retention` is above 2^63 - 1 nanoseconds.
+    #[error("retention is at most 2^63 - 1 nanoseconds")]
     Retention,
 }
 
 /// How a cache is set up.
 ///
-/// CockroachDB's `tscache` keeps at least 2 pages, and retains 10 seconds, which is
+/// CockroachDB's `tscache` has a `min_pages` of 2 and retains at least 10 seconds, which is
 /// 10,000,000,000 nanoseconds.
 #[derive(Clone, Copy, Debug, PartialEq, Eq)]
 pub struct Config {
@@ -45,9 +45,9 @@ impl Model for Config {
 impl Config {
     /// The configuration of these values, or the first fault in the order of [`ConfigFault`].
     ///
-    /// `page_nodes` bounds how many different end keys a page holds, `min_pages` says how many pages
-    /// are never evicted, `retention` is how many nanoseconds of reads are kept, and `low_water` is
-    /// where the floor stands at first.
+    /// `page_nodes` bounds how many different end keys a page holds. A page is dropped only while there
+    /// are at least `min_pages`, and only once all of it is older than `retention` nanoseconds.
+    /// `low_water` is where the floor stands at first.
     pub fn new(
         page_nodes: u32,
         min_pages: u32,

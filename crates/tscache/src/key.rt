@@ -67,3 +67,24 @@ impl Key {
         })
     }
 }
+
+#[cfg(test)]
+mod tests {
+    use super::Key;
+    use crate::span::SpanFault;
+    use std::test::Fail;
+
+    #[test]
+    fn a_key_has_at_most_4096_bytes(rt: HostRuntime) -> Result<(), Fail> {
+        let bytes = [7u8; 4097];
+        let key = Key::new(rt.alloc(), &bytes[1..])?;
+        assert_eq!(rt; key.bytes(), &bytes[1..]);
+        assert_eq!(rt; key.try_copy()?.bytes(), &bytes[1..]);
+        assert_eq!(rt;
+            Key::new(rt.alloc(), &bytes).err(),
+            Some(SpanFault::KeyTooLong)
+        );
+        assert_eq!(rt; Key::new(rt.alloc(), b"")?.bytes().len(), 0);
+        Ok(())
+    }
+}

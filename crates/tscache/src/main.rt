@@ -1,8 +1,8 @@
 //! The timestamp cache's program: it replays recorded traces.
 //!
 //! `tscache replay FILE` writes the log of a trace's replay to standard output. The exit status is 0
-//! where all went well, 1 where the trace was refused, 2 where the words were wrong, 4 where reading
-//! or writing failed, and 5 for want of memory. A fault is one line on standard error.
+//! for a replay, 1 for a trace that was refused, 2 for wrong words, 4 where reading or writing failed,
+//! and 5 where a growth was refused. A fault is one line on standard error.
 #![tactic(auto)]
 
 ghost use Rattle.std.specs.Prelude.{◌≡◌, ◌⊎◌, IfErr};
@@ -22,7 +22,7 @@ mod stream;
 mod trace;
 mod words;
 
-use crate::replay::replay_command;
+use crate::replay::{ReplayFault, replay_command, status_of, tell};
 use crate::stream::Metered;
 use crate::words::{Asked, NO_MEMORY, WRONG_WORDS};
 use std::env::Env;
@@ -31,15 +31,12 @@ use std::process::ExitCode;
 use std::rt::Files;
 use std::{env, fs, io};
 
-/// The exit status where the file could not be read.
-const CANNOT_READ: u8 = 4;
-
 fn main(rt: HostRuntime) -> ExitCode {
-    let mut errors = rt.stderr();
+    let mut errors = Metered::new(rt.stderr());
     let status = match read_words(&rt) {
         Ok(Asked::Replay { file }) => replay_file(&rt, &mut errors, &file),
         Err(status) => {
-            let _ = tell(&mut errors, status);
+            let _ = tell_words(&mut errors, status);
             status
         }
     };
@@ -60,9 +57,9 @@ fn read_words<R: Env + AllocGlobal>(rt: &R) -> Result<Asked, u8>
 }
 
 /// Tells why the words asked for nothing.
-fn tell<E: Write>(errors: &mut E, status: u8) -> io::Result<()> {
+fn tell_words<E: Write>(errors: &mut E, status: u8) -> io::Result<()> {
     if status == NO_MEMORY {
-        return writeln!(errors, "out of memory");
+        return tell(errors, ReplayFault::NoMemory);
     }
     writeln!(
         errors,
@@ -74,14 +71,15 @@ fn tell<E: Write>(errors: &mut E, status: u8) -> io::Result<()> {
 fn replay_file<R: Files + Print + AllocGlobal, E: Write>(rt: &R, errors: &mut E, file: &str) -> u8
     ensures { (result ≡ 0) ⊎ ((result ≡ 1) ⊎ ((result ≡ 4) ⊎ (result ≡ 5))) }
 {
-    let trace = match fs::open(rt, file) {
-        Ok(trace) => trace,
-        Err(_) => {
-            let _ = writeln!(errors, "read failed");
-            return CANNOT_READ;
+    let fault = match fs::open(rt, file) {
+        Ok(trace) => {
+            let mut reader = Metered::new(trace);
+            let mut writer = Metered::new(io::writer(rt));
+            return replay_command(rt.alloc(), &mut reader, &mut writer, errors);
         }
+        Err(error) if error.kind() == ErrorKind::OutOfMemory => ReplayFault::NoMemory,
+        Err(_) => ReplayFault::Read,
     };
-    let mut reader = Metered::new(trace);
-    let mut writer = Metered::new(io::writer(rt));
-    replay_command(rt.alloc(), &mut reader, &mut writer, errors)
+    let _ = tell(errors, fault);
+    status_of(fault)
 }

@@ -24,7 +24,7 @@ pub enum TraceFault {
     #[error("not JSON")]
     NotJson,
     /// The JSON value is not a trace: the number of the call in which that shows, or 0 for the head.
-    #[error("call {0} has a wrong shape")]
+    #[error("a wrong shape at call {0}")]
     Shape(u64),
     /// A growth was refused.
     #[error("out of memory")]

@@ -1,15 +1,15 @@
 //! Replays of recorded traces from a reader to a writer.
-ghost use Rattle.std.specs.Prelude.{◌≡◌, ◌≢◌, ◌⊎◌, ◌∷◌, [], ◌++◌, Some, IfOk, IfErr, IsErrOf, OnOk};
+ghost use Rattle.std.specs.Prelude.{◌≡◌, ◌≢◌, ◌⊎◌, ◌∷◌, [], ◌++◌, false, Some, IfOk, IfErr, IsErrOf, OnOk};
 ghost use Rattle.std.specs.Io.KnownBytes.{Appends};
 ghost use Rattle.tscache.specs.LogText.{line_feed};
-ghost use Rattle.tscache.specs.Replay.{Replays, ReplaysFront, ReplaysTo, Refuses, fault_of_input, fault_of_trace, fault_text, status_of};
-ghost use Rattle.tscache.specs.Stream.{GaveUp, HasReadTooMuch};
+ghost use Rattle.tscache.specs.Replay.{Replays, ReplaysPrefix, ReplaysTo, Refuses, fault_of_input, fault_of_trace, fault_text, status_of};
+ghost use Rattle.tscache.specs.Stream.{GaveUp, HasReadTooMuch, IsFresh};
 ghost use Rattle.tscache.specs.declared.replay.ReplayFault.TheVariants.{NoMemory};
 
 use crate::log::log_text;
 use crate::play::play;
 use crate::read::{TraceFault, read_trace};
-use crate::stream::{InputFault, Sink, Source, read_input, write_output};
+use crate::stream::{InputFault, Metered, Sink, Source, read_input, write_output};
 use std::alloc::Global;
 use std::error::Error;
 use std::io::Write;
@@ -94,13 +94,14 @@ pub fn replay_stream<R: Source, W: Sink>(
     ensures trace { (fault : TraceFault) → IsErrOf result (ReplayFault.Trace fault)
         → Refuses (R.remaining reader.old) (R.remaining reader.new) fault }
     ensures read { IsErrOf result ReplayFault.Read
-        → GaveUp (R.has_failed reader.new) (R.turns_left reader.new) }
+        → GaveUp (R.has_failed reader.new) (R.turns_left reader.new)
+        × (R.has_ended reader.new ≡ R.has_ended reader.old) }
     ensures too_long { IsErrOf result ReplayFault.TooLong
         → HasReadTooMuch (R.remaining reader.old) (R.remaining reader.new) }
     ensures write { IsErrOf result ReplayFault.Write
         → GaveUp (W.has_failed writer.new) (W.turns_left writer.new) }
-    ensures front { IsErrOf result ReplayFault.Write
-        → ReplaysFront (R.remaining reader.old) (R.remaining reader.new)
+    ensures prefix { IsErrOf result ReplayFault.Write
+        → ReplaysPrefix (R.remaining reader.old) (R.remaining reader.new)
         (W.contents writer.old) (W.contents writer.new) }
     ensures silent { IfErr result (λ fault. (fault ≡ ReplayFault.Write)
         ⊎ (writer.new ≡ writer.old)) }
@@ -121,7 +122,8 @@ fn replay_text<R: Source>(alloc: Global, reader: &mut R) -> Result<Vec<u8>, Repl
     ensures trace { (fault : TraceFault) → IsErrOf result (ReplayFault.Trace fault)
         → Refuses (R.remaining reader.old) (R.remaining reader.new) fault }
     ensures read { IsErrOf result ReplayFault.Read
-        → GaveUp (R.has_failed reader.new) (R.turns_left reader.new) }
+        → GaveUp (R.has_failed reader.new) (R.turns_left reader.new)
+        × (R.has_ended reader.new ≡ R.has_ended reader.old) }
     ensures too_long { IsErrOf result ReplayFault.TooLong
         → HasReadTooMuch (R.remaining reader.old) (R.remaining reader.new) }
     ensures write { IfErr result (λ fault. fault ≢ ReplayFault.Write) }
@@ -131,21 +133,26 @@ fn replay_text<R: Source>(alloc: Global, reader: &mut R) -> Result<Vec<u8>, Repl
 {
     let input = read_input(alloc, reader)?;
     let trace = read_trace(alloc, &input)?;
+    drop(input);
     let log = play(alloc, &trace)?;
     Ok(log_text(alloc, &log)?)
 }
 
 /// Replays a trace from a reader to a writer, tells a fault on `errors`, and gives the exit status.
 ///
-/// The status is 0 where all went well, 1 where the trace was refused, 4 where reading or writing
-/// failed and 5 for want of memory. A fault is told by one line. Where `errors` fails too the
-/// status stays.
+/// The status is 0 for a replay, 1 for a trace that was refused, 4 where reading or writing failed and
+/// 5 where a growth was refused. The reader and the writer have not been called before, as
+/// [`Metered::new`](crate::stream::Metered::new) gives them. A fault is told by one line, in at most
+/// 33,554,432 writes, and telling it changes no status.
 pub fn replay_command<R: Source, W: Sink, E: Write>(
     alloc: Global,
     reader: &mut R,
     writer: &mut W,
     errors: &mut E,
 ) -> u8
+    requires reader { IsFresh (R.has_failed reader.old) (R.turns_left reader.old)
+        × (R.has_ended reader.old ≡ false) }
+    requires writer { IsFresh (W.has_failed writer.old) (W.turns_left writer.old) }
     ensures status { (result ≡ 0) ⊎ ((result ≡ 1) ⊎ ((result ≡ 4) ⊎ (result ≡ 5))) }
     ensures done { result ≡ 0 → Replays (R.remaining reader.old) (R.remaining reader.new)
         (W.contents writer.old) (W.contents writer.new) }
@@ -154,12 +161,12 @@ pub fn replay_command<R: Source, W: Sink, E: Write>(
         × Refuses (R.remaining reader.old) (R.remaining reader.new) fault }
     // It could not read, there was too much to read, or it could not write.
     ensures failed { result ≡ 4
-        → (GaveUp (R.has_failed reader.new) (R.turns_left reader.new)
-        × (writer.new ≡ writer.old))
+        → ((GaveUp (R.has_failed reader.new) (R.turns_left reader.new)
+        × (R.has_ended reader.new ≡ false)) × (writer.new ≡ writer.old))
         ⊎ ((HasReadTooMuch (R.remaining reader.old) (R.remaining reader.new)
         × (writer.new ≡ writer.old))
         ⊎ (GaveUp (W.has_failed writer.new) (W.turns_left writer.new)
-        × ReplaysFront (R.remaining reader.old) (R.remaining reader.new)
+        × ReplaysPrefix (R.remaining reader.old) (R.remaining reader.new)
         (W.contents writer.old) (W.contents writer.new))) }
     ensures silent { (result ≡ 1) ⊎ (result ≡ 5) → writer.new ≡ writer.old }
     // No failed call is passed over.
@@ -169,14 +176,14 @@ pub fn replay_command<R: Source, W: Sink, E: Write>(
     match replay_stream(alloc, reader, writer) {
         Ok(()) => 0,
         Err(fault) => {
-            let _ = tell(errors, fault);
+            let _ = tell(&mut Metered::new(&mut *errors), fault);
             status_of(fault)
         }
     }
 }
 
 /// The exit status of a fault.
-fn status_of(fault: ReplayFault) -> u8
+pub(crate) fn status_of(fault: ReplayFault) -> u8
     ensures { result ≡ status_of fault }
 {
     match fault {
@@ -187,7 +194,7 @@ fn status_of(fault: ReplayFault) -> u8
 }
 
 /// Writes the line that tells a fault.
-fn tell<E: Write>(errors: &mut E, fault: ReplayFault) -> io::Result<()>
+pub(crate) fn tell<E: Write>(errors: &mut E, fault: ReplayFault) -> io::Result<()>
     ensures { OnOk result (Appends (E.contents errors.old) (E.contents errors.new)
         (fault_text fault ++ line_feed ∷ [])) }
 {

@@ -1,4 +1,4 @@
-ghost use Rattle.std.specs.Prelude.{◌≡◌, ◌++◌, IfOk, IfErr, option_map, option_to_list};
+ghost use Rattle.std.specs.Prelude.{◌≡◌, ◌++◌, IfOk, IfErr, option_map, option_to_list, slice_get};
 ghost use Rattle.std.specs.Result.{result_ok};
 ghost use Rattle.tscache.specs.Span.{point, range, range_for_lookup, start_to_end, overlaps, end_keys};
 ghost use Rattle.tscache.specs.State.{is_empty_span};
@@ -185,7 +185,10 @@ impl Span {
 
     /// The start key, and the end key where there is one and it differs.
     pub fn end_keys(&self) -> (Option<&Key>, Option<&Key>)
-        ensures { option_to_list (option_map (λ k. k.now) result.0) ++ option_to_list (option_map (λ k. k.now) result.1) ≡ end_keys self.now }
+        ensures keys { option_to_list (option_map (λ k. k.now) result.0)
+            ++ option_to_list (option_map (λ k. k.now) result.1) ≡ end_keys self.now }
+        ensures start { option_map (λ k. k.now) result.0 ≡ slice_get (end_keys self.now) 0 }
+        ensures end { option_map (λ k. k.now) result.1 ≡ slice_get (end_keys self.now) 1 }
     {
         match &self.shape {
             Shape::Nothing => (None, None),

@@ -1,9 +1,14 @@
 //! Readers and writers that may be called a bounded number of times, and remember a failure.
+//!
+//! No clause over `std`'s `Read` and `Write` can say that a call failed. [`Source`] and [`Sink`] can,
+//! so a contract over them tells why a command gave up. That a [`Metered`] reader or writer really
+//! calls the one inside rests on the few lines of its `read` and `write`, and on tests.
 ghost use Rattle.std.specs.Prelude.{◌≡◌, ◌↔◌, ◌⊎◌, ℕ, ◌-◌, ◌<◌, ◌≤◌, ◌||◌, List, Bool, Option, length, take, vec_len, IfOk, IsErrOf, OnOk, OnErr, false};
 ghost use Rattle.std.specs.Io.KnownBytes.{Appends, ReadConsumes, WriteAppends};
-ghost use Rattle.tscache.specs.Stream.{GaveUp, HasRead, HasReadTooMuch, HasWrittenFront, is_failure, longest_input, most_turns};
+ghost use Rattle.tscache.specs.Stream.{GaveUp, HasRead, HasReadTooMuch, HasWrittenPrefix, is_failure, longest_input, most_turns, IsFresh, is_end};
 
 use std::alloc::{AllocError, Global};
+use std::io;
 use std::io::{ErrorKind, Read, Write};
 
 /// How often a command reads before it gives up, and how often it writes.
@@ -34,14 +39,19 @@ pub trait Source {
     /// Whether a read has failed, other than by an interruption.
     ghost has_failed: { Self → Bool };
 
+    /// Whether a read has told the end.
+    ghost has_ended: { Self → Bool };
+
     /// How many more reads there may be.
     ghost turns_left: { Self → ℕ };
 
-    /// Reads into the front of `buf`. No bytes in a buffer with room means the end.
+    /// Reads into the first bytes of `buf`. No bytes means the end.
     fn read(&mut self, buf: &mut [u8]) -> Result<usize, Trouble>
+        requires room { 0 < length buf.old }
         ensures bound { IfOk result (λ n. n ≤ length buf.new) }
         ensures bytes { ReadConsumes (remaining self.old) (remaining self.new) result buf.new }
         ensures failed { has_failed self.new ≡ (has_failed self.old || is_failure result) }
+        ensures ended { has_ended self.new ≡ (has_ended self.old || is_end result) }
         ensures turn { turns_left self.new ≡ turns_left self.old - 1 }
         ensures exhausted { IsErrOf result Trouble.Exhausted ↔ (turns_left self.old ≡ 0) };
 }
@@ -57,8 +67,9 @@ pub trait Sink {
     /// How many more writes there may be.
     ghost turns_left: { Self → ℕ };
 
-    /// Writes a front of `buf` that is not empty. Taking nothing is a failure.
+    /// Writes the first bytes of `buf`, at least one. Taking none is a failure.
     fn write(&mut self, buf: &[u8]) -> Result<usize, Trouble>
+        requires bytes { 0 < length buf.now }
         ensures bound { IfOk result (λ n. (0 < n) × (n ≤ length buf.now)) }
         ensures bytes { WriteAppends (contents self.old) (contents self.new) result buf.now }
         ensures failed { has_failed self.new ≡ (has_failed self.old || is_failure result) }
@@ -66,27 +77,29 @@ pub trait Sink {
         ensures exhausted { IsErrOf result Trouble.Exhausted ↔ (turns_left self.old ≡ 0) };
 }
 
-/// A reader or a writer of `std`, with 33,554,432 calls.
+/// A reader or a writer of `std` that may be called 33,554,432 times.
 #[derive(Drop)]
 pub struct Metered<T> {
     inner: T,
     turns: u32,
     failed: bool,
+    ended: bool,
 }
 
 impl<T> Metered<T> {
-    ghost use Rattle.tscache.specs.MeteredParts.{inner_of, has_failed, turns_left};
+    ghost use Rattle.tscache.specs.MeteredParts.{inner_of, has_failed, has_ended, turns_left};
 
     /// `inner`, which has not been called yet.
     pub fn new(inner: T) -> Metered<T>
         ensures inner { inner_of result ≡ inner }
-        ensures fresh { has_failed result ≡ false }
-        ensures turns { turns_left result ≡ most_turns }
+        ensures fresh { IsFresh (has_failed result) (turns_left result) }
+        ensures unended { has_ended result ≡ false }
     {
         Metered {
             inner,
             turns: MOST_TURNS,
             failed: false,
+            ended: false,
         }
     }
 
@@ -106,6 +119,8 @@ impl<R: Read> Source for Metered<R> {
 
     ghost has_failed = { λ m. parts.has_failed m };
 
+    ghost has_ended = { λ m. parts.has_ended m };
+
     ghost turns_left = { λ m. parts.turns_left m };
 
     fn read(&mut self, buf: &mut [u8]) -> Result<usize, Trouble> {
@@ -114,7 +129,10 @@ impl<R: Read> Source for Metered<R> {
         }
         self.turns -= 1;
         match self.inner.read(buf) {
-            Ok(count) => Ok(count),
+            Ok(count) => {
+                self.ended |= count == 0;
+                Ok(count)
+            }
             Err(error) if error.kind() == ErrorKind::Interrupted => Err(Trouble::Interrupted),
             Err(_) => {
                 self.failed = true;
@@ -149,6 +167,25 @@ impl<W: Write> Sink for Metered<W> {
     }
 }
 
+/// As a writer of `std`, it fails once it was called as often as it may be.
+impl<W: Write> Write for Metered<W> {
+    ghost use Rattle.tscache.specs.MeteredParts as parts;
+
+    ghost contents = { λ m. W.contents (parts.inner_of m) };
+
+    fn write(&mut self, buf: &[u8]) -> io::Result<usize> {
+        if self.turns == 0 {
+            return Err(io::Error::from(ErrorKind::Other));
+        }
+        self.turns -= 1;
+        self.inner.write(buf)
+    }
+
+    fn flush(&mut self) -> io::Result<()> {
+        self.inner.flush()
+    }
+}
+
 /// Why an input could not be read.
 #[derive(Clone, Copy, Debug, PartialEq, Eq)]
 pub(crate) enum InputFault {
@@ -165,7 +202,8 @@ pub(crate) fn read_input<R: Source>(alloc: Global, reader: &mut R) -> Result<Vec
     ensures ok { IfOk result (λ input.
         HasRead (R.remaining reader.old) (R.remaining reader.new) input.items) }
     ensures read { IsErrOf result InputFault.Read
-        → GaveUp (R.has_failed reader.new) (R.turns_left reader.new) }
+        → GaveUp (R.has_failed reader.new) (R.turns_left reader.new)
+        × (R.has_ended reader.new ≡ R.has_ended reader.old) }
     ensures too_long { IsErrOf result InputFault.TooLong
         → HasReadTooMuch (R.remaining reader.old) (R.remaining reader.new) }
     // No failed read is passed over.
@@ -193,7 +231,7 @@ pub(crate) fn read_input<R: Source>(alloc: Global, reader: &mut R) -> Result<Vec
     }
 }
 
-/// Makes room for a read behind the filled front. What an earlier read left unfilled is room.
+/// Makes room for a read behind what is filled. What an earlier read left unfilled is room.
 ///
 /// The room doubles, so that the zeros which it is made of cost no more than the input does.
 fn make_room(input: &mut Vec<u8>, filled: usize) -> Result<(), AllocError>
@@ -217,8 +255,8 @@ pub(crate) struct OutputFault;
 pub(crate) fn write_output<W: Sink>(writer: &mut W, text: &[u8]) -> Result<(), OutputFault>
     ensures ok { OnOk result (Appends (W.contents writer.old) (W.contents writer.new) text.now) }
     ensures err { OnErr result (GaveUp (W.has_failed writer.new) (W.turns_left writer.new)) }
-    ensures front { OnErr result
-        (HasWrittenFront (W.contents writer.old) (W.contents writer.new) text.now) }
+    ensures prefix { OnErr result
+        (HasWrittenPrefix (W.contents writer.old) (W.contents writer.new) text.now) }
     // No failed write is passed over.
     ensures failed { OnOk result (W.has_failed writer.new ≡ W.has_failed writer.old) }
 {

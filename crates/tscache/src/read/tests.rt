@@ -55,8 +55,12 @@ fn reads_heads(rt: HostRuntime) {
             Ok(0),
         ),
         (
-            r#"{"page_nodes":2,"min_pages":1,"min_pages":64,"retention":0,"low_water":[0,0],"threads":[[]]}"#,
+            r#"{"page_nodes":2,"min_pages":65,"min_pages":64,"retention":0,"low_water":[0,0],"threads":[[]]}"#,
             Ok(0),
+        ),
+        (
+            r#"{"page_nodes":2,"min_pages":64,"min_pages":65,"retention":0,"low_water":[0,0],"threads":[[]]}"#,
+            SHAPE,
         ),
         (
             r#"{"page_nodes":1,"min_pages":1,"retention":0,"low_water":[0,0],"threads":[[]]}"#,

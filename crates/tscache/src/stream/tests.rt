@@ -12,6 +12,7 @@ impl<T> Metered<T> {
             inner,
             turns,
             failed: false,
+            ended: false,
         }
     }
 }

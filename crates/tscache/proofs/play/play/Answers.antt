@@ -6,7 +6,7 @@ use Rattle.tscache.specs.PlayerParts.{settings_of, standing_of}
 use Rattle.tscache.specs.Log.{log_of}
 use Rattle.tscache.proofs.Playing.{lists_anew}
 use Rattle.tscache.proofs.Rooms.{room_for_small}
-use Rattle.tscache.proofs.Turns.{room_for_list, told_with_list, not_past}
+use Rattle.tscache.proofs.ListSteps.{room_for_list, told_with_list, not_past}
 use Rattle.tscache.proofs.play.play.Goals as goal
 use Rattle.tscache.proofs.play.play.Goals.{in-Some+in_ok-play_list, in_default}
 

@@ -10,5 +10,5 @@ returns-in-Err-clause-refused g c = λ one.
 pub returns-in-Err-clause-failed : goal.returns-in-Err-clause-failed
 returns-in-Err-clause-failed g c = λ four.
     let known = c.in-Err.ensures in
-    failed_of_status c.in-Err.fault _ _ _ _ (sym c.status_of.ensures ∙ four) (λ e. known.read (ap Err e)) (λ e. known.too_long (ap Err e))
-    (λ e. (known.write (ap Err e), known.front (ap Err e))) known.silent
+    failed_of_status c.in-Err.fault _ _ _ _ (sym c.status_of.ensures ∙ four) (λ e. let read = known.read (ap Err e) in (read.0, read.1 ∙ c.requires.reader.1)) (λ e. known.too_long (ap Err e))
+    (λ e. (known.write (ap Err e), known.prefix (ap Err e))) known.silent

@@ -1,5 +1,6 @@
 -- The two keys of a range differ.
-use Rattle.std.proofs.Common.{sym, subst}
+use Rattle.std.proofs.Common.{sym, ap, subst}
+use Rattle.std.specs.Prelude.{slice_get}
 use Rattle.tscache.specs.Shape.{IsShape}
 use Rattle.tscache.specs.declared.span.Shape.TheVariants.{Range}
 use Rattle.tscache.proofs.Ranges.{end_keys_of_range}
@@ -7,5 +8,9 @@ use Rattle.tscache.proofs.span.Span.end_keys.Goals as goal
 
 pub returns-in-Range : goal.returns-in-Range
 returns-in-Range c =
-    let shape : IsShape (Range c.in-Range.from c.in-Range.to c.in-Range.field-2) = subst IsShape c.in-Range.is c.self.invariant in
-    rw (← c.self.view_is, c.in-Range.is) (sym (end_keys_of_range c.in-Range.from c.in-Range.to c.in-Range.field-2.exclude_from c.in-Range.field-2.exclude_to shape))
+    let from = c.in-Range.from in
+    let to = c.in-Range.to in
+    let ends = c.in-Range.field-2 in
+    let shape : IsShape (Range from to ends) = subst IsShape c.in-Range.is c.self.invariant in
+    let keys = sym (end_keys_of_range from to ends.exclude_from ends.exclude_to shape) in
+    rw (← c.self.view_is, c.in-Range.is) (record { keys = keys; start = ap (λ ks. slice_get ks 0) keys; end = ap (λ ks. slice_get ks 1) keys })
