@@ -18,7 +18,7 @@ shared_owner (o ∷ os) = if list_all (is_same_owner o) os then o else None
 abbrev pub those_at : Time → List OwnedTime → List OwnedTime
 those_at t vs = filter (λ v. is_same_time v.time t) vs
 
--- The joint value of v and of a list. Its time is the greatest among them, and it has the owner that each of them at that time has.
+-- The joint value of v and of a list: the latest time among them, and the owner that all those of that time agree on.
 abbrev pub joint : OwnedTime → List OwnedTime → OwnedTime
 joint v vs = let t = latest v.time vs in record { time = t; owner = shared_owner (map (λ w. w.owner) (those_at t (v ∷ vs))) }
 

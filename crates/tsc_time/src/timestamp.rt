@@ -42,7 +42,8 @@ impl Timestamp {
 
     /// The timestamp of these parts, or `None` where a part is above its range.
     pub const fn new(wall: u64, logical: u32) -> Option<Timestamp>
-        ensures { result ≡ (if is_in_range (record { wall = wall; logical = logical }) then Some (record { wall = wall; logical = logical }) else None) }
+        ensures { result ≡ (if is_in_range (record { wall = wall; logical = logical })
+            then Some (record { wall = wall; logical = logical }) else None) }
     {
         if wall <= Timestamp::MAX.wall && logical <= Timestamp::MAX.logical {
             Some(Timestamp { wall, logical })

@@ -48,7 +48,7 @@ greater_cut a b = if is_below a b then b else a
 abbrev pub smaller_cut : Cut → Cut → Cut
 smaller_cut a b = if is_below a b then a else b
 
--- A span runs from its start cut to its end cut. The empty span has no cuts.
+-- A span lies between two cuts, unless it is empty.
 pub data Interval : Type 0 where
   nothing : Interval
   between : Cut → Cut → Interval
@@ -57,11 +57,11 @@ pub data Interval : Type 0 where
 abbrev pub point : KeyBytes → Interval
 point k = between (before k) (after k)
 
--- an included start begins before its key, an excluded one after it
+-- where a span begins at a key: an excluded one is left below it
 abbrev pub start_cut : KeyBytes → Bool → Cut
 start_cut k excluded = if excluded then after k else before k
 
--- an included end stops after its key, an excluded one before it
+-- where a span stops at a key: an excluded one is left above it
 abbrev pub end_cut : KeyBytes → Bool → Cut
 end_cut k excluded = if excluded then before k else after k
 
@@ -95,7 +95,7 @@ abbrev pub start_to_end : KeyBytes → KeyBytes → Option Interval
 start_to_end start [] = Some (point start)
 start_to_end start (b ∷ bs) = range start (b ∷ bs) false true
 
--- Two spans overlap where neither is empty and the greater start cut is below the smaller end cut. No key has to lie between the two.
+-- Two spans overlap where both begin before either stops. There may be no key in what they share, and the empty span overlaps nothing.
 abbrev pub overlaps : Interval → Interval → Bool
 overlaps nothing t = false
 overlaps (between from to) nothing = false
@@ -114,7 +114,7 @@ different_keys None (Some m) = m ∷ []
 different_keys (Some k) None = k ∷ []
 different_keys (Some k) (Some m) = if bytes_eq k m then k ∷ [] else k ∷ m ∷ []
 
--- the end keys of a span: its start key, and its end key where there is one and it differs
+-- the different keys of a span's cuts, which are what it costs on a page
 abbrev pub end_keys : Interval → List KeyBytes
 end_keys nothing = []
 end_keys (between from to) = different_keys (key_of_cut from) (key_of_cut to)

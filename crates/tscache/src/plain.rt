@@ -56,11 +56,14 @@ impl PlainCache {
     /// Adds a span with its value, at the moment `now`. It costs a copy of the span's keys.
     pub fn add(&mut self, span: &Span, value: Value, now: Timestamp) -> Result<Added, NoMemory>
         requires room { front_has_room self.old.settings self.old.state span.now ≡ true }
-        ensures added { IfOk result (λ added. added ≡ (step self.old.settings self.old.state (record { span = span.now; value = value }) now).added) }
-        ensures state { OnOk result (self.new.state ≡ (step self.old.settings self.old.state (record { span = span.now; value = value }) now).state) }
+        ensures added { IfOk result (λ added. added
+            ≡ (step self.old.settings self.old.state (record { span = span.now; value = value }) now).added) }
+        ensures state { OnOk result (self.new.state
+            ≡ (step self.old.settings self.old.state (record { span = span.now; value = value }) now).state) }
         ensures settings { self.new.settings ≡ self.old.settings }
         ensures unchanged { OnErr result (self.new ≡ self.old) }
-        ensures memory { is_kept self.old.state (record { span = span.now; value = value }) ≡ false → IsOk result }
+        ensures memory { is_kept self.old.state (record { span = span.now; value = value }) ≡ false
+            → IsOk result }
     {
         if span.is_empty() || value.time() <= self.config.low_water() {
             return Ok(Added {

@@ -24,8 +24,10 @@ impl Player {
     fn answer(&mut self, call: &Call) -> Result<Said, NoMemory>
         requires room { HasRoomFor (settings_of self.old) (standing_of self.old).state call.now }
         requires count { self.old.adds + 1 < 2 ^ 64 }
-        ensures said { IfOk result (λ said. said ≡ said_at (settings_of self.old) (standing_of self.old) call.now) }
-        ensures standing { OnOk result (standing_of self.new ≡ next (settings_of self.old) (standing_of self.old) call.now) }
+        ensures said { IfOk result (λ said. said
+            ≡ said_at (settings_of self.old) (standing_of self.old) call.now) }
+        ensures standing { OnOk result (standing_of self.new
+            ≡ next (settings_of self.old) (standing_of self.old) call.now) }
         ensures settings { settings_of self.new ≡ settings_of self.old }
         ensures lines { self.new.lines ≡ self.old.lines }
     {
@@ -55,8 +57,10 @@ impl Player {
         requires room { HasRoomForAll (settings_of self.old) (standing_of self.old) calls.now }
         requires count { self.old.adds + length calls.now < 2 ^ 64 }
         requires index { length calls.now ≤ most_calls }
-        ensures lines { OnOk result (self.new.lines.items ≡ self.old.lines.items ++ played (settings_of self.old) thread 0 (standing_of self.old) calls.now) }
-        ensures standing { OnOk result (standing_of self.new ≡ next_all (settings_of self.old) (standing_of self.old) calls.now) }
+        ensures lines { OnOk result (self.new.lines.items ≡ self.old.lines.items
+            ++ played (settings_of self.old) thread 0 (standing_of self.old) calls.now) }
+        ensures standing { OnOk result (standing_of self.new
+            ≡ next_all (settings_of self.old) (standing_of self.old) calls.now) }
         ensures settings { settings_of self.new ≡ settings_of self.old }
         ensures count { OnOk result (self.new.adds ≤ self.old.adds + length calls.now) }
     {

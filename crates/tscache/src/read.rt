@@ -34,7 +34,8 @@ pub enum TraceFault {
 /// The trace that bytes are.
 pub fn read_trace(alloc: Global, bytes: &[u8]) -> Result<Trace, TraceFault>
     ensures ok { IfOk result (λ trace. trace_of_bytes bytes.now ≡ Ok trace) }
-    ensures err { IfErr result (λ fault. (fault ≡ TraceFault.NoMemory) ⊎ (trace_of_bytes bytes.now ≡ Err fault)) }
+    ensures err { IfErr result (λ fault. (fault ≡ TraceFault.NoMemory)
+        ⊎ (trace_of_bytes bytes.now ≡ Err fault)) }
     ensures small { IfOk result (λ trace. is_small trace ≡ true) }
 {
     let value = json_value(alloc, bytes)?;
@@ -48,7 +49,8 @@ pub fn read_trace(alloc: Global, bytes: &[u8]) -> Result<Trace, TraceFault>
 /// The JSON value that bytes are.
 fn json_value(alloc: Global, bytes: &[u8]) -> Result<Value, TraceFault>
     ensures ok { IfOk result (λ value. json_of bytes.now ≡ Some (view value)) }
-    ensures err { IfErr result (λ fault. (fault ≡ TraceFault.NoMemory) ⊎ ((fault ≡ TraceFault.NotJson) × (json_of bytes.now ≡ None))) }
+    ensures err { IfErr result (λ fault. (fault ≡ TraceFault.NoMemory)
+        ⊎ ((fault ≡ TraceFault.NotJson) × (json_of bytes.now ≡ None))) }
 {
     match Value::from_slice(alloc, bytes) {
         Ok(value) => Ok(value),

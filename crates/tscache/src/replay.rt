@@ -16,7 +16,7 @@ use std::io::Write;
 use std::{fmt, io};
 use tsc_time::NoMemory;
 
-/// Why a replay ended early. Only [`ReplayFault::Write`] can follow a written byte.
+/// Why a replay ended early. Before any fault but [`ReplayFault::Write`] nothing was written.
 #[derive(Clone, Copy, Debug, PartialEq, Eq)]
 pub enum ReplayFault {
     /// A read failed, or there was no end after 33,554,432 reads.

@@ -169,7 +169,7 @@ impl Span {
         }
     }
 
-    /// Whether two spans overlap: neither is empty, and the greater start lies below the smaller end.
+    /// Whether two spans overlap: both begin before either stops. It compares four pairs of keys at most.
     pub fn overlaps(&self, other: &Span) -> bool
         ensures { result ≡ overlaps self.now other.now }
     {
@@ -183,7 +183,7 @@ impl Span {
         }
     }
 
-    /// The start key, and the end key where there is one and it differs.
+    /// The different keys at the ends of the span, of which a single key has one and the empty span none.
     pub fn end_keys(&self) -> (Option<&Key>, Option<&Key>)
         ensures keys { option_to_list (option_map (λ k. k.now) result.0)
             ++ option_to_list (option_map (λ k. k.now) result.1) ≡ end_keys self.now }

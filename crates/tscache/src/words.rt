@@ -76,7 +76,8 @@ fn one_file<'a>(alloc: Global, name: &'a str) -> Result<Command<'a>, AllocError>
 
 /// What the words ask for, where clap took them.
 fn request_of(alloc: Global, matches: &ArgMatches<'_>) -> Result<Asked, u8>
-    ensures ok { IfOk result (λ asked. request_found (subcommand_rows_of matches.now) ≡ Some (asks asked)) }
+    ensures ok { IfOk result (λ asked. request_found (subcommand_rows_of matches.now)
+        ≡ Some (asks asked)) }
     ensures err { IfErr result (λ status. (status ≡ 5)
         ⊎ ((status ≡ 2) × IsNone (request_found (subcommand_rows_of matches.now)))) }
 {
@@ -89,7 +90,8 @@ fn request_of(alloc: Global, matches: &ArgMatches<'_>) -> Result<Asked, u8>
 
 /// A copy of the value of an argument.
 fn text(alloc: Global, matches: &ArgMatches<'_>, id: &str) -> Result<String, u8>
-    ensures ok { IfOk result (λ text. first_value (found_of matches.now) id.now ≡ Some (string_bytes text)) }
+    ensures ok { IfOk result (λ text. first_value (found_of matches.now) id.now
+        ≡ Some (string_bytes text)) }
     ensures err { IfErr result (λ status. (status ≡ 5)
         ⊎ ((status ≡ 2) × IsNone (first_value (found_of matches.now) id.now))) }
 {

@@ -76,7 +76,8 @@ fn owner_name(value: &Value) -> Result<Uuid, Refusal>
 /// The name of an owner, which may be left out.
 #[tactic(auto, unfolding(crate::specs::TraceText::owner_member))]
 fn owner(value: Option<&Value>) -> Result<Uuid, Refusal>
-    ensures { Gives (λ name. owner_of name) result (owner_member (option_map (λ value. view value.now) value.entry)) }
+    ensures { Gives (λ name. owner_of name) result
+        (owner_member (option_map (λ value. view value.now) value.entry)) }
 {
     match value {
         None => Ok(Uuid::nil()),
@@ -86,7 +87,8 @@ fn owner(value: Option<&Value>) -> Result<Uuid, Refusal>
 
 /// A key that may be left out.
 fn end_key(alloc: Global, value: Option<&Value>) -> Result<Option<Key>, Refusal>
-    ensures { Gives (λ end. end) result (optional key_of (option_map (λ value. view value.now) value.entry)) }
+    ensures { Gives (λ end. end) result
+        (optional key_of (option_map (λ value. view value.now) value.entry)) }
 {
     match value {
         None => Ok(None),

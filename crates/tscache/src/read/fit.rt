@@ -36,7 +36,8 @@ fn count_keys(alloc: Global, calls: &[Call]) -> Result<usize, AllocError>
 
 /// Puts a key into a set of keys, if there is one.
 fn put<'k>(keys: &mut BTreeSet<&'k [u8]>, key: Option<&'k Key>) -> Result<(), AllocError>
-    ensures { OnOk result ((ks : List KeyBytes) → Holds keys.old ks → Holds keys.new (ks ++ option_to_list (option_map (λ k. k.now) key.entry))) }
+    ensures { OnOk result ((ks : List KeyBytes) → Holds keys.old ks
+        → Holds keys.new (ks ++ option_to_list (option_map (λ k. k.now) key.entry))) }
 {
     if let Some(key) = key {
         keys.insert(key.bytes())?;

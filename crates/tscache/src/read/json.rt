@@ -77,14 +77,16 @@ pub(crate) fn number_32(value: &Value) -> Result<u32, Refusal>
 
 /// A member that may be left out.
 pub(crate) fn optional<'v>(members: &'v Map<String, Value>, name: &str) -> Option<&'v Value>
-    ensures { option_map (λ value. view value.now) result ≡ get_member name.now (members_view members.now.entries) }
+    ensures { option_map (λ value. view value.now) result
+        ≡ get_member name.now (members_view members.now.entries) }
 {
     members.get(name)
 }
 
 /// A member that has to be there.
 pub(crate) fn needed<'v>(members: &'v Map<String, Value>, name: &str) -> Result<&'v Value, Refusal>
-    ensures { Gives (λ value. view value.now) result (get_member name.now (members_view members.now.entries)) }
+    ensures { Gives (λ value. view value.now) result
+        (get_member name.now (members_view members.now.entries)) }
 {
     optional(members, name).ok_or(Refusal::Shape)
 }
@@ -127,7 +129,8 @@ pub(crate) fn one(items: &[Value]) -> Result<&Value, Refusal>
 /// The items of an array of two.
 #[tactic(auto, using(crate::proofs::Items::no_two, crate::proofs::Items::the_two))]
 pub(crate) fn two(items: &[Value]) -> Result<(&Value, &Value), Refusal>
-    ensures { Gives (λ pair. (view pair.0.now, view pair.1.now)) result (two_items (items_view items.now)) }
+    ensures { Gives (λ pair. (view pair.0.now, view pair.1.now)) result
+        (two_items (items_view items.now)) }
 {
     if items.len() != 2 {
         return Err(Refusal::Shape);
