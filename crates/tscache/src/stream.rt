@@ -3,7 +3,7 @@
 //! No clause over `std`'s `Read` and `Write` can say that a call failed. [`Source`] and [`Sink`] can,
 //! so a contract over them tells why a command gave up. That a [`Metered`] reader or writer really
 //! calls the one inside rests on the few lines of its `read` and `write`, and on tests.
-ghost use Rattle.std.specs.Prelude.{◌≡◌, ◌↔◌, ◌⊎◌, ℕ, ◌-◌, ◌<◌, ◌≤◌, ◌||◌, List, Bool, Option, length, take, vec_len, IfOk, IsErrOf, OnOk, OnErr, false};
+ghost use Rattle.std.specs.Prelude.{◌≡◌, ◌≢◌, ◌↔◌, ◌⊎◌, ℕ, ◌-◌, ◌<◌, ◌≤◌, ◌||◌, List, Bool, Option, length, take, vec_len, IfOk, IsErrOf, OnOk, OnErr, true, false};
 ghost use Rattle.std.specs.Io.KnownBytes.{Appends, ReadConsumes, WriteAppends};
 ghost use Rattle.tscache.specs.Stream.{GaveUp, HasRead, HasReadTooMuch, HasWrittenPrefix, is_failure, longest_input, most_turns, IsFresh, is_end};
 
@@ -103,6 +103,23 @@ impl<T> Metered<T> {
         }
     }
 
+    /// What an error of this kind is. It is remembered, unless the call was interrupted.
+    fn remember(&mut self, kind: ErrorKind) -> Trouble
+        ensures interrupted { kind ≡ ErrorKind.Interrupted
+            → (result ≡ Trouble.Interrupted) × (has_failed self.new ≡ has_failed self.old) }
+        ensures failed { kind ≢ ErrorKind.Interrupted
+            → (result ≡ Trouble.Failed) × (has_failed self.new ≡ true) }
+        ensures inner { inner_of self.new ≡ inner_of self.old }
+        ensures ended { has_ended self.new ≡ has_ended self.old }
+        ensures turns { turns_left self.new ≡ turns_left self.old }
+    {
+        if kind == ErrorKind::Interrupted {
+            return Trouble::Interrupted;
+        }
+        self.failed = true;
+        Trouble::Failed
+    }
+
     /// What was wrapped.
     pub fn into_inner(self) -> T
         ensures { result ≡ inner_of self }
@@ -133,11 +150,7 @@ impl<R: Read> Source for Metered<R> {
                 self.ended |= count == 0;
                 Ok(count)
             }
-            Err(error) if error.kind() == ErrorKind::Interrupted => Err(Trouble::Interrupted),
-            Err(_) => {
-                self.failed = true;
-                Err(Trouble::Failed)
-            }
+            Err(error) => Err(self.remember(error.kind())),
         }
     }
 }
@@ -158,8 +171,8 @@ impl<W: Write> Sink for Metered<W> {
         self.turns -= 1;
         match self.inner.write(buf) {
             Ok(count) if count > 0 => Ok(count),
-            Err(error) if error.kind() == ErrorKind::Interrupted => Err(Trouble::Interrupted),
-            Ok(_) | Err(_) => {
+            Err(error) => Err(self.remember(error.kind())),
+            Ok(_) => {
                 self.failed = true;
                 Err(Trouble::Failed)
             }
