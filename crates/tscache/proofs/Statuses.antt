@@ -16,6 +16,16 @@ refused_of_status (Refused trace_fault.NoMemory) e = absurd (omega arith)
 refused_of_status Write e = absurd (omega arith)
 refused_of_status NoMemory e = absurd (omega arith)
 
+-- a replay of status 5 wanted memory
+pub memory_of_status : (fault : ReplayFault) → (Tells : ReplayFault → Type 0) → (Tells (Refused trace_fault.NoMemory) → Tells NoMemory) → status_of fault ≡ 5 → Tells fault → Tells NoMemory
+memory_of_status Read T same e told = absurd (omega arith)
+memory_of_status TooLong T same e told = absurd (omega arith)
+memory_of_status (Refused trace_fault.NotJson) T same e told = absurd (omega arith)
+memory_of_status (Refused (trace_fault.Shape call)) T same e told = absurd (omega arith)
+memory_of_status (Refused trace_fault.NoMemory) T same e told = same told
+memory_of_status Write T same e told = absurd (omega arith)
+memory_of_status NoMemory T same e told = told
+
 -- a replay of status 4 could not read, had too much to read, or could not write
 pub failed_of_status : (fault : ReplayFault) (Unread Long Unwritten Silent : Type 0) → status_of fault ≡ 4
     → (fault ≡ Read → Unread) → (fault ≡ TooLong → Long) → (fault ≡ Write → Unwritten) → (fault ≡ Write) ⊎ Silent

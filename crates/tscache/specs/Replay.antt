@@ -1,10 +1,10 @@
 -- What a replay reads and writes.
-use Rattle.std.specs.Prelude.{◌≡◌, ◌≢◌, ◌++◌, ℕ, List, Option, Ok, Err, codes, decimal}
+use Rattle.std.specs.Prelude.{◌≡◌, ◌≢◌, ◌++◌, ℕ, List, Option, Ok, Err, codes, decimal, ◌⊎◌, ◌∷◌, [], Bool}
 use Rattle.std.specs.Io.KnownBytes.{Appends}
 use Rattle.tscache.specs.TraceText.{trace_of_bytes}
 use Rattle.tscache.specs.Log.{log_of}
-use Rattle.tscache.specs.LogText.{log_text}
-use Rattle.tscache.specs.Stream.{HasRead, HasWrittenPrefix}
+use Rattle.tscache.specs.LogText.{line_feed, log_text}
+use Rattle.tscache.specs.Stream.{GaveUp, HasRead, HasWrittenPrefix}
 use Rattle.tscache.specs.declared.trace.Trace.{Trace}
 use Rattle.tscache.specs.declared.read.TraceFault.{TraceFault}
 use Rattle.tscache.specs.declared.read.TraceFault.TheVariants as trace_fault
@@ -66,7 +66,7 @@ status_of (Refused trace_fault.NoMemory) = 5
 status_of Write = 4
 status_of NoMemory = 5
 
--- what tells a fault
+-- the text of a fault
 abbrev pub fault_text : ReplayFault → List ℕ
 fault_text Read = codes "read failed"
 fault_text TooLong = codes "input too long"
@@ -75,3 +75,7 @@ fault_text (Refused (trace_fault.Shape call)) = codes "trace refused: fault 2 at
 fault_text (Refused trace_fault.NoMemory) = codes "out of memory"
 fault_text Write = codes "write failed"
 fault_text NoMemory = codes "out of memory"
+
+-- A fault was told by one line, or the writer to tell it on gave up.
+abbrev pub Tells : ReplayFault → Option (List ℕ) → Option (List ℕ) → Bool → ℕ → Type 0
+Tells fault old new failed turns_left = Appends old new (fault_text fault ++ line_feed ∷ []) ⊎ GaveUp failed turns_left

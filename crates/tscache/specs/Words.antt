@@ -47,3 +47,8 @@ request_after (name ∷ rest) = request_by name rest
 
 abbrev pub request_in : List Word → Option Request
 request_in words = request_after (drop 1 words)
+
+-- what tells why the words asked for nothing
+abbrev pub refusal_text : ℕ → List ℕ
+refusal_text status = if status == 5 then codes "out of memory"
+    else codes "usage: tscache replay FILE, run FILE or check FILE LOG"

@@ -5,7 +5,11 @@
 //! and 5 where a growth was refused. A fault is one line on standard error.
 #![tactic(auto)]
 
-ghost use Rattle.std.specs.Prelude.{◌≡◌, ◌⊎◌, IfErr};
+ghost use Rattle.std.specs.Prelude.{◌≡◌, ◌⊎◌, ◌∷◌, [], ◌++◌, IfErr};
+ghost use Rattle.std.specs.Io.KnownBytes.{Appends};
+ghost use Rattle.tscache.specs.LogText.{line_feed};
+ghost use Rattle.tscache.specs.Stream.{GaveUp};
+ghost use Rattle.tscache.specs.Words.{refusal_text};
 
 mod cache;
 mod config;
@@ -23,10 +27,10 @@ mod trace;
 mod words;
 
 use crate::replay::{ReplayFault, replay_command, status_of, tell};
-use crate::stream::Metered;
+use crate::stream::{Metered, Sink, write_output};
 use crate::words::{Asked, NO_MEMORY, WRONG_WORDS};
 use std::env::Env;
-use std::io::{ErrorKind, Write};
+use std::io::ErrorKind;
 use std::process::ExitCode;
 use std::rt::Files;
 use std::{env, fs, io};
@@ -36,7 +40,7 @@ fn main(rt: HostRuntime) -> ExitCode {
     let status = match read_words(&rt) {
         Ok(Asked::Replay { file }) => replay_file(&rt, &mut errors, &file),
         Err(status) => {
-            let _ = tell_words(&mut errors, status);
+            tell_words(&mut errors, status);
             status
         }
     };
@@ -56,19 +60,22 @@ fn read_words<R: Env + AllocGlobal>(rt: &R) -> Result<Asked, u8>
     words::words(rt.alloc(), &all)
 }
 
-/// Tells why the words asked for nothing.
-fn tell_words<E: Write>(errors: &mut E, status: u8) -> io::Result<()> {
-    if status == NO_MEMORY {
-        return tell(errors, ReplayFault::NoMemory);
-    }
-    writeln!(
-        errors,
-        "usage: tscache replay FILE, run FILE or check FILE LOG"
-    )
+/// Tells why the words asked for nothing, where that can be written.
+fn tell_words<E: Sink>(errors: &mut E, status: u8)
+    ensures { Appends (E.contents errors.old) (E.contents errors.new)
+        (refusal_text status ++ line_feed ∷ [])
+        ⊎ GaveUp (E.has_failed errors.new) (E.turns_left errors.new) }
+{
+    let line = if status == NO_MEMORY {
+        "out of memory\n"
+    } else {
+        "usage: tscache replay FILE, run FILE or check FILE LOG\n"
+    };
+    let _ = write_output(errors, line.as_bytes());
 }
 
 /// Replays the trace in a file to standard output, and gives the exit status.
-fn replay_file<R: Files + Print + AllocGlobal, E: Write>(rt: &R, errors: &mut E, file: &str) -> u8
+fn replay_file<R: Files + Print + AllocGlobal, E: Sink>(rt: &R, errors: &mut E, file: &str) -> u8
     ensures { (result ≡ 0) ⊎ ((result ≡ 1) ⊎ ((result ≡ 4) ⊎ (result ≡ 5))) }
 {
     let fault = match fs::open(rt, file) {
@@ -80,6 +87,6 @@ fn replay_file<R: Files + Print + AllocGlobal, E: Write>(rt: &R, errors: &mut E,
         Err(error) if error.kind() == ErrorKind::OutOfMemory => ReplayFault::NoMemory,
         Err(_) => ReplayFault::Read,
     };
-    let _ = tell(errors, fault);
+    tell(errors, fault);
     status_of(fault)
 }

@@ -1,19 +1,19 @@
 //! Replays of recorded traces from a reader to a writer.
-ghost use Rattle.std.specs.Prelude.{◌≡◌, ◌≢◌, ◌⊎◌, ◌∷◌, [], ◌++◌, false, Some, IfOk, IfErr, IsErrOf, OnOk};
+ghost use Rattle.std.specs.Prelude.{◌≡◌, ◌≢◌, ◌⊎◌, ◌∷◌, [], ◌++◌, false, Some, IfOk, IfErr, IsErrOf, OnOk, OnErr};
 ghost use Rattle.std.specs.Io.KnownBytes.{Appends};
 ghost use Rattle.tscache.specs.LogText.{line_feed};
-ghost use Rattle.tscache.specs.Replay.{Replays, ReplaysPrefix, ReplaysTo, Refuses, fault_of_input, fault_of_trace, fault_text, status_of};
+ghost use Rattle.tscache.specs.Replay.{Replays, ReplaysPrefix, ReplaysTo, Refuses, Tells, fault_of_input, fault_of_trace, fault_text, status_of};
 ghost use Rattle.tscache.specs.Stream.{GaveUp, HasReadTooMuch, IsFresh};
 ghost use Rattle.tscache.specs.declared.replay.ReplayFault.TheVariants.{NoMemory};
 
 use crate::log::log_text;
 use crate::play::play;
 use crate::read::{TraceFault, read_trace};
-use crate::stream::{InputFault, Metered, Sink, Source, read_input, write_output};
+use crate::stream::{InputFault, OutputFault, Sink, Source, read_input, write_output};
+use itoa::Buffer;
 use std::alloc::Global;
 use std::error::Error;
-use std::io::Write;
-use std::{fmt, io};
+use std::fmt;
 use tsc_time::NoMemory;
 
 /// Why a replay ended early. Before any fault but [`ReplayFault::Write`] nothing was written.
@@ -35,18 +35,9 @@ impl fmt::Display for ReplayFault {
     ghost output = { λ fault. Some (fault_text fault) };
 
     fn fmt<W: fmt::Write>(&self, f: &mut fmt::Formatter<W>) -> fmt::Result {
-        match self {
-            ReplayFault::Read => write!(f, "read failed"),
-            ReplayFault::TooLong => write!(f, "input too long"),
-            ReplayFault::Trace(TraceFault::NotJson) => write!(f, "trace refused: fault 1"),
-            ReplayFault::Trace(TraceFault::Shape(call)) => {
-                write!(f, "trace refused: fault 2 at call {call}")
-            }
-            ReplayFault::Write => write!(f, "write failed"),
-            ReplayFault::NoMemory | ReplayFault::Trace(TraceFault::NoMemory) => {
-                write!(f, "out of memory")
-            }
-        }
+        let mut digits = Buffer::new();
+        let (text, number) = parts(*self, &mut digits);
+        write!(f, "{text}{number}")
     }
 }
 
@@ -142,9 +133,9 @@ fn replay_text<R: Source>(alloc: Global, reader: &mut R) -> Result<Vec<u8>, Repl
 ///
 /// The status is 0 for a replay, 1 for a trace that was refused, 4 where reading or writing failed and
 /// 5 where a growth was refused. The reader and the writer have not been called before, as
-/// [`Metered::new`](crate::stream::Metered::new) gives them. A fault is told by one line, in at most
-/// 33,554,432 writes, and telling it changes no status.
-pub fn replay_command<R: Source, W: Sink, E: Write>(
+/// [`Metered::new`](crate::stream::Metered::new) gives them. A fault is told by one line, and telling
+/// it changes no status.
+pub fn replay_command<R: Source, W: Sink, E: Sink>(
     alloc: Global,
     reader: &mut R,
     writer: &mut W,
@@ -158,16 +149,22 @@ pub fn replay_command<R: Source, W: Sink, E: Write>(
         (W.contents writer.old) (W.contents writer.new) }
     ensures quiet { result ≡ 0 → errors.new ≡ errors.old }
     ensures refused { result ≡ 1 → (fault : TraceFault)
-        × Refuses (R.remaining reader.old) (R.remaining reader.new) fault }
+        × Refuses (R.remaining reader.old) (R.remaining reader.new) fault
+        × Tells (ReplayFault.Trace fault) (E.contents errors.old) (E.contents errors.new)
+        (E.has_failed errors.new) (E.turns_left errors.new) }
     // It could not read, there was too much to read, or it could not write.
-    ensures failed { result ≡ 4
-        → ((GaveUp (R.has_failed reader.new) (R.turns_left reader.new)
-        × (R.has_ended reader.new ≡ false)) × (writer.new ≡ writer.old))
-        ⊎ ((HasReadTooMuch (R.remaining reader.old) (R.remaining reader.new)
-        × (writer.new ≡ writer.old))
-        ⊎ (GaveUp (W.has_failed writer.new) (W.turns_left writer.new)
+    ensures failed { (let told = λ (fault : ReplayFault). Tells fault (E.contents errors.old)
+        (E.contents errors.new) (E.has_failed errors.new) (E.turns_left errors.new) in
+        result ≡ 4
+        → (((GaveUp (R.has_failed reader.new) (R.turns_left reader.new)
+        × (R.has_ended reader.new ≡ false)) × told ReplayFault.Read) × (writer.new ≡ writer.old))
+        ⊎ (((HasReadTooMuch (R.remaining reader.old) (R.remaining reader.new)
+        × told ReplayFault.TooLong) × (writer.new ≡ writer.old))
+        ⊎ ((GaveUp (W.has_failed writer.new) (W.turns_left writer.new)
         × ReplaysPrefix (R.remaining reader.old) (R.remaining reader.new)
-        (W.contents writer.old) (W.contents writer.new))) }
+        (W.contents writer.old) (W.contents writer.new)) × told ReplayFault.Write))) }
+    ensures memory { result ≡ 5 → Tells ReplayFault.NoMemory (E.contents errors.old)
+        (E.contents errors.new) (E.has_failed errors.new) (E.turns_left errors.new) }
     ensures silent { (result ≡ 1) ⊎ (result ≡ 5) → writer.new ≡ writer.old }
     // No failed call is passed over.
     ensures failed_read { (R.has_failed reader.new ≡ R.has_failed reader.old) ⊎ (result ≡ 4) }
@@ -176,7 +173,7 @@ pub fn replay_command<R: Source, W: Sink, E: Write>(
     match replay_stream(alloc, reader, writer) {
         Ok(()) => 0,
         Err(fault) => {
-            let _ = tell(&mut Metered::new(&mut *errors), fault);
+            tell(errors, fault);
             status_of(fault)
         }
     }
@@ -193,12 +190,41 @@ pub(crate) fn status_of(fault: ReplayFault) -> u8
     }
 }
 
-/// Writes the line that tells a fault.
-pub(crate) fn tell<E: Write>(errors: &mut E, fault: ReplayFault) -> io::Result<()>
-    ensures { OnOk result (Appends (E.contents errors.old) (E.contents errors.new)
-        (fault_text fault ++ line_feed ∷ [])) }
+/// Tells a fault by one line, where that can be written.
+pub(crate) fn tell<E: Sink>(errors: &mut E, fault: ReplayFault)
+    ensures { Tells fault (E.contents errors.old) (E.contents errors.new)
+        (E.has_failed errors.new) (E.turns_left errors.new) }
 {
-    writeln!(errors, "{fault}")
+    let _ = write_fault(errors, fault);
+}
+
+/// Writes the line that tells a fault. It takes no memory.
+fn write_fault<E: Sink>(errors: &mut E, fault: ReplayFault) -> Result<(), OutputFault>
+    ensures ok { OnOk result (Appends (E.contents errors.old) (E.contents errors.new)
+        (fault_text fault ++ line_feed ∷ [])) }
+    ensures err { OnErr result (GaveUp (E.has_failed errors.new) (E.turns_left errors.new)) }
+{
+    let mut digits = Buffer::new();
+    let (text, number) = parts(fault, &mut digits);
+    write_output(errors, text.as_bytes())?;
+    write_output(errors, number.as_bytes())?;
+    write_output(errors, b"\n")
+}
+
+/// The text of a fault in two parts, of which the second is a number or empty.
+fn parts<'d>(fault: ReplayFault, digits: &'d mut Buffer) -> (&'static str, &'d str)
+    ensures { result.0.now ++ result.1.now ≡ fault_text fault }
+{
+    match fault {
+        ReplayFault::Read => ("read failed", ""),
+        ReplayFault::TooLong => ("input too long", ""),
+        ReplayFault::Trace(TraceFault::NotJson) => ("trace refused: fault 1", ""),
+        ReplayFault::Trace(TraceFault::Shape(call)) => {
+            ("trace refused: fault 2 at call ", digits.format(call))
+        }
+        ReplayFault::Write => ("write failed", ""),
+        ReplayFault::NoMemory | ReplayFault::Trace(TraceFault::NoMemory) => ("out of memory", ""),
+    }
 }
 
 #[cfg(test)]

@@ -8,7 +8,6 @@ ghost use Rattle.std.specs.Io.KnownBytes.{Appends, ReadConsumes, WriteAppends};
 ghost use Rattle.tscache.specs.Stream.{GaveUp, HasRead, HasReadTooMuch, HasWrittenPrefix, is_failure, longest_input, most_turns, IsFresh, is_end};
 
 use std::alloc::{AllocError, Global};
-use std::io;
 use std::io::{ErrorKind, Read, Write};
 
 /// How often a command reads before it gives up, and how often it writes.
@@ -177,25 +176,6 @@ impl<W: Write> Sink for Metered<W> {
                 Err(Trouble::Failed)
             }
         }
-    }
-}
-
-/// As a writer of `std`, it fails once it was called as often as it may be.
-impl<W: Write> Write for Metered<W> {
-    ghost use Rattle.tscache.specs.MeteredParts as parts;
-
-    ghost contents = { λ m. W.contents (parts.inner_of m) };
-
-    fn write(&mut self, buf: &[u8]) -> io::Result<usize> {
-        if self.turns == 0 {
-            return Err(io::Error::from(ErrorKind::Other));
-        }
-        self.turns -= 1;
-        self.inner.write(buf)
-    }
-
-    fn flush(&mut self) -> io::Result<()> {
-        self.inner.flush()
     }
 }
 

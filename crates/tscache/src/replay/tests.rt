@@ -4,10 +4,9 @@ use crate::read::TraceFault;
 use crate::stream::Metered;
 use std::io;
 use std::io::Read;
-use std::test::Fail;
 
 #[test]
-fn tells_each_fault_by_a_line(rt: HostRuntime) -> Result<(), Fail> {
+fn tells_each_fault_by_a_line(rt: HostRuntime) {
     for (fault, line) in [
         (ReplayFault::Read, "read failed\n"),
         (ReplayFault::TooLong, "input too long\n"),
@@ -26,11 +25,10 @@ fn tells_each_fault_by_a_line(rt: HostRuntime) -> Result<(), Fail> {
         (ReplayFault::Write, "write failed\n"),
         (ReplayFault::NoMemory, "out of memory\n"),
     ] {
-        let mut errors = Vec::new(rt.alloc());
-        tell(&mut errors, fault)?;
-        assert_eq!(rt; errors.as_slice(), line.as_bytes());
+        let mut errors = Metered::new(Vec::new(rt.alloc()));
+        tell(&mut errors, fault);
+        assert_eq!(rt; errors.into_inner().as_slice(), line.as_bytes());
     }
-    Ok(())
 }
 
 #[test]
@@ -38,10 +36,10 @@ fn a_failed_read_is_told(rt: HostRuntime) {
     for failing in 0..4 {
         let mut reader = Metered::new(Faulty::new(&b"abc"[..], 1, Mishap::FailsAt(failing)));
         let mut writer = Metered::new(Vec::new(rt.alloc()));
-        let mut errors = Vec::new(rt.alloc());
+        let mut errors = Metered::new(Vec::new(rt.alloc()));
         let status = replay_command(rt.alloc(), &mut reader, &mut writer, &mut errors);
         assert_eq!(rt; status, 4);
-        assert_eq!(rt; errors.as_slice(), b"read failed\n".as_slice());
+        assert_eq!(rt; errors.into_inner().as_slice(), b"read failed\n".as_slice());
         assert_eq!(rt; writer.into_inner().len(), 0);
     }
 }
@@ -50,10 +48,13 @@ fn a_failed_read_is_told(rt: HostRuntime) {
 fn too_long_an_input_is_told(rt: HostRuntime) {
     let mut reader = Metered::new(io::repeat(b' ').take(16_777_217));
     let mut writer = Metered::new(Vec::new(rt.alloc()));
-    let mut errors = Vec::new(rt.alloc());
+    let mut errors = Metered::new(Vec::new(rt.alloc()));
     let status = replay_command(rt.alloc(), &mut reader, &mut writer, &mut errors);
     assert_eq!(rt; status, 4);
-    assert_eq!(rt; errors.as_slice(), b"input too long\n".as_slice());
+    assert_eq!(rt;
+        errors.into_inner().as_slice(),
+        b"input too long\n".as_slice()
+    );
     assert_eq!(rt; writer.into_inner().len(), 0);
 }
 
@@ -66,7 +67,7 @@ fn the_status_stays_where_the_fault_cannot_be_told(rt: HostRuntime) {
     ] {
         let mut reader = Metered::new(Faulty::new(&b"abc"[..], 1, Mishap::FailsAt(0)));
         let mut writer = Metered::new(Vec::new(rt.alloc()));
-        let mut errors = Faulty::new(Vec::new(rt.alloc()), step, mishap);
+        let mut errors = Metered::new(Faulty::new(Vec::new(rt.alloc()), step, mishap));
         let status = replay_command(rt.alloc(), &mut reader, &mut writer, &mut errors);
         assert_eq!(rt; status, 4);
         assert_eq!(rt; writer.into_inner().len(), 0);

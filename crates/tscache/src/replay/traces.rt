@@ -103,11 +103,11 @@ struct Outcome {
 fn replay(alloc: Global, trace: &str) -> Outcome {
     let mut reader = Metered::new(trace.as_bytes());
     let mut writer = Metered::new(Vec::new(alloc));
-    let mut told = Vec::new(alloc);
+    let mut told = Metered::new(Vec::new(alloc));
     let status = replay_command(alloc, &mut reader, &mut writer, &mut told);
     Outcome {
         written: writer.into_inner(),
-        told,
+        told: told.into_inner(),
         status,
     }
 }
@@ -192,7 +192,7 @@ fn the_examples_replay_to_their_logs(rt: HostRuntime) {
 fn a_byte_at_a_time_makes_the_same_log(rt: HostRuntime) {
     let mut reader = Metered::new(Faulty::new(OVERLAPPING_READS.as_bytes(), 1, Mishap::Never));
     let mut writer = Metered::new(Faulty::new(Vec::new(rt.alloc()), 1, Mishap::Never));
-    let mut told = Vec::new(rt.alloc());
+    let mut told = Metered::new(Vec::new(rt.alloc()));
     let status = replay_command(rt.alloc(), &mut reader, &mut writer, &mut told);
     assert_eq!(rt; status, 0);
     assert_eq!(rt;
@@ -205,10 +205,10 @@ fn a_byte_at_a_time_makes_the_same_log(rt: HostRuntime) {
 fn a_writer_that_fails_at_first_is_told(rt: HostRuntime) {
     let mut reader = Metered::new(OVERLAPPING_READS.as_bytes());
     let mut writer = Metered::new(Faulty::new(Vec::new(rt.alloc()), 9, Mishap::FailsAt(0)));
-    let mut told = Vec::new(rt.alloc());
+    let mut told = Metered::new(Vec::new(rt.alloc()));
     let status = replay_command(rt.alloc(), &mut reader, &mut writer, &mut told);
     assert_eq!(rt; status, 4);
-    assert_eq!(rt; told.as_slice(), b"write failed\n".as_slice());
+    assert_eq!(rt; told.into_inner().as_slice(), b"write failed\n".as_slice());
 }
 
 #[test]
@@ -219,9 +219,9 @@ fn a_reader_that_fails_at_its_second_read_is_told(rt: HostRuntime) {
         Mishap::FailsAt(1),
     ));
     let mut writer = Metered::new(Vec::new(rt.alloc()));
-    let mut told = Vec::new(rt.alloc());
+    let mut told = Metered::new(Vec::new(rt.alloc()));
     let status = replay_command(rt.alloc(), &mut reader, &mut writer, &mut told);
     assert_eq!(rt; status, 4);
-    assert_eq!(rt; told.as_slice(), b"read failed\n".as_slice());
+    assert_eq!(rt; told.into_inner().as_slice(), b"read failed\n".as_slice());
     assert_eq!(rt; writer.into_inner().len(), 0);
 }

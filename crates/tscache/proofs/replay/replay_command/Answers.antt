@@ -1,14 +1,25 @@
-use Rattle.std.proofs.Common.{Err, sym, ap, ◌∙◌}
-use Rattle.tscache.proofs.Statuses.{refused_of_status, failed_of_status}
+use Rattle.std.proofs.Common.{Err, sym, ap, subst, ◌∙◌}
+use Rattle.tscache.specs.Replay.{Tells}
+use Rattle.tscache.specs.declared.replay.ReplayFault.{ReplayFault}
+use Rattle.tscache.proofs.Statuses.{refused_of_status, failed_of_status, memory_of_status}
 use Rattle.tscache.proofs.replay.replay_command.Goals as goal
 
 pub returns-in-Err-clause-refused : goal.returns-in-Err-clause-refused
 returns-in-Err-clause-refused g c = λ one.
+    let told : ReplayFault → Type 0 = λ f. Tells f (g.E.Sink.contents c.args.errors.now) (g.E.Sink.contents c.tell.new.errors) (g.E.Sink.has_failed c.tell.new.errors) (g.E.Sink.turns_left c.tell.new.errors) in
     let refused = refused_of_status c.in-Err.fault (sym c.status_of.ensures ∙ one) in
-    (refused.0, c.in-Err.ensures.trace refused.0 (ap Err refused.1))
+    (refused.0, c.in-Err.ensures.trace refused.0 (ap Err refused.1), subst told refused.1 c.tell.ensures)
 
 pub returns-in-Err-clause-failed : goal.returns-in-Err-clause-failed
 returns-in-Err-clause-failed g c = λ four.
+    let told : ReplayFault → Type 0 = λ f. Tells f (g.E.Sink.contents c.args.errors.now) (g.E.Sink.contents c.tell.new.errors) (g.E.Sink.has_failed c.tell.new.errors) (g.E.Sink.turns_left c.tell.new.errors) in
     let known = c.in-Err.ensures in
-    failed_of_status c.in-Err.fault _ _ _ _ (sym c.status_of.ensures ∙ four) (λ e. let read = known.read (ap Err e) in (read.0, read.1 ∙ c.requires.reader.1)) (λ e. known.too_long (ap Err e))
-    (λ e. (known.write (ap Err e), known.prefix (ap Err e))) known.silent
+    failed_of_status c.in-Err.fault _ _ _ _ (sym c.status_of.ensures ∙ four)
+    (λ e. let read = known.read (ap Err e) in ((read.0, read.1 ∙ c.requires.reader.1), subst told e c.tell.ensures))
+    (λ e. (known.too_long (ap Err e), subst told e c.tell.ensures))
+    (λ e. ((known.write (ap Err e), known.prefix (ap Err e)), subst told e c.tell.ensures)) known.silent
+
+pub returns-in-Err-clause-memory : goal.returns-in-Err-clause-memory
+returns-in-Err-clause-memory g c = λ five.
+    let told : ReplayFault → Type 0 = λ f. Tells f (g.E.Sink.contents c.args.errors.now) (g.E.Sink.contents c.tell.new.errors) (g.E.Sink.has_failed c.tell.new.errors) (g.E.Sink.turns_left c.tell.new.errors) in
+    memory_of_status c.in-Err.fault told (λ t. t) (sym c.status_of.ensures ∙ five) c.tell.ensures
