@@ -4,7 +4,6 @@ pub mod SpanExamples
 pub mod RotationExamples
 pub mod LogExamples
 pub mod TraceTextExamples
-pub mod Ranges
 pub mod DistinctKeys
 pub mod KeySets
 pub mod Items

@@ -1,10 +1,10 @@
 -- The two keys of a range differ.
 use Rattle.std.proofs.Common.{sym, ap, subst}
 use Rattle.std.specs.Prelude.{slice_get}
-use Rattle.tscache.specs.Shape.{IsShape}
-use Rattle.tscache.specs.declared.span.Shape.TheVariants.{Range}
-use Rattle.tscache.proofs.Ranges.{end_keys_of_range}
-use Rattle.tscache.proofs.span.Span.end_keys.Goals as goal
+use Rattle.tsc_span.specs.Shape.{IsShape}
+use Rattle.tsc_span.specs.declared.span.Shape.TheVariants.{Range}
+use Rattle.tsc_span.proofs.Ranges.{end_keys_of_range}
+use Rattle.tsc_span.proofs.span.Span.end_keys.Goals as goal
 
 pub returns-in-Range : goal.returns-in-Range
 returns-in-Range c =

@@ -2,14 +2,10 @@
 use Rattle.std.proofs.Common.{◌≡◌, ◌∙◌, refl, sym, ap, Bool, true, false, ◌&&◌, Some, None, if◌then◌else◌, ◌∷◌, []}
 use Rattle.std.specs.declared.cmp.Ordering.TheVariants.{Less, Equal, Greater}
 use Rattle.std.specs.Ordering.{is_lt, is_eq, ordering_reverse}
-use Rattle.std.proofs.lemmas.Cmp.{nat_list_cmp_total}
 use Rattle.std.proofs.lemmas.Map.Text.{is_eq-slice_cmp}
 use Rattle.std.specs.Str.{bytes_eq}
-use Rattle.tscache.specs.Span.{KeyBytes, key_cmp, nothing, between, point, start_cut, end_cut, is_inverted, range, end_keys}
-
--- what the keys the other way round answer
-key_cmp_back : (from to : KeyBytes) → key_cmp to from ≡ ordering_reverse (key_cmp from to)
-key_cmp_back from to = nat_list_cmp_total.antisymm to from
+use Rattle.tsc_span.specs.Span.{KeyBytes, key_cmp, nothing, between, point, start_cut, end_cut, is_inverted, range, end_keys}
+use Rattle.tsc_span.proofs.CutOrder.{key_cmp_back}
 
 pub range_of_greater : (from to : KeyBytes) (xf xt : Bool) → key_cmp from to ≡ Greater → range from to xf xt ≡ None
 range_of_greater from to xf xt h =

@@ -1,10 +1,10 @@
 -- Each arm by the order of the two keys.
 use Rattle.std.proofs.Common.{◌≡◌, sym}
 use Rattle.std.specs.declared.cmp.Ordering.TheVariants.{Less, Equal, Greater}
-use Rattle.tscache.specs.Span.{key_cmp}
-use Rattle.tscache.proofs.Ranges.{range_of_greater, range_of_equal, range_of_less}
-use Rattle.tscache.proofs.span.Span.range.Goals as goal
-use Rattle.tscache.proofs.span.Span.range.Goals.{then-ends+else-ends-2, else-ends}
+use Rattle.tsc_span.specs.Span.{key_cmp}
+use Rattle.tsc_span.proofs.Ranges.{range_of_greater, range_of_equal, range_of_less}
+use Rattle.tsc_span.proofs.span.Span.range.Goals as goal
+use Rattle.tsc_span.proofs.span.Span.range.Goals.{then-ends+else-ends-2, else-ends}
 
 pub returns-in-Greater-clause-value : goal.returns-in-Greater-clause-value
 returns-in-Greater-clause-value c =

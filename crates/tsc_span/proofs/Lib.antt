@@ -1,0 +1,3 @@
+pub mod CutOrder
+pub mod Ranges
+pub mod Overlaps

@@ -1,0 +1,2 @@
+-- What overlapping comes to.
+use Rattle.std.proofs.Common.{◌≡◌}

@@ -1,0 +1,6 @@
+pub mod Span
+pub mod Cuts
+pub mod Same
+pub mod Sameness
+pub mod Shape
+pub mod Laws

@@ -1,0 +1,42 @@
+-- The test of equal spans tells whether they are the same, which `==` has to be known for.
+use Rattle.std.proofs.Common.{◌≡◌, ◌∙◌, refl, sym, ap, subst, true, Decides, true≢false}
+use Rattle.std.specs.Cmp.{IsEquivalence, decided}
+use Rattle.std.proofs.lemmas.Bool.{and_parts, and_from}
+use Rattle.std.proofs.lemmas.Slice.Eq.{bytes_eq-Decides}
+use Rattle.tsc_span.specs.Span.{Cut, before, after, last, Interval, nothing, between}
+use Rattle.tsc_span.specs.Same.{is_same_cut, is_same_span}
+
+pub is_same_cut-itself : (a : Cut) → is_same_cut a a ≡ true
+is_same_cut-itself (before k) = (bytes_eq-Decides k k).1 refl
+is_same_cut-itself (after k) = (bytes_eq-Decides k k).1 refl
+is_same_cut-itself last = refl
+
+pub is_same_cut-tells : (a b : Cut) → is_same_cut a b ≡ true → a ≡ b
+is_same_cut-tells (before k) (before m) e = ap before ((bytes_eq-Decides k m).0 e)
+is_same_cut-tells (before k) (after m) e = absurd (true≢false (sym e))
+is_same_cut-tells (before k) last e = absurd (true≢false (sym e))
+is_same_cut-tells (after k) (before m) e = absurd (true≢false (sym e))
+is_same_cut-tells (after k) (after m) e = ap after ((bytes_eq-Decides k m).0 e)
+is_same_cut-tells (after k) last e = absurd (true≢false (sym e))
+is_same_cut-tells last (before m) e = absurd (true≢false (sym e))
+is_same_cut-tells last (after m) e = absurd (true≢false (sym e))
+is_same_cut-tells last last e = refl
+
+pub is_same_span-itself : (s : Interval) → is_same_span s s ≡ true
+is_same_span-itself nothing = refl
+is_same_span-itself (between from to) = and_from _ _ (is_same_cut-itself from) (is_same_cut-itself to)
+
+pub is_same_span-tells : (s t : Interval) → is_same_span s t ≡ true → s ≡ t
+is_same_span-tells nothing nothing e = refl
+is_same_span-tells nothing (between first end) e = absurd (true≢false (sym e))
+is_same_span-tells (between from to) nothing e = absurd (true≢false (sym e))
+is_same_span-tells (between from to) (between first end) e =
+    let both = and_parts _ _ e in
+    ap (λ a. between a to) (is_same_cut-tells from first both.0) ∙ ap (λ b. between first b) (is_same_cut-tells to end both.1)
+
+pub is_same_span-Decides : (s t : Interval) → Decides (is_same_span s t) (s ≡ t)
+is_same_span-Decides s t = (is_same_span-tells s t, λ e. subst (λ u. is_same_span s u ≡ true) e (is_same_span-itself s))
+
+-- the laws of `==`
+pub is_same_span-equivalence : IsEquivalence is_same_span
+is_same_span-equivalence = decided is_same_span is_same_span-Decides

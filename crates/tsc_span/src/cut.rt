@@ -1,0 +1,44 @@
+ghost use Rattle.std.specs.Prelude.{◌≡◌};
+
+/// A place between keys: right before or right after one, or above all keys.
+///
+/// The place before a key lies below the place after it, and no other place lies between the two.
+#[derive(Clone, Copy, Debug)]
+pub enum Cut<'a> {
+    Before(&'a [u8]),
+    After(&'a [u8]),
+    Last,
+}
+
+impl<'a> Cut<'a> {
+    ghost use Rattle.tsc_span.specs.Span.{is_below};
+    ghost use Rattle.tsc_span.specs.Cuts.{cut_of};
+    ghost use Rattle.tsc_span.specs.Same.{is_same_cut};
+
+    /// Whether this place lies below another. It compares two keys at the most.
+    pub fn is_below(self, other: Cut<'a>) -> bool
+        ensures { result ≡ is_below (cut_of self.entry) (cut_of other.entry) }
+    {
+        match (self, other) {
+            (Cut::Last, _) => false,
+            (_, Cut::Last) => true,
+            (Cut::Before(key), Cut::After(end)) => key.cmp(end).is_le(),
+            (Cut::Before(key), Cut::Before(end))
+            | (Cut::After(key), Cut::Before(end))
+            | (Cut::After(key), Cut::After(end)) => key.cmp(end).is_lt(),
+        }
+    }
+
+    /// Whether two places are the same.
+    pub(crate) fn is_same(self, other: Cut<'a>) -> bool
+        ensures { result ≡ is_same_cut (cut_of self.entry) (cut_of other.entry) }
+    {
+        match (self, other) {
+            (Cut::Last, Cut::Last) => true,
+            (Cut::Before(key), Cut::Before(end)) | (Cut::After(key), Cut::After(end)) => {
+                key == end
+            }
+            _ => false,
+        }
+    }
+}

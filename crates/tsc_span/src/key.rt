@@ -1,0 +1,120 @@
+ghost use Rattle.std.specs.Prelude.{◌≡◌, ◌<◌, ◌≤◌, ◌↔◌, ◌⊎◌, length, IfOk, IfErr, IsErrOf, Some, Ok, Err, if◌then◌else◌, refl};
+ghost use Rattle.std.specs.Str.{bytes_eq};
+ghost use Rattle.std.specs.Cmp.{partial_equiv_from_equiv};
+ghost use Rattle.std.specs.Cmp.Lexicographic.{nat_list_eq_equiv, nat_list_cmp_total, texts_ties, texts_po};
+ghost use Rattle.tsc_span.specs.Span.{longest_key, fits_key, key_cmp};
+
+use crate::SpanFault;
+use std::alloc::Global;
+use std::cmp::Ordering;
+use std::marker::Model;
+use tsc_time::NoMemory;
+
+/// How many bytes a key has at the most.
+const LONGEST_KEY: usize = 4096;
+
+/// A key: a text of 0 to 4096 bytes. The empty key is the least.
+///
+/// Keys are ordered byte by byte, and a key comes after each of its beginnings. A comparison costs as
+/// much as the bytes that two keys share at their beginning.
+#[derive(Debug, Drop)]
+pub struct Key {
+    bytes: Vec<u8>,
+}
+
+impl Model for Key {
+    ghost use Rattle.std.specs.Prelude.{◌≡◌, true};
+    ghost use Rattle.tsc_span.specs.Span.{KeyBytes, fits_key};
+
+    ghost Value = { KeyBytes };
+
+    ghost view = { λ k. k.bytes.items };
+
+    ghost invariant = { λ k. fits_key k.bytes.items ≡ true };
+}
+
+impl Key {
+    /// A copy of `bytes` as a key. It takes as much memory as there are bytes, and asks for none where
+    /// they are too many.
+    pub fn new(alloc: Global, bytes: &[u8]) -> Result<Key, SpanFault>
+        ensures value { IfOk result (λ key. key ≡ bytes.now) }
+        ensures refused { IsErrOf result SpanFault.KeyTooLong ↔ (longest_key < length bytes.now) }
+        ensures memory { IfErr result (λ fault. (fault ≡ SpanFault.KeyTooLong) ⊎ (fault ≡ SpanFault.NoMemory)) }
+    {
+        if bytes.len() > LONGEST_KEY {
+            return Err(SpanFault::KeyTooLong);
+        }
+        let bytes = Vec::from_slice(alloc, bytes).map_err(|_| SpanFault::NoMemory)?;
+        Ok(Key { bytes })
+    }
+
+    /// The bytes of the key.
+    pub fn bytes(&self) -> &[u8]
+        ensures value { result.now ≡ self.now }
+        ensures fits { length result.now ≤ longest_key }
+    {
+        self.bytes.as_slice()
+    }
+
+    /// A copy of the key. It takes as much memory as the key has bytes.
+    pub fn try_copy(&self) -> Result<Key, NoMemory>
+        ensures { IfOk result (λ copy. copy ≡ self.now) }
+    {
+        Ok(Key {
+            bytes: self.bytes.clone()?,
+        })
+    }
+}
+
+/// Makes a key of bytes that are already there, and takes no memory. More than 4096 bytes are
+/// [`SpanFault::KeyTooLong`], and are then dropped.
+impl TryFrom<Vec<u8>> for Key {
+    type Error = SpanFault;
+
+    ghost try_from_gives = { λ bytes made. made ≡ (if fits_key bytes.items then Ok bytes.items else Err SpanFault.KeyTooLong) };
+
+    fn try_from(bytes: Vec<u8>) -> Result<Key, SpanFault> {
+        if bytes.len() > LONGEST_KEY {
+            return Err(SpanFault::KeyTooLong);
+        }
+        Ok(Key { bytes })
+    }
+}
+
+impl PartialEq for Key {
+    ghost eq = { bytes_eq };
+
+    ghost laws = { partial_equiv_from_equiv nat_list_eq_equiv };
+
+    fn eq(&self, other: &Key) -> bool {
+        self.bytes() == other.bytes()
+    }
+}
+
+impl Eq for Key {
+    ghost laws = { nat_list_eq_equiv };
+}
+
+impl PartialOrd for Key {
+    ghost partial_cmp = { λ k m. Some (key_cmp k m) };
+
+    ghost laws = { texts_po };
+
+    fn partial_cmp(&self, other: &Key) -> Option<Ordering> {
+        Some(self.cmp(other))
+    }
+}
+
+impl Ord for Key {
+    ghost cmp = { key_cmp };
+
+    ghost total = { nat_list_cmp_total };
+
+    ghost matches_partial_cmp = { λ k m. refl };
+
+    ghost matches_eq = { texts_ties };
+
+    fn cmp(&self, other: &Key) -> Ordering {
+        self.bytes().cmp(other.bytes())
+    }
+}

@@ -1,0 +1,22 @@
+//! Keys, and the spans of keys that reads of a store touch.
+//!
+//! A [`Key`] is a text of bytes. A [`Cut`] is a place right before or right after a key, or above all
+//! keys, and a [`Span`] lies between two cuts or is empty. They restate the bounds of CockroachDB's
+//! `pkg/kv/kvserver/tscache`: `intervalSkl.AddRange` takes two keys with flags that exclude either, and
+//! no second key means no end.
+//!
+//! Only [`Key::new`] and the two `try_copy` take memory.
+#![tactic(auto)]
+
+mod cut;
+mod fault;
+mod key;
+pub mod laws;
+mod span;
+#[cfg(test)]
+mod tests;
+
+pub use cut::Cut;
+pub use fault::SpanFault;
+pub use key::Key;
+pub use span::{Ends, Span};

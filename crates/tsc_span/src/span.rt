@@ -1,0 +1,230 @@
+ghost use Rattle.std.specs.Prelude.{◌≡◌, ◌++◌, IfOk, IfErr, IfSome, true, option_map, option_to_list, slice_get};
+ghost use Rattle.std.specs.Result.{result_ok};
+ghost use Rattle.std.specs.Cmp.{partial_equiv_from_equiv};
+ghost use Rattle.tsc_span.specs.Span.{point, range, range_for_lookup, start_to_end, start_cut, onward, is_empty_span, is_below, overlaps, covers, end_keys};
+ghost use Rattle.tsc_span.specs.Cuts.{cut_of, interval_of_cuts};
+ghost use Rattle.tsc_span.specs.Same.{is_same_span};
+ghost use Rattle.tsc_span.specs.Sameness.{is_same_span-equivalence};
+
+use crate::{Cut, Key, SpanFault};
+use std::cmp::Ordering;
+use std::marker::Model;
+use tsc_time::NoMemory;
+
+/// Which ends of a range are excluded.
+#[derive(Clone, Copy, Debug, PartialEq, Eq)]
+pub struct Ends {
+    pub exclude_from: bool,
+    pub exclude_to: bool,
+}
+
+/// A span of keys: a single key, a range, all keys from one on, or nothing.
+#[derive(Debug, Drop)]
+pub struct Span {
+    shape: Shape,
+}
+
+#[derive(Debug, Drop)]
+enum Shape {
+    Nothing,
+    Point(Key),
+    Range(Key, Key, Ends),
+    Onward(Key, bool),
+}
+
+impl Model for Span {
+    ghost use Rattle.tsc_span.specs.Span.{Interval};
+
+    ghost Value = { Interval };
+
+    ghost use Rattle.tsc_span.specs.Shape.{interval_of, IsShape};
+
+    ghost view = { λ s. interval_of s.shape };
+
+    ghost invariant = { λ s. IsShape s.shape };
+}
+
+impl Span {
+    /// The single key.
+    pub fn point(key: Key) -> Span
+        ensures { result ≡ point key }
+    {
+        Span {
+            shape: Shape::Point(key),
+        }
+    }
+
+    /// The keys from one to another, or [`SpanFault::Inverted`] where the first is greater; both are then
+    /// dropped. Equal keys are the empty span where both ends are excluded, and else the single key.
+    pub fn range(from: Key, to: Key, ends: Ends) -> Result<Span, SpanFault>
+        ensures value { result_ok result ≡ range from to ends.exclude_from ends.exclude_to }
+        ensures refused { IfErr result (λ fault. fault ≡ SpanFault.Inverted) }
+    {
+        match from.cmp(&to) {
+            Ordering::Greater => Err(SpanFault::Inverted),
+            Ordering::Equal if ends.exclude_from && ends.exclude_to => Ok(Span {
+                shape: Shape::Nothing,
+            }),
+            Ordering::Equal => Ok(Span::point(from)),
+            Ordering::Less => Ok(Span {
+                shape: Shape::Range(from, to, ends),
+            }),
+        }
+    }
+
+    /// All keys from one on. There is no end.
+    pub fn onward(from: Key, exclude_from: bool) -> Span
+        ensures { result ≡ onward from exclude_from }
+    {
+        Span {
+            shape: Shape::Onward(from, exclude_from),
+        }
+    }
+
+    /// The span that a start and an end name, as `Cache.Add` of CockroachDB's
+    /// `pkg/kv/kvserver/tscache/cache.go` takes them: an empty end means the start alone, and any other
+    /// end is excluded.
+    pub fn of(start: Key, end: Key) -> Result<Span, SpanFault>
+        ensures value { result_ok result ≡ start_to_end start end }
+        ensures refused { IfErr result (λ fault. fault ≡ SpanFault.Inverted) }
+    {
+        if end.bytes().is_empty() {
+            return Ok(Span::point(start));
+        }
+        let ends = Ends {
+            exclude_from: false,
+            exclude_to: true,
+        };
+        Span::range(start, end, ends)
+    }
+
+    /// The keys from one to another for a lookup, in which an inverted range is the empty span.
+    pub fn for_lookup(from: Key, to: Key, ends: Ends) -> Span
+        ensures { result ≡ range_for_lookup from to ends.exclude_from ends.exclude_to }
+    {
+        match Span::range(from, to, ends) {
+            Ok(span) => span,
+            Err(_) => Span {
+                shape: Shape::Nothing,
+            },
+        }
+    }
+
+    /// Whether the span is empty. A span between two neighbouring keys holds no key, and is not.
+    pub fn is_empty(&self) -> bool
+        ensures { result ≡ is_empty_span self.now }
+    {
+        matches!(&self.shape, Shape::Nothing)
+    }
+
+    /// Where the span starts and where it stops, or `None` for the empty span.
+    pub fn cuts(&self) -> Option<(Cut<'_>, Cut<'_>)>
+        ensures value { interval_of_cuts result ≡ self.now }
+        ensures order { IfSome result (λ cuts. is_below (cut_of cuts.0) (cut_of cuts.1) ≡ true) }
+    {
+        match &self.shape {
+            Shape::Nothing => None,
+            Shape::Point(key) => Some((Cut::Before(key.bytes()), Cut::After(key.bytes()))),
+            Shape::Range(from, to, ends) => {
+                let start = start_cut(from, ends.exclude_from);
+                let end = if ends.exclude_to {
+                    Cut::Before(to.bytes())
+                } else {
+                    Cut::After(to.bytes())
+                };
+                Some((start, end))
+            }
+            Shape::Onward(from, exclude_from) => Some((start_cut(from, *exclude_from), Cut::Last)),
+        }
+    }
+
+    /// Whether two spans overlap: both begin before either stops. It compares four pairs of keys at the
+    /// most.
+    ///
+    /// No key need lie in what they share: the span between `a` and the next key after it, both excluded,
+    /// overlaps itself.
+    pub fn overlaps(&self, other: &Span) -> bool
+        ensures { result ≡ overlaps self.now other.now }
+    {
+        match (self.cuts(), other.cuts()) {
+            (Some((from, to)), Some((first, end))) => {
+                let start = if from.is_below(first) { first } else { from };
+                let stop = if to.is_below(end) { to } else { end };
+                start.is_below(stop)
+            }
+            _ => false,
+        }
+    }
+
+    /// Whether a key lies in the span. It may be of any length.
+    pub fn covers(&self, key: &[u8]) -> bool
+        ensures { result ≡ covers self.now key.now }
+    {
+        match self.cuts() {
+            Some((from, to)) => {
+                !Cut::Before(key).is_below(from) && !to.is_below(Cut::After(key))
+            }
+            None => false,
+        }
+    }
+
+    /// The different keys at the ends of the span. A single key and a span without end have one, and the
+    /// empty span has none. A second key comes only with a first.
+    pub fn end_keys(&self) -> (Option<&Key>, Option<&Key>)
+        ensures keys { option_to_list (option_map (λ k. k.now) result.0)
+            ++ option_to_list (option_map (λ k. k.now) result.1) ≡ end_keys self.now }
+        ensures start { option_map (λ k. k.now) result.0 ≡ slice_get (end_keys self.now) 0 }
+        ensures end { option_map (λ k. k.now) result.1 ≡ slice_get (end_keys self.now) 1 }
+    {
+        match &self.shape {
+            Shape::Nothing => (None, None),
+            Shape::Point(key) | Shape::Onward(key, _) => (Some(key), None),
+            Shape::Range(from, to, _) => (Some(from), Some(to)),
+        }
+    }
+
+    /// A copy of the span. It takes as much memory as its keys have bytes.
+    pub fn try_copy(&self) -> Result<Span, NoMemory>
+        ensures { IfOk result (λ copy. copy ≡ self.now) }
+    {
+        let shape = match &self.shape {
+            Shape::Nothing => Shape::Nothing,
+            Shape::Point(key) => Shape::Point(key.try_copy()?),
+            Shape::Range(from, to, ends) => {
+                Shape::Range(from.try_copy()?, to.try_copy()?, *ends)
+            }
+            Shape::Onward(from, exclude_from) => Shape::Onward(from.try_copy()?, *exclude_from),
+        };
+        Ok(Span { shape })
+    }
+}
+
+/// Where a span begins at a key.
+fn start_cut(key: &Key, excluded: bool) -> Cut<'_>
+    ensures { cut_of result ≡ start_cut key.now excluded }
+{
+    if excluded {
+        Cut::After(key.bytes())
+    } else {
+        Cut::Before(key.bytes())
+    }
+}
+
+/// Two spans are equal where they begin and stop at the same places, or both are empty.
+impl PartialEq for Span {
+    ghost eq = { is_same_span };
+
+    ghost laws = { partial_equiv_from_equiv is_same_span-equivalence };
+
+    fn eq(&self, other: &Span) -> bool {
+        match (self.cuts(), other.cuts()) {
+            (None, None) => true,
+            (Some((from, to)), Some((first, end))) => from.is_same(first) && to.is_same(end),
+            _ => false,
+        }
+    }
+}
+
+impl Eq for Span {
+    ghost laws = { is_same_span-equivalence };
+}
