@@ -6,11 +6,26 @@ use Rattle.std.specs.Ordering.{is_lt, is_eq, ordering_then, ordering_reverse}
 use Rattle.std.specs.Cmp.{IsTotalOrder}
 use Rattle.std.specs.Cmp.Lexicographic.{slice_cmp}
 use Rattle.std.proofs.lemmas.Cmp.{nat_list_cmp_total, lists_total, on_total, tied_itself}
+use Rattle.std.proofs.lemmas.Map.Text.{is_eq-slice_cmp}
+use Rattle.std.proofs.lemmas.Slice.Eq.{bytes_eq-Decides}
 use Rattle.tsc_span.specs.Span.{KeyBytes, key_cmp, Cut, before, after, last, cut_cmp, is_below}
 
 -- what the keys the other way round answer
 pub key_cmp_back : (from to : KeyBytes) → key_cmp to from ≡ ordering_reverse (key_cmp from to)
 key_cmp_back from to = nat_list_cmp_total.antisymm to from
+
+key_cmp-same : (k m : KeyBytes) → key_cmp k m ≡ Equal → k ≡ m
+key_cmp-same k m e = (bytes_eq-Decides k m).0 (sym (is_eq-slice_cmp k m) ∙ ap is_eq e)
+
+never_less : (o : Ordering) → ordering_then o Less ≡ Equal → ⊥
+never_less Less e = cc
+never_less Equal e = cc
+never_less Greater e = cc
+
+never_greater : (o : Ordering) → ordering_then o Greater ≡ Equal → ⊥
+never_greater Less e = cc
+never_greater Equal e = cc
+never_greater Greater e = cc
 
 -- a cut as texts whose order is that of cuts: whether it is the last, its key, and the side
 spelled : Cut → List KeyBytes
@@ -44,6 +59,18 @@ cut_cmp-total = record {
   trans = λ a b c p q. spelled_order a c ∙ spelled_total.trans a b c (sym (spelled_order a b) ∙ p) (sym (spelled_order b c) ∙ q);
   congr = λ a b c p. spelled_order a c ∙ spelled_total.congr a b c (sym (spelled_order a b) ∙ p) ∙ sym (spelled_order b c);
 }
+
+-- only the same cuts are equal
+pub cut_cmp-same : (a b : Cut) → cut_cmp a b ≡ Equal → a ≡ b
+cut_cmp-same (before k) (before m) e = ap before (key_cmp-same k m e)
+cut_cmp-same (before k) (after m) e = absurd (never_less (key_cmp k m) e)
+cut_cmp-same (before k) last e = cc
+cut_cmp-same (after k) (before m) e = absurd (never_greater (key_cmp k m) e)
+cut_cmp-same (after k) (after m) e = ap after (key_cmp-same k m e)
+cut_cmp-same (after k) last e = cc
+cut_cmp-same last (before m) e = cc
+cut_cmp-same last (after m) e = cc
+cut_cmp-same last last e = refl
 
 -- the place before a key is below the place after it
 pub sides_in_order : (k : KeyBytes) → is_below (before k) (after k) ≡ true

@@ -1,6 +1,14 @@
--- What follows from the definitions, stated for every span and key.
-use Rattle.std.specs.Prelude.{◌≡◌}
-use Rattle.tsc_span.specs.Span.{KeyBytes, Interval, point, overlaps, covers}
+-- What follows from the definitions, stated for every cut, span and key.
+use Rattle.std.specs.Prelude.{◌≡◌, not}
+use Rattle.std.specs.declared.cmp.Ordering.TheVariants.{Equal}
+use Rattle.std.specs.Cmp.{IsTotalOrder}
+use Rattle.tsc_span.specs.Span.{KeyBytes, Cut, before, after, cut_cmp, is_below, Interval, point, overlaps, covers}
+
+-- The order of cuts is total, and only the same cuts are equal in it. What is below the place after a key is not above the place before it.
+pub record IsCutOrder : Type 0 where
+  pub total : IsTotalOrder cut_cmp
+  pub same : (a b : Cut) → cut_cmp a b ≡ Equal → a ≡ b
+  pub sides : (k : KeyBytes) (a : Cut) → is_below a (after k) ≡ not (is_below (before k) a)
 
 -- a span covers a key exactly where it overlaps the single key
 abbrev pub CoversIsOverlap : Type 0

@@ -1,4 +1,5 @@
 pub mod Span
+pub mod MadeKey
 pub mod Cuts
 pub mod Same
 pub mod Sameness

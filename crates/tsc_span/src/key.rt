@@ -1,8 +1,9 @@
-ghost use Rattle.std.specs.Prelude.{◌≡◌, ◌<◌, ◌≤◌, ◌↔◌, ◌⊎◌, length, IfOk, IfErr, IsErrOf, Some, Ok, Err, if◌then◌else◌, refl};
+ghost use Rattle.std.specs.Prelude.{◌≡◌, ◌<◌, ◌≤◌, ◌↔◌, ◌⊎◌, length, IfOk, IfErr, IsErrOf, Some, refl};
 ghost use Rattle.std.specs.Str.{bytes_eq};
 ghost use Rattle.std.specs.Cmp.{partial_equiv_from_equiv};
 ghost use Rattle.std.specs.Cmp.Lexicographic.{nat_list_eq_equiv, nat_list_cmp_total, texts_ties, texts_po};
-ghost use Rattle.tsc_span.specs.Span.{longest_key, fits_key, key_cmp};
+ghost use Rattle.tsc_span.specs.Span.{longest_key, key_cmp};
+ghost use Rattle.tsc_span.specs.MadeKey.{made_key};
 
 use crate::SpanFault;
 use std::alloc::Global;
@@ -71,7 +72,7 @@ impl Key {
 impl TryFrom<Vec<u8>> for Key {
     type Error = SpanFault;
 
-    ghost try_from_gives = { λ bytes made. made ≡ (if fits_key bytes.items then Ok bytes.items else Err SpanFault.KeyTooLong) };
+    ghost try_from_gives = { λ bytes made. made ≡ made_key bytes.items };
 
     fn try_from(bytes: Vec<u8>) -> Result<Key, SpanFault> {
         if bytes.len() > LONGEST_KEY {

@@ -1,9 +1,10 @@
-//! Laws of the comparisons of keys and spans.
+//! Laws of the comparisons of keys, cuts and spans, and of overlapping.
 //!
 //! No program needs to call these functions: their contracts are the laws, for every value.
-ghost use Rattle.std.specs.Prelude.{◌≡◌, ◌↔◌, IsTrue};
+ghost use Rattle.std.specs.Prelude.{◌≡◌, ◌↔◌, IsTrue, not};
 ghost use Rattle.std.specs.Ordering.{is_lt};
-ghost use Rattle.tsc_span.specs.Span.{key_cmp};
+ghost use Rattle.tsc_span.specs.Span.{key_cmp, is_empty_span};
+ghost use Rattle.tsc_span.specs.Laws.{IsCutOrder, CoversIsOverlap, OverlapBothWays};
 
 use crate::{Key, Span};
 use std::cmp::Ordering;
@@ -34,4 +35,27 @@ pub fn tells_same_span(a: &Span, b: &Span) -> bool
     ensures { IsTrue result ↔ (a.now ≡ b.now) }
 {
     a == b
+}
+
+/// The order of cuts is total, and nothing stands between the place before a key and the place after it.
+pub fn order_of_cuts()
+    ensures { IsCutOrder }
+{}
+
+/// A span covers a key exactly where it overlaps the single key.
+pub fn covers_as_it_overlaps()
+    ensures { CoversIsOverlap }
+{}
+
+/// Which of two spans is named first makes no difference to their overlapping.
+pub fn overlaps_both_ways()
+    ensures { OverlapBothWays }
+{}
+
+/// Every span overlaps itself, but for the empty one.
+pub fn overlaps_itself(span: &Span) -> bool
+    ensures { result ≡ not (is_empty_span span.now) }
+{
+    let _cuts = span.cuts();
+    span.overlaps(span)
 }
