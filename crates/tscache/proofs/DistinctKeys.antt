@@ -6,7 +6,7 @@ use Rattle.std.proofs.Math.Bool.{or-true}
 use mathlib.Core.Bool.{true≢false}
 use Rattle.std.proofs.lemmas.Slice.Eq.{bytes_eq-Decides}
 use Rattle.std.proofs.lemmas.List.Folds.{list_any-append}
-use Rattle.tscache.specs.Span.{KeyBytes}
+use Rattle.tsc_span.specs.Span.{KeyBytes}
 use Rattle.tscache.specs.Page.{count_distinct}
 
 -- whether a key is in a list

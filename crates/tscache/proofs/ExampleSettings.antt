@@ -2,7 +2,7 @@
 use Rattle.std.specs.Prelude.{ℕ, suc, List, [], ◌∷◌, map, Bool, true, false, Some}
 use Rattle.tsc_time.specs.Time.{Time}
 use Rattle.tsc_time.specs.OwnedTime.{Owner, OwnedTime}
-use Rattle.tscache.specs.Span.{KeyBytes, Interval, from_to, point}
+use Rattle.tsc_span.specs.Span.{KeyBytes, Interval, from_to, point}
 use Rattle.tscache.specs.Page.{Mark, PageMarks}
 use Rattle.tscache.specs.State.{Settings, CacheState, step, opening}
 use Rattle.tscache.specs.History.{History, mark_of, state_of}

@@ -1,7 +1,7 @@
 -- A whole run: a trace, the log that it gives, and the text of that log.
 use Rattle.std.specs.Prelude.{◌≡◌, ℕ, List, [], ◌∷◌, ◌++◌, true, false, codes, refl}
 use Rattle.tsc_time.specs.OwnedTime.{unowned}
-use Rattle.tscache.specs.Span.{point}
+use Rattle.tsc_span.specs.Span.{point}
 use Rattle.tscache.specs.Log.{log_of}
 use Rattle.tscache.specs.LogText.{log_text}
 use Rattle.tscache.specs.declared.trace.Call.{Call}

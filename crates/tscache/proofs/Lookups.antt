@@ -5,7 +5,7 @@ use Rattle.tsc_time.specs.Time.{Time}
 use Rattle.tsc_time.specs.OwnedTime.{OwnedTime, unowned}
 use Rattle.tsc_time.specs.Joint.{joint, joint_above}
 use Rattle.tsc_time.proofs.JointLemmas.{joint-append}
-use Rattle.tscache.specs.Span.{Interval, overlaps}
+use Rattle.tsc_span.specs.Span.{Interval, overlaps}
 use Rattle.tscache.specs.Page.{Mark, values_on}
 
 -- of one more mark the value comes last, where it overlaps

@@ -6,7 +6,7 @@ use Rattle.std.proofs.lemmas.Grind.{flat_map-append}
 use Rattle.std.proofs.lemmas.List.Folds.{list_any-append}
 use Rattle.std.specs.Str.{bytes_eq}
 use Rattle.tsc_time.specs.Time.{Time}
-use Rattle.tscache.specs.Span.{KeyBytes, Interval, end_keys}
+use Rattle.tsc_span.specs.Span.{KeyBytes, Interval, end_keys}
 use Rattle.tscache.specs.Page.{Mark, marked_keys, count_distinct}
 use Rattle.tscache.specs.State.{Settings, one_page, step, is_kept, front_has_room}
 use Rattle.tscache.specs.Trace.{added_keys, is_small}

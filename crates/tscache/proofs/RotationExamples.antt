@@ -2,7 +2,7 @@
 use Rattle.std.specs.Prelude.{◌≡◌, List, [], ◌∷◌, ◌++◌, length, true, false, codes, refl}
 use Rattle.tsc_time.specs.Time.{zero_time}
 use Rattle.tsc_time.specs.OwnedTime.{unowned}
-use Rattle.tscache.specs.Span.{point}
+use Rattle.tsc_span.specs.Span.{point}
 use Rattle.tscache.specs.State.{look}
 use Rattle.tscache.proofs.ExampleSettings.{at, of_first, usual, tight, twenty, without_end, marks_at, page, Addition, add_points, state_after, answers, added}
 

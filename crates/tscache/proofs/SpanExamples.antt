@@ -2,7 +2,7 @@
 use Rattle.std.specs.Prelude.{◌≡◌, List, [], ◌∷◌, length, Bool, true, false, Some, None, codes, refl}
 use Rattle.tsc_time.specs.Time.{zero_time}
 use Rattle.tsc_time.specs.OwnedTime.{unowned}
-use Rattle.tscache.specs.Span.{KeyBytes, nothing, between, before, after, last, point, onward, range, range_for_lookup, start_to_end}
+use Rattle.tsc_span.specs.Span.{KeyBytes, nothing, between, before, after, last, point, onward, range, range_for_lookup, start_to_end}
 use Rattle.tscache.specs.State.{look}
 use Rattle.tscache.proofs.ExampleSettings.{at, of_first, usual, twenty, without_end, without_ends, with_ends, mark, page, Addition, add, state_after, answers, added}
 

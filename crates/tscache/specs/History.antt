@@ -2,7 +2,7 @@
 use Rattle.std.specs.Prelude.{ℕ, List, [], ◌∷◌, count_by, ◌==◌}
 use Rattle.tsc_time.specs.Time.{Time}
 use Rattle.tsc_time.specs.OwnedTime.{OwnedTime}
-use Rattle.tscache.specs.Span.{Interval}
+use Rattle.tsc_span.specs.Span.{Interval}
 use Rattle.tscache.specs.Page.{Mark}
 use Rattle.tscache.specs.State.{Settings, CacheState, opening, step}
 

@@ -1,5 +1,3 @@
-pub mod Span
-pub mod Shape
 pub mod Page
 pub mod State
 pub mod History

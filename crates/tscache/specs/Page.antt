@@ -5,7 +5,7 @@ use Rattle.std.specs.Str.{bytes_eq}
 use Rattle.tsc_time.specs.Time.{Time}
 use Rattle.tsc_time.specs.OwnedTime.{OwnedTime}
 use Rattle.tsc_time.specs.Joint.{latest}
-use Rattle.tscache.specs.Span.{KeyBytes, Interval, overlaps, end_keys}
+use Rattle.tsc_span.specs.Span.{KeyBytes, Interval, overlaps, end_keys}
 
 -- a span with the value that was added to it
 pub record Mark : Type 0 where

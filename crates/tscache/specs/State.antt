@@ -4,7 +4,7 @@ use Rattle.std.specs.List.{flat_map}
 use Rattle.tsc_time.specs.Time.{Time, zero_time, wall_limit, time_minus, is_before, later}
 use Rattle.tsc_time.specs.OwnedTime.{OwnedTime}
 use Rattle.tsc_time.specs.Joint.{joint_above}
-use Rattle.tscache.specs.Span.{Interval, nothing, between}
+use Rattle.tsc_span.specs.Span.{Interval, is_empty_span}
 use Rattle.tscache.specs.Page.{Mark, PageMarks, empty_page, with_mark, top, values_on, has_room}
 use Rattle.tscache.specs.declared.cache.Added.{Added}
 use Rattle.tscache.specs.declared.config.ConfigFault.{ConfigFault}
@@ -93,10 +93,6 @@ on_front (front ∷ older) m = with_mark front m ∷ older
 -- the state with one more mark on its front page
 abbrev pub marked : CacheState → Mark → CacheState
 marked s m = record { floor = s.floor; pages = on_front s.pages m; rotations = s.rotations }
-
-abbrev pub is_empty_span : Interval → Bool
-is_empty_span nothing = true
-is_empty_span (between from to) = false
 
 -- An Add of the empty span, or at or below the floor, is not kept.
 abbrev pub is_kept : CacheState → Mark → Bool

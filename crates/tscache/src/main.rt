@@ -15,13 +15,11 @@ mod cache;
 mod config;
 #[cfg(test)]
 mod fakes;
-mod key;
 mod log;
 mod plain;
 mod play;
 mod read;
 mod replay;
-mod span;
 mod stream;
 mod trace;
 mod words;

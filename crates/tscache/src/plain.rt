@@ -4,9 +4,9 @@ ghost use Rattle.tscache.specs.State.{ConfiguredState, opening, step, look, is_k
 
 use crate::cache::Added;
 use crate::config::Config;
-use crate::span::Span;
 use std::alloc::Global;
 use std::marker::Model;
+use tsc_span::Span;
 use tsc_time::{NoMemory, Timestamp, Value, ratchet};
 
 /// The cache as a plain list of what was added to it: slow, and easy to believe.

@@ -2,9 +2,9 @@ ghost use Rattle.std.specs.Prelude.{◌≡◌, ◌≤◌, ◌∷◌, [], length,
 ghost use Rattle.tscache.specs.Lists.{most_lists, most_calls};
 
 use crate::config::Config;
-use crate::span::Span;
 use std::alloc::{AllocError, Global};
 use std::marker::Model;
+use tsc_span::Span;
 use tsc_time::{Timestamp, Value};
 
 /// A recorded run: a configuration, and lists of calls.

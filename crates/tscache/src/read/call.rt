@@ -12,14 +12,19 @@ ghost use Rattle.tscache.specs.TraceText.{time_of, key_of, owner_or_null, owner_
 use super::json::{
     Refusal, array, has_only, needed, number_32, number_64, object, optional, text, two,
 };
-use crate::key::Key;
-use crate::span::{END_EXCLUDED, Span};
 use crate::trace::Call;
 use hex::FromHexError;
 use serde_json::{Map, Value};
 use std::alloc::Global;
+use tsc_span::{Ends, Key, Span};
 use tsc_time::Timestamp;
 use uuid::Uuid;
+
+/// A trace names a span by its start and its end, and the end is excluded.
+const END_EXCLUDED: Ends = Ends {
+    exclude_from: false,
+    exclude_to: true,
+};
 
 /// A time: its wall time and its logical count.
 #[tactic(auto, unfolding(crate::specs::TraceText::time_of))]
@@ -50,7 +55,7 @@ fn key(alloc: Global, value: &Value) -> Result<Key, Refusal>
 {
     let digits = text(value)?;
     let bytes = hex_bytes(alloc, digits)?;
-    Key::of_bytes(bytes).ok_or(Refusal::Shape)
+    Key::try_from(bytes).map_err(|_| Refusal::Shape)
 }
 
 /// The UUID that a text is.

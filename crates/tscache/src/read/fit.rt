@@ -2,15 +2,15 @@
 
 ghost use Rattle.std.specs.Prelude.{◌≡◌, ◌++◌, option_map, option_to_list, IfOk, OnOk, List};
 ghost use Rattle.std.specs.List.{flat_map};
-ghost use Rattle.tscache.specs.Span.{KeyBytes};
+ghost use Rattle.tsc_span.specs.Span.{KeyBytes};
 ghost use Rattle.tscache.specs.Page.{count_distinct};
 ghost use Rattle.tscache.specs.Trace.{added_keys, fits_one_page};
 ghost use Rattle.tscache.specs.KeySet.{Holds};
 
-use crate::key::Key;
 use crate::trace::Call;
 use std::alloc::{AllocError, Global};
 use std::collections::BTreeSet;
+use tsc_span::Key;
 
 /// Whether the end keys of all Adds, without repeats, are no more than a page may hold.
 pub(super) fn fits(alloc: Global, calls: &[Call], page_nodes: u32) -> Result<bool, AllocError>

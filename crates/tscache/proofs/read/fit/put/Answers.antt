@@ -1,6 +1,6 @@
 use Rattle.std.proofs.Common.{List, ◌∷◌, [], ◌++◌, sym, subst}
 use Rattle.std.proofs.lemmas.List.{append-nil}
-use Rattle.tscache.specs.Span.{KeyBytes}
+use Rattle.tsc_span.specs.Span.{KeyBytes}
 use Rattle.tscache.specs.KeySet.{Holds}
 use Rattle.tscache.proofs.KeySets.{holds_more}
 use Rattle.tscache.proofs.read.fit.put.Goals as goal
