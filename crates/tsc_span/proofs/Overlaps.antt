@@ -8,7 +8,7 @@ use Rattle.std.proofs.lemmas.Bool.{cases_Bool}
 use Rattle.std.specs.Prelude.{Option, Some, None, IfSome}
 use Rattle.tsc_span.specs.declared.cut.Cut as code
 use Rattle.tsc_span.specs.Cuts.{cut_of, interval_of_cuts}
-use Rattle.tsc_span.specs.Span.{KeyBytes, Cut, before, after, cut_cmp, is_below, greater_cut, smaller_cut, is_empty_span, Interval, nothing, between, point, overlaps, covers}
+use Rattle.tsc_span.specs.Span.{KeyBytes, Cut, before, after, cut_cmp, is_below, greater_cut, smaller_cut, is_empty_span, Interval, nothing, between, overlaps}
 use Rattle.tsc_span.specs.Laws.{CoversIsOverlap, OverlapBothWays}
 use Rattle.tsc_span.proofs.CutOrder.{cut_cmp-total, sides_in_order, no_cut_between_sides}
 

@@ -6,18 +6,22 @@ const NONE: Ends = Ends {
     exclude_from: false,
     exclude_to: false,
 };
+
 const FROM: Ends = Ends {
     exclude_from: true,
     exclude_to: false,
 };
+
 const TO: Ends = Ends {
     exclude_from: false,
     exclude_to: true,
 };
+
 const BOTH: Ends = Ends {
     exclude_from: true,
     exclude_to: true,
 };
+
 const CHOICES: [Ends; 4] = [NONE, FROM, TO, BOTH];
 
 fn key(alloc: Global, bytes: &[u8]) -> Result<Key, Fail> {
@@ -144,11 +148,20 @@ fn spans_without_end(rt: HostRuntime) -> Result<(), Fail> {
 fn end_keys(rt: HostRuntime) -> Result<(), Fail> {
     let (a, c) = (key(rt.alloc(), b"a")?, key(rt.alloc(), b"c")?);
     for ends in CHOICES {
-        assert_eq!(rt; range(rt.alloc(), b"a", b"c", ends)?.end_keys(), (Some(&a), Some(&c)));
+        assert_eq!(rt;
+            range(rt.alloc(), b"a", b"c", ends)?.end_keys(),
+            (Some(&a), Some(&c))
+        );
     }
     assert_eq!(rt; point(rt.alloc(), b"a")?.end_keys(), (Some(&a), None));
-    assert_eq!(rt; Span::onward(a.try_copy()?, true).end_keys(), (Some(&a), None));
-    assert_eq!(rt; range(rt.alloc(), b"a", b"a", BOTH)?.end_keys(), (None, None));
+    assert_eq!(rt;
+        Span::onward(a.try_copy()?, true).end_keys(),
+        (Some(&a), None)
+    );
+    assert_eq!(rt;
+        range(rt.alloc(), b"a", b"a", BOTH)?.end_keys(),
+        (None, None)
+    );
     Ok(())
 }
 
