@@ -5,6 +5,7 @@ use Rattle.std.specs.declared.cmp.Ordering.{Ordering}
 use Rattle.std.specs.declared.cmp.Ordering.TheVariants.{Less, Equal, Greater}
 use Rattle.std.proofs.lemmas.Cmp.{upto}
 use Rattle.std.proofs.lemmas.Bool.{cases_Bool}
+use Rattle.std.proofs.Math.Bool.{and_comm}
 use Rattle.std.specs.Prelude.{Option, Some, None, IfSome}
 use Rattle.tsc_span.specs.declared.cut.Cut as code
 use Rattle.tsc_span.specs.Cuts.{cut_of, interval_of_cuts}
@@ -79,29 +80,7 @@ overlaps-each from to first end =
     pair e f = cc
 
 swapped : (a b c d : Bool) → (a && b) && (c && d) ≡ (d && c) && (b && a)
-swapped true true true d = both d
-  where
-    both : (d : Bool) → d ≡ (d && true) && true
-    both true = refl
-    both false = refl
-swapped true true false d = other d
-  where
-    other : (d : Bool) → false ≡ (d && false) && true
-    other true = refl
-    other false = refl
-swapped true false c d = none d c
-  where
-    none : (d c : Bool) → false ≡ (d && c) && false
-    none true true = refl
-    none true false = refl
-    none false c = refl
-swapped false b c d = none d c b
-  where
-    none : (d c b : Bool) → false ≡ (d && c) && (b && false)
-    none true true true = refl
-    none true true false = refl
-    none true false b = refl
-    none false c b = refl
+swapped a b c d = let whole = and_comm (a && b) (c && d) in let first = and_comm a b in let second = and_comm c d in cc
 
 pub overlaps_both_ways : OverlapBothWays
 overlaps_both_ways nothing nothing = refl

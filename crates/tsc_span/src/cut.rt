@@ -1,12 +1,16 @@
 ghost use Rattle.std.specs.Prelude.{◌≡◌};
 
-/// A place between keys: right before or right after one, or above all keys.
+/// A place between keys, where a span starts or stops.
 ///
-/// The place before a key lies below the place after it, and no other place lies between the two.
+/// The place before a key lies below the place after it, and no other place lies between the two. The
+/// keys may be of any length.
 #[derive(Clone, Copy, Debug)]
 pub enum Cut<'a> {
+    /// Right before a key.
     Before(&'a [u8]),
+    /// Right after a key.
     After(&'a [u8]),
+    /// Above all keys.
     Last,
 }
 

@@ -11,10 +11,13 @@ use std::cmp::Ordering;
 use std::marker::Model;
 use tsc_time::NoMemory;
 
-/// Which ends of a range are excluded.
+/// Which ends of a range are excluded, as `rangeOptions` of CockroachDB's
+/// `pkg/kv/kvserver/tscache/interval_skl.go` says it.
 #[derive(Clone, Copy, Debug, PartialEq, Eq)]
 pub struct Ends {
+    /// The first key is no part of the range.
     pub exclude_from: bool,
+    /// The last key is no part of the range.
     pub exclude_to: bool,
 }
 
