@@ -6,11 +6,13 @@ use Rattle.std.proofs.lemmas.Slice.Eq.{bytes_eq-Decides}
 use Rattle.tsc_span.specs.Span.{Cut, before, after, last, Interval, nothing, between}
 use Rattle.tsc_span.specs.Same.{is_same_cut, is_same_span}
 
+-- the test holds of a cut and itself
 pub is_same_cut-itself : (a : Cut) → is_same_cut a a ≡ true
 is_same_cut-itself (before k) = (bytes_eq-Decides k k).1 refl
 is_same_cut-itself (after k) = (bytes_eq-Decides k k).1 refl
 is_same_cut-itself last = refl
 
+-- and where it holds, the cuts are the same
 pub is_same_cut-tells : (a b : Cut) → is_same_cut a b ≡ true → a ≡ b
 is_same_cut-tells (before k) (before m) e = ap before ((bytes_eq-Decides k m).0 e)
 is_same_cut-tells (before k) (after m) e = absurd (true≢false (sym e))
@@ -22,10 +24,12 @@ is_same_cut-tells last (before m) e = absurd (true≢false (sym e))
 is_same_cut-tells last (after m) e = absurd (true≢false (sym e))
 is_same_cut-tells last last e = refl
 
+-- the test holds of a span and itself
 pub is_same_span-itself : (s : Interval) → is_same_span s s ≡ true
 is_same_span-itself nothing = refl
 is_same_span-itself (between from to) = and_from _ _ (is_same_cut-itself from) (is_same_cut-itself to)
 
+-- and where it holds, the spans are the same
 pub is_same_span-tells : (s t : Interval) → is_same_span s t ≡ true → s ≡ t
 is_same_span-tells nothing nothing e = refl
 is_same_span-tells nothing (between first end) e = absurd (true≢false (sym e))
@@ -34,6 +38,7 @@ is_same_span-tells (between from to) (between first end) e =
     let both = and_parts _ _ e in
     ap (λ a. between a to) (is_same_cut-tells from first both.0) ∙ ap (λ b. between first b) (is_same_cut-tells to end both.1)
 
+-- so it decides whether two spans are the same
 pub is_same_span-Decides : (s t : Interval) → Decides (is_same_span s t) (s ≡ t)
 is_same_span-Decides s t = (is_same_span-tells s t, λ e. subst (λ u. is_same_span s u ≡ true) e (is_same_span-itself s))
 
