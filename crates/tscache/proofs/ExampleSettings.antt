@@ -3,7 +3,7 @@ use Rattle.std.specs.Prelude.{ℕ, suc, List, [], ◌∷◌, map, Bool, true, fa
 use Rattle.tsc_time.specs.Time.{Time}
 use Rattle.tsc_time.specs.OwnedTime.{Owner, OwnedTime}
 use Rattle.tsc_span.specs.Span.{KeyBytes, Interval, from_to, point}
-use Rattle.tscache.specs.Page.{Mark, PageMarks}
+use Rattle.tsc_page.specs.Page.{Mark, PageMarks}
 use Rattle.tscache.specs.State.{Settings, CacheState, step, opening}
 use Rattle.tscache.specs.History.{History, mark_of, state_of}
 use Rattle.tscache.specs.declared.cache.Added.{Added}

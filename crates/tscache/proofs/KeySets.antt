@@ -7,9 +7,10 @@ use Rattle.std.specs.BTreeSet.{BTreeSet, contains_by, btree_set_len, Updates}
 use Rattle.std.proofs.lemmas.Cmp.{nat_list_eq_equiv}
 use Rattle.std.proofs.lemmas.Map.Text.{is_eq-slice_cmp}
 use Rattle.tsc_span.specs.Span.{KeyBytes}
-use Rattle.tscache.specs.Page.{count_distinct}
+use Rattle.tsc_page.specs.Page.{count_distinct}
 use Rattle.tscache.specs.KeySet.{Holds}
-use Rattle.tscache.proofs.DistinctKeys.{is_in, is_in-push, count_distinct-push}
+use Rattle.tsc_page.specs.PageView.{is_in}
+use Rattle.tsc_page.proofs.DistinctKeys.{is_in-push, count_distinct-push}
 
 -- how the set orders its keys
 abbrev pub order : Bor (List ℕ) → Bor (List ℕ) → Ordering

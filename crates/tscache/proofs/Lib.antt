@@ -4,14 +4,12 @@ pub mod SpanExamples
 pub mod RotationExamples
 pub mod LogExamples
 pub mod TraceTextExamples
-pub mod DistinctKeys
 pub mod KeySets
 pub mod Items
 pub mod Owners
 pub mod Calls
 pub mod Totals
 pub mod Texts
-pub mod Lookups
 pub mod Playing
 pub mod Rooms
 pub mod ListSteps

@@ -7,14 +7,15 @@ use Rattle.std.proofs.lemmas.List.Folds.{list_any-append}
 use Rattle.std.specs.Str.{bytes_eq}
 use Rattle.tsc_time.specs.Time.{Time}
 use Rattle.tsc_span.specs.Span.{KeyBytes, Interval, end_keys}
-use Rattle.tscache.specs.Page.{Mark, marked_keys, count_distinct}
+use Rattle.tsc_page.specs.Page.{Mark, marked_keys, count_distinct}
 use Rattle.tscache.specs.State.{Settings, one_page, step, is_kept, front_has_room}
 use Rattle.tscache.specs.Trace.{added_keys, is_small}
 use Rattle.tscache.specs.Play.{Standing, next, next_all, HasRoomForAll, HasRoomForLists}
 use Rattle.tscache.specs.declared.trace.Call.{Call}
 use Rattle.tscache.specs.declared.trace.Call.TheVariants.{Add, Get, Low}
 use Rattle.tscache.specs.declared.trace.Trace.{Trace}
-use Rattle.tscache.proofs.DistinctKeys.{is_in, count_distinct-within, count_distinct-front}
+use Rattle.tsc_page.specs.PageView.{is_in}
+use Rattle.tsc_page.proofs.DistinctKeys.{count_distinct-within, count_distinct-front}
 
 either_later : (a b c : Bool) → (a || c) ≡ true → (a || (b || c)) ≡ true
 either_later true b c h = refl

@@ -3,7 +3,7 @@ use Rattle.std.specs.Prelude.{ℕ, List, [], ◌∷◌, count_by, ◌==◌}
 use Rattle.tsc_time.specs.Time.{Time}
 use Rattle.tsc_time.specs.OwnedTime.{OwnedTime}
 use Rattle.tsc_span.specs.Span.{Interval}
-use Rattle.tscache.specs.Page.{Mark}
+use Rattle.tsc_page.specs.Page.{Mark}
 use Rattle.tscache.specs.State.{Settings, CacheState, opening, step}
 
 -- an Add: which seat made it, how many that seat had made before, and what was added at which moment

@@ -7,7 +7,7 @@ use Rattle.std.specs.List.{list_any}
 use Rattle.std.specs.Str.{bytes_eq}
 use Rattle.std.specs.BTreeSet.{BTreeSet, contains_by, btree_set_len}
 use Rattle.tsc_span.specs.Span.{KeyBytes}
-use Rattle.tscache.specs.Page.{count_distinct}
+use Rattle.tsc_page.specs.Page.{count_distinct}
 
 -- the set has each key of the list once, and no other
 pub record Holds (set : BTreeSet (Bor (List ℕ))) (ks : List KeyBytes) : Type 0 where

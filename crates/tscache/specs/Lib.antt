@@ -1,4 +1,3 @@
-pub mod Page
 pub mod State
 pub mod History
 pub mod Lists

@@ -5,7 +5,7 @@ use Rattle.tsc_time.specs.Time.{Time, zero_time, wall_limit, time_minus, is_befo
 use Rattle.tsc_time.specs.OwnedTime.{OwnedTime}
 use Rattle.tsc_time.specs.Joint.{joint_above}
 use Rattle.tsc_span.specs.Span.{Interval, is_empty_span}
-use Rattle.tscache.specs.Page.{Mark, PageMarks, empty_page, with_mark, top, values_on, has_room}
+use Rattle.tsc_page.specs.Page.{Mark, PageMarks, empty_page, with_mark, top, values_on, has_room}
 use Rattle.tscache.specs.declared.cache.Added.{Added}
 use Rattle.tscache.specs.declared.config.ConfigFault.{ConfigFault}
 use Rattle.tscache.specs.declared.config.ConfigFault.TheVariants.{PageSize, MinPages, Retention}

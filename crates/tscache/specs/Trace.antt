@@ -3,7 +3,7 @@ use Rattle.std.specs.Prelude.{ℕ, List, [], nat_le, Bool}
 use Rattle.std.specs.List.{flat_map}
 pub use Rattle.tscache.specs.Lists.{most_lists, most_calls}
 use Rattle.tsc_span.specs.Span.{KeyBytes, end_keys}
-use Rattle.tscache.specs.Page.{count_distinct}
+use Rattle.tsc_page.specs.Page.{count_distinct}
 use Rattle.tscache.specs.declared.trace.Call.{Call}
 use Rattle.tscache.specs.declared.trace.Call.TheVariants.{Add, Get, Low}
 use Rattle.tscache.specs.declared.trace.Trace.{Trace}

@@ -1,5 +1,5 @@
 ghost use Rattle.std.specs.Prelude.{◌≡◌, true, false, length, IfOk, IsOk, OnOk, OnErr};
-ghost use Rattle.tscache.specs.Page.{Mark};
+ghost use Rattle.tsc_page.specs.Page.{Mark};
 ghost use Rattle.tscache.specs.State.{ConfiguredState, opening, step, look, is_kept, front_has_room};
 
 use crate::cache::Added;
@@ -34,7 +34,7 @@ struct PlainMark {
 }
 
 impl Model for PlainMark {
-    ghost use Rattle.tscache.specs.Page.{Mark};
+    ghost use Rattle.tsc_page.specs.Page.{Mark};
 
     ghost Value = { Mark };
 

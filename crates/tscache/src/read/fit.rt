@@ -3,7 +3,7 @@
 ghost use Rattle.std.specs.Prelude.{◌≡◌, ◌++◌, option_map, option_to_list, IfOk, OnOk, List};
 ghost use Rattle.std.specs.List.{flat_map};
 ghost use Rattle.tsc_span.specs.Span.{KeyBytes};
-ghost use Rattle.tscache.specs.Page.{count_distinct};
+ghost use Rattle.tsc_page.specs.Page.{count_distinct};
 ghost use Rattle.tscache.specs.Trace.{added_keys, fits_one_page};
 ghost use Rattle.tscache.specs.KeySet.{Holds};
 

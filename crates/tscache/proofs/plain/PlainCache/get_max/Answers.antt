@@ -1,7 +1,7 @@
 -- The next mark comes last among those that were met.
 use Rattle.std.proofs.Common.{◌≡◌, ◌∙◌, sym, inl, inr, get_or, ◌<◌, length, arith}
-use Rattle.tscache.specs.Page.{Mark}
-use Rattle.tscache.proofs.Lookups.{met_one_more}
+use Rattle.tsc_page.specs.Page.{Mark}
+use Rattle.tsc_page.proofs.Lookups.{met_one_more}
 use Rattle.tscache.proofs.plain.PlainCache.get_max.Goals as goal
 use Rattle.tscache.proofs.plain.PlainCache.get_max.Goals.{then-overlaps, else-overlaps}
 

@@ -1,6 +1,6 @@
 use Rattle.std.proofs.Common.{◌≡◌, take}
 use Rattle.tsc_time.specs.Joint.{joint_above}
-use Rattle.tscache.specs.Page.{values_on}
+use Rattle.tsc_page.specs.Page.{values_on}
 use Rattle.tscache.proofs.plain.PlainCache.get_max.Given as goal
 
 -- the best so far is the joint value of what was met so far

@@ -6,7 +6,7 @@ use Rattle.tsc_time.specs.OwnedTime.{OwnedTime, unowned}
 use Rattle.tsc_time.specs.Joint.{joint, joint_above}
 use Rattle.tsc_time.proofs.JointLemmas.{joint-append}
 use Rattle.tsc_span.specs.Span.{Interval, overlaps}
-use Rattle.tscache.specs.Page.{Mark, values_on}
+use Rattle.tsc_page.specs.Page.{Mark, values_on}
 
 -- of one more mark the value comes last, where it overlaps
 pub values_on-more : (span : Interval) (marks : List Mark) (m : Mark) → values_on span (marks ++ m ∷ []) ≡ values_on span marks ++ cond (overlaps m.span span) (m.value ∷ []) []

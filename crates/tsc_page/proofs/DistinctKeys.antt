@@ -6,12 +6,10 @@ use Rattle.std.proofs.Math.Bool.{or-true}
 use mathlib.Core.Bool.{true≢false}
 use Rattle.std.proofs.lemmas.Slice.Eq.{bytes_eq-Decides}
 use Rattle.std.proofs.lemmas.List.Folds.{list_any-append}
+use Rattle.std.proofs.lemmas.Bool.{cases_Bool}
 use Rattle.tsc_span.specs.Span.{KeyBytes}
-use Rattle.tscache.specs.Page.{count_distinct}
-
--- whether a key is in a list
-abbrev pub is_in : KeyBytes → List KeyBytes → Bool
-is_in k ks = list_any (bytes_eq k) ks
+use Rattle.tsc_page.specs.Page.{count_distinct}
+use Rattle.tsc_page.specs.PageView.{is_in}
 
 -- the list without a key
 abbrev without : KeyBytes → List KeyBytes → List KeyBytes
@@ -21,11 +19,6 @@ without k (m ∷ ms) = cond (bytes_eq k m) (without k ms) (m ∷ without k ms)
 pub bytes_eq-itself : (k : KeyBytes) → bytes_eq k k ≡ true
 bytes_eq-itself k = (bytes_eq-Decides k k).1 refl
 
--- each way that a test may go
-tested : (b : Bool) → (b ≡ true) ⊎ (b ≡ false)
-tested true = inl refl
-tested false = inr refl
-
 -- of equal keys one is in a list where the other is
 same_in : (k m : KeyBytes) (ks : List KeyBytes) → bytes_eq k m ≡ true → is_in k ks ≡ is_in m ks
 same_in k m ks h = ap (λ x. is_in x ks) ((bytes_eq-Decides k m).0 h)
@@ -33,10 +26,10 @@ same_in k m ks h = ap (λ x. is_in x ks) ((bytes_eq-Decides k m).0 h)
 -- another key is in the list without k where it is in the list
 is_in-without : (k m : KeyBytes) (ks : List KeyBytes) → bytes_eq k m ≡ false → is_in m (without k ks) ≡ is_in m ks
 is_in-without k m [] other = refl
-is_in-without k m (n ∷ ns) other = by (is_in-without k m ns other) (tested (bytes_eq k n))
+is_in-without k m (n ∷ ns) other = by (is_in-without k m ns other) (cases_Bool (bytes_eq k n))
   where
     differs : bytes_eq k n ≡ true → bytes_eq m n ≡ false
-    differs h = elim (tested (bytes_eq m n)) [
+    differs h = elim (cases_Bool (bytes_eq m n)) [
       | inl g ↦ absurd (true≢false (sym ((bytes_eq-Decides k m).1 ((bytes_eq-Decides k n).0 h ∙ sym ((bytes_eq-Decides m n).0 g))) ∙ other))
       | inr g ↦ g
     ]
@@ -48,7 +41,7 @@ is_in-without k m (n ∷ ns) other = by (is_in-without k m ns other) (tested (by
 -- a list has one key more than it has without k, where k is in it
 count_distinct-without : (k : KeyBytes) (ks : List KeyBytes) → count_distinct ks ≡ cond (is_in k ks) (suc (count_distinct (without k ks))) (count_distinct (without k ks))
 count_distinct-without k [] = refl
-count_distinct-without k (m ∷ ms) = by (count_distinct-without k ms) (tested (bytes_eq k m))
+count_distinct-without k (m ∷ ms) = by (count_distinct-without k ms) (cases_Bool (bytes_eq k m))
   where
     here : (b : Bool) (n : ℕ) → n ≡ cond b (suc (count_distinct (without k ms))) (count_distinct (without k ms)) → cond b n (suc n) ≡ suc (count_distinct (without k ms))
     here true n e = e
@@ -67,7 +60,7 @@ count_distinct-without k (m ∷ ms) = by (count_distinct-without k ms) (tested (
 -- Where each key of one list is in another, the other has no fewer different keys.
 pub count_distinct-within : (ks ms : List KeyBytes) → ((k : KeyBytes) → is_in k ks ≡ true → is_in k ms ≡ true) → count_distinct ks ≤ count_distinct ms
 count_distinct-within [] ms within = omega arith
-count_distinct-within (k ∷ ks) ms within = by (λ others. count_distinct-within ks others) (tested (is_in k ks))
+count_distinct-within (k ∷ ks) ms within = by (λ others. count_distinct-within ks others) (cases_Bool (is_in k ks))
   where
     later : (m : KeyBytes) → is_in m ks ≡ true → is_in m (k ∷ ks) ≡ true
     later m h = rw h (or-true (bytes_eq m k))
@@ -79,7 +72,7 @@ count_distinct-within (k ∷ ks) ms within = by (λ others. count_distinct-withi
     one_more = count_distinct-without k ms ∙ ap (λ b. cond b (suc (count_distinct (without k ms))) (count_distinct (without k ms))) first
 
     apart : is_in k ks ≡ false → (m : KeyBytes) → is_in m ks ≡ true → bytes_eq k m ≡ false
-    apart new m h = elim (tested (bytes_eq k m)) [
+    apart new m h = elim (cases_Bool (bytes_eq k m)) [
       | inl g ↦ absurd (true≢false (sym (same_in k m ks g ∙ h) ∙ new))
       | inr g ↦ g
     ]

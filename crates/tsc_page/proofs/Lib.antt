@@ -1,0 +1,15 @@
+pub mod CutOrder
+pub mod Answers
+pub mod Splits
+pub mod Raises
+pub mod Places
+pub mod DistinctKeys
+pub mod Cuts
+pub mod Edits
+pub mod Searches
+pub mod Seen
+pub mod RaisedNodes
+pub mod NewKeys
+pub mod Lookups
+pub mod Ends
+pub mod Standing

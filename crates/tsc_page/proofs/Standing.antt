@@ -1,0 +1,199 @@
+-- What a page stands for after an Add, and how many keys it holds.
+use Rattle.std.proofs.Common.{◌≡◌, ◌⊎◌, inl, inr, ◌∙◌, refl, sym, ap, subst, Bool, true, false, cond, ◌||◌, ℕ, zero, suc, ◌+◌, ◌≤◌, nat_le, List, [], ◌∷◌, ◌++◌, length, map, append-nil, arith}
+use mathlib.Core.Bool.{true≢false}
+use mir.Val.{bool_byte}
+use Rattle.std.specs.Prelude.{Option, Some, None, filter, not}
+use Rattle.std.proofs.Math.Bool.{or-true}
+use Rattle.std.specs.Option.{option_to_list}
+use Rattle.std.specs.Ordering.{ord_max}
+use Rattle.std.specs.List.{flat_map}
+use Rattle.std.specs.Str.{bytes_eq}
+use Rattle.std.proofs.lemmas.List.{map-append, append_assoc}
+use Rattle.std.proofs.lemmas.Grind.{flat_map-append}
+use Rattle.std.proofs.lemmas.List.Folds.{list_any-append}
+use Rattle.std.proofs.lemmas.Slice.Eq.{bytes_eq-Decides}
+use Rattle.tsc_time.specs.Time.{Time, zero_time, time_cmp, is_before, later}
+use Rattle.tsc_time.specs.OwnedTime.{OwnedTime, unowned}
+use Rattle.tsc_time.specs.Joint.{joint, joint_above, latest}
+use Rattle.tsc_time.proofs.TimeOrder.{later-tells, is_before-opposite, is_before-transitive, no_earlier-transitive, same_from_neither_before}
+use Rattle.tsc_time.proofs.JointLemmas.{joint-append, joint-singleton}
+use Rattle.std.proofs.lemmas.Bool.{cases_Bool}
+use Rattle.tsc_span.specs.Span.{KeyBytes, Cut, before, after, last, Interval, nothing, between, overlaps, end_keys}
+use Rattle.tsc_page.specs.Page.{Mark, PageMarks, with_mark, top, values_on, marked_keys, count_distinct, has_room}
+use Rattle.tsc_page.specs.PageView.{PageView, StandsFor, answer, is_in, has_room_for}
+use Rattle.tsc_page.specs.Nodes.{Node, next_cut, node_stretches, stretches, stretch_spans, node_keys, IsSorted, IsSplitAt, raise_nodes, answer_of, is_new_to}
+use Rattle.tsc_page.proofs.CutOrder.{Lt, Le, Lt-not_Le, Le-chain, Le-from_Lt, before-after}
+use Rattle.tsc_page.proofs.DistinctKeys.{count_distinct-same, count_distinct-push, count_distinct-no_repeats, has_no_repeats, is_in-push}
+use Rattle.tsc_page.proofs.Cuts.{HasCut, first_low, rising_nodes, cuts_of_key, raise_nodes_answers}
+use Rattle.tsc_page.proofs.Edits.{raise_nodes-keys, raise_nodes-sorted, raise_nodes-length}
+use Rattle.tsc_page.proofs.Ends.{ends_are_nodes, end_keys_once}
+use Rattle.tsc_page.proofs.Lookups.{values_on-more}
+
+-- sorted nodes have no key twice
+pub sorted_once : (ns : List Node) → IsSorted ns → has_no_repeats (node_keys ns) ≡ true
+sorted_once [] sorted = refl
+sorted_once (n ∷ ns) sorted = rw (other, sorted_once ns sorted.1) refl
+  where
+    other : is_in n.key (node_keys ns) ≡ false
+    other = elim (cases_Bool (is_in n.key (node_keys ns))) [
+      | inl h ↦ absurd (Lt-not_Le (after n.key) (next_cut (node_stretches ns)) sorted.0 (Le-chain (next_cut (node_stretches ns)) (before n.key) (after n.key) (first_low (before n.key) (node_stretches ns) (rising_nodes ns sorted.1) (cuts_of_key n.key ns h).0) (Le-from_Lt (before n.key) (after n.key) (before-after n.key))))
+      | inr h ↦ h
+    ]
+
+length-map : (ns : List Node) → length (node_keys ns) ≡ length ns
+length-map [] = refl
+length-map (n ∷ ns) = ap suc (length-map ns)
+
+-- so they are as many as their different keys
+pub count_of_nodes : (ns : List Node) → IsSorted ns → count_distinct (node_keys ns) ≡ length ns
+count_of_nodes ns sorted = count_distinct-no_repeats (node_keys ns) (sorted_once ns sorted) ∙ length-map ns
+
+-- one for a test that holds
+abbrev pub one_if : Bool → ℕ
+one_if b = cond b 1 0
+
+-- with the end keys of a span they are as many more as are new
+pub count_with : (ns : List Node) (o p : Option KeyBytes) → IsSorted ns → has_no_repeats (option_to_list o ++ option_to_list p) ≡ true
+    → count_distinct (node_keys ns ++ (option_to_list o ++ option_to_list p)) ≡ length ns + one_if (is_new_to ns o) + one_if (is_new_to ns p)
+count_with ns None None sorted once = ap count_distinct (append-nil (node_keys ns)) ∙ count_of_nodes ns sorted ∙ omega arith
+count_with ns None (Some m) sorted once = count_distinct-push (node_keys ns) m ∙ one (is_in m (node_keys ns)) (count_distinct (node_keys ns)) (count_of_nodes ns sorted)
+  where
+    one : (b : Bool) (n : ℕ) → n ≡ length ns → cond b n (suc n) ≡ length ns + 0 + cond (not b) 1 0
+    one true n e = omega arith
+    one false n e = omega arith
+count_with ns (Some k) None sorted once = count_distinct-push (node_keys ns) k ∙ one (is_in k (node_keys ns)) (count_distinct (node_keys ns)) (count_of_nodes ns sorted)
+  where
+    one : (b : Bool) (n : ℕ) → n ≡ length ns → cond b n (suc n) ≡ length ns + cond (not b) 1 0 + 0
+    one true n e = omega arith
+    one false n e = omega arith
+count_with ns (Some k) (Some m) sorted once =
+    ap count_distinct (sym (append_assoc (node_keys ns) (k ∷ []) (m ∷ [])))
+    ∙ count_distinct-push (node_keys ns ++ k ∷ []) m
+    ∙ ap (λ b. cond b (count_distinct (node_keys ns ++ k ∷ [])) (suc (count_distinct (node_keys ns ++ k ∷ [])))) second
+    ∙ two (is_in k (node_keys ns)) (is_in m (node_keys ns)) (count_distinct (node_keys ns ++ k ∷ [])) (count_distinct (node_keys ns)) (count_distinct-push (node_keys ns) k) (count_of_nodes ns sorted)
+  where
+    differ : bytes_eq m k ≡ false
+    differ = elim (cases_Bool (bytes_eq m k)) [
+      | inl h ↦ absurd (true≢false (sym once ∙ rw ((bytes_eq-Decides k m).1 (sym ((bytes_eq-Decides m k).0 h))) refl))
+      | inr h ↦ h
+    ]
+
+    second : is_in m (node_keys ns ++ k ∷ []) ≡ is_in m (node_keys ns)
+    second = is_in-push m k (node_keys ns) ∙ rw differ refl
+
+    two : (a b : Bool) (c n : ℕ) → c ≡ cond a n (suc n) → n ≡ length ns → cond b c (suc c) ≡ length ns + cond (not a) 1 0 + cond (not b) 1 0
+    two true true c n e f = omega arith
+    two true false c n e f = omega arith
+    two false true c n e f = omega arith
+    two false false c n e f = omega arith
+
+-- lists of the same keys leave the same room
+pub same_room : (v : PageView) (p : PageMarks) (span : Interval) → StandsFor v p → has_room_for v span ≡ has_room v.page_nodes p span
+same_room v p span stands = ap (λ n. nat_le n v.page_nodes) (count_distinct-same (v.keys ++ end_keys span) (marked_keys p.marks ++ end_keys span) (λ k.
+    list_any-append (bytes_eq k) v.keys (end_keys span) ∙ ap (λ b. b || is_in k (end_keys span)) (stands.keys k) ∙ sym (list_any-append (bytes_eq k) (marked_keys p.marks) (end_keys span))))
+
+pub same_count : (v : PageView) (p : PageMarks) → StandsFor v p → count_distinct v.keys ≡ count_distinct (marked_keys p.marks)
+same_count v p stands = count_distinct-same v.keys (marked_keys p.marks) stands.keys
+
+-- the nodes after a split are as many as the page's keys with those of the span
+pub split_count : (old new : List Node) (span : Interval) → IsSplitAt old new (end_keys span) → length new ≡ count_distinct (node_keys old ++ end_keys span)
+split_count old new span split = sym (count_of_nodes new split.sorted) ∙ count_distinct-same (node_keys new) (node_keys old ++ end_keys span) (λ k. split.keys k ∙ sym (list_any-append (bytes_eq k) (node_keys old) (end_keys span)))
+
+later-swap : (a b : Time) → later a b ≡ later b a
+later-swap a b = elim (later-tells a b) [
+  | inl h ↦ h.1 ∙ elim (later-tells b a) [
+    | inl g ↦ absurd (true≢false (sym g.0 ∙ is_before-opposite a b h.0))
+    | inr g ↦ sym g.1
+  ]
+  | inr h ↦ h.1 ∙ elim (later-tells b a) [
+    | inl g ↦ sym g.1
+    | inr g ↦ same_from_neither_before a b h.0 g.0 ∙ sym g.1
+  ]
+]
+
+later-chain : (a b c : Time) → later a (later b c) ≡ later (later a b) c
+later-chain a b c = elim (later-tells a b) [
+  | inl h ↦ elim (later-tells b c) [
+    | inl g ↦ rw (h.1, g.1) (elim (later-tells a c) [
+      | inl k ↦ k.1
+      | inr k ↦ absurd (true≢false (sym (is_before-transitive a b c h.0 g.0) ∙ k.0))
+    ])
+    | inr g ↦ rw (h.1, g.1) h.1
+  ]
+  | inr h ↦ elim (later-tells b c) [
+    | inl g ↦ rw (h.1, g.1) refl
+    | inr g ↦ rw (h.1, g.1) (h.1 ∙ elim (later-tells a c) [
+      | inl k ↦ absurd (true≢false (sym k.0 ∙ no_earlier-transitive c b a g.0 h.0))
+      | inr k ↦ sym k.1
+    ])
+  ]
+]
+
+-- the latest of a list with one more
+latest-push : (t : Time) (vs : List OwnedTime) (w : OwnedTime) → latest t (vs ++ w ∷ []) ≡ later (latest t vs) w.time
+latest-push t [] w = later-swap w.time t
+latest-push t (v ∷ vs) w = ap (later v.time) (latest-push t vs w) ∙ later-chain v.time (latest t vs) w.time
+
+pub top_with : (p : PageMarks) (m : Mark) → top (with_mark p m) ≡ later (top p) m.value.time
+top_with p m = ap (latest p.base) (map-append (λ (n : Mark). n.value) p.marks (m ∷ [])) ∙ latest-push p.base (map (λ (n : Mark). n.value) p.marks) m.value
+
+-- nothing overlaps the empty span
+nothing_on : (marks : List Mark) → values_on nothing marks ≡ []
+nothing_on [] = refl
+nothing_on (m ∷ ms) = by m.span (nothing_on ms)
+  where
+    by : (s : Interval) → values_on nothing ms ≡ [] → map (λ (n : Mark). n.value) (cond (overlaps s nothing) (m ∷ filter (λ (n : Mark). overlaps n.span nothing) ms) (filter (λ (n : Mark). overlaps n.span nothing) ms)) ≡ []
+    by nothing rest = rest
+    by (between f t) rest = rest
+
+pub nothing_answered : (v : PageView) → answer v nothing ≡ unowned zero_time
+nothing_answered v = ap (joint_above zero_time) (nothing_on v.spans) ∙ joint-singleton (unowned zero_time)
+
+-- what can be seen of a page by its limit, its top and its nodes
+abbrev pub page_of : ℕ → Time → List Node → PageView
+page_of limit t ns = record { page_nodes = limit; top = t; keys = node_keys ns; spans = stretch_spans (stretches ns) }
+
+-- the greater of two timestamps is the later one
+pub later-max : (a b : Time) → ord_max time_cmp a b ≡ later a b
+later-max a b = later-swap b a
+
+-- an Add: the nodes are split at the span's ends, and then raised
+module _ (old mid : List Node) (f t : Cut) (up : Lt f t) (value : OwnedTime) (split : IsSplitAt old mid (end_keys (between f t))) where
+  pub added_sorted : IsSorted (raise_nodes (between f t) value mid)
+  added_sorted = raise_nodes-sorted (between f t) value mid split.sorted
+
+  pub added_length : length (raise_nodes (between f t) value mid) ≡ count_distinct (node_keys old ++ end_keys (between f t))
+  added_length = raise_nodes-length (between f t) value mid ∙ split_count old mid (between f t) split
+
+  -- the page then stands for the list with the mark
+  pub added_stands : (limit : ℕ) (before_it after_it : Time) (p : PageMarks)
+      → StandsFor (page_of limit before_it old) p
+      → after_it ≡ later before_it value.time
+      → StandsFor (page_of limit after_it (raise_nodes (between f t) value mid)) (with_mark p (record { span = between f t; value = value }))
+  added_stands limit before_it after_it p stands is = record {
+    top = is ∙ ap (λ x. later x value.time) stands.top ∙ sym (top_with p m);
+    keys = λ k. ap (is_in k) (raise_nodes-keys (between f t) value mid) ∙ split.keys k ∙ ap (λ b. b || is_in k (end_keys (between f t))) (stands.keys k)
+        ∙ sym (list_any-append (bytes_eq k) (marked_keys p.marks) (end_keys (between f t))) ∙ ap (is_in k) (sym more_keys);
+    answers = λ s.
+        raise_nodes_answers f t value mid split.sorted cuts.0 cuts.1 s
+        ∙ ap (λ (w : OwnedTime). cond (overlaps (between f t) s) (joint w (value ∷ [])) w) (split.answers s ∙ stands.answers s)
+        ∙ joined (overlaps (between f t) s) (values_on s p.marks) ∙ ap (joint_above zero_time) (sym (values_on-more s p.marks m));
+  }
+    where
+      m : Mark
+      m = record { span = between f t; value = value }
+
+      more_keys : marked_keys (p.marks ++ m ∷ []) ≡ marked_keys p.marks ++ end_keys (between f t)
+      more_keys = flat_map-append (λ (n : Mark). end_keys n.span) p.marks (m ∷ []) ∙ ap (λ ks. marked_keys p.marks ++ ks) (append-nil (end_keys (between f t)))
+
+      cuts : HasCut f (node_stretches mid) × ((t ≡ last) ⊎ HasCut t (node_stretches mid))
+      cuts = ends_are_nodes f t mid up (λ k h. split.keys k ∙ rw h (or-true (is_in k (node_keys old))))
+
+      joined : (b : Bool) (vs : List OwnedTime) → cond b (joint (joint_above zero_time vs) (value ∷ [])) (joint_above zero_time vs) ≡ joint_above zero_time (vs ++ cond b (value ∷ []) [])
+      joined true vs = sym (joint-append (unowned zero_time) vs value)
+      joined false vs = ap (joint_above zero_time) (sym (append-nil vs))
+
+-- a test as a number
+pub byte_is : (b : Bool) → bool_byte b ≡ one_if b
+byte_is true = refl
+byte_is false = refl

@@ -1,0 +1,51 @@
+-- The nodes are split at the span's ends, and then raised within it.
+use Rattle.std.proofs.Common.{◌≡◌, ◌∙◌, sym, ap, subst, ◌++◌, ◌≤◌, nat_le, List, length, arith, true}
+use Rattle.std.specs.Ordering.{ord_max}
+use Rattle.std.proofs.lemmas.Bool.{leb-true}
+use Rattle.tsc_time.specs.Time.{Time, time_cmp}
+use Rattle.std.specs.Prelude.{Option, option_map}
+use Rattle.std.specs.Option.{option_to_list}
+use Rattle.tsc_span.specs.Span.{KeyBytes, Cut, Interval, between, end_keys}
+use Rattle.tsc_span.specs.Cuts.{cut_of}
+use Rattle.tsc_page.specs.Page.{PageMarks, with_mark, count_distinct}
+use Rattle.tsc_page.specs.PageView.{PageView, StandsFor, has_room_for}
+use Rattle.tsc_page.specs.Nodes.{Node, IsSorted, IsSplitAt, node_keys, stretches, stretch_spans}
+use Rattle.tsc_page.proofs.Ends.{ends_in_order}
+use Rattle.tsc_page.proofs.Standing.{later-max, added_sorted, added_length, added_stands, page_of}
+use Rattle.tsc_page.proofs.page.Page.add.Goals as goal
+
+pub split_at-requires-clause-order : goal.split_at-requires-clause-order
+split_at-requires-clause-order c =
+    ends_in_order (cut_of c.in-Some.from) (cut_of c.in-Some.to) (option_map (λ k. k.now) c.end_keys.result.0) (option_map (λ k. k.now) c.end_keys.result.1) c.in-Some.ensures.order
+    (c.end_keys.ensures.keys ∙ ap end_keys (sym c.in-Some.ensures.value))
+
+pub invariant_of-self-2 : goal.invariant_of-self-2
+invariant_of-self-2 c =
+    let old : List Node = c.self.inside.nodes.list.items in
+    let mid : List Node = c.split_at.new.self.list.items in
+    let f : Cut = cut_of c.in-Some.from in
+    let t : Cut = cut_of c.in-Some.to in
+    let split = subst (IsSplitAt old mid) (c.end_keys.ensures.keys ∙ ap end_keys (sym c.in-Some.ensures.value)) c.in_ok-split_at.ensures.split in
+    let sorted = added_sorted old mid f t c.in-Some.ensures.order c.args.value split in
+    let long = added_length old mid f t c.in-Some.ensures.order c.args.value split in
+    let room = subst (λ (v : PageView). has_room_for v c.args.span.now ≡ true) (sym c.self.view_is) c.requires.room in
+    let fits = leb-true (count_distinct (node_keys old ++ end_keys (between f t))) c.self.inside.page_nodes (subst (λ (s : Interval). nat_le (count_distinct (node_keys old ++ end_keys s)) c.self.inside.page_nodes ≡ true) (sym c.in-Some.ensures.value) room) in (
+      subst IsSorted (sym c.raise_between.ensures) sorted,
+      subst (λ (ns : List Node). length ns ≤ c.self.inside.page_nodes) (sym c.raise_between.ensures) (omega (arith, long, fits)),
+      c.self.invariant.2,
+    )
+
+pub returns-clause-stands : goal.returns-clause-stands
+returns-clause-stands c p stands =
+    let old : List Node = c.self.inside.nodes.list.items in
+    let mid : List Node = c.split_at.new.self.list.items in
+    let f : Cut = cut_of c.in-Some.from in
+    let t : Cut = cut_of c.in-Some.to in
+    let split = subst (IsSplitAt old mid) (c.end_keys.ensures.keys ∙ ap end_keys (sym c.in-Some.ensures.value)) c.in_ok-split_at.ensures.split in
+    let after_it : Time = c.max-self-inside.result in
+    let view_at = λ (ns : List Node). page_of c.self.inside.page_nodes after_it ns in
+    let old_stands = subst (λ (v : PageView). StandsFor v p) (sym c.self.view_is) stands in
+    let is = c.max-self-inside.ensures ∙ ap (ord_max time_cmp c.self.inside.top) c.time.ensures ∙ later-max c.self.inside.top c.args.value.time in
+    let done = added_stands old mid f t c.in-Some.ensures.order c.args.value split c.self.inside.page_nodes c.self.inside.top after_it p old_stands is in
+    subst (λ (s : Interval). StandsFor (view_at c.raise_between.new.self.list.items) (with_mark p (record { span = s; value = c.args.value }))) c.in-Some.ensures.value
+    (subst (λ (ns : List Node). StandsFor (view_at ns) (with_mark p (record { span = between f t; value = c.args.value }))) (sym c.raise_between.ensures) done)

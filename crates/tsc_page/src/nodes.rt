@@ -1,0 +1,189 @@
+ghost use Rattle.std.specs.Prelude.{◌≡◌, ◌<◌, ◌≤◌, [], ◌++◌, length, true, IfOk, IfErr, OnOk, OnErr, IfSome, is_some, ◌+◌, option_map, option_to_list, if◌then◌else◌};
+ghost use Rattle.std.specs.Vec.{vec_len, vec_capacity};
+ghost use Rattle.tsc_time.specs.Time.{zero_time};
+ghost use Rattle.tsc_time.specs.OwnedTime.{unowned};
+ghost use Rattle.tsc_span.specs.Span.{is_below, before, between};
+ghost use Rattle.tsc_span.specs.Cuts.{cut_of};
+ghost use Rattle.tsc_page.specs.Nodes.{IsSorted, FitsAt, IsPlaceFor, IsNewKey, FitsIn, with_new, IsInOrder, IsSplitAt, is_new_to, HoldsKeysOn, HoldsGapsOn, node_keys, answer_of, raise_nodes, node_in_gap, gap_value};
+
+use crate::node::Node;
+use std::alloc::Global;
+use std::ops::Range;
+use tsc_span::{Cut, Key};
+use tsc_time::{NoMemory, Timestamp, Value, ratchet};
+
+/// Nodes in the order of their keys.
+#[derive(Debug, Drop)]
+pub(crate) struct Nodes {
+    list: Vec<Node>,
+}
+
+impl Nodes {
+    pub(crate) fn new(alloc: Global) -> Nodes
+        ensures { result.list.items ≡ [] }
+    {
+        Nodes {
+            list: Vec::new(alloc),
+        }
+    }
+
+    pub(crate) fn len(&self) -> usize
+        ensures { result ≡ length self.now.list.items }
+    {
+        self.list.len()
+    }
+
+    /// The place for a key that has no node, or `None` for one that has.
+    fn place_for(&self, key: &Key) -> Option<usize>
+        requires sorted { IsSorted self.now.list.items }
+        ensures place { IsPlaceFor key.now self.now.list.items result }
+        ensures bound { IfSome result (λ i. i ≤ length self.now.list.items) }
+    {
+        self.list
+            .as_slice()
+            .binary_search_by(|node| node.key.cmp(key))
+            .err()
+    }
+
+    /// Whether this is a key that has no node.
+    pub(crate) fn is_new(&self, key: Option<&Key>) -> bool
+        requires sorted { IsSorted self.now.list.items }
+        ensures { result ≡ is_new_to self.now.list.items (option_map (λ k. k.now) key.entry) }
+    {
+        match key {
+            Some(key) => self.place_for(key).is_some(),
+            None => false,
+        }
+    }
+
+    /// The places of the nodes whose keys lie between two cuts.
+    fn keys_between(&self, from: Cut<'_>, to: Cut<'_>) -> Range<usize>
+        requires sorted { IsSorted self.now.list.items }
+        requires order { is_below (cut_of from) (cut_of to) ≡ true }
+        ensures { HoldsKeysOn self.now.list.items (between (cut_of from.entry) (cut_of to.entry)) result.start result.end }
+    {
+        let start = self
+            .list
+            .as_slice()
+            .partition_point(|node| !from.is_below(Cut::After(node.key.bytes())));
+        let end = self
+            .list
+            .as_slice()
+            .partition_point(|node| Cut::Before(node.key.bytes()).is_below(to));
+        start..end
+    }
+
+    /// The places of the nodes whose gaps overlap what lies between two cuts.
+    fn gaps_between(&self, from: Cut<'_>, to: Cut<'_>) -> Range<usize>
+        requires sorted { IsSorted self.now.list.items }
+        requires order { is_below (cut_of from) (cut_of to) ≡ true }
+        ensures { HoldsGapsOn self.now.list.items (between (cut_of from.entry) (cut_of to.entry)) result.start result.end }
+    {
+        let next = self
+            .list
+            .as_slice()
+            .partition_point(|node| !from.is_below(Cut::Before(node.key.bytes())));
+        let end = self
+            .list
+            .as_slice()
+            .partition_point(|node| Cut::After(node.key.bytes()).is_below(to));
+        next.saturating_sub(1)..end
+    }
+
+    /// The joint value of the keys and gaps between two cuts.
+    pub(crate) fn joint_between(&self, from: Cut<'_>, to: Cut<'_>) -> Value
+        requires sorted { IsSorted self.now.list.items }
+        requires order { is_below (cut_of from) (cut_of to) ≡ true }
+        ensures { result ≡ answer_of self.now.list.items (between (cut_of from.entry) (cut_of to.entry)) }
+    {
+        let mut best = Value::unowned(Timestamp::ZERO);
+        for place in self.keys_between(from, to) {
+            best = ratchet(best, self.list[place].value).0;
+        }
+        for place in self.gaps_between(from, to) {
+            best = ratchet(best, self.list[place].gap).0;
+        }
+        best
+    }
+
+    /// Ratchets a value into the keys and gaps between two cuts.
+    pub(crate) fn raise_between(&mut self, from: Cut<'_>, to: Cut<'_>, value: Value)
+        requires sorted { IsSorted self.old.list.items }
+        requires order { is_below (cut_of from) (cut_of to) ≡ true }
+        ensures { self.new.list.items ≡ raise_nodes (between (cut_of from.entry) (cut_of to.entry)) value self.old.list.items }
+    {
+        let keys = self.keys_between(from, to);
+        let gaps = self.gaps_between(from, to);
+        for place in keys {
+            self.list[place].value = ratchet(self.list[place].value, value).0;
+        }
+        for place in gaps {
+            self.list[place].gap = ratchet(self.list[place].gap, value).0;
+        }
+    }
+
+    /// A copy of a key that has no node, with the place for it.
+    fn new_key(&self, key: Option<&Key>) -> Result<Option<(usize, Key)>, NoMemory>
+        requires sorted { IsSorted self.now.list.items }
+        ensures { IfOk result (λ found. IsNewKey self.now.list.items (option_map (λ k. k.now) key.entry) found) }
+    {
+        let Some(key) = key else { return Ok(None) };
+        match self.place_for(key) {
+            Some(place) => Ok(Some((place, key.try_copy()?))),
+            None => Ok(None),
+        }
+    }
+
+    /// Makes a node of a new key, with the value of the gap in which it falls.
+    fn split(&mut self, new: Option<(usize, Key)>)
+        requires fits { FitsIn self.old.list.items new }
+        requires room { vec_len self.old.list + (if is_some new then 1 else 0) ≤ vec_capacity self.old.list }
+        ensures inserted { self.new.list.items ≡ with_new self.old.list.items new }
+        ensures len { vec_len self.new.list ≡ vec_len self.old.list + (if is_some new then 1 else 0) }
+        ensures capacity { vec_capacity self.old.list ≤ vec_capacity self.new.list }
+    {
+        let Some((place, key)) = new else { return };
+        let value = match place.checked_sub(1) {
+            Some(before) => self.list[before].gap,
+            None => Value::unowned(Timestamp::ZERO),
+        };
+        let node = Node {
+            key,
+            value,
+            gap: value,
+        };
+        self.list.insert(place, node).ok();
+    }
+
+    /// Makes nodes of the keys that have none, of which the first is the smaller. Where memory is refused
+    /// nothing changes.
+    pub(crate) fn split_at(
+        &mut self,
+        first: Option<&Key>,
+        second: Option<&Key>,
+    ) -> Result<(), NoMemory>
+        requires sorted { IsSorted self.old.list.items }
+        requires order { IsInOrder (option_map (λ k. k.now) first) (option_map (λ k. k.now) second) }
+        ensures split { OnOk result (IsSplitAt self.old.list.items self.new.list.items
+            (option_to_list (option_map (λ k. k.now) first.entry) ++ option_to_list (option_map (λ k. k.now) second.entry))) }
+        ensures unchanged { OnErr result (self.new.list.items ≡ self.old.list.items) }
+    {
+        let first = self.new_key(first)?;
+        let second = self.new_key(second)?;
+        self.list.reserve(usize::from(first.is_some()) + usize::from(second.is_some()))?;
+        self.split(second);
+        self.split(first);
+        Ok(())
+    }
+
+    /// A copy of the nodes.
+    pub(crate) fn try_copy(&self) -> Result<Nodes, NoMemory>
+        ensures { IfOk result (λ copy. copy.list.items ≡ self.now.list.items) }
+    {
+        let mut list = Vec::with_capacity(*self.list.allocator(), self.list.len())?;
+        for node in &self.list {
+            list.push(node.try_copy()?)?;
+        }
+        Ok(Nodes { list })
+    }
+}

@@ -1,0 +1,124 @@
+ghost use Rattle.std.specs.Prelude.{◌≡◌, ◌≤◌, true, false, IfOk, OnOk, OnErr};
+ghost use Rattle.tsc_time.specs.Joint.{joint_above};
+ghost use Rattle.tsc_time.specs.Time.{zero_time};
+ghost use Rattle.tsc_span.specs.Span.{Interval, is_empty_span};
+ghost use Rattle.tsc_page.specs.Page.{PageMarks, Mark, empty_page, with_mark, top, values_on, marked_keys, count_distinct, has_room};
+ghost use Rattle.tsc_page.specs.PageView.{StandsFor, answer, has_room_for};
+
+use crate::nodes::Nodes;
+use std::alloc::Global;
+use std::marker::Model;
+use tsc_span::{Key, Span};
+use tsc_time::{NoMemory, Timestamp, Value};
+
+/// One page of the cache: what was added to it, as sorted nodes.
+///
+/// A page holds a bounded number of different end keys, and answers a lookup by its nodes alone. So its
+/// cost does not depend on how many spans were added.
+#[derive(Debug, Drop)]
+pub struct Page {
+    page_nodes: u32,
+    top: Timestamp,
+    nodes: Nodes,
+}
+
+impl Model for Page {
+    ghost use Rattle.std.specs.Prelude.{length, ◌≤◌};
+    ghost use Rattle.tsc_page.specs.PageView.{PageView};
+    ghost use Rattle.tsc_page.specs.Nodes.{IsSorted, node_keys, stretches, stretch_spans};
+
+    ghost Value = { PageView };
+
+    ghost view = { λ p. record { page_nodes = p.page_nodes; top = p.top; keys = node_keys p.nodes.list.items; spans = stretch_spans (stretches p.nodes.list.items) } };
+
+    ghost invariant = { λ p. IsSorted p.nodes.list.items × (length p.nodes.list.items ≤ p.page_nodes) × (p.page_nodes ≤ 65536) };
+}
+
+impl Page {
+    /// An empty page, which has room for `page_nodes` different end keys. `base` is the least that its
+    /// top can be. It takes no memory until something is added.
+    pub fn new(alloc: Global, page_nodes: u32, base: Timestamp) -> Result<Page, NoMemory>
+        requires at_least { 2 ≤ page_nodes }
+        requires at_most { page_nodes ≤ 65536 }
+        ensures stands { IfOk result (λ page. StandsFor page (empty_page base)) }
+        ensures limit { IfOk result (λ page. page.page_nodes ≡ page_nodes) }
+        ensures room { IfOk result (λ page. (span : Interval) → has_room_for page span ≡ true) }
+    {
+        Ok(Page {
+            page_nodes,
+            top: base,
+            nodes: Nodes::new(alloc),
+        })
+    }
+
+    /// Whether the page has room for a span: whether the end keys of all that was added and of the span,
+    /// counted without repeats, are no more than it may hold. It costs a search for each end key.
+    pub fn room(&self, span: &Span) -> bool
+        ensures value { result ≡ has_room_for self.now span.now }
+        ensures stands { (p : PageMarks) → StandsFor self.now p → result ≡ has_room self.now.page_nodes p span.now }
+    {
+        let (first, second) = span.end_keys();
+        let new = usize::from(self.nodes.is_new(first)) + usize::from(self.nodes.is_new(second));
+        self.nodes.len() + new <= self.page_nodes as usize
+    }
+
+    /// Adds a span with its value. It costs a copy of each end key that is new to the page, a search for
+    /// each end, a move of the nodes above a new one, and a step for each node within the span.
+    pub fn add(&mut self, span: &Span, value: Value) -> Result<(), NoMemory>
+        requires not_empty { is_empty_span span.now ≡ false }
+        requires room { has_room_for self.old span.now ≡ true }
+        ensures stands { OnOk result ((p : PageMarks) → StandsFor self.old p
+            → StandsFor self.new (with_mark p (record { span = span.now; value = value }))) }
+        ensures limit { self.new.page_nodes ≡ self.old.page_nodes }
+        ensures unchanged { OnErr result (self.new ≡ self.old) }
+    {
+        let Some((from, to)) = span.cuts() else {
+            return Ok(());
+        };
+        let (first, second) = span.end_keys();
+        self.nodes.split_at(first, second)?;
+        self.nodes.raise_between(from, to, value);
+        self.top = self.top.max(value.time());
+        Ok(())
+    }
+
+    /// The joint value of all that was added and overlaps a span, or time zero without an owner. It costs
+    /// a search for each end, and a step for each node within the span.
+    pub fn lookup(&self, span: &Span) -> Value
+        ensures value { result ≡ answer self.now span.now }
+        ensures stands { (p : PageMarks) → StandsFor self.now p → result ≡ joint_above zero_time (values_on span.now p.marks) }
+    {
+        match span.cuts() {
+            Some((from, to)) => self.nodes.joint_between(from, to),
+            None => Value::unowned(Timestamp::ZERO),
+        }
+    }
+
+    /// The greatest of the base and of the times that were added.
+    pub fn top(&self) -> Timestamp
+        ensures value { result ≡ self.now.top }
+        ensures stands { (p : PageMarks) → StandsFor self.now p → result ≡ top p }
+    {
+        self.top
+    }
+
+    /// How many different end keys the page holds.
+    pub fn nodes(&self) -> u32
+        ensures value { result ≡ count_distinct self.now.keys }
+        ensures stands { (p : PageMarks) → StandsFor self.now p → result ≡ count_distinct (marked_keys p.marks) }
+        ensures limit { result ≤ self.now.page_nodes }
+    {
+        self.nodes.len() as u32
+    }
+
+    /// A copy of the page. It takes as much memory as the page's keys and nodes.
+    pub fn try_copy(&self) -> Result<Page, NoMemory>
+        ensures value { IfOk result (λ copy. copy ≡ self.now) }
+    {
+        Ok(Page {
+            page_nodes: self.page_nodes,
+            top: self.top,
+            nodes: self.nodes.try_copy()?,
+        })
+    }
+}
