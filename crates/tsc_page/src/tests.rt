@@ -9,266 +9,213 @@ const FIRST: u128 = 1;
 
 const SECOND: u128 = 2;
 
-const END_EXCLUDED: Ends = Ends {
-    exclude_from: false,
-    exclude_to: true,
-};
+const NOBODY: u128 = 0;
 
-const START_EXCLUDED: Ends = Ends {
-    exclude_from: true,
-    exclude_to: false,
-};
+/// A span as text, a wall time, and an owner.
+type Mark = (&'static [u8], u64, u128);
 
-const BOTH_EXCLUDED: Ends = Ends {
-    exclude_from: true,
-    exclude_to: true,
-};
-
-const INCLUDED: Ends = Ends {
-    exclude_from: false,
-    exclude_to: false,
-};
-
-fn at(wall: u64) -> Result<Timestamp, Fail> {
+fn value(wall: u64, owner: u128) -> Result<Value, Fail> {
     let time = Timestamp::new(wall, 0).ok_or("out of range")?;
-    Ok(time)
+    Ok(Value::of(time, Uuid::from_u128(owner)))
 }
 
-fn owned(wall: u64, owner: u128) -> Result<Value, Fail> {
-    Ok(Value::of(at(wall)?, Uuid::from_u128(owner)))
-}
-
-fn unowned(wall: u64) -> Result<Value, Fail> {
-    Ok(Value::unowned(at(wall)?))
-}
-
-fn point(alloc: Global, key: &[u8]) -> Result<Span, Fail> {
-    Ok(Span::point(Key::new(alloc, key)?))
-}
-
-fn range(alloc: Global, from: &[u8], to: &[u8], ends: Ends) -> Result<Span, Fail> {
-    Ok(Span::range(Key::new(alloc, from)?, Key::new(alloc, to)?, ends)?)
-}
-
-fn onward(alloc: Global, from: &[u8]) -> Result<Span, Fail> {
-    Ok(Span::onward(Key::new(alloc, from)?, false))
-}
-
-// What a page answers to each of these keys, and how many nodes it has.
-fn answers(alloc: Global, page: &Page) -> Result<[Value; 6], Fail> {
-    Ok([
-        page.lookup(&point(alloc, b"a")?),
-        page.lookup(&point(alloc, b"b")?),
-        page.lookup(&point(alloc, b"c")?),
-        page.lookup(&range(alloc, b"a", b"b", BOTH_EXCLUDED)?),
-        page.lookup(&range(alloc, b"b", b"c", BOTH_EXCLUDED)?),
-        page.lookup(&range(alloc, b"c", b"z", BOTH_EXCLUDED)?),
-    ])
-}
-
-// Adds, and where a growth is refused sees that nothing changed, and adds once more.
-fn add(alloc: Global, page: &mut Page, span: &Span, value: Value) -> Result<bool, Fail> {
-    if span.is_empty() || !page.room(span) {
-        return Ok(false);
+/// The span of a text such as `a`, `[a,c)` or `(m,`, whose keys have one byte.
+fn span(alloc: Global, text: &[u8]) -> Result<Span, Fail> {
+    if text.len() == 1 {
+        return Ok(Span::point(Key::new(alloc, text)?));
     }
-    let before = (answers(alloc, page)?, page.top(), page.nodes());
-    match page.add(span, value) {
-        Ok(()) => Ok(true),
-        Err(NoMemory) => {
-            let unchanged = before == (answers(alloc, page)?, page.top(), page.nodes());
-            if unchanged && page.room(span) {
-                page.add(span, value)?;
-            }
-            Ok(unchanged)
+    let exclude_from = text.first() == Some(&b'(');
+    let from = Key::new(alloc, text.get(1..2).ok_or("no key")?)?;
+    match text.get(3..4) {
+        None => Ok(Span::onward(from, exclude_from)),
+        Some(to) => {
+            let ends = Ends {
+                exclude_from,
+                exclude_to: text.last() == Some(&b')'),
+            };
+            Ok(Span::range(from, Key::new(alloc, to)?, ends)?)
         }
     }
 }
 
+/// Whether a page answers so to each span.
+fn answers(alloc: Global, page: &Page, looks: &[Mark]) -> Result<bool, Fail> {
+    for (text, wall, owner) in looks {
+        if page.lookup(&span(alloc, text)?) != value(*wall, *owner)? {
+            return Ok(false);
+        }
+    }
+    Ok(true)
+}
+
+/// Adds all of these. Where a growth is refused the page is as before, and the same call then succeeds.
+fn add(alloc: Global, page: &mut Page, marks: &[Mark]) -> Result<bool, Fail> {
+    for (text, wall, owner) in marks {
+        let span = span(alloc, text)?;
+        if span.is_empty() || !page.room(&span) {
+            return Ok(false);
+        }
+        let before = (page.lookup(&span), page.top(), page.nodes());
+        if let Err(NoMemory) = page.add(&span, value(*wall, *owner)?) {
+            if before != (page.lookup(&span), page.top(), page.nodes()) || !page.room(&span) {
+                return Ok(false);
+            }
+            page.add(&span, value(*wall, *owner)?)?;
+        }
+    }
+    Ok(true)
+}
+
+/// An empty page with its base at time zero.
+fn page(alloc: Global, page_nodes: u32) -> Result<Page, Fail> {
+    let page_nodes = page_nodes.clamp(2, 65536);
+    Ok(Page::new(alloc, page_nodes, Timestamp::ZERO)?)
+}
+
 #[test]
 fn an_empty_page(rt: HostRuntime) -> Result<(), Fail> {
-    let page = Page::new(rt.alloc(), 4, at(7)?)?;
-    assert_eq!(rt; page.nodes(), 0);
-    assert_eq!(rt; page.top(), at(7)?);
-    assert_eq!(rt;
-        page.lookup(&point(rt.alloc(), b"a")?),
-        Value::unowned(Timestamp::ZERO)
-    );
-    assert!(rt; page.room(&range(rt.alloc(), b"a", b"c", INCLUDED)?));
+    let base = value(7, NOBODY)?.time();
+    let page = Page::new(rt.alloc(), 4, base)?;
+    assert_eq!(rt; (page.nodes(), page.top()), (0, base));
+    assert!(rt; answers(rt.alloc(), &page, &[(b"a", 0, NOBODY), (b"[a,", 0, NOBODY)])?);
+    assert!(rt; page.room(&span(rt.alloc(), b"[a,c]")?));
     Ok(())
 }
 
 #[test]
 fn a_range_takes_a_node_for_each_end(rt: HostRuntime) -> Result<(), Fail> {
-    let alloc = rt.alloc();
-    let mut page = Page::new(alloc, 4, at(7)?)?;
-    assert!(rt;
-        add(
-            alloc,
-            &mut page,
-            &range(alloc, b"a", b"c", END_EXCLUDED)?,
-            owned(20, FIRST)?
-        )?
-    );
-    assert_eq!(rt; (page.nodes(), page.top()), (2, at(20)?));
-    assert!(rt; add(alloc, &mut page, &point(alloc, b"b")?, owned(10, SECOND)?)?);
-    assert_eq!(rt; (page.nodes(), page.top()), (3, at(20)?));
-    assert_eq!(rt; page.lookup(&point(alloc, b"b")?), owned(20, FIRST)?);
-    assert!(rt; !page.room(&range(alloc, b"d", b"e", END_EXCLUDED)?));
-    assert!(rt; page.room(&range(alloc, b"c", b"d", END_EXCLUDED)?));
+    let mut page = page(rt.alloc(), 4)?;
+    assert!(rt; add(rt.alloc(), &mut page, &[(b"[a,c)", 20, FIRST)])?);
+    assert_eq!(rt; (page.nodes(), page.top()), (2, value(20, NOBODY)?.time()));
+    assert!(rt; add(rt.alloc(), &mut page, &[(b"b", 10, SECOND)])?);
+    assert_eq!(rt; (page.nodes(), page.top()), (3, value(20, NOBODY)?.time()));
+    assert!(rt; answers(rt.alloc(), &page, &[(b"b", 20, FIRST)])?);
+    assert!(rt; !page.room(&span(rt.alloc(), b"[d,e)")?));
+    assert!(rt; page.room(&span(rt.alloc(), b"[c,d)")?));
+    Ok(())
+}
 
-    let mut copy = page.try_copy()?;
+#[test]
+fn a_copy_goes_its_own_way(rt: HostRuntime) -> Result<(), Fail> {
+    let mut page = page(rt.alloc(), 4)?;
     assert!(rt;
         add(
-            alloc,
-            &mut copy,
-            &range(alloc, b"c", b"d", END_EXCLUDED)?,
-            owned(30, SECOND)?
+            rt.alloc(),
+            &mut page,
+            &[(b"[a,c)", 20, FIRST), (b"b", 10, SECOND)]
         )?
     );
-    assert_eq!(rt; copy.lookup(&point(alloc, b"c")?), owned(30, SECOND)?);
-    assert_eq!(rt; (copy.nodes(), copy.top()), (4, at(30)?));
-    assert_eq!(rt; page.lookup(&point(alloc, b"c")?), unowned(0)?);
-    assert_eq!(rt; (page.nodes(), page.top()), (3, at(20)?));
+    let mut copy = page.try_copy()?;
+    assert!(rt; add(rt.alloc(), &mut copy, &[(b"[c,d)", 30, SECOND)])?);
+    assert_eq!(rt; (copy.nodes(), page.nodes()), (4, 3));
+    assert!(rt; answers(rt.alloc(), &copy, &[(b"c", 30, SECOND)])?);
+    assert!(rt; answers(rt.alloc(), &page, &[(b"c", 0, NOBODY)])?);
     Ok(())
 }
 
 #[test]
 fn a_new_node_takes_the_value_of_its_gap(rt: HostRuntime) -> Result<(), Fail> {
-    let alloc = rt.alloc();
-    let mut page = Page::new(alloc, 8, Timestamp::ZERO)?;
-    assert!(rt;
-        add(
-            alloc,
-            &mut page,
-            &range(alloc, b"a", b"e", END_EXCLUDED)?,
-            owned(20, FIRST)?
-        )?
-    );
-    assert_eq!(rt; page.nodes(), 2);
-    assert!(rt; add(alloc, &mut page, &point(alloc, b"c")?, owned(10, SECOND)?)?);
-    assert_eq!(rt; page.nodes(), 3);
-    assert_eq!(rt; page.lookup(&point(alloc, b"c")?), owned(20, FIRST)?);
-    assert!(rt;
-        add(
-            alloc,
-            &mut page,
-            &range(alloc, b"c", b"e", BOTH_EXCLUDED)?,
-            owned(20, SECOND)?
-        )?
-    );
-    assert_eq!(rt; page.nodes(), 3);
-    assert_eq!(rt;
-        page.lookup(&range(alloc, b"a", b"c", BOTH_EXCLUDED)?),
-        owned(20, FIRST)?
-    );
-    assert_eq!(rt; page.lookup(&point(alloc, b"c")?), owned(20, FIRST)?);
-    assert_eq!(rt; page.lookup(&point(alloc, b"d")?), unowned(20)?);
-    assert_eq!(rt;
-        page.lookup(&range(alloc, b"c", b"e", BOTH_EXCLUDED)?),
-        unowned(20)?
-    );
-    assert_eq!(rt; page.lookup(&point(alloc, b"e")?), unowned(0)?);
+    let mut page = page(rt.alloc(), 8)?;
+    let marks: [Mark; 3] = [
+        (b"[a,e)", 20, FIRST),
+        (b"c", 10, SECOND),
+        (b"(c,e)", 20, SECOND),
+    ];
+    for (i, nodes) in [2, 3, 3].into_iter().enumerate() {
+        assert!(rt; add(rt.alloc(), &mut page, &marks[i..i + 1])?);
+        assert_eq!(rt; page.nodes(), nodes);
+    }
+    let looks: [Mark; 5] = [
+        (b"(a,c)", 20, FIRST),
+        (b"c", 20, FIRST),
+        (b"d", 20, NOBODY),
+        (b"(c,e)", 20, NOBODY),
+        (b"e", 0, NOBODY),
+    ];
+    assert!(rt; answers(rt.alloc(), &page, &looks)?);
     Ok(())
 }
 
 #[test]
 fn known_keys_need_no_room(rt: HostRuntime) -> Result<(), Fail> {
-    let alloc = rt.alloc();
-    let mut page = Page::new(alloc, 2, Timestamp::ZERO)?;
-    assert!(rt;
-        add(
-            alloc,
-            &mut page,
-            &range(alloc, b"a", b"c", END_EXCLUDED)?,
-            owned(20, FIRST)?
-        )?
-    );
-    assert!(rt; page.room(&onward(alloc, b"c")?));
-    assert!(rt; page.room(&range(alloc, b"a", b"a", BOTH_EXCLUDED)?));
-    assert!(rt; !page.room(&point(alloc, b"b")?));
+    let mut page = page(rt.alloc(), 2)?;
+    assert!(rt; add(rt.alloc(), &mut page, &[(b"[a,c)", 20, FIRST)])?);
+    for (text, has_room) in [(b"[c,".as_slice(), true), (b"(a,a)", true), (b"b", false)] {
+        assert_eq!(rt; page.room(&span(rt.alloc(), text)?), has_room);
+    }
     Ok(())
 }
 
 #[test]
 fn owners_that_differ_are_lost(rt: HostRuntime) -> Result<(), Fail> {
-    let alloc = rt.alloc();
-    let mut page = Page::new(alloc, 4, Timestamp::ZERO)?;
+    let mut page = page(rt.alloc(), 4)?;
     assert!(rt;
         add(
-            alloc,
+            rt.alloc(),
             &mut page,
-            &range(alloc, b"a", b"c", END_EXCLUDED)?,
-            owned(20, FIRST)?
+            &[(b"[a,c)", 20, FIRST), (b"[b,d)", 20, SECOND)]
         )?
     );
-    assert!(rt;
-        add(
-            alloc,
-            &mut page,
-            &range(alloc, b"b", b"d", END_EXCLUDED)?,
-            owned(20, SECOND)?
-        )?
-    );
-    assert_eq!(rt; page.lookup(&point(alloc, b"a")?), owned(20, FIRST)?);
-    assert_eq!(rt; page.lookup(&point(alloc, b"b")?), unowned(20)?);
-    assert_eq!(rt; page.lookup(&point(alloc, b"c")?), owned(20, SECOND)?);
-    assert_eq!(rt;
-        page.lookup(&range(alloc, b"a", b"d", END_EXCLUDED)?),
-        unowned(20)?
-    );
+    let looks: [Mark; 4] = [
+        (b"a", 20, FIRST),
+        (b"b", 20, NOBODY),
+        (b"c", 20, SECOND),
+        (b"[a,d)", 20, NOBODY),
+    ];
+    assert!(rt; answers(rt.alloc(), &page, &looks)?);
     Ok(())
 }
 
 #[test]
 fn excluded_ends_stay_as_they_are(rt: HostRuntime) -> Result<(), Fail> {
-    let alloc = rt.alloc();
-    let mut page = Page::new(alloc, 4, Timestamp::ZERO)?;
-    assert!(rt;
-        add(
-            alloc,
-            &mut page,
-            &range(alloc, b"a", b"c", BOTH_EXCLUDED)?,
-            owned(20, FIRST)?
-        )?
-    );
-    assert_eq!(rt; page.lookup(&point(alloc, b"a")?), unowned(0)?);
-    assert_eq!(rt; page.lookup(&point(alloc, b"b")?), owned(20, FIRST)?);
-    assert_eq!(rt; page.lookup(&point(alloc, b"c")?), unowned(0)?);
+    let mut page = page(rt.alloc(), 4)?;
+    assert!(rt; add(rt.alloc(), &mut page, &[(b"(a,c)", 20, FIRST)])?);
+    let looks: [Mark; 4] = [
+        (b"a", 0, NOBODY),
+        (b"b", 20, FIRST),
+        (b"c", 0, NOBODY),
+        (b"(a,a)", 0, NOBODY),
+    ];
+    assert!(rt; answers(rt.alloc(), &page, &looks)?);
+    Ok(())
+}
 
-    let mut page = Page::new(alloc, 4, Timestamp::ZERO)?;
-    let gap = range(alloc, b"a", b"a\x00", BOTH_EXCLUDED)?;
-    assert!(rt; add(alloc, &mut page, &gap, owned(20, FIRST)?)?);
-    assert_eq!(rt; page.lookup(&gap), owned(20, FIRST)?);
-    assert_eq!(rt; page.lookup(&point(alloc, b"a")?), unowned(0)?);
-    assert_eq!(rt; page.lookup(&point(alloc, b"a\x00")?), unowned(0)?);
-    assert_eq!(rt;
-        page.lookup(&range(alloc, b"a", b"a\x00", INCLUDED)?),
-        owned(20, FIRST)?
-    );
-    assert_eq!(rt;
-        page.lookup(&range(alloc, b"a", b"a", BOTH_EXCLUDED)?),
-        unowned(0)?
+#[test]
+fn a_gap_without_keys_has_a_value(rt: HostRuntime) -> Result<(), Fail> {
+    let (from, to) = (Key::new(rt.alloc(), b"a")?, Key::new(rt.alloc(), b"a\x00")?);
+    let ends = Ends {
+        exclude_from: true,
+        exclude_to: true,
+    };
+    let gap = Span::range(from, to, ends)?;
+    let mut page = page(rt.alloc(), 4)?;
+    if !gap.is_empty() && page.room(&gap) {
+        page.add(&gap, value(20, FIRST)?)?;
+    }
+    assert_eq!(rt; page.lookup(&gap), value(20, FIRST)?);
+    assert!(rt;
+        answers(
+            rt.alloc(),
+            &page,
+            &[(b"a", 0, NOBODY), (b"[a,b)", 20, FIRST)]
+        )?
     );
     Ok(())
 }
 
 #[test]
 fn a_span_without_end(rt: HostRuntime) -> Result<(), Fail> {
-    let alloc = rt.alloc();
-    let mut page = Page::new(alloc, 4, Timestamp::ZERO)?;
-    assert!(rt; add(alloc, &mut page, &onward(alloc, b"m")?, owned(20, FIRST)?)?);
+    let mut page = page(rt.alloc(), 4)?;
+    assert!(rt; add(rt.alloc(), &mut page, &[(b"[m,", 20, FIRST)])?);
     assert_eq!(rt; page.nodes(), 1);
-    assert_eq!(rt; page.lookup(&point(alloc, b"\xff")?), owned(20, FIRST)?);
-    assert_eq!(rt; page.lookup(&point(alloc, b"m")?), owned(20, FIRST)?);
-    assert_eq!(rt; page.lookup(&point(alloc, b"l")?), unowned(0)?);
-    assert_eq!(rt; page.lookup(&onward(alloc, b"z")?), owned(20, FIRST)?);
-    assert_eq!(rt;
-        page.lookup(&range(alloc, b"a", b"m", START_EXCLUDED)?),
-        owned(20, FIRST)?
-    );
-    assert_eq!(rt;
-        page.lookup(&range(alloc, b"a", b"m", END_EXCLUDED)?),
-        unowned(0)?
-    );
+    let looks: [Mark; 6] = [
+        (b"\xff", 20, FIRST),
+        (b"m", 20, FIRST),
+        (b"l", 0, NOBODY),
+        (b"[z,", 20, FIRST),
+        (b"(a,m]", 20, FIRST),
+        (b"[a,m)", 0, NOBODY),
+    ];
+    assert!(rt; answers(rt.alloc(), &page, &looks)?);
     Ok(())
 }
