@@ -20,8 +20,8 @@ use Rattle.tsc_time.proofs.JointLemmas.{joint-append, joint-singleton}
 use Rattle.std.proofs.lemmas.Bool.{cases_Bool}
 use Rattle.tsc_span.specs.Span.{KeyBytes, Cut, before, after, last, Interval, nothing, between, overlaps, end_keys}
 use Rattle.tsc_page.specs.Page.{Mark, PageMarks, with_mark, top, values_on, marked_keys, count_distinct, has_room}
-use Rattle.tsc_page.specs.PageView.{PageView, StandsFor, answer, is_in, has_room_for}
-use Rattle.tsc_page.specs.Nodes.{Node, next_cut, node_stretches, stretches, stretch_spans, node_keys, IsSorted, IsSplitAt, raise_nodes, answer_of, is_new_to}
+use Rattle.tsc_page.specs.PageView.{PageView, StandsFor, answer, is_in, has_room_for, is_new_among}
+use Rattle.tsc_page.specs.Nodes.{Node, next_cut, node_stretches, stretches, stretch_spans, node_keys, IsSorted, IsSplitAt, raise_nodes, answer_of}
 use Rattle.tsc_page.proofs.CutOrder.{Lt, Le, Lt-not_Le, Le-chain, Le-from_Lt, before-after}
 use Rattle.tsc_page.proofs.DistinctKeys.{count_distinct-same, count_distinct-push, count_distinct-no_repeats, has_no_repeats, is_in-push}
 use Rattle.tsc_page.proofs.Cuts.{HasCut, first_low, rising_nodes, cuts_of_key, raise_nodes_answers}
@@ -52,40 +52,69 @@ count_of_nodes ns sorted = count_distinct-no_repeats (node_keys ns) (sorted_once
 abbrev pub one_if : Bool → ℕ
 one_if b = cond b 1 0
 
--- with the end keys of a span they are as many more as are new
-pub count_with : (ns : List Node) (o p : Option KeyBytes) → IsSorted ns → has_no_repeats (option_to_list o ++ option_to_list p) ≡ true
-    → count_distinct (node_keys ns ++ (option_to_list o ++ option_to_list p)) ≡ length ns + one_if (is_new_to ns o) + one_if (is_new_to ns p)
-count_with ns None None sorted once = ap count_distinct (append-nil (node_keys ns)) ∙ count_of_nodes ns sorted ∙ omega arith
-count_with ns None (Some m) sorted once = count_distinct-push (node_keys ns) m ∙ one (is_in m (node_keys ns)) (count_distinct (node_keys ns)) (count_of_nodes ns sorted)
-  where
-    one : (b : Bool) (n : ℕ) → n ≡ length ns → cond b n (suc n) ≡ length ns + 0 + cond (not b) 1 0
-    one true n e = omega arith
-    one false n e = omega arith
-count_with ns (Some k) None sorted once = count_distinct-push (node_keys ns) k ∙ one (is_in k (node_keys ns)) (count_distinct (node_keys ns)) (count_of_nodes ns sorted)
-  where
-    one : (b : Bool) (n : ℕ) → n ≡ length ns → cond b n (suc n) ≡ length ns + cond (not b) 1 0 + 0
-    one true n e = omega arith
-    one false n e = omega arith
-count_with ns (Some k) (Some m) sorted once =
-    ap count_distinct (sym (append_assoc (node_keys ns) (k ∷ []) (m ∷ [])))
-    ∙ count_distinct-push (node_keys ns ++ k ∷ []) m
-    ∙ ap (λ b. cond b (count_distinct (node_keys ns ++ k ∷ [])) (suc (count_distinct (node_keys ns ++ k ∷ [])))) second
-    ∙ two (is_in k (node_keys ns)) (is_in m (node_keys ns)) (count_distinct (node_keys ns ++ k ∷ [])) (count_distinct (node_keys ns)) (count_distinct-push (node_keys ns) k) (count_of_nodes ns sorted)
-  where
-    differ : bytes_eq m k ≡ false
-    differ = elim (cases_Bool (bytes_eq m k)) [
-      | inl h ↦ absurd (true≢false (sym once ∙ rw ((bytes_eq-Decides k m).1 (sym ((bytes_eq-Decides m k).0 h))) refl))
-      | inr h ↦ h
-    ]
+-- two keys without repeats differ
+differ : (k m : KeyBytes) → has_no_repeats (k ∷ m ∷ []) ≡ true → bytes_eq k m ≡ false
+differ k m once = elim (cases_Bool (bytes_eq k m)) [
+  | inl h ↦ absurd (true≢false (sym once ∙ rw h refl))
+  | inr h ↦ h
+]
 
-    second : is_in m (node_keys ns ++ k ∷ []) ≡ is_in m (node_keys ns)
-    second = is_in-push m k (node_keys ns) ∙ rw differ refl
+differ_back : (k m : KeyBytes) → has_no_repeats (k ∷ m ∷ []) ≡ true → bytes_eq m k ≡ false
+differ_back k m once = elim (cases_Bool (bytes_eq m k)) [
+  | inl h ↦ absurd (true≢false (sym once ∙ rw ((bytes_eq-Decides k m).1 (sym ((bytes_eq-Decides m k).0 h))) refl))
+  | inr h ↦ h
+]
 
-    two : (a b : Bool) (c n : ℕ) → c ≡ cond a n (suc n) → n ≡ length ns → cond b c (suc c) ≡ length ns + cond (not a) 1 0 + cond (not b) 1 0
-    two true true c n e f = omega arith
-    two true false c n e f = omega arith
-    two false true c n e f = omega arith
-    two false false c n e f = omega arith
+-- with the end keys of a span keys are as many more as are new
+pub count_with : (ks : List KeyBytes) (o p : Option KeyBytes) → has_no_repeats (option_to_list o ++ option_to_list p) ≡ true
+    → count_distinct (ks ++ (option_to_list o ++ option_to_list p)) ≡ count_distinct ks + one_if (is_new_among ks o) + one_if (is_new_among ks p)
+count_with ks None None once = ap count_distinct (append-nil ks) ∙ omega arith
+count_with ks None (Some m) once = count_distinct-push ks m ∙ one (is_in m ks) (count_distinct ks)
+  where
+    one : (b : Bool) (n : ℕ) → cond b n (suc n) ≡ n + 0 + cond (not b) 1 0
+    one true n = omega arith
+    one false n = omega arith
+count_with ks (Some k) None once = count_distinct-push ks k ∙ one (is_in k ks) (count_distinct ks)
+  where
+    one : (b : Bool) (n : ℕ) → cond b n (suc n) ≡ n + cond (not b) 1 0 + 0
+    one true n = omega arith
+    one false n = omega arith
+count_with ks (Some k) (Some m) once =
+    ap count_distinct (sym (append_assoc ks (k ∷ []) (m ∷ [])))
+    ∙ count_distinct-push (ks ++ k ∷ []) m
+    ∙ ap (λ b. cond b (count_distinct (ks ++ k ∷ [])) (suc (count_distinct (ks ++ k ∷ [])))) second
+    ∙ two (is_in k ks) (is_in m ks) (count_distinct (ks ++ k ∷ [])) (count_distinct ks) (count_distinct-push ks k)
+  where
+    second : is_in m (ks ++ k ∷ []) ≡ is_in m ks
+    second = is_in-push m k ks ∙ rw (differ_back k m once) refl
+
+    two : (a b : Bool) (c n : ℕ) → c ≡ cond a n (suc n) → cond b c (suc c) ≡ n + cond (not a) 1 0 + cond (not b) 1 0
+    two true true c n e = omega arith
+    two true false c n e = omega arith
+    two false true c n e = omega arith
+    two false false c n e = omega arith
+
+-- and so where the end keys come first
+pub count_before : (ks : List KeyBytes) (o p : Option KeyBytes) → has_no_repeats (option_to_list o ++ option_to_list p) ≡ true
+    → count_distinct ((option_to_list o ++ option_to_list p) ++ ks) ≡ one_if (is_new_among ks o) + one_if (is_new_among ks p) + count_distinct ks
+count_before ks None None once = omega arith
+count_before ks None (Some m) once = one (is_in m ks) (count_distinct ks)
+  where
+    one : (b : Bool) (n : ℕ) → cond b n (suc n) ≡ 0 + cond (not b) 1 0 + n
+    one true n = omega arith
+    one false n = omega arith
+count_before ks (Some k) None once = one (is_in k ks) (count_distinct ks)
+  where
+    one : (b : Bool) (n : ℕ) → cond b n (suc n) ≡ cond (not b) 1 0 + 0 + n
+    one true n = omega arith
+    one false n = omega arith
+count_before ks (Some k) (Some m) once = rw (differ k m once) (two (is_in k ks) (is_in m ks) (count_distinct ks))
+  where
+    two : (a b : Bool) (n : ℕ) → cond a (cond b n (suc n)) (suc (cond b n (suc n))) ≡ cond (not a) 1 0 + cond (not b) 1 0 + n
+    two true true n = omega arith
+    two true false n = omega arith
+    two false true n = omega arith
+    two false false n = omega arith
 
 -- lists of the same keys leave the same room
 pub same_room : (v : PageView) (p : PageMarks) (span : Interval) → StandsFor v p → has_room_for v span ≡ has_room v.page_nodes p span
@@ -165,6 +194,15 @@ module _ (old mid : List Node) (f t : Cut) (up : Lt f t) (value : OwnedTime) (sp
   pub added_length : length (raise_nodes (between f t) value mid) ≡ count_distinct (node_keys old ++ end_keys (between f t))
   added_length = raise_nodes-length (between f t) value mid ∙ split_count old mid (between f t) split
 
+  added_cuts : HasCut f (node_stretches mid) × ((t ≡ last) ⊎ HasCut t (node_stretches mid))
+  added_cuts = ends_are_nodes f t mid up (λ k h. split.keys k ∙ rw h (or-true (is_in k (node_keys old))))
+
+  pub added_keys : (k : KeyBytes) → is_in k (node_keys (raise_nodes (between f t) value mid)) ≡ (is_in k (node_keys old) || is_in k (end_keys (between f t)))
+  added_keys k = ap (is_in k) (raise_nodes-keys (between f t) value mid) ∙ split.keys k
+
+  pub added_answers : (s : Interval) → answer_of (raise_nodes (between f t) value mid) s ≡ cond (overlaps (between f t) s) (joint (answer_of old s) (value ∷ [])) (answer_of old s)
+  added_answers s = raise_nodes_answers f t value mid split.sorted added_cuts.0 added_cuts.1 s ∙ ap (λ (w : OwnedTime). cond (overlaps (between f t) s) (joint w (value ∷ [])) w) (split.answers s)
+
   -- the page then stands for the list with the mark
   pub added_stands : (limit : ℕ) (before_it after_it : Time) (p : PageMarks)
       → StandsFor (page_of limit before_it old) p
@@ -172,11 +210,11 @@ module _ (old mid : List Node) (f t : Cut) (up : Lt f t) (value : OwnedTime) (sp
       → StandsFor (page_of limit after_it (raise_nodes (between f t) value mid)) (with_mark p (record { span = between f t; value = value }))
   added_stands limit before_it after_it p stands is = record {
     top = is ∙ ap (λ x. later x value.time) stands.top ∙ sym (top_with p m);
-    keys = λ k. ap (is_in k) (raise_nodes-keys (between f t) value mid) ∙ split.keys k ∙ ap (λ b. b || is_in k (end_keys (between f t))) (stands.keys k)
+    keys = λ k. added_keys k ∙ ap (λ b. b || is_in k (end_keys (between f t))) (stands.keys k)
         ∙ sym (list_any-append (bytes_eq k) (marked_keys p.marks) (end_keys (between f t))) ∙ ap (is_in k) (sym more_keys);
     answers = λ s.
-        raise_nodes_answers f t value mid split.sorted cuts.0 cuts.1 s
-        ∙ ap (λ (w : OwnedTime). cond (overlaps (between f t) s) (joint w (value ∷ [])) w) (split.answers s ∙ stands.answers s)
+        added_answers s
+        ∙ ap (λ (w : OwnedTime). cond (overlaps (between f t) s) (joint w (value ∷ [])) w) (stands.answers s)
         ∙ joined (overlaps (between f t) s) (values_on s p.marks) ∙ ap (joint_above zero_time) (sym (values_on-more s p.marks m));
   }
     where
@@ -185,9 +223,6 @@ module _ (old mid : List Node) (f t : Cut) (up : Lt f t) (value : OwnedTime) (sp
 
       more_keys : marked_keys (p.marks ++ m ∷ []) ≡ marked_keys p.marks ++ end_keys (between f t)
       more_keys = flat_map-append (λ (n : Mark). end_keys n.span) p.marks (m ∷ []) ∙ ap (λ ks. marked_keys p.marks ++ ks) (append-nil (end_keys (between f t)))
-
-      cuts : HasCut f (node_stretches mid) × ((t ≡ last) ⊎ HasCut t (node_stretches mid))
-      cuts = ends_are_nodes f t mid up (λ k h. split.keys k ∙ rw h (or-true (is_in k (node_keys old))))
 
       joined : (b : Bool) (vs : List OwnedTime) → cond b (joint (joint_above zero_time vs) (value ∷ [])) (joint_above zero_time vs) ≡ joint_above zero_time (vs ++ cond b (value ∷ []) [])
       joined true vs = sym (joint-append (unowned zero_time) vs value)

@@ -19,7 +19,7 @@ pub record Stretch : Type 0 where
   pub from : Cut
   pub value : OwnedTime
 
--- where a stretch ends that has these after it
+-- the cut at which a stretch stops that has these after it
 abbrev pub next_cut : List Stretch → Cut
 next_cut [] = last
 next_cut (x ∷ xs) = x.from
@@ -33,7 +33,7 @@ node_stretches (n ∷ ns) = record { from = before n.key; value = n.value } ∷ 
 abbrev pub below_nodes : Stretch
 below_nodes = record { from = before []; value = unowned zero_time }
 
--- all cuts, from the least key on
+-- the stretches from the least key on
 abbrev pub stretches : List Node → List Stretch
 stretches nodes = below_nodes ∷ node_stretches nodes
 
@@ -54,7 +54,7 @@ abbrev pub IsSorted : List Node → Type 0
 IsSorted [] = Unit {0}
 IsSorted (n ∷ ns) = (is_below (after n.key) (next_cut (node_stretches ns)) ≡ true) × IsSorted ns
 
--- a stretch once a value was added to a span, where it ends at the cut
+-- the value of a stretch that stops at a cut, once a value was added to a span
 abbrev pub raised : Interval → OwnedTime → Stretch → Cut → OwnedTime
 raised span v x end = if overlaps (between x.from end) span then joint x.value (v ∷ []) else x.value
 
@@ -120,11 +120,6 @@ place_of (Err i) = Some i
 abbrev pub IsPlaceFor : KeyBytes → List Node → Option ℕ → Type 0
 IsPlaceFor k nodes None = is_in k (node_keys nodes) ≡ true
 IsPlaceFor k nodes (Some i) = FitsAt k (before []) nodes i
-
--- whether this is a key, and no node's
-abbrev pub is_new_to : List Node → Option KeyBytes → Bool
-is_new_to nodes None = false
-is_new_to nodes (Some k) = not (is_in k (node_keys nodes))
 
 -- a new key with the place for it, or none where the key is a node's, or where there is none
 abbrev pub IsNewKey : List Node → Option KeyBytes → Option (ℕ × KeyBytes) → Type 0

@@ -1,5 +1,5 @@
 -- What can be seen of a page, and which list of marks it stands for.
-use Rattle.std.specs.Prelude.{◌≡◌, ℕ, List, ◌++◌, nat_le, Bool}
+use Rattle.std.specs.Prelude.{◌≡◌, ℕ, List, ◌++◌, nat_le, Bool, false, not, Option, Some, None}
 use Rattle.std.specs.List.{list_any}
 use Rattle.std.specs.Str.{bytes_eq}
 use Rattle.tsc_time.specs.Time.{Time, zero_time}
@@ -23,7 +23,7 @@ answer v span = joint_above zero_time (values_on span v.spans)
 abbrev pub is_in : KeyBytes → List KeyBytes → Bool
 is_in k ks = list_any (bytes_eq k) ks
 
--- A page stands for a base and a list of marks where the top and the set of end keys are the same, and the answer to each span is the joint value of the marks that overlap it, above time zero.
+-- A page stands for a base and a list of marks where the top and the set of end keys are the same, and the answer to each span is the joint value of the marks that overlap it, above time zero. The limit belongs to no list: contracts name it apart.
 pub record StandsFor (v : PageView) (p : PageMarks) : Type 0 where
   pub top : v.top ≡ top p
   pub keys : (k : KeyBytes) → is_in k v.keys ≡ is_in k (marked_keys p.marks)
@@ -33,6 +33,7 @@ pub record StandsFor (v : PageView) (p : PageMarks) : Type 0 where
 abbrev pub has_room_for : PageView → Interval → Bool
 has_room_for v span = nat_le (count_distinct (v.keys ++ end_keys span)) v.page_nodes
 
--- what can be seen of a page that keeps the list itself
-abbrev pub view_of : ℕ → PageMarks → PageView
-view_of page_nodes p = record { page_nodes = page_nodes; top = top p; keys = marked_keys p.marks; spans = p.marks }
+-- whether this is a key, and not in a list
+abbrev pub is_new_among : List KeyBytes → Option KeyBytes → Bool
+is_new_among ks None = false
+is_new_among ks (Some k) = not (is_in k ks)

@@ -1,11 +1,11 @@
 //! One page of a timestamp cache.
 //!
-//! A [`Page`] keeps the spans that were added to it, each with its value, as one sorted list of nodes.
+//! A [`Page`] keeps what the spans that were added to it come to, as one sorted list of nodes.
 //! A node is an end key of such a span. It has the value that holds at its key, and the value that holds
 //! in the open gap between its key and that of the next node. Below the first node nothing was added.
 //!
 //! An Add first makes nodes of its end keys. A new node takes both its values from the gap in which it
-//! falls, so no answer changes. Then the value is ratcheted into each key and each gap within the span.
+//! falls, or time zero without an owner below the first node, so no answer changes. Then the value is ratcheted into each key and each gap within the span.
 //! So a lookup joins the values of the keys and gaps that its span overlaps, however many spans were
 //! added there. It restates a page of CockroachDB's `pkg/kv/kvserver/tscache/interval_skl.go`, whose nodes
 //! stand in a skiplist.

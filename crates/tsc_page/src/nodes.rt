@@ -4,7 +4,8 @@ ghost use Rattle.tsc_time.specs.Time.{zero_time};
 ghost use Rattle.tsc_time.specs.OwnedTime.{unowned};
 ghost use Rattle.tsc_span.specs.Span.{is_below, before, between};
 ghost use Rattle.tsc_span.specs.Cuts.{cut_of};
-ghost use Rattle.tsc_page.specs.Nodes.{IsSorted, FitsAt, IsPlaceFor, IsNewKey, FitsIn, with_new, IsInOrder, IsSplitAt, is_new_to, HoldsKeysOn, HoldsGapsOn, node_keys, answer_of, raise_nodes, node_in_gap, gap_value};
+ghost use Rattle.tsc_page.specs.PageView.{is_new_among};
+ghost use Rattle.tsc_page.specs.Nodes.{IsSorted, FitsAt, IsPlaceFor, IsNewKey, FitsIn, with_new, IsInOrder, IsSplitAt, HoldsKeysOn, HoldsGapsOn, node_keys, answer_of, raise_nodes, node_in_gap, gap_value};
 
 use crate::node::Node;
 use std::alloc::Global;
@@ -48,7 +49,7 @@ impl Nodes {
     /// Whether this is a key that has no node.
     pub(crate) fn is_new(&self, key: Option<&Key>) -> bool
         requires sorted { IsSorted self.now.list.items }
-        ensures { result ≡ is_new_to self.now.list.items (option_map (λ k. k.now) key.entry) }
+        ensures { result ≡ is_new_among (node_keys self.now.list.items) (option_map (λ k. k.now) key.entry) }
     {
         match key {
             Some(key) => self.place_for(key).is_some(),
@@ -134,7 +135,8 @@ impl Nodes {
         }
     }
 
-    /// Makes a node of a new key, with the value of the gap in which it falls.
+    /// Makes a node of a new key, with the value of the gap in which it falls, or time zero without an
+    /// owner below the first node.
     fn split(&mut self, new: Option<(usize, Key)>)
         requires fits { FitsIn self.old.list.items new }
         requires room { vec_len self.old.list + (if is_some new then 1 else 0) ≤ vec_capacity self.old.list }

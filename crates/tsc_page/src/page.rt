@@ -1,9 +1,9 @@
-ghost use Rattle.std.specs.Prelude.{◌≡◌, ◌≤◌, true, false, IfOk, OnOk, OnErr};
-ghost use Rattle.tsc_time.specs.Joint.{joint_above};
-ghost use Rattle.tsc_time.specs.Time.{zero_time};
-ghost use Rattle.tsc_span.specs.Span.{Interval, is_empty_span};
+ghost use Rattle.std.specs.Prelude.{◌≡◌, ◌≤◌, ◌||◌, ◌∷◌, [], true, false, IfOk, OnOk, OnErr, if◌then◌else◌};
+ghost use Rattle.tsc_time.specs.Joint.{joint, joint_above};
+ghost use Rattle.tsc_time.specs.Time.{zero_time, later};
+ghost use Rattle.tsc_span.specs.Span.{KeyBytes, Interval, is_empty_span, overlaps, end_keys};
 ghost use Rattle.tsc_page.specs.Page.{PageMarks, Mark, empty_page, with_mark, top, values_on, marked_keys, count_distinct, has_room};
-ghost use Rattle.tsc_page.specs.PageView.{StandsFor, answer, has_room_for};
+ghost use Rattle.tsc_page.specs.PageView.{StandsFor, answer, is_in, has_room_for};
 
 use crate::nodes::Nodes;
 use std::alloc::Global;
@@ -62,14 +62,21 @@ impl Page {
         self.nodes.len() + new <= self.page_nodes as usize
     }
 
-    /// Adds a span with its value. It costs a copy of each end key that is new to the page, a search for
-    /// each end, a move of the nodes above a new one, and a step for each node within the span.
+    /// Adds a span with its value. The span is not empty, and the page has room for it. Where memory is
+    /// refused the page is as before.
+    ///
+    /// It costs a few searches, a copy of each end key that is new to the page, a move of the nodes above a
+    /// new one, and of all where the list has to grow, and a step for each node within the span.
     pub fn add(&mut self, span: &Span, value: Value) -> Result<(), NoMemory>
         requires not_empty { is_empty_span span.now ≡ false }
         requires room { has_room_for self.old span.now ≡ true }
         ensures stands { OnOk result ((p : PageMarks) → StandsFor self.old p
             → StandsFor self.new (with_mark p (record { span = span.now; value = value }))) }
         ensures limit { self.new.page_nodes ≡ self.old.page_nodes }
+        ensures top { OnOk result (self.new.top ≡ later self.old.top value.time) }
+        ensures keys { OnOk result ((k : KeyBytes) → is_in k self.new.keys ≡ (is_in k self.old.keys || is_in k (end_keys span.now))) }
+        ensures answers { OnOk result ((s : Interval) → answer self.new s
+            ≡ (if overlaps span.now s then joint (answer self.old s) (value ∷ []) else answer self.old s)) }
         ensures unchanged { OnErr result (self.new ≡ self.old) }
     {
         let Some((from, to)) = span.cuts() else {
@@ -82,8 +89,8 @@ impl Page {
         Ok(())
     }
 
-    /// The joint value of all that was added and overlaps a span, or time zero without an owner. It costs
-    /// a search for each end, and a step for each node within the span.
+    /// The joint value of time zero without an owner and of all that was added and overlaps the span. It
+    /// costs a few searches, and a step for each node within the span.
     pub fn lookup(&self, span: &Span) -> Value
         ensures value { result ≡ answer self.now span.now }
         ensures stands { (p : PageMarks) → StandsFor self.now p → result ≡ joint_above zero_time (values_on span.now p.marks) }
@@ -114,6 +121,7 @@ impl Page {
     /// A copy of the page. It takes as much memory as the page's keys and nodes.
     pub fn try_copy(&self) -> Result<Page, NoMemory>
         ensures value { IfOk result (λ copy. copy ≡ self.now) }
+        ensures stands { IfOk result (λ copy. (p : PageMarks) → StandsFor self.now p → StandsFor copy p) }
     {
         Ok(Page {
             page_nodes: self.page_nodes,

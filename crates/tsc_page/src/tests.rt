@@ -48,8 +48,20 @@ fn answers(alloc: Global, page: &Page, looks: &[Mark]) -> Result<bool, Fail> {
     Ok(true)
 }
 
-/// Adds all of these. Where a growth is refused the page is as before, and the same call then succeeds.
+/// Adds all of these, and says whether none was empty and all had room.
 fn add(alloc: Global, page: &mut Page, marks: &[Mark]) -> Result<bool, Fail> {
+    for (text, wall, owner) in marks {
+        let span = span(alloc, text)?;
+        if span.is_empty() || !page.room(&span) {
+            return Ok(false);
+        }
+        page.add(&span, value(*wall, *owner)?)?;
+    }
+    Ok(true)
+}
+
+/// Adds all of these. Where a growth is refused the page is as before, and the same call then succeeds.
+fn add_again(alloc: Global, page: &mut Page, marks: &[Mark]) -> Result<bool, Fail> {
     for (text, wall, owner) in marks {
         let span = span(alloc, text)?;
         if span.is_empty() || !page.room(&span) {
@@ -66,10 +78,10 @@ fn add(alloc: Global, page: &mut Page, marks: &[Mark]) -> Result<bool, Fail> {
     Ok(true)
 }
 
-/// An empty page with its base at time zero.
-fn page(alloc: Global, page_nodes: u32) -> Result<Page, Fail> {
+/// An empty page with this base.
+fn page(alloc: Global, page_nodes: u32, base: u64) -> Result<Page, Fail> {
     let page_nodes = page_nodes.clamp(2, 65536);
-    Ok(Page::new(alloc, page_nodes, Timestamp::ZERO)?)
+    Ok(Page::new(alloc, page_nodes, value(base, NOBODY)?.time())?)
 }
 
 #[test]
@@ -84,7 +96,7 @@ fn an_empty_page(rt: HostRuntime) -> Result<(), Fail> {
 
 #[test]
 fn a_range_takes_a_node_for_each_end(rt: HostRuntime) -> Result<(), Fail> {
-    let mut page = page(rt.alloc(), 4)?;
+    let mut page = page(rt.alloc(), 4, 7)?;
     assert!(rt; add(rt.alloc(), &mut page, &[(b"[a,c)", 20, FIRST)])?);
     assert_eq!(rt; (page.nodes(), page.top()), (2, value(20, NOBODY)?.time()));
     assert!(rt; add(rt.alloc(), &mut page, &[(b"b", 10, SECOND)])?);
@@ -97,7 +109,7 @@ fn a_range_takes_a_node_for_each_end(rt: HostRuntime) -> Result<(), Fail> {
 
 #[test]
 fn a_copy_goes_its_own_way(rt: HostRuntime) -> Result<(), Fail> {
-    let mut page = page(rt.alloc(), 4)?;
+    let mut page = page(rt.alloc(), 4, 7)?;
     assert!(rt;
         add(
             rt.alloc(),
@@ -115,7 +127,7 @@ fn a_copy_goes_its_own_way(rt: HostRuntime) -> Result<(), Fail> {
 
 #[test]
 fn a_new_node_takes_the_value_of_its_gap(rt: HostRuntime) -> Result<(), Fail> {
-    let mut page = page(rt.alloc(), 8)?;
+    let mut page = page(rt.alloc(), 8, 0)?;
     let marks: [Mark; 3] = [
         (b"[a,e)", 20, FIRST),
         (b"c", 10, SECOND),
@@ -124,10 +136,10 @@ fn a_new_node_takes_the_value_of_its_gap(rt: HostRuntime) -> Result<(), Fail> {
     for (i, nodes) in [2, 3, 3].into_iter().enumerate() {
         assert!(rt; add(rt.alloc(), &mut page, &marks[i..i + 1])?);
         assert_eq!(rt; page.nodes(), nodes);
+        assert!(rt; answers(rt.alloc(), &page, &[(b"c", 20, FIRST)])?);
     }
-    let looks: [Mark; 5] = [
+    let looks: [Mark; 4] = [
         (b"(a,c)", 20, FIRST),
-        (b"c", 20, FIRST),
         (b"d", 20, NOBODY),
         (b"(c,e)", 20, NOBODY),
         (b"e", 0, NOBODY),
@@ -138,7 +150,7 @@ fn a_new_node_takes_the_value_of_its_gap(rt: HostRuntime) -> Result<(), Fail> {
 
 #[test]
 fn known_keys_need_no_room(rt: HostRuntime) -> Result<(), Fail> {
-    let mut page = page(rt.alloc(), 2)?;
+    let mut page = page(rt.alloc(), 2, 0)?;
     assert!(rt; add(rt.alloc(), &mut page, &[(b"[a,c)", 20, FIRST)])?);
     for (text, has_room) in [(b"[c,".as_slice(), true), (b"(a,a)", true), (b"b", false)] {
         assert_eq!(rt; page.room(&span(rt.alloc(), text)?), has_room);
@@ -148,7 +160,7 @@ fn known_keys_need_no_room(rt: HostRuntime) -> Result<(), Fail> {
 
 #[test]
 fn owners_that_differ_are_lost(rt: HostRuntime) -> Result<(), Fail> {
-    let mut page = page(rt.alloc(), 4)?;
+    let mut page = page(rt.alloc(), 4, 0)?;
     assert!(rt;
         add(
             rt.alloc(),
@@ -168,7 +180,7 @@ fn owners_that_differ_are_lost(rt: HostRuntime) -> Result<(), Fail> {
 
 #[test]
 fn excluded_ends_stay_as_they_are(rt: HostRuntime) -> Result<(), Fail> {
-    let mut page = page(rt.alloc(), 4)?;
+    let mut page = page(rt.alloc(), 4, 0)?;
     assert!(rt; add(rt.alloc(), &mut page, &[(b"(a,c)", 20, FIRST)])?);
     let looks: [Mark; 4] = [
         (b"a", 0, NOBODY),
@@ -188,11 +200,13 @@ fn a_gap_without_keys_has_a_value(rt: HostRuntime) -> Result<(), Fail> {
         exclude_to: true,
     };
     let gap = Span::range(from, to, ends)?;
-    let mut page = page(rt.alloc(), 4)?;
+    let mut page = page(rt.alloc(), 4, 0)?;
     if !gap.is_empty() && page.room(&gap) {
         page.add(&gap, value(20, FIRST)?)?;
     }
     assert_eq!(rt; page.lookup(&gap), value(20, FIRST)?);
+    let next = Span::point(Key::new(rt.alloc(), b"a\x00")?);
+    assert_eq!(rt; page.lookup(&next), value(0, NOBODY)?);
     assert!(rt;
         answers(
             rt.alloc(),
@@ -205,7 +219,7 @@ fn a_gap_without_keys_has_a_value(rt: HostRuntime) -> Result<(), Fail> {
 
 #[test]
 fn a_span_without_end(rt: HostRuntime) -> Result<(), Fail> {
-    let mut page = page(rt.alloc(), 4)?;
+    let mut page = page(rt.alloc(), 4, 0)?;
     assert!(rt; add(rt.alloc(), &mut page, &[(b"[m,", 20, FIRST)])?);
     assert_eq!(rt; page.nodes(), 1);
     let looks: [Mark; 6] = [
@@ -217,5 +231,27 @@ fn a_span_without_end(rt: HostRuntime) -> Result<(), Fail> {
         (b"[a,m)", 0, NOBODY),
     ];
     assert!(rt; answers(rt.alloc(), &page, &looks)?);
+    Ok(())
+}
+
+#[test]
+fn a_refused_add_changes_nothing(rt: HostRuntime) -> Result<(), Fail> {
+    let mut page = page(rt.alloc(), 8, 7)?;
+    let marks: [Mark; 4] = [
+        (b"[a,c)", 20, FIRST),
+        (b"b", 10, SECOND),
+        (b"(c,e]", 30, SECOND),
+        (b"[d,", 20, FIRST),
+    ];
+    assert!(rt; add_again(rt.alloc(), &mut page, &marks)?);
+    let looks: [Mark; 5] = [
+        (b"a", 20, FIRST),
+        (b"b", 20, FIRST),
+        (b"c", 0, NOBODY),
+        (b"d", 30, SECOND),
+        (b"f", 20, FIRST),
+    ];
+    assert!(rt; answers(rt.alloc(), &page, &looks)?);
+    assert_eq!(rt; page.nodes(), 5);
     Ok(())
 }

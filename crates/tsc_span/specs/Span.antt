@@ -17,7 +17,7 @@ longest_key = 4096
 abbrev pub fits_key : KeyBytes → Bool
 fits_key k = nat_le (length k) longest_key
 
--- the order of keys: byte by byte, a key after each of its beginnings
+-- the order of keys: byte by byte, a key after each shorter beginning
 abbrev pub key_cmp : KeyBytes → KeyBytes → Ordering
 key_cmp k m = slice_cmp nat_cmp k m
 
@@ -27,7 +27,7 @@ pub data Cut : Type 0 where
   after : KeyBytes → Cut
   last : Cut
 
--- The order of cuts: by their keys, and before a key stands below after it. The last cut stands above all others.
+-- The order of cuts: by their keys, and the place before a key stands below the place after it. The last cut stands above all others.
 abbrev pub cut_cmp : Cut → Cut → Ordering
 cut_cmp (before k) (before m) = key_cmp k m
 cut_cmp (before k) (after m) = ordering_then (key_cmp k m) Less
@@ -111,7 +111,7 @@ overlaps nothing t = false
 overlaps (between from to) nothing = false
 overlaps (between from to) (between first end) = is_below (greater_cut from first) (smaller_cut to end)
 
--- the key of a cut, but of the last one
+-- the key of a cut; the last cut has none
 abbrev pub key_of_cut : Cut → Option KeyBytes
 key_of_cut (before k) = Some k
 key_of_cut (after k) = Some k
@@ -124,7 +124,7 @@ different_keys None (Some m) = m ∷ []
 different_keys (Some k) None = k ∷ []
 different_keys (Some k) (Some m) = if bytes_eq k m then k ∷ [] else k ∷ m ∷ []
 
--- the different keys of a span's cuts, which are what it costs on a page
+-- the different keys of a span's cuts, for which it needs nodes on a page
 abbrev pub end_keys : Interval → List KeyBytes
 end_keys nothing = []
 end_keys (between from to) = different_keys (key_of_cut from) (key_of_cut to)

@@ -16,7 +16,7 @@ const LONGEST_KEY: usize = 4096;
 
 /// A key: a text of 0 to 4096 bytes. The empty key is the least.
 ///
-/// Keys are ordered byte by byte, and a key comes after each of its beginnings. A comparison costs as
+/// Keys are ordered byte by byte, and a key comes after each shorter beginning. A comparison costs as
 /// much as the bytes that two keys share at their beginning.
 #[derive(Debug, Drop)]
 pub struct Key {
@@ -35,8 +35,8 @@ impl Model for Key {
 }
 
 impl Key {
-    /// A copy of `bytes` as a key. It takes as much memory as there are bytes, and asks for none where
-    /// they are too many.
+    /// A copy of `bytes` as a key; more than 4096 bytes are [`SpanFault::KeyTooLong`]. It takes as much
+    /// memory as there are bytes, and asks for none where they are too many.
     pub fn new(alloc: Global, bytes: &[u8]) -> Result<Key, SpanFault>
         ensures value { IfOk result (λ key. key ≡ bytes.now) }
         ensures refused { IsErrOf result SpanFault.KeyTooLong ↔ (longest_key < length bytes.now) }

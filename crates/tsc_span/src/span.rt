@@ -12,7 +12,8 @@ use std::marker::Model;
 use tsc_time::NoMemory;
 
 /// Which ends of a range are excluded, as `rangeOptions` of CockroachDB's
-/// `pkg/kv/kvserver/tscache/interval_skl.go` says it.
+/// `pkg/kv/kvserver/tscache/interval_skl.go` says it. Two equal keys are the single key, unless both are
+/// excluded.
 #[derive(Clone, Copy, Debug, PartialEq, Eq)]
 pub struct Ends {
     /// The first key is no part of the range.
@@ -75,7 +76,7 @@ impl Span {
         }
     }
 
-    /// All keys from one on. There is no end.
+    /// All keys from one on, that key itself among them unless it is excluded. There is no end.
     pub fn onward(from: Key, exclude_from: bool) -> Span
         ensures { result ≡ onward from exclude_from }
     {
@@ -113,7 +114,8 @@ impl Span {
         }
     }
 
-    /// Whether the span is empty. A span between two neighbouring keys holds no key, and is not.
+    /// Whether the span is empty. The span between two neighbouring
+    /// keys, both excluded, holds no key, and is not.
     pub fn is_empty(&self) -> bool
         ensures { result ≡ is_empty_span self.now }
     {
@@ -141,7 +143,7 @@ impl Span {
         }
     }
 
-    /// Whether two spans overlap: both begin before either stops. It compares four pairs of keys at the
+    /// Whether two spans overlap: both begin before either stops. It compares three pairs of keys at the
     /// most.
     ///
     /// No key need lie in what they share: the span between `a` and the next key after it, both excluded,
