@@ -79,3 +79,9 @@ fault_text NoMemory = codes "out of memory"
 -- A fault was told by one line, or the writer to tell it on gave up.
 abbrev pub Tells : ReplayFault → Option (List ℕ) → Option (List ℕ) → Bool → ℕ → Type 0
 Tells fault old new failed turns_left = Appends old new (fault_text fault ++ line_feed ∷ []) ⊎ GaveUp failed turns_left
+
+-- A fault with this exit status was told.
+pub record TellsOf (status : ℕ) (old new : Option (List ℕ)) (failed : Bool) (turns_left : ℕ) : Type 0 where
+  pub fault : ReplayFault
+  pub is_status : status ≡ status_of fault
+  pub told : Tells fault old new failed turns_left

@@ -5,9 +5,10 @@
 //! and 5 where a growth was refused. A fault is one line on standard error.
 #![tactic(auto)]
 
-ghost use Rattle.std.specs.Prelude.{◌≡◌, ◌⊎◌, ◌∷◌, [], ◌++◌, IfErr};
+ghost use Rattle.std.specs.Prelude.{◌≡◌, ◌≢◌, ◌⊎◌, ◌↔◌, ◌∷◌, [], ◌++◌, IfErr};
 ghost use Rattle.std.specs.Io.KnownBytes.{Appends};
 ghost use Rattle.tscache.specs.LogText.{line_feed};
+ghost use Rattle.tscache.specs.Replay.{TellsOf};
 ghost use Rattle.tscache.specs.Stream.{GaveUp};
 ghost use Rattle.tscache.specs.Words.{refusal_text};
 
@@ -51,11 +52,21 @@ fn read_words<R: Env + AllocGlobal>(rt: &R) -> Result<Asked, u8>
 {
     let arguments = match env::args(rt) {
         Ok(arguments) => arguments,
-        Err(error) if error.kind() == ErrorKind::OutOfMemory => return Err(NO_MEMORY),
-        Err(_) => return Err(WRONG_WORDS),
+        Err(error) => return Err(status_of_unread(error.kind())),
     };
     let all: Vec<String> = arguments.collect(rt.alloc()).map_err(|_| NO_MEMORY)?;
     words::words(rt.alloc(), &all)
+}
+
+/// The exit status where the words cannot be read for an error of this kind.
+fn status_of_unread(kind: ErrorKind) -> u8
+    ensures memory { (result ≡ 5) ↔ (kind ≡ ErrorKind.OutOfMemory) }
+    ensures other { (result ≡ 5) ⊎ (result ≡ 2) }
+{
+    match kind {
+        ErrorKind::OutOfMemory => NO_MEMORY,
+        _ => WRONG_WORDS,
+    }
 }
 
 /// Tells why the words asked for nothing, where that can be written.
@@ -74,17 +85,33 @@ fn tell_words<E: Sink>(errors: &mut E, status: u8)
 
 /// Replays the trace in a file to standard output, and gives the exit status.
 fn replay_file<R: Files + Print + AllocGlobal, E: Sink>(rt: &R, errors: &mut E, file: &str) -> u8
-    ensures { (result ≡ 0) ⊎ ((result ≡ 1) ⊎ ((result ≡ 4) ⊎ (result ≡ 5))) }
+    ensures status { (result ≡ 0) ⊎ ((result ≡ 1) ⊎ ((result ≡ 4) ⊎ (result ≡ 5))) }
+    // Nothing is told of a replay, and of all else a fault with the status that is given.
+    ensures told { ((result ≡ 0) × (errors.new ≡ errors.old))
+        ⊎ TellsOf result (E.contents errors.old) (E.contents errors.new)
+        (E.has_failed errors.new) (E.turns_left errors.new) }
 {
-    let fault = match fs::open(rt, file) {
+    match fs::open(rt, file) {
         Ok(trace) => {
             let mut reader = Metered::new(trace);
             let mut writer = Metered::new(io::writer(rt));
-            return replay_command(rt.alloc(), &mut reader, &mut writer, errors);
+            replay_command(rt.alloc(), &mut reader, &mut writer, errors)
         }
-        Err(error) if error.kind() == ErrorKind::OutOfMemory => ReplayFault::NoMemory,
-        Err(_) => ReplayFault::Read,
-    };
-    tell(errors, fault);
-    status_of(fault)
+        Err(error) => {
+            let fault = fault_of_open(error.kind());
+            tell(errors, fault);
+            status_of(fault)
+        }
+    }
+}
+
+/// How a replay ends where its file cannot be opened for an error of this kind.
+fn fault_of_open(kind: ErrorKind) -> ReplayFault
+    ensures memory { kind ≡ ErrorKind.OutOfMemory → result ≡ ReplayFault.NoMemory }
+    ensures other { kind ≢ ErrorKind.OutOfMemory → result ≡ ReplayFault.Read }
+{
+    match kind {
+        ErrorKind::OutOfMemory => ReplayFault::NoMemory,
+        _ => ReplayFault::Read,
+    }
 }

@@ -2,7 +2,7 @@
 ghost use Rattle.std.specs.Prelude.{◌≡◌, ◌≢◌, ◌⊎◌, ◌∷◌, [], ◌++◌, false, Some, IfOk, IfErr, IsErrOf, OnOk, OnErr};
 ghost use Rattle.std.specs.Io.KnownBytes.{Appends};
 ghost use Rattle.tscache.specs.LogText.{line_feed};
-ghost use Rattle.tscache.specs.Replay.{Replays, ReplaysPrefix, ReplaysTo, Refuses, Tells, fault_of_input, fault_of_trace, fault_text, status_of};
+ghost use Rattle.tscache.specs.Replay.{Replays, ReplaysPrefix, ReplaysTo, Refuses, Tells, TellsOf, fault_of_input, fault_of_trace, fault_text, status_of};
 ghost use Rattle.tscache.specs.Stream.{GaveUp, HasReadTooMuch, IsFresh};
 ghost use Rattle.tscache.specs.declared.replay.ReplayFault.TheVariants.{NoMemory};
 
@@ -166,6 +166,10 @@ pub fn replay_command<R: Source, W: Sink, E: Sink>(
     ensures memory { result ≡ 5 → Tells ReplayFault.NoMemory (E.contents errors.old)
         (E.contents errors.new) (E.has_failed errors.new) (E.turns_left errors.new) }
     ensures silent { (result ≡ 1) ⊎ (result ≡ 5) → writer.new ≡ writer.old }
+    // Nothing is told of a replay, and of all else a fault with the status that is given.
+    ensures told { ((result ≡ 0) × (errors.new ≡ errors.old))
+        ⊎ TellsOf result (E.contents errors.old) (E.contents errors.new)
+        (E.has_failed errors.new) (E.turns_left errors.new) }
     // No failed call is passed over.
     ensures failed_read { (R.has_failed reader.new ≡ R.has_failed reader.old) ⊎ (result ≡ 4) }
     ensures failed_write { (W.has_failed writer.new ≡ W.has_failed writer.old) ⊎ (result ≡ 4) }

@@ -1,4 +1,4 @@
-use Rattle.std.proofs.Common.{Err, sym, ap, subst, ◌∙◌}
+use Rattle.std.proofs.Common.{Err, inr, sym, ap, subst, ◌∙◌}
 use Rattle.tscache.specs.Replay.{Tells}
 use Rattle.tscache.specs.declared.replay.ReplayFault.{ReplayFault}
 use Rattle.tscache.proofs.Statuses.{refused_of_status, failed_of_status, memory_of_status}
@@ -23,3 +23,6 @@ pub returns-in-Err-clause-memory : goal.returns-in-Err-clause-memory
 returns-in-Err-clause-memory g c = λ five.
     let told : ReplayFault → Type 0 = λ f. Tells f (g.E.Sink.contents c.args.errors.now) (g.E.Sink.contents c.tell.new.errors) (g.E.Sink.has_failed c.tell.new.errors) (g.E.Sink.turns_left c.tell.new.errors) in
     memory_of_status c.in-Err.fault told (λ t. t) (sym c.status_of.ensures ∙ five) c.tell.ensures
+
+pub returns-in-Err-clause-told : goal.returns-in-Err-clause-told
+returns-in-Err-clause-told g c = inr (record { fault = c.in-Err.fault; is_status = c.status_of.ensures; told = c.tell.ensures })
