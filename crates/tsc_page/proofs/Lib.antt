@@ -13,3 +13,4 @@ pub mod NewKeys
 pub mod Lookups
 pub mod Ends
 pub mod Standing
+pub mod PlainMarks

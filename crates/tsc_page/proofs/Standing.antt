@@ -159,7 +159,7 @@ later-chain a b c = elim (later-tells a b) [
 ]
 
 -- the latest of a list with one more
-latest-push : (t : Time) (vs : List OwnedTime) (w : OwnedTime) → latest t (vs ++ w ∷ []) ≡ later (latest t vs) w.time
+pub latest-push : (t : Time) (vs : List OwnedTime) (w : OwnedTime) → latest t (vs ++ w ∷ []) ≡ later (latest t vs) w.time
 latest-push t [] w = later-swap w.time t
 latest-push t (v ∷ vs) w = ap (later v.time) (latest-push t vs w) ∙ later-chain v.time (latest t vs) w.time
 

@@ -33,6 +33,10 @@ pub record StandsFor (v : PageView) (p : PageMarks) : Type 0 where
 abbrev pub has_room_for : PageView → Interval → Bool
 has_room_for v span = nat_le (count_distinct (v.keys ++ end_keys span)) v.page_nodes
 
+-- what can be seen of a page that keeps the list itself
+abbrev pub view_of : ℕ → PageMarks → PageView
+view_of page_nodes p = record { page_nodes = page_nodes; top = top p; keys = marked_keys p.marks; spans = p.marks }
+
 -- whether this is a key, and not in a list
 abbrev pub is_new_among : List KeyBytes → Option KeyBytes → Bool
 is_new_among ks None = false

@@ -9,12 +9,16 @@
 //! So a lookup joins the values of the keys and gaps that its span overlaps, however many spans were
 //! added there. It restates a page of CockroachDB's `pkg/kv/kvserver/tscache/interval_skl.go`, whose nodes
 //! stand in a skiplist.
+//!
+//! A [`PlainPage`] is the same thing as the list of what was added: slow, and easy to believe.
 #![tactic(auto)]
 
 mod node;
 mod nodes;
 mod page;
+mod plain;
 #[cfg(test)]
 mod tests;
 
 pub use page::Page;
+pub use plain::PlainPage;

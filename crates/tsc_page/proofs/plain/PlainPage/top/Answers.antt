@@ -1,0 +1,18 @@
+-- The next mark's time is the latest one so far, or below it.
+use Rattle.std.proofs.Common.{◌≡◌, ◌∙◌, sym, ap, List, take, get_or, map}
+use Rattle.std.specs.Ordering.{ord_max}
+use Rattle.tsc_time.specs.Time.{Time, time_cmp, later}
+use Rattle.tsc_time.specs.Joint.{latest}
+use Rattle.tsc_page.specs.Page.{Mark}
+use Rattle.tsc_page.proofs.Standing.{later-max}
+use Rattle.tsc_page.proofs.PlainMarks.{latest_more}
+use Rattle.tsc_page.proofs.plain.PlainPage.top.Goals as goal
+
+pub loop-mark-preserved : goal.loop-mark-preserved
+loop-mark-preserved c =
+    let marks : List Mark = c.deref-mark-items.result.now in
+    let next : Time = (get_or marks c.loop-mark.mark-index c.mark-item.result).value.time in
+    let at = ap (λ (m : Mark). m.value.time) (c.mark.view_is ∙ c.mark-item.is) in
+    c.max-top.ensures ∙ ap (ord_max time_cmp c.loop-mark.top) (c.time.ensures ∙ at) ∙ later-max c.loop-mark.top next
+    ∙ ap (λ (t : Time). later t next) c.loop-mark.invariant
+    ∙ sym (latest_more c.self.inside.base marks c.loop-mark.mark-index c.mark-item.result c.loop-mark-test.true)

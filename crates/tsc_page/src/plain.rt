@@ -1,0 +1,171 @@
+ghost use Rattle.std.specs.Prelude.{◌≡◌, ◌≤◌, ◌||◌, ◌∷◌, [], true, false, IfOk, OnOk, OnErr, option_map, if◌then◌else◌};
+ghost use Rattle.tsc_time.specs.Joint.{joint, joint_above};
+ghost use Rattle.tsc_time.specs.Time.{zero_time, later};
+ghost use Rattle.tsc_span.specs.Span.{KeyBytes, Interval, is_empty_span, overlaps, end_keys};
+ghost use Rattle.tsc_page.specs.Page.{PageMarks, Mark, empty_page, with_mark, top, values_on, marked_keys, count_distinct, has_room};
+ghost use Rattle.tsc_page.specs.PageView.{StandsFor, answer, is_in, has_room_for, is_new_among};
+
+use std::alloc::Global;
+use std::marker::Model;
+use tsc_span::{Key, Span};
+use tsc_time::{NoMemory, Timestamp, Value, ratchet};
+
+/// A page as the plain list of what was added to it.
+///
+/// It makes the same promises as [`Page`](crate::Page), word for word, and each of its calls looks at all
+/// that was added.
+#[derive(Debug, Drop)]
+pub struct PlainPage {
+    page_nodes: u32,
+    base: Timestamp,
+    marks: Vec<PlainMark>,
+}
+
+impl Model for PlainPage {
+    ghost use Rattle.std.specs.Prelude.{◌≤◌};
+    ghost use Rattle.tsc_page.specs.Page.{count_distinct, marked_keys};
+    ghost use Rattle.tsc_page.specs.PageView.{PageView, view_of};
+
+    ghost Value = { PageView };
+
+    ghost view = { λ p. view_of p.page_nodes (record { base = p.base; marks = p.marks.items }) };
+
+    ghost invariant = { λ p. (count_distinct (marked_keys p.marks.items) ≤ p.page_nodes) × (p.page_nodes ≤ 65536) };
+}
+
+/// A span with the value that was added to it.
+#[derive(Debug, Drop)]
+struct PlainMark {
+    span: Span,
+    value: Value,
+}
+
+impl Model for PlainMark {
+    ghost use Rattle.tsc_page.specs.Page.{Mark};
+
+    ghost Value = { Mark };
+
+    ghost view = { λ m. record { span = m.span; value = m.value } };
+}
+
+impl PlainPage {
+    /// An empty page, which has room for `page_nodes` different end keys. `base` is the least that its
+    /// top can be.
+    pub fn new(alloc: Global, page_nodes: u32, base: Timestamp) -> Result<PlainPage, NoMemory>
+        requires at_least { 2 ≤ page_nodes }
+        requires at_most { page_nodes ≤ 65536 }
+        ensures stands { IfOk result (λ page. StandsFor page (empty_page base)) }
+        ensures limit { IfOk result (λ page. page.page_nodes ≡ page_nodes) }
+        ensures room { IfOk result (λ page. (span : Interval) → has_room_for page span ≡ true) }
+    {
+        Ok(PlainPage {
+            page_nodes,
+            base,
+            marks: Vec::new(alloc),
+        })
+    }
+
+    /// Whether the page has room for a span: whether the end keys of all that was added and of the span,
+    /// counted without repeats, are no more than it may hold.
+    pub fn room(&self, span: &Span) -> bool
+        ensures value { result ≡ has_room_for self.now span.now }
+        ensures stands { (p : PageMarks) → StandsFor self.now p → result ≡ has_room self.now.page_nodes p span.now }
+    {
+        let marks = self.marks.as_slice();
+        let (first, second) = span.end_keys();
+        let new = usize::from(is_new(first, marks)) + usize::from(is_new(second, marks));
+        count_keys(marks) + new <= self.page_nodes as usize
+    }
+
+    /// Adds a span with its value. It costs a copy of the span.
+    pub fn add(&mut self, span: &Span, value: Value) -> Result<(), NoMemory>
+        requires not_empty { is_empty_span span.now ≡ false }
+        requires room { has_room_for self.old span.now ≡ true }
+        ensures stands { OnOk result ((p : PageMarks) → StandsFor self.old p
+            → StandsFor self.new (with_mark p (record { span = span.now; value = value }))) }
+        ensures limit { self.new.page_nodes ≡ self.old.page_nodes }
+        ensures top { OnOk result (self.new.top ≡ later self.old.top value.time) }
+        ensures keys { OnOk result ((k : KeyBytes) → is_in k self.new.keys ≡ (is_in k self.old.keys || is_in k (end_keys span.now))) }
+        ensures answers { OnOk result ((s : Interval) → answer self.new s
+            ≡ (if overlaps span.now s then joint (answer self.old s) (value ∷ []) else answer self.old s)) }
+        ensures unchanged { OnErr result (self.new ≡ self.old) }
+    {
+        let span = span.try_copy()?;
+        self.marks.push(PlainMark { span, value })?;
+        Ok(())
+    }
+
+    /// The joint value of all that was added and overlaps a span, or time zero without an owner.
+    pub fn lookup(&self, span: &Span) -> Value
+        ensures value { result ≡ answer self.now span.now }
+        ensures stands { (p : PageMarks) → StandsFor self.now p → result ≡ joint_above zero_time (values_on span.now p.marks) }
+    {
+        let mut best = Value::unowned(Timestamp::ZERO);
+        for mark in &self.marks {
+            if mark.span.overlaps(span) {
+                best = ratchet(best, mark.value).0;
+            }
+        }
+        best
+    }
+
+    /// The greatest of the base and of the times that were added.
+    pub fn top(&self) -> Timestamp
+        ensures value { result ≡ self.now.top }
+        ensures stands { (p : PageMarks) → StandsFor self.now p → result ≡ top p }
+    {
+        let mut top = self.base;
+        for mark in &self.marks {
+            top = top.max(mark.value.time());
+        }
+        top
+    }
+
+    /// How many different end keys the page holds.
+    pub fn nodes(&self) -> u32
+        ensures value { result ≡ count_distinct self.now.keys }
+        ensures stands { (p : PageMarks) → StandsFor self.now p → result ≡ count_distinct (marked_keys p.marks) }
+        ensures limit { result ≤ self.now.page_nodes }
+    {
+        count_keys(self.marks.as_slice()) as u32
+    }
+}
+
+/// Whether a key is an end key of a span.
+fn is_end(key: &Key, span: &Span) -> bool
+    ensures { result ≡ is_in key.now (end_keys span.now) }
+{
+    match span.end_keys() {
+        (Some(first), Some(second)) => key == first || key == second,
+        (Some(only), None) | (None, Some(only)) => key == only,
+        (None, None) => false,
+    }
+}
+
+/// Whether this is a key, and no end key of a list.
+fn is_new(key: Option<&Key>, marks: &[PlainMark]) -> bool
+    ensures { result ≡ is_new_among (marked_keys marks.now) (option_map (λ k. k.now) key.entry) }
+{
+    let Some(key) = key else { return false };
+    for mark in marks {
+        if is_end(key, &mark.span) {
+            return false;
+        }
+    }
+    true
+}
+
+/// How many different end keys a list has. It compares each with all later ones.
+fn count_keys(marks: &[PlainMark]) -> usize
+    requires { count_distinct (marked_keys marks.now) ≤ 65536 }
+    ensures { result ≡ count_distinct (marked_keys marks.now) }
+{
+    let mut count = 0;
+    let mut rest = marks;
+    while let Some((mark, later)) = rest.split_first() {
+        let (first, second) = mark.span.end_keys();
+        count += usize::from(is_new(first, later)) + usize::from(is_new(second, later));
+        rest = later;
+    }
+    count
+}
