@@ -70,5 +70,5 @@ pub next_counted : (count total : ℕ) (rest later_marks : List Mark) (m : Mark)
 next_counted count total rest later_marks m o p is ends so_far =
     let once = subst (λ ks. has_no_repeats ks ≡ true) (sym ends) (end_keys_once m.span) in
     let more : count_distinct (marked_keys rest) ≡ one_if (is_new_among (marked_keys later_marks) o) + one_if (is_new_among (marked_keys later_marks) p) + count_distinct (marked_keys later_marks) =
-        ap (λ ms. count_distinct (marked_keys ms)) is ∙ ap (λ ks. count_distinct (ks ++ marked_keys later_marks)) (sym ends) ∙ count_before (marked_keys later_marks) o p once in
+    ap (λ ms. count_distinct (marked_keys ms)) is ∙ ap (λ ks. count_distinct (ks ++ marked_keys later_marks)) (sym ends) ∙ count_before (marked_keys later_marks) o p once in
     omega (arith, more, so_far)

@@ -129,6 +129,33 @@ impl PlainPage {
     {
         count_keys(self.marks.as_slice()) as u32
     }
+
+    /// A copy of the page. It takes as much memory as all that was added.
+    pub fn try_copy(&self) -> Result<PlainPage, NoMemory>
+        ensures value { IfOk result (λ copy. copy ≡ self.now) }
+        ensures stands { IfOk result (λ copy. (p : PageMarks) → StandsFor self.now p → StandsFor copy p) }
+    {
+        let mut marks = Vec::with_capacity(*self.marks.allocator(), self.marks.len())?;
+        for mark in &self.marks {
+            marks.push(mark.try_copy()?)?;
+        }
+        Ok(PlainPage {
+            page_nodes: self.page_nodes,
+            base: self.base,
+            marks,
+        })
+    }
+}
+
+impl PlainMark {
+    fn try_copy(&self) -> Result<PlainMark, NoMemory>
+        ensures { IfOk result (λ copy. copy ≡ self.now) }
+    {
+        Ok(PlainMark {
+            span: self.span.try_copy()?,
+            value: self.value,
+        })
+    }
 }
 
 /// Whether a key is an end key of a span.

@@ -1,4 +1,4 @@
-use crate::Page;
+use crate::{Page, PlainPage};
 use std::alloc::Global;
 use std::test::Fail;
 use tsc_span::{Ends, Key, Span};
@@ -253,5 +253,73 @@ fn a_refused_add_changes_nothing(rt: HostRuntime) -> Result<(), Fail> {
     ];
     assert!(rt; answers(rt.alloc(), &page, &looks)?);
     assert_eq!(rt; page.nodes(), 5);
+    Ok(())
+}
+
+/// Whether both pages answer alike to a span.
+fn agree(page: &Page, plain: &PlainPage, span: &Span) -> bool {
+    page.lookup(span) == plain.lookup(span) && page.room(span) == plain.room(span)
+}
+
+/// Whether both pages answer alike to each span over these keys.
+fn agree_on(alloc: Global, page: &Page, plain: &PlainPage, keys: &[u8]) -> Result<bool, Fail> {
+    let mut alike = page.top() == plain.top() && page.nodes() == plain.nodes();
+    for from in keys.windows(1) {
+        for exclude_from in [false, true] {
+            let onward = Span::onward(Key::new(alloc, from)?, exclude_from);
+            alike &= agree(page, plain, &onward);
+            for to in keys.windows(1) {
+                for exclude_to in [false, true] {
+                    let ends = Ends {
+                        exclude_from,
+                        exclude_to,
+                    };
+                    let (from, to) = (Key::new(alloc, from)?, Key::new(alloc, to)?);
+                    alike &= agree(page, plain, &Span::for_lookup(from, to, ends));
+                }
+            }
+        }
+    }
+    Ok(alike)
+}
+
+/// Adds a span to both pages where it is not empty and there is room, and copies both.
+fn add_to_both(
+    page: &mut Page,
+    plain: &mut PlainPage,
+    span: &Span,
+    value: Value,
+) -> Result<(), Fail> {
+    if span.is_empty() || !page.room(span) || !plain.room(span) {
+        return Ok(());
+    }
+    page.add(span, value)?;
+    plain.add(span, value)?;
+    *page = page.try_copy()?;
+    *plain = plain.try_copy()?;
+    Ok(())
+}
+
+#[test]
+fn the_plain_page_answers_alike(rt: HostRuntime) -> Result<(), Fail> {
+    let mut page = page(rt.alloc(), 5, 7)?;
+    let mut plain = PlainPage::new(rt.alloc(), 5, page.top())?;
+    let marks: [Mark; 9] = [
+        (b"[b,d)", 20, FIRST),
+        (b"c", 30, SECOND),
+        (b"(b,f]", 20, SECOND),
+        (b"a", 10, FIRST),
+        (b"(a,a)", 90, FIRST),
+        (b"(c,", 30, FIRST),
+        (b"[a,f]", 25, NOBODY),
+        (b"g", 99, FIRST),
+        (b"[c,c]", 30, SECOND),
+    ];
+    for (text, wall, owner) in marks {
+        let span = span(rt.alloc(), text)?;
+        add_to_both(&mut page, &mut plain, &span, value(wall, owner)?)?;
+        assert!(rt; agree_on(rt.alloc(), &page, &plain, b"abcdefgh")?);
+    }
+    assert_eq!(rt; (page.nodes(), page.top()), (5, value(30, NOBODY)?.time()));
     Ok(())
 }
