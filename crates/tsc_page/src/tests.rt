@@ -179,6 +179,36 @@ fn owners_that_differ_are_lost(rt: HostRuntime) -> Result<(), Fail> {
 }
 
 #[test]
+fn at_one_time_only_a_common_owner_stays(rt: HostRuntime) -> Result<(), Fail> {
+    let cases: [(u128, u128, u128); 4] = [
+        (FIRST, SECOND, NOBODY),
+        (FIRST, FIRST, FIRST),
+        (NOBODY, FIRST, NOBODY),
+        (FIRST, NOBODY, NOBODY),
+    ];
+    for (old, new, left) in cases {
+        let mut page = page(rt.alloc(), 4, 0)?;
+        assert!(rt; add(rt.alloc(), &mut page, &[(b"a", 20, old), (b"a", 20, new)])?);
+        assert!(rt; answers(rt.alloc(), &page, &[(b"a", 20, left)])?);
+    }
+    Ok(())
+}
+
+#[test]
+fn equal_ends_are_the_single_key(rt: HostRuntime) -> Result<(), Fail> {
+    let mut page = page(rt.alloc(), 4, 0)?;
+    assert!(rt; add(rt.alloc(), &mut page, &[(b"[a,a)", 20, FIRST)])?);
+    assert_eq!(rt; page.nodes(), 1);
+    let looks: [Mark; 3] = [
+        (b"a", 20, FIRST),
+        (b"(a,a)", 0, NOBODY),
+        (b"(a,b)", 0, NOBODY),
+    ];
+    assert!(rt; answers(rt.alloc(), &page, &looks)?);
+    Ok(())
+}
+
+#[test]
 fn excluded_ends_stay_as_they_are(rt: HostRuntime) -> Result<(), Fail> {
     let mut page = page(rt.alloc(), 4, 0)?;
     assert!(rt; add(rt.alloc(), &mut page, &[(b"(a,c)", 20, FIRST)])?);
