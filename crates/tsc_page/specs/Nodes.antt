@@ -19,7 +19,7 @@ pub record Stretch : Type 0 where
   pub from : Cut
   pub value : OwnedTime
 
--- the cut at which a stretch stops that has these after it
+-- the cut at which a stretch stops, where these come after it
 abbrev pub next_cut : List Stretch → Cut
 next_cut [] = last
 next_cut (x ∷ xs) = x.from
