@@ -1,6 +1,6 @@
 //! Measures a page of the timestamp cache.
 //!
-//! `bench NODES..` fills a page with each of these numbers of nodes, and then looks up and adds single
+//! `bench NODES..` fills a page with so many nodes, from 64 to 65,536, and then looks up and adds single
 //! keys, and ranges of 16 nodes. It prints how many operations it made and the nanoseconds of one, and
 //! for two sizes and more by how much each grew from the first size to the last. `bench` alone makes a
 //! short run and prints no times.
@@ -19,10 +19,9 @@ fn main(rt: HostRuntime) -> Result<()> {
     let words: Vec<String> = env::args(&rt)?.collect(rt.alloc())?;
     let mut all: Vec<Figures> = Vec::new(rt.alloc());
     for word in words.iter().skip(1) {
-        let nodes: u32 = word.parse()?;
-        let figures = measure(&rt, nodes, TURNS)?;
+        let figures = measure(&rt, word.parse()?, TURNS)?;
         for (name, nanoseconds) in OPERATIONS.into_iter().zip(figures.nanoseconds) {
-            let operations = figures.operations;
+            let (nodes, operations) = (figures.nodes, figures.operations);
             println!(&rt; "{nodes} nodes, {name}: {operations} operations, {nanoseconds} ns each")?;
         }
         all.push(figures)?;
@@ -34,9 +33,9 @@ fn main(rt: HostRuntime) -> Result<()> {
         }
     } else {
         let figures = measure(&rt, 64, 1)?;
-        let operations = figures.operations;
+        let (nodes, operations) = (figures.nodes, figures.operations);
         for name in OPERATIONS {
-            println!(&rt; "64 nodes, {name}: {operations} operations")?;
+            println!(&rt; "{nodes} nodes, {name}: {operations} operations")?;
         }
     }
     Ok(())

@@ -27,6 +27,8 @@ const STRIDE: u64 = 40_503;
 /// What a page of one size took.
 #[derive(Drop)]
 pub struct Figures {
+    /// How many nodes the page had.
+    pub nodes: u32,
     /// How often each operation was made.
     pub operations: u64,
     /// The nanoseconds that one took.
@@ -47,6 +49,7 @@ pub fn measure(rt: &HostRuntime, nodes: u32, turns: u32) -> Result<Figures> {
         add(rt, &mut page, &ranges, turns)?,
     ];
     Ok(Figures {
+        nodes: page.nodes(),
         operations,
         nanoseconds: all.map(|nanoseconds| nanoseconds / operations.max(1)),
     })

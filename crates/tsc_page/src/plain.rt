@@ -95,7 +95,7 @@ impl PlainPage {
         Ok(())
     }
 
-    /// The joint value of all that was added and overlaps a span, or time zero without an owner.
+    /// The joint value of time zero without an owner and of all that was added and overlaps the span.
     pub fn lookup(&self, span: &Span) -> Value
         ensures value { result ≡ answer self.now span.now }
         ensures stands { (p : PageMarks) → StandsFor self.now p → result ≡ joint_above zero_time (values_on span.now p.marks) }
