@@ -1,6 +1,5 @@
 -- Which stretches a span meets, and that what nodes answer to it is the least value above theirs.
-use Rattle.std.proofs.Common.{◌≡◌, ◌⊎◌, inl, inr, ◌∙◌, refl, sym, ap, Bool, true, false, cond, List, [], ◌∷◌}
-use Rattle.std.specs.List.{Contains}
+use Rattle.std.proofs.Common.{◌≡◌, ◌⊎◌, inl, inr, refl, ap, Bool, true, false, cond, List, [], ◌∷◌}
 use Rattle.tsc_time.specs.Time.{zero_time}
 use Rattle.tsc_time.specs.OwnedTime.{OwnedTime, unowned}
 use Rattle.tsc_time.specs.Joint.{joint_above, IsAtMost}

@@ -1,5 +1,5 @@
 -- The cuts of nodes: a span whose end keys are nodes goes over no stretch.
-use Rattle.std.proofs.Common.{◌≡◌, ◌⊎◌, inl, inr, ◌∙◌, refl, sym, ap, subst, Bool, true, false, cond, List, [], ◌∷◌}
+use Rattle.std.proofs.Common.{◌≡◌, ◌⊎◌, inl, inr, ◌∙◌, refl, sym, ap, subst, true, false, cond, List, [], ◌∷◌}
 use mathlib.Core.Bool.{true≢false}
 use Rattle.std.specs.Str.{bytes_eq}
 use Rattle.std.proofs.lemmas.Slice.Eq.{bytes_eq-Decides}
@@ -7,10 +7,10 @@ use Rattle.tsc_time.specs.Time.{zero_time}
 use Rattle.tsc_time.specs.OwnedTime.{OwnedTime, unowned}
 use Rattle.tsc_time.specs.Joint.{joint, joint_above}
 use Rattle.std.proofs.lemmas.Bool.{cases_Bool}
-use Rattle.tsc_span.specs.Span.{KeyBytes, Cut, before, after, last, Interval, between, overlaps, is_below}
+use Rattle.tsc_span.specs.Span.{KeyBytes, Cut, before, after, last, Interval, between, overlaps}
 use Rattle.tsc_page.specs.PageView.{is_in}
 use Rattle.tsc_page.specs.Nodes.{Node, Stretch, next_cut, node_stretches, stretches, below_nodes, node_keys, IsSorted, raised, raise, raise_nodes, answer_of}
-use Rattle.tsc_page.proofs.CutOrder.{Lt, Le, Meet, Lt-not_Le, Le-chain, Le-from_Lt, Le-itself, before-after, overlaps-tells}
+use Rattle.tsc_page.proofs.CutOrder.{Le, Lt-not_Le, Le-chain, Le-from_Lt, Le-itself, before-after, overlaps-tells}
 use Rattle.tsc_page.proofs.Answers.{values_over-is, answer_over}
 use Rattle.tsc_page.proofs.Raises.{Parts, last_parts, raise_answers}
 

@@ -1,6 +1,5 @@
 -- What a new node and a raised value make of the list of nodes.
-use Rattle.std.proofs.Common.{◌≡◌, ◌⊎◌, inl, inr, ◌∙◌, refl, sym, ap, subst, Bool, true, false, cond, ◌||◌, ℕ, zero, suc, ◌+◌, ◌<◌, ◌≤◌, List, [], ◌∷◌, length, get_or, ◌-◌, arith}
-use mathlib.Core.Bool.{true≢false}
+use Rattle.std.proofs.Common.{◌≡◌, inl, inr, ◌∙◌, refl, sym, ap, subst, Bool, true, false, ◌||◌, ℕ, zero, suc, ◌≤◌, List, [], ◌∷◌, length, get_or, ◌-◌, arith}
 use Rattle.std.specs.Prelude.{Option, Some, None, not}
 use Rattle.std.specs.Option.{is_some}
 use Rattle.std.specs.List.{insert}
@@ -8,11 +7,11 @@ use Rattle.std.specs.Str.{bytes_eq}
 use Rattle.std.proofs.lemmas.Slice.Eq.{bytes_eq-Decides}
 use Rattle.tsc_time.specs.OwnedTime.{OwnedTime}
 use Rattle.std.proofs.lemmas.Bool.{cases_Bool}
-use Rattle.tsc_span.specs.Span.{KeyBytes, Cut, before, after, Interval, is_below}
+use Rattle.tsc_span.specs.Span.{KeyBytes, Cut, before, after, Interval}
 use Rattle.tsc_page.specs.PageView.{is_in}
 use Rattle.tsc_page.specs.Nodes.{Node, next_cut, node_stretches, node_keys, IsSorted, FitsAt, IsPlaceFor, node_in_gap, gap_value, raise_nodes}
 use Rattle.tsc_page.proofs.Cuts.{first_low, rising_nodes, cuts_of_key}
-use Rattle.tsc_page.proofs.CutOrder.{Lt, Le, Lt-from_Le_sides, before-after, Lt_Le-chain, Lt-chain, Le_Lt-chain, Le-chain, Le-from_Lt, Lt-not_Le}
+use Rattle.tsc_page.proofs.CutOrder.{Lt, Le, Lt-from_Le_sides, before-after, Lt-chain, Le-chain, Le-from_Lt, Lt-not_Le}
 
 -- raising keeps the keys
 pub raise_nodes-keys : (m : Interval) (v : OwnedTime) (ns : List Node) → node_keys (raise_nodes m v ns) ≡ node_keys ns

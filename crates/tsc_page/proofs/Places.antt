@@ -1,15 +1,13 @@
 -- Which places a search among sorted nodes finds.
-use Rattle.std.proofs.Common.{◌≡◌, ◌⊎◌, inl, inr, ◌∙◌, refl, sym, ap, subst, Bool, ℕ, zero, suc, ◌+◌, ◌-◌, ◌<◌, ◌≤◌, true, false, List, [], ◌∷◌, length, drop, get_or, arith}
+use Rattle.std.proofs.Common.{◌≡◌, ◌⊎◌, inl, inr, refl, sym, subst, Bool, ℕ, zero, suc, ◌-◌, ◌<◌, ◌≤◌, true, false, List, [], ◌∷◌, length, drop, get_or, arith}
 use Rattle.std.specs.Prelude.{not}
-use mathlib.Core.Bool.{true≢false}
-use Rattle.std.specs.List.{slice_index_or}
 use Rattle.std.specs.List.Sorted.{IsPartitionPoint, IsPartitionedBy}
 use Rattle.tsc_time.specs.Time.{zero_time}
 use Rattle.tsc_time.specs.OwnedTime.{unowned}
 use Rattle.std.proofs.lemmas.Bool.{cases_Bool}
-use Rattle.tsc_span.specs.Span.{KeyBytes, Cut, before, after, last, Interval, between, overlaps, is_below}
-use Rattle.tsc_page.specs.Nodes.{Node, next_cut, node_stretches, IsSorted, key_span, gap_span, HoldsKeysOn, HoldsGapsOn}
-use Rattle.tsc_page.proofs.CutOrder.{Lt, Le, Meet, Lt-or_Le, Lt-not_Le, Lt-chain, Le-chain, Le_Lt-chain, Lt_Le-chain, Le-from_Lt, Le-itself, before-after, below_last, none_above_last, overlaps-from, overlaps-tells}
+use Rattle.tsc_span.specs.Span.{KeyBytes, Cut, before, after, last, between, overlaps, is_below}
+use Rattle.tsc_page.specs.Nodes.{Node, next_cut, node_stretches, start_of_gap, IsSorted, PartsKeysAt, HoldsKeysOn, HoldsGapsOn}
+use Rattle.tsc_page.proofs.CutOrder.{Lt, Le, Meet, Lt-not_Le, Lt-chain, Le-chain, Le_Lt-chain, Le-from_Lt, Le-itself, before-after, below_last, overlaps-from, overlaps-tells}
 
 -- each way that two numbers may stand
 abbrev pub before_or_past : (a b : ℕ) → (a < b) ⊎ (b ≤ a)
@@ -49,6 +47,12 @@ next_past (n ∷ []) (suc i) h = refl
 next_past (n ∷ m ∷ ms) zero h = absurd (omega arith)
 next_past (n ∷ m ∷ ms) (suc i) h = next_past (m ∷ ms) i (omega arith)
 
+-- the gap after a node starts right after its key
+pub start_of_gap-past : (low : Cut) (ns : List Node) (i : ℕ) (d : Node) → i < length ns → start_of_gap low ns (suc i) ≡ after (get_or ns i d).key
+start_of_gap-past low [] i d h = absurd (omega arith)
+start_of_gap-past low (n ∷ ns) zero d h = refl
+start_of_gap-past low (n ∷ ns) (suc i) d h = start_of_gap-past (after n.key) ns i d (omega arith)
+
 not_true : (b : Bool) → not b ≡ true → b ≡ false
 not_true true h = sym h
 not_true false h = refl
@@ -79,23 +83,27 @@ module _ (ns : List Node) (sorted : IsSorted ns) where
   pub up_to_after : (from : Cut) → IsPartitionedBy (λ (n : Node). not (is_below from (after n.key))) ns
   up_to_after from i j d h g e = true_not (is_below from (after (get_or ns i d).key)) (Le-chain (after (get_or ns i d).key) (after (get_or ns j d).key) from (rising_after i j d h g) (not_true (is_below from (after (get_or ns j d).key)) e))
 
-  pub up_to_before : (from : Cut) → IsPartitionedBy (λ (n : Node). not (is_below from (before n.key))) ns
-  up_to_before from i j d h g e = true_not (is_below from (before (get_or ns i d).key)) (Le-chain (before (get_or ns i d).key) (before (get_or ns j d).key) from (rising i j d h g) (not_true (is_below from (before (get_or ns j d).key)) e))
-
   pub below_before : (to : Cut) → IsPartitionedBy (λ (n : Node). is_below (before n.key) to) ns
   below_before to i j d h g e = Le_Lt-chain (before (get_or ns i d).key) (before (get_or ns j d).key) to (rising i j d h g) e
 
-  pub below_after : (to : Cut) → IsPartitionedBy (λ (n : Node). is_below (after n.key) to) ns
-  below_after to i j d h g e = Le_Lt-chain (after (get_or ns i d).key) (after (get_or ns j d).key) to (rising_after i j d h g) e
-
   module _ (from to : Cut) (upright : Lt from to) where
-    -- what holds up to a place, and what from there on
-    module _ (start : ℕ) (at_start : IsPartitionPoint (λ (n : Node). not (is_below from (after n.key)) ≡ true) (λ n. not (is_below from (after n.key)) ≡ false) ns start) where
-      left : (i : ℕ) (d : Node) → i < start → Le (after (get_or ns i d).key) from
-      left i d h = not_true (is_below from (after (get_or ns i d).key)) (at_start.0 i d (omega arith) h)
+    -- two searches tell where the keys part
+    pub parts_found : (start end : ℕ) → start ≤ length ns → end ≤ length ns
+        → IsPartitionPoint (λ (n : Node). not (is_below from (after n.key)) ≡ true) (λ n. not (is_below from (after n.key)) ≡ false) ns start
+        → IsPartitionPoint (λ (n : Node). is_below (before n.key) to ≡ true) (λ n. is_below (before n.key) to ≡ false) ns end
+        → PartsKeysAt ns from to start end
+    parts_found start end within_start within_end at_start at_end = record {
+      low = λ i d h. not_true (is_below from (after (get_or ns i d).key)) (at_start.0 i d (omega arith) h);
+      past_low = λ i d h g. not_false (is_below from (after (get_or ns i d).key)) (at_start.1 i d h g);
+      below_high = λ i d h. at_end.0 i d (omega arith) h;
+      high = λ i d h g. at_end.1 i d h g;
+      start_bound = within_start;
+      end_bound = within_end;
+    }
 
-      starts : (i : ℕ) (d : Node) → start ≤ i → i < length ns → Lt from (after (get_or ns i d).key)
-      starts i d h g = not_false (is_below from (after (get_or ns i d).key)) (at_start.1 i d h g)
+    -- where the gap of a node ends
+    abbrev gap_end : ℕ → Cut
+    gap_end i = next_cut (node_stretches (drop (suc i) ns))
 
     unmet : (c e : Cut) → (Meet c e from to → ⊥) → overlaps (between c e) (between from to) ≡ false
     unmet c e apart = elim (cases_Bool (overlaps (between c e) (between from to))) [
@@ -103,73 +111,132 @@ module _ (ns : List Node) (sorted : IsSorted ns) where
       | inr h ↦ h
     ]
 
-    pub keys_found : (start end : ℕ) → start ≤ length ns → end ≤ length ns
-        → IsPartitionPoint (λ (n : Node). not (is_below from (after n.key)) ≡ true) (λ n. not (is_below from (after n.key)) ≡ false) ns start
-        → IsPartitionPoint (λ (n : Node). is_below (before n.key) to ≡ true) (λ n. is_below (before n.key) to ≡ false) ns end
-        → HoldsKeysOn ns (between from to) start end
-    keys_found start end within_start within_end at_start at_end = record {
-      order = elim (before_or_past end start) [
-        | inl h ↦ absurd (crossed h)
-        | inr h ↦ h
-      ];
-      bound = within_end;
-      within = λ i d low high.
+    module _ (start end : ℕ) (parts : PartsKeysAt ns from to start end) where
+      pub keys_found : HoldsKeysOn ns (between from to) start end
+      keys_found = record {
+        order = elim (before_or_past end start) [
+          | inl h ↦ absurd (crossed h)
+          | inr h ↦ h
+        ];
+        bound = parts.end_bound;
+        within = λ i d low high.
+            let k : KeyBytes = (get_or ns i d).key in
+            let inside : i < length ns = omega (arith, high, parts.end_bound) in
+            overlaps-from (before k) (after k) from to (before-after k, parts.below_high i d high, parts.past_low i d low inside, upright);
+        below = λ i d h. let k : KeyBytes = (get_or ns i d).key in unmet (before k) (after k) (λ m. Lt-not_Le from (after k) m.2 (parts.low i d h));
+        above = λ i d low high. let k : KeyBytes = (get_or ns i d).key in unmet (before k) (after k) (λ m. Lt-not_Le (before k) to m.1 (parts.high i d low high));
+      }
+        where
+          crossed : end < start → ⊥
+          crossed h =
+              let k : KeyBytes = (get_or ns end some_node).key in
+              let inside : end < length ns = omega (arith, h, parts.start_bound) in
+              let low : Le (after k) from = parts.low end some_node h in
+              let high : Le to (before k) = parts.high end some_node (omega arith) inside in
+              Lt-not_Le from to upright (Le-chain to (before k) from high (Le-chain (before k) (after k) from (Le-from_Lt (before k) (after k) (before-after k)) low))
+
+      -- a gap lies between its node and the next one
+      opens : (i : ℕ) (d : Node) → i < length ns → Lt (after (get_or ns i d).key) (gap_end i)
+      opens i d h = elim (before_or_past (suc i) (length ns)) [
+        | inl g ↦ rw (next_at ns i d g) (sorted_at ns sorted i (suc i) d (omega arith) g)
+        | inr g ↦ rw (next_past ns i g) (below_last (get_or ns i d).key)
+      ]
+
+      -- it ends past the start of the span where its node is in the range, and not where the next node isn't
+      reached : (i : ℕ) → start ≤ i → i < length ns → Lt from (gap_end i)
+      reached i h g = Lt-chain from (after (get_or ns i some_node).key) (gap_end i) (parts.past_low i some_node h g) (opens i some_node g)
+
+      passed : (i : ℕ) → suc i < start → Le (gap_end i) from
+      passed i h =
+          let k : KeyBytes = (get_or ns (suc i) some_node).key in
+          let inside : suc i < length ns = omega (arith, h, parts.start_bound) in
+          rw (next_at ns i some_node inside) (Le-chain (before k) (after k) from (Le-from_Lt (before k) (after k) (before-after k)) (parts.low (suc i) some_node h))
+
+      -- and starts below its end where the next node is in the range, and not where its node isn't
+      begun : (i : ℕ) (d : Node) → suc i < end → Lt (after (get_or ns i d).key) to
+      begun i d h =
+          let inside : suc i < length ns = omega (arith, h, parts.end_bound) in
+          Lt-chain (after (get_or ns i d).key) (before (get_or ns (suc i) d).key) to (sorted_at ns sorted i (suc i) d (omega arith) inside) (parts.below_high (suc i) d h)
+
+      beyond : (i : ℕ) (d : Node) → end ≤ i → i < length ns → Le to (after (get_or ns i d).key)
+      beyond i d h g =
           let k : KeyBytes = (get_or ns i d).key in
-          let end_met : Lt (before k) to = at_end.0 i d (omega arith) high in
-          overlaps-from (before k) (after k) from to (before-after k, end_met, starts start at_start i d low (omega arith), upright);
-      below = λ i d h. let k : KeyBytes = (get_or ns i d).key in unmet (before k) (after k) (λ m. Lt-not_Le from (after k) m.2 (left start at_start i d h));
-      above = λ i d low high. let k : KeyBytes = (get_or ns i d).key in unmet (before k) (after k) (λ m. Lt-not_Le (before k) to m.1 (at_end.1 i d low high));
-    }
-      where
-        crossed : end < start → ⊥
-        crossed h =
-            let k : KeyBytes = (get_or ns end some_node).key in
-            let low : Le (after k) from = left start at_start end some_node h in
-            let high : Le to (before k) = at_end.1 end some_node (omega arith) (omega arith) in
-            Lt-not_Le from to upright (Le-chain to (before k) from high (Le-chain (before k) (after k) from (Le-from_Lt (before k) (after k) (before-after k)) low))
+          Le-chain to (before k) (after k) (parts.high i d h g) (Le-from_Lt (before k) (after k) (before-after k))
 
-    pub gaps_found : (next end : ℕ) → next ≤ length ns → end ≤ length ns
-        → IsPartitionPoint (λ (n : Node). not (is_below from (before n.key)) ≡ true) (λ n. not (is_below from (before n.key)) ≡ false) ns next
-        → IsPartitionPoint (λ (n : Node). is_below (after n.key) to ≡ true) (λ n. is_below (after n.key) to ≡ false) ns end
-        → HoldsGapsOn ns (between from to) (next - 1) end
-    gaps_found next end within_next within_end at_next at_end = record {
-      order = elim (before_or_past end (next - 1)) [
-        | inl h ↦ absurd (crossed h)
-        | inr h ↦ h
-      ];
-      bound = within_end;
-      within = λ i d low high.
-          let k : KeyBytes = (get_or ns i d).key in
-          let end_met : Lt (after k) to = at_end.0 i d (omega arith) high in
-          overlaps-from (after k) (next_cut (node_stretches (drop (suc i) ns))) from to (opens i d (omega arith), end_met, reached i d (omega arith), upright);
-      below = λ i d h.
-          let k : KeyBytes = (get_or ns i d).key in
-          unmet (after k) (next_cut (node_stretches (drop (suc i) ns))) (λ m. Lt-not_Le from (next_cut (node_stretches (drop (suc i) ns))) m.2 (passed i d (omega arith)));
-      above = λ i d low high. let k : KeyBytes = (get_or ns i d).key in unmet (after k) (next_cut (node_stretches (drop (suc i) ns))) (λ m. Lt-not_Le (after k) to m.1 (at_end.1 i d low high));
-    }
-      where
-        -- a gap lies between its node and the next one
-        opens : (i : ℕ) (d : Node) → i < length ns → Lt (after (get_or ns i d).key) (next_cut (node_stretches (drop (suc i) ns)))
-        opens i d h = elim (before_or_past (suc i) (length ns)) [
-          | inl g ↦ rw (next_at ns i d g) (sorted_at ns sorted i (suc i) d (omega arith) g)
-          | inr g ↦ rw (next_past ns i g) (below_last (get_or ns i d).key)
-        ]
+      -- from which place on the gaps end past the start of the span
+      pub record StartGaps (low : ℕ) : Type 0 where
+        bound : low ≤ length ns
+        past : (i : ℕ) → low ≤ i → i < length ns → Lt from (gap_end i)
+        short : (i : ℕ) → i < low → Le (gap_end i) from
 
-        -- the span starts before a gap ends, where the next node is past the start
-        reached : (i : ℕ) (d : Node) → next ≤ suc i → Lt from (next_cut (node_stretches (drop (suc i) ns)))
-        reached i d h = elim (before_or_past (suc i) (length ns)) [
-          | inl g ↦ rw (next_at ns i d g) (not_false (is_below from (before (get_or ns (suc i) d).key)) (at_next.1 (suc i) d h g))
-          | inr g ↦ rw (next_past ns i g) (Lt_Le-chain from to last upright (none_above_last to))
-        ]
+      pub starts_before : Lt from (next_cut (node_stretches (drop start ns))) → StartGaps (start - 1)
+      starts_before met = record {
+        bound = omega (arith, parts.start_bound);
+        past = λ i h g. elim (before_or_past i start) [
+          | inl l ↦ let e : suc i ≡ start = omega (arith, h, l) in subst (λ (j : ℕ). Lt from (next_cut (node_stretches (drop j ns)))) (sym e) met
+          | inr l ↦ reached i l g
+        ];
+        short = λ i h. passed i (omega arith);
+      }
 
-        -- and not, where it is not
-        passed : (i : ℕ) (d : Node) → suc i < next → Le (next_cut (node_stretches (drop (suc i) ns))) from
-        passed i d h = rw (next_at ns i d (omega arith)) (not_true (is_below from (before (get_or ns (suc i) d).key)) (at_next.0 (suc i) d (omega arith) h))
+      pub starts_at : Le (next_cut (node_stretches (drop start ns))) from → StartGaps start
+      starts_at closed = record {
+        bound = parts.start_bound;
+        past = reached;
+        short = λ i h. elim (before_or_past (suc i) start) [
+          | inl l ↦ passed i l
+          | inr l ↦ let e : suc i ≡ start = omega (arith, h, l) in subst (λ (j : ℕ). Le (next_cut (node_stretches (drop j ns))) from) (sym e) closed
+        ];
+      }
 
-        crossed : end < next - 1 → ⊥
-        crossed h =
-            let k : KeyBytes = (get_or ns end some_node).key in
-            let high : Le to (after k) = at_end.1 end some_node (omega arith) (omega arith) in
-            let low : Le (next_cut (node_stretches (drop (suc end) ns))) from = passed end some_node (omega arith) in
-            let opened : Lt (after k) (next_cut (node_stretches (drop (suc end) ns))) = opens end some_node (omega arith) in
-            Lt-not_Le from to upright (Le-chain to (after k) from high (Le-chain (after k) (next_cut (node_stretches (drop (suc end) ns))) from (Le-from_Lt (after k) (next_cut (node_stretches (drop (suc end) ns))) opened) low))
+      -- up to which place the gaps start below the end of the span
+      pub record StopGaps (high : ℕ) : Type 0 where
+        bound : high ≤ length ns
+        below : (i : ℕ) (d : Node) → i < high → Lt (after (get_or ns i d).key) to
+        past : (i : ℕ) (d : Node) → high ≤ i → i < length ns → Le to (after (get_or ns i d).key)
+
+      -- the gap before the place where the keys end starts at the last of them
+      last_gap : (i : ℕ) (d : Node) → suc i ≡ end → start_of_gap (before []) ns end ≡ after (get_or ns i d).key
+      last_gap i d e = subst (λ (j : ℕ). start_of_gap (before []) ns j ≡ after (get_or ns i d).key) e (start_of_gap-past (before []) ns i d (omega (arith, e, parts.end_bound)))
+
+      pub stops_at : Lt (start_of_gap (before []) ns end) to → StopGaps end
+      stops_at met = record {
+        bound = parts.end_bound;
+        below = λ i d h. elim (before_or_past (suc i) end) [
+          | inl l ↦ begun i d l
+          | inr l ↦ let e : suc i ≡ end = omega (arith, h, l) in subst (λ (c : Cut). Lt c to) (last_gap i d e) met
+        ];
+        past = beyond;
+      }
+
+      pub stops_before : Le to (start_of_gap (before []) ns end) → StopGaps (end - 1)
+      stops_before closed = record {
+        bound = omega (arith, parts.end_bound);
+        below = λ i d h. begun i d (omega arith);
+        past = λ i d h g. elim (before_or_past i end) [
+          | inl l ↦ let e : suc i ≡ end = omega (arith, h, l) in subst (Le to) (last_gap i d e) closed
+          | inr l ↦ beyond i d l g
+        ];
+      }
+
+      pub gaps_found : (low high : ℕ) → StartGaps low → StopGaps high → HoldsGapsOn ns (between from to) low high
+      gaps_found low high starts stops = record {
+        order = elim (before_or_past high low) [
+          | inl h ↦ absurd (crossed h)
+          | inr h ↦ h
+        ];
+        bound = stops.bound;
+        within = λ i d g h.
+            let k : KeyBytes = (get_or ns i d).key in
+            let inside : i < length ns = omega (arith, h, stops.bound) in
+            overlaps-from (after k) (gap_end i) from to (opens i d inside, stops.below i d h, starts.past i g inside, upright);
+        below = λ i d h. let k : KeyBytes = (get_or ns i d).key in unmet (after k) (gap_end i) (λ m. Lt-not_Le from (gap_end i) m.2 (starts.short i h));
+        above = λ i d g h. let k : KeyBytes = (get_or ns i d).key in unmet (after k) (gap_end i) (λ m. Lt-not_Le (after k) to m.1 (stops.past i d g h));
+      }
+        where
+          crossed : high < low → ⊥
+          crossed h =
+              let k : KeyBytes = (get_or ns high some_node).key in
+              let inside : high < length ns = omega (arith, h, starts.bound) in
+              let end_met : Le to (after k) = stops.past high some_node (omega arith) inside in
+              Lt-not_Le from to upright (Le-chain to (after k) from end_met (Le-chain (after k) (gap_end high) from (Le-from_Lt (after k) (gap_end high) (opens high some_node inside)) (starts.short high h)))

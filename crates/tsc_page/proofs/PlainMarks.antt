@@ -12,7 +12,7 @@ use Rattle.tsc_time.specs.OwnedTime.{OwnedTime, unowned}
 use Rattle.tsc_time.specs.Joint.{joint, joint_above, latest}
 use Rattle.tsc_time.proofs.JointLemmas.{joint-append}
 use Rattle.tsc_span.specs.Span.{KeyBytes, Interval, overlaps, end_keys}
-use Rattle.tsc_page.specs.Page.{Mark, PageMarks, with_mark, top, values_on, marked_keys, count_distinct}
+use Rattle.tsc_page.specs.Page.{Mark, PageMarks, with_mark, values_on, marked_keys, count_distinct}
 use Rattle.tsc_page.specs.PageView.{StandsFor, is_in, is_new_among, view_of}
 use Rattle.tsc_page.proofs.DistinctKeys.{has_no_repeats}
 use Rattle.tsc_page.proofs.Ends.{end_keys_once}

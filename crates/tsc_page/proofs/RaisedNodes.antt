@@ -1,11 +1,10 @@
 -- Nodes in which the keys of some places are raised, and the gaps of some.
-use Rattle.std.proofs.Common.{◌≡◌, ◌⊎◌, inl, inr, ◌∙◌, refl, sym, ap, subst, Bool, true, false, cond, ℕ, zero, suc, ◌+◌, ◌<◌, ◌≤◌, List, [], ◌∷◌, length, drop, get_or, set, arith}
-use mathlib.Core.Bool.{true≢false}
+use Rattle.std.proofs.Common.{◌≡◌, inl, inr, ◌∙◌, refl, sym, ap, subst, Bool, true, false, cond, ℕ, zero, suc, ◌+◌, ◌<◌, ◌≤◌, List, [], ◌∷◌, length, get_or, set, arith}
 use Rattle.std.proofs.lemmas.List.{get_or_default, get_or-set_same, get_or-set_other, length-set, same_lists}
 use Rattle.tsc_time.specs.OwnedTime.{OwnedTime}
 use Rattle.tsc_time.specs.Joint.{joint}
-use Rattle.tsc_span.specs.Span.{Cut, before, after, Interval, between, overlaps}
-use Rattle.tsc_page.specs.Nodes.{Node, next_cut, node_stretches, key_span, gap_span, raised, raise_nodes, HoldsKeysOn, HoldsGapsOn}
+use Rattle.tsc_span.specs.Span.{Interval, overlaps}
+use Rattle.tsc_page.specs.Nodes.{Node, key_span, gap_span, raise_nodes, HoldsKeysOn, HoldsGapsOn}
 use Rattle.tsc_page.proofs.Edits.{raise_nodes-length}
 use Rattle.tsc_page.proofs.Places.{before_or_past}
 

@@ -1,16 +1,16 @@
 -- What a value added to a span makes of the answers.
-use Rattle.std.proofs.Common.{◌≡◌, ◌⊎◌, inl, inr, ◌∙◌, refl, sym, ap, Bool, true, false, cond, List, [], ◌∷◌, ◌++◌, append-nil}
+use Rattle.std.proofs.Common.{◌≡◌, ◌⊎◌, inl, inr, ◌∙◌, refl, sym, ap, Bool, true, false, cond, List, [], ◌∷◌}
 use mathlib.Core.Bool.{true≢false}
 use Rattle.tsc_time.specs.Time.{zero_time}
 use Rattle.tsc_time.specs.OwnedTime.{OwnedTime, unowned}
-use Rattle.tsc_time.specs.Joint.{joint, joint_above, IsAtMost}
-use Rattle.tsc_time.proofs.Members.{IsIn, Contains-from_IsIn, IsIn-from_Contains}
+use Rattle.tsc_time.specs.Joint.{joint, IsAtMost}
+use Rattle.tsc_time.proofs.Members.{Contains-from_IsIn, IsIn-from_Contains}
 use Rattle.tsc_time.proofs.RatchetOrder.{IsAtMost-itself, IsAtMost-antisymmetric, IsAtMost-transitive}
 use Rattle.tsc_time.proofs.JointLemmas.{joint-above, joint-least}
 use Rattle.std.proofs.lemmas.Bool.{cases_Bool}
 use Rattle.tsc_span.specs.Span.{Cut, last, Interval, nothing, between, overlaps}
 use Rattle.tsc_page.specs.Nodes.{Stretch, next_cut, raised, raise}
-use Rattle.tsc_page.proofs.CutOrder.{Lt, Le, Meet, Lt-or_Le, Lt-not_Le, Le_Lt-chain, Lt_Le-chain, Lt-chain, Le-chain, Le-from_Lt, Le-itself, none_above_last, overlaps-from, overlaps-tells}
+use Rattle.tsc_page.proofs.CutOrder.{Lt, Le, Meet, Lt-or_Le, Lt-not_Le, Le_Lt-chain, Lt_Le-chain, Le-chain, Le-from_Lt, Le-itself, none_above_last, overlaps-from, overlaps-tells}
 use Rattle.tsc_page.proofs.Answers.{Meets, answer_over, answer-above, answer-above_zero, answer-least}
 
 -- raising moves no cut

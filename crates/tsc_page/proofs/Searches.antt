@@ -1,7 +1,6 @@
 -- What a binary search for a key finds: its node, or the place for it.
-use Rattle.std.proofs.Common.{◌≡◌, ◌⊎◌, inl, inr, ◌∙◌, refl, sym, ap, subst, Bool, true, false, cond, ◌||◌, ℕ, zero, suc, ◌+◌, ◌<◌, ◌≤◌, List, [], ◌∷◌, length, get_or, Result, Ok, Err, arith}
+use Rattle.std.proofs.Common.{◌≡◌, inl, inr, ◌∙◌, refl, sym, ap, true, ℕ, zero, suc, ◌<◌, ◌≤◌, List, [], ◌∷◌, length, get_or, Result, Ok, Err, arith}
 use mathlib.Core.Bool.{true≢false}
-use Rattle.std.specs.Prelude.{Option, Some, None}
 use Rattle.std.specs.declared.cmp.Ordering.{Ordering}
 use Rattle.std.specs.declared.cmp.Ordering.TheVariants.{Less, Equal, Greater}
 use Rattle.std.specs.Ordering.{is_lt, is_eq, ordering_index, ordering_reverse, ordering_then}
@@ -12,11 +11,9 @@ use Rattle.std.proofs.lemmas.Cmp.{nat_list_cmp_total, alike_right}
 use Rattle.std.proofs.lemmas.Map.Text.{is_eq-slice_cmp}
 use Rattle.std.proofs.lemmas.Slice.Eq.{bytes_eq-Decides}
 use Rattle.std.proofs.Math.Bool.{or-true}
-use Rattle.tsc_time.specs.Time.{zero_time}
-use Rattle.tsc_time.specs.OwnedTime.{unowned}
-use Rattle.tsc_span.specs.Span.{KeyBytes, key_cmp, Cut, before, after, last, is_below}
+use Rattle.tsc_span.specs.Span.{KeyBytes, key_cmp, Cut, before, after}
 use Rattle.tsc_page.specs.PageView.{is_in}
-use Rattle.tsc_page.specs.Nodes.{Node, next_cut, node_stretches, node_keys, IsSorted, FitsAt, place_of, IsPlaceFor}
+use Rattle.tsc_page.specs.Nodes.{Node, node_keys, IsSorted, FitsAt, place_of, IsPlaceFor}
 use Rattle.tsc_page.proofs.CutOrder.{Lt, Le, Le-from_Lt, after-before, below_last}
 use Rattle.tsc_page.proofs.Cuts.{lowest}
 use Rattle.tsc_page.proofs.Places.{sorted_at, before_or_past, some_node}

@@ -1,13 +1,13 @@
 -- The joint value of what was seen so far.
-use Rattle.std.proofs.Common.{◌≡◌, ◌⊎◌, inl, inr, ◌∙◌, refl, sym, ap, subst, true, false, ℕ, zero, suc, ◌+◌, ◌<◌, ◌≤◌, List, [], ◌∷◌, length, drop, get_or, arith}
+use Rattle.std.proofs.Common.{◌≡◌, ◌⊎◌, inl, inr, ◌∙◌, refl, sym, ap, subst, true, ℕ, zero, suc, ◌+◌, ◌<◌, ◌≤◌, List, [], ◌∷◌, length, get_or, arith}
 use mathlib.Core.Bool.{true≢false}
 use Rattle.std.proofs.lemmas.List.{get_or_default}
 use Rattle.tsc_time.specs.Time.{zero_time}
 use Rattle.tsc_time.specs.OwnedTime.{OwnedTime, unowned}
 use Rattle.tsc_time.specs.Joint.{joint, joint_above, IsAtMost}
 use Rattle.tsc_time.proofs.RatchetOrder.{IsAtMost-itself, IsAtMost-antisymmetric, IsAtMost-transitive}
-use Rattle.tsc_span.specs.Span.{Cut, before, after, Interval, between, overlaps}
-use Rattle.tsc_page.specs.Nodes.{Node, Stretch, next_cut, node_stretches, stretches, below_nodes, key_span, gap_span, HoldsKeysOn, HoldsGapsOn, answer_of}
+use Rattle.tsc_span.specs.Span.{Interval, overlaps}
+use Rattle.tsc_page.specs.Nodes.{Node, Stretch, node_stretches, stretches, key_span, gap_span, HoldsKeysOn, HoldsGapsOn, answer_of}
 use Rattle.tsc_page.proofs.Answers.{values_over-is, Meets, answer_over, answer-above, answer-above_zero, answer-least}
 use Rattle.tsc_page.proofs.Places.{before_or_past, some_node}
 use Rattle.tsc_page.proofs.Raises.{first_below, second_below, both_below}

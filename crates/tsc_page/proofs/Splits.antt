@@ -1,13 +1,13 @@
 -- A stretch cut in two, with its value on both sides, answers as before.
-use Rattle.std.proofs.Common.{◌≡◌, ◌⊎◌, inl, inr, ◌∙◌, refl, sym, ap, ℕ, zero, suc, true, false, List, [], ◌∷◌, arith}
+use Rattle.std.proofs.Common.{◌≡◌, ◌⊎◌, inl, inr, ◌∙◌, refl, sym, ap, ℕ, zero, suc, List, [], ◌∷◌}
 use Rattle.std.specs.List.{insert}
 use Rattle.tsc_time.specs.Time.{zero_time}
 use Rattle.tsc_time.specs.OwnedTime.{OwnedTime, unowned}
 use Rattle.tsc_time.specs.Joint.{joint_above}
 use Rattle.tsc_time.proofs.RatchetOrder.{IsAtMost-antisymmetric}
-use Rattle.tsc_span.specs.Span.{KeyBytes, Cut, before, after, last, Interval, nothing, between, overlaps}
+use Rattle.tsc_span.specs.Span.{KeyBytes, Cut, before, after, Interval, nothing, between}
 use Rattle.tsc_page.specs.Nodes.{Node, Stretch, next_cut, node_stretches, stretches, below_nodes, answer_of, gap_value, FitsAt, node_in_gap}
-use Rattle.tsc_page.proofs.CutOrder.{Lt, Le, Meet, Lt-or_Le, Le_Lt-chain, Lt_Le-chain, Le-from_Lt, Le-itself, before-after, overlaps-from, overlaps-tells}
+use Rattle.tsc_page.proofs.CutOrder.{Le, Meet, Lt-or_Le, Le_Lt-chain, Lt_Le-chain, Le-from_Lt, before-after, overlaps-from, overlaps-tells}
 use Rattle.tsc_page.proofs.Answers.{values_over-is, Meets, answer_over, answer-above, answer-above_zero, answer-least}
 
 -- two lists meet the same values

@@ -1,18 +1,17 @@
 -- What a page stands for after an Add, and how many keys it holds.
-use Rattle.std.proofs.Common.{◌≡◌, ◌⊎◌, inl, inr, ◌∙◌, refl, sym, ap, subst, Bool, true, false, cond, ◌||◌, ℕ, zero, suc, ◌+◌, ◌≤◌, nat_le, List, [], ◌∷◌, ◌++◌, length, map, append-nil, arith}
+use Rattle.std.proofs.Common.{◌≡◌, ◌⊎◌, inl, inr, ◌∙◌, refl, sym, ap, Bool, true, false, cond, ◌||◌, ℕ, suc, ◌+◌, nat_le, List, [], ◌∷◌, ◌++◌, length, map, append-nil, arith}
 use mathlib.Core.Bool.{true≢false}
 use mir.Val.{bool_byte}
 use Rattle.std.specs.Prelude.{Option, Some, None, filter, not}
 use Rattle.std.proofs.Math.Bool.{or-true}
 use Rattle.std.specs.Option.{option_to_list}
 use Rattle.std.specs.Ordering.{ord_max}
-use Rattle.std.specs.List.{flat_map}
 use Rattle.std.specs.Str.{bytes_eq}
 use Rattle.std.proofs.lemmas.List.{map-append, append_assoc}
 use Rattle.std.proofs.lemmas.Grind.{flat_map-append}
 use Rattle.std.proofs.lemmas.List.Folds.{list_any-append}
 use Rattle.std.proofs.lemmas.Slice.Eq.{bytes_eq-Decides}
-use Rattle.tsc_time.specs.Time.{Time, zero_time, time_cmp, is_before, later}
+use Rattle.tsc_time.specs.Time.{Time, zero_time, time_cmp, later}
 use Rattle.tsc_time.specs.OwnedTime.{OwnedTime, unowned}
 use Rattle.tsc_time.specs.Joint.{joint, joint_above, latest}
 use Rattle.tsc_time.proofs.TimeOrder.{later-tells, is_before-opposite, is_before-transitive, no_earlier-transitive, same_from_neither_before}
@@ -22,11 +21,11 @@ use Rattle.tsc_span.specs.Span.{KeyBytes, Cut, before, after, last, Interval, no
 use Rattle.tsc_page.specs.Page.{Mark, PageMarks, with_mark, top, values_on, marked_keys, count_distinct, has_room}
 use Rattle.tsc_page.specs.PageView.{PageView, StandsFor, answer, is_in, has_room_for, is_new_among}
 use Rattle.tsc_page.specs.Nodes.{Node, next_cut, node_stretches, stretches, stretch_spans, node_keys, IsSorted, IsSplitAt, raise_nodes, answer_of}
-use Rattle.tsc_page.proofs.CutOrder.{Lt, Le, Lt-not_Le, Le-chain, Le-from_Lt, before-after}
+use Rattle.tsc_page.proofs.CutOrder.{Lt, Lt-not_Le, Le-chain, Le-from_Lt, before-after}
 use Rattle.tsc_page.proofs.DistinctKeys.{count_distinct-same, count_distinct-push, count_distinct-no_repeats, has_no_repeats, is_in-push}
 use Rattle.tsc_page.proofs.Cuts.{HasCut, first_low, rising_nodes, cuts_of_key, raise_nodes_answers}
 use Rattle.tsc_page.proofs.Edits.{raise_nodes-keys, raise_nodes-sorted, raise_nodes-length}
-use Rattle.tsc_page.proofs.Ends.{ends_are_nodes, end_keys_once}
+use Rattle.tsc_page.proofs.Ends.{ends_are_nodes}
 use Rattle.tsc_page.proofs.Lookups.{values_on-more}
 
 -- sorted nodes have no key twice

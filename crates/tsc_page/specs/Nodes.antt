@@ -1,5 +1,5 @@
 -- How the code keeps a page: nodes in the order of their keys, each with the value of its key and that of the gap up to the next node.
-use Rattle.std.specs.Prelude.{◌≡◌, ℕ, zero, suc, ◌+◌, ◌<◌, ◌≤◌, List, [], ◌∷◌, length, map, drop, slice_index_or, true, false, Option, Some, None, Result, Ok, Err, Bool, not, ◌||◌, if◌then◌else◌}
+use Rattle.std.specs.Prelude.{◌≡◌, ℕ, zero, suc, ◌<◌, ◌≤◌, List, [], ◌∷◌, length, map, drop, slice_index_or, true, false, Option, Some, None, Result, Ok, Err, ◌||◌, if◌then◌else◌}
 use Rattle.std.specs.List.{insert}
 use Rattle.tsc_time.specs.Time.{zero_time}
 use Rattle.tsc_time.specs.OwnedTime.{OwnedTime, unowned}
@@ -78,6 +78,12 @@ gap_value v nodes zero = v
 gap_value v [] (suc i) = v
 gap_value v (n ∷ ns) (suc i) = gap_value n.gap ns i
 
+-- where the gap at a place among nodes that come after a cut starts
+abbrev pub start_of_gap : Cut → List Node → ℕ → Cut
+start_of_gap low nodes zero = low
+start_of_gap low [] (suc i) = low
+start_of_gap low (n ∷ ns) (suc i) = start_of_gap (after n.key) ns i
+
 -- a key fits at a place: it is above the nodes before it, and below those from there on
 abbrev pub FitsAt : KeyBytes → Cut → List Node → ℕ → Type 0
 FitsAt k low nodes zero = (is_below (before k) low ≡ false) × (is_below (after k) (next_cut (node_stretches nodes)) ≡ true)
@@ -94,6 +100,15 @@ key_span n = between (before n.key) (after n.key)
 
 abbrev pub gap_span : List Node → ℕ → Node → Interval
 gap_span nodes i n = between (after n.key) (next_cut (node_stretches (drop (suc i) nodes)))
+
+-- A range of places that starts with the first key not wholly below one cut, and stops before the first one at or above another.
+pub record PartsKeysAt (nodes : List Node) (from to : Cut) (start end : ℕ) : Type 0 where
+  pub low : (i : ℕ) (d : Node) → i < start → is_below from (after (slice_index_or nodes i d).key) ≡ false
+  pub past_low : (i : ℕ) (d : Node) → start ≤ i → i < length nodes → is_below from (after (slice_index_or nodes i d).key) ≡ true
+  pub below_high : (i : ℕ) (d : Node) → i < end → is_below (before (slice_index_or nodes i d).key) to ≡ true
+  pub high : (i : ℕ) (d : Node) → end ≤ i → i < length nodes → is_below (before (slice_index_or nodes i d).key) to ≡ false
+  pub start_bound : start ≤ length nodes
+  pub end_bound : end ≤ length nodes
 
 -- A range of places that holds just those of the nodes whose key overlaps a span.
 pub record HoldsKeysOn (nodes : List Node) (span : Interval) (start end : ℕ) : Type 0 where

@@ -1,11 +1,11 @@
-ghost use Rattle.std.specs.Prelude.{◌≡◌, ◌<◌, ◌≤◌, [], ◌++◌, length, true, IfOk, IfErr, OnOk, OnErr, IfSome, is_some, ◌+◌, option_map, option_to_list, if◌then◌else◌};
+ghost use Rattle.std.specs.Prelude.{◌≡◌, ◌<◌, ◌≤◌, [], ◌++◌, length, drop, true, IfOk, IfErr, OnOk, OnErr, IfSome, is_some, ◌+◌, option_map, option_to_list, if◌then◌else◌};
 ghost use Rattle.std.specs.Vec.{vec_len, vec_capacity};
 ghost use Rattle.tsc_time.specs.Time.{zero_time};
 ghost use Rattle.tsc_time.specs.OwnedTime.{unowned};
 ghost use Rattle.tsc_span.specs.Span.{is_below, before, between};
 ghost use Rattle.tsc_span.specs.Cuts.{cut_of};
 ghost use Rattle.tsc_page.specs.PageView.{is_new_among};
-ghost use Rattle.tsc_page.specs.Nodes.{IsSorted, FitsAt, IsPlaceFor, IsNewKey, FitsIn, with_new, IsInOrder, IsSplitAt, HoldsKeysOn, HoldsGapsOn, node_keys, answer_of, raise_nodes, node_in_gap, gap_value};
+ghost use Rattle.tsc_page.specs.Nodes.{IsSorted, FitsAt, IsPlaceFor, IsNewKey, FitsIn, with_new, IsInOrder, IsSplitAt, PartsKeysAt, HoldsKeysOn, HoldsGapsOn, node_keys, answer_of, raise_nodes, node_in_gap, gap_value, start_of_gap, next_cut, node_stretches};
 
 use crate::node::Node;
 use std::alloc::Global;
@@ -61,7 +61,8 @@ impl Nodes {
     fn keys_between(&self, from: Cut<'_>, to: Cut<'_>) -> Range<usize>
         requires sorted { IsSorted self.now.list.items }
         requires order { is_below (cut_of from) (cut_of to) ≡ true }
-        ensures { HoldsKeysOn self.now.list.items (between (cut_of from.entry) (cut_of to.entry)) result.start result.end }
+        ensures holds { HoldsKeysOn self.now.list.items (between (cut_of from.entry) (cut_of to.entry)) result.start result.end }
+        ensures parts { PartsKeysAt self.now.list.items (cut_of from.entry) (cut_of to.entry) result.start result.end }
     {
         let start = self
             .list
@@ -74,21 +75,46 @@ impl Nodes {
         start..end
     }
 
-    /// The places of the nodes whose gaps overlap what lies between two cuts.
-    fn gaps_between(&self, from: Cut<'_>, to: Cut<'_>) -> Range<usize>
+    /// Where the gap before a place starts.
+    fn start_of_gap(&self, place: usize) -> Cut<'_>
+        requires bound { place ≤ length self.now.list.items }
+        ensures { cut_of result ≡ start_of_gap (before []) self.now.list.items place }
+    {
+        match place.checked_sub(1) {
+            Some(below) => Cut::After(self.list[below].key.bytes()),
+            None => Cut::Before(&[]),
+        }
+    }
+
+    /// Where the gap before a place stops.
+    fn end_of_gap(&self, place: usize) -> Cut<'_>
+        ensures { cut_of result ≡ next_cut (node_stretches (drop place self.now.list.items)) }
+    {
+        match self.list.get(place) {
+            Some(above) => Cut::Before(above.key.bytes()),
+            None => Cut::Last,
+        }
+    }
+
+    /// The places of the nodes whose gaps overlap what lies between two cuts, from those of the nodes whose
+    /// keys do. They are the same, but for the gap before the first key and that after the last one.
+    fn gaps_between(&self, from: Cut<'_>, to: Cut<'_>, keys: &Range<usize>) -> Range<usize>
         requires sorted { IsSorted self.now.list.items }
         requires order { is_below (cut_of from) (cut_of to) ≡ true }
+        requires parts { PartsKeysAt self.now.list.items (cut_of from) (cut_of to) keys.now.start keys.now.end }
         ensures { HoldsGapsOn self.now.list.items (between (cut_of from.entry) (cut_of to.entry)) result.start result.end }
     {
-        let next = self
-            .list
-            .as_slice()
-            .partition_point(|node| !from.is_below(Cut::Before(node.key.bytes())));
-        let end = self
-            .list
-            .as_slice()
-            .partition_point(|node| Cut::After(node.key.bytes()).is_below(to));
-        next.saturating_sub(1)..end
+        let start = if from.is_below(self.end_of_gap(keys.start)) {
+            keys.start.saturating_sub(1)
+        } else {
+            keys.start
+        };
+        let end = if self.start_of_gap(keys.end).is_below(to) {
+            keys.end
+        } else {
+            keys.end.saturating_sub(1)
+        };
+        start..end
     }
 
     /// The joint value of the keys and gaps between two cuts.
@@ -98,10 +124,12 @@ impl Nodes {
         ensures { result ≡ answer_of self.now.list.items (between (cut_of from.entry) (cut_of to.entry)) }
     {
         let mut best = Value::unowned(Timestamp::ZERO);
-        for place in self.keys_between(from, to) {
+        let keys = self.keys_between(from, to);
+        let gaps = self.gaps_between(from, to, &keys);
+        for place in keys {
             best = ratchet(best, self.list[place].value).0;
         }
-        for place in self.gaps_between(from, to) {
+        for place in gaps {
             best = ratchet(best, self.list[place].gap).0;
         }
         best
@@ -114,7 +142,7 @@ impl Nodes {
         ensures { self.new.list.items ≡ raise_nodes (between (cut_of from.entry) (cut_of to.entry)) value self.old.list.items }
     {
         let keys = self.keys_between(from, to);
-        let gaps = self.gaps_between(from, to);
+        let gaps = self.gaps_between(from, to, &keys);
         for place in keys {
             self.list[place].value = ratchet(self.list[place].value, value).0;
         }

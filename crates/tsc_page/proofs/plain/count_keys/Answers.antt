@@ -1,5 +1,5 @@
 -- Each key is counted at the last mark that has it.
-use Rattle.std.proofs.Common.{◌≡◌, ◌∙◌, ◌+◌, sym, ap, subst, ℕ, List, ◌∷◌, arith}
+use Rattle.std.proofs.Common.{◌≡◌, ◌∙◌, ap, List, arith}
 use Rattle.std.specs.Prelude.{Option, option_map}
 use Rattle.tsc_span.specs.Span.{KeyBytes, end_keys}
 use Rattle.tsc_page.specs.Page.{Mark, marked_keys, count_distinct}

@@ -1,5 +1,5 @@
 -- A key is new where no mark has it as an end key.
-use Rattle.std.proofs.Common.{◌≡◌, ◌∙◌, sym, ap, false, true, List, get_or}
+use Rattle.std.proofs.Common.{◌∙◌, sym, ap, List}
 use Rattle.std.specs.Prelude.{option_map, not}
 use Rattle.tsc_span.specs.Span.{end_keys}
 use Rattle.tsc_page.specs.Page.{Mark, marked_keys}

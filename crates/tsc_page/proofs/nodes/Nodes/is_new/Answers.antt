@@ -1,5 +1,5 @@
 -- A key is new where there is a place for it.
-use Rattle.std.proofs.Common.{◌≡◌, ◌∙◌, sym, ap}
+use Rattle.std.proofs.Common.{◌∙◌, sym, ap}
 use Rattle.std.specs.Prelude.{option_map}
 use Rattle.tsc_page.specs.PageView.{is_new_among}
 use Rattle.tsc_page.specs.Nodes.{node_keys}

@@ -3,7 +3,7 @@ use Rattle.std.proofs.Common.{◌≡◌, ◌∙◌, sym, subst, List, length, ru
 use Rattle.std.specs.List.Sorted.{IsSearchInRange, IsBinarySearchResult}
 use Rattle.std.proofs.lemmas.Fn.{always_returns_same}
 use Rattle.tsc_span.specs.Span.{key_cmp}
-use Rattle.tsc_page.specs.Nodes.{Node, IsPlaceFor, place_of}
+use Rattle.tsc_page.specs.Nodes.{Node, IsPlaceFor}
 use Rattle.tsc_page.proofs.Searches.{searched, err_place}
 use Rattle.tsc_page.proofs.nodes.Nodes.place_for.Goals as goal
 

@@ -1,5 +1,5 @@
 -- The keys and then the gaps between the cuts are raised, each once.
-use Rattle.std.proofs.Common.{◌≡◌, ◌∙◌, refl, ◌<◌, ◌≤◌, ◌+◌, sym, ap, subst, ℕ, List, [], ◌∷◌, length, get_or, set, arith}
+use Rattle.std.proofs.Common.{◌≡◌, ◌∙◌, ◌<◌, ◌+◌, sym, ap, subst, ℕ, List, [], ◌∷◌, length, get_or, set, arith}
 use Rattle.std.proofs.lemmas.List.{get_or_default, length-set}
 use Rattle.tsc_time.specs.OwnedTime.{OwnedTime}
 use Rattle.tsc_time.specs.Joint.{joint}
@@ -7,7 +7,6 @@ use Rattle.tsc_span.specs.Span.{Interval, between}
 use Rattle.tsc_span.specs.Cuts.{cut_of}
 use Rattle.tsc_page.specs.Nodes.{Node, HoldsKeysOn, HoldsGapsOn}
 use Rattle.tsc_page.specs.contracts.node.Node.{the_view}
-use Rattle.tsc_page.proofs.Seen.{IsAt}
 use Rattle.tsc_page.proofs.RaisedNodes.{ChangesPlaces, key_raised, gap_raised, with_both, one_changed, both_changed}
 use Rattle.tsc_page.proofs.nodes.Nodes.raise_between.Goals as goal
 
@@ -63,7 +62,7 @@ pub returns : goal.returns
 returns c =
     let old : List Node = c.args.self.now.list.items in
     let span : Interval = between (cut_of c.args.from) (cut_of c.args.to) in
-    let keys = subst (λ r. HoldsKeysOn old span r.start r.end) (sym c.into_iter-place-iterator.ensures.into_iter_gives) c.keys_between-keys.ensures in
+    let keys = subst (λ r. HoldsKeysOn old span r.start r.end) (sym c.into_iter-place-iterator.ensures.into_iter_gives) c.keys_between-keys.ensures.holds in
     let gaps = subst (λ r. HoldsGapsOn old span r.start r.end) (sym c.into_iter-place-iterator-2.ensures.into_iter_gives) c.gaps_between-gaps.ensures in
     let first = c.loop-place.invariant in
     let then = c.loop-place-2.invariant in

@@ -1,10 +1,8 @@
 -- The value of the gap before a place is that of the node before it, or none.
-use Rattle.std.proofs.Common.{◌≡◌, ◌∙◌, ◌≤◌, ◌<◌, ap, subst, sym, ◌-◌, ℕ, List, length, get_or, arith, rules}
-use Rattle.std.specs.Prelude.{Option, Some}
+use Rattle.std.proofs.Common.{◌≡◌, ◌∙◌, ap, subst, sym, ◌-◌, ℕ, List, get_or, rules}
 use Rattle.std.specs.List.{insert}
 use Rattle.tsc_time.specs.Time.{zero_time}
 use Rattle.tsc_time.specs.OwnedTime.{OwnedTime, unowned}
-use Rattle.tsc_span.specs.Span.{KeyBytes}
 use Rattle.tsc_page.specs.Nodes.{Node, FitsIn, with_new, node_in_gap, gap_value}
 use Rattle.tsc_page.proofs.Edits.{gap_value-at, first_number}
 use Rattle.tsc_page.proofs.nodes.Nodes.split.Goals as goal

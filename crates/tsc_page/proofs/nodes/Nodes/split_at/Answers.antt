@@ -1,9 +1,9 @@
 -- The greater key's node comes first, and leaves the smaller one's place as it was.
-use Rattle.std.proofs.Common.{◌≡◌, ◌∙◌, ap, subst, sym, ◌++◌, List}
+use Rattle.std.proofs.Common.{◌∙◌, ap, subst, sym, ◌++◌, List}
 use Rattle.std.specs.Prelude.{Option, option_map}
 use Rattle.std.specs.Option.{option_to_list}
 use Rattle.tsc_span.specs.Span.{KeyBytes}
-use Rattle.tsc_page.specs.Nodes.{Node, FitsIn, IsNewKey, IsSplitAt, with_new}
+use Rattle.tsc_page.specs.Nodes.{Node, FitsIn, IsSplitAt, with_new}
 use Rattle.tsc_page.proofs.NewKeys.{with_new_splits, new_fits, still_new, splits_chain}
 use Rattle.tsc_page.proofs.nodes.Nodes.split_at.Goals as goal
 

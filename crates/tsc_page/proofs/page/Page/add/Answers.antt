@@ -4,13 +4,12 @@ use Rattle.std.specs.Ordering.{ord_max}
 use Rattle.std.proofs.lemmas.Bool.{leb-true}
 use Rattle.tsc_time.specs.Time.{Time, time_cmp, later}
 use Rattle.tsc_time.specs.Joint.{joint}
-use Rattle.std.specs.Prelude.{Option, option_map}
-use Rattle.std.specs.Option.{option_to_list}
-use Rattle.tsc_span.specs.Span.{KeyBytes, Cut, Interval, between, overlaps, end_keys}
+use Rattle.std.specs.Prelude.{option_map}
+use Rattle.tsc_span.specs.Span.{Cut, Interval, between, overlaps, end_keys}
 use Rattle.tsc_span.specs.Cuts.{cut_of}
-use Rattle.tsc_page.specs.Page.{PageMarks, with_mark, count_distinct}
+use Rattle.tsc_page.specs.Page.{with_mark, count_distinct}
 use Rattle.tsc_page.specs.PageView.{PageView, StandsFor, answer, is_in, has_room_for}
-use Rattle.tsc_page.specs.Nodes.{Node, IsSorted, IsSplitAt, answer_of, node_keys, stretches, stretch_spans}
+use Rattle.tsc_page.specs.Nodes.{Node, IsSorted, IsSplitAt, answer_of, node_keys}
 use Rattle.tsc_page.proofs.Ends.{ends_in_order}
 use Rattle.tsc_page.proofs.Standing.{later-max, added_sorted, added_length, added_keys, added_answers, added_stands, page_of}
 use Rattle.tsc_page.proofs.page.Page.add.Goals as goal

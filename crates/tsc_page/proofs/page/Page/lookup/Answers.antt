@@ -1,5 +1,5 @@
 -- Nothing overlaps the empty span.
-use Rattle.std.proofs.Common.{◌≡◌, ◌∙◌, sym, ap}
+use Rattle.std.proofs.Common.{◌∙◌, sym, ap}
 use Rattle.tsc_page.specs.PageView.{answer}
 use Rattle.tsc_page.proofs.Standing.{nothing_answered}
 use Rattle.tsc_page.proofs.page.Page.lookup.Goals as goal

@@ -1,7 +1,7 @@
 -- Sorted nodes have as many different keys as there are nodes.
-use Rattle.std.proofs.Common.{◌≡◌, ◌∙◌, sym, ap, length}
-use Rattle.tsc_page.specs.Page.{PageMarks, count_distinct}
-use Rattle.tsc_page.specs.PageView.{PageView, StandsFor}
+use Rattle.std.proofs.Common.{◌∙◌, sym, ap}
+use Rattle.tsc_page.specs.Page.{count_distinct}
+use Rattle.tsc_page.specs.PageView.{PageView}
 use Rattle.tsc_page.proofs.Standing.{count_of_nodes, same_count}
 use Rattle.tsc_page.proofs.page.Page.nodes.Goals as goal
 

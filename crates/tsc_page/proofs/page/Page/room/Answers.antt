@@ -1,10 +1,9 @@
 -- The nodes, and one for each end key that is new, are as many as the keys without repeats.
-use Rattle.std.proofs.Common.{◌≡◌, ◌∙◌, sym, ap, subst, nat_le, ◌++◌, ◌+◌, cond, Bool, ℕ, List, length, true, arith}
+use Rattle.std.proofs.Common.{◌≡◌, ◌∙◌, sym, ap, subst, nat_le, ◌++◌, ◌+◌, ℕ, List, true, arith}
 use Rattle.std.specs.Prelude.{Option, option_map}
-use Rattle.std.specs.Option.{option_to_list}
 use Rattle.tsc_span.specs.Span.{KeyBytes, end_keys}
-use Rattle.tsc_page.specs.Page.{PageMarks, count_distinct}
-use Rattle.tsc_page.specs.PageView.{PageView, StandsFor, has_room_for, is_new_among}
+use Rattle.tsc_page.specs.Page.{count_distinct}
+use Rattle.tsc_page.specs.PageView.{PageView, has_room_for, is_new_among}
 use Rattle.tsc_page.specs.Nodes.{Node, node_keys}
 use Rattle.tsc_page.proofs.DistinctKeys.{has_no_repeats}
 use Rattle.tsc_page.proofs.Ends.{end_keys_once}

@@ -1,6 +1,6 @@
 -- The mark comes last.
-use Rattle.std.proofs.Common.{◌≡◌, ◌∙◌, sym, ap, subst, cond, List, [], ◌∷◌, ◌++◌}
-use Rattle.tsc_time.specs.Time.{Time, later}
+use Rattle.std.proofs.Common.{◌∙◌, sym, ap, subst, cond, List, [], ◌∷◌, ◌++◌}
+use Rattle.tsc_time.specs.Time.{later}
 use Rattle.tsc_time.specs.Joint.{joint}
 use Rattle.tsc_span.specs.Span.{Interval, overlaps}
 use Rattle.tsc_page.specs.Page.{Mark, PageMarks, with_mark, top}

@@ -1,5 +1,5 @@
 -- Lists with the same keys have as many different ones.
-use Rattle.std.proofs.Common.{◌≡◌, ◌∙◌, ap}
+use Rattle.std.proofs.Common.{◌∙◌, ap}
 use Rattle.tsc_page.specs.Page.{marked_keys, count_distinct}
 use Rattle.tsc_page.specs.PageView.{PageView}
 use Rattle.tsc_page.proofs.Standing.{same_count}

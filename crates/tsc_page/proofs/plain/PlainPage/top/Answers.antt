@@ -1,8 +1,7 @@
 -- The next mark's time is the latest one so far, or below it.
-use Rattle.std.proofs.Common.{◌≡◌, ◌∙◌, sym, ap, List, take, get_or, map}
+use Rattle.std.proofs.Common.{◌∙◌, sym, ap, List, get_or}
 use Rattle.std.specs.Ordering.{ord_max}
 use Rattle.tsc_time.specs.Time.{Time, time_cmp, later}
-use Rattle.tsc_time.specs.Joint.{latest}
 use Rattle.tsc_page.specs.Page.{Mark}
 use Rattle.tsc_page.proofs.Standing.{later-max}
 use Rattle.tsc_page.proofs.PlainMarks.{latest_more}

@@ -1,4 +1,4 @@
-use Rattle.std.proofs.Common.{◌≡◌, ◌≤◌, take, length}
+use Rattle.std.proofs.Common.{◌≡◌, take}
 use Rattle.tsc_page.proofs.plain.PlainPage.try_copy.Given as goal
 
 -- what was copied so far
