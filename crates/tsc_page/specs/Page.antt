@@ -25,7 +25,7 @@ empty_page base = record { base = base; marks = [] }
 abbrev pub with_mark : PageMarks → Mark → PageMarks
 with_mark p m = record { base = p.base; marks = p.marks ++ m ∷ [] }
 
--- the greatest of the base and of the times of the marks
+-- the latest time on a page: its base, or the time of a mark
 abbrev pub top : PageMarks → Time
 top p = latest p.base (map (λ m. m.value) p.marks)
 

@@ -23,7 +23,7 @@ answer v span = joint_above zero_time (values_on span v.spans)
 abbrev pub is_in : KeyBytes → List KeyBytes → Bool
 is_in k ks = list_any (bytes_eq k) ks
 
--- A page stands for a base and a list of marks where the top and the set of end keys are the same, and the answer to each span is the joint value of the marks that overlap it, above time zero. The limit belongs to no list: contracts name it apart.
+-- A page stands for a base and a list of marks where whoever asks finds no difference: neither in the top, nor in which keys are end keys, nor in what any span is answered. The limit belongs to no list: contracts name it apart.
 pub record StandsFor (v : PageView) (p : PageMarks) : Type 0 where
   pub top : v.top ≡ top p
   pub keys : (k : KeyBytes) → is_in k v.keys ≡ is_in k (marked_keys p.marks)

@@ -14,6 +14,7 @@ KeyBytes = List ℕ
 abbrev pub longest_key : ℕ
 longest_key = 4096
 
+-- whether bytes are few enough for a key
 abbrev pub fits_key : KeyBytes → Bool
 fits_key k = nat_le (length k) longest_key
 
@@ -39,12 +40,15 @@ cut_cmp last (before m) = Greater
 cut_cmp last (after m) = Greater
 cut_cmp last last = Equal
 
+-- whether the first of two places lies below the other
 abbrev pub is_below : Cut → Cut → Bool
 is_below a b = is_lt (cut_cmp a b)
 
+-- the upper one of two places
 abbrev pub greater_cut : Cut → Cut → Cut
 greater_cut a b = if is_below a b then b else a
 
+-- the lower one of two places
 abbrev pub smaller_cut : Cut → Cut → Cut
 smaller_cut a b = if is_below a b then a else b
 

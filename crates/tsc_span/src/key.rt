@@ -14,7 +14,7 @@ use tsc_time::NoMemory;
 /// How many bytes a key has at the most.
 const LONGEST_KEY: usize = 4096;
 
-/// A key: a text of 0 to 4096 bytes. The empty key is the least.
+/// A key: a text of bytes, 4096 of them at the most. The empty key comes first.
 ///
 /// Keys are ordered byte by byte, and a key comes after each shorter beginning. A comparison costs as
 /// much as the bytes that two keys share at their beginning.

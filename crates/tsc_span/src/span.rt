@@ -114,8 +114,8 @@ impl Span {
         }
     }
 
-    /// Whether the span is empty. The span between two neighbouring
-    /// keys, both excluded, holds no key, and is not.
+    /// Whether the span is empty. The span between a key and the next one after it, both excluded, is not,
+    /// although no key lies in it.
     pub fn is_empty(&self) -> bool
         ensures { result ≡ is_empty_span self.now }
     {

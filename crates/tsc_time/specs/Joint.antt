@@ -30,7 +30,7 @@ joint_above floor vs = joint (unowned floor) vs
 abbrev pub IsAtMost : OwnedTime → OwnedTime → Type 0
 IsAtMost v w = IsTrue (is_before v.time w.time) ⊎ ((v.time ≡ w.time) × ((w.owner ≡ None) ⊎ (w.owner ≡ v.owner)))
 
--- What a new value makes of an old one: the later time wins with its owner. At equal times another owner, or none against one, leaves none.
+-- What a new value makes of an old one: whichever is later stays as it is. Two of one time keep an owner that both name, and else have none.
 abbrev pub ratcheted : OwnedTime → OwnedTime → OwnedTime
 ratcheted old new =
     if is_before old.time new.time then new

@@ -13,6 +13,7 @@ pub record OwnedTime : Type 0 where
   pub time : Time
   pub owner : Option Owner
 
+-- a time that nobody owns
 abbrev pub unowned : Time → OwnedTime
 unowned t = record { time = t; owner = None }
 

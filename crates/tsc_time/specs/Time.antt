@@ -8,10 +8,11 @@ pub record Time : Type 0 where
   pub wall : ℕ
   pub logical : ℕ
 
--- what a wall time stays below, and a logical count
+-- what a wall time stays below
 abbrev pub wall_limit : ℕ
 wall_limit = 2 ^ 63
 
+-- and what a logical count stays below
 abbrev pub logical_limit : ℕ
 logical_limit = 2 ^ 31
 
@@ -27,9 +28,11 @@ zero_time = record { wall = 0; logical = 0 }
 abbrev pub time_cmp : Time → Time → Ordering
 time_cmp a b = ordering_then (nat_cmp a.wall b.wall) (nat_cmp a.logical b.logical)
 
+-- whether the first of two is the earlier
 abbrev pub is_before : Time → Time → Bool
 is_before a b = is_lt (time_cmp a b)
 
+-- whether both parts of two are the same
 abbrev pub is_same_time : Time → Time → Bool
 is_same_time a b = (a.wall == b.wall) && (a.logical == b.logical)
 

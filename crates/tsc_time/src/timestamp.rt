@@ -6,8 +6,8 @@ use std::marker::Model;
 /// A hybrid logical clock's time: `hlc.Timestamp` of CockroachDB's `pkg/util/hlc`, without negative
 /// values and without the synthetic flag.
 ///
-/// The wall time counts nanoseconds, from 0 to 2^63 - 1, and the logical count goes from 0 to
-/// 2^31 - 1. Timestamps are ordered by wall time, and then by logical count.
+/// The wall time counts nanoseconds and stays below 2^63, and the logical count stays below 2^31. The
+/// smaller wall time comes first, and of two equal ones the smaller logical count.
 #[derive(Clone, Copy, Debug, PartialEq, Eq, PartialOrd, Ord, Hash)]
 pub struct Timestamp {
     wall: u64,
@@ -40,7 +40,7 @@ impl Timestamp {
         logical: 2_147_483_647,
     };
 
-    /// The timestamp of these parts, or `None` where a part is above its range.
+    /// The timestamp of these parts, or `None` where one of them is too large.
     pub const fn new(wall: u64, logical: u32) -> Option<Timestamp>
         ensures { result ≡ (if is_in_range (record { wall = wall; logical = logical })
             then Some (record { wall = wall; logical = logical }) else None) }
@@ -68,8 +68,8 @@ impl Timestamp {
         self.logical
     }
 
-    /// The timestamp `ns` nanoseconds earlier, which keeps the logical count, or `None` where the wall
-    /// time is smaller than `ns`.
+    /// The timestamp `ns` nanoseconds earlier, with the same logical count, or `None` where the wall time
+    /// would fall below 0.
     pub const fn minus(self, ns: u64) -> Option<Timestamp>
         ensures { result ≡ time_minus self ns }
     {

@@ -67,8 +67,8 @@ impl Value {
 /// What `new` makes of `old`, and whether that differs from `old`: `ratchetValue` of CockroachDB's
 /// `pkg/kv/kvserver/tscache/cache.go`.
 ///
-/// The later time wins with its owner. At equal times a common owner stays, and otherwise nobody owns
-/// the time any longer, since the writes of each transaction have to heed the reads of the other.
+/// Whichever is later is the result. Two values of one time keep an owner that both name, and else lose
+/// it, since the writes of each transaction have to heed the reads of the other.
 pub fn ratchet(old: Value, new: Value) -> (Value, bool)
     ensures value { result.0 ≡ ratcheted old new }
     ensures joint { result.0 ≡ joint old (new ∷ []) }

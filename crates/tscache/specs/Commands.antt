@@ -21,9 +21,11 @@ bare_shape = record (new_shape (codes "tscache")) {
   disable_help_subcommand = true;
 }
 
+-- and the same as what clap walks over
 abbrev pub bare_app : App
 bare_app = record { top = bare_shape; subs = [] }
 
+-- the program with its subcommand
 abbrev pub program_app : App
 program_app = with_subcommand bare_app (one_file_shape (codes "replay"))
 

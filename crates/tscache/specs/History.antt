@@ -14,6 +14,7 @@ pub record Entry : Type 0 where
   pub value : OwnedTime
   pub now : Time
 
+-- what an entry puts on a page
 abbrev pub mark_of : Entry → Mark
 mark_of e = record { span = e.span; value = e.value }
 

@@ -2,10 +2,11 @@
 use Rattle.std.specs.Prelude.{ℕ, List, length, ◌&&◌, nat_le, Bool}
 use Rattle.std.specs.List.{sum_by}
 
--- how many lists, and how many calls over all lists, a trace has at the most
+-- how many lists a trace has at the most
 abbrev pub most_lists : ℕ
 most_lists = 64
 
+-- and how many calls, over all its lists
 abbrev pub most_calls : ℕ
 most_calls = 65536
 

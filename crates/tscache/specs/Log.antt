@@ -1,4 +1,4 @@
--- The log of a trace: what each call answers on one thread, the lists one after another.
+-- The log of a trace: what each call answers where one thread takes list after list.
 use Rattle.std.specs.Prelude.{ℕ, suc, List, [], ◌∷◌, ◌++◌, length}
 use Rattle.tscache.specs.State.{Settings, step, look}
 use Rattle.tscache.specs.History.{History, own_count, state_of}

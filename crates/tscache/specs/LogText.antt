@@ -8,12 +8,15 @@ use Rattle.tscache.specs.declared.log.Line.{Line}
 use Rattle.tscache.specs.declared.log.Said.{Said}
 use Rattle.tscache.specs.declared.log.Said.TheVariants as said
 
+-- the byte between two fields
 abbrev pub space : ℕ
 space = 32
 
+-- the byte that ends a line
 abbrev pub line_feed : ℕ
 line_feed = 10
 
+-- the byte between the two parts of a time
 abbrev pub dot : ℕ
 dot = 46
 

@@ -17,7 +17,7 @@ use Rattle.tscache.specs.declared.replay.ReplayFault.TheVariants.{Read, TooLong,
 abbrev pub replay_text : Trace → List ℕ
 replay_text trace = log_text (log_of trace)
 
--- A reader was read to its end and gave a trace, and this is the text of its replay.
+-- All that a reader had was read and is a trace, and this is the text of its replay.
 pub record ReplaysTo (reader reader' : Option (List ℕ)) (text : List ℕ) : Type 0 where
   pub input : List ℕ
   pub trace : Trace
@@ -37,7 +37,7 @@ pub record ReplaysPrefix (reader reader' writer writer' : Option (List ℕ)) : T
   pub read : ReplaysTo reader reader' text
   pub wrote : HasWrittenPrefix writer writer' text
 
--- A reader was read to its end, and gave what is no trace, for this reason.
+-- All that a reader had was read and is no trace, for this reason.
 pub record Refuses (reader reader' : Option (List ℕ)) (fault : TraceFault) : Type 0 where
   pub input : List ℕ
   pub read : HasRead reader reader' input

@@ -31,11 +31,11 @@ pub record CacheState : Type 0 where
   pub pages : List PageMarks
   pub rotations : ℕ
 
--- the floor at the low-water time, and one empty page whose base is zero
+-- a cache to which nothing was added: its floor stands where the settings say, above one empty page from time zero on
 abbrev pub opening : Settings → CacheState
 opening settings = record { floor = settings.low_water; pages = empty_page zero_time ∷ []; rotations = 0 }
 
--- A page is expired where its top is below the moment less the retention. One whose top equals that limit is not, and where the moment's wall time is smaller than the retention no page is.
+-- A page is expired once its top lies before a limit, the moment less the retention; a top on the limit does not. Moments too early to have such a limit leave every page.
 abbrev pub is_expired : ℕ → Time → PageMarks → Bool
 is_expired retention now p = is_below_limit (time_minus now retention)
   where
@@ -49,7 +49,7 @@ pub record Eviction : Type 0 where
   pub pages : List PageMarks
   pub evicted : ℕ
 
--- Over the pages from oldest to newest: the oldest is dropped, and the floor rises to its top, while there are at least `min_pages` pages and it is expired.
+-- From the oldest page on: an expired one goes, and lifts the floor to its top, until one is met that is not expired, or fewer than `min_pages` are left.
 abbrev pub evict : Settings → Time → Time → List PageMarks → Eviction
 evict settings now floor [] = record { floor = floor; pages = []; evicted = 0 }
 evict settings now floor (oldest ∷ newer) =
@@ -71,7 +71,7 @@ pub record Rotation : Type 0 where
   pub state : CacheState
   pub evicted : ℕ
 
--- Pages are evicted, and then a new front page comes, whose base is the top of the page that was the front, evicted or not.
+-- First pages are evicted. Then an empty one comes to the front, and takes as its base the top of the front page before it, even where that one is gone.
 abbrev pub rotate : Settings → CacheState → Time → Rotation
 rotate settings s now =
     let kept = evict settings now s.floor (reverse s.pages) in
@@ -94,7 +94,7 @@ on_front (front ∷ older) m = with_mark front m ∷ older
 abbrev pub marked : CacheState → Mark → CacheState
 marked s m = record { floor = s.floor; pages = on_front s.pages m; rotations = s.rotations }
 
--- An Add of the empty span, or at or below the floor, is not kept.
+-- An Add is kept where its span is not empty and its time is above the floor.
 abbrev pub is_kept : CacheState → Mark → Bool
 is_kept s m = not (is_empty_span m.span) && is_before s.floor m.value.time
 
@@ -103,14 +103,14 @@ pub record Stepped : Type 0 where
   pub state : CacheState
   pub added : Added
 
--- What an Add makes of a state. One that is not kept leaves it. Any other goes to the front page, and where that has no room the pages rotate once first.
+-- What an Add makes of a state: where it is not kept, nothing; else one more mark on the front page, after a rotation where that page was too full for it.
 abbrev pub step : Settings → CacheState → Mark → Time → Stepped
 step settings s m now =
     if not (is_kept s m) then record { state = s; added = record { kept = false; rotated = false; evicted = 0 } }
     else if front_has_room settings s m.span then record { state = marked s m; added = record { kept = true; rotated = false; evicted = 0 } }
     else (let turned = rotate settings s now in record { state = marked turned.state m; added = record { kept = true; rotated = true; evicted = turned.evicted } })
 
--- What a lookup answers: the joint value of all marks of all pages that overlap the span, together with the floor.
+-- What a lookup answers: what the floor and each mark on the span, whichever page has it, come to together.
 abbrev pub look : CacheState → Interval → OwnedTime
 look s span = joint_above s.floor (flat_map (λ p. values_on span p.marks) s.pages)
 

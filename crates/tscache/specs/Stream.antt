@@ -32,7 +32,7 @@ GaveUp failed turns_left = (failed ≡ true) ⊎ (turns_left ≡ 0)
 abbrev pub IsFresh : Bool → ℕ → Type 0
 IsFresh failed turns_left = (failed ≡ false) × (turns_left ≡ most_turns)
 
--- A reader was read to its end, and gave this input.
+-- A reader was called until it told its end, and this is all that it had.
 pub record HasRead (old new : Option (List ℕ)) (input : List ℕ) : Type 0 where
   pub consumed : Consumes old new input
   pub ended : IsAtEnd new

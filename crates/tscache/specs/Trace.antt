@@ -14,7 +14,7 @@ added_keys (Add span value now) = end_keys span
 added_keys (Get span) = []
 added_keys Low = []
 
--- whether the end keys of all Adds of a list, without repeats, fit one page
+-- whether one page may hold the different end keys of a list's Adds
 abbrev pub fits_one_page : ℕ → List Call → Bool
 fits_one_page page_nodes calls = nat_le (count_distinct (flat_map added_keys calls)) page_nodes
 

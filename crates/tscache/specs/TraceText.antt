@@ -19,6 +19,7 @@ use Rattle.tscache.specs.declared.trace.Trace.{Trace}
 use Rattle.tscache.specs.declared.read.TraceFault.{TraceFault}
 use Rattle.tscache.specs.declared.read.TraceFault.TheVariants.{NotJson, Shape}
 
+-- what comes of a value, where there is one
 infixl 10 ◌>>=◌
 abbrev pub ◌>>=◌ : {A B : Type 0} → Option A → (A → Option B) → Option B
 o >>= f = option_and_then f o
@@ -104,6 +105,7 @@ span_of_keys (start, Some end) = start_to_end start end
 unfoldable pub lookup_span_of_keys : KeyBytes × Option KeyBytes → Interval
 lookup_span_of_keys keys = unwrap_or (span_of_keys keys) nothing
 
+-- an Add, by its members
 unfoldable pub add_of : Members → Option Call
 add_of ms = do
   ms ← where_holds (names_only (codes "op" ∷ codes "span" ∷ codes "time" ∷ codes "owner" ∷ codes "now" ∷ []) ms) ms
@@ -113,12 +115,14 @@ add_of ms = do
   now ← get_member (codes "now") ms >>= time_of
   Some (Add span (record { time = time; owner = owner }) now)
 
+-- a lookup, by its members
 unfoldable pub get_of : Members → Option Call
 get_of ms = do
   ms ← where_holds (names_only (codes "op" ∷ codes "span" ∷ []) ms) ms
   keys ← get_member (codes "span") ms >>= span_keys
   Some (Get (lookup_span_of_keys keys))
 
+-- a call for the floor, which has no member beside its name
 unfoldable pub low_of : Members → Option Call
 low_of ms = where_holds (names_only (codes "op" ∷ []) ms) Low
 
@@ -130,12 +134,14 @@ call_by_name op ms =
     else if bytes_eq op (codes "low") then low_of ms
     else None
 
+-- a call: an object whose member `op` is the name of its operation
 unfoldable pub call_of : Data → Option Call
 call_of d = do
   ms ← as_object d
   op ← get_member (codes "op") ms >>= as_str
   call_by_name op ms
 
+-- the calls of a list, of which each has to be one
 unfoldable pub calls_of : Items → Option (List Call)
 calls_of no_items = Some []
 calls_of (item d ds) = do
@@ -180,6 +186,7 @@ abbrev pub trace_or_shape : Option Trace → Result Trace TraceFault
 trace_or_shape None = Err (Shape 0)
 trace_or_shape (Some t) = Ok t
 
+-- the trace that a JSON value is, or why it is none
 abbrev pub trace_of_json : Option Data → Result Trace TraceFault
 trace_of_json None = Err NotJson
 trace_of_json (Some d) = trace_or_shape (trace_of d)

@@ -13,6 +13,7 @@ Word = List ℕ
 pub data Request : Type 0 where
   replay : Word → Request
 
+-- what the code's answer asks for
 abbrev pub asks : Asked → Request
 asks (Replay file) = replay (string_bytes file)
 
@@ -41,10 +42,12 @@ abbrev pub request_by : Word → List Word → Option Request
 request_by name rest =
     if bytes_eq (codes "replay") name then option_map replay (lone (operands rest)) else None
 
+-- what the words after the program's name ask for, by the first of them
 abbrev pub request_after : List Word → Option Request
 request_after [] = None
 request_after (name ∷ rest) = request_by name rest
 
+-- what all the words ask for
 abbrev pub request_in : List Word → Option Request
 request_in words = request_after (drop 1 words)
 

@@ -3,7 +3,7 @@ ghost use Rattle.std.specs.Prelude.{◌≡◌};
 /// What an Add did.
 #[derive(Clone, Copy, Debug, PartialEq, Eq)]
 pub struct Added {
-    /// Whether the Add is kept. One of the empty span, or at or below the floor, is not.
+    /// Whether the Add is kept: its span is not empty, and its time is above the floor.
     pub kept: bool,
     /// Whether the pages rotated first.
     pub rotated: bool,

@@ -27,7 +27,7 @@ pub struct Line {
     pub said: Said,
 }
 
-/// The lines of a log, list by list, and in each list in the order of the calls.
+/// The lines of a log: those of the first list in the order of its calls, then those of the next.
 #[derive(Debug, Drop)]
 pub struct Lines {
     lines: Vec<Line>,

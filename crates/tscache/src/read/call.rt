@@ -138,6 +138,7 @@ fn lookup_span(start: Key, end: Option<Key>) -> Span
     }
 }
 
+/// An Add, by its members.
 #[tactic(auto, unfolding(crate::specs::TraceText::add_of))]
 fn add(alloc: Global, members: &Map<String, Value>) -> Result<Call, Refusal>
     ensures { Gives (λ call. call) result (add_of (members_view members.now.entries)) }
@@ -154,6 +155,7 @@ fn add(alloc: Global, members: &Map<String, Value>) -> Result<Call, Refusal>
     Ok(Call::Add { span, value, now })
 }
 
+/// A lookup, by its members.
 #[tactic(auto, unfolding(crate::specs::TraceText::get_of))]
 fn get(alloc: Global, members: &Map<String, Value>) -> Result<Call, Refusal>
     ensures { Gives (λ call. call) result (get_of (members_view members.now.entries)) }
@@ -166,6 +168,7 @@ fn get(alloc: Global, members: &Map<String, Value>) -> Result<Call, Refusal>
     Ok(Call::Get { span })
 }
 
+/// A call for the floor, which has no member beside its name.
 #[tactic(auto, unfolding(crate::specs::TraceText::low_of))]
 fn low(members: &Map<String, Value>) -> Result<Call, Refusal>
     ensures { Gives (λ call. call) result (low_of (members_view members.now.entries)) }
@@ -176,6 +179,7 @@ fn low(members: &Map<String, Value>) -> Result<Call, Refusal>
     Ok(Call::Low)
 }
 
+/// A call by the name of its operation.
 #[tactic(auto, unfolding(crate::specs::TraceText::call_by_name))]
 fn named_call(alloc: Global, name: &str, members: &Map<String, Value>) -> Result<Call, Refusal>
     ensures { Gives (λ call. call) result (call_by_name name.now (members_view members.now.entries)) }
@@ -192,6 +196,7 @@ fn named_call(alloc: Global, name: &str, members: &Map<String, Value>) -> Result
     Err(Refusal::Shape)
 }
 
+/// A call: an object whose member `op` names the operation.
 #[tactic(auto, unfolding(crate::specs::TraceText::call_of))]
 fn call(alloc: Global, value: &Value) -> Result<Call, Refusal>
     ensures { Gives (λ call. call) result (call_of (view value.now)) }

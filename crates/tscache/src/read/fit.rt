@@ -12,7 +12,7 @@ use std::alloc::{AllocError, Global};
 use std::collections::BTreeSet;
 use tsc_span::Key;
 
-/// Whether the end keys of all Adds, without repeats, are no more than a page may hold.
+/// Whether one page may hold the different end keys of all Adds.
 pub(super) fn fits(alloc: Global, calls: &[Call], page_nodes: u32) -> Result<bool, AllocError>
     ensures { IfOk result (λ fits. fits ≡ fits_one_page page_nodes calls.now) }
 {
