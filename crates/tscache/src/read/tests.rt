@@ -1,5 +1,9 @@
 use super::*;
+use crate::trace::Call;
 use std::test::*;
+use tsc_span::{Ends, Key, Span};
+use tsc_time::Timestamp;
+use uuid::Uuid;
 
 /// What reading says of a text: how many calls its list has, or why it is refused.
 fn said(alloc: Global, text: &str) -> Result<usize, TraceFault> {
@@ -30,6 +34,56 @@ fn reads_a_trace(rt: HostRuntime) {
             {"op":"low"}
         ]]}"#;
     assert_eq!(rt; said(rt.alloc(), text), Ok(3));
+}
+
+/// The time of a wall time and a logical count.
+fn at(wall: u64, logical: u32) -> Result<Timestamp, Fail> {
+    let time = Timestamp::new(wall, logical).ok_or("out of range")?;
+    Ok(time)
+}
+
+/// The span from one key to another, without the other.
+fn range(alloc: Global, from: &[u8], to: &[u8]) -> Result<Span, Fail> {
+    let ends = Ends {
+        exclude_from: false,
+        exclude_to: true,
+    };
+    Ok(Span::range(Key::new(alloc, from)?, Key::new(alloc, to)?, ends)?)
+}
+
+/// Whether a call is the Add of a span with a value, at a moment.
+fn is_add(call: &Call, of: &Span, with: tsc_time::Value, moment: Timestamp) -> bool {
+    match call {
+        Call::Add { span, value, now } => span == of && *value == with && *now == moment,
+        Call::Get { .. } | Call::Low => false,
+    }
+}
+
+/// Whether a call is the lookup of a span.
+fn is_get(call: &Call, of: &Span) -> bool {
+    matches!(call, Call::Get { span } if span == of)
+}
+
+const THREE_CALLS: &str =
+    r#"{"page_nodes":4,"min_pages":2,"retention":10,"low_water":[5,7],"threads":[[
+{"op":"add","span":{"start":"61","end":"63ff"},"time":[9,1],"owner":"00112233-4455-6677-8899-aabbccddeeff","now":[10,2]},
+{"op":"add","span":{"start":"62"},"time":[7,3],"now":[8,4]},
+{"op":"get","span":{"start":"61","end":"63ff"}}]]}"#;
+
+#[test]
+fn reads_what_calls_name(rt: HostRuntime) -> Result<(), Fail> {
+    let trace = read_trace(rt.alloc(), THREE_CALLS.as_bytes())?;
+    let calls = trace.threads.list(0).ok_or("no list")?;
+    let span = range(rt.alloc(), b"a", b"c\xff")?;
+    let point = Span::point(Key::new(rt.alloc(), b"b")?);
+    let owner = Uuid::from_u128(0x0011_2233_4455_6677_8899_aabb_ccdd_eeff);
+    let owned = tsc_time::Value::of(at(9, 1)?, owner);
+    let unowned = tsc_time::Value::unowned(at(7, 3)?);
+    assert_eq!(rt; calls.len(), 3);
+    assert!(rt; is_add(&calls[0], &span, owned, at(10, 2)?));
+    assert!(rt; is_add(&calls[1], &point, unowned, at(8, 4)?));
+    assert!(rt; is_get(&calls[2], &span));
+    Ok(())
 }
 
 #[test]
