@@ -8,8 +8,8 @@
 
 mod measure;
 
-use crate::measure::{Figures, OPERATIONS, measure};
-use anyhow::Result;
+use crate::measure::{Figures, LARGEST, OPERATIONS, SMALLEST, measure};
+use anyhow::{Result, ensure};
 use std::env;
 
 /// How often each operation is made at each of the spans of a measurement.
@@ -19,24 +19,37 @@ fn main(rt: HostRuntime) -> Result<()> {
     let words: Vec<String> = env::args(&rt)?.collect(rt.alloc())?;
     let mut all: Vec<Figures> = Vec::new(rt.alloc());
     for word in words.iter().skip(1) {
-        let figures = measure(&rt, word.parse()?, TURNS)?;
-        for (name, nanoseconds) in OPERATIONS.into_iter().zip(figures.nanoseconds) {
-            let (nodes, operations) = (figures.nodes, figures.operations);
-            println!(&rt; "{nodes} nodes, {name}: {operations} operations, {nanoseconds} ns each")?;
+        let nodes = word.parse()?;
+        ensure!(
+            SMALLEST <= nodes && nodes <= LARGEST,
+            "a page of {SMALLEST} to {LARGEST} nodes can be measured"
+        );
+        let figures = measure(&rt, nodes, TURNS)?;
+        for (name, figure) in OPERATIONS.into_iter().zip(figures.all) {
+            let (nodes, operations, each) = (figures.nodes, figure.operations, figure.each());
+            println!(&rt; "{nodes} nodes, {name}: {operations} operations, {each} ns each")?;
         }
         all.push(figures)?;
     }
-    if let (Some(first), Some(last)) = (all.first(), all.last()) {
-        for (i, name) in OPERATIONS.into_iter().enumerate() {
-            let percent = last.nanoseconds[i].saturating_mul(100) / first.nanoseconds[i].max(1);
-            println!(&rt; "from the first size to the last, {name}: {percent} %")?;
-        }
-    } else {
-        let figures = measure(&rt, 64, 1)?;
-        let (nodes, operations) = (figures.nodes, figures.operations);
-        for name in OPERATIONS {
-            println!(&rt; "{nodes} nodes, {name}: {operations} operations")?;
-        }
+    let Some((first, later)) = all.as_slice().split_first() else {
+        return short_run(&rt);
+    };
+    let Some(last) = later.last() else {
+        return Ok(());
+    };
+    for (i, name) in OPERATIONS.into_iter().enumerate() {
+        let percent = last.all[i].percent_of(first.all[i]);
+        println!(&rt; "from the first size to the last, {name}: {percent} %")?;
+    }
+    Ok(())
+}
+
+/// Makes each operation once at each place of a small page, and prints no times.
+fn short_run(rt: &HostRuntime) -> Result<()> {
+    let figures = measure(rt, SMALLEST, 1)?;
+    for (name, figure) in OPERATIONS.into_iter().zip(figures.all) {
+        let (nodes, operations) = (figures.nodes, figure.operations);
+        println!(rt; "{nodes} nodes, {name}: {operations} operations")?;
     }
     Ok(())
 }

@@ -5,10 +5,13 @@
 //! in the open gap between its key and that of the next node. Below the first node nothing was added.
 //!
 //! An Add first makes nodes of its end keys. A new node takes both its values from the gap in which it
-//! falls, or time zero without an owner below the first node, so no answer changes. Then the value is ratcheted into each key and each gap within the span.
-//! So a lookup joins the values of the keys and gaps that its span overlaps, however many spans were
-//! added there. It restates a page of CockroachDB's `pkg/kv/kvserver/tscache/interval_skl.go`, whose nodes
-//! stand in a skiplist.
+//! falls, or time zero without an owner below the first node, so no answer changes. Then the value is
+//! ratcheted into each key and each gap within the span. So a lookup joins the values of the keys and gaps
+//! that its span overlaps, however many spans were added there.
+//!
+//! It restates `sklPage` of CockroachDB's `pkg/kv/kvserver/tscache/interval_skl.go`, whose nodes stand in a
+//! skiplist: there `addNode` makes a node, `ratchetValueSet` raises its two values, `lookupTimestampRange`
+//! looks a span up, and `ratchetMaxTimestamp` raises the page's top.
 //!
 //! A [`PlainPage`] is the same thing as the list of what was added: slow, and easy to believe.
 #![tactic(auto)]

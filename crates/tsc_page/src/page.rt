@@ -35,8 +35,8 @@ impl Model for Page {
 }
 
 impl Page {
-    /// An empty page, which has room for `page_nodes` different end keys. `base` is the least that its
-    /// top can be. It takes no memory until something is added.
+    /// An empty page, which has room for `page_nodes` different end keys, from 2 to 65,536. `base` is the
+    /// least that its top can be. It takes no memory until something is added.
     pub fn new(alloc: Global, page_nodes: u32, base: Timestamp) -> Result<Page, NoMemory>
         requires at_least { 2 ≤ page_nodes }
         requires at_most { page_nodes ≤ 65536 }

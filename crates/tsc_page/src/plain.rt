@@ -12,8 +12,9 @@ use tsc_time::{NoMemory, Timestamp, Value, ratchet};
 
 /// A page as the plain list of what was added to it.
 ///
-/// It makes the same promises as [`Page`](crate::Page), word for word, and each of its calls looks at all
-/// that was added.
+/// It makes the same promises as [`Page`](crate::Page), word for word, and is slow: `lookup`, `top` and
+/// `try_copy` look at all that was added, and `room` and `nodes` compare each end key with all later ones,
+/// so their cost grows with the square of what was added. `new` and `add` alone look at none of it.
 #[derive(Debug, Drop)]
 pub struct PlainPage {
     page_nodes: u32,
@@ -49,8 +50,8 @@ impl Model for PlainMark {
 }
 
 impl PlainPage {
-    /// An empty page, which has room for `page_nodes` different end keys. `base` is the least that its
-    /// top can be.
+    /// An empty page, which has room for `page_nodes` different end keys, from 2 to 65,536. `base` is the
+    /// least that its top can be. It takes no memory until something is added.
     pub fn new(alloc: Global, page_nodes: u32, base: Timestamp) -> Result<PlainPage, NoMemory>
         requires at_least { 2 ≤ page_nodes }
         requires at_most { page_nodes ≤ 65536 }
@@ -66,7 +67,7 @@ impl PlainPage {
     }
 
     /// Whether the page has room for a span: whether the end keys of all that was added and of the span,
-    /// counted without repeats, are no more than it may hold.
+    /// counted without repeats, are no more than it may hold. It compares each end key with all others.
     pub fn room(&self, span: &Span) -> bool
         ensures value { result ≡ has_room_for self.now span.now }
         ensures stands { (p : PageMarks) → StandsFor self.now p → result ≡ has_room self.now.page_nodes p span.now }
@@ -77,7 +78,9 @@ impl PlainPage {
         count_keys(marks) + new <= self.page_nodes as usize
     }
 
-    /// Adds a span with its value. It costs a copy of the span.
+    /// Adds a span with its value. The span is not empty, and the page has room for it. Where memory is
+    /// refused the page is as before. It costs a copy of the span, and a move of all that was added where
+    /// the list has to grow.
     pub fn add(&mut self, span: &Span, value: Value) -> Result<(), NoMemory>
         requires not_empty { is_empty_span span.now ≡ false }
         requires room { has_room_for self.old span.now ≡ true }
@@ -121,7 +124,7 @@ impl PlainPage {
         top
     }
 
-    /// How many different end keys the page holds.
+    /// How many different end keys the page holds. It compares each with all others.
     pub fn nodes(&self) -> u32
         ensures value { result ≡ count_distinct self.now.keys }
         ensures stands { (p : PageMarks) → StandsFor self.now p → result ≡ count_distinct (marked_keys p.marks) }

@@ -24,8 +24,35 @@ const BOTH: Ends = Ends {
 
 const CHOICES: [Ends; 4] = [NONE, FROM, TO, BOTH];
 
+/// A key. Where memory is refused the same call then succeeds.
 fn key(alloc: Global, bytes: &[u8]) -> Result<Key, Fail> {
-    Ok(Key::new(alloc, bytes)?)
+    match Key::new(alloc, bytes) {
+        Err(SpanFault::NoMemory) => Ok(Key::new(alloc, bytes)?),
+        made => Ok(made?),
+    }
+}
+
+/// A copy of a key. Where memory is refused the key still has these bytes, and the same call then succeeds.
+fn copy_of_key(key: &Key, bytes: &[u8]) -> Result<Key, Fail> {
+    if let Ok(copy) = key.try_copy() {
+        return Ok(copy);
+    }
+    if key.bytes() != bytes {
+        return Err(Fail::new("a refused copy changed the key"));
+    }
+    Ok(key.try_copy()?)
+}
+
+/// A copy of a span. Where memory is refused the span is as this other one is, and the same call then
+/// succeeds.
+fn copy_of_span(span: &Span, same: &Span) -> Result<Span, Fail> {
+    if let Ok(copy) = span.try_copy() {
+        return Ok(copy);
+    }
+    if span != same {
+        return Err(Fail::new("a refused copy changed the span"));
+    }
+    Ok(span.try_copy()?)
 }
 
 fn range(alloc: Global, from: &[u8], to: &[u8], ends: Ends) -> Result<Span, Fail> {
@@ -155,7 +182,7 @@ fn end_keys(rt: HostRuntime) -> Result<(), Fail> {
     }
     assert_eq!(rt; point(rt.alloc(), b"a")?.end_keys(), (Some(&a), None));
     assert_eq!(rt;
-        Span::onward(a.try_copy()?, true).end_keys(),
+        Span::onward(copy_of_key(&a, b"a")?, true).end_keys(),
         (Some(&a), None)
     );
     assert_eq!(rt;
@@ -165,17 +192,24 @@ fn end_keys(rt: HostRuntime) -> Result<(), Fail> {
     Ok(())
 }
 
+/// A single key, a range, one without end, and the empty span.
+fn samples(alloc: Global) -> Result<[Span; 4], Fail> {
+    Ok([
+        point(alloc, b"a")?,
+        range(alloc, b"a", b"c", FROM)?,
+        Span::onward(key(alloc, b"a")?, true),
+        range(alloc, b"a", b"a", BOTH)?,
+    ])
+}
+
 #[test]
 fn copies_are_equal(rt: HostRuntime) -> Result<(), Fail> {
     let a = key(rt.alloc(), b"a")?;
-    assert_eq!(rt; a.try_copy()?, a);
-    for span in [
-        range(rt.alloc(), b"a", b"c", FROM)?,
-        range(rt.alloc(), b"a", b"a", BOTH)?,
-        point(rt.alloc(), b"a")?,
-        Span::onward(a, true),
-    ] {
-        assert_eq!(rt; span.try_copy()?, span);
+    assert_eq!(rt; copy_of_key(&a, b"a")?, a);
+    let (spans, others) = (samples(rt.alloc())?, samples(rt.alloc())?);
+    for (span, same) in spans.iter().zip(&others) {
+        assert_eq!(rt; &copy_of_span(span, same)?, same);
+        assert_eq!(rt; span, same);
     }
     Ok(())
 }
