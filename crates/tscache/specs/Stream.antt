@@ -32,11 +32,18 @@ GaveUp failed turns_left = (failed ≡ true) ⊎ (turns_left ≡ 0)
 abbrev pub IsFresh : Bool → ℕ → Type 0
 IsFresh failed turns_left = (failed ≡ false) × (turns_left ≡ most_turns)
 
--- A reader was read to its end, and gave this input.
-pub record HasRead (old new : Option (List ℕ)) (input : List ℕ) : Type 0 where
+-- A reader was read until it told its end, and gave this input.
+pub record HasRead (old new : Option (List ℕ)) (has_ended : Bool) (input : List ℕ) : Type 0 where
   pub consumed : Consumes old new input
   pub ended : IsAtEnd new
+  pub told : has_ended ≡ true
   pub within : length input ≤ longest_input
+
+-- No more came from a reader than an input may have.
+pub record HasReadWithin (old new : Option (List ℕ)) : Type 0 where
+  pub read : List ℕ
+  pub consumed : Consumes old new read
+  pub within : length read ≤ longest_input
 
 -- More came from a reader than an input may have.
 pub record HasReadTooMuch (old new : Option (List ℕ)) : Type 0 where
