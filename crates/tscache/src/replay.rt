@@ -1,7 +1,6 @@
 //! Replays of recorded traces from a reader to a writer.
-ghost use Rattle.std.specs.Prelude.{◌≡◌, ◌≢◌, ◌⊎◌, ◌∷◌, [], ◌++◌, false, Some, IfOk, IfErr, IsErrOf, OnOk, OnErr};
+ghost use Rattle.std.specs.Prelude.{◌≡◌, ◌≢◌, ◌⊎◌, ◌++◌, false, Some, IfOk, IfErr, IsErrOf, OnOk, OnErr};
 ghost use Rattle.std.specs.Io.KnownBytes.{Appends};
-ghost use Rattle.tscache.specs.LogText.{line_feed};
 ghost use Rattle.tscache.specs.Replay.{Replays, ReplaysPrefix, ReplaysTo, Refuses, Tells, TellsOf, fault_of_input, fault_line, fault_of_trace, fault_text, status_of};
 ghost use Rattle.tscache.specs.Stream.{GaveUp, HasReadTooMuch, HasReadWithin, HasWrittenPrefix, IsFresh};
 ghost use Rattle.tscache.specs.declared.replay.ReplayFault.TheVariants.{NoMemory};
@@ -75,6 +74,10 @@ impl From<NoMemory> for ReplayFault {
 }
 
 /// Reads a trace to its end, and writes the log of its replay on one thread.
+///
+/// The log is made whole before any of it is written. At `Ok` all of it was written, and at
+/// [`ReplayFault::Write`] a part from its start that is not all of it. At any other fault the writer
+/// was not called. Once a read or a write has failed, no later call makes up for it.
 pub fn replay_stream<R: Source, W: Sink>(
     alloc: Global,
     reader: &mut R,

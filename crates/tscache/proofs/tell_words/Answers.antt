@@ -17,7 +17,7 @@ returns g c =
     let old = contents c.args.errors.now in
     let now = c.write_output.new.writer in
     let line : c.if-status-eq-NO_MEMORY.line.now ≡ refusal_text c.args.status ++ line_feed ∷ [] =
-        elim c.if-status-eq-NO_MEMORY.branch [ then-status-eq-NO_MEMORY w ↦ search rules | else-status-eq-NO_MEMORY w ↦ search rules ] in
+    elim c.if-status-eq-NO_MEMORY.branch [ then-status-eq-NO_MEMORY w ↦ search rules | else-status-eq-NO_MEMORY w ↦ search rules ] in
     let known = c.write_output.ensures in
     subst (λ (l : List ℕ). Appends old (contents now) l ⊎ (GaveUp (g.E.Sink.has_failed now) (g.E.Sink.turns_left now) × HasWrittenPrefix old (contents now) l)) (c.as_bytes.ensures.value ∙ line)
     (either_way c.write_output.result known.ok known.err known.prefix)
