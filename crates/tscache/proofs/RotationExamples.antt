@@ -1,9 +1,9 @@
 -- How pages rotate: when a page is full, which pages are dropped, and where the floor then stands.
-use Rattle.std.specs.Prelude.{◌≡◌, List, [], ◌∷◌, ◌++◌, length, true, false, codes, refl}
+use Rattle.std.specs.Prelude.{◌≡◌, ℕ, ◌-◌, ◌^◌, List, [], ◌∷◌, ◌++◌, length, true, false, codes, refl}
 use Rattle.tsc_time.specs.Time.{zero_time}
 use Rattle.tsc_time.specs.OwnedTime.{unowned}
 use Rattle.tsc_span.specs.Span.{point}
-use Rattle.tscache.specs.State.{look}
+use Rattle.tscache.specs.State.{CacheState, look, rotate}
 use Rattle.tscache.proofs.ExampleSettings.{at, of_first, usual, tight, twenty, without_end, marks_at, page, Addition, add_points, state_after, answers, added}
 
 -- ---- a fifth key on a page of four
@@ -311,3 +311,15 @@ one_page_stays_with_an_overtaken_mark = refl
 
 pub an_overtaken_mark_answers_the_floor : look (state_after tight overtaken_by_the_floor) (point (codes "c")) ≡ unowned twenty
 an_overtaken_mark_answers_the_floor = refl
+
+-- ---- the count of rotations
+
+-- a full page, after so many rotations
+abbrev pub full_after : ℕ → CacheState
+full_after rotations = record { floor = at 5 0; pages = page zero_time (marks_at (codes "abcd") (of_first twenty)) ∷ []; rotations = rotations }
+
+pub a_rotation_is_counted : (rotate usual (full_after (2 ^ 64 - 2)) twenty).state.rotations ≡ 2 ^ 64 - 1
+a_rotation_is_counted = refl
+
+pub the_count_of_rotations_stays_at_its_end : (rotate usual (full_after (2 ^ 64 - 1)) twenty).state.rotations ≡ 2 ^ 64 - 1
+the_count_of_rotations_stays_at_its_end = refl

@@ -1,5 +1,5 @@
 -- What an exit status says of a fault.
-use Rattle.std.proofs.Common.{◌≡◌, ◌⊎◌, inl, inr, refl, arith}
+use Rattle.std.proofs.Common.{◌≡◌, ◌≢◌, ◌⊎◌, inl, inr, refl, arith}
 use Rattle.tscache.specs.declared.read.TraceFault.{TraceFault}
 use Rattle.tscache.specs.declared.read.TraceFault.TheVariants as trace_fault
 use Rattle.tscache.specs.declared.replay.ReplayFault.{ReplayFault}
@@ -39,3 +39,8 @@ failed_of_status (Refused (trace_fault.Shape call)) A B C S e read long write si
 failed_of_status (Refused trace_fault.NoMemory) A B C S e read long write silent = absurd (omega arith)
 failed_of_status Write A B C S e read long write silent = inr (inr (write refl))
 failed_of_status NoMemory A B C S e read long write silent = absurd (omega arith)
+
+-- A fault that isn't of too long an input came before more was read than an input may have.
+pub within_of_other : (fault : ReplayFault) (Within : Type 0) → fault ≢ TooLong → (fault ≡ TooLong) ⊎ Within → Within
+within_of_other fault W other (inl long) = absurd (other long)
+within_of_other fault W other (inr within) = within

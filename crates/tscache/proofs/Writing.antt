@@ -1,7 +1,7 @@
 -- Writing a text: how far it has come.
 use Rattle.std.proofs.Common.{◌≡◌, ℕ, ◌+◌, ◌-◌, ◌<◌, List, ◌++◌, Bool, Option, length, take, drop, sym, ap, ◌∙◌, subst, arith, length-append, append_assoc, take-append-drop}
-use Rattle.std.proofs.Math.Seq.{take-append_seam}
-use Rattle.std.proofs.lemmas.List.{take_rest}
+use Rattle.std.proofs.Math.Seq.{take-append_seam, take-append-add}
+use Rattle.std.proofs.lemmas.List.{take_rest, take-append-le}
 use Rattle.std.proofs.KnownBytes.{Appends-trans, Appends-kept}
 use Rattle.std.specs.Io.KnownBytes.{Appends, Keeps}
 use Rattle.tscache.specs.Stream.{HasWrittenPrefix}
@@ -36,4 +36,22 @@ HasWrittenPrefix-kept old mid new failed failed' text rest so_far left kept =
           let whole : length text ≡ length done + length rest = ap length so_far.split ∙ length-append done rest in
           omega arith;
       appended = subst (Appends old new) (sym (ap (take (length done)) so_far.split ∙ take-append_seam done rest)) (Appends-kept _ _ _ _ so_far.appended kept);
+    }
+
+-- A prefix of a front is one of the whole.
+pub HasWrittenPrefix-front : (old new : Option (List ℕ)) (front rest : List ℕ) → HasWrittenPrefix old new front → HasWrittenPrefix old new (front ++ rest)
+HasWrittenPrefix-front old new front rest begun =
+    let part = begun.part in record {
+      written = begun.written;
+      part = omega (arith, length-append front rest);
+      appended = subst (Appends old new) (sym (take-append-le begun.written front rest (omega arith))) begun.appended;
+    }
+
+-- A front was written, and a prefix of the rest behind it.
+pub HasWrittenPrefix-behind : (old mid new : Option (List ℕ)) (front rest : List ℕ) → Appends old mid front → HasWrittenPrefix mid new rest → HasWrittenPrefix old new (front ++ rest)
+HasWrittenPrefix-behind old mid new front rest whole begun =
+    let part = begun.part in record {
+      written = length front + begun.written;
+      part = omega (arith, length-append front rest);
+      appended = subst (Appends old new) (sym (take-append-add front rest begun.written)) (Appends-trans _ _ _ _ _ whole begun.appended);
     }

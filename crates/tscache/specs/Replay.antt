@@ -17,30 +17,30 @@ use Rattle.tscache.specs.declared.replay.ReplayFault.TheVariants.{Read, TooLong,
 abbrev pub replay_text : Trace → List ℕ
 replay_text trace = log_text (log_of trace)
 
--- All that a reader had was read and is a trace, and this is the text of its replay.
-pub record ReplaysTo (reader reader' : Option (List ℕ)) (text : List ℕ) : Type 0 where
+-- A reader told its end, and all that it had is a trace, of whose replay this is the text.
+pub record ReplaysTo (reader reader' : Option (List ℕ)) (has_ended : Bool) (text : List ℕ) : Type 0 where
   pub input : List ℕ
   pub trace : Trace
-  pub read : HasRead reader reader' input
+  pub read : HasRead reader reader' has_ended input
   pub is_trace : trace_of_bytes input ≡ Ok trace
   pub is_text : text ≡ replay_text trace
 
 -- All of a trace was read, and the text of its replay was written, and nothing else.
-pub record Replays (reader reader' writer writer' : Option (List ℕ)) : Type 0 where
+pub record Replays (reader reader' : Option (List ℕ)) (has_ended : Bool) (writer writer' : Option (List ℕ)) : Type 0 where
   pub text : List ℕ
-  pub read : ReplaysTo reader reader' text
+  pub read : ReplaysTo reader reader' has_ended text
   pub wrote : Appends writer writer' text
 
 -- All of a trace was read, and a prefix of the text of its replay was written, and nothing else.
-pub record ReplaysPrefix (reader reader' writer writer' : Option (List ℕ)) : Type 0 where
+pub record ReplaysPrefix (reader reader' : Option (List ℕ)) (has_ended : Bool) (writer writer' : Option (List ℕ)) : Type 0 where
   pub text : List ℕ
-  pub read : ReplaysTo reader reader' text
+  pub read : ReplaysTo reader reader' has_ended text
   pub wrote : HasWrittenPrefix writer writer' text
 
--- All that a reader had was read and is no trace, for this reason.
-pub record Refuses (reader reader' : Option (List ℕ)) (fault : TraceFault) : Type 0 where
+-- A reader told its end, and all that it had is no trace, for this reason.
+pub record Refuses (reader reader' : Option (List ℕ)) (has_ended : Bool) (fault : TraceFault) : Type 0 where
   pub input : List ℕ
-  pub read : HasRead reader reader' input
+  pub read : HasRead reader reader' has_ended input
   pub is_none : trace_of_bytes input ≡ Err fault
   pub is_seen : fault ≢ trace_fault.NoMemory
 
@@ -76,9 +76,13 @@ fault_text (Refused trace_fault.NoMemory) = codes "out of memory"
 fault_text Write = codes "write failed"
 fault_text NoMemory = codes "out of memory"
 
--- A fault was told by one line, or the writer to tell it on gave up.
+-- the line that tells a fault
+abbrev pub fault_line : ReplayFault → List ℕ
+fault_line fault = fault_text fault ++ line_feed ∷ []
+
+-- A fault was told by one line, or the writer to tell it on gave up, and took a prefix of that line.
 abbrev pub Tells : ReplayFault → Option (List ℕ) → Option (List ℕ) → Bool → ℕ → Type 0
-Tells fault old new failed turns_left = Appends old new (fault_text fault ++ line_feed ∷ []) ⊎ GaveUp failed turns_left
+Tells fault old new failed turns_left = Appends old new (fault_line fault) ⊎ (GaveUp failed turns_left × HasWrittenPrefix old new (fault_line fault))
 
 -- A fault with this exit status was told.
 pub record TellsOf (status : ℕ) (old new : Option (List ℕ)) (failed : Bool) (turns_left : ℕ) : Type 0 where

@@ -33,10 +33,17 @@ abbrev pub IsFresh : Bool → ℕ → Type 0
 IsFresh failed turns_left = (failed ≡ false) × (turns_left ≡ most_turns)
 
 -- A reader was called until it told its end, and this is all that it had.
-pub record HasRead (old new : Option (List ℕ)) (input : List ℕ) : Type 0 where
+pub record HasRead (old new : Option (List ℕ)) (has_ended : Bool) (input : List ℕ) : Type 0 where
   pub consumed : Consumes old new input
   pub ended : IsAtEnd new
+  pub told : has_ended ≡ true
   pub within : length input ≤ longest_input
+
+-- No more came from a reader than an input may have.
+pub record HasReadWithin (old new : Option (List ℕ)) : Type 0 where
+  pub read : List ℕ
+  pub consumed : Consumes old new read
+  pub within : length read ≤ longest_input
 
 -- More came from a reader than an input may have.
 pub record HasReadTooMuch (old new : Option (List ℕ)) : Type 0 where

@@ -117,7 +117,9 @@ impl fmt::Display for Line {
     }
 }
 
-/// The text of a log: its lines, each ended by a line feed.
+/// The text of a log: its lines, each ended by a line feed. The text of no lines is empty.
+///
+/// The text is made whole in memory, and the time is linear in it.
 pub fn log_text(alloc: Global, log: &Log) -> Result<Vec<u8>, NoMemory>
     ensures { IfOk result (λ text. text.items ≡ log_text log.now.lines) }
 {

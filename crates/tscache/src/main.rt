@@ -9,7 +9,7 @@ ghost use Rattle.std.specs.Prelude.{◌≡◌, ◌≢◌, ◌⊎◌, ◌↔◌, 
 ghost use Rattle.std.specs.Io.KnownBytes.{Appends};
 ghost use Rattle.tscache.specs.LogText.{line_feed};
 ghost use Rattle.tscache.specs.Replay.{TellsOf};
-ghost use Rattle.tscache.specs.Stream.{GaveUp};
+ghost use Rattle.tscache.specs.Stream.{GaveUp, HasWrittenPrefix};
 ghost use Rattle.tscache.specs.Words.{refusal_text};
 
 mod cache;
@@ -71,9 +71,10 @@ fn status_of_unread(kind: ErrorKind) -> u8
 
 /// Tells why the words asked for nothing, where that can be written.
 fn tell_words<E: Sink>(errors: &mut E, status: u8)
-    ensures { Appends (E.contents errors.old) (E.contents errors.new)
-        (refusal_text status ++ line_feed ∷ [])
-        ⊎ GaveUp (E.has_failed errors.new) (E.turns_left errors.new) }
+    ensures { (let line = refusal_text status ++ line_feed ∷ [] in
+        Appends (E.contents errors.old) (E.contents errors.new) line
+        ⊎ (GaveUp (E.has_failed errors.new) (E.turns_left errors.new)
+        × HasWrittenPrefix (E.contents errors.old) (E.contents errors.new) line)) }
 {
     let line = if status == NO_MEMORY {
         "out of memory\n"

@@ -53,7 +53,12 @@ impl PlainCache {
         })
     }
 
-    /// Adds a span with its value, at the moment `now`. It costs a copy of the span's keys.
+    /// Adds a span with its value, at the moment `now`.
+    ///
+    /// The one page has to have room: the span's end keys, counted without repeats together with those
+    /// of all Adds that were kept, are at most `page_nodes`. An Add of the empty span, or at or below
+    /// the floor, is not kept and takes no memory. Any other costs a copy of the span's keys, and the
+    /// cache is unchanged where that was refused.
     pub fn add(&mut self, span: &Span, value: Value, now: Timestamp) -> Result<Added, NoMemory>
         requires room { front_has_room self.old.settings self.old.state span.now ≡ true }
         ensures added { IfOk result (λ added. added

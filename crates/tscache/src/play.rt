@@ -77,6 +77,10 @@ impl Player {
 }
 
 /// The log of a trace on one thread: its lists one after another, over one cache.
+///
+/// The cache has one page and does not rotate, so the end keys of all Adds have to fit that page, as
+/// they do in each trace of [`read_trace`](crate::read::read_trace). A lookup looks at each Add before
+/// it, so the time is quadratic in the calls. The memory is a copy of each Add's keys, and the lines.
 pub fn play(alloc: Global, trace: &Trace) -> Result<Log, NoMemory>
     requires { is_small trace.now ≡ true }
     ensures { IfOk result (λ log. log.lines ≡ log_of trace.now) }

@@ -23,7 +23,8 @@ pub enum TraceFault {
     /// The bytes are not one JSON text.
     #[error("not JSON")]
     NotJson,
-    /// The JSON value is not a trace: the number of the call in which that shows, or 0 for the head.
+    /// The JSON value is not a trace. The number is that of the call in which it shows, counted from 1
+    /// on through all lists, or 0 for the head. Today it is always 0.
     #[error("a wrong shape at call {0}")]
     Shape(u64),
     /// A growth was refused.
@@ -32,6 +33,10 @@ pub enum TraceFault {
 }
 
 /// The trace that bytes are.
+///
+/// `NotJson` and `Shape` say what the bytes are instead, and `NoMemory` may come for any bytes. The
+/// time is linear in the bytes, but that an object's members and the keys of the Adds are sorted. Most
+/// of the memory is the JSON value's, which is freed before the trace is given.
 pub fn read_trace(alloc: Global, bytes: &[u8]) -> Result<Trace, TraceFault>
     ensures ok { IfOk result (λ trace. trace_of_bytes bytes.now ≡ Ok trace) }
     ensures err { IfErr result (λ fault. (fault ≡ TraceFault.NoMemory)

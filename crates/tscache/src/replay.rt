@@ -1,9 +1,8 @@
 //! Replays of recorded traces from a reader to a writer.
-ghost use Rattle.std.specs.Prelude.{◌≡◌, ◌≢◌, ◌⊎◌, ◌∷◌, [], ◌++◌, false, Some, IfOk, IfErr, IsErrOf, OnOk, OnErr};
+ghost use Rattle.std.specs.Prelude.{◌≡◌, ◌≢◌, ◌⊎◌, ◌++◌, false, Some, IfOk, IfErr, IsErrOf, OnOk, OnErr};
 ghost use Rattle.std.specs.Io.KnownBytes.{Appends};
-ghost use Rattle.tscache.specs.LogText.{line_feed};
-ghost use Rattle.tscache.specs.Replay.{Replays, ReplaysPrefix, ReplaysTo, Refuses, Tells, TellsOf, fault_of_input, fault_of_trace, fault_text, status_of};
-ghost use Rattle.tscache.specs.Stream.{GaveUp, HasReadTooMuch, IsFresh};
+ghost use Rattle.tscache.specs.Replay.{Replays, ReplaysPrefix, ReplaysTo, Refuses, Tells, TellsOf, fault_of_input, fault_line, fault_of_trace, fault_text, status_of};
+ghost use Rattle.tscache.specs.Stream.{GaveUp, HasReadTooMuch, HasReadWithin, HasWrittenPrefix, IsFresh};
 ghost use Rattle.tscache.specs.declared.replay.ReplayFault.TheVariants.{NoMemory};
 
 use crate::log::log_text;
@@ -75,25 +74,33 @@ impl From<NoMemory> for ReplayFault {
 }
 
 /// Reads a trace to its end, and writes the log of its replay on one thread.
+///
+/// The log is made whole before any of it is written. At `Ok` all of it was written, and at
+/// [`ReplayFault::Write`] a part from its start that is not all of it. At any other fault the writer
+/// was not called. Once a read or a write has failed, no later call makes up for it.
 pub fn replay_stream<R: Source, W: Sink>(
     alloc: Global,
     reader: &mut R,
     writer: &mut W,
 ) -> Result<(), ReplayFault>
     ensures ok { OnOk result (Replays (R.remaining reader.old) (R.remaining reader.new)
-        (W.contents writer.old) (W.contents writer.new)) }
+        (R.has_ended reader.new) (W.contents writer.old) (W.contents writer.new)) }
     ensures trace { (fault : TraceFault) → IsErrOf result (ReplayFault.Trace fault)
-        → Refuses (R.remaining reader.old) (R.remaining reader.new) fault }
+        → Refuses (R.remaining reader.old) (R.remaining reader.new)
+        (R.has_ended reader.new) fault }
     ensures read { IsErrOf result ReplayFault.Read
         → GaveUp (R.has_failed reader.new) (R.turns_left reader.new)
         × (R.has_ended reader.new ≡ R.has_ended reader.old) }
     ensures too_long { IsErrOf result ReplayFault.TooLong
-        → HasReadTooMuch (R.remaining reader.old) (R.remaining reader.new) }
+        → HasReadTooMuch (R.remaining reader.old) (R.remaining reader.new)
+        × (R.has_ended reader.new ≡ R.has_ended reader.old) }
+    ensures within { IfErr result (λ fault. (fault ≡ ReplayFault.TooLong)
+        ⊎ HasReadWithin (R.remaining reader.old) (R.remaining reader.new)) }
     ensures write { IsErrOf result ReplayFault.Write
         → GaveUp (W.has_failed writer.new) (W.turns_left writer.new) }
     ensures prefix { IsErrOf result ReplayFault.Write
         → ReplaysPrefix (R.remaining reader.old) (R.remaining reader.new)
-        (W.contents writer.old) (W.contents writer.new) }
+        (R.has_ended reader.new) (W.contents writer.old) (W.contents writer.new) }
     ensures silent { IfErr result (λ fault. (fault ≡ ReplayFault.Write)
         ⊎ (writer.new ≡ writer.old)) }
     // No failed call is passed over.
@@ -109,14 +116,19 @@ pub fn replay_stream<R: Source, W: Sink>(
 /// The text of the log of the trace that a reader has left.
 fn replay_text<R: Source>(alloc: Global, reader: &mut R) -> Result<Vec<u8>, ReplayFault>
     ensures ok { IfOk result (λ text.
-        ReplaysTo (R.remaining reader.old) (R.remaining reader.new) text.items) }
+        ReplaysTo (R.remaining reader.old) (R.remaining reader.new)
+        (R.has_ended reader.new) text.items) }
     ensures trace { (fault : TraceFault) → IsErrOf result (ReplayFault.Trace fault)
-        → Refuses (R.remaining reader.old) (R.remaining reader.new) fault }
+        → Refuses (R.remaining reader.old) (R.remaining reader.new)
+        (R.has_ended reader.new) fault }
     ensures read { IsErrOf result ReplayFault.Read
         → GaveUp (R.has_failed reader.new) (R.turns_left reader.new)
         × (R.has_ended reader.new ≡ R.has_ended reader.old) }
     ensures too_long { IsErrOf result ReplayFault.TooLong
-        → HasReadTooMuch (R.remaining reader.old) (R.remaining reader.new) }
+        → HasReadTooMuch (R.remaining reader.old) (R.remaining reader.new)
+        × (R.has_ended reader.new ≡ R.has_ended reader.old) }
+    ensures within { IfErr result (λ fault. (fault ≡ ReplayFault.TooLong)
+        ⊎ HasReadWithin (R.remaining reader.old) (R.remaining reader.new)) }
     ensures write { IfErr result (λ fault. fault ≢ ReplayFault.Write) }
     // No failed read is passed over.
     ensures failed { (R.has_failed reader.new ≡ R.has_failed reader.old)
@@ -146,10 +158,11 @@ pub fn replay_command<R: Source, W: Sink, E: Sink>(
     requires writer { IsFresh (W.has_failed writer.old) (W.turns_left writer.old) }
     ensures status { (result ≡ 0) ⊎ ((result ≡ 1) ⊎ ((result ≡ 4) ⊎ (result ≡ 5))) }
     ensures done { result ≡ 0 → Replays (R.remaining reader.old) (R.remaining reader.new)
-        (W.contents writer.old) (W.contents writer.new) }
+        (R.has_ended reader.new) (W.contents writer.old) (W.contents writer.new) }
     ensures quiet { result ≡ 0 → errors.new ≡ errors.old }
     ensures refused { result ≡ 1 → (fault : TraceFault)
-        × Refuses (R.remaining reader.old) (R.remaining reader.new) fault
+        × Refuses (R.remaining reader.old) (R.remaining reader.new)
+        (R.has_ended reader.new) fault
         × Tells (ReplayFault.Trace fault) (E.contents errors.old) (E.contents errors.new)
         (E.has_failed errors.new) (E.turns_left errors.new) }
     // It could not read, there was too much to read, or it could not write.
@@ -157,14 +170,17 @@ pub fn replay_command<R: Source, W: Sink, E: Sink>(
         (E.contents errors.new) (E.has_failed errors.new) (E.turns_left errors.new) in
         result ≡ 4
         → (((GaveUp (R.has_failed reader.new) (R.turns_left reader.new)
-        × (R.has_ended reader.new ≡ false)) × told ReplayFault.Read) × (writer.new ≡ writer.old))
-        ⊎ (((HasReadTooMuch (R.remaining reader.old) (R.remaining reader.new)
-        × told ReplayFault.TooLong) × (writer.new ≡ writer.old))
+        × (R.has_ended reader.new ≡ false)
+        × HasReadWithin (R.remaining reader.old) (R.remaining reader.new)) × told ReplayFault.Read)
+        × (writer.new ≡ writer.old))
+        ⊎ ((((HasReadTooMuch (R.remaining reader.old) (R.remaining reader.new)
+        × (R.has_ended reader.new ≡ false)) × told ReplayFault.TooLong) × (writer.new ≡ writer.old))
         ⊎ ((GaveUp (W.has_failed writer.new) (W.turns_left writer.new)
-        × ReplaysPrefix (R.remaining reader.old) (R.remaining reader.new)
+        × ReplaysPrefix (R.remaining reader.old) (R.remaining reader.new) (R.has_ended reader.new)
         (W.contents writer.old) (W.contents writer.new)) × told ReplayFault.Write))) }
     ensures memory { result ≡ 5 → Tells ReplayFault.NoMemory (E.contents errors.old)
         (E.contents errors.new) (E.has_failed errors.new) (E.turns_left errors.new) }
+    ensures within { result ≡ 5 → HasReadWithin (R.remaining reader.old) (R.remaining reader.new) }
     ensures silent { (result ≡ 1) ⊎ (result ≡ 5) → writer.new ≡ writer.old }
     // Nothing is told of a replay, and of all else a fault with the status that is given.
     ensures told { ((result ≡ 0) × (errors.new ≡ errors.old))
@@ -205,8 +221,10 @@ pub(crate) fn tell<E: Sink>(errors: &mut E, fault: ReplayFault)
 /// Writes the line that tells a fault. It takes no memory.
 fn write_fault<E: Sink>(errors: &mut E, fault: ReplayFault) -> Result<(), OutputFault>
     ensures ok { OnOk result (Appends (E.contents errors.old) (E.contents errors.new)
-        (fault_text fault ++ line_feed ∷ [])) }
+        (fault_line fault)) }
     ensures err { OnErr result (GaveUp (E.has_failed errors.new) (E.turns_left errors.new)) }
+    ensures prefix { OnErr result
+        (HasWrittenPrefix (E.contents errors.old) (E.contents errors.new) (fault_line fault)) }
 {
     let mut digits = Buffer::new();
     let (text, number) = parts(fault, &mut digits);

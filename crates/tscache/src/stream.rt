@@ -3,9 +3,9 @@
 //! No clause over `std`'s `Read` and `Write` can say that a call failed. [`Source`] and [`Sink`] can,
 //! so a contract over them tells why a command gave up. That a [`Metered`] reader or writer really
 //! calls the one inside rests on the few lines of its `read` and `write`, and on tests.
-ghost use Rattle.std.specs.Prelude.{◌≡◌, ◌≢◌, ◌↔◌, ◌⊎◌, ℕ, ◌-◌, ◌<◌, ◌≤◌, ◌||◌, List, Bool, Option, length, take, vec_len, IfOk, IsErrOf, OnOk, OnErr, true, false};
+ghost use Rattle.std.specs.Prelude.{◌≡◌, ◌≢◌, ◌↔◌, ◌⊎◌, ℕ, ◌-◌, ◌<◌, ◌≤◌, ◌||◌, List, Bool, Option, length, take, vec_len, IfOk, IfErr, IsErrOf, OnOk, OnErr, true, false};
 ghost use Rattle.std.specs.Io.KnownBytes.{Appends, ReadConsumes, WriteAppends};
-ghost use Rattle.tscache.specs.Stream.{GaveUp, HasRead, HasReadTooMuch, HasWrittenPrefix, is_failure, longest_input, most_turns, IsFresh, is_end};
+ghost use Rattle.tscache.specs.Stream.{GaveUp, HasRead, HasReadTooMuch, HasReadWithin, HasWrittenPrefix, is_failure, longest_input, most_turns, IsFresh, is_end};
 
 use std::alloc::{AllocError, Global};
 use std::io::{ErrorKind, Read, Write};
@@ -193,12 +193,15 @@ pub(crate) enum InputFault {
 /// All that a reader has left. An interrupted read is tried again.
 pub(crate) fn read_input<R: Source>(alloc: Global, reader: &mut R) -> Result<Vec<u8>, InputFault>
     ensures ok { IfOk result (λ input.
-        HasRead (R.remaining reader.old) (R.remaining reader.new) input.items) }
+        HasRead (R.remaining reader.old) (R.remaining reader.new) (R.has_ended reader.new) input.items) }
     ensures read { IsErrOf result InputFault.Read
         → GaveUp (R.has_failed reader.new) (R.turns_left reader.new)
         × (R.has_ended reader.new ≡ R.has_ended reader.old) }
     ensures too_long { IsErrOf result InputFault.TooLong
-        → HasReadTooMuch (R.remaining reader.old) (R.remaining reader.new) }
+        → HasReadTooMuch (R.remaining reader.old) (R.remaining reader.new)
+        × (R.has_ended reader.new ≡ R.has_ended reader.old) }
+    ensures within { IfErr result (λ fault. (fault ≡ InputFault.TooLong)
+        ⊎ HasReadWithin (R.remaining reader.old) (R.remaining reader.new)) }
     // No failed read is passed over.
     ensures failed { (R.has_failed reader.new ≡ R.has_failed reader.old)
         ⊎ IsErrOf result InputFault.Read }

@@ -4,7 +4,7 @@ use Rattle.tscache.proofs.stream.read_input.Goals as goal
 
 pub returns-then-filled-gt-LONGEST_INPUT-clause-too_long : goal.returns-then-filled-gt-LONGEST_INPUT-clause-too_long
 returns-then-filled-gt-LONGEST_INPUT-clause-too_long g c =
-    λ _. HasReadTooMuch-filled _ _ _ _ _ _ _ _ c.read.new.buf _ _ c.loop-input.invariant c.in-Ok.ensures.bound c.in-Ok.ensures.bytes.0 (omega arith)
+    λ _. (HasReadTooMuch-filled _ _ _ _ _ _ _ _ c.read.new.buf _ _ c.loop-input.invariant c.in-Ok.ensures.bound c.in-Ok.ensures.bytes.0 (omega arith), search rules)
 
 pub loop-input-preserved-else-filled-gt-LONGEST_INPUT : goal.loop-input-preserved-else-filled-gt-LONGEST_INPUT
 loop-input-preserved-else-filled-gt-LONGEST_INPUT g c =
