@@ -86,10 +86,15 @@ fn reads_what_calls_name(rt: HostRuntime) -> Result<(), Fail> {
     Ok(())
 }
 
+/// Lists in lists, deeper than `serde_json` reads.
+const TOO_DEEP: [u8; 200] = [b'['; 200];
+
 #[test]
 fn tells_bytes_that_are_no_json(rt: HostRuntime) {
     for bytes in [
         b"".as_slice(),
+        b"1e999".as_slice(),
+        TOO_DEEP.as_slice(),
         b"{\"page_nodes\":4".as_slice(),
         b"{} {}".as_slice(),
         b"{\"threads\":\"\xff\"}".as_slice(),
@@ -159,6 +164,49 @@ fn reads_heads(rt: HostRuntime) {
 }
 
 #[test]
+fn reads_numbers(rt: HostRuntime) -> Result<(), Fail> {
+    for (page_nodes, wall, want) in [
+        ("65536", "9223372036854775807", Ok(0)),
+        ("65537", "0", SHAPE),
+        ("4294967296", "0", SHAPE),
+        ("2", "9223372036854775808", SHAPE),
+        ("2", "18446744073709551616", SHAPE),
+        ("2", "-0", SHAPE),
+        ("2", "20.0", SHAPE),
+        ("2", "2e1", SHAPE),
+        ("2", "20,0", SHAPE),
+        ("2.0", "20", SHAPE),
+    ] {
+        let text = format!(in rt.alloc();
+            "{{\"page_nodes\":{page_nodes},\"min_pages\":1,\"retention\":0,\"low_water\":[{wall},0],\"threads\":[[]]}}"
+        )?;
+        assert_eq!(rt; said(rt.alloc(), &text), want, "at {page_nodes} and {wall}");
+    }
+    Ok(())
+}
+
+#[test]
+fn reads_owners(rt: HostRuntime) -> Result<(), Fail> {
+    for (owner, want) in [
+        ("null", Ok(1)),
+        (r#""00112233-4455-6677-8899-AABBCCDDEEFF""#, Ok(1)),
+        (r#""00112233445566778899aabbccddeeff""#, Ok(1)),
+        (r#""{00112233-4455-6677-8899-aabbccddeeff}""#, Ok(1)),
+        (r#""urn:uuid:00112233-4455-6677-8899-aabbccddeeff""#, Ok(1)),
+        (r#""""#, SHAPE),
+        (r#""0011223-34455-6677-8899-aabbccddeeff""#, SHAPE),
+        ("7", SHAPE),
+    ] {
+        let call = format!(in rt.alloc();
+            "{{\"op\":\"add\",\"span\":{{\"start\":\"61\"}},\"time\":[1,0],\"owner\":{owner},\"now\":[1,0]}}"
+        )?;
+        let said = said_of_calls(rt.alloc(), 2, &call)?;
+        assert_eq!(rt; said, want, "at {owner}");
+    }
+    Ok(())
+}
+
+#[test]
 fn reads_calls(rt: HostRuntime) -> Result<(), Fail> {
     for (calls, want) in [
         // An Add from one key to another.
@@ -209,6 +257,12 @@ fn reads_calls(rt: HostRuntime) -> Result<(), Fail> {
             r#"{"op":"add","span":{"start":"61"},"time":[1,0.5],"now":[1,0]}"#,
             SHAPE,
         ),
+        (r#"{"op":"get","span":{"start":"6B"}}"#, Ok(1)),
+        (r#"{"op":"get","span":{"start":"61","end":null}}"#, SHAPE),
+        // The last of two members with one name counts.
+        (r#"{"op":"low","op":"get","span":{"start":"61"}}"#, Ok(1)),
+        (r#"{"op":"get","op":"low"}"#, Ok(1)),
+        (r#"{"op":"get","op":"low","span":{"start":"61"}}"#, SHAPE),
         (r#"{"op":"drop"}"#, SHAPE),
         ("7", SHAPE),
     ] {

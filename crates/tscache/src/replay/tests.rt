@@ -60,16 +60,18 @@ fn too_long_an_input_is_told(rt: HostRuntime) {
 
 #[test]
 fn the_status_stays_where_the_fault_cannot_be_told(rt: HostRuntime) {
-    for (step, mishap) in [
-        (0, Mishap::Never),
-        (9, Mishap::FailsAt(0)),
-        (1, Mishap::FailsAt(3)),
-    ] {
-        let mut reader = Metered::new(Faulty::new(&b"abc"[..], 1, Mishap::FailsAt(0)));
-        let mut writer = Metered::new(Vec::new(rt.alloc()));
-        let mut errors = Metered::new(Faulty::new(Vec::new(rt.alloc()), step, mishap));
-        let status = replay_command(rt.alloc(), &mut reader, &mut writer, &mut errors);
-        assert_eq!(rt; status, 4);
-        assert_eq!(rt; writer.into_inner().len(), 0);
+    for (reading, want) in [(Mishap::FailsAt(0), 4), (Mishap::Never, 1)] {
+        for (step, telling) in [
+            (0, Mishap::Never),
+            (9, Mishap::FailsAt(0)),
+            (1, Mishap::FailsAt(3)),
+        ] {
+            let mut reader = Metered::new(Faulty::new(&b"abc"[..], 1, reading));
+            let mut writer = Metered::new(Vec::new(rt.alloc()));
+            let mut errors = Metered::new(Faulty::new(Vec::new(rt.alloc()), step, telling));
+            let status = replay_command(rt.alloc(), &mut reader, &mut writer, &mut errors);
+            assert_eq!(rt; status, want);
+            assert_eq!(rt; writer.into_inner().len(), 0);
+        }
     }
 }
