@@ -1,10 +1,10 @@
 -- What the order of cuts gives, as steps from one comparison to the next.
-use Rattle.std.proofs.Common.{◌≡◌, ◌⊎◌, inl, inr, ◌∙◌, refl, sym, ap, Bool, true, false, ◌&&◌}
+use Rattle.std.proofs.Common.{◌≡◌, ◌⊎◌, inl, inr, ◌∙◌, refl, sym, ap, true, false, ◌&&◌}
 use mathlib.Core.Bool.{true≢false}
 use Rattle.std.specs.declared.cmp.Ordering.{Ordering}
 use Rattle.std.specs.declared.cmp.Ordering.TheVariants.{Less, Equal, Greater}
 use Rattle.std.specs.Ordering.{is_lt, ordering_then, ordering_reverse}
-use Rattle.std.proofs.lemmas.Bool.{cases_Bool}
+use Rattle.std.proofs.lemmas.Bool.{cases_Bool, and_parts}
 use Rattle.tsc_span.specs.Span.{KeyBytes, key_cmp, Cut, before, after, last, is_below, between, overlaps}
 use Rattle.tsc_span.proofs.CutOrder.{sides_in_order, key_cmp_back}
 use Rattle.tsc_span.proofs.Overlaps.{is_below-opposite, is_below-transitive, no_lower-transitive, overlaps-each}
@@ -73,13 +73,9 @@ Meet from to first end = Lt from to × Lt from end × Lt first to × Lt first en
 pub overlaps-from : (from to first end : Cut) → Meet from to first end → overlaps (between from to) (between first end) ≡ true
 overlaps-from from to first end m = overlaps-each from to first end ∙ rw (m.0, m.1, m.2, m.3) refl
 
-both_true : (a b : Bool) → a && b ≡ true → (a ≡ true) × (b ≡ true)
-both_true true b h = (refl, h)
-both_true false b h = absurd (true≢false (sym h))
-
 pub overlaps-tells : (from to first end : Cut) → overlaps (between from to) (between first end) ≡ true → Meet from to first end
 overlaps-tells from to first end h =
-    let all = both_true (is_below from to && is_below from end) (is_below first to && is_below first end) (sym (overlaps-each from to first end) ∙ h) in
-    let one = both_true (is_below from to) (is_below from end) all.0 in
-    let two = both_true (is_below first to) (is_below first end) all.1 in
+    let all = and_parts (is_below from to && is_below from end) (is_below first to && is_below first end) (sym (overlaps-each from to first end) ∙ h) in
+    let one = and_parts (is_below from to) (is_below from end) all.0 in
+    let two = and_parts (is_below first to) (is_below first end) all.1 in
     (one.0, one.1, two.0, two.1)

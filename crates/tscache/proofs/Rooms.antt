@@ -1,5 +1,5 @@
 -- Where the Adds of a whole trace fit one page, its replay keeps to one page.
-use Rattle.std.proofs.Common.{◌≡◌, ◌∙◌, refl, sym, ap, subst, ℕ, suc, ◌≤◌, Bool, true, false, ◌||◌, cond, List, [], ◌∷◌, ◌++◌, arith, append_assoc, append-nil}
+use Rattle.std.proofs.Common.{◌≡◌, ◌∙◌, refl, sym, ap, subst, ℕ, suc, ◌≤◌, Bool, true, false, ◌||◌, cond, List, [], ◌∷◌, ◌++◌, arith, append_assoc}
 use Rattle.std.specs.List.{flat_map}
 use Rattle.std.proofs.lemmas.Bool.{leb-true, le-leb}
 use Rattle.std.proofs.lemmas.Grind.{flat_map-append}
@@ -16,6 +16,7 @@ use Rattle.tscache.specs.declared.trace.Call.TheVariants.{Add, Get, Low}
 use Rattle.tscache.specs.declared.trace.Trace.{Trace}
 use Rattle.tsc_page.specs.PageView.{is_in}
 use Rattle.tsc_page.proofs.DistinctKeys.{count_distinct-within, count_distinct-front}
+use Rattle.tsc_page.proofs.PlainMarks.{marked_push}
 
 either_later : (a b c : Bool) → (a || c) ≡ true → (a || (b || c)) ≡ true
 either_later true b c h = refl
@@ -30,10 +31,6 @@ count_distinct-skip xs ys zs = count_distinct-within (xs ++ zs) (xs ++ (ys ++ zs
     within k h =
         list_any-append (bytes_eq k) xs (ys ++ zs) ∙ ap (λ b. is_in k xs || b) (list_any-append (bytes_eq k) ys zs)
         ∙ either_later (is_in k xs) (is_in k ys) (is_in k zs) (sym (list_any-append (bytes_eq k) xs zs) ∙ h)
-
--- the end keys with one more mark
-marked_keys-append : (marks : List Mark) (m : Mark) → marked_keys (marks ++ m ∷ []) ≡ marked_keys marks ++ end_keys m.span
-marked_keys-append marks m = flat_map-append (λ n. end_keys n.span) marks (m ∷ []) ∙ ap (λ ks. marked_keys marks ++ ks) (append-nil (end_keys m.span))
 
 -- where a replay stands whose cache has had one page
 abbrev on_one_page : Settings → List Mark → ℕ → Standing
@@ -59,7 +56,7 @@ fit_after : (settings : Settings) (marks : List Mark) (m : Mark) (later : List K
 fit_after settings marks m later fits = by (is_kept (one_page settings marks) m)
   where
     same : marked_keys (marks ++ m ∷ []) ++ later ≡ marked_keys marks ++ (end_keys m.span ++ later)
-    same = ap (λ ks. ks ++ later) (marked_keys-append marks m) ∙ append_assoc (marked_keys marks) (end_keys m.span) later
+    same = ap (λ ks. ks ++ later) (marked_push marks m) ∙ append_assoc (marked_keys marks) (end_keys m.span) later
 
     fewer : count_distinct (marked_keys marks ++ later) ≤ count_distinct (marked_keys marks ++ (end_keys m.span ++ later))
     fewer = count_distinct-skip (marked_keys marks) (end_keys m.span) later
