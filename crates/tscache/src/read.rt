@@ -20,7 +20,7 @@ use thiserror::Error;
 /// Why bytes are not a trace.
 #[derive(Clone, Copy, Debug, PartialEq, Eq, Error)]
 pub enum TraceFault {
-    /// The bytes are not one JSON text.
+    /// The bytes are not one JSON text, or one that `serde_json` does not read, as where it nests too deep.
     #[error("not JSON")]
     NotJson,
     /// The JSON value is not a trace. The number is that of the call in which it shows, counted from 1
