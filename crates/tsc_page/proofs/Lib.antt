@@ -14,3 +14,4 @@ pub mod Lookups
 pub mod Ends
 pub mod Standing
 pub mod PlainMarks
+pub mod Tops

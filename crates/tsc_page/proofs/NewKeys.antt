@@ -1,6 +1,7 @@
 -- What nodes for new keys make of the list.
 use Rattle.std.proofs.Common.{◌≡◌, inl, inr, ◌∙◌, refl, sym, ap, subst, Bool, true, false, ◌||◌, ℕ, List, [], ◌∷◌, ◌++◌, arith}
-use Rattle.std.specs.Prelude.{Option, Some, None}
+use mathlib.Core.Bool.{true≢false}
+use Rattle.std.specs.Prelude.{Option, Some, None, not, is_some}
 use Rattle.std.specs.Option.{option_to_list}
 use Rattle.std.specs.Str.{bytes_eq}
 use Rattle.std.proofs.Math.Bool.{or-true}
@@ -11,10 +12,10 @@ use Rattle.tsc_time.specs.Time.{zero_time}
 use Rattle.tsc_time.specs.OwnedTime.{unowned}
 use Rattle.std.proofs.lemmas.Bool.{cases_Bool}
 use Rattle.tsc_span.specs.Span.{KeyBytes, before, after, is_below}
-use Rattle.tsc_page.specs.PageView.{is_in}
+use Rattle.tsc_page.specs.PageView.{is_in, is_new_among}
 use Rattle.tsc_page.specs.Nodes.{Node, node_keys, IsSorted, FitsAt, FitsIn, IsNewKey, IsInOrder, IsSplitAt, with_new, node_in_gap, gap_value}
 use Rattle.tsc_page.proofs.Splits.{split_answers}
-use Rattle.tsc_page.proofs.Edits.{insert-sorted, insert-keys, FitsAt-below}
+use Rattle.tsc_page.proofs.Edits.{insert-sorted, insert-keys, FitsAt-below, FitsAt-absent}
 
 no_more : (b : Bool) → b ≡ (b || false)
 no_more true = refl
@@ -73,6 +74,19 @@ still_new ns (Some k) (Some m) (Some f) (Some g) sorted up new other =
     let fits = subst (λ (x : KeyBytes). FitsAt x (before []) ns g.0) (sym other.0) other.1 in
     let longer = length-insert ns g.0 (node_in_gap g.1 v) other.2 in
     (new.0, FitsAt-below k g.1 v (before []) ns f.0 g.0 in_order sorted new.1 fits, omega (arith, new.2, longer))
+
+-- for a key with a node none is made
+pub known_not_new : (ns : List Node) (o : Option KeyBytes) (f : Option (ℕ × KeyBytes)) → IsSorted ns → IsNewKey ns o f → is_new_among (node_keys ns) o ≡ false → is_some f ≡ false
+known_not_new ns o None sorted new known = refl
+known_not_new ns None (Some f) sorted new known = absurd new
+known_not_new ns (Some k) (Some f) sorted new known = absurd (true≢false (sym (ap not (FitsAt-absent k ns f.0 (before []) sorted new.1)) ∙ known))
+
+-- the keys of a span of which a page knows each
+pub known_keys : (ks : List KeyBytes) (o p : Option KeyBytes) → ((k : KeyBytes) → is_in k (option_to_list o ++ option_to_list p) ≡ true → is_in k ks ≡ true) → (is_new_among ks o ≡ false) × (is_new_among ks p ≡ false)
+known_keys ks None None all = (refl, refl)
+known_keys ks None (Some m) all = (refl, ap not (all m (rw ((bytes_eq-Decides m m).1 refl) refl)))
+known_keys ks (Some k) None all = (ap not (all k (rw ((bytes_eq-Decides k k).1 refl) refl)), refl)
+known_keys ks (Some k) (Some m) all = (ap not (all k (rw ((bytes_eq-Decides k k).1 refl) refl)), ap not (all m (rw ((bytes_eq-Decides m m).1 refl) (or-true (bytes_eq m k)))))
 
 joined : (a b c : Bool) → ((a || b) || c) ≡ (a || (c || b))
 joined true b c = refl

@@ -1,5 +1,5 @@
 -- What a page stands for after an Add, and how many keys it holds.
-use Rattle.std.proofs.Common.{◌≡◌, ◌⊎◌, inl, inr, ◌∙◌, refl, sym, ap, Bool, true, false, cond, ◌||◌, ℕ, suc, ◌+◌, nat_le, List, [], ◌∷◌, ◌++◌, length, map, append-nil, arith}
+use Rattle.std.proofs.Common.{◌≡◌, ◌⊎◌, inl, inr, ◌∙◌, refl, sym, ap, subst, Bool, true, false, cond, ◌||◌, ℕ, suc, ◌+◌, nat_le, List, [], ◌∷◌, ◌++◌, length, map, append-nil, arith}
 use mathlib.Core.Bool.{true≢false}
 use mir.Val.{bool_byte}
 use Rattle.std.specs.Prelude.{Option, Some, None, filter, not}
@@ -11,7 +11,7 @@ use Rattle.std.proofs.lemmas.List.{map-append, append_assoc}
 use Rattle.std.proofs.lemmas.Grind.{flat_map-append}
 use Rattle.std.proofs.lemmas.List.Folds.{list_any-append}
 use Rattle.std.proofs.lemmas.Slice.Eq.{bytes_eq-Decides}
-use Rattle.tsc_time.specs.Time.{Time, zero_time, time_cmp, later}
+use Rattle.tsc_time.specs.Time.{Time, zero_time, time_cmp, is_before, later}
 use Rattle.tsc_time.specs.OwnedTime.{OwnedTime, unowned}
 use Rattle.tsc_time.specs.Joint.{joint, joint_above, latest}
 use Rattle.tsc_time.proofs.TimeOrder.{later-tells, is_before-opposite, is_before-transitive, no_earlier-transitive, same_from_neither_before}
@@ -19,14 +19,15 @@ use Rattle.tsc_time.proofs.JointLemmas.{joint-append, joint-singleton}
 use Rattle.std.proofs.lemmas.Bool.{cases_Bool}
 use Rattle.tsc_span.specs.Span.{KeyBytes, Cut, before, after, last, Interval, nothing, between, overlaps, end_keys}
 use Rattle.tsc_page.specs.Page.{Mark, PageMarks, with_mark, top, values_on, marked_keys, count_distinct, has_room}
-use Rattle.tsc_page.specs.PageView.{PageView, StandsFor, answer, is_in, has_room_for, is_new_among}
-use Rattle.tsc_page.specs.Nodes.{Node, next_cut, node_stretches, stretches, stretch_spans, node_keys, IsSorted, IsSplitAt, raise_nodes, answer_of}
+use Rattle.tsc_page.specs.PageView.{PageView, StandsFor, NoAnswerAboveTop, answer, is_in, has_room_for, is_new_among}
+use Rattle.tsc_page.specs.Nodes.{Node, next_cut, node_stretches, node_keys, IsSorted, IsSplitAt, raise_nodes, answer_of, page_of}
 use Rattle.tsc_page.proofs.CutOrder.{Lt, Lt-not_Le, Le-chain, Le-from_Lt, before-after}
 use Rattle.tsc_page.proofs.DistinctKeys.{count_distinct-same, count_distinct-push, count_distinct-no_repeats, has_no_repeats, is_in-push}
 use Rattle.tsc_page.proofs.Cuts.{HasCut, first_low, rising_nodes, cuts_of_key, raise_nodes_answers}
 use Rattle.tsc_page.proofs.Edits.{raise_nodes-keys, raise_nodes-sorted, raise_nodes-length}
 use Rattle.tsc_page.proofs.Ends.{ends_are_nodes}
 use Rattle.tsc_page.proofs.Lookups.{values_on-more}
+use Rattle.tsc_page.proofs.Tops.{raised_covers}
 
 -- sorted nodes have no key twice
 pub sorted_once : (ns : List Node) → IsSorted ns → has_no_repeats (node_keys ns) ≡ true
@@ -127,7 +128,7 @@ same_count v p stands = count_distinct-same v.keys (marked_keys p.marks) stands.
 pub split_count : (old new : List Node) (span : Interval) → IsSplitAt old new (end_keys span) → length new ≡ count_distinct (node_keys old ++ end_keys span)
 split_count old new span split = sym (count_of_nodes new split.sorted) ∙ count_distinct-same (node_keys new) (node_keys old ++ end_keys span) (λ k. split.keys k ∙ sym (list_any-append (bytes_eq k) (node_keys old) (end_keys span)))
 
-later-swap : (a b : Time) → later a b ≡ later b a
+pub later-swap : (a b : Time) → later a b ≡ later b a
 later-swap a b = elim (later-tells a b) [
   | inl h ↦ h.1 ∙ elim (later-tells b a) [
     | inl g ↦ absurd (true≢false (sym g.0 ∙ is_before-opposite a b h.0))
@@ -139,7 +140,7 @@ later-swap a b = elim (later-tells a b) [
   ]
 ]
 
-later-chain : (a b c : Time) → later a (later b c) ≡ later (later a b) c
+pub later-chain : (a b c : Time) → later a (later b c) ≡ later (later a b) c
 later-chain a b c = elim (later-tells a b) [
   | inl h ↦ elim (later-tells b c) [
     | inl g ↦ rw (h.1, g.1) (elim (later-tells a c) [
@@ -177,10 +178,6 @@ nothing_on (m ∷ ms) = by m.span (nothing_on ms)
 pub nothing_answered : (v : PageView) → answer v nothing ≡ unowned zero_time
 nothing_answered v = ap (joint_above zero_time) (nothing_on v.spans) ∙ joint-singleton (unowned zero_time)
 
--- what can be seen of a page by its limit, its top and its nodes
-abbrev pub page_of : ℕ → Time → List Node → PageView
-page_of limit t ns = record { page_nodes = limit; top = t; keys = node_keys ns; spans = stretch_spans (stretches ns) }
-
 -- the greater of two timestamps is the later one
 pub later-max : (a b : Time) → ord_max time_cmp a b ≡ later a b
 later-max a b = later-swap b a
@@ -201,6 +198,12 @@ module _ (old mid : List Node) (f t : Cut) (up : Lt f t) (value : OwnedTime) (sp
 
   pub added_answers : (s : Interval) → answer_of (raise_nodes (between f t) value mid) s ≡ cond (overlaps (between f t) s) (joint (answer_of old s) (value ∷ [])) (answer_of old s)
   added_answers s = raise_nodes_answers f t value mid split.sorted added_cuts.0 added_cuts.1 s ∙ ap (λ (w : OwnedTime). cond (overlaps (between f t) s) (joint w (value ∷ [])) w) (split.answers s)
+
+  -- no answer comes to lie above the top
+  pub added_covers : (limit : ℕ) (before_it after_it : Time) → NoAnswerAboveTop (page_of limit before_it old) → after_it ≡ later before_it value.time → NoAnswerAboveTop (page_of limit after_it (raise_nodes (between f t) value mid))
+  added_covers limit before_it after_it covers is s =
+      subst (λ (x : Time). is_before x (answer_of (raise_nodes (between f t) value mid) s).time ≡ false) (sym is)
+      (subst (λ (w : OwnedTime). is_before (later before_it value.time) w.time ≡ false) (sym (added_answers s)) (raised_covers before_it (answer_of old s) value (overlaps (between f t) s) (covers s)))
 
   -- the page then stands for the list with the mark
   pub added_stands : (limit : ℕ) (before_it after_it : Time) (p : PageMarks)

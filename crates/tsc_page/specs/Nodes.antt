@@ -1,12 +1,12 @@
 -- How the code keeps a page: nodes in the order of their keys, each with the value of its key and that of the gap up to the next node.
 use Rattle.std.specs.Prelude.{◌≡◌, ℕ, zero, suc, ◌<◌, ◌≤◌, List, [], ◌∷◌, length, map, drop, slice_index_or, true, false, Option, Some, None, Result, Ok, Err, ◌||◌, if◌then◌else◌}
 use Rattle.std.specs.List.{insert}
-use Rattle.tsc_time.specs.Time.{zero_time}
+use Rattle.tsc_time.specs.Time.{Time, zero_time}
 use Rattle.tsc_time.specs.OwnedTime.{OwnedTime, unowned}
 use Rattle.tsc_time.specs.Joint.{joint, joint_above}
 use Rattle.tsc_span.specs.Span.{KeyBytes, Cut, before, after, last, Interval, between, overlaps, is_below}
 use Rattle.tsc_page.specs.Page.{Mark, values_on}
-use Rattle.tsc_page.specs.PageView.{is_in}
+use Rattle.tsc_page.specs.PageView.{PageView, is_in, is_new_among}
 
 -- a key with its value, and the value of the open gap up to the next node
 pub record Node : Type 0 where
@@ -42,12 +42,17 @@ abbrev pub stretch_spans : List Stretch → List Mark
 stretch_spans [] = []
 stretch_spans (x ∷ xs) = record { span = between x.from (next_cut xs); value = x.value } ∷ stretch_spans xs
 
+-- the keys of nodes
+abbrev pub node_keys : List Node → List KeyBytes
+node_keys nodes = map (λ n. n.key) nodes
+
+-- what can be seen of a page by its limit, its top and its nodes
+abbrev pub page_of : ℕ → Time → List Node → PageView
+page_of limit t nodes = record { page_nodes = limit; top = t; keys = node_keys nodes; spans = stretch_spans (stretches nodes) }
+
 -- what nodes answer to a span
 abbrev pub answer_of : List Node → Interval → OwnedTime
 answer_of nodes s = joint_above zero_time (values_on s (stretch_spans (stretches nodes)))
-
-abbrev pub node_keys : List Node → List KeyBytes
-node_keys nodes = map (λ n. n.key) nodes
 
 -- each node's key is below the next one's
 abbrev pub IsSorted : List Node → Type 0
@@ -158,6 +163,10 @@ abbrev pub IsInOrder : Option KeyBytes → Option KeyBytes → Type 0
 IsInOrder None second = Unit {0}
 IsInOrder (Some k) None = Unit {0}
 IsInOrder (Some k) (Some m) = is_below (after k) (before m) ≡ true
+
+-- of two keys each has a node, where it is one
+abbrev pub HasNodes : List Node → Option KeyBytes → Option KeyBytes → Type 0
+HasNodes nodes first second = (is_new_among (node_keys nodes) first ≡ false) × (is_new_among (node_keys nodes) second ≡ false)
 
 -- the nodes with those of more keys, which answer as before
 pub record IsSplitAt (old new : List Node) (more : List KeyBytes) : Type 0 where

@@ -1,8 +1,8 @@
 -- What can be seen of a page, and which list of marks it stands for.
-use Rattle.std.specs.Prelude.{◌≡◌, ℕ, List, ◌++◌, nat_le, Bool, false, not, Option, Some, None}
+use Rattle.std.specs.Prelude.{◌≡◌, ℕ, List, ◌++◌, nat_le, Bool, true, false, not, Option, Some, None}
 use Rattle.std.specs.List.{list_any}
 use Rattle.std.specs.Str.{bytes_eq}
-use Rattle.tsc_time.specs.Time.{Time, zero_time}
+use Rattle.tsc_time.specs.Time.{Time, zero_time, is_before}
 use Rattle.tsc_time.specs.OwnedTime.{OwnedTime}
 use Rattle.tsc_time.specs.Joint.{joint_above}
 use Rattle.tsc_span.specs.Span.{KeyBytes, Interval, end_keys}
@@ -19,6 +19,10 @@ pub record PageView : Type 0 where
 abbrev pub answer : PageView → Interval → OwnedTime
 answer v span = joint_above zero_time (values_on span v.spans)
 
+-- no answer is later than the top
+abbrev pub NoAnswerAboveTop : PageView → Type 0
+NoAnswerAboveTop v = (span : Interval) → is_before v.top (answer v span).time ≡ false
+
 -- whether a key is in a list
 abbrev pub is_in : KeyBytes → List KeyBytes → Bool
 is_in k ks = list_any (bytes_eq k) ks
@@ -28,6 +32,10 @@ pub record StandsFor (v : PageView) (p : PageMarks) : Type 0 where
   pub top : v.top ≡ top p
   pub keys : (k : KeyBytes) → is_in k v.keys ≡ is_in k (marked_keys p.marks)
   pub answers : (span : Interval) → answer v span ≡ joint_above zero_time (values_on span p.marks)
+
+-- a page that holds the end keys of a span already
+abbrev pub HasEndKeys : PageView → Interval → Type 0
+HasEndKeys v span = (k : KeyBytes) → is_in k (end_keys span) ≡ true → is_in k v.keys ≡ true
 
 -- whether the end keys of a page and of one more span, counted without repeats, are no more than it may hold
 abbrev pub has_room_for : PageView → Interval → Bool

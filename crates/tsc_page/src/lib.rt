@@ -25,3 +25,9 @@ mod tests;
 
 pub use page::Page;
 pub use plain::PlainPage;
+
+/// How many different end keys a page may hold at the least: those of one range.
+pub const LEAST_NODES: u32 = 2;
+
+/// How many different end keys a page may hold at the most.
+pub const MOST_NODES: u32 = 65_536;

@@ -1,11 +1,11 @@
-ghost use Rattle.std.specs.Prelude.{◌≡◌, ◌<◌, ◌≤◌, [], ◌++◌, length, drop, true, IfOk, IfErr, OnOk, OnErr, IfSome, is_some, ◌+◌, option_map, option_to_list, if◌then◌else◌};
+ghost use Rattle.std.specs.Prelude.{◌≡◌, ◌<◌, ◌≤◌, [], ◌++◌, length, drop, true, false, IsOk, IfOk, IfErr, OnOk, OnErr, IfSome, is_some, ◌+◌, option_map, option_to_list, if◌then◌else◌};
 ghost use Rattle.std.specs.Vec.{vec_len, vec_capacity};
 ghost use Rattle.tsc_time.specs.Time.{zero_time};
 ghost use Rattle.tsc_time.specs.OwnedTime.{unowned};
 ghost use Rattle.tsc_span.specs.Span.{is_below, before, between};
 ghost use Rattle.tsc_span.specs.Cuts.{cut_of};
 ghost use Rattle.tsc_page.specs.PageView.{is_new_among};
-ghost use Rattle.tsc_page.specs.Nodes.{IsSorted, FitsAt, IsPlaceFor, IsNewKey, FitsIn, with_new, IsInOrder, IsSplitAt, PartsKeysAt, HoldsKeysOn, HoldsGapsOn, node_keys, answer_of, raise_nodes, node_in_gap, gap_value, start_of_gap, next_cut, node_stretches};
+ghost use Rattle.tsc_page.specs.Nodes.{IsSorted, FitsAt, IsPlaceFor, IsNewKey, FitsIn, with_new, IsInOrder, HasNodes, IsSplitAt, PartsKeysAt, HoldsKeysOn, HoldsGapsOn, node_keys, answer_of, raise_nodes, node_in_gap, gap_value, start_of_gap, next_cut, node_stretches};
 
 use crate::node::Node;
 use std::alloc::Global;
@@ -151,10 +151,11 @@ impl Nodes {
         }
     }
 
-    /// A copy of a key that has no node, with the place for it.
+    /// A copy of a key that has no node, with the place for it. For any other key it takes no memory.
     fn new_key(&self, key: Option<&Key>) -> Result<Option<(usize, Key)>, NoMemory>
         requires sorted { IsSorted self.now.list.items }
-        ensures { IfOk result (λ found. IsNewKey self.now.list.items (option_map (λ k. k.now) key.entry) found) }
+        ensures value { IfOk result (λ found. IsNewKey self.now.list.items (option_map (λ k. k.now) key.entry) found) }
+        ensures memory { is_new_among (node_keys self.now.list.items) (option_map (λ k. k.now) key.entry) ≡ false → IsOk result }
     {
         let Some(key) = key else { return Ok(None) };
         match self.place_for(key) {
@@ -186,7 +187,7 @@ impl Nodes {
     }
 
     /// Makes nodes of the keys that have none, of which the first is the smaller. Where memory is refused
-    /// nothing changes.
+    /// nothing changes, and the list has not grown. Where both have nodes no memory is asked for.
     pub(crate) fn split_at(
         &mut self,
         first: Option<&Key>,
@@ -197,10 +198,17 @@ impl Nodes {
         ensures split { OnOk result (IsSplitAt self.old.list.items self.new.list.items
             (option_to_list (option_map (λ k. k.now) first.entry) ++ option_to_list (option_map (λ k. k.now) second.entry))) }
         ensures unchanged { OnErr result (self.new.list.items ≡ self.old.list.items) }
+        ensures capacity { OnErr result (vec_capacity self.new.list ≡ vec_capacity self.old.list) }
+        ensures memory { HasNodes self.old.list.items (option_map (λ k. k.now) first.entry) (option_map (λ k. k.now) second.entry)
+            → IsOk result × (self.new.list ≡ self.old.list) }
     {
         let first = self.new_key(first)?;
         let second = self.new_key(second)?;
-        self.list.reserve(usize::from(first.is_some()) + usize::from(second.is_some()))?;
+        let new = usize::from(first.is_some()) + usize::from(second.is_some());
+        if new == 0 {
+            return Ok(());
+        }
+        self.list.reserve(new)?;
         self.split(second);
         self.split(first);
         Ok(())

@@ -1,9 +1,10 @@
-ghost use Rattle.std.specs.Prelude.{◌≡◌, ◌≤◌, ◌||◌, ◌∷◌, [], true, false, IfOk, OnOk, OnErr, if◌then◌else◌};
+ghost use Rattle.std.specs.Prelude.{◌≡◌, ◌≤◌, ◌||◌, ◌∷◌, [], true, false, IsOk, IfOk, OnOk, OnErr, if◌then◌else◌};
 ghost use Rattle.tsc_time.specs.Joint.{joint, joint_above};
-ghost use Rattle.tsc_time.specs.Time.{zero_time, later};
+ghost use Rattle.tsc_time.specs.Time.{zero_time, is_before, later};
 ghost use Rattle.tsc_span.specs.Span.{KeyBytes, Interval, is_empty_span, overlaps, end_keys};
+ghost use Rattle.tsc_page.specs.declared.TheConstants.{LEAST_NODES, MOST_NODES};
 ghost use Rattle.tsc_page.specs.Page.{PageMarks, Mark, empty_page, with_mark, top, values_on, marked_keys, count_distinct, has_room};
-ghost use Rattle.tsc_page.specs.PageView.{StandsFor, answer, is_in, has_room_for};
+ghost use Rattle.tsc_page.specs.PageView.{StandsFor, NoAnswerAboveTop, answer, is_in, has_room_for, HasEndKeys};
 
 use crate::nodes::Nodes;
 use std::alloc::Global;
@@ -24,25 +25,28 @@ pub struct Page {
 
 impl Model for Page {
     ghost use Rattle.std.specs.Prelude.{length, ◌≤◌};
-    ghost use Rattle.tsc_page.specs.PageView.{PageView};
-    ghost use Rattle.tsc_page.specs.Nodes.{IsSorted, node_keys, stretches, stretch_spans};
+    ghost use Rattle.tsc_page.specs.declared.TheConstants.{MOST_NODES};
+    ghost use Rattle.tsc_page.specs.PageView.{PageView, NoAnswerAboveTop};
+    ghost use Rattle.tsc_page.specs.Nodes.{IsSorted, page_of};
 
     ghost Value = { PageView };
 
-    ghost view = { λ p. record { page_nodes = p.page_nodes; top = p.top; keys = node_keys p.nodes.list.items; spans = stretch_spans (stretches p.nodes.list.items) } };
+    ghost view = { λ p. page_of p.page_nodes p.top p.nodes.list.items };
 
-    ghost invariant = { λ p. IsSorted p.nodes.list.items × (length p.nodes.list.items ≤ p.page_nodes) × (p.page_nodes ≤ 65536) };
+    ghost invariant = { λ p. IsSorted p.nodes.list.items × (length p.nodes.list.items ≤ p.page_nodes) × (p.page_nodes ≤ MOST_NODES) × NoAnswerAboveTop (page_of p.page_nodes p.top p.nodes.list.items) };
 }
 
 impl Page {
-    /// An empty page, which has room for `page_nodes` different end keys, from 2 to 65,536. `base` is the
-    /// least that its top can be. It takes no memory until something is added.
+    /// An empty page, which has room for `page_nodes` different end keys, from [`LEAST_NODES`](crate::LEAST_NODES)
+    /// to [`MOST_NODES`](crate::MOST_NODES). `base` is the least that its top can be. It takes no memory until something is added,
+    /// so it cannot answer that memory is wanting.
     pub fn new(alloc: Global, page_nodes: u32, base: Timestamp) -> Result<Page, NoMemory>
-        requires at_least { 2 ≤ page_nodes }
-        requires at_most { page_nodes ≤ 65536 }
+        requires at_least { LEAST_NODES ≤ page_nodes }
+        requires at_most { page_nodes ≤ MOST_NODES }
         ensures stands { IfOk result (λ page. StandsFor page (empty_page base)) }
         ensures limit { IfOk result (λ page. page.page_nodes ≡ page_nodes) }
         ensures room { IfOk result (λ page. (span : Interval) → has_room_for page span ≡ true) }
+        ensures memory { IsOk result }
     {
         Ok(Page {
             page_nodes,
@@ -63,7 +67,8 @@ impl Page {
     }
 
     /// Adds a span with its value. The span is not empty, and the page has room for it. Where memory is
-    /// refused the page is as before.
+    /// refused the page is as before. A span whose end keys the page holds already takes none, and cannot
+    /// be refused.
     ///
     /// It costs a few searches, a copy of each end key that is new to the page, a move of the nodes above a
     /// new one, and of all where the list has to grow, and a step for each node within the span.
@@ -78,6 +83,7 @@ impl Page {
         ensures answers { OnOk result ((s : Interval) → answer self.new s
             ≡ (if overlaps span.now s then joint (answer self.old s) (value ∷ []) else answer self.old s)) }
         ensures unchanged { OnErr result (self.new ≡ self.old) }
+        ensures memory { HasEndKeys self.old span.now → IsOk result }
     {
         let Some((from, to)) = span.cuts() else {
             return Ok(());
@@ -93,6 +99,7 @@ impl Page {
     /// costs a few searches, and a step for each node within the span.
     pub fn lookup(&self, span: &Span) -> Value
         ensures value { result ≡ answer self.now span.now }
+        ensures below_top { is_before self.now.top result.time ≡ false }
         ensures stands { (p : PageMarks) → StandsFor self.now p → result ≡ joint_above zero_time (values_on span.now p.marks) }
     {
         match span.cuts() {
@@ -101,9 +108,10 @@ impl Page {
         }
     }
 
-    /// The greatest of the base and of the times that were added.
+    /// The greatest of the base and of the times that were added. No answer to a lookup is later.
     pub fn top(&self) -> Timestamp
         ensures value { result ≡ self.now.top }
+        ensures covers { NoAnswerAboveTop self.now }
         ensures stands { (p : PageMarks) → StandsFor self.now p → result ≡ top p }
     {
         self.top

@@ -1,9 +1,10 @@
-ghost use Rattle.std.specs.Prelude.{◌≡◌, ◌≤◌, ◌||◌, ◌∷◌, [], true, false, IfOk, OnOk, OnErr, option_map, if◌then◌else◌};
+ghost use Rattle.std.specs.Prelude.{◌≡◌, ◌≤◌, ◌||◌, ◌∷◌, [], true, false, IsOk, IfOk, OnOk, OnErr, option_map, if◌then◌else◌};
 ghost use Rattle.tsc_time.specs.Joint.{joint, joint_above};
-ghost use Rattle.tsc_time.specs.Time.{zero_time, later};
+ghost use Rattle.tsc_time.specs.Time.{zero_time, is_before, later};
 ghost use Rattle.tsc_span.specs.Span.{KeyBytes, Interval, is_empty_span, overlaps, end_keys};
+ghost use Rattle.tsc_page.specs.declared.TheConstants.{LEAST_NODES, MOST_NODES};
 ghost use Rattle.tsc_page.specs.Page.{PageMarks, Mark, empty_page, with_mark, top, values_on, marked_keys, count_distinct, has_room};
-ghost use Rattle.tsc_page.specs.PageView.{StandsFor, answer, is_in, has_room_for, is_new_among};
+ghost use Rattle.tsc_page.specs.PageView.{StandsFor, NoAnswerAboveTop, answer, is_in, has_room_for, is_new_among};
 
 use std::alloc::Global;
 use std::marker::Model;
@@ -12,9 +13,10 @@ use tsc_time::{NoMemory, Timestamp, Value, ratchet};
 
 /// A page as the plain list of what was added to it.
 ///
-/// It makes the same promises as [`Page`](crate::Page), word for word, and is slow: `lookup`, `top` and
-/// `try_copy` look at all that was added, and `room` and `nodes` compare each end key with all later ones,
-/// so their cost grows with the square of what was added. `new` and `add` alone look at none of it.
+/// It makes the same promises as [`Page`](crate::Page), word for word, but that each Add takes memory, and is
+/// slow: `lookup`, `top` and `try_copy` look at all that was added, and `room` and `nodes` compare each end
+/// key with all later ones, so their cost grows with the square of what was added. `new` and `add` alone
+/// look at none of it.
 #[derive(Debug, Drop)]
 pub struct PlainPage {
     page_nodes: u32,
@@ -25,13 +27,14 @@ pub struct PlainPage {
 impl Model for PlainPage {
     ghost use Rattle.std.specs.Prelude.{◌≤◌};
     ghost use Rattle.tsc_page.specs.Page.{count_distinct, marked_keys};
+    ghost use Rattle.tsc_page.specs.declared.TheConstants.{MOST_NODES};
     ghost use Rattle.tsc_page.specs.PageView.{PageView, view_of};
 
     ghost Value = { PageView };
 
     ghost view = { λ p. view_of p.page_nodes (record { base = p.base; marks = p.marks.items }) };
 
-    ghost invariant = { λ p. (count_distinct (marked_keys p.marks.items) ≤ p.page_nodes) × (p.page_nodes ≤ 65536) };
+    ghost invariant = { λ p. (count_distinct (marked_keys p.marks.items) ≤ p.page_nodes) × (p.page_nodes ≤ MOST_NODES) };
 }
 
 /// A span with the value that was added to it.
@@ -50,14 +53,16 @@ impl Model for PlainMark {
 }
 
 impl PlainPage {
-    /// An empty page, which has room for `page_nodes` different end keys, from 2 to 65,536. `base` is the
-    /// least that its top can be. It takes no memory until something is added.
+    /// An empty page, which has room for `page_nodes` different end keys, from [`LEAST_NODES`](crate::LEAST_NODES)
+    /// to [`MOST_NODES`](crate::MOST_NODES). `base` is the least that its top can be. It takes no memory until something is added,
+    /// so it cannot answer that memory is wanting.
     pub fn new(alloc: Global, page_nodes: u32, base: Timestamp) -> Result<PlainPage, NoMemory>
-        requires at_least { 2 ≤ page_nodes }
-        requires at_most { page_nodes ≤ 65536 }
+        requires at_least { LEAST_NODES ≤ page_nodes }
+        requires at_most { page_nodes ≤ MOST_NODES }
         ensures stands { IfOk result (λ page. StandsFor page (empty_page base)) }
         ensures limit { IfOk result (λ page. page.page_nodes ≡ page_nodes) }
         ensures room { IfOk result (λ page. (span : Interval) → has_room_for page span ≡ true) }
+        ensures memory { IsOk result }
     {
         Ok(PlainPage {
             page_nodes,
@@ -101,6 +106,7 @@ impl PlainPage {
     /// The joint value of time zero without an owner and of all that was added and overlaps the span.
     pub fn lookup(&self, span: &Span) -> Value
         ensures value { result ≡ answer self.now span.now }
+        ensures below_top { is_before self.now.top result.time ≡ false }
         ensures stands { (p : PageMarks) → StandsFor self.now p → result ≡ joint_above zero_time (values_on span.now p.marks) }
     {
         let mut best = Value::unowned(Timestamp::ZERO);
@@ -112,9 +118,10 @@ impl PlainPage {
         best
     }
 
-    /// The greatest of the base and of the times that were added.
+    /// The greatest of the base and of the times that were added. No answer to a lookup is later.
     pub fn top(&self) -> Timestamp
         ensures value { result ≡ self.now.top }
+        ensures covers { NoAnswerAboveTop self.now }
         ensures stands { (p : PageMarks) → StandsFor self.now p → result ≡ top p }
     {
         let mut top = self.base;
@@ -187,7 +194,7 @@ fn is_new(key: Option<&Key>, marks: &[PlainMark]) -> bool
 
 /// How many different end keys a list has. It compares each with all later ones.
 fn count_keys(marks: &[PlainMark]) -> usize
-    requires { count_distinct (marked_keys marks.now) ≤ 65536 }
+    requires { count_distinct (marked_keys marks.now) ≤ MOST_NODES }
     ensures { result ≡ count_distinct (marked_keys marks.now) }
 {
     let mut count = 0;

@@ -1,7 +1,7 @@
-use crate::{Page, PlainPage};
+use crate::{LEAST_NODES, MOST_NODES, Page, PlainPage};
 use std::alloc::Global;
 use std::test::Fail;
-use tsc_span::{Ends, Key, Span, SpanFault};
+use tsc_span::{Ends, Key, Span};
 use tsc_time::{NoMemory, Timestamp, Value};
 use uuid::Uuid;
 
@@ -11,478 +11,403 @@ const SECOND: u128 = 2;
 
 const NOBODY: u128 = 0;
 
-/// A span as text, a wall time with its logical count, and an owner.
-type Mark = (&'static [u8], u64, u32, u128);
+/// What a row does with two pages, a [`Page`] and a [`PlainPage`], and what both then show. A value is a wall
+/// time, a logical count and an owner.
+#[derive(Clone, Copy, Debug)]
+enum Step {
+    /// Goes on with empty pages of so many nodes, with this base.
+    New(u32, u64),
+    /// Adds a value to a span.
+    Add(&'static [u8], u64, u32, u128),
+    /// Adds a value to a span on copies, which then have so many nodes, and goes on with the pages.
+    AddToCopies(&'static [u8], u64, u32, u128, u32),
+    /// A span is answered this value.
+    Look(&'static [u8], u64, u32, u128),
+    /// Whether there is room for a span.
+    Room(&'static [u8], bool),
+    /// The number of nodes, and the wall time and the logical count of the top.
+    Shows(u32, u64, u32),
+}
 
-/// What a page answers to a few spans, its top and its nodes.
-type Seen = ([Value; 4], Timestamp, u32);
+const STEPS: [Step; 118] = [
+    // an empty page
+    Step::New(4, 7),
+    Step::Shows(0, 7, 0),
+    Step::Look(b"a", 0, 0, NOBODY),
+    Step::Look(b"[a,", 0, 0, NOBODY),
+    Step::Room(b"[a,c]", true),
+    // a range reaches up to its excluded end
+    Step::New(4, 5),
+    Step::Add(b"[a,c)", 20, 0, FIRST),
+    Step::Look(b"a", 20, 0, FIRST),
+    Step::Look(b"b", 20, 0, FIRST),
+    Step::Look(b"c", 0, 0, NOBODY),
+    // the logical count decides at one wall time
+    Step::New(4, 5),
+    Step::Add(b"a", 5, 1, FIRST),
+    Step::Look(b"a", 5, 1, FIRST),
+    Step::Shows(1, 5, 1),
+    Step::Add(b"a", 5, 0, SECOND),
+    Step::Look(b"a", 5, 1, FIRST),
+    Step::Shows(1, 5, 1),
+    // a range takes a node for each end
+    Step::New(4, 7),
+    Step::Add(b"[a,c)", 20, 0, FIRST),
+    Step::Shows(2, 20, 0),
+    Step::Add(b"b", 10, 0, SECOND),
+    Step::Shows(3, 20, 0),
+    Step::Look(b"b", 20, 0, FIRST),
+    Step::Room(b"[d,e)", false),
+    Step::Room(b"[c,d)", true),
+    // a copy goes its own way
+    Step::AddToCopies(b"[c,d)", 30, 0, SECOND, 4),
+    Step::Look(b"c", 0, 0, NOBODY),
+    Step::Shows(3, 20, 0),
+    // a new node takes the value of its gap
+    Step::New(8, 0),
+    Step::Add(b"[a,e)", 20, 0, FIRST),
+    Step::Look(b"c", 20, 0, FIRST),
+    Step::Shows(2, 20, 0),
+    Step::Add(b"c", 10, 0, SECOND),
+    Step::Look(b"c", 20, 0, FIRST),
+    Step::Shows(3, 20, 0),
+    Step::Add(b"(c,e)", 20, 0, SECOND),
+    Step::Shows(3, 20, 0),
+    Step::Look(b"c", 20, 0, FIRST),
+    Step::Look(b"(a,c)", 20, 0, FIRST),
+    Step::Look(b"d", 20, 0, NOBODY),
+    Step::Look(b"(c,e)", 20, 0, NOBODY),
+    Step::Look(b"e", 0, 0, NOBODY),
+    // known keys need no room
+    Step::New(2, 0),
+    Step::Add(b"[a,c)", 20, 0, FIRST),
+    Step::Room(b"[c,", true),
+    Step::Room(b"(a,a)", true),
+    Step::Room(b"b", false),
+    // owners that differ are lost
+    Step::New(4, 0),
+    Step::Add(b"[a,c)", 20, 0, FIRST),
+    Step::Add(b"[b,d)", 20, 0, SECOND),
+    Step::Look(b"a", 20, 0, FIRST),
+    Step::Look(b"b", 20, 0, NOBODY),
+    Step::Look(b"c", 20, 0, SECOND),
+    Step::Look(b"[a,d)", 20, 0, NOBODY),
+    // at one time only a common owner stays
+    Step::New(4, 0),
+    Step::Add(b"a", 20, 0, FIRST),
+    Step::Add(b"a", 20, 0, SECOND),
+    Step::Look(b"a", 20, 0, NOBODY),
+    Step::Add(b"b", 20, 0, FIRST),
+    Step::Add(b"b", 20, 0, FIRST),
+    Step::Look(b"b", 20, 0, FIRST),
+    Step::Add(b"c", 20, 0, NOBODY),
+    Step::Add(b"c", 20, 0, FIRST),
+    Step::Look(b"c", 20, 0, NOBODY),
+    Step::Add(b"d", 20, 0, FIRST),
+    Step::Add(b"d", 20, 0, NOBODY),
+    Step::Look(b"d", 20, 0, NOBODY),
+    // equal ends are the single key
+    Step::New(4, 0),
+    Step::Add(b"[a,a)", 20, 0, FIRST),
+    Step::Shows(1, 20, 0),
+    Step::Look(b"a", 20, 0, FIRST),
+    Step::Look(b"(a,a)", 0, 0, NOBODY),
+    Step::Look(b"(a,b)", 0, 0, NOBODY),
+    // excluded ends stay as they are
+    Step::New(4, 0),
+    Step::Add(b"(a,c)", 20, 0, FIRST),
+    Step::Look(b"a", 0, 0, NOBODY),
+    Step::Look(b"b", 20, 0, FIRST),
+    Step::Look(b"c", 0, 0, NOBODY),
+    Step::Look(b"(a,a)", 0, 0, NOBODY),
+    // a gap without keys has a value
+    Step::New(4, 0),
+    Step::Add(b"(a,A)", 20, 0, FIRST),
+    Step::Look(b"(a,A)", 20, 0, FIRST),
+    Step::Look(b"[a,A]", 20, 0, FIRST),
+    Step::Look(b"A", 0, 0, NOBODY),
+    Step::Look(b"a", 0, 0, NOBODY),
+    // a span without end
+    Step::New(4, 0),
+    Step::Add(b"[m,", 20, 0, FIRST),
+    Step::Shows(1, 20, 0),
+    Step::Look(b"\xff", 20, 0, FIRST),
+    Step::Look(b"m", 20, 0, FIRST),
+    Step::Look(b"l", 0, 0, NOBODY),
+    Step::Look(b"[z,", 20, 0, FIRST),
+    Step::Look(b"(a,m]", 20, 0, FIRST),
+    Step::Look(b"[a,m)", 0, 0, NOBODY),
+    // the empty key, and two of the longest ones, which differ in their last byte
+    Step::New(3, 0),
+    Step::Add(b".", 10, 0, FIRST),
+    Step::Look(b".", 10, 0, FIRST),
+    Step::Look(b"(.,", 0, 0, NOBODY),
+    Step::Add(b"[l,L)", 20, 0, SECOND),
+    Step::Shows(3, 20, 0),
+    Step::Look(b"l", 20, 0, SECOND),
+    Step::Look(b"L", 0, 0, NOBODY),
+    Step::Look(b"(L,", 0, 0, NOBODY),
+    Step::Add(b"[.,l)", 15, 0, SECOND),
+    Step::Look(b"a", 15, 0, SECOND),
+    Step::Look(b"[.,L]", 20, 0, SECOND),
+    Step::Room(b"[.,L]", true),
+    Step::Room(b"[.,m)", false),
+    // all kinds of spans on a page that they fill
+    Step::New(5, 7),
+    Step::Add(b"[b,d)", 20, 0, FIRST),
+    Step::Add(b"c", 30, 0, SECOND),
+    Step::Add(b"(b,f]", 20, 0, SECOND),
+    Step::Add(b"a", 10, 0, FIRST),
+    Step::Add(b"(c,", 30, 0, FIRST),
+    Step::Add(b"[a,f]", 25, 0, NOBODY),
+    Step::Room(b"g", false),
+    Step::Add(b"[c,c]", 30, 0, SECOND),
+    Step::Shows(5, 30, 0),
+];
+
+/// The names of the keys of all spans to which both pages have to answer alike.
+const NAMES: &[u8] = b".aAbcdefgl";
 
 fn value(wall: u64, logical: u32, owner: u128) -> Result<Value, Fail> {
     let time = Timestamp::new(wall, logical).ok_or("out of range")?;
     Ok(Value::of(time, Uuid::from_u128(owner)))
 }
 
-/// A key. Where memory is refused the same call then succeeds.
-fn key(alloc: Global, bytes: &[u8]) -> Result<Key, Fail> {
-    match Key::new(alloc, bytes) {
-        Err(SpanFault::NoMemory) => Ok(Key::new(alloc, bytes)?),
-        made => Ok(made?),
+/// The key of a name. A dot is the empty key, `A` the next key after `a`, and `l` and `L` are two of the
+/// longest keys; any other name is the key's one byte.
+fn key(alloc: Global, name: u8) -> Result<Key, Fail> {
+    let mut long = [b'l'; 4096];
+    match name {
+        b'.' => Ok(Key::new(alloc, b"")?),
+        b'A' => Ok(Key::new(alloc, b"a\x00")?),
+        b'l' => Ok(Key::new(alloc, &long)?),
+        b'L' => {
+            long[4095] = b'm';
+            Ok(Key::new(alloc, &long)?)
+        }
+        byte => Ok(Key::new(alloc, &[byte])?),
     }
 }
 
-/// The span of a text such as `a`, `[a,c)` or `(m,`, whose keys have one byte.
+/// The span of a text such as `a`, `[a,c)` or `(m,`.
 fn span(alloc: Global, text: &[u8]) -> Result<Span, Fail> {
-    if text.len() == 1 {
-        return Ok(Span::point(key(alloc, text)?));
-    }
-    let exclude_from = text.first() == Some(&b'(');
-    let from = key(alloc, text.get(1..2).ok_or("no key")?)?;
-    match text.get(3..4) {
+    let name = |i: usize| text.get(i).copied();
+    let exclude_from = name(0) == Some(b'(');
+    let Some(from) = name(1) else {
+        return Ok(Span::point(key(alloc, name(0).ok_or("no key")?)?));
+    };
+    let from = key(alloc, from)?;
+    match name(3) {
         None => Ok(Span::onward(from, exclude_from)),
         Some(to) => {
             let ends = Ends {
                 exclude_from,
-                exclude_to: text.last() == Some(&b')'),
+                exclude_to: name(4) == Some(b')'),
             };
-            Ok(Span::range(from, key(alloc, to)?, ends)?)
+            Ok(Span::for_lookup(from, key(alloc, to)?, ends))
         }
     }
 }
 
-/// The range from `a` to the next key after it, both excluded or neither.
-fn a_to_next(alloc: Global, exclude: bool) -> Result<Span, Fail> {
-    let ends = Ends {
-        exclude_from: exclude,
-        exclude_to: exclude,
-    };
-    Ok(Span::range(key(alloc, b"a")?, key(alloc, b"a\x00")?, ends)?)
-}
-
-/// Whether a page answers so to each span.
-fn answers(alloc: Global, page: &Page, looks: &[Mark]) -> Result<bool, Fail> {
-    for (text, wall, logical, owner) in looks {
-        if page.lookup(&span(alloc, text)?) != value(*wall, *logical, *owner)? {
-            return Ok(false);
-        }
-    }
-    Ok(true)
-}
-
-/// Two single keys, what lies between them, and all keys above.
-fn looks(alloc: Global) -> Result<[Span; 4], Fail> {
-    Ok([
-        span(alloc, b"a")?,
-        span(alloc, b"c")?,
-        span(alloc, b"(a,c)")?,
-        span(alloc, b"(c,")?,
-    ])
-}
-
-fn seen(page: &Page, looks: &[Span; 4]) -> Seen {
-    let [first, second, between, above] = looks;
-    let answers = [
-        page.lookup(first),
-        page.lookup(second),
-        page.lookup(between),
-        page.lookup(above),
-    ];
-    (answers, page.top(), page.nodes())
-}
-
-/// Adds a span. Where memory is refused the page is as before, and the same call then succeeds.
-fn add_span(alloc: Global, page: &mut Page, span: &Span, value: Value) -> Result<bool, Fail> {
-    let looks = looks(alloc)?;
-    let before = seen(page, &looks);
-    if span.is_empty() || !page.room(span) {
-        return Ok(false);
-    }
-    if let Err(NoMemory) = page.add(span, value) {
-        if seen(page, &looks) != before || !page.room(span) {
-            return Ok(false);
-        }
-        page.add(span, value)?;
-    }
-    Ok(true)
-}
-
-/// Adds all of these, and says whether none was empty, all had room, and none that was refused changed
-/// the page.
-fn add(alloc: Global, page: &mut Page, marks: &[Mark]) -> Result<bool, Fail> {
-    for (text, wall, logical, owner) in marks {
-        let span = span(alloc, text)?;
-        if !add_span(alloc, page, &span, value(*wall, *logical, *owner)?)? {
-            return Ok(false);
-        }
-    }
-    Ok(true)
-}
-
-/// A copy. Where memory is refused the page is as before, and the same call then succeeds.
-fn copy(alloc: Global, page: &Page) -> Result<Page, Fail> {
-    let looks = looks(alloc)?;
-    let before = seen(page, &looks);
-    if let Ok(copy) = page.try_copy() {
-        return Ok(copy);
-    }
-    if seen(page, &looks) != before {
-        return Err(Fail::new("a refused copy changed the page"));
-    }
-    Ok(page.try_copy()?)
-}
-
-/// An empty page with this base.
-fn page(alloc: Global, page_nodes: u32, base: u64) -> Result<Page, Fail> {
-    let page_nodes = page_nodes.clamp(2, 65536);
-    Ok(Page::new(alloc, page_nodes, value(base, 0, NOBODY)?.time())?)
-}
-
-#[test]
-fn an_empty_page(rt: HostRuntime) -> Result<(), Fail> {
-    let base = value(7, 0, NOBODY)?.time();
-    let page = Page::new(rt.alloc(), 4, base)?;
-    assert_eq!(rt; (page.nodes(), page.top()), (0, base));
-    assert!(rt;
-        answers(
-            rt.alloc(),
-            &page,
-            &[(b"a", 0, 0, NOBODY), (b"[a,", 0, 0, NOBODY)]
-        )?
-    );
-    assert!(rt; page.room(&span(rt.alloc(), b"[a,c]")?));
-    Ok(())
-}
-
-#[test]
-fn a_range_reaches_up_to_its_excluded_end(rt: HostRuntime) -> Result<(), Fail> {
-    let mut page = page(rt.alloc(), 4, 5)?;
-    assert!(rt; add(rt.alloc(), &mut page, &[(b"[a,c)", 20, 0, FIRST)])?);
-    let looks: [Mark; 3] = [
-        (b"a", 20, 0, FIRST),
-        (b"b", 20, 0, FIRST),
-        (b"c", 0, 0, NOBODY),
-    ];
-    assert!(rt; answers(rt.alloc(), &page, &looks)?);
-    Ok(())
-}
-
-#[test]
-fn the_logical_count_decides_at_one_wall_time(rt: HostRuntime) -> Result<(), Fail> {
-    let mut page = page(rt.alloc(), 4, 5)?;
-    let marks: [Mark; 2] = [(b"a", 5, 1, FIRST), (b"a", 5, 0, SECOND)];
-    for mark in marks.windows(1) {
-        assert!(rt; add(rt.alloc(), &mut page, mark)?);
-        assert!(rt; answers(rt.alloc(), &page, &[(b"a", 5, 1, FIRST)])?);
-        assert_eq!(rt; page.top(), value(5, 1, NOBODY)?.time());
-    }
-    Ok(())
-}
-
-#[test]
-fn a_range_takes_a_node_for_each_end(rt: HostRuntime) -> Result<(), Fail> {
-    let mut page = page(rt.alloc(), 4, 7)?;
-    assert!(rt; add(rt.alloc(), &mut page, &[(b"[a,c)", 20, 0, FIRST)])?);
-    assert_eq!(rt;
-        (page.nodes(), page.top()),
-        (2, value(20, 0, NOBODY)?.time())
-    );
-    assert!(rt; add(rt.alloc(), &mut page, &[(b"b", 10, 0, SECOND)])?);
-    assert_eq!(rt;
-        (page.nodes(), page.top()),
-        (3, value(20, 0, NOBODY)?.time())
-    );
-    assert!(rt; answers(rt.alloc(), &page, &[(b"b", 20, 0, FIRST)])?);
-    assert!(rt; !page.room(&span(rt.alloc(), b"[d,e)")?));
-    assert!(rt; page.room(&span(rt.alloc(), b"[c,d)")?));
-    Ok(())
-}
-
-#[test]
-fn a_copy_goes_its_own_way(rt: HostRuntime) -> Result<(), Fail> {
-    let mut page = page(rt.alloc(), 4, 7)?;
-    assert!(rt;
-        add(
-            rt.alloc(),
-            &mut page,
-            &[(b"[a,c)", 20, 0, FIRST), (b"b", 10, 0, SECOND)]
-        )?
-    );
-    let mut copy = copy(rt.alloc(), &page)?;
-    assert!(rt; add(rt.alloc(), &mut copy, &[(b"[c,d)", 30, 0, SECOND)])?);
-    assert_eq!(rt; (copy.nodes(), page.nodes()), (4, 3));
-    assert!(rt; answers(rt.alloc(), &copy, &[(b"c", 30, 0, SECOND)])?);
-    assert!(rt; answers(rt.alloc(), &page, &[(b"c", 0, 0, NOBODY)])?);
-    Ok(())
-}
-
-#[test]
-fn a_new_node_takes_the_value_of_its_gap(rt: HostRuntime) -> Result<(), Fail> {
-    let mut page = page(rt.alloc(), 8, 0)?;
-    let marks: [Mark; 3] = [
-        (b"[a,e)", 20, 0, FIRST),
-        (b"c", 10, 0, SECOND),
-        (b"(c,e)", 20, 0, SECOND),
-    ];
-    for (i, nodes) in [2, 3, 3].into_iter().enumerate() {
-        assert!(rt; add(rt.alloc(), &mut page, &marks[i..i + 1])?);
-        assert_eq!(rt; page.nodes(), nodes);
-        assert!(rt; answers(rt.alloc(), &page, &[(b"c", 20, 0, FIRST)])?);
-    }
-    let looks: [Mark; 4] = [
-        (b"(a,c)", 20, 0, FIRST),
-        (b"d", 20, 0, NOBODY),
-        (b"(c,e)", 20, 0, NOBODY),
-        (b"e", 0, 0, NOBODY),
-    ];
-    assert!(rt; answers(rt.alloc(), &page, &looks)?);
-    Ok(())
-}
-
-#[test]
-fn known_keys_need_no_room(rt: HostRuntime) -> Result<(), Fail> {
-    let mut page = page(rt.alloc(), 2, 0)?;
-    assert!(rt; add(rt.alloc(), &mut page, &[(b"[a,c)", 20, 0, FIRST)])?);
-    for (text, has_room) in [(b"[c,".as_slice(), true), (b"(a,a)", true), (b"b", false)] {
-        assert_eq!(rt; page.room(&span(rt.alloc(), text)?), has_room);
-    }
-    Ok(())
-}
-
-#[test]
-fn owners_that_differ_are_lost(rt: HostRuntime) -> Result<(), Fail> {
-    let mut page = page(rt.alloc(), 4, 0)?;
-    assert!(rt;
-        add(
-            rt.alloc(),
-            &mut page,
-            &[(b"[a,c)", 20, 0, FIRST), (b"[b,d)", 20, 0, SECOND)]
-        )?
-    );
-    let looks: [Mark; 4] = [
-        (b"a", 20, 0, FIRST),
-        (b"b", 20, 0, NOBODY),
-        (b"c", 20, 0, SECOND),
-        (b"[a,d)", 20, 0, NOBODY),
-    ];
-    assert!(rt; answers(rt.alloc(), &page, &looks)?);
-    Ok(())
-}
-
-#[test]
-fn at_one_time_only_a_common_owner_stays(rt: HostRuntime) -> Result<(), Fail> {
-    let cases: [(u128, u128, u128); 4] = [
-        (FIRST, SECOND, NOBODY),
-        (FIRST, FIRST, FIRST),
-        (NOBODY, FIRST, NOBODY),
-        (FIRST, NOBODY, NOBODY),
-    ];
-    for (old, new, left) in cases {
-        let mut page = page(rt.alloc(), 4, 0)?;
-        assert!(rt;
-            add(
-                rt.alloc(),
-                &mut page,
-                &[(b"a", 20, 0, old), (b"a", 20, 0, new)]
-            )?
-        );
-        assert!(rt; answers(rt.alloc(), &page, &[(b"a", 20, 0, left)])?);
-    }
-    Ok(())
-}
-
-#[test]
-fn equal_ends_are_the_single_key(rt: HostRuntime) -> Result<(), Fail> {
-    let mut page = page(rt.alloc(), 4, 0)?;
-    assert!(rt; add(rt.alloc(), &mut page, &[(b"[a,a)", 20, 0, FIRST)])?);
-    assert_eq!(rt; page.nodes(), 1);
-    let looks: [Mark; 3] = [
-        (b"a", 20, 0, FIRST),
-        (b"(a,a)", 0, 0, NOBODY),
-        (b"(a,b)", 0, 0, NOBODY),
-    ];
-    assert!(rt; answers(rt.alloc(), &page, &looks)?);
-    Ok(())
-}
-
-#[test]
-fn excluded_ends_stay_as_they_are(rt: HostRuntime) -> Result<(), Fail> {
-    let mut page = page(rt.alloc(), 4, 0)?;
-    assert!(rt; add(rt.alloc(), &mut page, &[(b"(a,c)", 20, 0, FIRST)])?);
-    let looks: [Mark; 4] = [
-        (b"a", 0, 0, NOBODY),
-        (b"b", 20, 0, FIRST),
-        (b"c", 0, 0, NOBODY),
-        (b"(a,a)", 0, 0, NOBODY),
-    ];
-    assert!(rt; answers(rt.alloc(), &page, &looks)?);
-    Ok(())
-}
-
-#[test]
-fn a_gap_without_keys_has_a_value(rt: HostRuntime) -> Result<(), Fail> {
-    let gap = a_to_next(rt.alloc(), true)?;
-    let mut page = page(rt.alloc(), 4, 0)?;
-    assert!(rt; add_span(rt.alloc(), &mut page, &gap, value(20, 0, FIRST)?)?);
-    assert_eq!(rt; page.lookup(&gap), value(20, 0, FIRST)?);
-    assert_eq!(rt;
-        page.lookup(&a_to_next(rt.alloc(), false)?),
-        value(20, 0, FIRST)?
-    );
-    let next = Span::point(key(rt.alloc(), b"a\x00")?);
-    assert_eq!(rt; page.lookup(&next), value(0, 0, NOBODY)?);
-    assert!(rt; answers(rt.alloc(), &page, &[(b"a", 0, 0, NOBODY)])?);
-    Ok(())
-}
-
-#[test]
-fn a_span_without_end(rt: HostRuntime) -> Result<(), Fail> {
-    let mut page = page(rt.alloc(), 4, 0)?;
-    assert!(rt; add(rt.alloc(), &mut page, &[(b"[m,", 20, 0, FIRST)])?);
-    assert_eq!(rt; page.nodes(), 1);
-    let looks: [Mark; 6] = [
-        (b"\xff", 20, 0, FIRST),
-        (b"m", 20, 0, FIRST),
-        (b"l", 0, 0, NOBODY),
-        (b"[z,", 20, 0, FIRST),
-        (b"(a,m]", 20, 0, FIRST),
-        (b"[a,m)", 0, 0, NOBODY),
-    ];
-    assert!(rt; answers(rt.alloc(), &page, &looks)?);
-    Ok(())
-}
-
-#[test]
-fn a_refused_add_changes_nothing(rt: HostRuntime) -> Result<(), Fail> {
-    let mut page = page(rt.alloc(), 8, 7)?;
-    let marks: [Mark; 4] = [
-        (b"[a,c)", 20, 0, FIRST),
-        (b"b", 10, 0, SECOND),
-        (b"(c,e]", 30, 0, SECOND),
-        (b"[d,", 20, 0, FIRST),
-    ];
-    assert!(rt; add(rt.alloc(), &mut page, &marks)?);
-    let looks: [Mark; 5] = [
-        (b"a", 20, 0, FIRST),
-        (b"b", 20, 0, FIRST),
-        (b"c", 0, 0, NOBODY),
-        (b"d", 30, 0, SECOND),
-        (b"f", 20, 0, FIRST),
-    ];
-    assert!(rt; answers(rt.alloc(), &page, &looks)?);
-    assert_eq!(rt; page.nodes(), 5);
-    Ok(())
-}
-
-/// Whether both pages answer alike to a span.
-fn agree(page: &Page, plain: &PlainPage, span: &Span) -> bool {
-    page.lookup(span) == plain.lookup(span) && page.room(span) == plain.room(span)
-}
-
-/// Whether both pages answer alike to each span over these keys.
-fn agree_on(alloc: Global, page: &Page, plain: &PlainPage, keys: &[u8]) -> Result<bool, Fail> {
-    let mut alike = page.top() == plain.top() && page.nodes() == plain.nodes();
-    for from in keys.windows(1) {
+/// Each span between two of the named keys, and from one on.
+fn all_spans(alloc: Global) -> Result<Vec<Span>, Fail> {
+    let mut spans = Vec::new(alloc);
+    for from in NAMES {
         for exclude_from in [false, true] {
-            let onward = Span::onward(key(alloc, from)?, exclude_from);
-            alike &= agree(page, plain, &onward);
-            for to in keys.windows(1) {
+            let onward = Span::onward(key(alloc, *from)?, exclude_from);
+            spans.push(onward).map_err(|_| NoMemory)?;
+            for to in NAMES {
                 for exclude_to in [false, true] {
                     let ends = Ends {
                         exclude_from,
                         exclude_to,
                     };
-                    let (from, to) = (key(alloc, from)?, key(alloc, to)?);
-                    alike &= agree(page, plain, &Span::for_lookup(from, to, ends));
+                    let (from, to) = (key(alloc, *from)?, key(alloc, *to)?);
+                    let span = Span::for_lookup(from, to, ends);
+                    spans.push(span).map_err(|_| NoMemory)?;
                 }
             }
         }
     }
-    Ok(alike)
+    Ok(spans)
 }
 
-fn plain_seen(page: &PlainPage, looks: &[Span; 4]) -> Seen {
-    let [first, second, between, above] = looks;
-    let answers = [
-        page.lookup(first),
-        page.lookup(second),
-        page.lookup(between),
-        page.lookup(above),
-    ];
-    (answers, page.top(), page.nodes())
+/// Two pages, to which the same was added.
+#[derive(Drop)]
+struct Pages {
+    page: Page,
+    plain: PlainPage,
 }
 
-/// Adds a span to a plain page. Where memory is refused the page is as before, and the same call then
-/// succeeds.
-fn plain_add(alloc: Global, page: &mut PlainPage, span: &Span, value: Value) -> Result<bool, Fail> {
-    let looks = looks(alloc)?;
-    let before = plain_seen(page, &looks);
-    if span.is_empty() || !page.room(span) {
-        return Ok(false);
+impl Pages {
+    fn new(alloc: Global, page_nodes: u32, base: u64) -> Result<Pages, Fail> {
+        let page_nodes = page_nodes.clamp(LEAST_NODES, MOST_NODES);
+        let base = Timestamp::new(base, 0).ok_or("out of range")?;
+        Ok(Pages {
+            page: Page::new(alloc, page_nodes, base)?,
+            plain: PlainPage::new(alloc, page_nodes, base)?,
+        })
     }
-    if let Err(NoMemory) = page.add(span, value) {
-        if plain_seen(page, &looks) != before || !page.room(span) {
-            return Ok(false);
+
+    /// Adds a value to a span once.
+    fn add(&mut self, span: &Span, value: Value) -> Result<(), Fail> {
+        if span.is_empty() || !self.page.room(span) || !self.plain.room(span) {
+            return Err(Fail::new("an Add of an empty span, or without room"));
         }
-        page.add(span, value)?;
+        self.page.add(span, value)?;
+        self.plain.add(span, value)?;
+        Ok(())
     }
-    Ok(true)
+
+    fn copy(&self) -> Result<Pages, Fail> {
+        Ok(Pages {
+            page: self.page.try_copy()?,
+            plain: self.plain.try_copy()?,
+        })
+    }
+
+    fn answer(&self, span: &Span, value: Value) -> bool {
+        self.page.lookup(span) == value && self.plain.lookup(span) == value
+    }
+
+    fn have(&self, nodes: u32) -> bool {
+        self.page.nodes() == nodes && self.plain.nodes() == nodes
+    }
+
+    /// Takes a step, and says whether both pages show what it tells, and answer alike to each of the spans.
+    fn take(&mut self, alloc: Global, step: Step, all: &[Span]) -> Result<bool, Fail> {
+        match step {
+            Step::New(page_nodes, base) => {
+                *self = Pages::new(alloc, page_nodes, base)?;
+                Ok(alike_on(&self.page, &self.plain, all))
+            }
+            Step::Add(text, wall, logical, owner) => {
+                self.add(&span(alloc, text)?, value(wall, logical, owner)?)?;
+                let copy = self.copy()?;
+                Ok(alike_on(&self.page, &copy.plain, all) && alike_on(&copy.page, &self.plain, all))
+            }
+            Step::AddToCopies(text, wall, logical, owner, nodes) => {
+                let (span, value) = (span(alloc, text)?, value(wall, logical, owner)?);
+                let mut copy = self.copy()?;
+                copy.add(&span, value)?;
+                Ok(copy.answer(&span, value) && copy.have(nodes))
+            }
+            Step::Look(text, wall, logical, owner) => {
+                Ok(self.answer(&span(alloc, text)?, value(wall, logical, owner)?))
+            }
+            Step::Room(text, room) => {
+                let span = span(alloc, text)?;
+                Ok(self.page.room(&span) == room && self.plain.room(&span) == room)
+            }
+            Step::Shows(nodes, wall, logical) => {
+                let top = value(wall, logical, NOBODY)?.time();
+                Ok(self.have(nodes) && self.page.top() == top && self.plain.top() == top)
+            }
+        }
+    }
 }
 
-/// A copy. Where memory is refused the page is as before, and the same call then succeeds.
-fn plain_copy(alloc: Global, page: &PlainPage) -> Result<PlainPage, Fail> {
-    let looks = looks(alloc)?;
-    let before = plain_seen(page, &looks);
-    if let Ok(copy) = page.try_copy() {
-        return Ok(copy);
+/// Whether two pages show the same, and answer alike to each of the spans.
+fn alike_on(page: &Page, plain: &PlainPage, spans: &[Span]) -> bool {
+    let mut alike = page.top() == plain.top() && page.nodes() == plain.nodes();
+    for span in spans {
+        alike &= page.lookup(span) == plain.lookup(span) && page.room(span) == plain.room(span);
     }
-    if plain_seen(page, &looks) != before {
-        return Err(Fail::new("a refused copy changed the page"));
-    }
-    Ok(page.try_copy()?)
+    alike
 }
 
-/// Adds a span to both pages where it is not empty and there is room, and copies both.
-fn add_to_both(
-    alloc: Global,
-    page: &mut Page,
-    plain: &mut PlainPage,
-    span: &Span,
-    value: Value,
-) -> Result<(), Fail> {
-    if span.is_empty() || !page.room(span) {
-        return Ok(());
+/// Memory is ample here: no call is made again.
+#[test]
+fn rows_of_calls(rt: HostRuntime) -> Result<(), Fail> {
+    let all = all_spans(rt.alloc())?;
+    let mut pages = Pages::new(rt.alloc(), LEAST_NODES, 0)?;
+    for (i, step) in STEPS.into_iter().enumerate() {
+        assert!(rt; pages.take(rt.alloc(), step, &all)?, "step {i}: {step:?}");
     }
-    if !add_span(alloc, page, span, value)? || !plain_add(alloc, plain, span, value)? {
-        return Err(Fail::new("a page had no room, or a refused add changed it"));
-    }
-    *page = copy(alloc, page)?;
-    *plain = plain_copy(alloc, plain)?;
     Ok(())
 }
 
-#[test]
-fn the_plain_page_answers_alike(rt: HostRuntime) -> Result<(), Fail> {
-    let mut page = page(rt.alloc(), 5, 7)?;
-    let mut plain = PlainPage::new(rt.alloc(), 5, page.top())?;
-    let marks: [Mark; 9] = [
-        (b"[b,d)", 20, 0, FIRST),
-        (b"c", 30, 0, SECOND),
-        (b"(b,f]", 20, 0, SECOND),
-        (b"a", 10, 0, FIRST),
-        (b"(a,a)", 90, 0, FIRST),
-        (b"(c,", 30, 0, FIRST),
-        (b"[a,f]", 25, 0, NOBODY),
-        (b"g", 99, 0, FIRST),
-        (b"[c,c]", 30, 0, SECOND),
-    ];
-    for (text, wall, logical, owner) in marks {
-        let span = span(rt.alloc(), text)?;
-        let value = value(wall, logical, owner)?;
-        add_to_both(rt.alloc(), &mut page, &mut plain, &span, value)?;
-        assert!(rt; agree_on(rt.alloc(), &page, &plain, b"abcdefgh")?);
+/// Copies both pages and adds a value to a span of both. A call that is refused memory changes nothing, and
+/// the same call then succeeds.
+fn copy_and_add(pages: &mut Pages, span: &Span, value: Value, all: &[Span]) -> Result<bool, Fail> {
+    let Pages { page, plain } = pages;
+    let before = match page.try_copy() {
+        Ok(copy) => copy,
+        Err(NoMemory) => page.try_copy()?,
+    };
+    let plain_before = match plain.try_copy() {
+        Ok(copy) => copy,
+        Err(NoMemory) => plain.try_copy()?,
+    };
+    let mut alike = alike_on(&before, plain, all) && alike_on(page, &plain_before, all);
+    if span.is_empty() || !page.room(span) || !plain.room(span) {
+        return Ok(false);
     }
-    assert_eq!(rt;
-        (page.nodes(), page.top()),
-        (5, value(30, 0, NOBODY)?.time())
-    );
+    if let Err(NoMemory) = page.add(span, value) {
+        alike &= alike_on(page, &plain_before, all);
+        page.add(span, value)?;
+    }
+    if let Err(NoMemory) = plain.add(span, value) {
+        alike &= alike_on(&before, plain, all);
+        plain.add(span, value)?;
+    }
+    Ok(alike && alike_on(page, plain, all))
+}
+
+/// What is added where each call may be refused memory.
+const MARKS: [(&[u8], u64, u128); 5] = [
+    (b"[a,c)", 20, FIRST),
+    (b"b", 10, SECOND),
+    (b"(c,e]", 30, SECOND),
+    (b"(a,c]", 40, FIRST),
+    (b"[d,", 20, FIRST),
+];
+
+#[test]
+fn a_refused_call_changes_nothing(rt: HostRuntime) -> Result<(), Fail> {
+    let all = all_spans(rt.alloc())?;
+    let mut pages = Pages::new(rt.alloc(), 5, 7)?;
+    for (text, wall, owner) in MARKS {
+        let (span, value) = (span(rt.alloc(), text)?, value(wall, 0, owner)?);
+        assert!(rt; copy_and_add(&mut pages, &span, value, &all)?, "{text:?}");
+    }
+    assert!(rt; pages.have(5));
+    Ok(())
+}
+
+/// The single key of a place.
+fn place(alloc: Global, place: u32) -> Result<Span, Fail> {
+    Ok(Span::point(Key::new(alloc, &place.to_be_bytes())?))
+}
+
+/// Adds a time of its own to the key of a place, once.
+fn add_place(alloc: Global, page: &mut Page, at: u32) -> Result<(), Fail> {
+    let span = place(alloc, at)?;
+    if span.is_empty() || !page.room(&span) {
+        return Err(Fail::new("no room"));
+    }
+    page.add(&span, value(u64::from(at) + 1, 0, FIRST)?)?;
+    Ok(())
+}
+
+/// Whether a page is full, with its own time at the key of each place that is looked up.
+fn is_full(alloc: Global, page: &Page) -> Result<bool, Fail> {
+    let mut full = page.nodes() == MOST_NODES && !page.room(&place(alloc, MOST_NODES)?);
+    for at in (0..MOST_NODES).step_by(4369) {
+        let span = place(alloc, at)?;
+        full &= page.room(&span) && page.lookup(&span) == value(u64::from(at) + 1, 0, FIRST)?;
+    }
+    Ok(full)
+}
+
+#[test]
+fn the_largest_page(rt: HostRuntime) -> Result<(), Fail> {
+    let mut page = Page::new(rt.alloc(), MOST_NODES, Timestamp::ZERO)?;
+    for at in 0..MOST_NODES {
+        add_place(rt.alloc(), &mut page, at)?;
+    }
+    assert!(rt; is_full(rt.alloc(), &page)?);
+    let copy = page.try_copy()?;
+    assert!(rt; is_full(rt.alloc(), &copy)? && copy.top() == page.top());
     Ok(())
 }

@@ -14,7 +14,8 @@ use Rattle.tsc_span.specs.Span.{KeyBytes, key_cmp, Cut, before, after, last, cut
 pub key_cmp_back : (from to : KeyBytes) → key_cmp to from ≡ ordering_reverse (key_cmp from to)
 key_cmp_back from to = nat_list_cmp_total.antisymm to from
 
-key_cmp-same : (k m : KeyBytes) → key_cmp k m ≡ Equal → k ≡ m
+-- only the same keys are equal
+pub key_cmp-same : (k m : KeyBytes) → key_cmp k m ≡ Equal → k ≡ m
 key_cmp-same k m e = (bytes_eq-Decides k m).0 (sym (is_eq-slice_cmp k m) ∙ ap is_eq e)
 
 never_less : (o : Ordering) → ordering_then o Less ≡ Equal → ⊥

@@ -1,3 +1,4 @@
 pub mod CutOrder
 pub mod Ranges
 pub mod Overlaps
+pub mod MadeSpans

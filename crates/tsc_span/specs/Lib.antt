@@ -1,5 +1,6 @@
 pub mod Span
 pub mod MadeKey
+pub mod MadeSpan
 pub mod Cuts
 pub mod Same
 pub mod Sameness

@@ -5,6 +5,7 @@ use Rattle.std.specs.declared.cmp.Ordering.TheVariants.{Less, Equal, Greater}
 use Rattle.std.specs.Ordering.{nat_cmp, is_lt, ordering_then}
 use Rattle.std.specs.Cmp.Lexicographic.{slice_cmp}
 use Rattle.std.specs.Str.{bytes_eq}
+use Rattle.tsc_span.specs.declared.key.TheConstants.{LONGEST_KEY}
 
 -- a key is a text of bytes
 abbrev pub KeyBytes : Type 0
@@ -12,7 +13,7 @@ KeyBytes = List ℕ
 
 -- how many bytes a key has at the most
 abbrev pub longest_key : ℕ
-longest_key = 4096
+longest_key = LONGEST_KEY
 
 -- whether bytes are few enough for a key
 abbrev pub fits_key : KeyBytes → Bool

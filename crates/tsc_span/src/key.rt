@@ -1,4 +1,5 @@
 ghost use Rattle.std.specs.Prelude.{◌≡◌, ◌<◌, ◌≤◌, ◌↔◌, ◌⊎◌, length, IfOk, IfErr, IsErrOf, Some, refl};
+ghost use Rattle.std.specs.List.{All};
 ghost use Rattle.std.specs.Str.{bytes_eq};
 ghost use Rattle.std.specs.Cmp.{partial_equiv_from_equiv};
 ghost use Rattle.std.specs.Cmp.Lexicographic.{nat_list_eq_equiv, nat_list_cmp_total, texts_ties, texts_po};
@@ -12,7 +13,7 @@ use std::marker::Model;
 use tsc_time::NoMemory;
 
 /// How many bytes a key has at the most.
-const LONGEST_KEY: usize = 4096;
+pub const LONGEST_KEY: usize = 4096;
 
 /// A key: a text of bytes, 4096 of them at the most. The empty key comes first.
 ///
@@ -53,8 +54,9 @@ impl Key {
     pub fn bytes(&self) -> &[u8]
         ensures value { result.now ≡ self.now }
         ensures fits { length result.now ≤ longest_key }
+        ensures small { All (λ b. b < 256) result.now }
     {
-        self.bytes.as_slice()
+        bytes_of(self.bytes.as_slice())
     }
 
     /// A copy of the key. It takes as much memory as the key has bytes.
@@ -67,6 +69,14 @@ impl Key {
     }
 }
 
+/// These bytes, each of which is below 256.
+fn bytes_of(bytes: &[u8]) -> &[u8]
+    ensures value { result.now ≡ bytes.now }
+    ensures small { All (λ b. b < 256) bytes.now }
+{
+    bytes
+}
+
 /// Makes a key of bytes that are already there, and takes no memory. More than 4096 bytes are
 /// [`SpanFault::KeyTooLong`], and are then dropped.
 impl TryFrom<Vec<u8>> for Key {
@@ -75,10 +85,11 @@ impl TryFrom<Vec<u8>> for Key {
     ghost try_from_gives = { λ bytes made. made ≡ made_key bytes.items };
 
     fn try_from(bytes: Vec<u8>) -> Result<Key, SpanFault> {
-        if bytes.len() > LONGEST_KEY {
-            return Err(SpanFault::KeyTooLong);
+        if bytes.len() <= LONGEST_KEY {
+            Ok(Key { bytes })
+        } else {
+            Err(SpanFault::KeyTooLong)
         }
-        Ok(Key { bytes })
     }
 }
 

@@ -4,6 +4,7 @@
 ghost use Rattle.std.specs.Prelude.{◌≡◌, ◌↔◌, IsTrue, not};
 ghost use Rattle.std.specs.Ordering.{is_lt};
 ghost use Rattle.tsc_span.specs.Span.{key_cmp, is_empty_span};
+ghost use Rattle.tsc_span.specs.MadeSpan.{MadeByConstructor};
 ghost use Rattle.tsc_span.specs.Laws.{IsCutOrder, CoversIsOverlap, OverlapBothWays};
 
 use crate::{Key, Span};
@@ -45,6 +46,11 @@ pub fn order_of_cuts()
 /// A span covers a key exactly where it overlaps the single key.
 pub fn covers_as_it_overlaps()
     ensures { CoversIsOverlap }
+{}
+
+/// The spans that can be made are those that [`Span::range`] and [`Span::onward`] give for some keys.
+pub fn made_by_constructor()
+    ensures { MadeByConstructor }
 {}
 
 /// Which of two spans is named first makes no difference to their overlapping.

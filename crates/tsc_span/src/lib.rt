@@ -18,5 +18,5 @@ mod tests;
 
 pub use cut::Cut;
 pub use fault::SpanFault;
-pub use key::Key;
+pub use key::{Key, LONGEST_KEY};
 pub use span::{Ends, Span};

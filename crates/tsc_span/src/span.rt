@@ -1,7 +1,8 @@
 ghost use Rattle.std.specs.Prelude.{◌≡◌, ◌++◌, IfOk, IfErr, IfSome, true, option_map, option_to_list, slice_get};
-ghost use Rattle.std.specs.Result.{result_ok};
+ghost use Rattle.std.specs.Result.{result_ok, IsOk};
 ghost use Rattle.std.specs.Cmp.{partial_equiv_from_equiv};
 ghost use Rattle.tsc_span.specs.Span.{point, range, range_for_lookup, start_to_end, start_cut, onward, is_empty_span, is_below, overlaps, covers, end_keys};
+ghost use Rattle.tsc_span.specs.MadeSpan.{IsMadeCut, IsMadeSpan};
 ghost use Rattle.tsc_span.specs.Cuts.{cut_of, interval_of_cuts};
 ghost use Rattle.tsc_span.specs.Same.{is_same_span};
 ghost use Rattle.tsc_span.specs.Sameness.{is_same_span-equivalence};
@@ -122,10 +123,12 @@ impl Span {
         matches!(&self.shape, Shape::Nothing)
     }
 
-    /// Where the span starts and where it stops, or `None` for the empty span.
+    /// Where the span starts and where it stops, or `None` for the empty span. Whoever has a span also learns
+    /// here that it can be made of keys.
     pub fn cuts(&self) -> Option<(Cut<'_>, Cut<'_>)>
         ensures value { interval_of_cuts result ≡ self.now }
         ensures order { IfSome result (λ cuts. is_below (cut_of cuts.0) (cut_of cuts.1) ≡ true) }
+        ensures made { IsMadeSpan self.now }
     {
         match &self.shape {
             Shape::Nothing => None,
@@ -188,9 +191,10 @@ impl Span {
         }
     }
 
-    /// A copy of the span. It takes as much memory as its keys have bytes.
+    /// A copy of the span. It takes as much memory as its keys have bytes, so none for the empty span.
     pub fn try_copy(&self) -> Result<Span, NoMemory>
-        ensures { IfOk result (λ copy. copy ≡ self.now) }
+        ensures value { IfOk result (λ copy. copy ≡ self.now) }
+        ensures memory { is_empty_span self.now ≡ true → IsOk result }
     {
         let shape = match &self.shape {
             Shape::Nothing => Shape::Nothing,
@@ -206,7 +210,8 @@ impl Span {
 
 /// Where a span begins at a key.
 fn start_cut(key: &Key, excluded: bool) -> Cut<'_>
-    ensures { cut_of result ≡ start_cut key.now excluded }
+    ensures value { cut_of result ≡ start_cut key.now excluded }
+    ensures made { IsMadeCut (cut_of result) }
 {
     if excluded {
         Cut::After(key.bytes())

@@ -4,14 +4,16 @@ use Rattle.std.specs.Ordering.{ord_max}
 use Rattle.std.proofs.lemmas.Bool.{leb-true}
 use Rattle.tsc_time.specs.Time.{Time, time_cmp, later}
 use Rattle.tsc_time.specs.Joint.{joint}
-use Rattle.std.specs.Prelude.{option_map}
-use Rattle.tsc_span.specs.Span.{Cut, Interval, between, overlaps, end_keys}
+use mathlib.Core.Bool.{true≢false}
+use Rattle.std.specs.Prelude.{Option, option_map}
+use Rattle.tsc_span.specs.Span.{KeyBytes, Cut, Interval, between, overlaps, end_keys}
 use Rattle.tsc_span.specs.Cuts.{cut_of}
 use Rattle.tsc_page.specs.Page.{with_mark, count_distinct}
-use Rattle.tsc_page.specs.PageView.{PageView, StandsFor, answer, is_in, has_room_for}
-use Rattle.tsc_page.specs.Nodes.{Node, IsSorted, IsSplitAt, answer_of, node_keys}
+use Rattle.tsc_page.specs.PageView.{PageView, StandsFor, NoAnswerAboveTop, answer, is_in, has_room_for, HasEndKeys}
+use Rattle.tsc_page.specs.Nodes.{Node, IsSorted, IsSplitAt, answer_of, node_keys, page_of}
 use Rattle.tsc_page.proofs.Ends.{ends_in_order}
-use Rattle.tsc_page.proofs.Standing.{later-max, added_sorted, added_length, added_keys, added_answers, added_stands, page_of}
+use Rattle.tsc_page.proofs.NewKeys.{known_keys}
+use Rattle.tsc_page.proofs.Standing.{later-max, added_sorted, added_length, added_keys, added_answers, added_covers, added_stands}
 use Rattle.tsc_page.proofs.page.Page.add.Goals as goal
 
 pub split_at-requires-clause-order : goal.split_at-requires-clause-order
@@ -29,10 +31,13 @@ invariant_of-self-2 c =
     let sorted = added_sorted old mid f t c.in-Some.ensures.order c.args.value split in
     let long = added_length old mid f t c.in-Some.ensures.order c.args.value split in
     let room = subst (λ (v : PageView). has_room_for v c.args.span.now ≡ true) (sym c.self.view_is) c.requires.room in
+    let is = c.max-self-inside.ensures ∙ ap (ord_max time_cmp c.self.inside.top) c.time.ensures ∙ later-max c.self.inside.top c.args.value.time in
+    let covers = added_covers old mid f t c.in-Some.ensures.order c.args.value split c.self.inside.page_nodes c.self.inside.top c.max-self-inside.result c.self.invariant.3 is in
     let fits = leb-true (count_distinct (node_keys old ++ end_keys (between f t))) c.self.inside.page_nodes (subst (λ (s : Interval). nat_le (count_distinct (node_keys old ++ end_keys s)) c.self.inside.page_nodes ≡ true) (sym c.in-Some.ensures.value) room) in (
       subst IsSorted (sym c.raise_between.ensures) sorted,
       subst (λ (ns : List Node). length ns ≤ c.self.inside.page_nodes) (sym c.raise_between.ensures) (omega (arith, long, fits)),
       c.self.invariant.2,
+      subst (λ (ns : List Node). NoAnswerAboveTop (page_of c.self.inside.page_nodes c.max-self-inside.result ns)) (sym c.raise_between.ensures) covers,
     )
 
 pub returns-clause-stands : goal.returns-clause-stands
@@ -74,3 +79,13 @@ returns-clause-answers c s =
     ap (λ (ns : List Node). answer_of ns s) c.raise_between.ensures ∙ added_answers old mid f t c.in-Some.ensures.order c.args.value split s
     ∙ ap (λ (v : PageView). cond (overlaps (between f t) s) (joint (answer v s) (c.args.value ∷ [])) (answer v s)) c.self.view_is
     ∙ ap (λ (q : Interval). cond (overlaps q s) (joint (answer c.args.self.now s) (c.args.value ∷ [])) (answer c.args.self.now s)) c.in-Some.ensures.value
+
+pub returns-in_err-split_at-clause-memory : goal.returns-in_err-split_at-clause-memory
+returns-in_err-split_at-clause-memory c known =
+    let old : List Node = c.self.inside.nodes.list.items in
+    let first : Option KeyBytes = option_map (λ k. k.now) c.end_keys.result.0 in
+    let second : Option KeyBytes = option_map (λ k. k.now) c.end_keys.result.1 in
+    let there = subst (λ (v : PageView). HasEndKeys v c.args.span.now) (sym c.self.view_is) known in
+    let each = known_keys (node_keys old) first second (λ k h. there k (ap (is_in k) (sym c.end_keys.ensures.keys) ∙ h)) in
+    let done = c.in_err-split_at.ensures.memory each in
+    absurd (true≢false (search (done.0)))

@@ -1,0 +1,5 @@
+use Rattle.tsc_span.proofs.MadeSpans.{made_by_constructor}
+use Rattle.tsc_span.proofs.laws.made_by_constructor.Goals as goal
+
+pub returns : goal.returns
+returns c = made_by_constructor
