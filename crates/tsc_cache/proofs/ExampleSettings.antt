@@ -1,0 +1,107 @@
+-- What the examples share: their settings, two transactions, and short words for times, values, spans and histories.
+use Rattle.std.specs.Prelude.{ℕ, suc, List, [], ◌∷◌, map, Bool, true, false, Some}
+use Rattle.tsc_time.specs.Time.{Time}
+use Rattle.tsc_time.specs.OwnedTime.{Owner, OwnedTime}
+use Rattle.tsc_span.specs.Span.{KeyBytes, Interval, from_to, point}
+use Rattle.tsc_page.specs.Page.{Mark, PageMarks}
+use Rattle.tsc_cache.specs.declared.added.Added.{Added}
+use Rattle.tsc_cache.specs.Settings.{Settings}
+use Rattle.tsc_cache.specs.State.{CacheState, step, opening}
+use Rattle.tsc_cache.specs.History.{History, mark_of, state_of}
+
+-- ---- times and values
+
+abbrev pub at : ℕ → ℕ → Time
+at wall logical = record { wall = wall; logical = logical }
+
+-- 11111111-1111-4111-8111-111111111111
+abbrev pub first : Owner
+first = 17 ∷ 17 ∷ 17 ∷ 17 ∷ 17 ∷ 17 ∷ 65 ∷ 17 ∷ 129 ∷ 17 ∷ 17 ∷ 17 ∷ 17 ∷ 17 ∷ 17 ∷ 17 ∷ []
+
+-- 22222222-2222-4222-8222-222222222222
+abbrev pub second : Owner
+second = 34 ∷ 34 ∷ 34 ∷ 34 ∷ 34 ∷ 34 ∷ 66 ∷ 34 ∷ 130 ∷ 34 ∷ 34 ∷ 34 ∷ 34 ∷ 34 ∷ 34 ∷ 34 ∷ []
+
+-- a time that a transaction owns
+abbrev pub of_first : Time → OwnedTime
+of_first t = record { time = t; owner = Some first }
+
+abbrev pub of_second : Time → OwnedTime
+of_second t = record { time = t; owner = Some second }
+
+-- ---- settings
+
+-- pages of four keys, of which two are kept at the least
+abbrev pub usual : Settings
+usual = record { page_nodes = 4; min_pages = 2; retention = 10; low_water = at 5 0 }
+
+-- pages of two keys, of which one is kept at the least
+abbrev pub tight : Settings
+tight = record { page_nodes = 2; min_pages = 1; retention = 10; low_water = at 5 0 }
+
+-- the time of most Adds, and the moment at which they are made
+abbrev pub twenty : Time
+twenty = at 20 0
+
+-- ---- spans
+
+-- `[k,m)`, `(k,m)` and `[k,m]`
+abbrev pub without_end : KeyBytes → KeyBytes → Interval
+without_end k m = from_to k m false true
+
+abbrev pub without_ends : KeyBytes → KeyBytes → Interval
+without_ends k m = from_to k m true true
+
+abbrev pub with_ends : KeyBytes → KeyBytes → Interval
+with_ends k m = from_to k m false false
+
+-- ---- pages
+
+abbrev pub mark : Interval → OwnedTime → Mark
+mark span value = record { span = span; value = value }
+
+-- marks of one value at single keys of one byte
+abbrev pub marks_at : List ℕ → OwnedTime → List Mark
+marks_at letters value = map (λ b. mark (point (b ∷ [])) value) letters
+
+abbrev pub page : Time → List Mark → PageMarks
+page base marks = record { base = base; marks = marks }
+
+-- ---- histories
+
+-- an Add of an example: what is added, at which moment
+abbrev pub Addition : Type 0
+Addition = Mark × Time
+
+abbrev pub add : Interval → OwnedTime → Time → Addition
+add span value now = (mark span value, now)
+
+-- Adds of one value at single keys of one byte
+abbrev pub add_points : List ℕ → OwnedTime → Time → List Addition
+add_points letters value now = map (λ m. (m, now)) (marks_at letters value)
+
+-- as Adds of one seat, numbered from a number on
+abbrev pub numbered : ℕ → List Addition → History
+numbered n [] = []
+numbered n (x ∷ xs) = record { seat = 0; number = n; span = x.0.span; value = x.0.value; now = x.1 } ∷ numbered (suc n) xs
+
+abbrev pub history : List Addition → History
+history adds = numbered 0 adds
+
+-- the state that Adds leave of a new cache
+abbrev pub state_after : Settings → List Addition → CacheState
+state_after settings adds = state_of settings (history adds)
+
+-- what the entries of a history answer, one after another
+abbrev pub answers_from : Settings → CacheState → History → List Added
+answers_from settings s [] = []
+answers_from settings s (e ∷ h) =
+    (step settings s (mark_of e) e.now).added ∷ answers_from settings (step settings s (mark_of e) e.now).state h
+
+-- what Adds to a new cache answer
+abbrev pub answers : Settings → List Addition → List Added
+answers settings adds = answers_from settings (opening settings) (history adds)
+
+-- an answer: whether the Add was kept, whether the pages rotated, and how many of them were dropped
+abbrev pub added : Bool → Bool → ℕ → Added
+added kept rotated evicted = record { kept = kept; rotated = rotated; evicted = evicted }

@@ -1,0 +1,15 @@
+pub mod Lookings
+pub mod Evictions
+pub mod FloorJoints
+pub mod MarkLists
+pub mod Floors
+pub mod Steps
+pub mod KeptMarks
+pub mod Histories
+pub mod StatesSeen
+pub mod Droppings
+pub mod Crossing
+pub mod ExampleSettings
+pub mod RatchetExamples
+pub mod SpanExamples
+pub mod RotationExamples

@@ -1,0 +1,5 @@
+use Rattle.tsc_cache.proofs.Histories.{floor_behind}
+use Rattle.tsc_cache.proofs.laws.floor_behind.Goals as goal
+
+pub returns : goal.returns
+returns c = floor_behind

@@ -1,0 +1,5 @@
+use Rattle.tsc_cache.proofs.Histories.{real_answers}
+use Rattle.tsc_cache.proofs.laws.real.Goals as goal
+
+pub returns : goal.returns
+returns c = real_answers

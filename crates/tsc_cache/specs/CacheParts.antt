@@ -1,0 +1,28 @@
+-- What can be seen of the parts of a cache.
+use Rattle.std.specs.Prelude.{List, ◌∷◌, map}
+use Rattle.std.specs.Arc.{arc_value}
+use Rattle.tsc_page.specs.PageView.{PageView}
+use Rattle.tsc_cache.specs.declared.pages.Pages.{Pages}
+use Rattle.tsc_cache.specs.declared.plain_pages.PlainPages.{PlainPages}
+
+-- what can be seen of the newest page
+abbrev pub front_of : Pages → PageView
+front_of p = arc_value p.front
+
+-- and of the others
+abbrev pub older_of : Pages → List PageView
+older_of p = map (λ a. arc_value a) p.older.items
+
+-- and of all, from newest to oldest
+abbrev pub pages_of : Pages → List PageView
+pages_of p = front_of p ∷ older_of p
+
+-- and of those of a plain cache
+abbrev pub plain_front_of : PlainPages → PageView
+plain_front_of p = p.front
+
+abbrev pub plain_older_of : PlainPages → List PageView
+plain_older_of p = p.older.items
+
+abbrev pub plain_pages_of : PlainPages → List PageView
+plain_pages_of p = plain_front_of p ∷ plain_older_of p

@@ -1,0 +1,92 @@
+-- What can be seen of a cache, which state it stands for, and what an Add makes of it.
+use Rattle.std.specs.Prelude.{◌≡◌, ℕ, List, [], ◌∷◌, ◌++◌, map, length, Bool, true, false, ◌||◌, if◌then◌else◌}
+use Rattle.tsc_time.specs.Time.{Time, zero_time, later}
+use Rattle.tsc_time.specs.OwnedTime.{OwnedTime}
+use Rattle.tsc_time.specs.Joint.{joint, joint_above}
+use Rattle.tsc_span.specs.Span.{KeyBytes, Interval, overlaps, end_keys}
+use Rattle.tsc_page.specs.Page.{Mark, PageMarks, empty_page, with_mark}
+use Rattle.tsc_page.specs.PageView.{PageView, StandsFor, answer, is_in, has_room_for}
+use Rattle.tsc_cache.specs.declared.added.Added.{Added}
+use Rattle.tsc_cache.specs.Settings.{Settings}
+use Rattle.tsc_cache.specs.State.{CacheState, is_kept, not_kept, kept_without_rotation, kept_after_rotation, counted_on}
+use Rattle.tsc_cache.specs.Eviction.{highest, Evicts}
+use Rattle.tsc_cache.specs.Lookup.{LooksInto}
+
+-- How a cache is set up, its floor, what can be seen of its pages from newest to oldest, and how often they rotated.
+pub record CacheView : Type 0 where
+  pub settings : Settings
+  pub floor : Time
+  pub pages : List PageView
+  pub rotations : ℕ
+
+-- each page may hold so many nodes, and stands for the base and the marks at its place
+abbrev pub EachStandsFor : ℕ → List PageView → List PageMarks → Type 0
+EachStandsFor n [] [] = Unit {0}
+EachStandsFor n [] (p ∷ ps) = ⊥
+EachStandsFor n (v ∷ vs) [] = ⊥
+EachStandsFor n (v ∷ vs) (p ∷ ps) = (v.page_nodes ≡ n) × StandsFor v p × EachStandsFor n vs ps
+
+-- A cache stands for a state under some settings where it is set up so, floor and count are the same, and as many pages stand each for the one at its place.
+pub record StandsForState (v : CacheView) (settings : Settings) (s : CacheState) : Type 0 where
+  pub set_up : v.settings ≡ settings
+  pub floor : v.floor ≡ s.floor
+  pub pages : EachStandsFor settings.page_nodes v.pages s.pages
+  pub rotations : v.rotations ≡ s.rotations
+
+-- what a cache answers to a span: what its floor and the answer of each page come to together
+abbrev pub cache_answer : CacheView → Interval → OwnedTime
+cache_answer v span = joint_above v.floor (map (λ p. answer p span) v.pages)
+
+-- whether there is a front page with room for a span
+abbrev pub front_has_room_for : List PageView → Interval → Bool
+front_has_room_for [] span = false
+front_has_room_for (front ∷ older) span = has_room_for front span
+
+-- the top of the front page, or time zero without pages
+abbrev pub front_view_top : List PageView → Time
+front_view_top [] = zero_time
+front_view_top (front ∷ older) = front.top
+
+-- what can be seen of a page after one more mark
+pub record IsMarked (old new : PageView) (m : Mark) : Type 0 where
+  pub limit : new.page_nodes ≡ old.page_nodes
+  pub top : new.top ≡ later old.top m.value.time
+  pub keys : (k : KeyBytes) → is_in k new.keys ≡ (is_in k old.keys || is_in k (end_keys m.span))
+  pub answers : (s : Interval) → answer new s ≡ (if overlaps m.span s then joint (answer old s) (m.value ∷ []) else answer old s)
+
+-- the front page has one more mark, and the older ones are as before
+abbrev pub MarksFront : List PageView → List PageView → Mark → Type 0
+MarksFront [] new m = ⊥
+MarksFront (front ∷ older) [] m = ⊥
+MarksFront (front ∷ older) (marked ∷ others) m = IsMarked front marked m × (others ≡ older)
+
+-- A rotation that brings a page with one mark to the front: the pages that there were are parted into those that stay and those that are dropped.
+pub record RotatesWith (old new : CacheView) (m : Mark) (now : Time) (evicted : ℕ) : Type 0 where
+  pub front : PageView
+  pub stay : List PageView
+  pub dropped : List PageView
+  pub parts : old.pages ≡ stay ++ dropped
+  pub evicts : Evicts old.settings now (map (λ p. p.top) stay) (map (λ p. p.top) dropped)
+  pub count : evicted ≡ length dropped
+  pub pages : new.pages ≡ front ∷ stay
+  pub limit : front.page_nodes ≡ old.settings.page_nodes
+  pub marked : StandsFor front (with_mark (empty_page (front_view_top old.pages)) m)
+  pub floor : new.floor ≡ highest old.floor (map (λ p. p.top) dropped)
+  pub rotations : new.rotations ≡ counted_on old.rotations
+
+-- What an Add makes of all that can be seen of a cache, and what it answers.
+pub record Adds (old new : CacheView) (m : Mark) (now : Time) (added : Added) : Type 0 where
+  pub settings : new.settings ≡ old.settings
+  pub not_kept : is_kept old.floor m ≡ false → (new ≡ old) × (added ≡ not_kept)
+  pub in_place : is_kept old.floor m ≡ true → front_has_room_for old.pages m.span ≡ true
+      → MarksFront old.pages new.pages m × (new.floor ≡ old.floor) × (new.rotations ≡ old.rotations) × (added ≡ kept_without_rotation)
+  pub rotated : is_kept old.floor m ≡ true → front_has_room_for old.pages m.span ≡ false
+      → RotatesWith old new m now added.evicted × (added ≡ kept_after_rotation added.evicted)
+
+-- the latest time that some pages answer to a span
+abbrev pub latest_answer : Interval → List PageView → Time
+latest_answer span pages = (joint_above zero_time (map (λ p. answer p span) pages)).time
+
+-- and how many pages a lookup looks into, as it can be seen
+abbrev pub LooksIntoViews : Interval → List PageView → ℕ → Type 0
+LooksIntoViews span pages count = LooksInto (λ p. p.top) (latest_answer span) pages count

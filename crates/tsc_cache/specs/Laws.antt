@@ -1,0 +1,53 @@
+-- What follows from the definitions, for every configuration, history and span.
+use Rattle.std.specs.Prelude.{◌≡◌, ◌⊎◌, List, ◌++◌, map, reverse, length, Contains, true, false, Some}
+use Rattle.tsc_time.specs.Time.{Time, is_before, time_minus}
+use Rattle.tsc_time.specs.OwnedTime.{Owner, OwnedTime}
+use Rattle.tsc_time.specs.Joint.{joint_above, IsAtMost}
+use Rattle.tsc_span.specs.Span.{Interval, overlaps}
+use Rattle.tsc_page.specs.Page.{PageMarks, top}
+use Rattle.tsc_cache.specs.Settings.{Settings}
+use Rattle.tsc_cache.specs.State.{look, evict}
+use Rattle.tsc_cache.specs.Eviction.{highest, Evicts}
+use Rattle.tsc_cache.specs.History.{Entry, History, state_of, entries_on, BeginsWith}
+
+-- An entry is at most what a lookup of a span that it overlaps answers, in the ratchet order, whether its page is still there or not.
+abbrev pub KeptUp : Type 0
+KeptUp = (settings : Settings) (h : History) (e : Entry) (s : Interval) → Contains h e → overlaps e.span s ≡ true → IsAtMost e.value (look (state_of settings h) s)
+
+-- as a history goes on, no answer sinks, and the floor doesn't either
+pub record Rising : Type 0 where
+  pub answers : (settings : Settings) (start h : History) (s : Interval) → BeginsWith h start → IsAtMost (look (state_of settings start) s) (look (state_of settings h) s)
+  pub floors : (settings : Settings) (start h : History) → BeginsWith h start → is_before (state_of settings h).floor (state_of settings start).floor ≡ false
+
+-- The floor stands where it did at first, or it is older than the retention at the moment of some entry.
+abbrev pub FloorBehind : Type 0
+FloorBehind = (settings : Settings) (h : History) →
+    ((state_of settings h).floor ≡ settings.low_water)
+    ⊎ ((e : Entry) × (limit : Time) × Contains h e × (time_minus e.now settings.retention ≡ Some limit) × (is_before (state_of settings h).floor limit ≡ true))
+
+-- A lookup answers what the floor and all entries on the span come to together, kept or not, dropped or not.
+abbrev pub Real : Type 0
+Real = (settings : Settings) (h : History) (s : Interval) → look (state_of settings h) s ≡ joint_above (state_of settings h).floor (entries_on s h)
+
+-- A write of a transaction is clear of a read where it is later, or at the same time and the read is the transaction's own.
+abbrev pub IsClearOf : OwnedTime → Owner → Time → Type 0
+IsClearOf read writer time = (is_before read.time time ≡ true) ⊎ ((read.time ≡ time) × (read.owner ≡ Some writer))
+
+-- A write that is clear of what a lookup of its span answers is clear of each read of the history that overlaps the span.
+abbrev pub NoWriteBelowARead : Type 0
+NoWriteBelowARead = (settings : Settings) (h : History) (s : Interval) (writer : Owner) (time : Time) → IsClearOf (look (state_of settings h) s) writer time
+    → (e : Entry) → Contains h e → overlaps e.span s ≡ true → IsClearOf e.value writer time
+
+-- An eviction parts the pages into those that stay and those that it drops, and lifts the floor to the latest of itself and of their tops.
+pub record PartsPages (settings : Settings) (now floor : Time) (pages : List PageMarks) : Type 0 where
+  pub stay : List PageMarks
+  pub dropped : List PageMarks
+  pub parts : pages ≡ stay ++ dropped
+  pub evicts : Evicts settings now (map top stay) (map top dropped)
+  pub kept : reverse (evict settings now floor (reverse pages)).pages ≡ stay
+  pub evicted : (evict settings now floor (reverse pages)).evicted ≡ length dropped
+  pub raised : (evict settings now floor (reverse pages)).floor ≡ highest floor (map top dropped)
+
+-- Whatever the settings, the moment, the floor and the pages are, an eviction does so.
+abbrev pub EvictsExpired : Type 0
+EvictsExpired = (settings : Settings) (now floor : Time) (pages : List PageMarks) → PartsPages settings now floor pages

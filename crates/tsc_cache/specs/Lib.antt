@@ -1,0 +1,9 @@
+pub mod Settings
+pub mod State
+pub mod Eviction
+pub mod History
+pub mod Lookup
+pub mod CacheView
+pub mod Stacks
+pub mod CacheParts
+pub mod Laws

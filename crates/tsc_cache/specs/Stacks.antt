@@ -1,0 +1,44 @@
+-- What is true of the pages of a cache, as they can be seen, and what is done to them. Public contracts cite none of it.
+use Rattle.std.specs.Prelude.{◌≡◌, ℕ, ◌≤◌, List, [], ◌∷◌, ◌++◌, map, length, true, false, Option, Some, None}
+use Rattle.tsc_time.specs.Time.{Time, zero_time, is_before}
+use Rattle.tsc_time.specs.OwnedTime.{OwnedTime}
+use Rattle.tsc_time.specs.Joint.{joint_above}
+use Rattle.tsc_span.specs.Span.{Interval}
+use Rattle.tsc_page.specs.PageView.{PageView, NoAnswerAboveTop, answer}
+use Rattle.tsc_cache.specs.Settings.{Settings}
+use Rattle.tsc_cache.specs.State.{is_past_retention}
+use Rattle.tsc_cache.specs.Eviction.{highest, OldestStays, Evicts}
+
+-- what some pages answer to a span together, above time zero
+abbrev pub pages_answer : List PageView → Interval → OwnedTime
+pages_answer pages span = joint_above zero_time (map (λ p. answer p span) pages)
+
+-- no page has a top above a time
+abbrev pub HaveTopsUpTo : Time → List PageView → Type 0
+HaveTopsUpTo t [] = Unit {0}
+HaveTopsUpTo t (p ∷ ps) = (is_before t p.top ≡ false) × HaveTopsUpTo t ps
+
+-- no answer of a page is later than its top, and no older page has a later top
+abbrev pub AreStacked : List PageView → Type 0
+AreStacked [] = Unit {0}
+AreStacked (p ∷ ps) = NoAnswerAboveTop p × HaveTopsUpTo p.top ps × AreStacked ps
+
+-- each page may hold so many nodes
+abbrev pub HaveLimit : ℕ → List PageView → Type 0
+HaveLimit n [] = Unit {0}
+HaveLimit n (p ∷ ps) = (p.page_nodes ≡ n) × HaveLimit n ps
+
+-- the top of the oldest page, where there are enough pages and that one is expired
+abbrev pub IsExpiredTop : Settings → Time → List PageView → Option Time → Type 0
+IsExpiredTop settings now pages None = OldestStays settings now (map (λ p. p.top) pages)
+IsExpiredTop settings now pages (Some t) =
+    (newer : List PageView) × (oldest : PageView) × (pages ≡ newer ++ oldest ∷ []) × (oldest.top ≡ t)
+    × (settings.min_pages ≤ length pages) × (is_past_retention settings.retention now t ≡ true)
+
+-- an eviction leaves some of the pages, gives the floor, and says how many it dropped
+pub record Drops (settings : Settings) (floor now : Time) (old new : List PageView) (raised : Time) (evicted : ℕ) : Type 0 where
+  pub dropped : List PageView
+  pub parts : old ≡ new ++ dropped
+  pub evicts : Evicts settings now (map (λ p. p.top) new) (map (λ p. p.top) dropped)
+  pub floor_is : raised ≡ highest floor (map (λ p. p.top) dropped)
+  pub count : evicted ≡ length dropped

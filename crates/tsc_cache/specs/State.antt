@@ -1,0 +1,115 @@
+-- The cache as a floor and a list of pages: `intervalSkl` of CockroachDB's pkg/kv/kvserver/tscache, with its rotation of pages.
+use Rattle.std.specs.Prelude.{ℕ, suc, ◌+◌, ◌-◌, ◌^◌, ◌&&◌, ◌==◌, List, [], ◌∷◌, length, reverse, nat_le, not, Bool, true, false, Option, Some, None, if◌then◌else◌}
+use Rattle.std.specs.List.{flat_map}
+use Rattle.tsc_time.specs.Time.{Time, zero_time, time_minus, is_before, later}
+use Rattle.tsc_time.specs.OwnedTime.{OwnedTime}
+use Rattle.tsc_time.specs.Joint.{joint_above}
+use Rattle.tsc_span.specs.Span.{Interval, is_empty_span}
+use Rattle.tsc_page.specs.Page.{Mark, PageMarks, empty_page, with_mark, top, values_on, has_room}
+use Rattle.tsc_cache.specs.declared.added.Added.{Added}
+use Rattle.tsc_cache.specs.Settings.{Settings}
+
+-- the floor, the pages from newest to oldest, and how often they rotated
+pub record CacheState : Type 0 where
+  pub floor : Time
+  pub pages : List PageMarks
+  pub rotations : ℕ
+
+-- a cache to which nothing was added: its floor stands where the settings say, above one empty page from time zero on
+abbrev pub opening : Settings → CacheState
+opening settings = record { floor = settings.low_water; pages = empty_page zero_time ∷ []; rotations = 0 }
+
+-- Whether reads up to a top are past their retention: the top lies before a limit, which is the moment less the retention. A top on the limit is not past it. Where the moment is less than the retention, nothing is.
+abbrev pub is_past_retention : ℕ → Time → Time → Bool
+is_past_retention retention now top = is_before_limit (time_minus now retention)
+  where
+    is_before_limit : Option Time → Bool
+    is_before_limit None = false
+    is_before_limit (Some limit) = is_before top limit
+
+-- a page is expired once its top is past the retention
+abbrev pub is_expired : ℕ → Time → PageMarks → Bool
+is_expired retention now p = is_past_retention retention now (top p)
+
+-- what an eviction leaves: the floor, the pages from oldest to newest, and how many were dropped
+pub record Eviction : Type 0 where
+  pub floor : Time
+  pub pages : List PageMarks
+  pub evicted : ℕ
+
+-- From the oldest page on: an expired one goes, and lifts the floor to its top unless that stands higher, until one is met that is not expired, or fewer than `min_pages` are left.
+abbrev pub evict : Settings → Time → Time → List PageMarks → Eviction
+evict settings now floor [] = record { floor = floor; pages = []; evicted = 0 }
+evict settings now floor (oldest ∷ newer) =
+    if nat_le settings.min_pages (suc (length newer)) && is_expired settings.retention now oldest
+    then (let rest = evict settings now (later floor (top oldest)) newer in record { floor = rest.floor; pages = rest.pages; evicted = suc rest.evicted })
+    else record { floor = floor; pages = oldest ∷ newer; evicted = 0 }
+
+-- the top of the front page, or time zero without pages
+abbrev pub front_top : List PageMarks → Time
+front_top [] = zero_time
+front_top (front ∷ older) = top front
+
+-- a count of 64 bits that stays at its end
+abbrev pub counted_on : ℕ → ℕ
+counted_on n = if n == 2 ^ 64 - 1 then n else n + 1
+
+-- what a rotation leaves, and how many pages it dropped
+pub record Rotation : Type 0 where
+  pub state : CacheState
+  pub evicted : ℕ
+
+-- First pages are evicted. Then an empty one comes to the front, and takes as its base the top of the front page before it, even where that one is gone.
+abbrev pub rotate : Settings → CacheState → Time → Rotation
+rotate settings s now =
+    let kept = evict settings now s.floor (reverse s.pages) in
+    record { state = record { floor = kept.floor; pages = empty_page (front_top s.pages) ∷ reverse kept.pages; rotations = counted_on s.rotations }; evicted = kept.evicted }
+
+-- whether there is a front page with room for a span
+abbrev pub front_has_room : Settings → CacheState → Interval → Bool
+front_has_room settings s span = room_of s.pages
+  where
+    room_of : List PageMarks → Bool
+    room_of [] = false
+    room_of (front ∷ older) = has_room settings.page_nodes front span
+
+-- the pages with one more mark on the front page
+abbrev pub on_front : List PageMarks → Mark → List PageMarks
+on_front [] m = []
+on_front (front ∷ older) m = with_mark front m ∷ older
+
+-- the state with one more mark on its front page
+abbrev pub marked : CacheState → Mark → CacheState
+marked s m = record { floor = s.floor; pages = on_front s.pages m; rotations = s.rotations }
+
+-- An Add is kept where its span is not empty and its time is above the floor.
+abbrev pub is_kept : Time → Mark → Bool
+is_kept floor m = not (is_empty_span m.span) && is_before floor m.value.time
+
+-- what an Add answers that is not kept
+abbrev pub not_kept : Added
+not_kept = record { kept = false; rotated = false; evicted = 0 }
+
+-- one that was kept, without a rotation
+abbrev pub kept_without_rotation : Added
+kept_without_rotation = record { kept = true; rotated = false; evicted = 0 }
+
+-- and one before which the pages rotated
+abbrev pub kept_after_rotation : ℕ → Added
+kept_after_rotation evicted = record { kept = true; rotated = true; evicted = evicted }
+
+-- what an Add leaves, and what it answers
+pub record Stepped : Type 0 where
+  pub state : CacheState
+  pub added : Added
+
+-- What an Add makes of a state: where it is not kept, the state stays; else there is one more mark on the front page, after a rotation where that page was too full for it.
+abbrev pub step : Settings → CacheState → Mark → Time → Stepped
+step settings s m now =
+    if not (is_kept s.floor m) then record { state = s; added = not_kept }
+    else if front_has_room settings s m.span then record { state = marked s m; added = kept_without_rotation }
+    else (let turned = rotate settings s now in record { state = marked turned.state m; added = kept_after_rotation turned.evicted })
+
+-- What a lookup answers: what the floor and each mark that overlaps the span, whichever page has it, come to together.
+abbrev pub look : CacheState → Interval → OwnedTime
+look s span = joint_above s.floor (flat_map (λ p. values_on span p.marks) s.pages)

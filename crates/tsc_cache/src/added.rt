@@ -1,0 +1,48 @@
+/// What an Add did.
+#[derive(Clone, Copy, Debug, PartialEq, Eq)]
+pub struct Added {
+    /// Whether the Add is kept: its span is not empty, and its time is above the floor.
+    pub kept: bool,
+    /// Whether the pages rotated first.
+    pub rotated: bool,
+    /// How many pages were dropped.
+    pub evicted: u64,
+}
+
+impl Added {
+    ghost use Rattle.std.specs.Prelude.{◌≡◌};
+    ghost use Rattle.tsc_cache.specs.State.{not_kept, kept_without_rotation, kept_after_rotation};
+
+    /// An Add that is not kept.
+    pub(crate) fn nothing() -> Added
+        ensures { result ≡ not_kept }
+    {
+        Added {
+            kept: false,
+            rotated: false,
+            evicted: 0,
+        }
+    }
+
+    /// One that went to the front page as it was.
+    pub(crate) fn without_rotation() -> Added
+        ensures { result ≡ kept_without_rotation }
+    {
+        Added {
+            kept: true,
+            rotated: false,
+            evicted: 0,
+        }
+    }
+
+    /// One before which the pages rotated.
+    pub(crate) fn after_rotation(evicted: u64) -> Added
+        ensures { result ≡ kept_after_rotation evicted }
+    {
+        Added {
+            kept: true,
+            rotated: true,
+            evicted,
+        }
+    }
+}

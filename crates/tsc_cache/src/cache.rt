@@ -1,0 +1,184 @@
+ghost use Rattle.std.specs.Prelude.{◌≡◌, length, false, IsOk, IfOk, OnOk, OnErr};
+ghost use Rattle.tsc_span.specs.Span.{is_empty_span};
+ghost use Rattle.tsc_cache.specs.Settings.{Settings};
+ghost use Rattle.tsc_cache.specs.State.{CacheState, opening, step, look, is_kept, kept_after_rotation};
+ghost use Rattle.tsc_cache.specs.Lookup.{LooksIntoPages};
+ghost use Rattle.tsc_cache.specs.CacheView.{StandsForState, Adds, RotatesWith, cache_answer, LooksIntoViews};
+
+use crate::config::counted_on;
+use crate::pages::Pages;
+use crate::{Added, Config};
+use std::alloc::Global;
+use std::marker::Model;
+use tsc_page::Page;
+use tsc_span::Span;
+use tsc_time::{NoMemory, Timestamp, Value, ratchet};
+
+/// The timestamp cache: which spans were read, when at the latest, and by whom.
+///
+/// A page that another cache holds too, as after [`Cache::next`], is never changed.
+#[derive(Debug, Drop)]
+pub struct Cache {
+    config: Config,
+    floor: Timestamp,
+    pages: Pages,
+    rotations: u64,
+}
+
+impl Model for Cache {
+    ghost use Rattle.tsc_cache.specs.CacheView.{CacheView};
+
+    ghost Value = { CacheView };
+
+    ghost use Rattle.tsc_cache.specs.CacheParts.{pages_of};
+    ghost use Rattle.tsc_cache.specs.Stacks.{AreStacked, HaveLimit};
+
+    ghost view = { λ c. record { settings = c.config; floor = c.floor; pages = pages_of c.pages; rotations = c.rotations } };
+
+    ghost invariant = { λ c. AreStacked (pages_of c.pages) × HaveLimit c.config.page_nodes (pages_of c.pages) };
+}
+
+impl Cache {
+    /// A cache to which nothing was added. Its floor stands at the low-water time of the configuration. It
+    /// takes the memory of one empty page.
+    pub fn new(alloc: Global, config: Config) -> Result<Cache, NoMemory>
+        ensures stands { IfOk result (λ cache. StandsForState cache config (opening config)) }
+    {
+        let front = Page::new(alloc, config.page_nodes(), Timestamp::ZERO)?;
+        Ok(Cache {
+            config,
+            floor: config.low_water(),
+            pages: Pages::new(alloc, front)?,
+            rotations: 0,
+        })
+    }
+
+    /// Adds a span with its value, at the moment `now`: who read what, and when. Where memory is refused the
+    /// cache is as before.
+    ///
+    /// An Add of the empty span, or with a time at or below the floor, is not kept: it changes nothing and
+    /// takes no memory. Any other goes to the front page, in place where no other cache holds that page, and
+    /// to a copy of it else. Where the page has no room the pages rotate first, and a new one is made.
+    ///
+    /// It restates `intervalSkl.AddRange` of CockroachDB's `pkg/kv/kvserver/tscache/interval_skl.go`.
+    pub fn add(&mut self, span: &Span, value: Value, now: Timestamp) -> Result<Added, NoMemory>
+        ensures stands { OnOk result ((settings : Settings) (s : CacheState) → StandsForState self.old settings s
+            → StandsForState self.new settings (step settings s (record { span = span.now; value = value }) now).state) }
+        ensures added { IfOk result (λ added. (settings : Settings) (s : CacheState) → StandsForState self.old settings s
+            → added ≡ (step settings s (record { span = span.now; value = value }) now).added) }
+        ensures seen { IfOk result (λ added. Adds self.old self.new (record { span = span.now; value = value }) now added) }
+        ensures unchanged { OnErr result (self.new ≡ self.old) }
+        ensures memory { is_kept self.old.floor (record { span = span.now; value = value }) ≡ false → IsOk result }
+    {
+        if !self.keeps(span, value) {
+            return Ok(Added::nothing());
+        }
+        if self.pages.front().room(span) {
+            self.pages.mark_front(span, value)?;
+            return Ok(Added::without_rotation());
+        }
+        self.rotate(span, value, now)
+    }
+
+    /// The cache after an Add, beside this one, which stays as it is. The two share the pages that
+    /// the Add leaves as they are.
+    ///
+    /// It costs a step for each page, and a copy of the front page where the Add goes there.
+    pub fn next(
+        &self,
+        span: &Span,
+        value: Value,
+        now: Timestamp,
+    ) -> Result<(Cache, Added), NoMemory>
+        ensures stands { IfOk result (λ next. (settings : Settings) (s : CacheState) → StandsForState self.now settings s
+            → StandsForState next.0 settings (step settings s (record { span = span.now; value = value }) now).state) }
+        ensures added { IfOk result (λ next. (settings : Settings) (s : CacheState) → StandsForState self.now settings s
+            → next.1 ≡ (step settings s (record { span = span.now; value = value }) now).added) }
+        ensures seen { IfOk result (λ next. Adds self.now next.0 (record { span = span.now; value = value }) now next.1) }
+    {
+        let mut next = Cache {
+            config: self.config,
+            floor: self.floor,
+            pages: self.pages.share()?,
+            rotations: self.rotations,
+        };
+        let added = next.add(span, value, now)?;
+        Ok((next, added))
+    }
+
+    /// What the floor, and each Add that overlaps the span, come to together: the latest of their times, with
+    /// its owner where all of that time are of one owner.
+    ///
+    /// It looks into the pages from the newest on, as [`get_max_counted`](Cache::get_max_counted) tells.
+    pub fn get_max(&self, span: &Span) -> Value
+        ensures value { result ≡ cache_answer self.now span.now }
+        ensures stands { (settings : Settings) (s : CacheState) → StandsForState self.now settings s → result ≡ look s span.now }
+    {
+        self.get_max_counted(span).0
+    }
+
+    /// The value of [`get_max`](Cache::get_max), and how many pages were looked into: those, from the newest
+    /// on, before the first page whose top is below the latest time that was met in them.
+    pub fn get_max_counted(&self, span: &Span) -> (Value, u64)
+        ensures value { result.0 ≡ cache_answer self.now span.now }
+        ensures stands { (settings : Settings) (s : CacheState) → StandsForState self.now settings s → result.0 ≡ look s span.now }
+        ensures looked { LooksIntoViews span.now self.now.pages result.1 }
+        ensures looked_into { (settings : Settings) (s : CacheState) → StandsForState self.now settings s → LooksIntoPages span.now s.pages result.1 }
+    {
+        let (best, looked) = self.pages.lookup(span);
+        (ratchet(best, Value::unowned(self.floor)).0, looked)
+    }
+
+    /// Where the floor stands.
+    pub fn low_water(&self) -> Timestamp
+        ensures value { result ≡ self.now.floor }
+        ensures stands { (settings : Settings) (s : CacheState) → StandsForState self.now settings s → result ≡ s.floor }
+    {
+        self.floor
+    }
+
+    /// How many pages there are.
+    pub fn pages(&self) -> usize
+        ensures value { result ≡ length self.now.pages }
+        ensures stands { (settings : Settings) (s : CacheState) → StandsForState self.now settings s → result ≡ length s.pages }
+    {
+        self.pages.len()
+    }
+
+    /// How often the pages rotated. The count stays at 2^64 - 1 once it is there.
+    pub fn rotations(&self) -> u64
+        ensures value { result ≡ self.now.rotations }
+        ensures stands { (settings : Settings) (s : CacheState) → StandsForState self.now settings s → result ≡ s.rotations }
+    {
+        self.rotations
+    }
+
+    /// Whether an Add is kept.
+    fn keeps(&self, span: &Span, value: Value) -> bool
+        ensures { result ≡ is_kept self.now.floor (record { span = span.now; value = value }) }
+    {
+        !span.is_empty() && self.floor < value.time()
+    }
+
+    /// Brings a page with one mark to the front, and drops what is expired. All memory is asked for before
+    /// the first change.
+    fn rotate(&mut self, span: &Span, value: Value, now: Timestamp) -> Result<Added, NoMemory>
+        requires not_empty { is_empty_span span.now ≡ false }
+        ensures rotated { IfOk result (λ added. RotatesWith self.old self.new (record { span = span.now; value = value }) now added.evicted
+            × (added ≡ kept_after_rotation added.evicted)) }
+        ensures settings { self.new.settings ≡ self.old.settings }
+        ensures unchanged { OnErr result (self.new ≡ self.old) }
+    {
+        let mut front = Page::new(
+            self.pages.alloc(),
+            self.config.page_nodes(),
+            self.pages.front().top(),
+        )?;
+        front.add(span, value)?;
+        self.pages.push_front(front)?;
+        let (floor, evicted) = self.pages.evict(&self.config, self.floor, now);
+        self.floor = floor;
+        self.rotations = counted_on(self.rotations);
+        Ok(Added::after_rotation(evicted))
+    }
+}

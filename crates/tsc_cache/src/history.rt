@@ -1,0 +1,20 @@
+use tsc_span::Span;
+use tsc_time::{Timestamp, Value};
+
+/// An Add as histories have it.
+///
+/// Histories are what contracts speak of, here and in the crates above. No value of this type is ever made:
+/// a program keeps none of them.
+#[derive(Debug, Drop)]
+pub struct Entry {
+    /// The seat that made the Add.
+    pub seat: u32,
+    /// How many Adds of that seat stand before it.
+    pub number: u64,
+    /// What was read.
+    pub span: Span,
+    /// When, and by whom.
+    pub value: Value,
+    /// The moment of the Add.
+    pub now: Timestamp,
+}

@@ -1,0 +1,40 @@
+//! Laws of histories of Adds, over the definitions alone: for every configuration, history and span.
+//!
+//! No program needs to call these functions: their contracts are the laws.
+ghost use Rattle.tsc_cache.specs.Laws.{KeptUp, Rising, FloorBehind, Real, NoWriteBelowARead, EvictsExpired};
+
+/// A lookup answers no less than any Add that overlaps its span, also one that was not kept, and one
+/// whose page is gone.
+pub fn kept_up()
+    ensures { KeptUp }
+{}
+
+/// As Adds go on, the answer to a span never sinks, and the floor never does.
+pub fn rising()
+    ensures { Rising }
+{}
+
+/// The floor stands where the configuration put it, or it was already older than the retention at the
+/// moment of some Add: no rotation lifts it to a time that has still to be retained.
+pub fn floor_behind()
+    ensures { FloorBehind }
+{}
+
+/// An answer comes from the floor and from the Adds on the span, and from nothing else: pages change it
+/// only by the floor.
+pub fn real()
+    ensures { Real }
+{}
+
+/// Where a write is later than what a lookup of its span answers, or at that time and the answer is the
+/// writer's own, it is so too of each read so far that was added on the span.
+pub fn no_write_below_a_read()
+    ensures { NoWriteBelowARead }
+{}
+
+/// A rotation drops pages from the oldest on, each past its retention and while there are at least
+/// `min_pages`, stops at the first that has to stay, and lifts the floor to the latest of
+/// itself and of the dropped tops.
+pub fn evicts_the_expired()
+    ensures { EvictsExpired }
+{}

@@ -1,0 +1,32 @@
+//! The timestamp cache on one thread.
+//!
+//! A [`Cache`] remembers the latest time at which each span was read. What is added stands on pages of a
+//! bounded size. Where the newest page has no room for an Add, the pages *rotate*: the oldest ones are
+//! dropped, if they are old enough, and an empty one comes to the front. For what was on a dropped page the
+//! *floor* answers from then on, which has risen to its top. So an answer may be later than the reads that
+//! there were, and never earlier.
+//!
+//! It restates `intervalSkl` and `Cache` of CockroachDB's `pkg/kv/kvserver/tscache` (`interval_skl.go` and
+//! `cache.go`), where many threads add at once to a front page that is a skiplist. Here a call has the cache
+//! for itself, and [`Cache::next`] gives the cache after an Add beside the one before it: the two share
+//! their pages, which are never changed while another cache holds them.
+//!
+//! A [`PlainCache`] makes the same promises over plain lists of what was added: slow, and easy to believe.
+#![tactic(auto)]
+
+mod added;
+mod cache;
+mod config;
+mod history;
+pub mod laws;
+mod pages;
+mod plain;
+mod plain_pages;
+#[cfg(test)]
+mod tests;
+
+pub use added::Added;
+pub use cache::Cache;
+pub use config::{Config, ConfigFault, LEAST_MIN_PAGES, LONGEST_RETENTION, MOST_MIN_PAGES};
+pub use history::Entry;
+pub use plain::PlainCache;

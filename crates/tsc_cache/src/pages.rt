@@ -1,0 +1,150 @@
+ghost use Rattle.std.specs.Prelude.{◌≡◌, ◌∷◌, [], length, true, false, IfOk, OnOk, OnErr};
+ghost use Rattle.tsc_span.specs.Span.{is_empty_span};
+ghost use Rattle.tsc_page.specs.PageView.{has_room_for};
+ghost use Rattle.tsc_cache.specs.CacheView.{MarksFront, LooksIntoViews};
+ghost use Rattle.tsc_cache.specs.Stacks.{AreStacked, pages_answer, IsExpiredTop, Drops};
+ghost use Rattle.tsc_cache.specs.CacheParts.{front_of, older_of, pages_of};
+
+use crate::Config;
+use std::alloc::Global;
+use std::collections::VecDeque;
+use std::mem;
+use std::sync::Arc;
+use tsc_page::Page;
+use tsc_span::Span;
+use tsc_time::{NoMemory, Timestamp, Value, ratchet};
+
+/// The pages of a cache. A page that other caches hold too is never changed.
+#[derive(Debug, Drop)]
+pub(crate) struct Pages {
+    front: Arc<Page>,
+    /// From the newest to the oldest.
+    older: VecDeque<Arc<Page>>,
+}
+
+impl Pages {
+    /// One page.
+    pub(crate) fn new(alloc: Global, front: Page) -> Result<Pages, NoMemory>
+        ensures { IfOk result (λ pages. pages_of pages ≡ front ∷ []) }
+    {
+        Ok(Pages {
+            front: Arc::new(alloc, front)?,
+            older: VecDeque::new(alloc),
+        })
+    }
+
+    /// Where the pages have their memory from.
+    pub(crate) fn alloc(&self) -> Global {
+        *self.older.allocator()
+    }
+
+    /// How many there are.
+    pub(crate) fn len(&self) -> usize
+        ensures { result ≡ length (pages_of self.now) }
+    {
+        self.older.len() + 1
+    }
+
+    /// The newest page.
+    pub(crate) fn front(&self) -> &Page
+        ensures { result.now ≡ front_of self.now }
+    {
+        &self.front
+    }
+
+    /// The same pages once more.
+    pub(crate) fn share(&self) -> Result<Pages, NoMemory>
+        ensures { IfOk result (λ same. pages_of same ≡ pages_of self.now) }
+    {
+        let mut older = VecDeque::with_capacity(self.alloc(), self.older.len())?;
+        for page in &self.older {
+            older.push_back(Arc::try_clone(page)?)?;
+        }
+        Ok(Pages {
+            front: Arc::try_clone(&self.front)?,
+            older,
+        })
+    }
+
+    /// Adds a span with its value to the front page, or to a copy of it where others hold it too.
+    pub(crate) fn mark_front(&mut self, span: &Span, value: Value) -> Result<(), NoMemory>
+        requires not_empty { is_empty_span span.now ≡ false }
+        requires room { has_room_for (front_of self.old) span.now ≡ true }
+        ensures marked { OnOk result (MarksFront (pages_of self.old) (pages_of self.new) (record { span = span.now; value = value })) }
+        ensures unchanged { OnErr result (pages_of self.new ≡ pages_of self.old) }
+    {
+        match Arc::get_mut(&mut self.front) {
+            Some(front) => front.add(span, value),
+            None => {
+                let mut front = self.front.try_copy()?;
+                front.add(span, value)?;
+                self.front = Arc::new(self.alloc(), front)?;
+                Ok(())
+            }
+        }
+    }
+
+    /// Brings a new page to the front.
+    pub(crate) fn push_front(&mut self, front: Page) -> Result<(), NoMemory>
+        ensures older { OnOk result (older_of self.new ≡ pages_of self.old) }
+        ensures front { OnOk result (front_of self.new ≡ front) }
+        ensures unchanged { OnErr result (pages_of self.new ≡ pages_of self.old) }
+    {
+        let front = Arc::new(self.alloc(), front)?;
+        self.older.reserve(1)?;
+        let former = mem::replace(&mut self.front, front);
+        self.older.push_front(former).ok();
+        Ok(())
+    }
+
+    /// The top of the oldest page behind the front, where that page is to be dropped.
+    fn expired_top(&self, config: &Config, now: Timestamp) -> Option<Timestamp>
+        ensures { IsExpiredTop config.now now (older_of self.now) result }
+    {
+        let top = self.older.back()?.top();
+        if self.older.len() >= config.min_pages() as usize && config.is_past_retention(top, now) {
+            Some(top)
+        } else {
+            None
+        }
+    }
+
+    /// Drops expired pages behind the front, from the oldest on, while there are enough of them. Gives the
+    /// latest of `floor` and of their tops, and how many were dropped.
+    pub(crate) fn evict(
+        &mut self,
+        config: &Config,
+        floor: Timestamp,
+        now: Timestamp,
+    ) -> (Timestamp, u64)
+        ensures front { front_of self.new ≡ front_of self.old }
+        ensures dropped { Drops config.now floor now (older_of self.old) (older_of self.new) result.0 result.1 }
+    {
+        let mut floor = floor;
+        let mut evicted = 0;
+        while let Some(top) = self.expired_top(config, now) {
+            self.older.pop_back();
+            floor = floor.max(top);
+            evicted += 1;
+        }
+        (floor, evicted)
+    }
+
+    /// What all pages answer to a span together, above time zero, and how many were looked into.
+    pub(crate) fn lookup(&self, span: &Span) -> (Value, u64)
+        requires stacked { AreStacked (pages_of self.now) }
+        ensures value { result.0 ≡ pages_answer (pages_of self.now) span.now }
+        ensures looked { LooksIntoViews span.now (pages_of self.now) result.1 }
+    {
+        let mut best = self.front.lookup(span);
+        let mut looked = 1;
+        for page in &self.older {
+            if page.top() < best.time() {
+                return (best, looked);
+            }
+            best = ratchet(best, page.lookup(span)).0;
+            looked += 1;
+        }
+        (best, looked)
+    }
+}

@@ -1,0 +1,174 @@
+//! The same Adds on both caches and by `next`, in a sequence that looks random.
+use super::runner::{at, value};
+use crate::{Cache, Config, PlainCache};
+use std::alloc::Global;
+use std::mem;
+use std::test::Fail;
+use tsc_span::{Ends, Key, Span};
+use tsc_time::{NoMemory, Timestamp, Value};
+
+/// After how many Adds all answers are compared.
+const LOOKS_EVERY: u64 = 10;
+
+/// The keys of the spans: the least one, and two with no key between them among others.
+const KEYS: [&[u8]; 6] = [b"", b"a", b"a\x00", b"b", b"c", b"\xff"];
+
+/// All choices of ends.
+const CHOICES: [Ends; 4] = [
+    Ends {
+        exclude_from: false,
+        exclude_to: false,
+    },
+    Ends {
+        exclude_from: false,
+        exclude_to: true,
+    },
+    Ends {
+        exclude_from: true,
+        exclude_to: false,
+    },
+    Ends {
+        exclude_from: true,
+        exclude_to: true,
+    },
+];
+
+/// A sequence of numbers that look random.
+#[derive(Drop)]
+struct Sequence {
+    state: u64,
+}
+
+impl Sequence {
+    /// The next number, from 0 to below `end`.
+    fn below(&mut self, end: u32) -> u32 {
+        self.state = self
+            .state
+            .wrapping_mul(6_364_136_223_846_793_005)
+            .wrapping_add(1_442_695_040_888_963_407);
+        (self.state >> 33) as u32 % end.max(1)
+    }
+
+    /// A value whose time goes on with the turn, on the whole.
+    fn value(&mut self, turn: u64) -> Result<Value, Fail> {
+        let wall = 2 + turn / 6 + u64::from(self.below(12));
+        value((wall, self.below(2)), u128::from(self.below(3)))
+    }
+
+    /// A moment that goes on with the turn, on the whole.
+    fn moment(&mut self, turn: u64) -> Result<Timestamp, Fail> {
+        let wall = turn / 6 + u64::from(self.below(16));
+        at((wall, self.below(2)))
+    }
+}
+
+/// Both caches, the newest version by `next`, and one before it with what that one answered.
+#[derive(Drop)]
+struct Caches {
+    in_place: Cache,
+    plain: PlainCache,
+    newest: Cache,
+    older: Cache,
+    answers: Vec<Value>,
+}
+
+impl Caches {
+    fn new(alloc: Global, config: Config) -> Result<Caches, NoMemory> {
+        Ok(Caches {
+            in_place: Cache::new(alloc, config)?,
+            plain: PlainCache::new(alloc, config)?,
+            newest: Cache::new(alloc, config)?,
+            older: Cache::new(alloc, config)?,
+            answers: Vec::new(alloc),
+        })
+    }
+
+    /// Makes an Add in each way, and says whether it tells the same in all.
+    fn add(&mut self, span: &Span, value: Value, now: Timestamp) -> Result<bool, NoMemory> {
+        let added = self.plain.add(span, value, now)?;
+        let (next, by_next) = self.newest.next(span, value, now)?;
+        self.newest = next;
+        Ok(self.in_place.add(span, value, now)? == added && by_next == added)
+    }
+
+    /// Whether all stand and answer alike, and the older version as it did.
+    fn agree(&self, spans: &[Span]) -> bool {
+        let stand = (
+            self.plain.pages(),
+            self.plain.rotations(),
+            self.plain.low_water(),
+        );
+        let mut alike = stand == stand_of(&self.in_place) && stand == stand_of(&self.newest);
+        for span in spans {
+            let value = self.plain.get_max(span);
+            let counted = self.in_place.get_max_counted(span);
+            alike &= counted.0 == value && counted.1 as usize <= stand.0;
+            alike &= self.newest.get_max_counted(span) == counted;
+            alike &= self.in_place.get_max(span) == value && self.newest.get_max(span) == value;
+        }
+        for (span, value) in spans.iter().zip(&self.answers) {
+            alike &= self.older.get_max(span) == *value;
+        }
+        alike
+    }
+
+    /// Takes the newest version, and what it answers, as the older one.
+    fn keep(&mut self, spans: &[Span], nothing: &Span) -> Result<(), NoMemory> {
+        let unowned = Value::unowned(Timestamp::ZERO);
+        self.older = self.newest.next(nothing, unowned, Timestamp::ZERO)?.0;
+        self.answers.clear();
+        for span in spans {
+            self.answers.push(self.older.get_max(span))?;
+        }
+        Ok(())
+    }
+}
+
+fn stand_of(cache: &Cache) -> (usize, u64, Timestamp) {
+    (cache.pages(), cache.rotations(), cache.low_water())
+}
+
+/// Adds the spans from one key to another, with all choices of ends.
+fn push_ranges(alloc: Global, spans: &mut Vec<Span>, from: &[u8], to: &[u8]) -> Result<(), Fail> {
+    for ends in CHOICES {
+        let (from, to) = (Key::new(alloc, from)?, Key::new(alloc, to)?);
+        spans.push(Span::for_lookup(from, to, ends))?;
+    }
+    Ok(())
+}
+
+/// Each span over the keys.
+fn spans(alloc: Global) -> Result<Vec<Span>, Fail> {
+    let mut spans = Vec::new(alloc);
+    for from in KEYS {
+        spans.push(Span::onward(Key::new(alloc, from)?, false))?;
+        spans.push(Span::onward(Key::new(alloc, from)?, true))?;
+        for to in KEYS {
+            push_ranges(alloc, &mut spans, from, to)?;
+        }
+    }
+    Ok(spans)
+}
+
+/// Makes so many Adds in each way, and gives the number of the first after which something differs.
+pub fn first_difference(alloc: Global, config: Config, adds: u64) -> Result<Option<u64>, Fail> {
+    let spans = spans(alloc)?;
+    let nothing = super::runner::span(alloc, b"(a,a)")?;
+    let mut caches = Caches::new(alloc, config)?;
+    let mut sequence = Sequence { state: 1 };
+    for turn in 0..adds {
+        let place = sequence.below(u32::try_from(spans.len())?) as usize;
+        let span = spans.get(place).ok_or("no span")?;
+        let (value, now) = (sequence.value(turn)?, sequence.moment(turn)?);
+        if !caches.add(span, value, now)? {
+            return Ok(Some(turn));
+        }
+        if turn % LOOKS_EVERY == 0 {
+            if !caches.agree(&spans) {
+                return Ok(Some(turn));
+            }
+            caches.keep(&spans, &nothing)?;
+        }
+    }
+    Ok(None)
+}

@@ -1,0 +1,261 @@
+//! Plays the steps of a row on a cache.
+use super::rows::{FLOOR, KEPT, RETENTION, Row, Step, Time, Told};
+use crate::{Cache, Config, PlainCache};
+use std::alloc::Global;
+use std::mem;
+use std::test::Fail;
+use tsc_span::{Ends, Key, Span};
+use tsc_time::{NoMemory, Timestamp, Value};
+use uuid::Uuid;
+
+/// By which calls Adds are made.
+#[derive(Clone, Copy, Debug)]
+pub enum Way {
+    InPlace,
+    Plain,
+    ByNext,
+}
+
+pub const WAYS: [Way; 3] = [Way::InPlace, Way::Plain, Way::ByNext];
+
+/// A cache to which Adds are made in one of the ways.
+#[derive(Drop)]
+enum Tried {
+    InPlace(Cache),
+    Plain(PlainCache),
+    /// The newest version, and all before it.
+    ByNext(Cache, Vec<Cache>),
+}
+
+/// How many pages there are, how often they rotated, and where the floor stands.
+type Stand = (usize, u64, Timestamp);
+
+/// What a cache answers to the points `a` to `i`, and how it stands.
+type Seen = ([Value; 9], Stand);
+
+impl Tried {
+    fn new(alloc: Global, way: Way, config: Config) -> Result<Tried, NoMemory> {
+        Ok(match way {
+            Way::InPlace => Tried::InPlace(Cache::new(alloc, config)?),
+            Way::Plain => Tried::Plain(PlainCache::new(alloc, config)?),
+            Way::ByNext => Tried::ByNext(Cache::new(alloc, config)?, Vec::new(alloc)),
+        })
+    }
+
+    fn add(&mut self, span: &Span, value: Value, now: Timestamp) -> Result<Told, NoMemory> {
+        let added = match self {
+            Tried::InPlace(cache) => cache.add(span, value, now)?,
+            Tried::Plain(cache) => cache.add(span, value, now)?,
+            Tried::ByNext(newest, older) => {
+                older.reserve(1)?;
+                let (next, added) = newest.next(span, value, now)?;
+                older.push(mem::replace(newest, next))?;
+                added
+            }
+        };
+        Ok((added.kept, added.rotated, added.evicted))
+    }
+
+    fn get_max(&self, span: &Span) -> Value {
+        match self {
+            Tried::InPlace(cache) | Tried::ByNext(cache, _) => cache.get_max(span),
+            Tried::Plain(cache) => cache.get_max(span),
+        }
+    }
+
+    /// The same, and how many pages it looks into. A plain cache looks into all, and does not tell.
+    fn get_max_counted(&self, span: &Span) -> Option<(Value, u64)> {
+        match self {
+            Tried::InPlace(cache) | Tried::ByNext(cache, _) => Some(cache.get_max_counted(span)),
+            Tried::Plain(_) => None,
+        }
+    }
+
+    fn stand(&self) -> Stand {
+        match self {
+            Tried::InPlace(cache) | Tried::ByNext(cache, _) => {
+                (cache.pages(), cache.rotations(), cache.low_water())
+            }
+            Tried::Plain(cache) => (cache.pages(), cache.rotations(), cache.low_water()),
+        }
+    }
+
+    /// The version after so many Adds, where versions are kept.
+    fn version(&self, adds: usize) -> Option<&Cache> {
+        match self {
+            Tried::ByNext(newest, older) => Some(older.get(adds).unwrap_or(newest)),
+            Tried::InPlace(_) | Tried::Plain(_) => None,
+        }
+    }
+
+    fn seen(&self, looks: &[Span]) -> Seen {
+        let mut answers = [Value::unowned(Timestamp::ZERO); 9];
+        for (answer, look) in answers.iter_mut().zip(looks) {
+            *answer = self.get_max(look);
+        }
+        (answers, self.stand())
+    }
+}
+
+pub fn at(time: Time) -> Result<Timestamp, Fail> {
+    Ok(Timestamp::new(time.0, time.1).ok_or("out of range")?)
+}
+
+pub fn value(time: Time, owner: u128) -> Result<Value, Fail> {
+    Ok(Value::of(at(time)?, Uuid::from_u128(owner)))
+}
+
+/// What comes before the first comma of a text and what comes after it, or `None` where there is no comma.
+fn split_at_comma(text: &[u8]) -> Option<(&[u8], &[u8])> {
+    for (place, byte) in text.iter().enumerate() {
+        if *byte == b',' {
+            return Some((&text[..place], &text[place + 1..]));
+        }
+    }
+    None
+}
+
+/// The span of a text such as `a`, `[a,c)` or `(m,`.
+pub fn span(alloc: Global, text: &[u8]) -> Result<Span, Fail> {
+    let Some((start, end)) = split_at_comma(text) else {
+        return Ok(Span::point(Key::new(alloc, text)?));
+    };
+    let (open, from) = start.split_first().ok_or("no bracket")?;
+    let from = Key::new(alloc, from)?;
+    let exclude_from = *open == b'(';
+    let Some((close, to)) = end.split_last() else {
+        return Ok(Span::onward(from, exclude_from));
+    };
+    let ends = Ends {
+        exclude_from,
+        exclude_to: *close == b')',
+    };
+    Ok(Span::for_lookup(from, Key::new(alloc, to)?, ends))
+}
+
+/// The points `a` to `i`.
+fn points(alloc: Global) -> Result<Vec<Span>, Fail> {
+    let mut points = Vec::with_capacity(alloc, 9)?;
+    for key in b"abcdefghi".windows(1) {
+        points.push(span(alloc, key)?)?;
+    }
+    Ok(points)
+}
+
+/// A cache on which steps are made.
+#[derive(Drop)]
+struct Player {
+    alloc: Global,
+    tried: Tried,
+    /// Where an Add that is refused memory is made once more: what has to be answered as before it.
+    looks: Option<Vec<Span>>,
+}
+
+impl Player {
+    fn add(&mut self, span: &Span, value: Value, now: Timestamp) -> Result<Told, Fail> {
+        let Some(looks) = &self.looks else {
+            return Ok(self.tried.add(span, value, now)?);
+        };
+        let before = self.tried.seen(looks);
+        if let Ok(told) = self.tried.add(span, value, now) {
+            return Ok(told);
+        }
+        if self.tried.seen(looks) != before {
+            return Err(Fail::new("a refused Add changed the cache"));
+        }
+        match self.tried.add(span, value, now) {
+            Ok(told) => Ok(told),
+            Err(NoMemory) => Err(Fail::new("an Add was refused again")),
+        }
+    }
+
+    /// Whether Adds of single keys are each kept in place.
+    fn points_are_kept(&mut self, keys: &[u8], value: Value, now: Timestamp) -> Result<bool, Fail> {
+        let mut all = true;
+        for key in keys.windows(1) {
+            all &= self.add(&span(self.alloc, key)?, value, now)? == KEPT;
+        }
+        Ok(all)
+    }
+
+    /// Makes a step, and says whether what has to come of it does.
+    fn step(&mut self, step: Step) -> Result<bool, Fail> {
+        match step {
+            Step::Add(text, time, owner, now, told) => {
+                let span = span(self.alloc, text)?;
+                Ok(self.add(&span, value(time, owner)?, at(now)?)? == told)
+            }
+            Step::Points(keys, time, owner, now) => {
+                self.points_are_kept(keys, value(time, owner)?, at(now)?)
+            }
+            Step::Get(text, time, owner) => {
+                let answer = self.tried.get_max(&span(self.alloc, text)?);
+                Ok(answer == value(time, owner)?)
+            }
+            Step::Counted(text, time, owner, pages) => {
+                let wanted = (value(time, owner)?, pages);
+                let counted = self.tried.get_max_counted(&span(self.alloc, text)?);
+                Ok(counted.unwrap_or(wanted) == wanted)
+            }
+            Step::State(pages, rotations, floor) => {
+                Ok(self.tried.stand() == (pages, rotations, at(floor)?))
+            }
+            Step::Version(adds, pages, floor, text, time, owner) => {
+                let Some(version) = self.tried.version(adds) else {
+                    return Ok(true);
+                };
+                let seen = (
+                    version.pages(),
+                    version.low_water(),
+                    version.get_max(&span(self.alloc, text)?),
+                );
+                Ok(seen == (pages, at(floor)?, value(time, owner)?))
+            }
+        }
+    }
+}
+
+/// Plays a row on a new cache, and gives the number of its first step that fails, from 0. With `tries_again`
+/// an Add that is refused memory has to leave the cache as it was, and is then made once more.
+pub fn first_failure(
+    alloc: Global,
+    way: Way,
+    limits: (u32, u32),
+    row: &Row,
+    tries_again: bool,
+) -> Result<Option<usize>, Fail> {
+    let config = Config::new(limits.0, limits.1, RETENTION, at(FLOOR)?)?;
+    let tried = Tried::new(alloc, way, config)?;
+    let looks = if tries_again {
+        Some(points(alloc)?)
+    } else {
+        None
+    };
+    let mut player = Player {
+        alloc,
+        tried,
+        looks,
+    };
+    for (i, step) in row.1.iter().enumerate() {
+        if !player.step(*step)? {
+            return Ok(Some(i));
+        }
+    }
+    Ok(None)
+}
+
+/// Whether two versions that share their front page go their own ways from there on: each is added to in
+/// place, and answers what was added to it alone.
+pub fn a_shared_front_is_left(alloc: Global) -> Result<bool, Fail> {
+    let config = Config::new(2, 1, RETENTION, at(FLOOR)?)?;
+    let (key, nothing) = (span(alloc, b"a")?, span(alloc, b"(a,a)")?);
+    let (first, second, third) = (value((20, 0), 1)?, value((30, 0), 2)?, value((40, 0), 3)?);
+    let now = at((20, 0))?;
+    let mut older = Cache::new(alloc, config)?;
+    older.add(&key, first, now)?;
+    let (mut newer, added) = older.next(&nothing, second, now)?;
+    newer.add(&key, second, now)?;
+    let left = (older.get_max(&key), newer.get_max(&key)) == (first, second);
+    older.add(&key, third, now)?;
+    Ok(left && !added.kept && (older.get_max(&key), newer.get_max(&key)) == (third, second))
+}
