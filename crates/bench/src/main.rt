@@ -1,19 +1,25 @@
-//! Measures a page of the timestamp cache.
+//! Measures a page of the timestamp cache, and caches of 1, 4 and 17 such pages.
 //!
 //! `bench NODES..` fills a page with so many nodes, from 64 to 65,536, and then looks up and adds single
-//! keys, and ranges of 16 nodes. It prints how many operations it made and the nanoseconds of one, and
-//! for two sizes and more by how much each grew from the first size to the last. `bench` alone makes a
-//! short run and prints no times.
+//! keys, and ranges of 16 nodes. It prints how many operations it made and the nanoseconds of one. Then it
+//! does so to the caches, and prints too what each took as a percentage of what it took on the page. For
+//! two sizes and more it prints by how much each operation of a page grew from the first size to the last.
+//! `bench` alone makes a short run and prints no times.
 #![tactic(auto)]
 
+mod caches;
 mod measure;
 
+use crate::caches::{CACHE_OPERATIONS, PAGES, measure_caches};
 use crate::measure::{Figures, LARGEST, OPERATIONS, SMALLEST, measure};
-use anyhow::{Result, ensure};
+use anyhow::{Context, Result, ensure};
 use std::env;
 
 /// How often each operation is made at each of the spans of a measurement.
 const TURNS: u32 = 200;
+
+/// And on a cache, whose lookups look into many pages.
+const CACHE_TURNS: u32 = 40;
 
 fn main(rt: HostRuntime) -> Result<()> {
     let words: Vec<String> = env::args(&rt)?.collect(rt.alloc())?;
@@ -29,6 +35,7 @@ fn main(rt: HostRuntime) -> Result<()> {
             let (nodes, operations, each) = (figures.nodes, figure.operations, figure.each());
             println!(&rt; "{nodes} nodes, {name}: {operations} operations, {each} ns each")?;
         }
+        print_caches(&rt, &figures)?;
         all.push(figures)?;
     }
     let Some((first, later)) = all.as_slice().split_first() else {
@@ -44,12 +51,37 @@ fn main(rt: HostRuntime) -> Result<()> {
     Ok(())
 }
 
-/// Makes each operation once at each place of a small page, and prints no times.
+/// Prints what operations on caches take beside those on a page of the same size.
+fn print_caches(rt: &HostRuntime, page: &Figures) -> Result<()> {
+    let nodes = page.nodes;
+    ensure!(SMALLEST <= nodes && nodes <= LARGEST, "no such page");
+    for pages in PAGES {
+        let figures = measure_caches(rt, nodes, pages, CACHE_TURNS)?;
+        for ((name, beside), figure) in CACHE_OPERATIONS.into_iter().zip(figures.all) {
+            let (operations, each) = (figure.operations, figure.each());
+            let beside = page.all.get(beside).context("no such operation")?;
+            let percent = figure.percent_of(*beside);
+            println!(rt;
+                "{pages} x {nodes} nodes, {name}: {operations} operations, {each} ns each, {percent} %"
+            )?;
+        }
+    }
+    Ok(())
+}
+
+/// Makes each operation once at each place of a small page and of small caches, and prints no times.
 fn short_run(rt: &HostRuntime) -> Result<()> {
     let figures = measure(rt, SMALLEST, 1)?;
     for (name, figure) in OPERATIONS.into_iter().zip(figures.all) {
         let (nodes, operations) = (figures.nodes, figure.operations);
         println!(rt; "{nodes} nodes, {name}: {operations} operations")?;
+    }
+    for pages in PAGES {
+        let figures = measure_caches(rt, SMALLEST, pages, 1)?;
+        for ((name, _), figure) in CACHE_OPERATIONS.into_iter().zip(figures.all) {
+            let operations = figure.operations;
+            println!(rt; "{pages} x {SMALLEST} nodes, {name}: {operations} operations")?;
+        }
     }
     Ok(())
 }

@@ -23,10 +23,13 @@ pub const SMALLEST: u32 = 64;
 pub const LARGEST: u32 = 65536;
 
 /// At how many places of a full page each operation is made.
-const PLACES: u32 = 1024;
+pub const PLACES: u32 = 1024;
 
 /// How many nodes a range has.
-const WIDTH: u32 = 16;
+pub const WIDTH: u32 = 16;
+
+/// How far apart the keys of two places are, so that each page of a cache has keys of its own.
+const APART: u64 = 64;
 
 /// Multiplied by this, numbers go about all places of a page, far from one to the next: a prime above the
 /// number of places.
@@ -68,9 +71,9 @@ pub fn measure(rt: &HostRuntime, nodes: u32, turns: u32) -> Result<Figures>
     requires at_least { 64 ≤ nodes }
     requires at_most { nodes ≤ 65536 }
 {
-    let places = spans(rt.alloc(), nodes, nodes, 0)?;
-    let keys = spans(rt.alloc(), nodes, PLACES, 0)?;
-    let ranges = spans(rt.alloc(), nodes, PLACES, WIDTH)?;
+    let places = spans(rt.alloc(), nodes, nodes, 0, 0)?;
+    let keys = spans(rt.alloc(), nodes, PLACES, 0, 0)?;
+    let ranges = spans(rt.alloc(), nodes, PLACES, WIDTH, 0)?;
     let mut page = Page::new(rt.alloc(), nodes, Timestamp::ZERO)?;
     let all = [
         add(rt, &mut page, &places, 1)?,
@@ -85,13 +88,15 @@ pub fn measure(rt: &HostRuntime, nodes: u32, turns: u32) -> Result<Figures>
     })
 }
 
-/// The key of a place among the nodes.
-fn key(alloc: Global, place: u64) -> Result<Key> {
-    Ok(Key::new(alloc, &place.to_be_bytes())?)
+/// The key of a place among the nodes of a page.
+pub fn key(alloc: Global, place: u64, page: u32) -> Result<Key> {
+    let number = place.wrapping_mul(APART).wrapping_add(u64::from(page));
+    Ok(Key::new(alloc, &number.to_be_bytes())?)
 }
 
-/// So many spans all over a page of that many nodes: single keys, or ranges of `width` nodes.
-fn spans(alloc: Global, nodes: u32, count: u32, width: u32) -> Result<Vec<Span>>
+/// So many spans all over a page of that many nodes: single keys, or ranges of `width` nodes. The keys of
+/// the first 64 pages are different ones.
+pub fn spans(alloc: Global, nodes: u32, count: u32, width: u32, page: u32) -> Result<Vec<Span>>
     requires at_least { 64 ≤ nodes }
     requires width { width ≤ 16 }
 {
@@ -103,7 +108,7 @@ fn spans(alloc: Global, nodes: u32, count: u32, width: u32) -> Result<Vec<Span>>
             exclude_to: width != 0,
         };
         let to = from + u64::from(width);
-        spans.push(Span::range(key(alloc, from)?, key(alloc, to)?, ends)?)?;
+        spans.push(Span::range(key(alloc, from, page)?, key(alloc, to, page)?, ends)?)?;
     }
     Ok(spans)
 }
@@ -147,7 +152,7 @@ fn add_at(page: &mut Page, span: &Span, wall: u64) -> Result<()> {
 }
 
 /// What `turns` operations at each of the spans took.
-fn figure_of(spans: &[Span], turns: u32, nanoseconds: u128) -> Result<Figure> {
+pub fn figure_of(spans: &[Span], turns: u32, nanoseconds: u128) -> Result<Figure> {
     Ok(Figure {
         operations: (spans.len() as u64).saturating_mul(u64::from(turns)),
         nanoseconds: u64::try_from(nanoseconds)?,

@@ -1,7 +1,3 @@
-pub mod ExampleSettings
-pub mod RatchetExamples
-pub mod SpanExamples
-pub mod RotationExamples
 pub mod LogExamples
 pub mod TraceTextExamples
 pub mod KeySets
@@ -11,7 +7,6 @@ pub mod Calls
 pub mod Totals
 pub mod Texts
 pub mod Playing
-pub mod Rooms
 pub mod ListSteps
 pub mod Reading
 pub mod Writing

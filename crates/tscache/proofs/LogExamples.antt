@@ -2,6 +2,7 @@
 use Rattle.std.specs.Prelude.{◌≡◌, ℕ, List, [], ◌∷◌, ◌++◌, true, false, codes, refl}
 use Rattle.tsc_time.specs.OwnedTime.{unowned}
 use Rattle.tsc_span.specs.Span.{point}
+use Rattle.tsc_cache.proofs.ExampleSettings.{at, of_first, of_second, usual, twenty, without_end, added}
 use Rattle.tscache.specs.Log.{log_of}
 use Rattle.tscache.specs.LogText.{log_text}
 use Rattle.tscache.specs.declared.trace.Call.{Call}
@@ -9,7 +10,6 @@ use Rattle.tscache.specs.declared.trace.Call.TheVariants.{Add, Get, Low}
 use Rattle.tscache.specs.declared.trace.Trace.{Trace}
 use Rattle.tscache.specs.declared.log.Line.{Line}
 use Rattle.tscache.specs.declared.log.Said.TheVariants as said
-use Rattle.tscache.proofs.ExampleSettings.{at, of_first, of_second, usual, twenty, without_end, added}
 use Rattle.std.specs.Fmt.{digits}
 use Rattle.uuid.specs.Text.{by_index}
 

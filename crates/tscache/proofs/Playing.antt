@@ -1,22 +1,20 @@
 -- A replay that goes on from where it stands gives the lines that are made anew from the opening state.
 use Rattle.std.proofs.Common.{◌≡◌, ◌∙◌, refl, ap, ℕ, suc, List, [], ◌∷◌, ◌++◌, length, length-append, arith}
-use Rattle.tscache.specs.State.{Settings, CacheState, opening, step}
-use Rattle.tscache.specs.History.{Entry, History, own_count, mark_of, state_from, state_of}
+use Rattle.tsc_cache.specs.Settings.{Settings}
+use Rattle.tsc_cache.specs.State.{step}
+use Rattle.tsc_cache.specs.declared.history.Entry.{Entry}
+use Rattle.tsc_cache.specs.History.{History, own_count, mark_of, state_of}
+use Rattle.tsc_cache.proofs.Histories.{state_of-push}
 use Rattle.tscache.specs.Log.{answer_of, after_call, after_calls, lines_of_list, lines_of_lists}
 use Rattle.tscache.specs.Play.{standing_after, said_at, next, next_all, played, played_lists}
 use Rattle.tscache.specs.declared.trace.Call.{Call}
 use Rattle.tscache.specs.declared.trace.Call.TheVariants.{Add, Get, Low}
 
--- a history and then another
-pub state_from-append : (settings : Settings) (s : CacheState) (h g : History) → state_from settings s (h ++ g) ≡ state_from settings (state_from settings s h) g
-state_from-append settings s [] g = refl
-state_from-append settings s (e ∷ h) g = state_from-append settings (step settings s (mark_of e) e.now).state h g
-
 -- one more entry
 standing_after-append : (settings : Settings) (h : History) (e : Entry) → standing_after settings (h ++ e ∷ []) ≡ record { state = (step settings (state_of settings h) (mark_of e) e.now).state; adds = suc (length h) }
 standing_after-append settings h e =
     let adds : length (h ++ e ∷ []) ≡ suc (length h) = omega (arith, length-append h (e ∷ [])) in
-    let state = state_from-append settings (opening settings) h (e ∷ []) in
+    let state = state_of-push settings h e in
     λ i. record { state = state i; adds = adds i }
 
 -- the answer is the one that is made anew

@@ -1,5 +1,3 @@
-pub mod State
-pub mod History
 pub mod Lists
 pub mod Trace
 pub mod TraceText

@@ -1,7 +1,8 @@
 -- The log of a trace: what each call answers where one thread takes list after list.
 use Rattle.std.specs.Prelude.{ℕ, suc, List, [], ◌∷◌, ◌++◌, length}
-use Rattle.tscache.specs.State.{Settings, step, look}
-use Rattle.tscache.specs.History.{History, own_count, state_of}
+use Rattle.tsc_cache.specs.Settings.{Settings}
+use Rattle.tsc_cache.specs.State.{step, look}
+use Rattle.tsc_cache.specs.History.{History, own_count, state_of}
 use Rattle.tscache.specs.declared.trace.Call.{Call}
 use Rattle.tscache.specs.declared.trace.Call.TheVariants.{Add, Get, Low}
 use Rattle.tscache.specs.declared.trace.Trace.{Trace}

@@ -1,7 +1,8 @@
 -- A replay that goes on from where it stands, in place of making each state anew.
-use Rattle.std.specs.Prelude.{◌≡◌, ℕ, suc, List, [], ◌∷◌, ◌++◌, length, true}
-use Rattle.tscache.specs.State.{Settings, CacheState, step, look, front_has_room}
-use Rattle.tscache.specs.History.{History, state_of}
+use Rattle.std.specs.Prelude.{ℕ, suc, List, [], ◌∷◌, ◌++◌, length}
+use Rattle.tsc_cache.specs.Settings.{Settings}
+use Rattle.tsc_cache.specs.State.{CacheState, step, look}
+use Rattle.tsc_cache.specs.History.{History, state_of}
 use Rattle.tscache.specs.declared.trace.Call.{Call}
 use Rattle.tscache.specs.declared.trace.Call.TheVariants.{Add, Get, Low}
 use Rattle.tscache.specs.declared.log.Line.{Line}
@@ -34,11 +35,6 @@ abbrev pub next_all : Settings → Standing → List Call → Standing
 next_all settings at [] = at
 next_all settings at (call ∷ calls) = next_all settings (next settings at call) calls
 
--- after some lists
-abbrev pub next_lists : Settings → Standing → List (List Call) → Standing
-next_lists settings at [] = at
-next_lists settings at (calls ∷ lists) = next_lists settings (next_all settings at calls) lists
-
 -- the lines of one list, from a place in it on
 abbrev pub played : Settings → ℕ → ℕ → Standing → List Call → List Line
 played settings thread index at [] = []
@@ -50,19 +46,3 @@ abbrev pub played_lists : Settings → ℕ → Standing → List (List Call) →
 played_lists settings thread at [] = []
 played_lists settings thread at (calls ∷ lists) =
     played settings thread 0 at calls ++ played_lists settings (suc thread) (next_all settings at calls) lists
-
--- the front page has room for a call, where it is an Add
-abbrev pub HasRoomFor : Settings → CacheState → Call → Type 0
-HasRoomFor settings s (Add span value now) = front_has_room settings s span ≡ true
-HasRoomFor settings s (Get span) = Unit {0}
-HasRoomFor settings s Low = Unit {0}
-
--- and so for each of some calls, one after another
-abbrev pub HasRoomForAll : Settings → Standing → List Call → Type 0
-HasRoomForAll settings at [] = Unit {0}
-HasRoomForAll settings at (call ∷ calls) = HasRoomFor settings at.state call × HasRoomForAll settings (next settings at call) calls
-
--- and for each of some lists
-abbrev pub HasRoomForLists : Settings → Standing → List (List Call) → Type 0
-HasRoomForLists settings at [] = Unit {0}
-HasRoomForLists settings at (calls ∷ lists) = HasRoomForAll settings at calls × HasRoomForLists settings (next_all settings at calls) lists

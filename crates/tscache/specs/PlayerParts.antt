@@ -1,12 +1,11 @@
--- What contracts see of a replay under way.
-use Rattle.tscache.specs.State.{Settings}
+-- Where a replay under way stands.
+use Rattle.std.specs.Prelude.{◌≡◌}
+use Rattle.tsc_cache.specs.Settings.{Settings}
+use Rattle.tsc_cache.specs.CacheView.{StandsForState}
 use Rattle.tscache.specs.Play.{Standing}
 use Rattle.tscache.specs.declared.play.Player.{Player}
 
--- how its cache is set up
-abbrev pub settings_of : Player → Settings
-settings_of p = p.cache.settings
-
--- what its cache stands for, and how many Adds it has made
-abbrev pub standing_of : Player → Standing
-standing_of p = record { state = p.cache.state; adds = p.adds }
+-- its cache stands for the state, and it has made as many Adds
+pub record StandsAt (p : Player) (settings : Settings) (at : Standing) : Type 0 where
+  pub state : StandsForState p.cache settings at.state
+  pub adds : p.adds ≡ at.adds

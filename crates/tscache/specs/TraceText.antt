@@ -11,7 +11,7 @@ use Rattle.serde_json.specs.Find.{get_member, as_number, as_u64, as_str, as_arra
 use Rattle.tsc_time.specs.Time.{Time, is_in_range}
 use Rattle.tsc_time.specs.OwnedTime.{Owner, owner_of}
 use Rattle.tsc_span.specs.Span.{KeyBytes, Interval, nothing, point, start_to_end, fits_key}
-use Rattle.tscache.specs.State.{Settings, settings_of}
+use Rattle.tsc_cache.specs.Settings.{Settings, settings_of}
 use Rattle.tscache.specs.Trace.{most_calls, fits_one_page}
 use Rattle.tscache.specs.declared.trace.Call.{Call}
 use Rattle.tscache.specs.declared.trace.Call.TheVariants.{Add, Get, Low}

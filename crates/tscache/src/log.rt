@@ -1,11 +1,11 @@
 ghost use Rattle.std.specs.Prelude.{◌≡◌, IfOk};
 ghost use Rattle.tscache.specs.LogText.{bit_text, log_text};
 
-use crate::cache::Added;
 use std::alloc::Global;
 use std::fmt;
 use std::fmt::Write;
 use std::marker::Model;
+use tsc_cache::Added;
 use tsc_time::{NoMemory, Timestamp, Value};
 
 /// What a call answered.

@@ -12,12 +12,9 @@ ghost use Rattle.tscache.specs.Replay.{TellsOf};
 ghost use Rattle.tscache.specs.Stream.{GaveUp, HasWrittenPrefix};
 ghost use Rattle.tscache.specs.Words.{refusal_text};
 
-mod cache;
-mod config;
 #[cfg(test)]
 mod fakes;
 mod log;
-mod plain;
 mod play;
 mod read;
 mod replay;

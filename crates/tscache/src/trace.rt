@@ -1,9 +1,9 @@
 ghost use Rattle.std.specs.Prelude.{◌≡◌, ◌≤◌, ◌∷◌, [], length, option_map, slice_get, IfOk, IfSome};
 ghost use Rattle.tscache.specs.Lists.{most_lists, most_calls};
 
-use crate::config::Config;
 use std::alloc::{AllocError, Global};
 use std::marker::Model;
+use tsc_cache::Config;
 use tsc_span::Span;
 use tsc_time::{Timestamp, Value};
 

@@ -9,10 +9,10 @@ ghost use Rattle.tscache.specs.TraceText.{settings_in, only_list_of, trace_of};
 use super::call::{calls, time};
 use super::fit::fits;
 use super::json::{Refusal, array, has_only, needed, number_32, number_64, object, one};
-use crate::config::Config;
 use crate::trace::{Call, Lists, Trace};
 use serde_json::{Map, Value};
 use std::alloc::Global;
+use tsc_cache::Config;
 
 /// How many calls a trace has at the most.
 const MOST_CALLS: usize = 65_536;

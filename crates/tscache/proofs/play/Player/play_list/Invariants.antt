@@ -1,17 +1,14 @@
-use Rattle.std.proofs.Common.{◌≡◌, ◌+◌, ◌≤◌, ◌++◌, drop}
-use Rattle.tscache.specs.Play.{next_all, played, HasRoomForAll}
-use Rattle.tscache.specs.PlayerParts.{settings_of, standing_of}
+use Rattle.std.proofs.Common.{◌+◌, ◌≤◌, drop}
+use Rattle.tsc_cache.specs.Settings.{Settings}
+use Rattle.tscache.specs.Play.{Standing}
+use Rattle.tscache.specs.PlayerParts.{StandsAt}
+use Rattle.tscache.proofs.ListSteps.{IsUnderWay}
 use Rattle.tscache.proofs.play.Player.play_list.Given as goal
 
--- the lines so far and those of the calls that are left are the lines of all
+-- from wherever it stood, it is under way
 abbrev pub invariant-loop-index : goal.invariant-loop-index
 invariant-loop-index l =
-    let settings = settings_of l.fn.self in
-    let left = drop l.index l.calls in
     record {
-      kept : settings_of l.self ≡ settings;
-      told : l.self.lines.items ++ played settings l.thread l.index (standing_of l.self) left ≡ l.fn.self.lines.items ++ played settings l.thread 0 (standing_of l.fn.self) l.calls;
-      stands : next_all settings (standing_of l.self) left ≡ next_all settings (standing_of l.fn.self) l.calls;
-      fits : HasRoomForAll settings (standing_of l.self) left;
+      under_way : (settings : Settings) (from : Standing) → StandsAt l.fn.self settings from → IsUnderWay l.fn.self l.self settings l.thread l.index l.calls (drop l.index l.calls) from;
       counted : l.self.adds ≤ l.fn.self.adds + l.index;
     }

@@ -1,0 +1,159 @@
+ghost use Rattle.std.specs.Prelude.{◌≤◌};
+
+use crate::measure::{Figure, PLACES, WIDTH, figure_of, key, spans};
+use anyhow::{Context, Result, ensure};
+use std::alloc::Global;
+use std::time::Instant;
+use tsc_cache::{Cache, Config};
+use tsc_span::Span;
+use tsc_time::{Timestamp, Value, ratchet};
+
+/// What is measured on a cache, in the order of [`CacheFigures::all`], each beside the operation of a page
+/// whose place in [`OPERATIONS`](crate::measure::OPERATIONS) stands with it.
+pub const CACHE_OPERATIONS: [(&str, usize); 8] = [
+    ("lookup of a key in all pages", 1),
+    ("lookup of 16 nodes in all pages", 2),
+    ("add of a key", 3),
+    ("add of 16 nodes", 4),
+    ("next with a key", 3),
+    ("lookup of a key later than all older pages", 1),
+    ("lookup of 16 nodes later than all older pages", 2),
+    ("add of a new key, with rotations", 0),
+];
+
+/// How many pages the caches have that are measured.
+pub const PAGES: [u32; 3] = [1, 4, 17];
+
+/// At how many places versions are made: each copies a page.
+const VERSIONS: usize = 64;
+
+/// How many pages are filled while the oldest ones are dropped.
+const ROTATIONS: u32 = 2;
+
+/// What a cache of one size took.
+#[derive(Drop)]
+pub struct CacheFigures {
+    /// How many pages it had.
+    pub pages: u32,
+    /// What each operation took.
+    pub all: [Figure; 8],
+}
+
+/// Fills the pages of two caches with nodes, and makes each operation on one of them: on the first at
+/// [`PLACES`] places, `turns` times.
+pub fn measure_caches(rt: &HostRuntime, nodes: u32, pages: u32, turns: u32) -> Result<CacheFigures>
+    requires at_least { 64 ≤ nodes }
+    requires at_most { nodes ≤ 65536 }
+{
+    let front = pages.saturating_sub(1);
+    let keys = spans(rt.alloc(), nodes, PLACES, 0, front)?;
+    let ranges = spans(rt.alloc(), nodes, PLACES, WIDTH, front)?;
+    let some = keys.get(..VERSIONS).context("too few keys")?;
+    let mut level = filled(rt, nodes, pages, false)?;
+    let mut rising = filled(rt, nodes, pages, true)?;
+    let all = [
+        look_up(rt, &level, &keys, turns)?,
+        look_up(rt, &level, &ranges, turns)?,
+        add(rt, &mut level, &keys, turns)?,
+        add(rt, &mut level, &ranges, turns)?,
+        make_versions(rt, level, some)?,
+        look_up(rt, &rising, &keys, turns)?,
+        look_up(rt, &rising, &ranges, turns)?,
+        rotate(rt, &mut rising, nodes, pages)?,
+    ];
+    Ok(CacheFigures { pages, all })
+}
+
+/// A cache of so many full pages, each with keys of its own. All that is on them has one time, or that of a
+/// newer page is later.
+fn filled(rt: &HostRuntime, nodes: u32, pages: u32, rising: bool) -> Result<Cache> {
+    let config = Config::new(nodes, pages, 0, Timestamp::ZERO)?;
+    let mut cache = Cache::new(rt.alloc(), config)?;
+    for page in 0..pages {
+        let wall = if rising { u64::from(page) + 1 } else { 1 };
+        fill_front(rt.alloc(), &mut cache, nodes, page, wall)?;
+    }
+    ensure!(cache.pages() == pages as usize, "not as many pages");
+    Ok(cache)
+}
+
+/// Adds the keys of a page from the least on, which moves no node, at a wall time. Nothing is dropped.
+fn fill_front(alloc: Global, cache: &mut Cache, nodes: u32, page: u32, wall: u64) -> Result<()> {
+    let time = Timestamp::new(wall, 0).context("no time")?;
+    for place in 0..u64::from(nodes) {
+        let span = Span::point(key(alloc, place, page)?);
+        cache.add(&span, Value::unowned(time), Timestamp::ZERO)?;
+    }
+    Ok(())
+}
+
+/// Adds each of the spans at a wall time, while all older pages are past their retention.
+fn add_late(cache: &mut Cache, spans: &[Span], wall: u64) -> Result<()> {
+    let time = Timestamp::new(wall, 0).context("no time")?;
+    for span in spans {
+        ensure!(
+            cache.add(span, Value::unowned(time), Timestamp::MAX)?.kept,
+            "an Add is not kept"
+        );
+    }
+    Ok(())
+}
+
+/// Looks up each of the spans `turns` times.
+fn look_up(rt: &HostRuntime, cache: &Cache, spans: &[Span], turns: u32) -> Result<Figure> {
+    let mut latest = Value::unowned(Timestamp::ZERO);
+    let start = Instant::now(rt)?;
+    for _ in 0..turns {
+        for span in spans {
+            latest = ratchet(latest, cache.get_max(span)).0;
+        }
+    }
+    let took = start.elapsed(rt)?.as_nanos();
+    // what was looked up is used, so that no compiler leaves the lookups out
+    ensure!(cache.low_water() < latest.time(), "nothing was found");
+    figure_of(spans, turns, took)
+}
+
+/// Adds each of the spans `turns` times, in place, and each time a nanosecond later.
+fn add(rt: &HostRuntime, cache: &mut Cache, spans: &[Span], turns: u32) -> Result<Figure> {
+    let start = Instant::now(rt)?;
+    for turn in 0..turns {
+        for (i, span) in spans.iter().enumerate() {
+            let wall = u64::from(turn).saturating_add(i as u64).saturating_add(1);
+            let time = Timestamp::new(wall, 0).context("no time")?;
+            cache.add(span, Value::unowned(time), Timestamp::ZERO)?;
+        }
+    }
+    let took = start.elapsed(rt)?.as_nanos();
+    figure_of(spans, turns, took)
+}
+
+/// Adds each of the spans once by the next version, which takes the place of the one before it.
+fn make_versions(rt: &HostRuntime, cache: Cache, spans: &[Span]) -> Result<Figure> {
+    let mut newest = cache;
+    let start = Instant::now(rt)?;
+    for span in spans {
+        newest = newest
+            .next(span, Value::unowned(Timestamp::MAX), Timestamp::ZERO)?
+            .0;
+    }
+    figure_of(spans, 1, start.elapsed(rt)?.as_nanos())
+}
+
+/// Fills [`ROTATIONS`] more pages, and each time the oldest one is dropped.
+fn rotate(rt: &HostRuntime, cache: &mut Cache, nodes: u32, pages: u32) -> Result<Figure>
+    requires at_least { 64 ≤ nodes }
+{
+    let mut took: u128 = 0;
+    for page in pages..pages.saturating_add(ROTATIONS) {
+        let keys = spans(rt.alloc(), nodes, nodes, 0, page)?;
+        let start = Instant::now(rt)?;
+        add_late(cache, &keys, u64::from(page) + 1)?;
+        took = took.saturating_add(start.elapsed(rt)?.as_nanos());
+    }
+    ensure!(cache.pages() == pages as usize, "not as many pages");
+    Ok(Figure {
+        operations: u64::from(nodes) * u64::from(ROTATIONS),
+        nanoseconds: u64::try_from(took)?,
+    })
+}

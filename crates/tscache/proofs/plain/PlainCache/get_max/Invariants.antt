@@ -1,8 +1,0 @@
-use Rattle.std.proofs.Common.{◌≡◌, take}
-use Rattle.tsc_time.specs.Joint.{joint_above}
-use Rattle.tsc_page.specs.Page.{values_on}
-use Rattle.tscache.proofs.plain.PlainCache.get_max.Given as goal
-
--- the best so far is the joint value of what was met so far
-abbrev pub invariant-loop-mark : goal.invariant-loop-mark
-invariant-loop-mark l = l.best ≡ joint_above l.self.state.floor (values_on l.span (take l.mark-index l.mark-items))
