@@ -66,7 +66,7 @@ pub fn measure_caches(rt: &HostRuntime, nodes: u32, pages: u32, turns: u32) -> R
 
 /// A cache of so many full pages, each with keys of its own. All that is on them has one time, or that of a
 /// newer page is later.
-fn filled(rt: &HostRuntime, nodes: u32, pages: u32, rising: bool) -> Result<Cache> {
+pub fn filled(rt: &HostRuntime, nodes: u32, pages: u32, rising: bool) -> Result<Cache> {
     let config = Config::new(nodes, pages, 0, Timestamp::ZERO)?;
     let mut cache = Cache::new(rt.alloc(), config)?;
     for page in 0..pages {
@@ -100,7 +100,7 @@ fn add_late(cache: &mut Cache, spans: &[Span], wall: u64) -> Result<()> {
 }
 
 /// Looks up each of the spans `turns` times.
-fn look_up(rt: &HostRuntime, cache: &Cache, spans: &[Span], turns: u32) -> Result<Figure> {
+pub fn look_up(rt: &HostRuntime, cache: &Cache, spans: &[Span], turns: u32) -> Result<Figure> {
     let mut latest = Value::unowned(Timestamp::ZERO);
     let start = Instant::now(rt)?;
     for _ in 0..turns {

@@ -2,16 +2,19 @@
 //!
 //! `bench NODES..` fills a page with so many nodes, from 64 to 65,536, and then looks up and adds single
 //! keys, and ranges of 16 nodes. It prints how many operations it made and the nanoseconds of one. Then it
-//! does so to the caches, and prints too what each took as a percentage of what it took on the page. For
+//! does so to the caches, and prints too what each took as a percentage of what it took on the page, and
+//! compares lookups that stop at the newest of 17 pages with those in a single page, turn by turn. For
 //! two sizes and more it prints by how much each operation of a page grew from the first size to the last.
 //! `bench` alone makes a short run and prints no times.
 #![tactic(auto)]
 
 mod caches;
 mod measure;
+mod stops;
 
 use crate::caches::{CACHE_OPERATIONS, PAGES, measure_caches};
 use crate::measure::{Figures, LARGEST, OPERATIONS, SMALLEST, measure};
+use crate::stops::{MANY, STOPPING, measure_stops};
 use anyhow::{Context, Result, ensure};
 use std::env;
 
@@ -20,6 +23,9 @@ const TURNS: u32 = 200;
 
 /// And on a cache, whose lookups look into many pages.
 const CACHE_TURNS: u32 = 40;
+
+/// In how many rounds two caches are compared.
+const ROUNDS: u32 = 9;
 
 fn main(rt: HostRuntime) -> Result<()> {
     let words: Vec<String> = env::args(&rt)?.collect(rt.alloc())?;
@@ -36,6 +42,7 @@ fn main(rt: HostRuntime) -> Result<()> {
             println!(&rt; "{nodes} nodes, {name}: {operations} operations, {each} ns each")?;
         }
         print_caches(&rt, &figures)?;
+        print_stops(&rt, nodes)?;
         all.push(figures)?;
     }
     let Some((first, later)) = all.as_slice().split_first() else {
@@ -69,6 +76,19 @@ fn print_caches(rt: &HostRuntime, page: &Figures) -> Result<()> {
     Ok(())
 }
 
+/// Prints what lookups that stop at the newest of many pages take beside those in a single page.
+fn print_stops(rt: &HostRuntime, nodes: u32) -> Result<()> {
+    ensure!(SMALLEST <= nodes && nodes <= LARGEST, "no such page");
+    for (name, width) in STOPPING {
+        let stops = measure_stops(rt, nodes, width, ROUNDS, CACHE_TURNS)?;
+        let (least, median, greatest) = (stops.least, stops.median, stops.greatest);
+        println!(rt;
+            "{MANY} x {nodes} nodes, {name} that stops at the newest page, beside a single page in {ROUNDS} rounds: {median} % ({least} to {greatest})"
+        )?;
+    }
+    Ok(())
+}
+
 /// Makes each operation once at each place of a small page and of small caches, and prints no times.
 fn short_run(rt: &HostRuntime) -> Result<()> {
     let figures = measure(rt, SMALLEST, 1)?;
@@ -82,6 +102,9 @@ fn short_run(rt: &HostRuntime) -> Result<()> {
             let operations = figure.operations;
             println!(rt; "{pages} x {SMALLEST} nodes, {name}: {operations} operations")?;
         }
+    }
+    for (_, width) in STOPPING {
+        measure_stops(rt, SMALLEST, width, 2, 1)?;
     }
     Ok(())
 }

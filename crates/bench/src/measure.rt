@@ -54,6 +54,20 @@ pub struct Figure {
 }
 
 impl Figure {
+    /// What nothing took.
+    pub const NONE: Figure = Figure {
+        operations: 0,
+        nanoseconds: 0,
+    };
+
+    /// What both took together.
+    pub fn and(self, other: Figure) -> Figure {
+        Figure {
+            operations: self.operations.saturating_add(other.operations),
+            nanoseconds: self.nanoseconds.saturating_add(other.nanoseconds),
+        }
+    }
+
     /// The nanoseconds that one took.
     pub fn each(self) -> u64 {
         self.nanoseconds / self.operations.max(1)

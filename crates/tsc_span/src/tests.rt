@@ -45,7 +45,7 @@ type Made = (Way, &'static [u8], &'static [u8]);
 type Known = (&'static [&'static [u8]], &'static [&'static [u8]]);
 
 /// What a constructor gives. `None` is an inverted range.
-const SPANS: [(Made, Option<Known>); 26] = [
+static SPANS: [(Made, Option<Known>); 26] = [
     ((Way::Point, b"a", b""), Some((&[b"a"], &[b"a"]))),
     ((Way::Point, b"", b""), Some((&[b""], &[b""]))),
     ((Way::Range(NONE), b"a", b"a"), Some((&[b"a"], &[b"a"]))),
@@ -100,7 +100,7 @@ const SPANS: [(Made, Option<Known>); 26] = [
 ];
 
 /// Two spans, whether they overlap, and whether they are the same.
-const PAIRS: [(Made, Made, bool, bool); 10] = [
+static PAIRS: [(Made, Made, bool, bool); 10] = [
     (
         (Way::Range(NONE), b"a", b"a"),
         (Way::Point, b"a", b""),
@@ -240,17 +240,32 @@ fn keys_and_faults(rt: HostRuntime) -> Result<(), Fail> {
     Ok(())
 }
 
+/// The first row of a table of spans that doesn't hold.
+fn wrong_span(alloc: Global, rows: &[(Made, Option<Known>)]) -> Result<Option<usize>, Fail> {
+    for (i, (made, known)) in rows.iter().enumerate() {
+        if !holds(alloc, *made, *known)? {
+            return Ok(Some(i));
+        }
+    }
+    Ok(None)
+}
+
+/// The first row of a table of two spans that doesn't hold.
+fn wrong_pair(alloc: Global, rows: &[(Made, Made, bool, bool)]) -> Result<Option<usize>, Fail> {
+    for (i, (first, second, overlap, same)) in rows.iter().enumerate() {
+        let (first, second) = (make(alloc, *first)?, make(alloc, *second)?);
+        let overlaps = first.overlaps(&second) == *overlap && second.overlaps(&first) == *overlap;
+        if !overlaps || (first == second) != *same {
+            return Ok(Some(i));
+        }
+    }
+    Ok(None)
+}
+
 #[test]
 fn spans(rt: HostRuntime) -> Result<(), Fail> {
-    for (i, (made, known)) in SPANS.into_iter().enumerate() {
-        assert!(rt; holds(rt.alloc(), made, known)?, "row {i} of SPANS");
-    }
-    for (i, (first, second, overlap, same)) in PAIRS.into_iter().enumerate() {
-        let (first, second) = (make(rt.alloc(), first)?, make(rt.alloc(), second)?);
-        assert_eq!(rt; first.overlaps(&second), overlap, "row {i} of PAIRS");
-        assert_eq!(rt; second.overlaps(&first), overlap, "row {i} of PAIRS");
-        assert_eq!(rt; first == second, same, "row {i} of PAIRS");
-    }
+    assert_eq!(rt; wrong_span(rt.alloc(), &SPANS)?, None);
+    assert_eq!(rt; wrong_pair(rt.alloc(), &PAIRS)?, None);
     Ok(())
 }
 
