@@ -1,15 +1,3 @@
-pub mod LogExamples
-pub mod TraceTextExamples
-pub mod KeySets
-pub mod Items
-pub mod Owners
-pub mod Calls
-pub mod Totals
-pub mod Texts
-pub mod Playing
-pub mod ListSteps
-pub mod Reading
-pub mod Writing
 pub mod Statuses
 pub mod WordExamples
 pub mod WordLemmas

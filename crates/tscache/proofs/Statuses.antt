@@ -1,9 +1,9 @@
 -- What an exit status says of a fault.
 use Rattle.std.proofs.Common.{◌≡◌, ◌≢◌, ◌⊎◌, inl, inr, refl, arith}
-use Rattle.tscache.specs.declared.read.TraceFault.{TraceFault}
-use Rattle.tscache.specs.declared.read.TraceFault.TheVariants as trace_fault
-use Rattle.tscache.specs.declared.replay.ReplayFault.{ReplayFault}
-use Rattle.tscache.specs.declared.replay.ReplayFault.TheVariants.{Read, TooLong, Trace as Refused, Write, NoMemory}
+use Rattle.tsc_trace.specs.declared.read.TraceFault.{TraceFault}
+use Rattle.tsc_trace.specs.declared.read.TraceFault.TheVariants as trace_fault
+use Rattle.tsc_trace.specs.declared.replay.ReplayFault.{ReplayFault}
+use Rattle.tsc_trace.specs.declared.replay.ReplayFault.TheVariants.{Read, TooLong, Trace as Refused, Write, NoMemory}
 use Rattle.tscache.specs.Replay.{status_of}
 
 -- a replay of status 1 refused its trace

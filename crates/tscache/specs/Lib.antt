@@ -1,14 +1,3 @@
-pub mod Lists
-pub mod Trace
-pub mod TraceText
-pub mod Reading
-pub mod KeySet
-pub mod Log
-pub mod LogText
-pub mod Play
-pub mod PlayerParts
-pub mod Stream
-pub mod MeteredParts
+pub mod Commands
 pub mod Replay
 pub mod Words
-pub mod Commands

@@ -7,29 +7,22 @@
 
 ghost use Rattle.std.specs.Prelude.{◌≡◌, ◌≢◌, ◌⊎◌, ◌↔◌, ◌∷◌, [], ◌++◌, IfErr};
 ghost use Rattle.std.specs.Io.KnownBytes.{Appends};
-ghost use Rattle.tscache.specs.LogText.{line_feed};
+ghost use Rattle.tsc_trace.specs.LogText.{line_feed};
 ghost use Rattle.tscache.specs.Replay.{TellsOf};
-ghost use Rattle.tscache.specs.Stream.{GaveUp, HasWrittenPrefix};
+ghost use Rattle.tsc_trace.specs.Stream.{GaveUp, HasWrittenPrefix};
 ghost use Rattle.tscache.specs.Words.{refusal_text};
 
-#[cfg(test)]
-mod fakes;
-mod log;
-mod play;
-mod read;
 mod replay;
-mod stream;
-mod trace;
 mod words;
 
-use crate::replay::{ReplayFault, replay_command, status_of, tell};
-use crate::stream::{Metered, Sink, write_output};
+use crate::replay::{replay_command, status_of, tell};
 use crate::words::{Asked, NO_MEMORY, WRONG_WORDS};
 use std::env::Env;
 use std::io::ErrorKind;
 use std::process::ExitCode;
 use std::rt::Files;
 use std::{env, fs, io};
+use tsc_trace::{Metered, ReplayFault, Sink, write_output};
 
 fn main(rt: HostRuntime) -> ExitCode {
     let mut errors = Metered::new(rt.stderr());

@@ -1,7 +1,7 @@
 use Rattle.std.proofs.Common.{◌≡◌, ◌++◌, [], ◌∷◌, ◌⊎◌, ◌∙◌, inl, inr, Result, Ok, Err, OnOk, OnErr, List, ℕ, subst, rules}
 use Rattle.std.specs.Io.KnownBytes.{Appends}
-use Rattle.tscache.specs.LogText.{line_feed}
-use Rattle.tscache.specs.Stream.{GaveUp, HasWrittenPrefix}
+use Rattle.tsc_trace.specs.LogText.{line_feed}
+use Rattle.tsc_trace.specs.Stream.{GaveUp, HasWrittenPrefix}
 use Rattle.tscache.specs.Words.{refusal_text}
 use Rattle.tscache.proofs.tell_words.Goals.{then-status-eq-NO_MEMORY, else-status-eq-NO_MEMORY}
 use Rattle.tscache.proofs.tell_words.Goals as goal

@@ -1,9 +1,8 @@
 use super::{ReplayFault, replay_command, tell};
-use crate::fakes::{Faulty, Mishap};
-use crate::read::TraceFault;
-use crate::stream::Metered;
 use std::io;
 use std::io::Read;
+use tsc_trace::fakes::{Faulty, Mishap};
+use tsc_trace::{Metered, TraceFault};
 
 #[test]
 fn tells_each_fault_by_a_line(rt: HostRuntime) {

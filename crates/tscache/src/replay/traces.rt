@@ -1,9 +1,9 @@
 //! Whole replays, over memory.
 use super::replay_command;
-use crate::fakes::{Faulty, Mishap};
-use crate::stream::Metered;
 use std::alloc::Global;
 use std::test::Fail;
+use tsc_trace::Metered;
+use tsc_trace::fakes::{Faulty, Mishap};
 
 /// Two transactions read overlapping spans at one time.
 const OVERLAPPING_READS: &str =

@@ -1,6 +1,6 @@
 use Rattle.std.proofs.Common.{◌≡◌, Err, inr, sym, ap, subst, ◌∙◌, arith}
 use Rattle.tscache.specs.Replay.{Tells, status_of}
-use Rattle.tscache.specs.declared.replay.ReplayFault.{ReplayFault}
+use Rattle.tsc_trace.specs.declared.replay.ReplayFault.{ReplayFault}
 use Rattle.tscache.proofs.Statuses.{refused_of_status, failed_of_status, memory_of_status, within_of_other}
 use Rattle.tscache.proofs.replay.replay_command.Goals as goal
 

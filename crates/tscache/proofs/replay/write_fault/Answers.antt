@@ -2,10 +2,10 @@ use Rattle.std.proofs.Common.{◌++◌, [], ◌∷◌, subst, rules}
 use Rattle.std.proofs.KnownBytes.{Appends-trans}
 use Rattle.std.proofs.lemmas.Result.{on_err_weaker}
 use Rattle.std.specs.Io.KnownBytes.{Appends}
-use Rattle.tscache.specs.LogText.{line_feed}
+use Rattle.tsc_trace.specs.LogText.{line_feed}
 use Rattle.tscache.specs.Replay.{fault_text}
-use Rattle.tscache.specs.Stream.{HasWrittenPrefix}
-use Rattle.tscache.proofs.Writing.{HasWrittenPrefix-front, HasWrittenPrefix-behind}
+use Rattle.tsc_trace.specs.Stream.{HasWrittenPrefix}
+use Rattle.tsc_trace.proofs.Writing.{HasWrittenPrefix-front, HasWrittenPrefix-behind}
 use Rattle.tscache.proofs.replay.write_fault.Goals as goal
 
 pub returns-in_err-write_output-2-clause-prefix : goal.returns-in_err-write_output-2-clause-prefix

@@ -1,0 +1,81 @@
+-- A whole run: a trace, the log that it gives, and the text of that log.
+use Rattle.std.specs.Prelude.{◌≡◌, ℕ, List, [], ◌∷◌, ◌++◌, true, false, codes, refl}
+use Rattle.tsc_time.specs.OwnedTime.{unowned}
+use Rattle.tsc_span.specs.Span.{point}
+use Rattle.tsc_cache.proofs.ExampleSettings.{at, of_first, of_second, usual, twenty, without_end, added}
+use Rattle.tsc_trace.specs.Log.{log_of}
+use Rattle.tsc_trace.specs.LogText.{log_text}
+use Rattle.tsc_trace.specs.declared.trace.Call.{Call}
+use Rattle.tsc_trace.specs.declared.trace.Call.TheVariants.{Add, Get, Low}
+use Rattle.tsc_trace.specs.declared.trace.Trace.{Trace}
+use Rattle.tsc_trace.specs.declared.log.Line.{Line}
+use Rattle.tsc_trace.specs.declared.log.Said.TheVariants as said
+use Rattle.std.specs.Fmt.{digits}
+use Rattle.uuid.specs.Text.{by_index}
+
+-- a range of one transaction, a point of the other inside it, and lookups
+abbrev pub example_calls : List Call
+example_calls =
+    Add (without_end (codes "a") (codes "c")) (of_first twenty) twenty
+    ∷ Get (point (codes "b"))
+    ∷ Get (point (codes "c"))
+    ∷ Add (point (codes "b")) (of_second twenty) twenty
+    ∷ Get (point (codes "b"))
+    ∷ Low
+    ∷ []
+
+abbrev pub example_trace : Trace
+example_trace = record { config = usual; threads = example_calls ∷ [] }
+
+abbrev pub example_log : List Line
+example_log =
+    record { thread = 0; index = 0; said = said.Add 0 (added true false 0) }
+    ∷ record { thread = 0; index = 1; said = said.Get 1 (of_first twenty) }
+    ∷ record { thread = 0; index = 2; said = said.Get 1 (unowned (at 5 0)) }
+    ∷ record { thread = 0; index = 3; said = said.Add 1 (added true false 0) }
+    ∷ record { thread = 0; index = 4; said = said.Get 2 (unowned twenty) }
+    ∷ record { thread = 0; index = 5; said = said.Low 2 (at 5 0) }
+    ∷ []
+
+pub the_log_of_a_trace : log_of example_trace ≡ example_log
+the_log_of_a_trace = refl
+
+-- a text with a line feed behind it
+abbrev pub ended : List ℕ → List ℕ
+ended text = text ++ 10 ∷ []
+
+abbrev pub example_log_text : List ℕ
+example_log_text =
+    ended (codes "0 0 add 0 1 0 0")
+    ++ ended (codes "0 1 get 1 20.0 11111111-1111-4111-8111-111111111111")
+    ++ ended (codes "0 2 get 1 5.0 none")
+    ++ ended (codes "0 3 add 1 1 0 0")
+    ++ ended (codes "0 4 get 2 20.0 none")
+    ++ ended (codes "0 5 low 2 5.0")
+
+pub the_text_of_a_log : log_text example_log ≡ example_log_text
+unfolding digits by_index
+the_text_of_a_log = refl
+
+-- ---- several lists
+
+-- An Add, a later Add of another transaction, and a lookup, each in a list of its own.
+abbrev pub three_lists : Trace
+three_lists = record {
+  config = usual;
+  threads = (Add (point (codes "a")) (of_first twenty) twenty ∷ [])
+      ∷ (Add (point (codes "a")) (of_second (at 30 0)) twenty ∷ [])
+      ∷ (Get (point (codes "a")) ∷ [])
+      ∷ [];
+}
+
+pub lists_are_played_one_after_another :
+    log_of three_lists
+    ≡ record { thread = 0; index = 0; said = said.Add 0 (added true false 0) }
+    ∷ record { thread = 1; index = 0; said = said.Add 1 (added true false 0) }
+    ∷ record { thread = 2; index = 0; said = said.Get 2 (of_second (at 30 0)) }
+    ∷ []
+lists_are_played_one_after_another = refl
+
+pub a_trace_of_one_empty_list_has_no_lines : log_of (record { config = usual; threads = [] ∷ [] }) ≡ []
+a_trace_of_one_empty_list_has_no_lines = refl

@@ -1,0 +1,12 @@
+pub mod Lists
+pub mod Trace
+pub mod TraceText
+pub mod Reading
+pub mod KeySet
+pub mod Log
+pub mod LogText
+pub mod Play
+pub mod PlayerParts
+pub mod Stream
+pub mod MeteredParts
+pub mod Replay

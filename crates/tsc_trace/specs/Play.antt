@@ -1,0 +1,48 @@
+-- A replay that goes on from where it stands, in place of making each state anew.
+use Rattle.std.specs.Prelude.{ℕ, suc, List, [], ◌∷◌, ◌++◌, length}
+use Rattle.tsc_cache.specs.Settings.{Settings}
+use Rattle.tsc_cache.specs.State.{CacheState, step, look}
+use Rattle.tsc_cache.specs.History.{History, state_of}
+use Rattle.tsc_trace.specs.declared.trace.Call.{Call}
+use Rattle.tsc_trace.specs.declared.trace.Call.TheVariants.{Add, Get, Low}
+use Rattle.tsc_trace.specs.declared.log.Line.{Line}
+use Rattle.tsc_trace.specs.declared.log.Said.{Said}
+use Rattle.tsc_trace.specs.declared.log.Said.TheVariants as said
+
+-- where a replay stands: the state of the cache, and how many Adds there were
+pub record Standing : Type 0 where
+  pub state : CacheState
+  pub adds : ℕ
+
+-- where it stands after a history
+abbrev pub standing_after : Settings → History → Standing
+standing_after settings h = record { state = state_of settings h; adds = length h }
+
+-- what a call answers there
+abbrev pub said_at : Settings → Standing → Call → Said
+said_at settings at (Add span value now) = said.Add at.adds (step settings at.state (record { span = span; value = value }) now).added
+said_at settings at (Get span) = said.Get at.adds (look at.state span)
+said_at settings at Low = said.Low at.adds at.state.floor
+
+-- where the replay stands after a call
+abbrev pub next : Settings → Standing → Call → Standing
+next settings at (Add span value now) = record { state = (step settings at.state (record { span = span; value = value }) now).state; adds = suc at.adds }
+next settings at (Get span) = at
+next settings at Low = at
+
+-- after some calls
+abbrev pub next_all : Settings → Standing → List Call → Standing
+next_all settings at [] = at
+next_all settings at (call ∷ calls) = next_all settings (next settings at call) calls
+
+-- the lines of one list, from a place in it on
+abbrev pub played : Settings → ℕ → ℕ → Standing → List Call → List Line
+played settings thread index at [] = []
+played settings thread index at (call ∷ calls) =
+    record { thread = thread; index = index; said = said_at settings at call } ∷ played settings thread (suc index) (next settings at call) calls
+
+-- the lines of lists, from the list with this number on
+abbrev pub played_lists : Settings → ℕ → Standing → List (List Call) → List Line
+played_lists settings thread at [] = []
+played_lists settings thread at (calls ∷ lists) =
+    played settings thread 0 at calls ++ played_lists settings (suc thread) (next_all settings at calls) lists

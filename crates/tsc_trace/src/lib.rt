@@ -1,0 +1,23 @@
+//! Recorded traces of the timestamp cache, the logs of what a run answered, and replays.
+//!
+//! A [`Trace`] is a configuration and lists of calls. [`read_trace`] reads one, [`play`] makes its calls one
+//! after another over a [`Cache`](tsc_cache::Cache), and [`log_text`] is the text of the [`Log`] of their
+//! answers. [`replay_stream`] does all three, from a reader to a writer.
+#![tactic(auto)]
+
+pub mod fakes;
+mod log;
+mod player;
+mod read;
+mod replay;
+mod stream;
+mod trace;
+
+pub use log::{Line, Lines, Log, Said, log_text};
+pub use player::play;
+pub use read::{TraceFault, read_trace};
+pub use replay::{ReplayFault, replay_stream};
+pub use stream::{
+    InputFault, Metered, OutputFault, Sink, Source, Trouble, read_input, write_output,
+};
+pub use trace::{Call, Lists, Trace};

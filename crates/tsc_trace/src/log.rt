@@ -1,0 +1,131 @@
+ghost use Rattle.std.specs.Prelude.{◌≡◌, IfOk};
+ghost use Rattle.tsc_trace.specs.LogText.{bit_text, log_text};
+
+use std::alloc::Global;
+use std::fmt;
+use std::fmt::Write;
+use std::marker::Model;
+use tsc_cache::Added;
+use tsc_time::{NoMemory, Timestamp, Value};
+
+/// What a call answered.
+#[derive(Clone, Copy, Debug, PartialEq, Eq)]
+pub enum Said {
+    /// The place of the Add among all Adds, counted from 0, and what it did.
+    Add { place: u64, added: Added },
+    /// How many Adds came before the lookup, and its value.
+    Get { front: u64, value: Value },
+    /// How many Adds came before, and where the floor stood.
+    Low { front: u64, time: Timestamp },
+}
+
+/// One line of a log: the list and the place in it of a call, both counted from 0, and its answer.
+#[derive(Clone, Copy, Debug, PartialEq, Eq)]
+pub struct Line {
+    pub thread: u32,
+    pub index: u32,
+    pub said: Said,
+}
+
+/// The lines of a log: those of the first list in the order of its calls, then those of the next.
+#[derive(Debug, Drop)]
+pub struct Lines {
+    lines: Vec<Line>,
+}
+
+impl Model for Lines {
+    ghost use Rattle.std.specs.Prelude.{List};
+    ghost use Rattle.tsc_trace.specs.declared.log.Line.{Line};
+
+    ghost Value = { List Line };
+
+    ghost view = { λ l. l.lines.items };
+}
+
+impl Lines {
+    /// These lines.
+    pub fn of(lines: Vec<Line>) -> Lines
+        ensures { result ≡ lines.items }
+    {
+        Lines { lines }
+    }
+
+    /// The lines as a slice.
+    pub fn slice(&self) -> &[Line]
+        ensures { result.now ≡ self.now }
+    {
+        self.lines.as_slice()
+    }
+}
+
+/// What a run answered.
+#[derive(Debug, Drop)]
+pub struct Log {
+    pub lines: Lines,
+}
+
+/// `1` for yes, and `0` for no.
+fn bit(b: bool) -> &'static str
+    ensures { result.now ≡ bit_text b }
+{
+    if b { "1" } else { "0" }
+}
+
+impl fmt::Display for Said {
+    ghost use Rattle.std.specs.Prelude.{Some};
+    ghost use Rattle.tsc_trace.specs.LogText.{said_text};
+
+    ghost output = { λ said. Some (said_text said) };
+
+    fn fmt<W: fmt::Write>(&self, f: &mut fmt::Formatter<W>) -> fmt::Result {
+        match self {
+            Said::Add { place, added } => {
+                let kept = bit(added.kept);
+                let rotated = bit(added.rotated);
+                let evicted = added.evicted;
+                write!(f, "add {place} {kept} {rotated} {evicted}")
+            }
+            Said::Get { front, value } => {
+                let time = value.time();
+                let wall = time.wall();
+                let logical = time.logical();
+                match value.owner() {
+                    Some(owner) => write!(f, "get {front} {wall}.{logical} {owner}"),
+                    None => write!(f, "get {front} {wall}.{logical} none"),
+                }
+            }
+            Said::Low { front, time } => {
+                let wall = time.wall();
+                let logical = time.logical();
+                write!(f, "low {front} {wall}.{logical}")
+            }
+        }
+    }
+}
+
+impl fmt::Display for Line {
+    ghost use Rattle.std.specs.Prelude.{Some};
+    ghost use Rattle.tsc_trace.specs.LogText.{line_text};
+
+    ghost output = { λ line. Some (line_text line) };
+
+    fn fmt<W: fmt::Write>(&self, f: &mut fmt::Formatter<W>) -> fmt::Result {
+        let thread = self.thread;
+        let index = self.index;
+        let said = self.said;
+        write!(f, "{thread} {index} {said}")
+    }
+}
+
+/// The text of a log: its lines, each ended by a line feed. The text of no lines is empty.
+///
+/// The text is made whole in memory, and the time is linear in it.
+pub fn log_text(alloc: Global, log: &Log) -> Result<Vec<u8>, NoMemory>
+    ensures { IfOk result (λ text. text.items ≡ log_text log.now.lines) }
+{
+    let mut text = String::new(alloc);
+    for line in log.lines.slice() {
+        writeln!(text, "{line}")?;
+    }
+    Ok(text.into_bytes())
+}

@@ -1,0 +1,83 @@
+ghost use Rattle.std.specs.Prelude.{◌≡◌, ◌≤◌, ◌∷◌, [], length, option_map, slice_get, IfOk, IfSome};
+ghost use Rattle.tsc_trace.specs.Lists.{most_lists, most_calls};
+
+use std::alloc::{AllocError, Global};
+use std::marker::Model;
+use tsc_cache::Config;
+use tsc_span::Span;
+use tsc_time::{Timestamp, Value};
+
+/// A recorded run: a configuration, and lists of calls.
+#[derive(Debug, Drop)]
+pub struct Trace {
+    pub config: Config,
+    pub threads: Lists,
+}
+
+/// One call of a trace.
+#[derive(Debug, Drop)]
+pub enum Call {
+    /// Adds a span with its value, at the moment `now`.
+    Add {
+        span: Span,
+        value: Value,
+        now: Timestamp,
+    },
+    /// Asks for the value of a span.
+    Get {
+        span: Span,
+    },
+    /// Asks where the floor stands.
+    Low,
+}
+
+/// The lists of a trace: 1 to 64 lists of calls, with at most 65,536 calls in all.
+#[derive(Debug, Drop)]
+pub struct Lists {
+    lists: Vec<Vec<Call>>,
+}
+
+impl Model for Lists {
+    ghost use Rattle.std.specs.Prelude.{◌≡◌, true, List, map};
+    ghost use Rattle.tsc_trace.specs.declared.trace.Call.{Call};
+    ghost use Rattle.tsc_trace.specs.Lists.{fits_trace};
+
+    ghost Value = { List (List Call) };
+
+    ghost view = { λ a. map (λ calls. calls.items) a.lists.items };
+
+    ghost invariant = { λ a. fits_trace (map (λ calls. calls.items) a.lists.items) ≡ true };
+}
+
+impl Lists {
+    /// One list of calls.
+    pub(crate) fn one(alloc: Global, calls: Vec<Call>) -> Result<Lists, AllocError>
+        requires { length calls.items ≤ most_calls }
+        ensures { IfOk result (λ lists. lists ≡ calls.items ∷ []) }
+    {
+        let mut lists = Vec::new(alloc);
+        lists.push(calls)?;
+        Ok(Lists { lists })
+    }
+
+    /// How many lists there are.
+    pub fn len(&self) -> usize
+        ensures value { result ≡ length self.now }
+        ensures some { 1 ≤ result }
+        ensures few { result ≤ most_lists }
+    {
+        self.lists.len()
+    }
+
+    /// A list by its number.
+    pub fn list(&self, i: usize) -> Option<&[Call]>
+        ensures value { option_map (λ calls. calls.now) result ≡ slice_get self.now i }
+        ensures few { IfSome result (λ calls. length calls.now ≤ most_calls) }
+    {
+        if i < self.lists.len() {
+            Some(self.lists[i].as_slice())
+        } else {
+            None
+        }
+    }
+}
