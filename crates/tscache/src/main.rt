@@ -6,10 +6,8 @@
 #![tactic(auto)]
 
 ghost use Rattle.std.specs.Prelude.{◌≡◌, ◌≢◌, ◌⊎◌, ◌↔◌, ◌∷◌, [], ◌++◌, IfErr};
-ghost use Rattle.std.specs.Io.KnownBytes.{Appends};
 ghost use Rattle.tsc_trace.specs.LogText.{line_feed};
-ghost use Rattle.tscache.specs.Replay.{TellsOf};
-ghost use Rattle.tsc_trace.specs.Stream.{GaveUp, HasWrittenPrefix};
+ghost use Rattle.tscache.specs.Replay.{Tells, fault_line, status_of};
 ghost use Rattle.tscache.specs.Words.{refusal_text};
 
 mod replay;
@@ -61,10 +59,7 @@ fn status_of_unread(kind: ErrorKind) -> u8
 
 /// Tells why the words asked for nothing, where that can be written.
 fn tell_words<E: Sink>(errors: &mut E, status: u8)
-    ensures { (let line = refusal_text status ++ line_feed ∷ [] in
-        Appends (E.contents errors.old) (E.contents errors.new) line
-        ⊎ (GaveUp (E.has_failed errors.new) (E.turns_left errors.new)
-        × HasWrittenPrefix (E.contents errors.old) (E.contents errors.new) line)) }
+    ensures { Tells (refusal_text status ++ line_feed ∷ []) (E.known errors.old) (E.known errors.new) }
 {
     let line = if status == NO_MEMORY {
         "out of memory\n"
@@ -76,11 +71,10 @@ fn tell_words<E: Sink>(errors: &mut E, status: u8)
 
 /// Replays the trace in a file to standard output, and gives the exit status.
 fn replay_file<R: Files + Print + AllocGlobal, E: Sink>(rt: &R, errors: &mut E, file: &str) -> u8
-    ensures status { (result ≡ 0) ⊎ ((result ≡ 1) ⊎ ((result ≡ 4) ⊎ (result ≡ 5))) }
     // Nothing is told of a replay, and of all else a fault with the status that is given.
-    ensures told { ((result ≡ 0) × (errors.new ≡ errors.old))
-        ⊎ TellsOf result (E.contents errors.old) (E.contents errors.new)
-        (E.has_failed errors.new) (E.turns_left errors.new) }
+    ensures told { ((result ≡ 0) × (E.known errors.new ≡ E.known errors.old))
+        ⊎ ((fault : ReplayFault) × (result ≡ status_of fault)
+        × Tells (fault_line fault) (E.known errors.old) (E.known errors.new)) }
 {
     match fs::open(rt, file) {
         Ok(trace) => {
