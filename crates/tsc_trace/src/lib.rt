@@ -11,6 +11,8 @@ mod player;
 mod read;
 mod replays;
 mod stream;
+#[cfg(test)]
+mod tests;
 mod trace;
 
 pub use log::{Line, Lines, Log, Said, log_text};
