@@ -1,11 +1,10 @@
 pub mod LogExamples
 pub mod TraceTextExamples
-pub mod KeySets
 pub mod Items
-pub mod Owners
 pub mod Calls
-pub mod Totals
+pub mod Owners
 pub mod Texts
+pub mod Totals
 pub mod Playing
 pub mod ListSteps
 pub mod Input

@@ -1,8 +1,9 @@
 pub mod Lists
 pub mod Trace
+pub mod TraceParts
 pub mod TraceText
 pub mod Reading
-pub mod KeySet
+pub mod Rows
 pub mod Log
 pub mod LogText
 pub mod Play
