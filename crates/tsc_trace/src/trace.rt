@@ -57,6 +57,14 @@ impl Lists {
         Lists { lists }
     }
 
+    /// The lists as a slice.
+    pub(crate) fn slice(&self) -> &[Vec<Call>]
+        ensures value { map (λ calls. calls.items) result.now ≡ self.now }
+        ensures fits { fits_trace self.now ≡ true }
+    {
+        self.lists.as_slice()
+    }
+
     /// How many lists there are.
     pub fn len(&self) -> usize
         ensures value { result ≡ length self.now }
