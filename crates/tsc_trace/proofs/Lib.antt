@@ -4,6 +4,7 @@ pub mod Items
 pub mod Calls
 pub mod Owners
 pub mod Texts
+pub mod AnyOrder
 pub mod Totals
 pub mod Playing
 pub mod ListSteps

@@ -2,6 +2,8 @@ pub mod Lists
 pub mod Trace
 pub mod TraceParts
 pub mod TraceText
+pub mod TraceData
+pub mod TraceLaws
 pub mod Reading
 pub mod Rows
 pub mod Log

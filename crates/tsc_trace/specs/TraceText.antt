@@ -176,13 +176,22 @@ form_of start None (Some ends) _ = Err Shape
 form_of start (Some end) None (Some side) = Err Shape
 form_of start (Some end) (Some ends) (Some side) = Err Shape
 
+-- the members that a span may have
+abbrev pub span_names : List (List ℕ)
+span_names = codes "start" ∷ codes "end" ∷ codes "ends" ∷ codes "onward" ∷ []
+
+-- the form of a span with these members
+abbrev pub form_in : Members → Part SpanForm
+form_in ms = do
+  start ← needed (codes "start") ms
+  form_of start (get_member (codes "end") ms) (get_member (codes "ends") ms) (get_member (codes "onward") ms)
+
 -- the form of the span that a JSON value is
 unfoldable pub span_form : Data → Part SpanForm
 span_form d = do
   ms ← object_of d
-  ms ← only_named (codes "start" ∷ codes "end" ∷ codes "ends" ∷ codes "onward" ∷ []) ms
-  start ← needed (codes "start") ms
-  form_of start (get_member (codes "end") ms) (get_member (codes "ends") ms) (get_member (codes "onward") ms)
+  ms ← only_named span_names ms
+  form_in ms
 
 -- the span of a form, unless it is inverted
 unfoldable pub span_of_form : SpanForm → Option Interval
@@ -205,21 +214,39 @@ looked_up_span d = do
 
 -- ---- calls
 
--- an Add, by its members
-unfoldable pub add_of : Members → Part Call
-add_of ms = do
-  ms ← only_named (codes "op" ∷ codes "span" ∷ codes "time" ∷ codes "owner" ∷ codes "now" ∷ []) ms
+-- the members that an Add may have
+abbrev pub add_names : List (List ℕ)
+add_names = codes "op" ∷ codes "span" ∷ codes "time" ∷ codes "owner" ∷ codes "now" ∷ []
+
+-- the Add with these members
+abbrev pub add_in : Members → Part Call
+add_in ms = do
   parts ← both
       (both (needed_as (codes "span") added_span ms) (needed_as (codes "time") time_of ms))
       (both (owner_member (get_member (codes "owner") ms)) (needed_as (codes "now") time_of ms))
   Ok (Add parts.0.0 (record { time = parts.0.1; owner = parts.1.0 }) parts.1.1)
 
+-- an Add, by its members
+unfoldable pub add_of : Members → Part Call
+add_of ms = do
+  ms ← only_named add_names ms
+  add_in ms
+
+-- the members that a lookup may have
+abbrev pub get_names : List (List ℕ)
+get_names = codes "op" ∷ codes "span" ∷ []
+
+-- the lookup with these members
+abbrev pub get_in : Members → Part Call
+get_in ms = do
+  span ← needed_as (codes "span") looked_up_span ms
+  Ok (Get span)
+
 -- a lookup, by its members
 unfoldable pub get_of : Members → Part Call
 get_of ms = do
-  ms ← only_named (codes "op" ∷ codes "span" ∷ []) ms
-  span ← needed_as (codes "span") looked_up_span ms
-  Ok (Get span)
+  ms ← only_named get_names ms
+  get_in ms
 
 -- a call for the floor, which has no member beside its name
 unfoldable pub low_of : Members → Part Call
@@ -263,12 +290,20 @@ lists_in (d ∷ ds) = do
 unfoldable pub lists_of : Data → Part (List (List Data))
 lists_of d = array_of d >>= lists_in
 
--- the head of a trace: its numbers, and its lists of what should be calls
+-- the members that a head may have
+abbrev pub head_names : List (List ℕ)
+head_names = codes "page_nodes" ∷ codes "min_pages" ∷ codes "retention" ∷ codes "low_water" ∷ codes "threads" ∷ []
+
+-- the head with these members: its numbers, and its lists of what should be calls
+abbrev pub head_in : Members → Part (((ℕ × ℕ) × (ℕ × Time)) × List (List Data))
+head_in ms = both (numbers_in ms) (needed_as (codes "threads") lists_of ms)
+
+-- the head of a trace
 unfoldable pub head_of : Data → Part (((ℕ × ℕ) × (ℕ × Time)) × List (List Data))
 head_of d = do
   ms ← object_of d
-  ms ← only_named (codes "page_nodes" ∷ codes "min_pages" ∷ codes "retention" ∷ codes "low_water" ∷ codes "threads" ∷ []) ms
-  both (numbers_in ms) (needed_as (codes "threads") lists_of ms)
+  ms ← only_named head_names ms
+  head_in ms
 
 -- the configuration of the numbers of a head
 unfoldable pub settings_in : (ℕ × ℕ) × (ℕ × Time) → Result Settings TraceFault

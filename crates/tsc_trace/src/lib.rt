@@ -6,6 +6,7 @@
 #![tactic(auto)]
 
 pub mod fakes;
+pub mod laws;
 mod log;
 mod player;
 mod read;

@@ -1,1 +1,437 @@
 use super::*;
+use crate::trace::Call;
+use std::test::*;
+
+/// What reading tells: how many calls there are, or the fault.
+type Told = Result<usize, TraceFault>;
+
+const CONFIG: Told = Err(TraceFault::Config);
+
+/// Faults of the head.
+const HEAD_SHAPE: Told = Err(TraceFault::Shape(0));
+
+const HEAD_NUMBER: Told = Err(TraceFault::Number(0));
+
+/// Faults of the first call.
+const SHAPE: Told = Err(TraceFault::Shape(1));
+
+const NUMBER: Told = Err(TraceFault::Number(1));
+
+const HEX: Told = Err(TraceFault::Hex(1));
+
+const UUID: Told = Err(TraceFault::Uuid(1));
+
+const SPAN: Told = Err(TraceFault::Span(1));
+
+/// The members of a head beside its lists.
+const HEAD: &str = r#""page_nodes":4,"min_pages":2,"retention":10,"low_water":[5,0]"#;
+
+/// `page_nodes`, `min_pages`, `retention`, `low_water` and `threads`, and what is told of them.
+static HEADS: [(&str, &str, &str, &str, &str, Told); 21] = [
+    ("4", "2", "10", "[5]", "[[]]", HEAD_SHAPE),
+    ("4", "2", "10", "[5,0,0]", "[[]]", HEAD_SHAPE),
+    ("4", "2", "10", "[5,null]", "[[]]", HEAD_SHAPE),
+    (r#""4""#, "2", "10", "[5,0]", "[[]]", HEAD_SHAPE),
+    ("4294967296", "2", "10", "[5]", "[[]]", HEAD_SHAPE),
+    ("4294967296", "2", "10", "[5,0]", "[7]", HEAD_SHAPE),
+    ("4294967296", "2", "10", "[5,0]", "[[]]", HEAD_NUMBER),
+    ("4294967296", "2", "10", "[5,0]", "[[{}]]", HEAD_NUMBER),
+    ("4", "4294967296", "10", "[5,0]", "[]", HEAD_NUMBER),
+    (
+        "4",
+        "2",
+        "18446744073709551616",
+        "[5,0]",
+        "[[]]",
+        HEAD_NUMBER,
+    ),
+    (
+        "4",
+        "2",
+        "10",
+        "[9223372036854775808,0]",
+        "[[]]",
+        HEAD_NUMBER,
+    ),
+    ("4", "2", "10", "[5,2147483648]", "[[]]", HEAD_NUMBER),
+    ("4", "2", "10", "[5,4294967296]", "[[]]", HEAD_NUMBER),
+    ("2.0", "2", "10", "[5,0]", "[[]]", HEAD_NUMBER),
+    ("2", "2", "2e1", "[5,0]", "[[]]", HEAD_NUMBER),
+    ("1", "2", "10", "[5,0]", "[[]]", CONFIG),
+    ("4294967295", "2", "10", "[5,0]", "[[]]", CONFIG),
+    ("4", "65", "10", "[5,0]", "[[]]", CONFIG),
+    ("4", "2", "18446744073709551615", "[5,0]", "[[]]", CONFIG),
+    ("1", "2", "10", "[5,0]", r#"[[{"op":"low","x":1}]]"#, CONFIG),
+    (
+        "65536",
+        "64",
+        "9223372036854775807",
+        "[9223372036854775807,2147483647]",
+        "[[]]",
+        Ok(0),
+    ),
+];
+
+/// The members of a head beside one empty list.
+static MEMBERS: [(&str, Told); 5] = [
+    (r#""page_nodes":4,"min_pages":2,"retention":10"#, HEAD_SHAPE),
+    (
+        r#""page_nodes":4,"min_pages":2,"retention":10,"low_water":[5,0],"x":1"#,
+        HEAD_SHAPE,
+    ),
+    (
+        r#""page_nodes":4294967296,"min_pages":2,"retention":10,"low_water":[5,0],"x":1"#,
+        HEAD_SHAPE,
+    ),
+    (
+        r#""page_nodes":1,"page_nodes":2,"min_pages":2,"retention":10,"low_water":[5,0]"#,
+        Ok(0),
+    ),
+    (
+        r#""page_nodes":2,"page_nodes":1,"min_pages":2,"retention":10,"low_water":[5,0]"#,
+        CONFIG,
+    ),
+];
+
+/// A call that is the only one of a trace.
+static CALLS: [(&str, Told); 44] = [
+    (r#"{"op":"low","op":"get","span":{"start":"61"}}"#, Ok(1)),
+    ("7", SHAPE),
+    ("{}", SHAPE),
+    (r#"{"op":7}"#, SHAPE),
+    (r#"{"op":"drop"}"#, SHAPE),
+    (r#"{"op":"low","x":1}"#, SHAPE),
+    (r#"{"op":"get"}"#, SHAPE),
+    (r#"{"op":"get","span":{"start":"61"},"now":[1,0]}"#, SHAPE),
+    (r#"{"op":"add","span":{"start":"61"},"time":[20,0]}"#, SHAPE),
+    (
+        r#"{"op":"add","span":{"start":"61"},"time":[20],"now":[20,0]}"#,
+        SHAPE,
+    ),
+    (
+        r#"{"op":"add","span":{"start":"61"},"time":[20,0],"now":[20,0],"owner":7}"#,
+        SHAPE,
+    ),
+    (r#"{"op":"get","span":"61"}"#, SHAPE),
+    (r#"{"op":"get","span":{}}"#, SHAPE),
+    (r#"{"op":"get","span":{"start":61}}"#, SHAPE),
+    (r#"{"op":"get","span":{"start":"61","end":null}}"#, SHAPE),
+    (r#"{"op":"get","span":{"start":"61","to":"62"}}"#, SHAPE),
+    (r#"{"op":"get","span":{"start":"61","ends":"[]"}}"#, SHAPE),
+    (
+        r#"{"op":"get","span":{"start":"61","end":"62","ends":"[["}}"#,
+        SHAPE,
+    ),
+    (
+        r#"{"op":"get","span":{"start":"61","end":"62","ends":"["}}"#,
+        SHAPE,
+    ),
+    (r#"{"op":"get","span":{"start":"61","onward":")"}}"#, SHAPE),
+    (r#"{"op":"get","span":{"start":"61","onward":true}}"#, SHAPE),
+    (
+        r#"{"op":"get","span":{"start":"61","end":"62","onward":"["}}"#,
+        SHAPE,
+    ),
+    (
+        r#"{"op":"get","span":{"start":"61","end":"62","ends":"[]","onward":"["}}"#,
+        SHAPE,
+    ),
+    (
+        r#"{"op":"get","span":{"start":"61","ends":"[]","onward":"["}}"#,
+        SHAPE,
+    ),
+    (
+        r#"{"op":"add","span":{"start":"61"},"time":[20,2147483648],"now":[20,0]}"#,
+        NUMBER,
+    ),
+    (
+        r#"{"op":"add","span":{"start":"61"},"time":[-1,0],"now":[20,0]}"#,
+        NUMBER,
+    ),
+    (
+        r#"{"op":"add","span":{"start":"61"},"time":[1.5,0],"now":[20,0]}"#,
+        NUMBER,
+    ),
+    (
+        r#"{"op":"add","span":{"start":"61"},"time":[9223372036854775807,2147483647],"now":[20,0]}"#,
+        Ok(1),
+    ),
+    (r#"{"op":"get","span":{"start":"6"}}"#, HEX),
+    (r#"{"op":"get","span":{"start":"6g"}}"#, HEX),
+    (r#"{"op":"get","span":{"start":"61","end":"6"}}"#, HEX),
+    (
+        r#"{"op":"add","span":{"start":"61"},"time":[20,0],"now":[20,0],"owner":"xyz"}"#,
+        UUID,
+    ),
+    (
+        r#"{"op":"add","span":{"start":"63","end":"61"},"time":[20,0],"now":[20,0]}"#,
+        SPAN,
+    ),
+    (
+        r#"{"op":"add","span":{"start":"63","end":"61","ends":"[]"},"time":[20,0],"now":[20,0]}"#,
+        SPAN,
+    ),
+    (r#"{"op":"get","span":{"start":"63","end":"61"}}"#, Ok(1)),
+    (
+        r#"{"op":"add","span":{"start":"6"},"time":[-1,0],"now":[20,0]}"#,
+        NUMBER,
+    ),
+    (
+        r#"{"op":"add","span":{"start":"6"},"time":[20,0],"now":[-1,0],"owner":"xyz"}"#,
+        NUMBER,
+    ),
+    (
+        r#"{"op":"add","span":{"start":"63","end":"61"},"time":[20,0],"now":[20,0],"owner":"xyz"}"#,
+        UUID,
+    ),
+    (
+        r#"{"op":"add","span":{"start":"6"},"time":[20,0],"now":[20,0],"owner":"xyz"}"#,
+        HEX,
+    ),
+    (
+        r#"{"op":"add","span":{"start":"6"},"time":[-1,0],"now":[20,0],"owner":7}"#,
+        SHAPE,
+    ),
+    (
+        r#"{"op":"add","span":{"start":"6"},"time":[-1,0],"now":[20]}"#,
+        SHAPE,
+    ),
+    (
+        r#"{"op":"add","span":{"start":"6"},"time":[-1,"x"],"now":[20,0]}"#,
+        SHAPE,
+    ),
+    (
+        r#"{"op":"get","span":{"start":"6","end":"61","ends":"<>"}}"#,
+        SHAPE,
+    ),
+    (r#"{"op":"get","span":{"start":"6","onward":"]"}}"#, SHAPE),
+];
+
+/// Lists of calls, which are numbered on through all of them; the first that has a fault decides.
+static THREADS: [(&str, Told); 10] = [
+    ("[[]]", Ok(0)),
+    ("[[],[]]", Ok(0)),
+    (r#"[[{"op":"low"}],[{"op":"low"},{"op":"low"}]]"#, Ok(3)),
+    ("[]", CONFIG),
+    ("{}", HEAD_SHAPE),
+    ("[[],7]", HEAD_SHAPE),
+    ("null", HEAD_SHAPE),
+    (
+        r#"[[{"op":"low"}],[],[{"op":"low"},{"op":"get","span":{"start":"6"}},{"op":"x"}]]"#,
+        Err(TraceFault::Hex(3)),
+    ),
+    (
+        r#"[[{"op":"low"},{"op":"get","span":{"start":"6"}}],[{"op":"x"}]]"#,
+        Err(TraceFault::Hex(2)),
+    ),
+    (r#"[[],[{"op":"x"}]]"#, SHAPE),
+];
+
+/// The text of `threads` as a front, a piece with how often it comes, and a tail; and what is told of it.
+static LONG_TRACES: [(&str, &str, usize, &str, Told); 8] = [
+    ("[", "[],", 63, "[]]", Ok(0)),
+    ("[", "[],", 64, "[]]", CONFIG),
+    (
+        "[[",
+        r#"{"op":"low"},"#,
+        65_535,
+        r#"{"op":"low"}]]"#,
+        Ok(65_536),
+    ),
+    (
+        "[[",
+        r#"{"op":"low"},"#,
+        65_536,
+        r#"{"op":"low"}]]"#,
+        CONFIG,
+    ),
+    (r#"[[{"op":"x"}],["#, "7,", 65_535, "7]]", CONFIG),
+    (
+        r#"[[{"op":"get","span":{"start":""#,
+        "61",
+        4096,
+        r#""}}]]"#,
+        Ok(1),
+    ),
+    (
+        r#"[[{"op":"get","span":{"start":""#,
+        "61",
+        4097,
+        r#""}}]]"#,
+        SPAN,
+    ),
+    (
+        r#"[[{"op":"get","span":{"start":"61","onward":"[","end":""#,
+        "61",
+        4097,
+        r#""}}]]"#,
+        SHAPE,
+    ),
+];
+
+/// Texts that are no JSON.
+static NO_JSON: [&[u8]; 6] = [
+    b"",
+    b"1e999",
+    &[b'['; 200],
+    b"{\"page_nodes\":4",
+    b"{} {}",
+    b"{\"threads\":\"\xff\"}",
+];
+
+/// What reading tells of a text.
+fn told(alloc: Global, text: &str) -> Told {
+    let trace = read_trace(alloc, text.as_bytes())?;
+    let mut calls = 0;
+    for i in 0..trace.threads.len() {
+        let list = trace.threads.list(i).map_or(0, |list| list.len());
+        calls = list.saturating_add(calls);
+    }
+    Ok(calls)
+}
+
+#[test]
+fn tells_what_decides(rt: HostRuntime) -> Result<(), Fail> {
+    for (page_nodes, min_pages, retention, low_water, threads, want) in HEADS.as_slice() {
+        let text = format!(in rt.alloc();
+            "{{\"page_nodes\":{page_nodes},\"min_pages\":{min_pages},\"retention\":{retention},\"low_water\":{low_water},\"threads\":{threads}}}"
+        )?;
+        assert_eq!(rt; told(rt.alloc(), &text), *want, "at {text}");
+    }
+    for (head, want) in MEMBERS.as_slice() {
+        let text = format!(in rt.alloc(); "{{{head},\"threads\":[[]]}}")?;
+        assert_eq!(rt; told(rt.alloc(), &text), *want, "at {text}");
+    }
+    for (call, want) in CALLS.as_slice() {
+        let text = format!(in rt.alloc(); "{{{HEAD},\"threads\":[[{call}]]}}")?;
+        assert_eq!(rt; told(rt.alloc(), &text), *want, "at {text}");
+    }
+    for (threads, want) in THREADS.as_slice() {
+        let text = format!(in rt.alloc(); "{{{HEAD},\"threads\":{threads}}}")?;
+        assert_eq!(rt; told(rt.alloc(), &text), *want, "at {text}");
+    }
+    for (front, piece, times, tail, want) in LONG_TRACES.as_slice() {
+        let mut text = format!(in rt.alloc(); "{{{HEAD},\"threads\":{front}")?;
+        for _ in 0..*times {
+            text.push_str(piece)?;
+        }
+        text.push_str(tail)?;
+        text.push_str("}")?;
+        assert_eq!(rt; told(rt.alloc(), &text), *want, "at {times} times {piece}");
+    }
+    for bytes in NO_JSON.as_slice() {
+        let fault = read_trace(rt.alloc(), bytes).err();
+        assert_eq!(rt; fault, Some(TraceFault::NotJson));
+    }
+    Ok(())
+}
+
+/// A span, and whether it covers each of the keys `a`, `b`, `c` and `d`.
+static SPANS: [(&str, [bool; 4]); 14] = [
+    (r#"{"start":"62"}"#, [false, true, false, false]),
+    (r#"{"start":"61","end":"63"}"#, [true, true, false, false]),
+    (r#"{"start":"62","end":""}"#, [false, true, false, false]),
+    (r#"{"start":"63","end":"61"}"#, [false, false, false, false]),
+    (
+        r#"{"start":"61","end":"63","ends":"[]"}"#,
+        [true, true, true, false],
+    ),
+    (
+        r#"{"start":"61","end":"63","ends":"[)"}"#,
+        [true, true, false, false],
+    ),
+    (
+        r#"{"start":"61","end":"63","ends":"(]"}"#,
+        [false, true, true, false],
+    ),
+    (
+        r#"{"start":"61","end":"63","ends":"()"}"#,
+        [false, true, false, false],
+    ),
+    (
+        r#"{"start":"62","end":"62","ends":"[)"}"#,
+        [false, true, false, false],
+    ),
+    (
+        r#"{"start":"62","end":"62","ends":"()"}"#,
+        [false, false, false, false],
+    ),
+    (
+        r#"{"start":"63","end":"61","ends":"[]"}"#,
+        [false, false, false, false],
+    ),
+    (r#"{"start":"62","onward":"["}"#, [false, true, true, true]),
+    (r#"{"start":"62","onward":"("}"#, [false, false, true, true]),
+    (r#"{"start":"","onward":"["}"#, [true, true, true, true]),
+];
+
+/// Which of the keys `a`, `b`, `c` and `d` the span of a trace's only call covers.
+fn covered(alloc: Global, span: &str) -> Result<[bool; 4], Fail> {
+    let text = format!(in alloc; "{{{HEAD},\"threads\":[[{{\"op\":\"get\",\"span\":{span}}}]]}}")?;
+    let trace = read_trace(alloc, text.as_bytes())?;
+    let calls = trace.threads.list(0).ok_or("no list")?;
+    let mut covered = [false; 4];
+    for (i, key) in [b"a", b"b", b"c", b"d"].into_iter().enumerate() {
+        if let Some(Call::Get { span }) = calls.first() {
+            covered[i] = span.covers(key);
+        }
+    }
+    Ok(covered)
+}
+
+#[test]
+fn reads_spans(rt: HostRuntime) -> Result<(), Fail> {
+    for (span, want) in SPANS.as_slice() {
+        assert_eq!(rt; covered(rt.alloc(), span)?, *want, "at {span}");
+    }
+    Ok(())
+}
+
+const OWNER: u128 = 0x0011_2233_4455_6677_8899_aabb_ccdd_eeff;
+
+/// An owner as a member behind `now`, and whose the value is.
+static OWNERS: [(&str, Option<u128>); 7] = [
+    ("", None),
+    (r#","owner":null"#, None),
+    (r#","owner":"00000000-0000-0000-0000-000000000000""#, None),
+    (
+        r#","owner":"00112233-4455-6677-8899-AABBCCDDEEFF""#,
+        Some(OWNER),
+    ),
+    (
+        r#","owner":"00112233445566778899aabbccddeeff""#,
+        Some(OWNER),
+    ),
+    (
+        r#","owner":"{00112233-4455-6677-8899-aabbccddeeff}""#,
+        Some(OWNER),
+    ),
+    (
+        r#","owner":"urn:uuid:00112233-4455-6677-8899-aabbccddeeff""#,
+        Some(OWNER),
+    ),
+];
+
+/// The wall times and the owner of the Add that is a trace's only call: of its value, and of its moment.
+fn added(alloc: Global, owner: &str) -> Result<(u64, u64, Option<u128>), Fail> {
+    let text = format!(in alloc;
+        "{{{HEAD},\"threads\":[[{{\"op\":\"add\",\"span\":{{\"start\":\"61\"}},\"time\":[20,1],\"now\":[30,2]{owner}}}]]}}"
+    )?;
+    let trace = read_trace(alloc, text.as_bytes())?;
+    let calls = trace.threads.list(0).ok_or("no list")?;
+    match calls.first() {
+        Some(Call::Add { value, now, .. }) => {
+            let owner = value.owner().map(|owner| owner.as_u128());
+            Ok((value.time().wall(), now.wall(), owner))
+        }
+        _ => Err(Fail::from("no Add")),
+    }
+}
+
+#[test]
+fn reads_owners(rt: HostRuntime) -> Result<(), Fail> {
+    for (owner, want) in OWNERS.as_slice() {
+        assert_eq!(rt; added(rt.alloc(), owner)?, (20, 30, *want), "at {owner}");
+    }
+    Ok(())
+}
