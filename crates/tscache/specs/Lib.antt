@@ -1,3 +1,4 @@
 pub mod Commands
+pub mod Place
 pub mod Replay
 pub mod Words
