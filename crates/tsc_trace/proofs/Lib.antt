@@ -8,5 +8,5 @@ pub mod Totals
 pub mod Texts
 pub mod Playing
 pub mod ListSteps
-pub mod Reading
-pub mod Writing
+pub mod Input
+pub mod Output

@@ -1,19 +1,16 @@
--- What contracts see of a metered reader or writer.
-use Rattle.std.specs.Prelude.{ℕ, Bool}
+-- What is known of a metered reader or writer.
+use Rattle.std.specs.Prelude.{ℕ, List, Option}
+use Rattle.tsc_trace.specs.Stream.{KnownReader, KnownWriter}
 use Rattle.tsc_trace.specs.declared.stream.Metered.{Metered}
 
 -- what is wrapped
 abbrev pub inner_of : {T : Type 0} → Metered T → T
 inner_of m = m.inner
 
--- whether a call has failed
-abbrev pub has_failed : {T : Type 0} → Metered T → Bool
-has_failed m = m.failed
+-- what is known of it as a reader, beside the bytes that the one inside has left
+abbrev pub reader_of : {T : Type 0} → Option (List ℕ) → Metered T → KnownReader
+reader_of known m = record { bytes = known; has_failed = m.failed; has_ended = m.ended; turns = m.turns }
 
--- whether a read has told the end
-abbrev pub has_ended : {T : Type 0} → Metered T → Bool
-has_ended m = m.ended
-
--- how many more calls there may be
-abbrev pub turns_left : {T : Type 0} → Metered T → ℕ
-turns_left m = m.turns
+-- what is known of it as a writer, beside the bytes that the one inside holds
+abbrev pub writer_of : {T : Type 0} → Option (List ℕ) → Metered T → KnownWriter
+writer_of known m = record { bytes = known; has_failed = m.failed; turns = m.turns }

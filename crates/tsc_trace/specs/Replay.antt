@@ -1,48 +1,76 @@
--- What a replay reads and writes.
-use Rattle.std.specs.Prelude.{◌≡◌, ◌≢◌, ◌++◌, ℕ, List, Option, Ok, Err, codes, decimal, ◌⊎◌, ◌∷◌, [], Bool}
-use Rattle.std.specs.Io.KnownBytes.{Appends}
+-- What a replay reads and writes, and why it may end early.
+use Rattle.std.specs.Prelude.{◌≡◌, ◌≢◌, ◌++◌, List, ℕ, Ok, Err, codes, decimal}
 use Rattle.tsc_trace.specs.TraceText.{trace_of_bytes}
 use Rattle.tsc_trace.specs.Log.{log_of}
-use Rattle.tsc_trace.specs.LogText.{line_feed, log_text}
-use Rattle.tsc_trace.specs.Stream.{GaveUp, HasRead, HasWrittenPrefix}
+use Rattle.tsc_trace.specs.LogText.{log_text}
+use Rattle.tsc_trace.specs.Stream.{KnownReader, KnownWriter, HasRead, CouldNotRead, HasReadTooMuch, RanOutReading, HasWritten, CouldNotWrite}
 use Rattle.tsc_trace.specs.declared.trace.Trace.{Trace}
 use Rattle.tsc_trace.specs.declared.read.TraceFault.{TraceFault}
 use Rattle.tsc_trace.specs.declared.read.TraceFault.TheVariants as trace_fault
 use Rattle.tsc_trace.specs.declared.stream.InputFault.{InputFault}
 use Rattle.tsc_trace.specs.declared.stream.InputFault.TheVariants as input_fault
-use Rattle.tsc_trace.specs.declared.replay.ReplayFault.{ReplayFault}
-use Rattle.tsc_trace.specs.declared.replay.ReplayFault.TheVariants.{Read, TooLong, Trace as Refused, Write, NoMemory}
+use Rattle.tsc_trace.specs.declared.replays.OutFault.{OutFault}
+use Rattle.tsc_trace.specs.declared.replays.OutFault.TheVariants as out_fault
+use Rattle.tsc_trace.specs.declared.replays.ReplayFault.{ReplayFault}
+use Rattle.tsc_trace.specs.declared.replays.ReplayFault.TheVariants.{Read, TooLong, Trace as Refused, Write, NoMemory}
 
 -- the text that a replay of a trace writes
 abbrev pub replay_text : Trace → List ℕ
 replay_text trace = log_text (log_of trace)
 
--- A reader told its end, and all that it had is a trace, of whose replay this is the text.
-pub record ReplaysTo (reader reader' : Option (List ℕ)) (has_ended : Bool) (text : List ℕ) : Type 0 where
+-- why a text was not written: a write failed, or memory was wanting before the first write
+abbrev pub StopsWriting : OutFault → KnownWriter → KnownWriter → List ℕ → Type 0
+StopsWriting out_fault.Write old new text = CouldNotWrite old new text
+StopsWriting out_fault.NoMemory old new text = new ≡ old
+
+-- A reader told its end, and all that it had is a trace.
+pub record HasReadTrace (reader reader' : KnownReader) (trace : Trace) : Type 0 where
   pub input : List ℕ
-  pub trace : Trace
-  pub read : HasRead reader reader' has_ended input
+  pub read : HasRead reader reader' input
   pub is_trace : trace_of_bytes input ≡ Ok trace
-  pub is_text : text ≡ replay_text trace
 
 -- All of a trace was read, and the text of its replay was written, and nothing else.
-pub record Replays (reader reader' : Option (List ℕ)) (has_ended : Bool) (writer writer' : Option (List ℕ)) : Type 0 where
-  pub text : List ℕ
-  pub read : ReplaysTo reader reader' has_ended text
-  pub wrote : Appends writer writer' text
+pub record Done (reader reader' : KnownReader) (writer writer' : KnownWriter) : Type 0 where
+  pub trace : Trace
+  pub read : HasReadTrace reader reader' trace
+  pub wrote : HasWritten writer writer' (replay_text trace)
 
--- All of a trace was read, and a prefix of the text of its replay was written, and nothing else.
-pub record ReplaysPrefix (reader reader' : Option (List ℕ)) (has_ended : Bool) (writer writer' : Option (List ℕ)) : Type 0 where
-  pub text : List ℕ
-  pub read : ReplaysTo reader reader' has_ended text
-  pub wrote : HasWrittenPrefix writer writer' text
-
--- A reader told its end, and all that it had is no trace, for this reason.
-pub record Refuses (reader reader' : Option (List ℕ)) (has_ended : Bool) (fault : TraceFault) : Type 0 where
+-- A reader told its end, and all that it had is no trace, for this reason. Nothing was written.
+pub record RefusedAs (fault : TraceFault) (reader reader' : KnownReader) (writer writer' : KnownWriter) : Type 0 where
   pub input : List ℕ
-  pub read : HasRead reader reader' has_ended input
+  pub read : HasRead reader reader' input
   pub is_none : trace_of_bytes input ≡ Err fault
   pub is_seen : fault ≢ trace_fault.NoMemory
+  pub silent : writer' ≡ writer
+
+-- A read failed. Nothing was written.
+pub record NotRead (reader reader' : KnownReader) (writer writer' : KnownWriter) : Type 0 where
+  pub read : CouldNotRead reader reader'
+  pub silent : writer' ≡ writer
+
+-- There was more to read than an input may have. Nothing was written.
+pub record TooMuchRead (reader reader' : KnownReader) (writer writer' : KnownWriter) : Type 0 where
+  pub read : HasReadTooMuch reader reader'
+  pub silent : writer' ≡ writer
+
+-- All of a trace was read, and a write failed, where a part of the text of its replay was written.
+pub record NotWritten (reader reader' : KnownReader) (writer writer' : KnownWriter) : Type 0 where
+  pub trace : Trace
+  pub read : HasReadTrace reader reader' trace
+  pub wrote : CouldNotWrite writer writer' (replay_text trace)
+
+-- Memory was wanting, while a trace was read or after that. No read failed, and nothing was written.
+pub record OutOfMemory (reader reader' : KnownReader) (writer writer' : KnownWriter) : Type 0 where
+  pub read : RanOutReading reader reader'
+  pub silent : writer' ≡ writer
+
+-- how a replay with this fault ended
+abbrev pub StopsReplay : ReplayFault → KnownReader → KnownReader → KnownWriter → KnownWriter → Type 0
+StopsReplay Read reader reader' writer writer' = NotRead reader reader' writer writer'
+StopsReplay TooLong reader reader' writer writer' = TooMuchRead reader reader' writer writer'
+StopsReplay (Refused fault) reader reader' writer writer' = RefusedAs fault reader reader' writer writer'
+StopsReplay Write reader reader' writer writer' = NotWritten reader reader' writer writer'
+StopsReplay NoMemory reader reader' writer writer' = OutOfMemory reader reader' writer writer'
 
 -- how a fault of an input ends a replay
 abbrev pub fault_of_input : InputFault → ReplayFault
@@ -55,6 +83,11 @@ abbrev pub fault_of_trace : TraceFault → ReplayFault
 fault_of_trace trace_fault.NotJson = Refused trace_fault.NotJson
 fault_of_trace (trace_fault.Shape call) = Refused (trace_fault.Shape call)
 fault_of_trace trace_fault.NoMemory = NoMemory
+
+-- how a fault of an output ends a replay
+abbrev pub fault_of_output : OutFault → ReplayFault
+fault_of_output out_fault.Write = Write
+fault_of_output out_fault.NoMemory = NoMemory
 
 -- the text of a fault
 abbrev pub fault_text : ReplayFault → List ℕ

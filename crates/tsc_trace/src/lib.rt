@@ -9,15 +9,15 @@ pub mod fakes;
 mod log;
 mod player;
 mod read;
-mod replay;
+mod replays;
 mod stream;
 mod trace;
 
 pub use log::{Line, Lines, Log, Said, log_text};
 pub use player::play;
 pub use read::{TraceFault, read_trace};
-pub use replay::{ReplayFault, replay_stream};
+pub use replays::{OutFault, ReplayFault, replay, replay_stream, write_log};
 pub use stream::{
-    InputFault, Metered, OutputFault, Sink, Source, Trouble, read_input, write_output,
+    InputFault, Metered, Sink, Source, Trouble, WriteFailed, read_input, write_output,
 };
 pub use trace::{Call, Lists, Trace};

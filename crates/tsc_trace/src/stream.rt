@@ -1,14 +1,15 @@
 //! Readers and writers that may be called a bounded number of times, and remember a failure.
 //!
 //! No clause over `std`'s `Read` and `Write` can say that a call failed. [`Source`] and [`Sink`] can,
-//! so a contract over them tells why a command gave up. That a [`Metered`] reader or writer really
-//! calls the one inside rests on the few lines of its `read` and `write`, and on tests.
-ghost use Rattle.std.specs.Prelude.{◌≡◌, ◌≢◌, ◌↔◌, ◌⊎◌, ℕ, ◌-◌, ◌<◌, ◌≤◌, ◌||◌, List, Bool, Option, length, take, vec_len, IfOk, IfErr, IsErrOf, OnOk, OnErr, true, false};
-ghost use Rattle.std.specs.Io.KnownBytes.{Appends, ReadConsumes, WriteAppends};
-ghost use Rattle.tsc_trace.specs.Stream.{GaveUp, HasRead, HasReadTooMuch, HasReadWithin, HasWrittenPrefix, is_failure, longest_input, most_turns, IsFresh, is_end};
+//! so a contract over them tells why a command gave up. What a [`Metered`] reader or writer makes of a
+//! call to the one inside is proved; that it makes that call is for its few lines, and for tests.
+ghost use Rattle.std.specs.Prelude.{◌≡◌, ◌≢◌, ◌-◌, ◌<◌, ◌≤◌, ◌||◌, length, take, vec_len, Ok, Err, IfOk, IfErr, OnOk, OnErr};
+ghost use Rattle.std.specs.Io.KnownBytes.{ReadConsumes, WriteAppends};
+ghost use Rattle.tsc_trace.specs.Stream.{CouldNotWrite, HasRead, HasWritten, KnownReader, KnownWriter, StopsReading, fresh_reader, fresh_writer, is_end, is_failure, longest_input};
 
 use std::alloc::{AllocError, Global};
 use std::io::{ErrorKind, Read, Write};
+use thiserror::Error;
 
 /// How often a command reads before it gives up, and how often it writes.
 const MOST_TURNS: u32 = 33_554_432;
@@ -22,58 +23,41 @@ const FIRST_ROOM: usize = 65_536;
 /// Why a reader gave nothing, or a writer took nothing.
 #[derive(Clone, Copy, Debug, PartialEq, Eq)]
 pub enum Trouble {
-    /// The call was interrupted, and may be tried again.
+    /// The call was interrupted, and may be made again.
     Interrupted,
-    /// The call failed.
+    /// The call failed, or there had been as many as there may be.
     Failed,
-    /// The reader or the writer was called as often as it may be.
-    Exhausted,
 }
 
 /// A reader that remembers whether it failed, and that may be called a bounded number of times.
 pub trait Source {
-    /// The bytes that reads will give from here on, where they are known.
-    ghost remaining: { Self → Option (List ℕ) };
-
-    /// Whether a read has failed, other than by an interruption.
-    ghost has_failed: { Self → Bool };
-
-    /// Whether a read has told the end.
-    ghost has_ended: { Self → Bool };
-
-    /// How many more reads there may be.
-    ghost turns_left: { Self → ℕ };
+    /// What is known of the reader.
+    ghost known: { Self → KnownReader };
 
     /// Reads into the first bytes of `buf`. No bytes means the end.
     fn read(&mut self, buf: &mut [u8]) -> Result<usize, Trouble>
         requires room { 0 < length buf.old }
         ensures bound { IfOk result (λ n. n ≤ length buf.new) }
-        ensures bytes { ReadConsumes (remaining self.old) (remaining self.new) result buf.new }
-        ensures failed { has_failed self.new ≡ (has_failed self.old || is_failure result) }
-        ensures ended { has_ended self.new ≡ (has_ended self.old || is_end result) }
-        ensures turn { turns_left self.new ≡ turns_left self.old - 1 }
-        ensures exhausted { IsErrOf result Trouble.Exhausted ↔ (turns_left self.old ≡ 0) };
+        ensures bytes { ReadConsumes (known self.old).bytes (known self.new).bytes result buf.new }
+        ensures failed { (known self.new).has_failed ≡ ((known self.old).has_failed || is_failure result) }
+        ensures ended { (known self.new).has_ended ≡ ((known self.old).has_ended || is_end result) }
+        ensures turn { (known self.new).turns ≡ (known self.old).turns - 1 }
+        ensures last { (known self.old).turns ≡ 0 → result ≡ Err Trouble.Failed };
 }
 
 /// A writer that remembers whether it failed, and that may be called a bounded number of times.
 pub trait Sink {
-    /// The bytes that the writer holds, where they are known.
-    ghost contents: { Self → Option (List ℕ) };
-
-    /// Whether a write has failed, other than by an interruption, or has taken nothing.
-    ghost has_failed: { Self → Bool };
-
-    /// How many more writes there may be.
-    ghost turns_left: { Self → ℕ };
+    /// What is known of the writer.
+    ghost known: { Self → KnownWriter };
 
     /// Writes the first bytes of `buf`, at least one. Taking none is a failure.
     fn write(&mut self, buf: &[u8]) -> Result<usize, Trouble>
         requires bytes { 0 < length buf.now }
         ensures bound { IfOk result (λ n. (0 < n) × (n ≤ length buf.now)) }
-        ensures bytes { WriteAppends (contents self.old) (contents self.new) result buf.now }
-        ensures failed { has_failed self.new ≡ (has_failed self.old || is_failure result) }
-        ensures turn { turns_left self.new ≡ turns_left self.old - 1 }
-        ensures exhausted { IsErrOf result Trouble.Exhausted ↔ (turns_left self.old ≡ 0) };
+        ensures bytes { WriteAppends (known self.old).bytes (known self.new).bytes result buf.now }
+        ensures failed { (known self.new).has_failed ≡ ((known self.old).has_failed || is_failure result) }
+        ensures turn { (known self.new).turns ≡ (known self.old).turns - 1 }
+        ensures last { (known self.old).turns ≡ 0 → result ≡ Err Trouble.Failed };
 }
 
 /// A reader or a writer of `std` that may be called 33,554,432 times.
@@ -86,13 +70,14 @@ pub struct Metered<T> {
 }
 
 impl<T> Metered<T> {
-    ghost use Rattle.tsc_trace.specs.MeteredParts.{inner_of, has_failed, has_ended, turns_left};
+    ghost use Rattle.std.specs.Prelude.{List, Option, ℕ};
+    ghost use Rattle.tsc_trace.specs.MeteredParts.{inner_of, reader_of, writer_of};
 
     /// `inner`, which has not been called yet.
     pub fn new(inner: T) -> Metered<T>
         ensures inner { inner_of result ≡ inner }
-        ensures fresh { IsFresh (has_failed result) (turns_left result) }
-        ensures unended { has_ended result ≡ false }
+        ensures reader { (bytes : Option (List ℕ)) → reader_of bytes result ≡ fresh_reader bytes }
+        ensures writer { (bytes : Option (List ℕ)) → writer_of bytes result ≡ fresh_writer bytes }
     {
         Metered {
             inner,
@@ -100,23 +85,6 @@ impl<T> Metered<T> {
             failed: false,
             ended: false,
         }
-    }
-
-    /// What an error of this kind is. It is remembered, unless the call was interrupted.
-    fn remember(&mut self, kind: ErrorKind) -> Trouble
-        ensures interrupted { kind ≡ ErrorKind.Interrupted
-            → (result ≡ Trouble.Interrupted) × (has_failed self.new ≡ has_failed self.old) }
-        ensures failed { kind ≢ ErrorKind.Interrupted
-            → (result ≡ Trouble.Failed) × (has_failed self.new ≡ true) }
-        ensures inner { inner_of self.new ≡ inner_of self.old }
-        ensures ended { has_ended self.new ≡ has_ended self.old }
-        ensures turns { turns_left self.new ≡ turns_left self.old }
-    {
-        if kind == ErrorKind::Interrupted {
-            return Trouble::Interrupted;
-        }
-        self.failed = true;
-        Trouble::Failed
     }
 
     /// What was wrapped.
@@ -128,61 +96,71 @@ impl<T> Metered<T> {
     }
 }
 
+/// How a call to a reader or a writer of `std` went.
+fn settled(gave: Result<usize, ErrorKind>) -> Result<usize, Trouble>
+    ensures ok { IfOk gave (λ count. result ≡ Ok count) }
+    ensures interrupted { gave ≡ Err ErrorKind.Interrupted → result ≡ Err Trouble.Interrupted }
+    ensures failed { IfErr gave (λ kind. kind ≢ ErrorKind.Interrupted → result ≡ Err Trouble.Failed) }
+{
+    match gave {
+        Ok(count) => Ok(count),
+        Err(ErrorKind::Interrupted) => Err(Trouble::Interrupted),
+        Err(_) => Err(Trouble::Failed),
+    }
+}
+
+/// How a write went, of which taking nothing is a failure.
+fn settled_write(gave: Result<usize, ErrorKind>) -> Result<usize, Trouble>
+    ensures took { IfOk gave (λ count. 0 < count → result ≡ Ok count) }
+    ensures nothing { gave ≡ Ok 0 → result ≡ Err Trouble.Failed }
+    ensures interrupted { gave ≡ Err ErrorKind.Interrupted → result ≡ Err Trouble.Interrupted }
+    ensures failed { IfErr gave (λ kind. kind ≢ ErrorKind.Interrupted → result ≡ Err Trouble.Failed) }
+{
+    match gave {
+        Ok(0) => Err(Trouble::Failed),
+        gave => settled(gave),
+    }
+}
+
 impl<R: Read> Source for Metered<R> {
-    ghost use Rattle.tsc_trace.specs.MeteredParts as parts;
+    ghost use Rattle.tsc_trace.specs.MeteredParts.{inner_of, reader_of};
 
-    ghost remaining = { λ m. R.remaining (parts.inner_of m) };
-
-    ghost has_failed = { λ m. parts.has_failed m };
-
-    ghost has_ended = { λ m. parts.has_ended m };
-
-    ghost turns_left = { λ m. parts.turns_left m };
+    ghost known = { λ m. reader_of (R.remaining (inner_of m)) m };
 
     fn read(&mut self, buf: &mut [u8]) -> Result<usize, Trouble> {
         if self.turns == 0 {
-            return Err(Trouble::Exhausted);
+            self.failed = true;
+            return Err(Trouble::Failed);
         }
         self.turns -= 1;
-        match self.inner.read(buf) {
-            Ok(count) => {
-                self.ended |= count == 0;
-                Ok(count)
-            }
-            Err(error) => Err(self.remember(error.kind())),
-        }
+        let told = settled(self.inner.read(buf).map_err(|error| error.kind()));
+        self.failed |= told == Err(Trouble::Failed);
+        self.ended |= told == Ok(0);
+        told
     }
 }
 
 impl<W: Write> Sink for Metered<W> {
-    ghost use Rattle.tsc_trace.specs.MeteredParts as parts;
+    ghost use Rattle.tsc_trace.specs.MeteredParts.{inner_of, writer_of};
 
-    ghost contents = { λ m. W.contents (parts.inner_of m) };
-
-    ghost has_failed = { λ m. parts.has_failed m };
-
-    ghost turns_left = { λ m. parts.turns_left m };
+    ghost known = { λ m. writer_of (W.contents (inner_of m)) m };
 
     fn write(&mut self, buf: &[u8]) -> Result<usize, Trouble> {
         if self.turns == 0 {
-            return Err(Trouble::Exhausted);
+            self.failed = true;
+            return Err(Trouble::Failed);
         }
         self.turns -= 1;
-        match self.inner.write(buf) {
-            Ok(count) if count > 0 => Ok(count),
-            Err(error) => Err(self.remember(error.kind())),
-            Ok(_) => {
-                self.failed = true;
-                Err(Trouble::Failed)
-            }
-        }
+        let told = settled_write(self.inner.write(buf).map_err(|error| error.kind()));
+        self.failed |= told == Err(Trouble::Failed);
+        told
     }
 }
 
 /// Why an input could not be read.
 #[derive(Clone, Copy, Debug, PartialEq, Eq)]
 pub enum InputFault {
-    /// A read failed, or the reader may be called no more.
+    /// A read failed.
     Read,
     /// There were more than 16,777,216 bytes.
     TooLong,
@@ -192,19 +170,8 @@ pub enum InputFault {
 
 /// All that a reader has left. An interrupted read is tried again.
 pub fn read_input<R: Source>(alloc: Global, reader: &mut R) -> Result<Vec<u8>, InputFault>
-    ensures ok { IfOk result (λ input.
-        HasRead (R.remaining reader.old) (R.remaining reader.new) (R.has_ended reader.new) input.items) }
-    ensures read { IsErrOf result InputFault.Read
-        → GaveUp (R.has_failed reader.new) (R.turns_left reader.new)
-        × (R.has_ended reader.new ≡ R.has_ended reader.old) }
-    ensures too_long { IsErrOf result InputFault.TooLong
-        → HasReadTooMuch (R.remaining reader.old) (R.remaining reader.new)
-        × (R.has_ended reader.new ≡ R.has_ended reader.old) }
-    ensures within { IfErr result (λ fault. (fault ≡ InputFault.TooLong)
-        ⊎ HasReadWithin (R.remaining reader.old) (R.remaining reader.new)) }
-    // No failed read is passed over.
-    ensures failed { (R.has_failed reader.new ≡ R.has_failed reader.old)
-        ⊎ IsErrOf result InputFault.Read }
+    ensures ok { IfOk result (λ input. HasRead (R.known reader.old) (R.known reader.new) input.items) }
+    ensures err { IfErr result (λ fault. StopsReading fault (R.known reader.old) (R.known reader.new)) }
 {
     let mut input = Vec::new(alloc);
     let mut filled = 0usize;
@@ -222,7 +189,7 @@ pub fn read_input<R: Source>(alloc: Global, reader: &mut R) -> Result<Vec<u8>, I
                 }
             }
             Err(Trouble::Interrupted) => {}
-            Err(Trouble::Failed | Trouble::Exhausted) => return Err(InputFault::Read),
+            Err(Trouble::Failed) => return Err(InputFault::Read),
         }
     }
 }
@@ -244,24 +211,21 @@ fn make_room(input: &mut Vec<u8>, filled: usize) -> Result<(), AllocError>
 }
 
 /// A writer did not take a whole text.
-#[derive(Clone, Copy, Debug, PartialEq, Eq)]
-pub struct OutputFault;
+#[derive(Clone, Copy, Debug, PartialEq, Eq, Error)]
+#[error("a write failed")]
+pub struct WriteFailed;
 
 /// Writes all of a text. An interrupted write is tried again.
-pub fn write_output<W: Sink>(writer: &mut W, text: &[u8]) -> Result<(), OutputFault>
-    ensures ok { OnOk result (Appends (W.contents writer.old) (W.contents writer.new) text.now) }
-    ensures err { OnErr result (GaveUp (W.has_failed writer.new) (W.turns_left writer.new)) }
-    ensures prefix { OnErr result
-        (HasWrittenPrefix (W.contents writer.old) (W.contents writer.new) text.now) }
-    // No failed write is passed over.
-    ensures failed { OnOk result (W.has_failed writer.new ≡ W.has_failed writer.old) }
+pub fn write_output<W: Sink>(writer: &mut W, text: &[u8]) -> Result<(), WriteFailed>
+    ensures ok { OnOk result (HasWritten (W.known writer.old) (W.known writer.new) text.now) }
+    ensures err { OnErr result (CouldNotWrite (W.known writer.old) (W.known writer.new) text.now) }
 {
     let mut rest = text;
     while !rest.is_empty() {
         match writer.write(rest) {
             Ok(count) => rest = &rest[count..],
             Err(Trouble::Interrupted) => {}
-            Err(Trouble::Failed | Trouble::Exhausted) => return Err(OutputFault),
+            Err(Trouble::Failed) => return Err(WriteFailed),
         }
     }
     Ok(())

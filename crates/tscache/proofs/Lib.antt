@@ -1,4 +1,3 @@
-pub mod Statuses
 pub mod WordExamples
 pub mod WordLemmas
 pub mod FoundLemmas

@@ -1,12 +1,11 @@
--- What a replay's command tells, and the status it ends with.
-use Rattle.std.specs.Prelude.{◌≡◌, ◌++◌, ℕ, List, Option, ◌⊎◌, ◌∷◌, [], Bool}
-use Rattle.std.specs.Io.KnownBytes.{Appends}
+-- How the command that replays a trace ends: what it did, its exit status, and what it tells.
+use Rattle.std.specs.Prelude.{◌≡◌, ◌++◌, ℕ, List, ◌⊎◌, ◌∷◌, []}
 use Rattle.tsc_trace.specs.LogText.{line_feed}
-use Rattle.tsc_trace.specs.Replay.{fault_text}
-use Rattle.tsc_trace.specs.Stream.{GaveUp, HasWrittenPrefix}
+use Rattle.tsc_trace.specs.Replay.{Done, StopsReplay, fault_text}
+use Rattle.tsc_trace.specs.Stream.{KnownReader, KnownWriter, HasWritten, CouldNotWrite}
 use Rattle.tsc_trace.specs.declared.read.TraceFault.TheVariants as trace_fault
-use Rattle.tsc_trace.specs.declared.replay.ReplayFault.{ReplayFault}
-use Rattle.tsc_trace.specs.declared.replay.ReplayFault.TheVariants.{Read, TooLong, Trace as Refused, Write, NoMemory}
+use Rattle.tsc_trace.specs.declared.replays.ReplayFault.{ReplayFault}
+use Rattle.tsc_trace.specs.declared.replays.ReplayFault.TheVariants.{Read, TooLong, Trace as Refused, Write, NoMemory}
 
 -- the exit status of a fault
 abbrev pub status_of : ReplayFault → ℕ
@@ -22,12 +21,24 @@ status_of NoMemory = 5
 abbrev pub fault_line : ReplayFault → List ℕ
 fault_line fault = fault_text fault ++ line_feed ∷ []
 
--- A fault was told by one line, or the writer to tell it on gave up, and took a prefix of that line.
-abbrev pub Tells : ReplayFault → Option (List ℕ) → Option (List ℕ) → Bool → ℕ → Type 0
-Tells fault old new failed turns_left = Appends old new (fault_line fault) ⊎ (GaveUp failed turns_left × HasWrittenPrefix old new (fault_line fault))
+-- A line was written, or a write failed, where a part of the line was written.
+abbrev pub Tells : List ℕ → KnownWriter → KnownWriter → Type 0
+Tells line errors errors' = HasWritten errors errors' line ⊎ CouldNotWrite errors errors' line
 
--- A fault with this exit status was told.
-pub record TellsOf (status : ℕ) (old new : Option (List ℕ)) (failed : Bool) (turns_left : ℕ) : Type 0 where
+-- The replay was done, with exit status 0, and nothing was told.
+pub record Succeeds (status : ℕ) (reader reader' : KnownReader) (writer writer' errors errors' : KnownWriter) : Type 0 where
+  pub done : Done reader reader' writer writer'
+  pub is_status : status ≡ 0
+  pub quiet : errors' ≡ errors
+
+-- The replay ended early, and its fault was told, with the exit status of that fault.
+pub record Fails (status : ℕ) (reader reader' : KnownReader) (writer writer' errors errors' : KnownWriter) : Type 0 where
   pub fault : ReplayFault
+  pub stopped : StopsReplay fault reader reader' writer writer'
   pub is_status : status ≡ status_of fault
-  pub told : Tells fault old new failed turns_left
+  pub told : Tells (fault_line fault) errors errors'
+
+-- how the command ends
+abbrev pub EndsReplay : ℕ → KnownReader → KnownReader → KnownWriter → KnownWriter → KnownWriter → KnownWriter → Type 0
+EndsReplay status reader reader' writer writer' errors errors' =
+    Succeeds status reader reader' writer writer' errors errors' ⊎ Fails status reader reader' writer writer' errors errors'

@@ -19,6 +19,11 @@ pub data Request : Type 0 where
 abbrev pub asks : Asked → Request
 asks (Replay file) = replay (string_bytes file)
 
+-- what the code's answer asks for, or why for nothing
+abbrev pub asked_as : Result Asked WordsFault → Result Request WordsFault
+asked_as (Ok asked) = Ok (asks asked)
+asked_as (Err fault) = Err fault
+
 -- a hyphen (45), with a character after it
 abbrev pub is_flag : Word → Bool
 is_flag [] = false

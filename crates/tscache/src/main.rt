@@ -1,8 +1,30 @@
 //! The timestamp cache's program: it replays recorded traces.
+//!
+//! `tscache replay FILE` writes the log of a trace's replay to standard output. The exit status is 0
+//! for a replay, 1 for a trace that was refused, 2 for wrong words, 4 where reading or writing failed,
+//! and 5 where a growth was refused. A fault is one line on standard error.
 #![tactic(auto)]
 
 mod place;
+mod program;
 mod replay;
+mod system;
 mod words;
 
-fn main() {}
+use crate::program::program;
+use crate::system::{SystemFiles, fetch_words};
+use std::io;
+use std::process::ExitCode;
+use tsc_trace::Metered;
+
+fn main(rt: HostRuntime) -> ExitCode {
+    let mut output = Metered::new(io::writer(&rt));
+    let mut errors = Metered::new(rt.stderr());
+    ExitCode::from(program(
+        rt.alloc(),
+        fetch_words(&rt),
+        &SystemFiles::of(&rt),
+        &mut output,
+        &mut errors,
+    ))
+}

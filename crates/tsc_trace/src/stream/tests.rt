@@ -1,4 +1,4 @@
-use super::{InputFault, Metered, OutputFault, read_input, write_output};
+use super::{InputFault, Metered, WriteFailed, read_input, write_output};
 use crate::fakes::{Faulty, Mishap};
 use std::alloc::{AllocError, Global};
 use std::io;
@@ -40,7 +40,7 @@ fn write_faulty(
     bytes: &[u8],
     step: usize,
     mishap: Mishap,
-) -> (Result<(), OutputFault>, Vec<u8>, u64) {
+) -> (Result<(), WriteFailed>, Vec<u8>, u64) {
     let mut writer = Metered::new(Faulty::new(Vec::new(alloc), step, mishap));
     let written = write_output(&mut writer, bytes);
     let Faulty { inner, calls, .. } = writer.into_inner();
@@ -130,7 +130,7 @@ fn a_failed_write_ends_writing(rt: HostRuntime) {
             1,
             Mishap::FailsAt(failing),
         );
-        assert_eq!(rt; result, Err(OutputFault));
+        assert_eq!(rt; result, Err(WriteFailed));
         assert_eq!(rt; written.as_slice(), front);
         assert_eq!(rt; calls, failing + 1);
     }
@@ -139,17 +139,17 @@ fn a_failed_write_ends_writing(rt: HostRuntime) {
 #[test]
 fn a_write_that_takes_nothing_fails(rt: HostRuntime) {
     let (result, written, calls) = write_faulty(rt.alloc(), b"abc", 0, Mishap::Never);
-    assert_eq!(rt; result, Err(OutputFault));
+    assert_eq!(rt; result, Err(WriteFailed));
     assert_eq!(rt; (written.len(), calls), (0, 1));
 }
 
 #[test]
 fn writing_gives_up_after_the_last_turn(rt: HostRuntime) {
     for (turns, mishap, result, front) in [
-        (0, Mishap::Never, Err(OutputFault), &b""[..]),
-        (2, Mishap::Never, Err(OutputFault), &b"ab"[..]),
+        (0, Mishap::Never, Err(WriteFailed), &b""[..]),
+        (2, Mishap::Never, Err(WriteFailed), &b"ab"[..]),
         (3, Mishap::Never, Ok(()), &b"abc"[..]),
-        (1000, Mishap::AlwaysInterrupted, Err(OutputFault), &b""[..]),
+        (1000, Mishap::AlwaysInterrupted, Err(WriteFailed), &b""[..]),
     ] {
         let faulty = Faulty::new(Vec::new(rt.alloc()), 1, mishap);
         let mut writer = Metered::with_turns(faulty, turns);

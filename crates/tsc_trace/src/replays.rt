@@ -1,0 +1,167 @@
+//! Replays of recorded traces to a writer, and from a reader to a writer.
+ghost use Rattle.std.specs.Prelude.{◌≡◌, ◌++◌, Some, IfErr, OnOk};
+ghost use Rattle.tsc_trace.specs.LogText.{log_text};
+ghost use Rattle.tsc_trace.specs.Replay.{Done, StopsReplay, StopsWriting, fault_of_input, fault_of_output, fault_of_trace, fault_text, replay_text};
+ghost use Rattle.tsc_trace.specs.Stream.{HasWritten};
+ghost use Rattle.tsc_trace.specs.declared.replays.OutFault.TheVariants as out_fault;
+
+use crate::log::{Log, log_text};
+use crate::player::play;
+use crate::read::{TraceFault, read_trace};
+use crate::stream::{InputFault, Sink, Source, WriteFailed, read_input, write_output};
+use crate::trace::Trace;
+use itoa::Buffer;
+use std::alloc::Global;
+use std::error::Error;
+use std::fmt;
+use thiserror::Error;
+use tsc_time::NoMemory;
+
+/// Why a log was not written.
+#[derive(Clone, Copy, Debug, PartialEq, Eq, Error)]
+pub enum OutFault {
+    /// A write failed or took nothing, or there was no end after 33,554,432 writes. How much went out is
+    /// not told.
+    #[error("write failed")]
+    Write,
+    /// A growth was refused. Nothing was written.
+    #[error("out of memory")]
+    NoMemory,
+}
+
+impl From<NoMemory> for OutFault {
+    ghost from_gives = { λ _ given. given ≡ out_fault.NoMemory };
+
+    fn from(_refused: NoMemory) -> OutFault {
+        OutFault::NoMemory
+    }
+}
+
+impl From<WriteFailed> for OutFault {
+    ghost from_gives = { λ _ given. given ≡ out_fault.Write };
+
+    fn from(_failed: WriteFailed) -> OutFault {
+        OutFault::Write
+    }
+}
+
+/// Why a replay ended early. Before any fault but [`ReplayFault::Write`] nothing was written.
+#[derive(Clone, Copy, Debug, PartialEq, Eq)]
+pub enum ReplayFault {
+    /// A read failed, or there was no end after 33,554,432 reads.
+    Read,
+    /// There were more than 16,777,216 bytes.
+    TooLong,
+    /// The bytes are not a trace. Want of memory is [`ReplayFault::NoMemory`] instead.
+    Trace(TraceFault),
+    /// A write failed or took nothing, or there was no end after 33,554,432 writes.
+    Write,
+    /// A growth was refused. Nothing was written.
+    NoMemory,
+}
+
+impl ReplayFault {
+    /// The text of a fault in two parts, of which the second is a number or empty. It takes no memory.
+    pub fn parts<'d>(self, digits: &'d mut Buffer) -> (&'static str, &'d str)
+        ensures { result.0.now ++ result.1.now ≡ fault_text self }
+    {
+        match self {
+            ReplayFault::Read => ("read failed", ""),
+            ReplayFault::TooLong => ("input too long", ""),
+            ReplayFault::Trace(TraceFault::NotJson) => ("trace refused: fault 1", ""),
+            ReplayFault::Trace(TraceFault::Shape(call)) => {
+                ("trace refused: fault 2 at call ", digits.format(call))
+            }
+            ReplayFault::Write => ("write failed", ""),
+            ReplayFault::NoMemory | ReplayFault::Trace(TraceFault::NoMemory) => {
+                ("out of memory", "")
+            }
+        }
+    }
+}
+
+impl fmt::Display for ReplayFault {
+    ghost output = { λ fault. Some (fault_text fault) };
+
+    fn fmt<W: fmt::Write>(&self, f: &mut fmt::Formatter<W>) -> fmt::Result {
+        let mut digits = Buffer::new();
+        let (text, number) = self.parts(&mut digits);
+        write!(f, "{text}{number}")
+    }
+}
+
+impl Error for ReplayFault {}
+
+impl From<InputFault> for ReplayFault {
+    ghost from_gives = { λ fault given. given ≡ fault_of_input fault };
+
+    fn from(fault: InputFault) -> ReplayFault {
+        match fault {
+            InputFault::Read => ReplayFault::Read,
+            InputFault::TooLong => ReplayFault::TooLong,
+            InputFault::NoMemory => ReplayFault::NoMemory,
+        }
+    }
+}
+
+impl From<TraceFault> for ReplayFault {
+    ghost from_gives = { λ fault given. given ≡ fault_of_trace fault };
+
+    fn from(fault: TraceFault) -> ReplayFault {
+        match fault {
+            TraceFault::NoMemory => ReplayFault::NoMemory,
+            TraceFault::NotJson | TraceFault::Shape(_) => ReplayFault::Trace(fault),
+        }
+    }
+}
+
+impl From<OutFault> for ReplayFault {
+    ghost from_gives = { λ fault given. given ≡ fault_of_output fault };
+
+    fn from(fault: OutFault) -> ReplayFault {
+        match fault {
+            OutFault::Write => ReplayFault::Write,
+            OutFault::NoMemory => ReplayFault::NoMemory,
+        }
+    }
+}
+
+/// Writes the text of a log. The text is made whole in memory before any of it is written.
+pub fn write_log<W: Sink>(alloc: Global, log: &Log, writer: &mut W) -> Result<(), OutFault>
+    ensures ok { OnOk result (HasWritten (W.known writer.old) (W.known writer.new) (log_text log.now.lines)) }
+    ensures err { IfErr result (λ fault.
+        StopsWriting fault (W.known writer.old) (W.known writer.new) (log_text log.now.lines)) }
+{
+    let text = log_text(alloc, log)?;
+    Ok(write_output(writer, &text)?)
+}
+
+/// Replays a trace on one thread, and writes the text of its log.
+pub fn replay<W: Sink>(alloc: Global, trace: &Trace, writer: &mut W) -> Result<(), OutFault>
+    ensures ok { OnOk result (HasWritten (W.known writer.old) (W.known writer.new) (replay_text trace.now)) }
+    ensures err { IfErr result (λ fault.
+        StopsWriting fault (W.known writer.old) (W.known writer.new) (replay_text trace.now)) }
+{
+    let log = play(alloc, trace)?;
+    write_log(alloc, &log, writer)
+}
+
+/// Reads a trace to its end, and writes the text of the log of its replay on one thread.
+///
+/// The input is freed before the replay begins. Once a read or a write has failed, no later call makes up
+/// for it.
+pub fn replay_stream<R: Source, W: Sink>(
+    alloc: Global,
+    reader: &mut R,
+    writer: &mut W,
+) -> Result<(), ReplayFault>
+    ensures ok { OnOk result (Done (R.known reader.old) (R.known reader.new)
+        (W.known writer.old) (W.known writer.new)) }
+    ensures err { IfErr result (λ fault. StopsReplay fault (R.known reader.old) (R.known reader.new)
+        (W.known writer.old) (W.known writer.new)) }
+{
+    let input = read_input(alloc, reader)?;
+    let trace = read_trace(alloc, &input)?;
+    drop(input);
+    Ok(replay(alloc, &trace, writer)?)
+}
