@@ -5,7 +5,7 @@ use Rattle.tsc_cache.specs.State.{step}
 use Rattle.tsc_cache.specs.declared.history.Entry.{Entry}
 use Rattle.tsc_cache.specs.History.{History, own_count, mark_of, state_of}
 use Rattle.tsc_cache.proofs.Histories.{state_of-push}
-use Rattle.tsc_trace.specs.Log.{answer_of, after_call, after_calls, lines_of_list, lines_of_lists}
+use Rattle.tsc_trace.specs.Log.{said_after, after_call, after_calls, lines_of_list, lines_of_lists}
 use Rattle.tsc_trace.specs.Play.{standing_after, said_at, next, next_all, played, played_lists}
 use Rattle.tsc_trace.specs.declared.trace.Call.{Call}
 use Rattle.tsc_trace.specs.declared.trace.Call.TheVariants.{Add, Get, Low}
@@ -18,7 +18,7 @@ standing_after-append settings h e =
     λ i. record { state = state i; adds = adds i }
 
 -- the answer is the one that is made anew
-pub said_anew : (settings : Settings) (h : History) (call : Call) → answer_of settings h call ≡ said_at settings (standing_after settings h) call
+pub said_anew : (settings : Settings) (h : History) (call : Call) → said_after settings h call ≡ said_at settings (standing_after settings h) call
 said_anew settings h (Add span value now) = refl
 said_anew settings h (Get span) = refl
 said_anew settings h Low = refl

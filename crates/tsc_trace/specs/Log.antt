@@ -11,10 +11,10 @@ use Rattle.tsc_trace.specs.declared.log.Said.{Said}
 use Rattle.tsc_trace.specs.declared.log.Said.TheVariants as said
 
 -- what a call answers after a history, from the state that the history leaves of the opening one
-abbrev pub answer_of : Settings → History → Call → Said
-answer_of settings h (Add span value now) = said.Add (length h) (step settings (state_of settings h) (record { span = span; value = value }) now).added
-answer_of settings h (Get span) = said.Get (length h) (look (state_of settings h) span)
-answer_of settings h Low = said.Low (length h) (state_of settings h).floor
+abbrev pub said_after : Settings → History → Call → Said
+said_after settings h (Add span value now) = said.Add (length h) (step settings (state_of settings h) (record { span = span; value = value }) now).added
+said_after settings h (Get span) = said.Get (length h) (look (state_of settings h) span)
+said_after settings h Low = said.Low (length h) (state_of settings h).floor
 
 -- the history after a call of the list with this number, which is the seat of its Adds
 abbrev pub after_call : ℕ → History → Call → History
@@ -31,7 +31,7 @@ after_calls thread h (call ∷ calls) = after_calls thread (after_call thread h 
 abbrev pub lines_of_list : Settings → ℕ → ℕ → History → List Call → List Line
 lines_of_list settings thread index h [] = []
 lines_of_list settings thread index h (call ∷ calls) =
-    record { thread = thread; index = index; said = answer_of settings h call } ∷ lines_of_list settings thread (suc index) (after_call thread h call) calls
+    record { thread = thread; index = index; said = said_after settings h call } ∷ lines_of_list settings thread (suc index) (after_call thread h call) calls
 
 -- the lines of the lists, from the list with this number on
 abbrev pub lines_of_lists : Settings → ℕ → History → List (List Call) → List Line

@@ -1,4 +1,4 @@
-use super::{InputFault, Metered, WriteFailed, read_input, write_output};
+use super::{InputFault, MOST_TURNS, Metered, WriteFailed, read_input, write_output};
 use crate::fakes::{Faulty, Mishap};
 use std::alloc::{AllocError, Global};
 use std::io;
@@ -7,7 +7,7 @@ use std::test::Fail;
 
 impl<T> Metered<T> {
     /// `inner`, with so many calls.
-    pub(crate) fn with_turns(inner: T, turns: u32) -> Metered<T> {
+    fn with_turns(inner: T, turns: u32) -> Metered<T> {
         Metered {
             inner,
             turns,
@@ -17,145 +17,127 @@ impl<T> Metered<T> {
     }
 }
 
+/// How many bytes a call moves, what goes wrong, how many calls there may be, how reading `abc` ends, and
+/// after how many calls.
+type Reading = (usize, Mishap, u32, Option<InputFault>, u64);
+
+/// Three reads of a byte, and one that meets the end.
+static READINGS: [Reading; 13] = [
+    (1, Mishap::Never, MOST_TURNS, None, 4),
+    (9, Mishap::Never, MOST_TURNS, None, 2),
+    (1, Mishap::InterruptedNowAndThen, MOST_TURNS, None, 8),
+    (1, Mishap::FailsAt(0), MOST_TURNS, Some(InputFault::Read), 1),
+    (1, Mishap::FailsAt(1), MOST_TURNS, Some(InputFault::Read), 2),
+    (1, Mishap::FailsAt(2), MOST_TURNS, Some(InputFault::Read), 3),
+    (1, Mishap::FailsAt(3), MOST_TURNS, Some(InputFault::Read), 4),
+    (1, Mishap::FailsAt(4), MOST_TURNS, None, 4),
+    (1, Mishap::Never, 0, Some(InputFault::Read), 0),
+    (1, Mishap::Never, 3, Some(InputFault::Read), 3),
+    (1, Mishap::Never, 4, None, 4),
+    (
+        1,
+        Mishap::AlwaysInterrupted,
+        1000,
+        Some(InputFault::Read),
+        1000,
+    ),
+    (
+        1,
+        Mishap::InterruptedNowAndThen,
+        7,
+        Some(InputFault::Read),
+        7,
+    ),
+];
+
+/// How many bytes a call moves, what goes wrong, how many calls there may be, what is written of `abc`, and
+/// after how many calls.
+type Writing = (usize, Mishap, u32, &'static [u8], u64);
+
+/// Three writes of a byte.
+static WRITINGS: [Writing; 11] = [
+    (1, Mishap::Never, MOST_TURNS, b"abc", 3),
+    (9, Mishap::Never, MOST_TURNS, b"abc", 1),
+    (0, Mishap::Never, MOST_TURNS, b"", 1),
+    (1, Mishap::InterruptedNowAndThen, MOST_TURNS, b"abc", 6),
+    (1, Mishap::FailsAt(0), MOST_TURNS, b"", 1),
+    (1, Mishap::FailsAt(1), MOST_TURNS, b"a", 2),
+    (1, Mishap::FailsAt(2), MOST_TURNS, b"ab", 3),
+    (1, Mishap::Never, 0, b"", 0),
+    (1, Mishap::Never, 2, b"ab", 2),
+    (1, Mishap::Never, 3, b"abc", 3),
+    (1, Mishap::AlwaysInterrupted, 1000, b"", 1000),
+];
+
+/// The first row of a table of readings that doesn't hold.
+fn wrong_reading(alloc: Global, rows: &[Reading]) -> Option<usize> {
+    for (i, (step, mishap, turns, fault, calls)) in rows.iter().enumerate() {
+        let faulty = Faulty::new(&b"abc"[..], *step, *mishap);
+        let mut reader = Metered::with_turns(faulty, *turns);
+        let read = read_input(alloc, &mut reader);
+        let whole = matches!(&read, Ok(input) if input.as_slice() == b"abc".as_slice());
+        if read.err() != *fault || whole != fault.is_none() || reader.into_inner().calls != *calls {
+            return Some(i);
+        }
+    }
+    None
+}
+
+/// The first row of a table of writings that doesn't hold.
+fn wrong_writing(alloc: Global, rows: &[Writing]) -> Option<usize> {
+    for (i, (step, mishap, turns, front, calls)) in rows.iter().enumerate() {
+        let faulty = Faulty::new(Vec::new(alloc), *step, *mishap);
+        let mut writer = Metered::with_turns(faulty, *turns);
+        let ends = write_output(&mut writer, b"abc");
+        let wanted = if front.len() == 3 {
+            Ok(())
+        } else {
+            Err(WriteFailed)
+        };
+        let faulty = writer.into_inner();
+        if ends != wanted || faulty.inner.as_slice() != *front || faulty.calls != *calls {
+            return Some(i);
+        }
+    }
+    None
+}
+
 /// Bytes that do not repeat soon.
 fn pattern(alloc: Global, len: u32) -> Result<Vec<u8>, AllocError> {
     (0..len).map(|i| (i % 251) as u8).collect(alloc)
 }
 
-/// What is read from these bytes, and how often the reader was called.
-fn read_faulty(
-    alloc: Global,
-    bytes: &[u8],
-    step: usize,
-    mishap: Mishap,
-) -> (Result<Vec<u8>, InputFault>, u64) {
+/// Whether long bytes come whole out of a reader and into a writer that move so many a call.
+fn moves_all(alloc: Global, bytes: &[u8], step: usize) -> Result<bool, Fail> {
+    let mishap = Mishap::InterruptedNowAndThen;
     let mut reader = Metered::new(Faulty::new(bytes, step, mishap));
-    let input = read_input(alloc, &mut reader);
-    (input, reader.into_inner().calls)
-}
-
-/// How writing these bytes ended, what was written, and how often the writer was called.
-fn write_faulty(
-    alloc: Global,
-    bytes: &[u8],
-    step: usize,
-    mishap: Mishap,
-) -> (Result<(), WriteFailed>, Vec<u8>, u64) {
+    let Ok(input) = read_input(alloc, &mut reader) else {
+        return Ok(false);
+    };
     let mut writer = Metered::new(Faulty::new(Vec::new(alloc), step, mishap));
-    let written = write_output(&mut writer, bytes);
-    let Faulty { inner, calls, .. } = writer.into_inner();
-    (written, inner, calls)
+    let written = write_output(&mut writer, &input);
+    Ok(written.is_ok() && writer.into_inner().inner.as_slice() == bytes)
+}
+
+/// How reading so many spaces ends.
+fn read_spaces(alloc: Global, count: u64) -> Result<usize, InputFault> {
+    let mut reader = Metered::new(io::repeat(b' ').take(count));
+    Ok(read_input(alloc, &mut reader)?.len())
 }
 
 #[test]
-fn reads_to_the_end_past_short_and_interrupted_reads(rt: HostRuntime) -> Result<(), Fail> {
+fn reading_and_writing(rt: HostRuntime) -> Result<(), Fail> {
+    assert_eq!(rt; wrong_reading(rt.alloc(), &READINGS), None);
+    assert_eq!(rt; wrong_writing(rt.alloc(), &WRITINGS), None);
     let bytes = pattern(rt.alloc(), 200_000)?;
-    for step in [1, 7, 65_536, 1_000_000] {
-        for mishap in [Mishap::Never, Mishap::InterruptedNowAndThen] {
-            let (input, _) = read_faulty(rt.alloc(), &bytes, step, mishap);
-            assert_eq!(rt; input?.as_slice(), bytes.as_slice(), "{step} {mishap:?}");
-        }
+    for step in [7, 65_536, 1_000_000] {
+        assert!(rt; moves_all(rt.alloc(), &bytes, step)?, "{step}");
     }
+    assert_eq!(rt; read_spaces(rt.alloc(), 16_777_216), Ok(16_777_216));
+    assert_eq!(rt;
+        read_spaces(rt.alloc(), 16_777_217),
+        Err(InputFault::TooLong)
+    );
+    assert_eq!(rt; read_spaces(rt.alloc(), u64::MAX), Err(InputFault::TooLong));
     Ok(())
-}
-
-#[test]
-fn reads_no_bytes(rt: HostRuntime) -> Result<(), Fail> {
-    let (input, calls) = read_faulty(rt.alloc(), &[], 1, Mishap::Never);
-    assert_eq!(rt; input?.len(), 0);
-    assert_eq!(rt; calls, 1);
-    Ok(())
-}
-
-#[test]
-fn a_failed_read_ends_reading(rt: HostRuntime) {
-    // three reads of a byte, and one that meets the end
-    for failing in 0..4 {
-        let (input, calls) = read_faulty(rt.alloc(), b"abc", 1, Mishap::FailsAt(failing));
-        assert_eq!(rt; input.err(), Some(InputFault::Read), "{failing}");
-        assert_eq!(rt; calls, failing + 1);
-    }
-    let (input, calls) = read_faulty(rt.alloc(), b"abc", 1, Mishap::FailsAt(4));
-    assert!(rt; input.is_ok());
-    assert_eq!(rt; calls, 4);
-}
-
-#[test]
-fn reading_gives_up_after_the_last_turn(rt: HostRuntime) {
-    // three reads of a byte, and one that meets the end
-    for (turns, mishap, fault) in [
-        (0, Mishap::Never, Some(InputFault::Read)),
-        (3, Mishap::Never, Some(InputFault::Read)),
-        (4, Mishap::Never, None),
-        (1000, Mishap::AlwaysInterrupted, Some(InputFault::Read)),
-    ] {
-        let mut reader = Metered::with_turns(Faulty::new(&b"abc"[..], 1, mishap), turns);
-        assert_eq!(rt; read_input(rt.alloc(), &mut reader).err(), fault, "{turns}");
-        assert_eq!(rt; reader.into_inner().calls, u64::from(turns));
-    }
-}
-
-#[test]
-fn an_input_has_a_longest_length(rt: HostRuntime) -> Result<(), Fail> {
-    let mut longest = Metered::new(io::repeat(b' ').take(16_777_216));
-    assert_eq!(rt; read_input(rt.alloc(), &mut longest)?.len(), 16_777_216);
-    let mut too_long = Metered::new(io::repeat(b' ').take(16_777_217));
-    let input = read_input(rt.alloc(), &mut too_long);
-    assert_eq!(rt; input.err(), Some(InputFault::TooLong));
-    let mut endless = Metered::new(io::repeat(b' '));
-    let input = read_input(rt.alloc(), &mut endless);
-    assert_eq!(rt; input.err(), Some(InputFault::TooLong));
-    Ok(())
-}
-
-#[test]
-fn writes_all_past_short_and_interrupted_writes(rt: HostRuntime) -> Result<(), Fail> {
-    let bytes = pattern(rt.alloc(), 100_000)?;
-    for step in [1, 7, 1_000_000] {
-        for mishap in [Mishap::Never, Mishap::InterruptedNowAndThen] {
-            let (result, written, _) = write_faulty(rt.alloc(), &bytes, step, mishap);
-            assert_eq!(rt; result, Ok(()), "{step} {mishap:?}");
-            assert_eq!(rt; written.as_slice(), bytes.as_slice());
-        }
-    }
-    Ok(())
-}
-
-#[test]
-fn a_failed_write_ends_writing(rt: HostRuntime) {
-    for (failing, front) in [(0, &b""[..]), (1, &b"a"[..]), (2, &b"ab"[..])] {
-        let (result, written, calls) = write_faulty(
-            rt.alloc(),
-            b"abc",
-            1,
-            Mishap::FailsAt(failing),
-        );
-        assert_eq!(rt; result, Err(WriteFailed));
-        assert_eq!(rt; written.as_slice(), front);
-        assert_eq!(rt; calls, failing + 1);
-    }
-}
-
-#[test]
-fn a_write_that_takes_nothing_fails(rt: HostRuntime) {
-    let (result, written, calls) = write_faulty(rt.alloc(), b"abc", 0, Mishap::Never);
-    assert_eq!(rt; result, Err(WriteFailed));
-    assert_eq!(rt; (written.len(), calls), (0, 1));
-}
-
-#[test]
-fn writing_gives_up_after_the_last_turn(rt: HostRuntime) {
-    for (turns, mishap, result, front) in [
-        (0, Mishap::Never, Err(WriteFailed), &b""[..]),
-        (2, Mishap::Never, Err(WriteFailed), &b"ab"[..]),
-        (3, Mishap::Never, Ok(()), &b"abc"[..]),
-        (1000, Mishap::AlwaysInterrupted, Err(WriteFailed), &b""[..]),
-    ] {
-        let faulty = Faulty::new(Vec::new(rt.alloc()), 1, mishap);
-        let mut writer = Metered::with_turns(faulty, turns);
-        assert_eq!(rt; write_output(&mut writer, b"abc"), result, "{turns}");
-        let Faulty { inner, calls, .. } = writer.into_inner();
-        assert_eq!(rt; inner.as_slice(), front);
-        assert_eq!(rt; calls, u64::from(turns));
-    }
 }
