@@ -1,4 +1,4 @@
--- How the program ends: what its words ask for, what that comes to, its exit status, and what it tells.
+-- What the program does: what its words ask for, what that comes to, its exit status, and what it tells.
 use Rattle.std.specs.Prelude.{◌≡◌, ◌++◌, ℕ, List, [], ◌∷◌, map, Option, Result, Ok, Err, Vec, string_bytes}
 use Rattle.std.specs.declared.string.String.{String}
 use Rattle.std.specs.declared.alloc.Global.{Global}
@@ -13,6 +13,16 @@ use Rattle.tscache.specs.declared.place.OpenFault.{OpenFault}
 use Rattle.tscache.specs.declared.place.OpenFault.TheVariants as open_fault
 use Rattle.tscache.specs.declared.words.WordsFault.{WordsFault}
 
+-- the program's words, or why they are not to be had
+abbrev pub texts_of : Result (Vec (String Global) Global) WordsFault → Result (List Word) WordsFault
+texts_of (Ok words) = Ok (map string_bytes words.items)
+texts_of (Err fault) = Err fault
+
+-- what the words ask for, where they are to be had
+abbrev pub AskFor : Result (List Word) WordsFault → Result Request WordsFault → Type 0
+AskFor (Ok words) asked = Answers (λ request. request) (request_in words) asked
+AskFor (Err fault) asked = asked ≡ Err fault
+
 -- Nothing was written, and one line was told, with this exit status.
 pub record OnlyTells (line : List ℕ) (wanted status : ℕ) (writer writer' errors errors' : KnownWriter) : Type 0 where
   pub is_status : status ≡ wanted
@@ -24,41 +34,31 @@ abbrev pub fault_of_open : OpenFault → ReplayFault
 fault_of_open open_fault.Unopened = Read
 fault_of_open open_fault.NoMemory = NoMemory
 
--- A file was opened, and replayed from its first byte on.
-pub record EndsOpened (bytes : Option (List ℕ)) (status : ℕ) (writer writer' errors errors' : KnownWriter) : Type 0 where
+-- A file with these bytes, where they are known, was replayed from its first byte on.
+pub record ReplaysBytes (bytes : Option (List ℕ)) (status : ℕ) (writer writer' errors errors' : KnownWriter) : Type 0 where
   pub reader' : KnownReader
   pub ends : EndsReplay status (fresh_reader bytes) reader' writer writer' errors errors'
 
--- how the replay of a file ends, by what opening it came to
-abbrev pub EndsFrom : Opening → ℕ → KnownWriter → KnownWriter → KnownWriter → KnownWriter → Type 0
-EndsFrom (Ok bytes) status writer writer' errors errors' = EndsOpened bytes status writer writer' errors errors'
-EndsFrom (Err fault) status writer writer' errors errors' =
+-- how the replay of a file ends, by what opening the file came to
+abbrev pub ReplaysOpening : Opening → ℕ → KnownWriter → KnownWriter → KnownWriter → KnownWriter → Type 0
+ReplaysOpening (Ok bytes) status writer writer' errors errors' = ReplaysBytes bytes status writer writer' errors errors'
+ReplaysOpening (Err fault) status writer writer' errors errors' =
     OnlyTells (fault_line (fault_of_open fault)) (status_of (fault_of_open fault)) status writer writer' errors errors'
 
--- A file was opened, or was not, and its replay ended by that.
-pub record EndsFile (may_be : Opening → Type 0) (status : ℕ) (writer writer' errors errors' : KnownWriter) : Type 0 where
+-- A file was opened, or was not, and its replay ended by that. What opening it may come to is for the place.
+pub record ReplaysFile (may_be : Opening → Type 0) (status : ℕ) (writer writer' errors errors' : KnownWriter) : Type 0 where
   pub opening : Opening
   pub opened : may_be opening
-  pub ends : EndsFrom opening status writer writer' errors errors'
+  pub ends : ReplaysOpening opening status writer writer' errors errors'
 
--- how the program ends, by what it is asked to do, with what opening a file of a name may come to
-abbrev pub EndsBy : Result Request WordsFault → (Word → Opening → Type 0) → ℕ → KnownWriter → KnownWriter → KnownWriter → KnownWriter → Type 0
-EndsBy (Ok (replay file)) opens status writer writer' errors errors' = EndsFile (opens file) status writer writer' errors errors'
-EndsBy (Err fault) opens status writer writer' errors errors' =
+-- how the program ends, by what it is asked to do: to replay the file of a name, or nothing
+abbrev pub DoesAsked : Result Request WordsFault → (Word → Opening → Type 0) → ℕ → KnownWriter → KnownWriter → KnownWriter → KnownWriter → Type 0
+DoesAsked (Ok (replay file)) opens status writer writer' errors errors' = ReplaysFile (opens file) status writer writer' errors errors'
+DoesAsked (Err fault) opens status writer writer' errors errors' =
     OnlyTells (refusal_text fault ++ line_feed ∷ []) (refusal_status fault) status writer writer' errors errors'
 
--- the program's words, or why they are not to be had
-abbrev pub texts_of : Result (Vec (String Global) Global) WordsFault → Result (List Word) WordsFault
-texts_of (Ok words) = Ok (map string_bytes words.items)
-texts_of (Err fault) = Err fault
-
--- what the words ask for, where they are to be had
-abbrev pub Ask : Result (List Word) WordsFault → Result Request WordsFault → Type 0
-Ask (Ok words) asked = Answers (λ request. request) (request_in words) asked
-Ask (Err fault) asked = asked ≡ Err fault
-
--- The program was asked for something, or for nothing, and ended by that.
-pub record EndsProgram (words : Result (List Word) WordsFault) (opens : Word → Opening → Type 0) (status : ℕ) (writer writer' errors errors' : KnownWriter) : Type 0 where
+-- The program did what its words ask for, with what opening the file of a name may come to.
+pub record RunsProgram (words : Result (List Word) WordsFault) (opens : Word → Opening → Type 0) (status : ℕ) (writer writer' errors errors' : KnownWriter) : Type 0 where
   pub asked : Result Request WordsFault
-  pub is_asked : Ask words asked
-  pub ends : EndsBy asked opens status writer writer' errors errors'
+  pub is_asked : AskFor words asked
+  pub ends : DoesAsked asked opens status writer writer' errors errors'

@@ -1,6 +1,6 @@
 //! The program, over its words, a place of files, a writer and a stream for faults.
 ghost use Rattle.std.specs.Prelude.{◌≡◌};
-ghost use Rattle.tscache.specs.Program.{Ask, EndsFile, EndsProgram, fault_of_open, texts_of};
+ghost use Rattle.tscache.specs.Program.{AskFor, ReplaysFile, RunsProgram, fault_of_open, texts_of};
 ghost use Rattle.tscache.specs.Replay.{Tells};
 ghost use Rattle.tscache.specs.Words.{asked_as};
 
@@ -21,7 +21,7 @@ pub fn program<P: Place, W: Sink, E: Sink>(
     writer: &mut W,
     errors: &mut E,
 ) -> u8
-    ensures { EndsProgram (texts_of words) (P.opens place.now) result
+    ensures { RunsProgram (texts_of words) (P.opens place.now) result
         (W.known writer.old) (W.known writer.new) (E.known errors.old) (E.known errors.new) }
 {
     match asked(alloc, words) {
@@ -35,7 +35,7 @@ pub fn program<P: Place, W: Sink, E: Sink>(
 
 /// What the words ask for, where they are to be had.
 fn asked(alloc: Global, words: Result<Vec<String>, WordsFault>) -> Result<Asked, WordsFault>
-    ensures { Ask (texts_of words) (asked_as result) }
+    ensures { AskFor (texts_of words) (asked_as result) }
 {
     request(alloc, &words?)
 }
@@ -48,7 +48,7 @@ fn replay_file<P: Place, W: Sink, E: Sink>(
     writer: &mut W,
     errors: &mut E,
 ) -> u8
-    ensures { EndsFile (P.opens place.now file.now) result
+    ensures { ReplaysFile (P.opens place.now file.now) result
         (W.known writer.old) (W.known writer.new) (E.known errors.old) (E.known errors.new) }
 {
     match place.open(file) {
@@ -77,3 +77,6 @@ fn tell_line<E: Sink>(errors: &mut E, line: &str)
 {
     let _ = write_output(errors, line.as_bytes());
 }
+
+#[cfg(test)]
+mod tests;

@@ -92,11 +92,11 @@ fn matches_of<'a>(alloc: Global, words: &'a [String]) -> Result<ArgMatches<'a>, 
     ensures found { IfOk result (λ matches.
         subcommand_rows_of matches ≡ subcommand_of program_app (map string_bytes words.entry.now)) }
 {
-    program(alloc)?.try_get_matches_from(words)
+    clap_command(alloc)?.try_get_matches_from(words)
 }
 
-/// The program's command. Help is no part of it: one line tells how it is called.
-fn program<'a>(alloc: Global) -> Result<Command<'a>, AllocError>
+/// The words that clap takes. Help is no part of them: one line tells how the program is called.
+fn clap_command<'a>(alloc: Global) -> Result<Command<'a>, AllocError>
     ensures { IfOk result (λ command. app_of command ≡ program_app) }
 {
     Command::new(alloc, "tscache")
