@@ -1,10 +1,14 @@
 -- What clap found for a subcommand, by its name.
-use Rattle.std.proofs.Common.{◌≡◌, ◌∙◌, sym, ap, List, Option, Some, None, codes, true≢false, is_some, unwrap_or, IsNone, ◌⊎◌, inl, inr, ℕ}
+use Rattle.std.proofs.Common.{◌≡◌, ◌∙◌, sym, ap, List, Option, Some, None, codes, true≢false, is_some, unwrap_or, IsNone, Result, Ok, Err, subst}
+use Rattle.std.specs.Result.{IsErrAnd}
 use Rattle.std.specs.Prelude.{option_map}
 use Rattle.clap.specs.Words.{Row, Text, first_value, found_of, rows_of, subcommand_name_of, subcommand_rows_of}
 use Rattle.clap.specs.declared.ArgMatches.{ArgMatches}
 use Rattle.clap.proofs.WalkLemmas.{first_value-rows}
-use Rattle.tscache.specs.Words.{replay}
+use Rattle.tscache.specs.Words.{Answers, Explains, Request, asks, replay}
+use Rattle.tscache.specs.declared.words.Asked.{Asked}
+use Rattle.tscache.specs.declared.words.WordsFault.{WordsFault}
+use Rattle.tscache.specs.declared.words.WordsFault.TheVariants.{Wrong, NoMemory}
 use Rattle.tscache.specs.Commands.{request_found}
 
 module _ {A B C : Type 0} (f : A → B) (g : A → C) where
@@ -24,8 +28,18 @@ pub asks_found : (m sub : ArgMatches) → subcommand_name_of m ≡ Some (codes "
 asks_found m sub name rows =
     ap request_found (both_parts _ _ _ _ _ name rows) ∙ ap (option_map replay) (sym (first_value-rows (found_of sub) (codes "file")))
 
--- a status that says that the value is not there
-pub says_none : (status : ℕ) (value : Option Text) → (status ≡ 5) ⊎ ((status ≡ 2) × IsNone value) → (status ≡ 5) ⊎ ((status ≡ 2) × IsNone (option_map replay value))
-says_none status None h = h
-says_none status (Some text) (inl memory) = inl memory
-says_none status (Some text) (inr h) = inr (h.0, h.1)
+-- a reason why there is no value is one why it asks for nothing
+pub explains_found : (fault : WordsFault) (value : Option Text) → Explains value fault → Explains (option_map replay value) fault
+explains_found Wrong None h = h
+explains_found Wrong (Some text) h = h
+explains_found NoMemory value h = h
+
+-- where nothing is asked for, each reason is one
+pub nothing_explains : (fault : WordsFault) (wanted : Option Request) → IsNone wanted → Explains wanted fault
+nothing_explains Wrong wanted none = none
+nothing_explains NoMemory wanted none = tt
+
+-- a reason handed on stays one
+pub refused_alike : (r : Result Asked WordsFault) (fault : WordsFault) (wanted : Option Request) → IsErrAnd r (λ e. e ≡ fault) → Explains wanted fault → Answers asks wanted r
+refused_alike (Ok answer) fault wanted same told = absurd same
+refused_alike (Err e) fault wanted same told = subst (Explains wanted) (sym same) told

@@ -1,3 +1,4 @@
 pub mod WordExamples
 pub mod WordLemmas
 pub mod FoundLemmas
+pub mod ProgramExamples

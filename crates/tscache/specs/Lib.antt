@@ -1,3 +1,5 @@
 pub mod Commands
+pub mod Place
+pub mod Program
 pub mod Replay
 pub mod Words

@@ -1,9 +1,11 @@
 -- What the program's words ask for. The first word is the program's own name.
-use Rattle.std.specs.Prelude.{◌==◌, ◌&&◌, ℕ, Bool, false, List, [], ◌∷◌, drop, codes, slice_get}
-use Rattle.std.specs.Prelude.{Option, Some, None, is_some, option_map, if◌then◌else◌, string_bytes}
+use Rattle.std.specs.Prelude.{◌≡◌, ◌==◌, ◌&&◌, ℕ, Bool, false, List, [], ◌∷◌, drop, codes, slice_get}
+use Rattle.std.specs.Prelude.{Option, Some, None, IsNone, is_some, option_map, Result, Ok, Err, if◌then◌else◌, string_bytes}
 use Rattle.std.specs.Str.{bytes_eq, chars}
 use Rattle.tscache.specs.declared.words.Asked.{Asked}
 use Rattle.tscache.specs.declared.words.Asked.TheVariants.{Replay}
+use Rattle.tscache.specs.declared.words.WordsFault.{WordsFault}
+use Rattle.tscache.specs.declared.words.WordsFault.TheVariants.{Wrong, NoMemory}
 
 -- a word, as its bytes
 abbrev pub Word : Type 0
@@ -16,6 +18,11 @@ pub data Request : Type 0 where
 -- what the code's answer asks for
 abbrev pub asks : Asked → Request
 asks (Replay file) = replay (string_bytes file)
+
+-- what the code's answer asks for, or why for nothing
+abbrev pub asked_as : Result Asked WordsFault → Result Request WordsFault
+asked_as (Ok asked) = Ok (asks asked)
+asked_as (Err fault) = Err fault
 
 -- a hyphen (45), with a character after it
 abbrev pub is_flag : Word → Bool
@@ -51,7 +58,22 @@ request_after (name ∷ rest) = request_by name rest
 abbrev pub request_in : List Word → Option Request
 request_in words = request_after (drop 1 words)
 
--- what tells why the words asked for nothing
-abbrev pub refusal_text : ℕ → List ℕ
-refusal_text status = if status == 5 then codes "out of memory"
-    else codes "usage: tscache replay FILE, run FILE or check FILE LOG"
+-- why there is nothing to answer: nothing was asked for, or memory was wanting, whatever was asked for
+abbrev pub Explains : {A : Type 0} → Option A → WordsFault → Type 0
+Explains wanted Wrong = IsNone wanted
+Explains wanted NoMemory = Unit {0}
+
+-- what is asked for, as the code has it, or why there is nothing to answer
+abbrev pub Answers : {A B : Type 0} → (A → B) → Option B → Result A WordsFault → Type 0
+Answers view wanted (Ok answer) = wanted ≡ Some (view answer)
+Answers view wanted (Err fault) = Explains wanted fault
+
+-- the exit status where the program is asked to do nothing
+abbrev pub refusal_status : WordsFault → ℕ
+refusal_status Wrong = 2
+refusal_status NoMemory = 5
+
+-- what tells why the program is asked to do nothing
+abbrev pub refusal_text : WordsFault → List ℕ
+refusal_text Wrong = codes "usage: tscache replay FILE, run FILE or check FILE LOG"
+refusal_text NoMemory = codes "out of memory"

@@ -62,4 +62,4 @@ fn write_fault<E: Sink>(errors: &mut E, fault: ReplayFault) -> Result<(), WriteF
 #[cfg(test)]
 mod tests;
 #[cfg(test)]
-mod traces;
+pub(crate) mod traces;

@@ -1,19 +1,15 @@
 //! What the program's words ask for.
-ghost use Rattle.std.specs.Prelude.{◌≡◌, ◌⊎◌, ◌↔◌, IfErr, IfOk, IsNone, Some, false, map, string_bytes};
+ghost use Rattle.std.specs.Prelude.{◌≡◌, ◌↔◌, ◌++◌, ◌∷◌, [], IfErr, IfOk, Some, false, map, string_bytes};
 ghost use Rattle.clap.specs.Words.{FailsBy, app_of, fault_of, first_value, found_of, shape_of, subcommand_of, subcommand_rows_of};
 ghost use Rattle.clap.specs.declared.builder.Command.TheViews.{out-Command as fields_of};
-ghost use Rattle.tscache.specs.Words.{asks, request_in};
+ghost use Rattle.tsc_trace.specs.LogText.{line_feed};
+ghost use Rattle.tscache.specs.Words.{Answers, Explains, asks, request_in, refusal_status, refusal_text};
+ghost use Rattle.tscache.specs.declared.words.WordsFault.TheVariants.{NoMemory};
 ghost use Rattle.tscache.specs.Commands.{one_file_shape, program_app, request_found};
 
 use clap::error::ErrorKind;
 use clap::{Arg, ArgMatches, Command, Error};
 use std::alloc::{AllocError, Global};
-
-/// The exit status of a call with wrong words.
-pub const WRONG_WORDS: u8 = 2;
-
-/// The exit status of a call that memory did not suffice for.
-pub const NO_MEMORY: u8 = 5;
 
 /// What the program is asked to do.
 #[derive(Debug, PartialEq, Eq, Drop)]
@@ -22,26 +18,71 @@ pub enum Asked {
     Replay { file: String },
 }
 
-/// Reads the program's words, of which the first is its own name. An `Err` holds the exit status.
-pub fn words(alloc: Global, words: &[String]) -> Result<Asked, u8>
-    ensures ok { IfOk result (λ asked. request_in (map string_bytes words.now) ≡ Some (asks asked)) }
-    ensures err { IfErr result (λ status. (status ≡ 5)
-        ⊎ ((status ≡ 2) × IsNone (request_in (map string_bytes words.now)))) }
-{
-    match matches_of(alloc, words) {
-        Ok(matches) => request_of(alloc, &matches),
-        Err(error) => Err(status_of(error.kind())),
+/// Why the program is asked to do nothing.
+#[derive(Clone, Copy, Debug, PartialEq, Eq)]
+pub enum WordsFault {
+    /// The words ask for nothing. A call for help is one of these.
+    Wrong,
+    /// A growth was refused.
+    NoMemory,
+}
+
+impl WordsFault {
+    /// The exit status: 2 for wrong words, 5 for want of memory.
+    pub fn status(self) -> u8
+        ensures { result ≡ refusal_status self }
+    {
+        match self {
+            WordsFault::Wrong => 2,
+            WordsFault::NoMemory => 5,
+        }
+    }
+
+    /// The line that tells the fault, with its line feed.
+    pub fn line(self) -> &'static str
+        ensures { result.now ≡ refusal_text self ++ line_feed ∷ [] }
+    {
+        match self {
+            WordsFault::Wrong => "usage: tscache replay FILE, run FILE or check FILE LOG\n",
+            WordsFault::NoMemory => "out of memory\n",
+        }
     }
 }
 
-/// The exit status where clap gives an error of this kind. A call for help is one of them.
-fn status_of(kind: ErrorKind) -> u8
-    ensures memory { (result ≡ 5) ↔ (kind ≡ ErrorKind.OutOfMemory) }
-    ensures other { (result ≡ 5) ⊎ (result ≡ 2) }
+impl From<AllocError> for WordsFault {
+    ghost from_gives = { λ _ given. given ≡ NoMemory };
+
+    fn from(_refused: AllocError) -> WordsFault {
+        WordsFault::NoMemory
+    }
+}
+
+/// Reads the program's words, of which the first is its own name. An `Err` holds the exit status.
+pub fn words(alloc: Global, words: &[String]) -> Result<Asked, u8>
+    ensures ok { IfOk result (λ asked. request_in (map string_bytes words.now) ≡ Some (asks asked)) }
+    ensures err { IfErr result (λ status. (fault : WordsFault) × (status ≡ refusal_status fault)
+        × Explains (request_in (map string_bytes words.now)) fault) }
+{
+    request(alloc, words).map_err(|fault| fault.status())
+}
+
+/// What the program's words ask for, of which the first is its own name.
+pub fn request(alloc: Global, words: &[String]) -> Result<Asked, WordsFault>
+    ensures { Answers asks (request_in (map string_bytes words.now)) result }
+{
+    match matches_of(alloc, words) {
+        Ok(matches) => request_of(alloc, &matches),
+        Err(error) => Err(fault_of(error.kind())),
+    }
+}
+
+/// Why the words ask for nothing, where clap gives an error of this kind.
+fn fault_of(kind: ErrorKind) -> WordsFault
+    ensures { (result ≡ WordsFault.NoMemory) ↔ (kind ≡ ErrorKind.OutOfMemory) }
 {
     match kind {
-        ErrorKind::OutOfMemory => NO_MEMORY,
-        _ => WRONG_WORDS,
+        ErrorKind::OutOfMemory => WordsFault::NoMemory,
+        _ => WordsFault::Wrong,
     }
 }
 
@@ -51,11 +92,11 @@ fn matches_of<'a>(alloc: Global, words: &'a [String]) -> Result<ArgMatches<'a>, 
     ensures found { IfOk result (λ matches.
         subcommand_rows_of matches ≡ subcommand_of program_app (map string_bytes words.entry.now)) }
 {
-    program(alloc)?.try_get_matches_from(words)
+    clap_command(alloc)?.try_get_matches_from(words)
 }
 
-/// The program's command. Help is no part of it: one line tells how it is called.
-fn program<'a>(alloc: Global) -> Result<Command<'a>, AllocError>
+/// The words that clap takes. Help is no part of them: one line tells how the program is called.
+fn clap_command<'a>(alloc: Global) -> Result<Command<'a>, AllocError>
     ensures { IfOk result (λ command. app_of command ≡ program_app) }
 {
     Command::new(alloc, "tscache")
@@ -75,29 +116,23 @@ fn one_file<'a>(alloc: Global, name: &'a str) -> Result<Command<'a>, AllocError>
 }
 
 /// What the words ask for, where clap took them.
-fn request_of(alloc: Global, matches: &ArgMatches<'_>) -> Result<Asked, u8>
-    ensures ok { IfOk result (λ asked. request_found (subcommand_rows_of matches.now)
-        ≡ Some (asks asked)) }
-    ensures err { IfErr result (λ status. (status ≡ 5)
-        ⊎ ((status ≡ 2) × IsNone (request_found (subcommand_rows_of matches.now)))) }
+fn request_of(alloc: Global, matches: &ArgMatches<'_>) -> Result<Asked, WordsFault>
+    ensures { Answers asks (request_found (subcommand_rows_of matches.now)) result }
 {
     if let Some(replay) = matches.subcommand_matches("replay") {
         let file = text(alloc, replay, "file")?;
         return Ok(Asked::Replay { file });
     }
-    Err(WRONG_WORDS)
+    Err(WordsFault::Wrong)
 }
 
 /// A copy of the value of an argument.
-fn text(alloc: Global, matches: &ArgMatches<'_>, id: &str) -> Result<String, u8>
-    ensures ok { IfOk result (λ text. first_value (found_of matches.now) id.now
-        ≡ Some (string_bytes text)) }
-    ensures err { IfErr result (λ status. (status ≡ 5)
-        ⊎ ((status ≡ 2) × IsNone (first_value (found_of matches.now) id.now))) }
+fn text(alloc: Global, matches: &ArgMatches<'_>, id: &str) -> Result<String, WordsFault>
+    ensures { Answers string_bytes (first_value (found_of matches.now) id.now) result }
 {
     match matches.get_str(id) {
-        Some(found) => String::from_str(alloc, found).map_err(|_| NO_MEMORY),
-        None => Err(WRONG_WORDS),
+        Some(found) => Ok(String::from_str(alloc, found)?),
+        None => Err(WordsFault::Wrong),
     }
 }
 

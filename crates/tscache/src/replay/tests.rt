@@ -1,76 +1,148 @@
+//! Replays over memory: of each trace, and with readers and writers whose calls go wrong.
 use super::{ReplayFault, replay_command, tell};
+use crate::replay::traces::{OVERLAPPING_READS, OVERLAPPING_READS_LOG, ROWS, Row};
+use std::alloc::Global;
 use std::io;
 use std::io::Read;
+use std::process::Abort;
 use tsc_trace::fakes::{Faulty, Mishap};
 use tsc_trace::{Metered, TraceFault};
 
-#[test]
-fn tells_each_fault_by_a_line(rt: HostRuntime) {
-    for (fault, line) in [
-        (ReplayFault::Read, "read failed\n"),
-        (ReplayFault::TooLong, "input too long\n"),
-        (
-            ReplayFault::Trace(TraceFault::NotJson),
-            "trace refused: fault 1\n",
-        ),
-        (
-            ReplayFault::Trace(TraceFault::Shape(0)),
-            "trace refused: fault 2 at call 0\n",
-        ),
-        (
-            ReplayFault::Trace(TraceFault::Shape(17)),
-            "trace refused: fault 2 at call 17\n",
-        ),
-        (ReplayFault::Write, "write failed\n"),
-        (ReplayFault::NoMemory, "out of memory\n"),
-    ] {
-        let mut errors = Metered::new(Vec::new(rt.alloc()));
-        tell(&mut errors, fault);
+/// How many bytes a call moves, and which calls go wrong.
+type Calls = (usize, Mishap);
+
+/// Calls that move all bytes, and none of which goes wrong.
+const CALM: Calls = (65_536, Mishap::Never);
+
+/// How the trace is read, the log written and a fault told.
+type Ways = (Calls, Calls, Calls);
+
+/// Ways, and what comes of a replay.
+type MishapRow = (Ways, Row);
+
+const READ_FAILED: &str = "read failed\n";
+
+static MISHAPS: [MishapRow; 10] = [
+    // A byte at a time.
+    (
+        ((1, Mishap::Never), (1, Mishap::Never), CALM),
+        (OVERLAPPING_READS, 0, OVERLAPPING_READS_LOG, ""),
+    ),
+    // A writer whose first call fails.
+    (
+        (CALM, (9, Mishap::FailsAt(0)), CALM),
+        (OVERLAPPING_READS, 4, "", "write failed\n"),
+    ),
+    // A reader whose second call fails, and readers that fail at other calls.
+    (
+        ((100, Mishap::FailsAt(1)), CALM, CALM),
+        (OVERLAPPING_READS, 4, "", READ_FAILED),
+    ),
+    (
+        ((1, Mishap::FailsAt(0)), CALM, CALM),
+        ("abc", 4, "", READ_FAILED),
+    ),
+    (
+        ((1, Mishap::FailsAt(3)), CALM, CALM),
+        ("abc", 4, "", READ_FAILED),
+    ),
+    // The status stays where the fault cannot be told, or only a part of its line.
+    (
+        ((1, Mishap::FailsAt(0)), CALM, (0, Mishap::Never)),
+        ("abc", 4, "", ""),
+    ),
+    (
+        ((1, Mishap::FailsAt(0)), CALM, (1, Mishap::FailsAt(3))),
+        ("abc", 4, "", "rea"),
+    ),
+    ((CALM, CALM, (9, Mishap::FailsAt(0))), ("abc", 1, "", "")),
+    ((CALM, CALM, (1, Mishap::FailsAt(3))), ("abc", 1, "", "tra")),
+    (
+        (CALM, (9, Mishap::FailsAt(0)), (9, Mishap::FailsAt(0))),
+        (OVERLAPPING_READS, 4, "", ""),
+    ),
+];
+
+/// The line that tells a fault.
+static LINES: [(ReplayFault, &str); 7] = [
+    (ReplayFault::Read, READ_FAILED),
+    (ReplayFault::TooLong, "input too long\n"),
+    (
+        ReplayFault::Trace(TraceFault::NotJson),
+        "trace refused: fault 1\n",
+    ),
+    (
+        ReplayFault::Trace(TraceFault::Shape(0)),
+        "trace refused: fault 2 at call 0\n",
+    ),
+    (
+        ReplayFault::Trace(TraceFault::Shape(17)),
+        "trace refused: fault 2 at call 17\n",
+    ),
+    (ReplayFault::Write, "write failed\n"),
+    (ReplayFault::NoMemory, "out of memory\n"),
+];
+
+/// Replays a row's trace in these ways, and holds what comes of it against the row.
+fn replay_row(rt: &impl Abort, alloc: Global, ways: Ways, row: Row) {
+    let (reading, writing, telling) = ways;
+    let (trace, wanted, log, told) = row;
+    let mut reader = Metered::new(Faulty::new(trace.as_bytes(), reading.0, reading.1));
+    let mut writer = Metered::new(Faulty::new(Vec::new(alloc), writing.0, writing.1));
+    let mut errors = Metered::new(Faulty::new(Vec::new(alloc), telling.0, telling.1));
+    let status = replay_command(alloc, &mut reader, &mut writer, &mut errors);
+    assert_eq!(rt; status, wanted, "{trace}");
+    assert_eq!(rt;
+        writer.into_inner().inner.as_slice(),
+        log.as_bytes(),
+        "{trace}"
+    );
+    assert_eq!(rt;
+        errors.into_inner().inner.as_slice(),
+        told.as_bytes(),
+        "{trace}"
+    );
+}
+
+fn replay_rows(rt: &impl Abort, alloc: Global, rows: &[Row]) {
+    for row in rows {
+        replay_row(rt, alloc, (CALM, CALM, CALM), *row);
+    }
+}
+
+fn replay_mishaps(rt: &impl Abort, alloc: Global, rows: &[MishapRow]) {
+    for (ways, row) in rows {
+        replay_row(rt, alloc, *ways, *row);
+    }
+}
+
+fn tell_each(rt: &impl Abort, alloc: Global, lines: &[(ReplayFault, &str)]) {
+    for (fault, line) in lines {
+        let mut errors = Metered::new(Vec::new(alloc));
+        tell(&mut errors, *fault);
         assert_eq!(rt; errors.into_inner().as_slice(), line.as_bytes());
     }
 }
 
-#[test]
-fn a_failed_read_is_told(rt: HostRuntime) {
-    for failing in 0..4 {
-        let mut reader = Metered::new(Faulty::new(&b"abc"[..], 1, Mishap::FailsAt(failing)));
-        let mut writer = Metered::new(Vec::new(rt.alloc()));
-        let mut errors = Metered::new(Vec::new(rt.alloc()));
-        let status = replay_command(rt.alloc(), &mut reader, &mut writer, &mut errors);
-        assert_eq!(rt; status, 4);
-        assert_eq!(rt; errors.into_inner().as_slice(), b"read failed\n".as_slice());
-        assert_eq!(rt; writer.into_inner().len(), 0);
-    }
-}
-
-#[test]
-fn too_long_an_input_is_told(rt: HostRuntime) {
+/// Replays one byte more than an input may have.
+fn replay_too_much(rt: &impl Abort, alloc: Global) {
     let mut reader = Metered::new(io::repeat(b' ').take(16_777_217));
-    let mut writer = Metered::new(Vec::new(rt.alloc()));
-    let mut errors = Metered::new(Vec::new(rt.alloc()));
-    let status = replay_command(rt.alloc(), &mut reader, &mut writer, &mut errors);
+    let mut writer = Metered::new(Vec::new(alloc));
+    let mut errors = Metered::new(Vec::new(alloc));
+    let status = replay_command(alloc, &mut reader, &mut writer, &mut errors);
     assert_eq!(rt; status, 4);
+    assert_eq!(rt; writer.into_inner().len(), 0);
     assert_eq!(rt;
         errors.into_inner().as_slice(),
         b"input too long\n".as_slice()
     );
-    assert_eq!(rt; writer.into_inner().len(), 0);
 }
 
 #[test]
-fn the_status_stays_where_the_fault_cannot_be_told(rt: HostRuntime) {
-    for (reading, want) in [(Mishap::FailsAt(0), 4), (Mishap::Never, 1)] {
-        for (step, telling) in [
-            (0, Mishap::Never),
-            (9, Mishap::FailsAt(0)),
-            (1, Mishap::FailsAt(3)),
-        ] {
-            let mut reader = Metered::new(Faulty::new(&b"abc"[..], 1, reading));
-            let mut writer = Metered::new(Vec::new(rt.alloc()));
-            let mut errors = Metered::new(Faulty::new(Vec::new(rt.alloc()), step, telling));
-            let status = replay_command(rt.alloc(), &mut reader, &mut writer, &mut errors);
-            assert_eq!(rt; status, want);
-            assert_eq!(rt; writer.into_inner().len(), 0);
-        }
-    }
+fn replays_end_as_their_rows_say(rt: HostRuntime) {
+    let alloc = rt.alloc();
+    replay_rows(&rt, alloc, &ROWS);
+    replay_mishaps(&rt, alloc, &MISHAPS);
+    tell_each(&rt, alloc, &LINES);
+    replay_too_much(&rt, alloc);
 }

@@ -1,6 +1,54 @@
-use super::{Asked, NO_MEMORY, WRONG_WORDS, words};
+//! Rows of words, of which the first is the program's own name, and what they ask for.
+use super::{Asked, words};
 use std::alloc::{AllocError, Global};
+use std::process::Abort;
+use std::test::Fail;
 
+/// The exit status where words ask for nothing.
+const WRONG: u8 = 2;
+
+/// Words, and the file whose replay they ask for, where they ask for one.
+type Row = (&'static [&'static str], Option<&'static str>);
+
+static ROWS: [Row; 26] = [
+    (&["tscache", "replay", "x"], Some("x")),
+    (&["another", "replay", "x"], Some("x")),
+    (
+        &["tscache", "replay", "a file with spaces"],
+        Some("a file with spaces"),
+    ),
+    (
+        &["tscache", "replay", "Größe-日本.trace"],
+        Some("Größe-日本.trace"),
+    ),
+    (&["tscache", "replay", "replay"], Some("replay")),
+    (&["tscache", "replay", ""], Some("")),
+    // Hyphens.
+    (&["tscache", "replay", "-"], Some("-")),
+    (&["tscache", "replay", "--", "-x"], Some("-x")),
+    (&["tscache", "replay", "--", "--"], Some("--")),
+    (&["tscache", "replay", "x", "--"], Some("x")),
+    (&["tscache", "replay", "-x"], None),
+    (&["tscache", "replay", "--x"], None),
+    (&["tscache", "replay", "--"], None),
+    (&["tscache", "--", "replay", "x"], None),
+    // Fewer words, more words and other words.
+    (&[], None),
+    (&["tscache"], None),
+    (&["tscache", "replay"], None),
+    (&["tscache", "replay", "a", "b"], None),
+    (&["tscache", "check", "x"], None),
+    (&["tscache", "run", "x"], None),
+    (&["tscache", "x"], None),
+    // Calls for help.
+    (&["tscache", "--help"], None),
+    (&["tscache", "-h"], None),
+    (&["tscache", "help"], None),
+    (&["tscache", "--version"], None),
+    (&["tscache", "replay", "--help"], None),
+];
+
+/// The words of a row, as the program gets them.
 fn words_of(alloc: Global, texts: &[&str]) -> Result<Vec<String>, AllocError> {
     let mut all = Vec::new(alloc);
     for text in texts {
@@ -9,85 +57,25 @@ fn words_of(alloc: Global, texts: &[&str]) -> Result<Vec<String>, AllocError> {
     Ok(all)
 }
 
-/// The file of the replay that the words ask for.
-fn file_of(alloc: Global, texts: &[&str]) -> Result<String, u8> {
-    let all = words_of(alloc, texts).map_err(|_| NO_MEMORY)?;
-    let Asked::Replay { file } = words(alloc, &all)?;
-    Ok(file)
+/// Whether reading the words comes to what the row says.
+fn answers(alloc: Global, texts: &[&str], file: Option<&str>) -> Result<bool, AllocError> {
+    let asked = words(alloc, &words_of(alloc, texts)?);
+    Ok(match (asked, file) {
+        (Ok(Asked::Replay { file: found }), Some(file)) => found.as_str() == file,
+        (Err(status), None) => status == WRONG,
+        _ => false,
+    })
 }
 
-fn is_wrong(alloc: Global, texts: &[&str]) -> bool {
-    file_of(alloc, texts) == Err(WRONG_WORDS)
-}
-
-fn names(alloc: Global, texts: &[&str], file: &str) -> bool {
-    match file_of(alloc, texts) {
-        Ok(found) => found.as_str() == file,
-        Err(_) => false,
+fn answer_rows(rt: &impl Abort, alloc: Global, rows: &[Row]) -> Result<(), AllocError> {
+    for (texts, file) in rows {
+        assert!(rt; answers(alloc, texts, *file)?, "{texts:?}");
     }
+    Ok(())
 }
 
 #[test]
-fn a_replay_names_its_file(rt: HostRuntime) {
-    let alloc = rt.alloc();
-    assert!(rt; names(alloc, &["tscache", "replay", "x"], "x"));
-    assert!(rt; names(alloc, &["another", "replay", "x"], "x"));
-    assert!(rt;
-        names(
-            alloc,
-            &["tscache", "replay", "a file with spaces"],
-            "a file with spaces"
-        )
-    );
-    assert!(rt;
-        names(
-            alloc,
-            &["tscache", "replay", "Größe-日本.trace"],
-            "Größe-日本.trace"
-        )
-    );
-    assert!(rt; names(alloc, &["tscache", "replay", "replay"], "replay"));
-    assert!(rt; names(alloc, &["tscache", "replay", ""], ""));
-}
-
-#[test]
-fn hyphens_follow_the_usual_rules(rt: HostRuntime) {
-    let alloc = rt.alloc();
-    assert!(rt; names(alloc, &["tscache", "replay", "-"], "-"));
-    assert!(rt; names(alloc, &["tscache", "replay", "--", "-x"], "-x"));
-    assert!(rt; names(alloc, &["tscache", "replay", "--", "--"], "--"));
-    assert!(rt; names(alloc, &["tscache", "replay", "x", "--"], "x"));
-    assert!(rt; is_wrong(alloc, &["tscache", "replay", "-x"]));
-    assert!(rt; is_wrong(alloc, &["tscache", "replay", "--x"]));
-    assert!(rt; is_wrong(alloc, &["tscache", "replay", "--"]));
-    assert!(rt; is_wrong(alloc, &["tscache", "--", "replay", "x"]));
-}
-
-#[test]
-fn other_words_are_wrong(rt: HostRuntime) {
-    let alloc = rt.alloc();
-    assert!(rt; is_wrong(alloc, &[]));
-    assert!(rt; is_wrong(alloc, &["tscache"]));
-    assert!(rt; is_wrong(alloc, &["tscache", "replay"]));
-    assert!(rt; is_wrong(alloc, &["tscache", "replay", "a", "b"]));
-    assert!(rt; is_wrong(alloc, &["tscache", "check", "x"]));
-    assert!(rt; is_wrong(alloc, &["tscache", "run", "x"]));
-    assert!(rt; is_wrong(alloc, &["tscache", "x"]));
-}
-
-#[test]
-fn a_call_for_help_is_wrong(rt: HostRuntime) {
-    let alloc = rt.alloc();
-    assert!(rt; is_wrong(alloc, &["tscache", "--help"]));
-    assert!(rt; is_wrong(alloc, &["tscache", "-h"]));
-    assert!(rt; is_wrong(alloc, &["tscache", "help"]));
-    assert!(rt; is_wrong(alloc, &["tscache", "--version"]));
-    assert!(rt; is_wrong(alloc, &["tscache", "replay", "--help"]));
-}
-
-// With an allocation that fails, here or below, this is the test that still passes.
-#[test]
-fn words_are_read_or_memory_is_wanting(rt: HostRuntime) {
-    let file = file_of(rt.alloc(), &["tscache", "replay", "x"]);
-    assert!(rt; file == Err(NO_MEMORY) || file.is_ok_and(|found| found.as_str() == "x"));
+fn words_ask_for_what_their_row_says(rt: HostRuntime) -> Result<(), Fail> {
+    answer_rows(&rt, rt.alloc(), &ROWS)?;
+    Ok(())
 }

@@ -1,15 +1,15 @@
-use Rattle.std.proofs.Common.{rules, ◌≡◌, ◌∙◌, ◌⊎◌, sym, ap, subst, IfErr, IsNone, Option}
+use Rattle.std.proofs.Common.{rules, ◌≡◌, ◌∙◌, sym, ap, subst, Option}
 use Rattle.std.specs.Prelude.{option_map}
-use Rattle.tscache.specs.Words.{Request, replay}
-use Rattle.tscache.proofs.FoundLemmas.{asks_found, says_none}
+use Rattle.tscache.specs.Words.{Answers, Explains, Request, asks, replay}
+use Rattle.tscache.proofs.FoundLemmas.{asks_found, explains_found, refused_alike}
 use Rattle.tscache.proofs.words.request_of.Goals as goal
 
-pub returns-in_err-file-clause-err : goal.returns-in_err-file-clause-err
-returns-in_err-file-clause-err c =
+pub returns-in_err-file : goal.returns-in_err-file
+returns-in_err-file c =
     let same = asks_found c.args.matches.now c.in-Some.replay.now (c.subcommand_matches.ensures.found.0 (search rules)) (search rules) in
-    let told = says_none _ _ c.in_err-file.ensures.err in
-    subst (λ (o : Option Request). IfErr c.from_residual.result (λ status. (status ≡ 5) ⊎ ((status ≡ 2) × IsNone o))) (sym same) (let r = c.from_residual.ensures.1 in search rules)
+    let told = explains_found _ _ c.in_err-file.ensures in
+    subst (λ (o : Option Request). Answers asks o c.from_residual.result) (sym same) (refused_alike c.from_residual.result _ _ c.from_residual.ensures.1 told)
 
-pub returns-in-Some-clause-ok : goal.returns-in-Some-clause-ok
-returns-in-Some-clause-ok c =
-    asks_found c.args.matches.now c.in-Some.replay.now (c.subcommand_matches.ensures.found.0 (search rules)) (search rules) ∙ ap (option_map replay) c.in_ok-file.ensures.ok
+pub returns-in-Some : goal.returns-in-Some
+returns-in-Some c =
+    asks_found c.args.matches.now c.in-Some.replay.now (c.subcommand_matches.ensures.found.0 (search rules)) (search rules) ∙ ap (option_map replay) c.in_ok-file.ensures

@@ -1,0 +1,82 @@
+//! The program, over its words, a place of files, a writer and a stream for faults.
+ghost use Rattle.std.specs.Prelude.{◌≡◌};
+ghost use Rattle.tscache.specs.Program.{AskFor, ReplaysFile, RunsProgram, fault_of_open, texts_of};
+ghost use Rattle.tscache.specs.Replay.{Tells};
+ghost use Rattle.tscache.specs.Words.{asked_as};
+
+use crate::place::{OpenFault, Place};
+use crate::replay::{replay_command, status_of, tell};
+use crate::words::{Asked, WordsFault, request};
+use std::alloc::Global;
+use tsc_trace::{ReplayFault, Sink, write_output};
+
+/// Does what the program's words ask for, and gives the exit status.
+///
+/// `words` are the words, its own name first, or why they are not to be had. Only a log goes to the
+/// writer. A fault is told by one line on `errors`, and telling it changes no status.
+pub fn program<P: Place, W: Sink, E: Sink>(
+    alloc: Global,
+    words: Result<Vec<String>, WordsFault>,
+    place: &P,
+    writer: &mut W,
+    errors: &mut E,
+) -> u8
+    ensures { RunsProgram (texts_of words) (P.opens place.now) result
+        (W.known writer.old) (W.known writer.new) (E.known errors.old) (E.known errors.new) }
+{
+    match asked(alloc, words) {
+        Ok(Asked::Replay { file }) => replay_file(alloc, place, &file, writer, errors),
+        Err(fault) => {
+            tell_line(errors, fault.line());
+            fault.status()
+        }
+    }
+}
+
+/// What the words ask for, where they are to be had.
+fn asked(alloc: Global, words: Result<Vec<String>, WordsFault>) -> Result<Asked, WordsFault>
+    ensures { AskFor (texts_of words) (asked_as result) }
+{
+    request(alloc, &words?)
+}
+
+/// Replays the trace in the file of a name.
+fn replay_file<P: Place, W: Sink, E: Sink>(
+    alloc: Global,
+    place: &P,
+    file: &str,
+    writer: &mut W,
+    errors: &mut E,
+) -> u8
+    ensures { ReplaysFile (P.opens place.now file.now) result
+        (W.known writer.old) (W.known writer.new) (E.known errors.old) (E.known errors.new) }
+{
+    match place.open(file) {
+        Ok(mut reader) => replay_command(alloc, &mut reader, writer, errors),
+        Err(fault) => {
+            let fault = ending_of(fault);
+            tell(errors, fault);
+            status_of(fault)
+        }
+    }
+}
+
+/// How a replay ends whose file was not opened.
+fn ending_of(fault: OpenFault) -> ReplayFault
+    ensures { result ≡ fault_of_open fault }
+{
+    match fault {
+        OpenFault::Unopened => ReplayFault::Read,
+        OpenFault::NoMemory => ReplayFault::NoMemory,
+    }
+}
+
+/// Tells a line, where it can be written.
+fn tell_line<E: Sink>(errors: &mut E, line: &str)
+    ensures { Tells line.now (E.known errors.old) (E.known errors.new) }
+{
+    let _ = write_output(errors, line.as_bytes());
+}
+
+#[cfg(test)]
+mod tests;

@@ -1,0 +1,188 @@
+//! The program over words and files in memory, and over the system's files.
+ghost use Rattle.tscache.specs.Place.{says_nothing};
+
+use super::program;
+use crate::place::{OpenFault, Place};
+use crate::replay::traces::{NO_JSON, TWO_READERS, TWO_READERS_LOG};
+use crate::system::{SystemFiles, fetch_words};
+use crate::words::WordsFault;
+use std::alloc::Global;
+use std::env::{Env, FillError};
+use std::process::Abort;
+use tsc_trace::Metered;
+use tsc_trace::fakes::{Faulty, Mishap};
+
+const USAGE: &str = "usage: tscache replay FILE, run FILE or check FILE LOG\n";
+
+const READ_FAILED: &str = "read failed\n";
+
+const OUT_OF_MEMORY: &str = "out of memory\n";
+
+/// A name, and the file or why it is not opened.
+type Held = (&'static str, Result<&'static str, OpenFault>);
+
+/// Files in memory.
+#[derive(Drop)]
+struct Shelf(&'static [Held]);
+
+impl Place for Shelf {
+    type File = Metered<&'static [u8]>;
+
+    ghost opens = { says_nothing };
+
+    fn open(&self, name: &str) -> Result<Metered<&'static [u8]>, OpenFault> {
+        for (held, file) in self.0 {
+            if *held == name {
+                let text = (*file)?;
+                return Ok(Metered::new(text.as_bytes()));
+            }
+        }
+        Err(OpenFault::Unopened)
+    }
+}
+
+static FILES: [Held; 4] = [
+    ("two_readers.json", Ok(TWO_READERS)),
+    ("notes.txt", Ok("No trace at all.")),
+    ("locked.json", Err(OpenFault::Unopened)),
+    ("large.json", Err(OpenFault::NoMemory)),
+];
+
+/// A call with these words.
+#[derive(Drop)]
+struct Called(&'static [&'static str]);
+
+impl Env for Called {
+    fn arg(&self, i: usize, buf: &mut [u8]) -> Result<usize, FillError> {
+        let Some(word) = self.0.get(i) else {
+            return Err(FillError::NotPresent);
+        };
+        let bytes = word.as_bytes();
+        if bytes.len() > buf.len() {
+            return Err(FillError::TooLong);
+        }
+        buf[..bytes.len()].copy_from_slice(bytes);
+        Ok(bytes.len())
+    }
+
+    fn var(&self, _name: &str, _buf: &mut [u8]) -> Result<usize, FillError> {
+        Err(FillError::NotPresent)
+    }
+
+    fn var_at(&self, _i: usize, _buf: &mut [u8]) -> Result<usize, FillError> {
+        Err(FillError::NotPresent)
+    }
+}
+
+/// Words, the exit status, what is written, and what is told.
+type Row = (&'static [&'static str], u8, &'static str, &'static str);
+
+static ROWS: [Row; 14] = [
+    (
+        &["tscache", "replay", "two_readers.json"],
+        0,
+        TWO_READERS_LOG,
+        "",
+    ),
+    (&["tscache", "replay", "notes.txt"], 1, "", NO_JSON),
+    (&["tscache", "replay", "missing.json"], 4, "", READ_FAILED),
+    (&["tscache", "replay", "locked.json"], 4, "", READ_FAILED),
+    (&["tscache", "replay", "large.json"], 5, "", OUT_OF_MEMORY),
+    (
+        &["tscache", "replay", "two_readers.json", "notes.txt"],
+        2,
+        "",
+        USAGE,
+    ),
+    (&["tscache", "replay"], 2, "", USAGE),
+    (&["tscache", "paint", "two_readers.json"], 2, "", USAGE),
+    (&["tscache", "--help"], 2, "", USAGE),
+    (&["tscache", "run", "two_readers.json"], 2, "", USAGE),
+    (
+        &["tscache", "check", "two_readers.json", "notes.txt"],
+        2,
+        "",
+        USAGE,
+    ),
+    (&["two_readers.json"], 2, "", USAGE),
+    (&["tscache"], 2, "", USAGE),
+    (&[], 2, "", USAGE),
+];
+
+/// Files of the system: none, an empty one, one that cannot be read and one without end.
+static SYSTEM_ROWS: [Row; 4] = [
+    (&["tscache", "replay", "/no/such/file"], 4, "", READ_FAILED),
+    (&["tscache", "replay", "/dev/null"], 1, "", NO_JSON),
+    (&["tscache", "replay", "/"], 4, "", READ_FAILED),
+    (
+        &["tscache", "replay", "/dev/zero"],
+        4,
+        "",
+        "input too long\n",
+    ),
+];
+
+/// Holds what a call of the program comes to against what is wanted.
+fn check_call<P: Place>(
+    rt: &impl Abort,
+    alloc: Global,
+    place: &P,
+    words: Result<Vec<String>, WordsFault>,
+    telling: Mishap,
+    wanted: (u8, &str, &str),
+) {
+    let (wanted_status, log, line) = wanted;
+    let mut output = Metered::new(Vec::new(alloc));
+    let mut errors = Metered::new(Faulty::new(Vec::new(alloc), 9, telling));
+    let status = program(alloc, words, place, &mut output, &mut errors);
+    assert_eq!(rt; status, wanted_status);
+    assert_eq!(rt; output.into_inner().as_slice(), log.as_bytes());
+    assert_eq!(rt; errors.into_inner().inner.as_slice(), line.as_bytes());
+}
+
+/// Calls the program with the words of each row, also where no fault can be told.
+fn check_rows<P: Place>(rt: &impl Abort, alloc: Global, place: &P, rows: &[Row]) {
+    for (words, status, log, line) in rows {
+        let fetched = fetch_words(&(Called(*words), alloc));
+        check_call(
+            rt,
+            alloc,
+            place,
+            fetched,
+            Mishap::Never,
+            (*status, *log, *line),
+        );
+        let fetched = fetch_words(&(Called(*words), alloc));
+        check_call(
+            rt,
+            alloc,
+            place,
+            fetched,
+            Mishap::FailsAt(0),
+            (*status, *log, ""),
+        );
+    }
+}
+
+/// Calls the program where its words are not to be had.
+fn check_without_words(rt: &impl Abort, alloc: Global, place: &Shelf) {
+    let wrong = Err(WordsFault::Wrong);
+    check_call(rt, alloc, place, wrong, Mishap::Never, (2, "", USAGE));
+    let refused = Err(WordsFault::NoMemory);
+    check_call(
+        rt,
+        alloc,
+        place,
+        refused,
+        Mishap::Never,
+        (5, "", OUT_OF_MEMORY),
+    );
+}
+
+#[test]
+fn calls_end_as_their_rows_say(rt: HostRuntime) {
+    let shelf = Shelf(&FILES);
+    check_rows(&rt, rt.alloc(), &shelf, &ROWS);
+    check_without_words(&rt, rt.alloc(), &shelf);
+    check_rows(&rt, rt.alloc(), &SystemFiles::of(&rt), &SYSTEM_ROWS);
+}
