@@ -29,6 +29,7 @@ use Rattle.tsc_trace.specs.Lists.{fits_trace}
 use Rattle.tsc_trace.specs.declared.trace.Call.{Call}
 use Rattle.tsc_trace.specs.declared.trace.Call.TheVariants.{Add, Get, Low}
 use Rattle.tsc_trace.specs.declared.trace.Trace.{Trace}
+use Rattle.tsc_trace.specs.declared.read.head.Numbers.{Numbers}
 use Rattle.tsc_trace.specs.declared.read.span.SpanForm.{SpanForm}
 use Rattle.tsc_trace.specs.declared.read.span.SpanForm.TheVariants.{Range, Onward}
 use Rattle.tsc_trace.specs.TraceText.{listed, array_of, object_of, text_of, unsigned_of, number_below, needed, two_of, time_in_range, time_of, key_of, owner_in, owner_member, ends_in, ends_of, excluded_in, excluded_of, range_form, onward_form, form_of, span_form, span_of_form, added_span, looked_up_span, add_of, get_of, low_of, call_by_name, call_of, numbers_in, lists_in, lists_of, head_of, settings_in, calls_of, threads_of, trace_of}
@@ -212,7 +213,11 @@ fits_64_bits n most within small =
     let most_at : n ≤ most = leb-true n most within in
     lt-ltb n (2 ^ 64) (omega arith)
 
-head_back : (t : Trace) → IsMadeTrace t → head_of (trace_data t) ≡ Ok (((t.config.page_nodes, t.config.min_pages), (t.config.retention, t.config.low_water)), rows_of t.threads)
+-- the numbers of a configuration
+abbrev pub numbers_of : Settings → Numbers
+numbers_of s = record { page_nodes = s.page_nodes; min_pages = s.min_pages; retention = s.retention; low_water = s.low_water }
+
+head_back : (t : Trace) → IsMadeTrace t → head_of (trace_data t) ≡ Ok (numbers_of t.config, rows_of t.threads)
 unfolding head_of object_of needed numbers_in lists_of
 head_back t made =
     let limits = made.limits in
@@ -221,7 +226,7 @@ head_back t made =
     let retention : number_below (2 ^ 64) (number (unsigned t.config.retention)) ≡ Ok t.config.retention = number_back _ _ (fits_64_bits t.config.retention LONGEST_RETENTION limits.retention (omega arith)) in
     rw (page_nodes, min_pages, retention, time_back t.config.low_water made.low_water, array_back (map (λ calls. list_data (map call_data calls)) t.threads), lists_back t.threads) refl
 
-config_back : (s : Settings) → IsWithinLimits s → settings_in ((s.page_nodes, s.min_pages), (s.retention, s.low_water)) ≡ Ok s
+config_back : (s : Settings) → IsWithinLimits s → settings_in (numbers_of s) ≡ Ok s
 unfolding settings_in
 config_back s limits = rw (limits.page_nodes, limits.min_pages, limits.retention) refl
 
