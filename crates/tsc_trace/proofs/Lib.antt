@@ -5,6 +5,7 @@ pub mod Calls
 pub mod Owners
 pub mod Texts
 pub mod AnyOrder
+pub mod Written
 pub mod Totals
 pub mod Playing
 pub mod ListSteps

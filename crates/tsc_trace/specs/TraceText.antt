@@ -21,6 +21,7 @@ use Rattle.tsc_trace.specs.declared.trace.Trace.{Trace}
 use Rattle.tsc_trace.specs.declared.read.TraceFault.{TraceFault}
 use Rattle.tsc_trace.specs.declared.read.TraceFault.TheVariants.{NotJson, Config}
 use Rattle.tsc_trace.specs.declared.read.part.PartFault.TheVariants.{Shape, Number, Hex, Uuid, Span}
+use Rattle.tsc_trace.specs.declared.read.head.Numbers.{Numbers}
 use Rattle.tsc_trace.specs.declared.read.span.SpanForm.{SpanForm}
 use Rattle.tsc_trace.specs.declared.read.span.SpanForm.TheVariants.{Start, StartToEnd, Range, Onward}
 
@@ -218,12 +219,18 @@ looked_up_span d = do
 abbrev pub add_names : List (List ℕ)
 add_names = codes "op" ∷ codes "span" ∷ codes "time" ∷ codes "owner" ∷ codes "now" ∷ []
 
+-- the span and the time of an Add
+abbrev pub span_and_time : Members → Part (Interval × Time)
+span_and_time ms = both (needed_as (codes "span") added_span ms) (needed_as (codes "time") time_of ms)
+
+-- the owner and the moment of an Add
+abbrev pub owner_and_now : Members → Part (Option Owner × Time)
+owner_and_now ms = both (owner_member (get_member (codes "owner") ms)) (needed_as (codes "now") time_of ms)
+
 -- the Add with these members
 abbrev pub add_in : Members → Part Call
 add_in ms = do
-  parts ← both
-      (both (needed_as (codes "span") added_span ms) (needed_as (codes "time") time_of ms))
-      (both (owner_member (get_member (codes "owner") ms)) (needed_as (codes "now") time_of ms))
+  parts ← both (span_and_time ms) (owner_and_now ms)
   Ok (Add parts.0.0 (record { time = parts.0.1; owner = parts.1.0 }) parts.1.1)
 
 -- an Add, by its members
@@ -271,12 +278,19 @@ call_of d = do
 
 -- ---- the head
 
--- the numbers of a head: `page_nodes` and `min_pages`, and then `retention` and `low_water`
-unfoldable pub numbers_in : Members → Part ((ℕ × ℕ) × (ℕ × Time))
-numbers_in ms =
-    both
-    (both (needed_as (codes "page_nodes") (number_below (2 ^ 32)) ms) (needed_as (codes "min_pages") (number_below (2 ^ 32)) ms))
-    (both (needed_as (codes "retention") (number_below (2 ^ 64)) ms) (needed_as (codes "low_water") time_of ms))
+-- `page_nodes` and `min_pages`
+abbrev pub page_numbers : Members → Part (ℕ × ℕ)
+page_numbers ms = both (needed_as (codes "page_nodes") (number_below (2 ^ 32)) ms) (needed_as (codes "min_pages") (number_below (2 ^ 32)) ms)
+
+-- `retention` and `low_water`
+abbrev pub head_times : Members → Part (ℕ × Time)
+head_times ms = both (needed_as (codes "retention") (number_below (2 ^ 64)) ms) (needed_as (codes "low_water") time_of ms)
+
+-- the numbers of a head
+unfoldable pub numbers_in : Members → Part Numbers
+numbers_in ms = do
+  parts ← both (page_numbers ms) (head_times ms)
+  Ok (record { page_nodes = parts.0.0; min_pages = parts.0.1; retention = parts.1.0; low_water = parts.1.1 })
 
 -- lists of which each has to be one
 unfoldable pub lists_in : List Data → Part (List (List Data))
@@ -295,19 +309,19 @@ abbrev pub head_names : List (List ℕ)
 head_names = codes "page_nodes" ∷ codes "min_pages" ∷ codes "retention" ∷ codes "low_water" ∷ codes "threads" ∷ []
 
 -- the head with these members: its numbers, and its lists of what should be calls
-abbrev pub head_in : Members → Part (((ℕ × ℕ) × (ℕ × Time)) × List (List Data))
+abbrev pub head_in : Members → Part (Numbers × List (List Data))
 head_in ms = both (numbers_in ms) (needed_as (codes "threads") lists_of ms)
 
 -- the head of a trace
-unfoldable pub head_of : Data → Part (((ℕ × ℕ) × (ℕ × Time)) × List (List Data))
+unfoldable pub head_of : Data → Part (Numbers × List (List Data))
 head_of d = do
   ms ← object_of d
   ms ← only_named head_names ms
   head_in ms
 
 -- the configuration of the numbers of a head
-unfoldable pub settings_in : (ℕ × ℕ) × (ℕ × Time) → Result Settings TraceFault
-settings_in ((page_nodes, min_pages), (retention, low_water)) = ok_or (result_ok (settings_of page_nodes min_pages retention low_water)) Config
+unfoldable pub settings_in : Numbers → Result Settings TraceFault
+settings_in numbers = ok_or (result_ok (settings_of numbers.page_nodes numbers.min_pages numbers.retention numbers.low_water)) Config
 
 -- ---- the trace
 

@@ -1,12 +1,11 @@
 //! The calls of a trace, and what they are made of.
 
 ghost use Rattle.std.specs.Prelude.{◌≡◌, ◌+◌, ◌^◌, ◌<◌, map, length, option_map, Some, codes};
-ghost use Rattle.serde_json.specs.Find.{get_member};
 ghost use Rattle.serde_json.specs.View.{view, members_view};
 ghost use Rattle.tsc_time.specs.OwnedTime.{owner_of};
 ghost use Rattle.tsc_trace.specs.Reading.{Gives, Tells};
 ghost use Rattle.tsc_trace.specs.TraceParts.{both, at_call};
-ghost use Rattle.tsc_trace.specs.TraceText.{unsigned_of, needed_as, time_in_range, time_of, owner_in, owner_member, added_span, looked_up_span, add_of, get_of, low_of, call_by_name, call_of, calls_of};
+ghost use Rattle.tsc_trace.specs.TraceText.{unsigned_of, needed_as, time_in_range, time_of, owner_in, owner_member, added_span, looked_up_span, span_and_time, owner_and_now, add_of, get_of, low_of, call_by_name, call_of, calls_of};
 
 use super::TraceFault;
 use super::json::{array, has_only, needed, object, optional, text, two, unsigned};
@@ -24,7 +23,8 @@ const UUID: Refusal = Refusal::Fault(PartFault::Uuid);
 
 /// Two unsigned integers.
 fn two_numbers(first: &Value, second: &Value) -> Result<(u64, u64), Refusal>
-    ensures { Gives (λ pair. pair) result (both (unsigned_of (view first.now)) (unsigned_of (view second.now))) }
+    ensures { Gives (λ pair. pair) result
+        (both (unsigned_of (view first.now)) (unsigned_of (view second.now))) }
 {
     both(unsigned(first), unsigned(second))
 }
@@ -97,36 +97,19 @@ pub(super) fn time_in(members: &Map<String, Value>, name: &str) -> Result<Timest
     time(needed(members, name)?)
 }
 
-/// A span and a time of an Add.
+/// The span and the time of an Add.
 fn span_and_time(alloc: Global, members: &Map<String, Value>) -> Result<(Span, Timestamp), Refusal>
-    ensures { Gives (λ parts. parts) result
-        (both (needed_as (codes "span") added_span (members_view members.now.entries))
-        (needed_as (codes "time") time_of (members_view members.now.entries))) }
+    ensures { Gives (λ parts. parts) result (span_and_time (members_view members.now.entries)) }
 {
     both(span_in(alloc, members), time_in(members, "time"))
 }
 
-/// An owner and a moment of an Add.
+/// The owner and the moment of an Add.
 fn owner_and_now(members: &Map<String, Value>) -> Result<(Uuid, Timestamp), Refusal>
     ensures { Gives (λ parts. (owner_of parts.0, parts.1)) result
-        (both (owner_member (get_member (codes "owner") (members_view members.now.entries)))
-        (needed_as (codes "now") time_of (members_view members.now.entries))) }
+        (owner_and_now (members_view members.now.entries)) }
 {
     both(owner(optional(members, "owner")), time_in(members, "now"))
-}
-
-/// The parts of an Add.
-fn parts_of_add(
-    alloc: Global,
-    members: &Map<String, Value>,
-) -> Result<((Span, Timestamp), (Uuid, Timestamp)), Refusal>
-    ensures { Gives (λ parts. (parts.0, (owner_of parts.1.0, parts.1.1))) result
-        (both (both (needed_as (codes "span") added_span (members_view members.now.entries))
-        (needed_as (codes "time") time_of (members_view members.now.entries)))
-        (both (owner_member (get_member (codes "owner") (members_view members.now.entries)))
-        (needed_as (codes "now") time_of (members_view members.now.entries)))) }
-{
-    both(span_and_time(alloc, members), owner_and_now(members))
 }
 
 /// An Add, by its members.
@@ -137,7 +120,7 @@ fn add(alloc: Global, members: &Map<String, Value>) -> Result<Call, Refusal>
     if !has_only(members, &["op", "span", "time", "owner", "now"]) {
         return Err(SHAPE);
     }
-    let ((span, at), (owner, now)) = parts_of_add(alloc, members)?;
+    let ((span, at), (owner, now)) = both(span_and_time(alloc, members), owner_and_now(members))?;
     let value = tsc_time::Value::of(at, owner);
     Ok(Call::Add { span, value, now })
 }

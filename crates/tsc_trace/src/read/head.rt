@@ -6,8 +6,8 @@ ghost use Rattle.serde_json.specs.View.{view, members_view};
 ghost use Rattle.tsc_trace.specs.Lists.{most_calls, fits_trace};
 ghost use Rattle.tsc_trace.specs.Reading.{Gives, Tells};
 ghost use Rattle.tsc_trace.specs.Rows.{rows_view};
-ghost use Rattle.tsc_trace.specs.TraceParts.{both, at_call};
-ghost use Rattle.tsc_trace.specs.TraceText.{needed_as, number_below, time_of, numbers_in, lists_in, lists_of, head_of, settings_in, threads_of, trace_of};
+ghost use Rattle.tsc_trace.specs.TraceParts.{at_call};
+ghost use Rattle.tsc_trace.specs.TraceText.{needed_as, number_below, page_numbers, head_times, numbers_in, lists_in, lists_of, head_of, settings_in, threads_of, trace_of};
 
 use super::TraceFault;
 use super::call::{calls, time_in};
@@ -25,8 +25,14 @@ const MOST_LISTS: usize = 64;
 /// And how many calls.
 const MOST_CALLS: usize = 65_536;
 
-/// The numbers of a head: `page_nodes` and `min_pages`, and then `retention` and `low_water`.
-type Numbers = ((u32, u32), (u64, Timestamp));
+/// The numbers of a head, which a [`Config`] may be made of.
+#[derive(Clone, Copy, Debug, PartialEq, Eq)]
+pub(crate) struct Numbers {
+    page_nodes: u32,
+    min_pages: u32,
+    retention: u64,
+    low_water: Timestamp,
+}
 
 /// The number of 32 bits that a member is.
 fn number_32_in(members: &Map<String, Value>, name: &str) -> Result<u32, Refusal>
@@ -46,9 +52,7 @@ fn number_64_in(members: &Map<String, Value>, name: &str) -> Result<u64, Refusal
 
 /// `page_nodes` and `min_pages`.
 fn page_numbers(members: &Map<String, Value>) -> Result<(u32, u32), Refusal>
-    ensures { Gives (λ pair. pair) result
-        (both (needed_as (codes "page_nodes") (number_below (2 ^ 32)) (members_view members.now.entries))
-        (needed_as (codes "min_pages") (number_below (2 ^ 32)) (members_view members.now.entries))) }
+    ensures { Gives (λ pair. pair) result (page_numbers (members_view members.now.entries)) }
 {
     both(
         number_32_in(members, "page_nodes"),
@@ -57,10 +61,8 @@ fn page_numbers(members: &Map<String, Value>) -> Result<(u32, u32), Refusal>
 }
 
 /// `retention` and `low_water`.
-fn times(members: &Map<String, Value>) -> Result<(u64, Timestamp), Refusal>
-    ensures { Gives (λ pair. pair) result
-        (both (needed_as (codes "retention") (number_below (2 ^ 64)) (members_view members.now.entries))
-        (needed_as (codes "low_water") time_of (members_view members.now.entries))) }
+fn head_times(members: &Map<String, Value>) -> Result<(u64, Timestamp), Refusal>
+    ensures { Gives (λ pair. pair) result (head_times (members_view members.now.entries)) }
 {
     both(
         number_64_in(members, "retention"),
@@ -70,10 +72,19 @@ fn times(members: &Map<String, Value>) -> Result<(u64, Timestamp), Refusal>
 
 /// The numbers of a head.
 #[tactic(auto, unfolding(crate::specs::TraceText::numbers_in))]
-fn numbers(members: &Map<String, Value>) -> Result<Numbers, Refusal>
+fn head_numbers(members: &Map<String, Value>) -> Result<Numbers, Refusal>
     ensures { Gives (λ numbers. numbers) result (numbers_in (members_view members.now.entries)) }
 {
-    both(page_numbers(members), times(members))
+    let ((page_nodes, min_pages), (retention, low_water)) = both(
+        page_numbers(members),
+        head_times(members),
+    )?;
+    Ok(Numbers {
+        page_nodes,
+        min_pages,
+        retention,
+        low_water,
+    })
 }
 
 /// Lists of which each has to be one.
@@ -114,12 +125,13 @@ fn head<'v>(alloc: Global, value: &'v Value) -> Result<(Numbers, Vec<&'v [Value]
     ) {
         return Err(SHAPE);
     }
-    both(numbers(members), lists(alloc, members))
+    both(head_numbers(members), lists(alloc, members))
 }
 
 /// The head of a trace, which counts as call 0.
 fn head_at_0<'v>(alloc: Global, value: &'v Value) -> Result<(Numbers, Vec<&'v [Value]>), TraceFault>
-    ensures { Tells (λ head. (head.0, rows_view head.1.items)) result (at_call 0 (head_of (view value.now))) }
+    ensures { Tells (λ head. (head.0, rows_view head.1.items)) result
+        (at_call 0 (head_of (view value.now))) }
 {
     at_call(0, head(alloc, value))
 }
@@ -129,8 +141,13 @@ fn head_at_0<'v>(alloc: Global, value: &'v Value) -> Result<(Numbers, Vec<&'v [V
 fn config(numbers: Numbers) -> Result<Config, TraceFault>
     ensures { Tells (λ config. config) result (settings_in numbers) }
 {
-    let ((page_nodes, min_pages), (retention, low_water)) = numbers;
-    Config::new(page_nodes, min_pages, retention, low_water).map_err(|_| TraceFault::Config)
+    Config::new(
+        numbers.page_nodes,
+        numbers.min_pages,
+        numbers.retention,
+        numbers.low_water,
+    )
+    .map_err(|_| TraceFault::Config)
 }
 
 /// Whether lists have no more calls than a trace may have.
@@ -157,7 +174,8 @@ fn fits(lists: &[&[Value]]) -> bool
 /// The calls of lists, numbered from 1 on.
 fn threads(alloc: Global, lists: &[&[Value]]) -> Result<Vec<Vec<Call>>, TraceFault>
     requires { sum_by length (rows_view lists.now) ≤ most_calls }
-    ensures { Tells (λ threads. map (λ calls. calls.items) threads.items) result (threads_of 1 (rows_view lists.now)) }
+    ensures { Tells (λ threads. map (λ calls. calls.items) threads.items) result
+        (threads_of 1 (rows_view lists.now)) }
 {
     let mut threads = Vec::new(alloc);
     let mut number = 1;

@@ -125,7 +125,8 @@ fn keys_and_ends(
 
 /// A key and its bracket.
 fn key_and_side(alloc: Global, start: &Value, bracket: &Value) -> Result<(Key, bool), Refusal>
-    ensures { Gives (λ parts. parts) result (both (key_of (view start.now)) (excluded_of (view bracket.now))) }
+    ensures { Gives (λ parts. parts) result
+        (both (key_of (view start.now)) (excluded_of (view bracket.now))) }
 {
     both(key(alloc, start), excluded(bracket))
 }
