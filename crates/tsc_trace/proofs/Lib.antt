@@ -10,3 +10,6 @@ pub mod Playing
 pub mod ListSteps
 pub mod Reading
 pub mod Writing
+pub mod Cuts
+pub mod LineTexts
+pub mod FieldReading

@@ -5,6 +5,8 @@ pub mod Reading
 pub mod KeySet
 pub mod Log
 pub mod LogText
+pub mod LogReading
+pub mod ReadingBack
 pub mod Play
 pub mod PlayerParts
 pub mod Stream

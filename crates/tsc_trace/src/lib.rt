@@ -7,6 +7,8 @@
 
 pub mod fakes;
 mod log;
+pub mod log_laws;
+mod log_reader;
 mod player;
 mod read;
 mod replay;
@@ -14,6 +16,7 @@ mod stream;
 mod trace;
 
 pub use log::{Line, Lines, Log, Said, log_text};
+pub use log_reader::{LogFault, read_log};
 pub use player::play;
 pub use read::{TraceFault, read_trace};
 pub use replay::{ReplayFault, replay_stream};
