@@ -1,9 +1,11 @@
 -- From the reading of a line's parts to that of the whole.
 use Rattle.std.specs.Result.{result_ok}
-use Rattle.std.proofs.Common.{◌≡◌, ◌≢◌, ℕ, zero, suc, ◌<◌, ◌^◌, List, [], ◌∷◌, ◌++◌, length, get_or, Bool, true, false, Option, Some, None, option_map, Result, Ok, Err, MatchOption, All, codes, decimal, if◌then◌else◌, Bor, inl, slice_index, take, drop, subst, ◌+◌, ◌*◌, ◌==◌, ◌&&◌, refl, sym, ap, ◌∙◌, arith}
+use Rattle.std.proofs.Common.{◌≡◌, ◌≢◌, ℕ, zero, suc, ◌<◌, ◌^◌, List, [], ◌∷◌, ◌++◌, length, get_or, Bool, true, false, Option, Some, None, option_map, Result, Ok, Err, MatchOption, All, codes, decimal, if◌then◌else◌, Bor, inl, slice_index, take, drop, subst, MatchResult, ◌+◌, ◌*◌, ◌==◌, ◌&&◌, refl, sym, ap, ◌∙◌, arith}
 use Rattle.std.proofs.lemmas.Fmt.{parse-decimal}
 use Rattle.std.proofs.lemmas.Str.Pattern.{IsSplitOnceResult, split_parts}
 use Rattle.std.proofs.lemmas.List.Elements.{All-from_get_or}
+use Rattle.std.specs.Str.{IsUtf8}
+use Rattle.std.proofs.lemmas.Str.{IsUtf8-from_ascii}
 use Rattle.std.specs.Str.Parse.{ParsesUnsigned}
 use Rattle.std.specs.List.{list_all}
 use Rattle.std.proofs.lemmas.Bool.{and_parts}
@@ -16,11 +18,11 @@ use Rattle.tsc_time.specs.Time.{Time, is_in_range}
 use Rattle.tsc_time.specs.OwnedTime.{OwnedTime, Owner, IsMadeOwner, IsMadeValue, owner_of}
 use Rattle.tsc_trace.specs.declared.log.Said.{Said}
 use Rattle.tsc_trace.specs.declared.log.Said.TheVariants as said
-use Rattle.tsc_trace.specs.LogText.{space, dot, time_text, owner_text, said_text}
-use Rattle.tsc_trace.specs.LogReading.{IsWritableSaid}
+use Rattle.tsc_trace.specs.LogText.{space, dot, time_text, owner_text, said_text, line_text}
+use Rattle.tsc_trace.specs.LogReading.{IsWritable, IsWritableSaid}
 use Rattle.tsc_trace.specs.ReadingBack.{IsWithout, ReadsBack, ReadsField}
 use Rattle.tsc_trace.proofs.Cuts.{cut_same, no_cut}
-use Rattle.tsc_trace.proofs.LineTexts.{decimal_without, parts_below, uuid_length, time_without_space, without_by_test}
+use Rattle.tsc_trace.proofs.LineTexts.{decimal_without, line_ascii, parts_below, uuid_length, time_without_space, without_by_test}
 
 -- what `split_once` gives at a mark
 pub cut_parts : (mark : ℕ) (text : List ℕ) (r : Option (Bor (List ℕ) × Bor (List ℕ))) → IsSplitOnceResult mark text r → mark < 128
@@ -257,3 +259,9 @@ wrong_word text word fields cut no_add no_get no_low = refused where
   refused (said.Add place added) h e = no_add (cut_same space word fields (codes "add") _ cut.0 (without_by_test (codes "add") refl) (sym cut.1 ∙ e)).0
   refused (said.Get front value) h e = no_get (cut_same space word fields (codes "get") _ cut.0 (without_by_test (codes "get") refl) (sym cut.1 ∙ e)).0
   refused (said.Low front time) h e = no_low (cut_same space word fields (codes "low") _ cut.0 (without_by_test (codes "low") refl) (sym cut.1 ∙ e)).0
+
+-- bytes that are no UTF-8 are no line
+pub no_text : {E : Type 0} (text : List ℕ) (r : Result (Bor (List ℕ)) E) (Valid : E → Type 0)
+    → MatchResult r (λ s. (s.now ≡ text) × IsUtf8 text) (λ e. (IsUtf8 text → ⊥) × Valid e) → None ≡ result_ok r → ReadsBack IsWritable line_text text None
+no_text text (Ok s) Valid told none = absurd cc
+no_text text (Err fault) Valid told none = λ line writable e. told.0 (subst IsUtf8 (sym e) (IsUtf8-from_ascii (line_text line) (line_ascii line writable)))

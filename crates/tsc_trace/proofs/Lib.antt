@@ -13,3 +13,4 @@ pub mod Writing
 pub mod Cuts
 pub mod LineTexts
 pub mod FieldReading
+pub mod LogReadings

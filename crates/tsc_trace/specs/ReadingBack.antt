@@ -1,5 +1,5 @@
 -- What a reader of one part of a line gives, by the text that the part has when it is written.
-use Rattle.std.specs.Prelude.{◌≡◌, ◌≢◌, ℕ, List, ◌∷◌, ◌++◌, All, Bool, Option, Some, None}
+use Rattle.std.specs.Prelude.{◌≡◌, ◌≢◌, ℕ, List, [], ◌∷◌, ◌++◌, All, Bool, Option, Some, None}
 use Rattle.tsc_trace.specs.declared.log.Line.{Line}
 use Rattle.tsc_trace.specs.LogText.{space, line_text}
 use Rattle.tsc_trace.specs.LogReading.{IsWritable}
@@ -15,6 +15,13 @@ IsAnyBit b = Unit {0}
 -- The text is that of no line.
 abbrev pub IsNoLineText : List ℕ → Type 0
 IsNoLineText text = (line : Line) → IsWritable line → text ≢ line_text line
+
+-- One more line is there, with this text.
+pub record AddsLine (text : List ℕ) (old new : List Line) : Type 0 where
+  pub line : Line
+  pub writable : IsWritable line
+  pub spelled : text ≡ line_text line
+  pub added : new ≡ old ++ line ∷ []
 
 -- If the text is that of a value in bounds, this value was read.
 abbrev pub ReadsBack : {X : Type 0} → (X → Type 0) → (X → List ℕ) → List ℕ → Option X → Type 0

@@ -1,7 +1,7 @@
 ghost use Rattle.std.specs.Prelude.{◌≡◌, ◌⊎◌, ◌++◌, ◌∷◌, MatchOption, MatchResult};
 ghost use Rattle.tsc_trace.specs.LogText.{line_feed, line_text};
 ghost use Rattle.tsc_trace.specs.LogReading.{IsWritable, ReadsAs};
-ghost use Rattle.tsc_trace.specs.ReadingBack.{IsNoLineText, IsWithout};
+ghost use Rattle.tsc_trace.specs.ReadingBack.{AddsLine, IsNoLineText, IsWithout, ReadsBack};
 ghost use Rattle.tsc_trace.specs.declared.log_reader.LogFault.TheVariants.{NoMemory};
 
 mod line;
@@ -48,6 +48,33 @@ impl<T: Drop> From<AllocFailed<T>> for LogFault {
     }
 }
 
+/// A log that is being read: its lines so far, and room for the text of one.
+#[derive(Drop)]
+struct Reader {
+    lines: Vec<Line>,
+    printed: String,
+}
+
+impl Reader {
+    /// Adds the line that has just this text, and stands at this number.
+    fn add_line(&mut self, number: u64, text: &[u8]) -> Result<(), LogFault>
+        ensures { MatchResult result (λ _. AddsLine text.now self.old.lines.items self.new.lines.items) (λ fault.
+            (fault ≡ LogFault.NoMemory) ⊎ ((fault ≡ LogFault.Text number) × IsNoLineText text.now)) }
+    {
+        let Line {
+            thread,
+            index,
+            said,
+        } = exact_line(number, text, &mut self.printed)?;
+        self.lines.push(Line {
+            thread,
+            index,
+            said,
+        })?;
+        Ok(())
+    }
+}
+
 /// The log whose text these bytes are, as `log_text` writes it.
 ///
 /// The empty text is the log without lines. The time is linear in the bytes, and the memory is that of
@@ -55,8 +82,10 @@ impl<T: Drop> From<AllocFailed<T>> for LogFault {
 pub fn read_log(alloc: Global, bytes: &[u8]) -> Result<Log, LogFault>
     ensures { ReadsAs bytes.now result }
 {
-    let mut lines = Vec::new(alloc);
-    let mut printed = String::new(alloc);
+    let mut reader = Reader {
+        lines: Vec::new(alloc),
+        printed: String::new(alloc),
+    };
     let mut number: u64 = 0;
     let mut rest = bytes;
     while !rest.is_empty() {
@@ -65,11 +94,12 @@ pub fn read_log(alloc: Global, bytes: &[u8]) -> Result<Log, LogFault>
         }
         number += 1;
         let (text, after) = cut_line(rest).ok_or(LogFault::Text(number))?;
-        lines.push(exact_line(number, text, &mut printed)?)?;
+        reader.add_line(number, text)?;
         rest = after;
     }
-    let lines = Lines::of(lines);
-    Ok(Log { lines })
+    Ok(Log {
+        lines: Lines::of(reader.lines),
+    })
 }
 
 /// The bytes before the first line feed, and those behind it.
@@ -81,14 +111,19 @@ fn cut_line(text: &[u8]) -> Option<(&[u8], &[u8])>
     Some((&text[..end], &text[end + 1..]))
 }
 
-/// The line that has just this text, which stands at this number. `printed` holds nothing that matters.
+/// The line whose text, or a looser spelling of it, these bytes are.
+fn loose_line(text: &[u8]) -> Option<Line>
+    ensures { ReadsBack IsWritable line_text text.now result }
+{
+    read_line(str::from_utf8(text).ok()?)
+}
+
+/// The line that has just this text, and stands at this number. `printed` holds nothing that matters.
 fn exact_line(number: u64, text: &[u8], printed: &mut String) -> Result<Line, LogFault>
     ensures { MatchResult result (λ line. IsWritable line × (text.now ≡ line_text line)) (λ fault.
         (fault ≡ LogFault.NoMemory) ⊎ ((fault ≡ LogFault.Text number) × IsNoLineText text.now)) }
 {
-    let Some(line) = str::from_utf8(text).ok().and_then(read_line) else {
-        return Err(LogFault::Text(number));
-    };
+    let line = loose_line(text).ok_or(LogFault::Text(number))?;
     printed.clear();
     write!(printed, "{line}")?;
     if printed.as_bytes() != text {
