@@ -14,3 +14,5 @@ pub mod Cuts
 pub mod LineTexts
 pub mod FieldReading
 pub mod LogReadings
+pub mod OneText
+pub mod OneReading

@@ -65,5 +65,3 @@ one_more bytes rest text after old new told writable cut more =
     (told ∙ ap (λ r. log_text old ++ r) here ∙ sym pushed,
         subst (All IsWritable) (sym more.added) (All-push IsWritable old line writable more.writable),
         ap length more.added ∙ length-append old (line ∷ []))
-
--- ---- one reading
