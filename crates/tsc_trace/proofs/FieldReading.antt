@@ -55,9 +55,11 @@ pub field_some : {X : Type 0} (InBounds : X → Type 0) (written : X → List �
     → ReadsBack InBounds written first value → ReadsField InBounds written text (option_map (λ v. (v, rest)) value)
 field_some InBounds written text first rest None without cut read =
     λ x after bounded e. read x bounded (cut_same space first rest (written x) after cut.0 (without x bounded) (sym cut.1 ∙ e)).0
-field_some InBounds written text first rest (Some v) without cut read =
-    (read.0, λ x after bounded e. let same = cut_same space first rest (written x) after cut.0 (without x bounded) (sym cut.1 ∙ e) in
-    (read.1 x bounded same.0, same.1))
+field_some InBounds written text first rest (Some v) without cut read = (
+  read.0,
+  λ x after bounded e. let same = cut_same space first rest (written x) after cut.0 (without x bounded) (sym cut.1 ∙ e) in
+      (read.1 x bounded same.0, same.1),
+)
 
 -- ---- times
 
@@ -96,11 +98,11 @@ pub time_made : (text wall logical : List ℕ) (w l : ℕ) → IsWithout dot wal
     → ReadsBack (λ time. is_in_range time ≡ true) time_text text (if is_in_range (record { wall = w; logical = l }) then Some (record { wall = w; logical = l }) else None)
 time_made text wall logical w l cut first second =
     time_in_range text (record { wall = w; logical = l }) (is_in_range (record { wall = w; logical = l })) refl (λ t in_range e.
-        let below = parts_below t in_range in
-        let parts = time_parts text wall logical t cut in_range e in
-        let walls : w ≡ t.wall = first.1 t.wall below.0 parts.0 in
-        let logicals : l ≡ t.logical = second.1 t.logical below.1 parts.1 in
-        same_parts w l t walls logicals)
+    let below = parts_below t in_range in
+    let parts = time_parts text wall logical t cut in_range e in
+    let walls : w ≡ t.wall = first.1 t.wall below.0 parts.0 in
+    let logicals : l ≡ t.logical = second.1 t.logical below.1 parts.1 in
+    same_parts w l t walls logicals)
 
 -- ---- owners
 
@@ -146,8 +148,8 @@ some_bytes hex true test uuid e =
     let same : by_index 16 (byte_of_digits hex) ≡ uuid = cc in
     subst (λ (bytes : List ℕ). All (λ b. b < 256) bytes) same
     (All-from_get_or (λ b. b < 256) (by_index 16 (byte_of_digits hex)) 0 (λ i within.
-        let here : i < 16 = rw (by_index_length 16 (byte_of_digits hex)) at within in
-        rw (by_index_at 16 (byte_of_digits hex) i 0 here) (byte_small hex i both.1 (omega arith))))
+    let here : i < 16 = rw (by_index_length 16 (byte_of_digits hex)) at within in
+    rw (by_index_at 16 (byte_of_digits hex) i 0 here) (byte_small hex i both.1 (omega arith))))
 some_bytes hex false test uuid e = absurd cc
 
 simple_bytes : (hex uuid : List ℕ) → parsed_simple hex ≡ Some uuid → IsBytes uuid
@@ -178,8 +180,8 @@ unfolding IsBytes
 parsed_bytes text =
     either_bytes (length text == 32) (parsed_simple text) _ (simple_bytes text)
     (either_bytes (length text == 36) (parsed_hyphenated text) _ (hyphenated_bytes text)
-        (either_bytes (length text == 38) (parsed_braced text) _ (braced_bytes text)
-            (either_bytes (length text == 45) (parsed_urn text) None (urn_bytes text) no_bytes)))
+    (either_bytes (length text == 38) (parsed_braced text) _ (braced_bytes text)
+    (either_bytes (length text == 45) (parsed_urn text) None (urn_bytes text) no_bytes)))
 
 -- a UUID that was read, where the text is not `none`
 pub some_owner : (text uuid : List ℕ) → text ≢ codes "none" → length uuid ≡ 16 → All (λ b. b < 256) uuid → parsed text ≡ Some uuid
@@ -188,8 +190,10 @@ some_owner text uuid other long small read = (made (is_nil_bytes uuid) refl, fou
   made : (b : Bool) → is_nil_bytes uuid ≡ b → IsMadeOwner (if b then None else Some uuid)
   made true nil = tt
   made false nil = (long, small, nil)
+
   named : (x : List ℕ) → IsMadeOwner (Some x) → uuid ≡ x → owner_of uuid ≡ Some x
   named x of_x same = let nil : is_nil_bytes uuid ≡ false = ap is_nil_bytes same ∙ of_x.2 in rw (nil, same) refl
+
   found : (x : Option Owner) → IsMadeOwner x → text ≡ owner_text x → owner_of uuid ≡ x
   found None of_x e = absurd (other e)
   found (Some x) of_x e = let same : Some uuid ≡ Some x = sym read ∙ parsed_owner text x of_x e in named x of_x cc
@@ -227,19 +231,20 @@ pub get_read : (fields rest at name : List ℕ) (front : ℕ) (time : Time) (own
     → ReadsBack IsWritableSaid said_text (codes "get" ++ space ∷ fields) (Some (said.Get front (record { time = time; owner = owner })))
 get_read fields rest at name front time owner field cut first second =
     ((field.0, record { time = first.0; owner = second.0 }), found) where
-  same_value : (n : ℕ) (value : OwnedTime) → front ≡ n → time ≡ value.time → owner ≡ value.owner
-      → said.Get front (record { time = time; owner = owner }) ≡ said.Get n value
-  same_value n value fronts times owners = rw (fronts, times, owners) refl
-  found : (s : Said) → IsWritableSaid s → codes "get" ++ space ∷ fields ≡ said_text s
-      → said.Get front (record { time = time; owner = owner }) ≡ s
-  found (said.Add place added) h e = let heads : 103 ≡ 97 = ap (λ (bytes : List ℕ). get_or bytes 0 0) e in absurd (omega (arith, heads))
-  found (said.Get n value) h e =
-      let tails : fields ≡ decimal n ++ space ∷ (time_text value.time ++ space ∷ owner_text value.owner) = cc in
-      let both = field.1 n (time_text value.time ++ space ∷ owner_text value.owner) h.0 tails in
-      let parts = value_parts rest at name value cut h.1 both.1 in
-      let made = h.1 in
-      same_value n value both.0 (first.1 value.time made.time parts.0) (second.1 value.owner made.owner parts.1)
-  found (said.Low n t) h e = let heads : 103 ≡ 108 = ap (λ (bytes : List ℕ). get_or bytes 0 0) e in absurd (omega (arith, heads))
+      same_value : (n : ℕ) (value : OwnedTime) → front ≡ n → time ≡ value.time → owner ≡ value.owner
+          → said.Get front (record { time = time; owner = owner }) ≡ said.Get n value
+      same_value n value fronts times owners = rw (fronts, times, owners) refl
+
+      found : (s : Said) → IsWritableSaid s → codes "get" ++ space ∷ fields ≡ said_text s
+          → said.Get front (record { time = time; owner = owner }) ≡ s
+      found (said.Add place added) h e = let heads : 103 ≡ 97 = ap (λ (bytes : List ℕ). get_or bytes 0 0) e in absurd (omega (arith, heads))
+      found (said.Get n value) h e =
+          let tails : fields ≡ decimal n ++ space ∷ (time_text value.time ++ space ∷ owner_text value.owner) = cc in
+          let both = field.1 n (time_text value.time ++ space ∷ owner_text value.owner) h.0 tails in
+          let parts = value_parts rest at name value cut h.1 both.1 in
+          let made = h.1 in
+          same_value n value both.0 (first.1 value.time made.time parts.0) (second.1 value.owner made.owner parts.1)
+      found (said.Low n t) h e = let heads : 103 ≡ 108 = ap (λ (bytes : List ℕ). get_or bytes 0 0) e in absurd (omega (arith, heads))
 
 -- ---- answers
 

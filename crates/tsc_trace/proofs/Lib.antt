@@ -16,3 +16,4 @@ pub mod FieldReading
 pub mod LogReadings
 pub mod OneText
 pub mod OneReading
+pub mod LogReadingExamples

@@ -31,8 +31,8 @@ not_empty (b ∷ rest) h e = absurd cc
 
 -- the lines so far, and a rest that begins with no line
 pub wrong_line : (bytes rest : List ℕ) (lines : List Line) (number : ℕ) → bytes ≡ log_text lines ++ rest → All IsWritable lines → number ≡ length lines
-    → number ≤ 65536 → number ≢ 65536 → false ≡ (length rest == 0) → HasNoLine rest → IsWrongAt bytes (number + 1)
-wrong_line bytes rest lines number text writable counted within other more wrong =
+    → number < 65536 → false ≡ (length rest == 0) → HasNoLine rest → IsWrongAt bytes (number + 1)
+wrong_line bytes rest lines number text writable counted within more wrong =
     record {
       before = lines;
       rest = rest;
@@ -61,7 +61,8 @@ one_more bytes rest text after old new told writable cut more =
     let line = more.line in
     let here : rest ≡ line_text line ++ line_feed ∷ after = cut.1 ∙ ap (λ t. t ++ line_feed ∷ after) more.spelled in
     let pushed : log_text new ++ after ≡ log_text old ++ (line_text line ++ line_feed ∷ after) =
-    ap (λ ls. log_text ls ++ after) more.added ∙ log_text_push old line after in
-    (told ∙ ap (λ r. log_text old ++ r) here ∙ sym pushed,
-        subst (All IsWritable) (sym more.added) (All-push IsWritable old line writable more.writable),
-        ap length more.added ∙ length-append old (line ∷ []))
+    ap (λ ls. log_text ls ++ after) more.added ∙ log_text_push old line after in (
+      told ∙ ap (λ r. log_text old ++ r) here ∙ sym pushed,
+      subst (All IsWritable) (sym more.added) (All-push IsWritable old line writable more.writable),
+      ap length more.added ∙ length-append old (line ∷ []),
+    )

@@ -61,6 +61,7 @@ impl Reader {
         ensures { MatchResult result (λ _. AddsLine text.now self.old.lines.items self.new.lines.items) (λ fault.
             (fault ≡ LogFault.NoMemory) ⊎ ((fault ≡ LogFault.Text number) × IsNoLineText text.now)) }
     {
+        // The line is taken apart because the check knows no plan for a push of a whole one.
         let Line {
             thread,
             index,

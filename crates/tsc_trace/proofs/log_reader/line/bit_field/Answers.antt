@@ -12,7 +12,7 @@ pub returns-in_err-bit : goal.returns-in_err-bit
 returns-in_err-bit c =
     rw c.from_residual-in_err-bit.ensures
     (field_some IsAnyBit bit_text c.args.text.now c.in_ok-field.field.now c.in_ok-field.rest.now None
-        (λ b any. bit_without_space b) c.in_ok-field.ensures c.in_err-bit.ensures)
+    (λ b any. bit_without_space b) c.in_ok-field.ensures c.in_err-bit.ensures)
 
 pub returns : goal.returns
 returns c =

@@ -11,7 +11,7 @@ pub returns-in_err-number : goal.returns-in_err-number
 returns-in_err-number c =
     rw c.from_residual-in_err-number.ensures
     (field_some (λ n. n < 2 ^ 64) decimal c.args.text.now c.in_ok-field.field.now c.in_ok-field.rest.now None
-        (λ x small. decimal_without space x small (omega arith)) c.in_ok-field.ensures c.in_err-number.ensures)
+    (λ x small. decimal_without space x small (omega arith)) c.in_ok-field.ensures c.in_err-number.ensures)
 
 pub returns : goal.returns
 returns c =

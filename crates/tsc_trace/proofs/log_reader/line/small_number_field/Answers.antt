@@ -11,7 +11,7 @@ pub returns-in_err-small_number : goal.returns-in_err-small_number
 returns-in_err-small_number c =
     rw c.from_residual-in_err-small_number.ensures
     (field_some (λ n. n < 2 ^ 32) decimal c.args.text.now c.in_ok-field.field.now c.in_ok-field.rest.now None
-        (λ x small. decimal_without space x (omega arith) (omega arith)) c.in_ok-field.ensures c.in_err-small_number.ensures)
+    (λ x small. decimal_without space x (omega arith) (omega arith)) c.in_ok-field.ensures c.in_err-small_number.ensures)
 
 pub returns : goal.returns
 returns c =

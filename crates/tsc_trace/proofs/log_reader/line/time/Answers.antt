@@ -18,4 +18,4 @@ pub returns : goal.returns
 returns c =
     rw c.new.ensures
     (time_made c.args.text.now c.in_ok-wall.wall.now c.in_ok-wall.logical.now c.in_ok-number.field-0 c.in_ok-small_number.field-0
-        c.in_ok-wall.ensures c.in_ok-number.ensures c.in_ok-small_number.ensures)
+    c.in_ok-wall.ensures c.in_ok-number.ensures c.in_ok-small_number.ensures)
