@@ -11,3 +11,10 @@ pub mod Playing
 pub mod ListSteps
 pub mod Input
 pub mod Output
+pub mod Cuts
+pub mod LineTexts
+pub mod FieldReading
+pub mod LogReadings
+pub mod OneText
+pub mod OneReading
+pub mod LogReadingExamples

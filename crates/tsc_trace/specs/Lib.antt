@@ -8,6 +8,8 @@ pub mod Reading
 pub mod Rows
 pub mod Log
 pub mod LogText
+pub mod LogReading
+pub mod ReadingBack
 pub mod Play
 pub mod PlayerParts
 pub mod Stream
