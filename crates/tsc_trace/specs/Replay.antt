@@ -1,10 +1,10 @@
 -- What a replay reads and writes.
-use Rattle.std.specs.Prelude.{◌≡◌, ◌≢◌, ◌++◌, ℕ, List, Option, Ok, Err, codes, decimal, ◌⊎◌, ◌∷◌, [], Bool}
+use Rattle.std.specs.Prelude.{◌≡◌, ◌≢◌, ◌++◌, ℕ, List, Option, Ok, Err, codes, decimal, Bool}
 use Rattle.std.specs.Io.KnownBytes.{Appends}
 use Rattle.tsc_trace.specs.TraceText.{trace_of_bytes}
 use Rattle.tsc_trace.specs.Log.{log_of}
-use Rattle.tsc_trace.specs.LogText.{line_feed, log_text}
-use Rattle.tsc_trace.specs.Stream.{GaveUp, HasRead, HasWrittenPrefix}
+use Rattle.tsc_trace.specs.LogText.{log_text}
+use Rattle.tsc_trace.specs.Stream.{HasRead, HasWrittenPrefix}
 use Rattle.tsc_trace.specs.declared.trace.Trace.{Trace}
 use Rattle.tsc_trace.specs.declared.read.TraceFault.{TraceFault}
 use Rattle.tsc_trace.specs.declared.read.TraceFault.TheVariants as trace_fault
