@@ -1,5 +1,5 @@
 -- The order of an object's members makes no difference.
-use Rattle.std.proofs.Common.{◌≡◌, ◌∙◌, refl, sym, ap, ℕ, Bool, true, false, ◌&&◌, List, Option, Some, Ok, Err}
+use Rattle.std.proofs.Common.{◌≡◌, ◌∙◌, refl, sym, ℕ, Bool, true, false, ◌&&◌, List, Option, Some, Ok, Err}
 use Rattle.std.specs.Prelude.{codes, ◌∷◌, []}
 use Rattle.std.specs.List.{list_any}
 use Rattle.std.specs.Str.{bytes_eq}

@@ -1,10 +1,10 @@
 -- What the text of an owner reads as.
 use Rattle.std.specs.Prelude.{is_some}
-use Rattle.std.proofs.Common.{◌≡◌, true, false, ℕ, List, Option, Some, None, Result, Ok, Err, refl, sym, ap, ◌∙◌}
+use Rattle.std.proofs.Common.{◌≡◌, true, false, ℕ, List, Option, Some, None, Result, Ok, Err, refl, ap, ◌∙◌}
 use Rattle.uuid.specs.Text.{parsed}
 use Rattle.uuid.specs.Parts.{zero_bytes}
 use Rattle.serde_json.specs.Data.{Data, null, boolean, number, string, array, object}
-use Rattle.serde_json.specs.Find.{as_null, as_str}
+use Rattle.serde_json.specs.Find.{as_null}
 use Rattle.tsc_time.specs.OwnedTime.{owner_of}
 use Rattle.tsc_trace.specs.declared.read.part.Refusal.{Refusal}
 use Rattle.tsc_trace.specs.declared.read.part.Refusal.TheVariants as refusal

@@ -1,5 +1,5 @@
 -- What is written is read again, part by part.
-use Rattle.std.proofs.Common.{◌≡◌, ◌⊎◌, inl, inr, ◌∙◌, refl, sym, ap, ℕ, zero, suc, ◌+◌, ◌^◌, ◌<◌, ◌≤◌, ◌&&◌, Bool, true, false, List, [], ◌∷◌, ◌++◌, map, length, Some, None, Ok, Err, arith}
+use Rattle.std.proofs.Common.{◌≡◌, ◌⊎◌, inl, inr, ◌∙◌, refl, sym, ap, ℕ, zero, suc, ◌+◌, ◌^◌, ◌<◌, ◌≤◌, ◌&&◌, Bool, true, false, List, [], ◌∷◌, ◌++◌, map, length, Some, None, Ok, arith}
 use Rattle.std.specs.Prelude.{slice_index, sum, nat_lt, nat_le, All}
 use Rattle.std.specs.declared.cmp.Ordering.{Ordering}
 use Rattle.std.specs.declared.cmp.Ordering.TheVariants.{Less, Equal, Greater}
@@ -9,22 +9,21 @@ use Rattle.std.proofs.lemmas.Bool.{leb-true, lt-ltb, and_parts}
 use Rattle.std.proofs.lemmas.List.{length-map}
 use Rattle.std.proofs.lemmas.List.Elements.{All-nil}
 use Rattle.std.proofs.lemmas.List.Sums.{sum-map}
-use Rattle.hex.specs.Hex.{IsBytes, decode_of, encode_lower}
+use Rattle.hex.specs.Hex.{decode_of, encode_lower}
 use Rattle.hex.proofs.HexLemmas.{decode_of-encode_lower}
 use Rattle.uuid.specs.Text.{parsed, hyphenated_text, lower}
 use Rattle.uuid.proofs.RoundTrips.{parses_hyphenated}
 use Rattle.serde_json.specs.Data.{Data, unsigned, number, string}
 use Rattle.serde_json.specs.View.{items_of}
 use Rattle.tsc_time.specs.Time.{Time, is_in_range}
-use Rattle.tsc_time.specs.OwnedTime.{Owner, IsMadeOwner}
-use Rattle.tsc_span.specs.declared.span.Ends.{Ends}
+use Rattle.tsc_time.specs.OwnedTime.{IsMadeOwner}
 use Rattle.tsc_span.specs.Span.{KeyBytes, key_cmp, before, after, last, Interval, nothing, between}
 use Rattle.tsc_span.specs.MadeSpan.{IsKey, IsMadeSpan}
 use Rattle.tsc_span.proofs.CutOrder.{key_cmp-same}
 use Rattle.tsc_span.proofs.Ranges.{range_of_less, range_of_equal}
 use Rattle.tsc_page.specs.declared.TheConstants.{LEAST_NODES, MOST_NODES}
 use Rattle.tsc_cache.specs.declared.config.TheConstants.{LEAST_MIN_PAGES, MOST_MIN_PAGES, LONGEST_RETENTION}
-use Rattle.tsc_cache.specs.Settings.{Settings, settings_of, is_page_size, is_min_pages, is_retention, IsWithinLimits}
+use Rattle.tsc_cache.specs.Settings.{Settings, IsWithinLimits}
 use Rattle.tsc_trace.specs.Lists.{fits_trace}
 use Rattle.tsc_trace.specs.declared.trace.Call.{Call}
 use Rattle.tsc_trace.specs.declared.trace.Call.TheVariants.{Add, Get, Low}

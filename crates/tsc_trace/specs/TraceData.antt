@@ -1,12 +1,12 @@
 -- A trace as a JSON value, in one of the forms that it may have.
-use Rattle.std.specs.Prelude.{◌≡◌, ℕ, ◌++◌, List, [], ◌∷◌, map, Bool, true, false, not, All, Option, Some, None, codes, if◌then◌else◌}
+use Rattle.std.specs.Prelude.{◌≡◌, ℕ, ◌++◌, List, [], ◌∷◌, map, Bool, true, false, All, Option, Some, None, codes, if◌then◌else◌}
 use Rattle.hex.specs.Hex.{encode_lower}
 use Rattle.uuid.specs.Text.{hyphenated_text, lower}
-use Rattle.serde_json.specs.Data.{Data, null, unsigned, number, string, array, object, Members, no_members, member}
+use Rattle.serde_json.specs.Data.{Data, null, unsigned, number, string, array, object, no_members, member}
 use Rattle.serde_json.specs.View.{items_of}
 use Rattle.tsc_time.specs.Time.{Time, is_in_range}
 use Rattle.tsc_time.specs.OwnedTime.{Owner, IsMadeValue}
-use Rattle.tsc_span.specs.Span.{KeyBytes, Cut, before, after, last, Interval, nothing, between}
+use Rattle.tsc_span.specs.Span.{KeyBytes, before, after, last, Interval, nothing, between}
 use Rattle.tsc_span.specs.MadeSpan.{IsMadeSpan}
 use Rattle.tsc_cache.specs.Settings.{IsWithinLimits}
 use Rattle.tsc_trace.specs.Lists.{fits_trace}

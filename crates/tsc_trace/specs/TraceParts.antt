@@ -1,5 +1,5 @@
 -- What a part of a trace is read as: a value, or the least of the faults that the part has.
-use Rattle.std.specs.Prelude.{ℕ, nat_le, Bool, Option, Some, None, Result, Ok, Err, ok_or, if◌then◌else◌}
+use Rattle.std.specs.Prelude.{ℕ, nat_le, Bool, Result, Ok, Err, if◌then◌else◌}
 use Rattle.tsc_trace.specs.declared.read.part.PartFault.{PartFault}
 use Rattle.tsc_trace.specs.declared.read.part.PartFault.TheVariants.{Shape, Number, Hex, Uuid, Span}
 use Rattle.tsc_trace.specs.declared.read.TraceFault.{TraceFault}

@@ -1,6 +1,5 @@
 use Rattle.std.proofs.Common.{arith}
 use Rattle.std.proofs.lemmas.Result.{err_from_is_err_and}
-use Rattle.serde_json.specs.View.{view}
 use Rattle.tsc_trace.specs.TraceText.{calls_of}
 use Rattle.tsc_trace.proofs.Calls.{calls_go_on, calls_end, calls_are_done}
 use Rattle.tsc_trace.proofs.read.call.calls.Goals as goal
