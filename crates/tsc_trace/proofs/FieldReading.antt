@@ -11,7 +11,7 @@ use Rattle.std.specs.List.{list_all}
 use Rattle.std.proofs.lemmas.Bool.{and_parts}
 use Rattle.std.proofs.lemmas.Bool.Decides.{nat_tests}
 use Rattle.uuid.specs.Text.{hyphenated_text, lower, parsed, parsed_simple, parsed_hyphenated, parsed_braced, parsed_urn, by_index, byte_of_digits, digits_of, has_hyphens, has_urn_prefix, is_hex_digit, value_of, open_brace, close_brace}
-use Rattle.uuid.specs.Parts.{is_nil_bytes, zero_bytes}
+use Rattle.uuid.specs.Parts.{is_nil_bytes}
 use Rattle.uuid.proofs.TextLemmas.{by_index_length, by_index_at}
 use Rattle.uuid.proofs.RoundTrips.{parses_hyphenated}
 use Rattle.tsc_time.specs.Time.{Time, is_in_range}

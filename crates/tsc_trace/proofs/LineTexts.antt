@@ -1,18 +1,17 @@
 -- The texts of a log's line: which bytes they have, and that no two values have one text.
-use Rattle.std.proofs.Common.{◌≡◌, ◌≢◌, ℕ, ◌<◌, ◌≤◌, ◌^◌, List, [], ◌∷◌, ◌++◌, length, get_or, Bool, true, false, Option, Some, None, All, codes, decimal, if◌then◌else◌, nat_lt, ◌&&◌, inl, inr, true≢false, refl, sym, ap, ◌∙◌, arith}
+use Rattle.std.proofs.Common.{◌≡◌, ◌≢◌, ℕ, ◌<◌, ◌≤◌, ◌^◌, List, [], ◌∷◌, ◌++◌, length, get_or, Bool, true, false, Option, Some, None, All, codes, decimal, if◌then◌else◌, nat_lt, ◌&&◌, true≢false, refl, sym, ap, ◌∙◌, arith}
 use Rattle.std.proofs.lemmas.Bool.Decides.{nat_tests}
-use Rattle.std.proofs.lemmas.Fmt.{decimal_is_IsNumeral, decimal_injective}
+use Rattle.std.proofs.lemmas.Fmt.{decimal_is_IsNumeral}
 use Rattle.std.proofs.lemmas.Str.Parse.{digit_at}
 use Rattle.std.proofs.lemmas.Str.Ascii.{IsAscii-from_all}
 use Rattle.std.proofs.lemmas.List.Elements.{All-append, All-cons, All-nil, All-weaker, All-from_get_or}
 use Rattle.std.specs.Str.{IsAscii}
 use Rattle.std.specs.List.{list_all}
 use Rattle.std.proofs.lemmas.Bool.{and_parts}
-use Rattle.uuid.specs.Text.{by_index, hex_digit, nibble, hyphenated_text, lower, IsLetter, is_hyphen_place, digit_place, parsed}
+use Rattle.uuid.specs.Text.{hex_digit, nibble, hyphenated_text, lower, is_hyphen_place, digit_place}
 use Rattle.uuid.proofs.TextLemmas.{by_index_length, by_index_at, nibble_small}
-use Rattle.uuid.proofs.RoundTrips.{parses_hyphenated}
 use Rattle.tsc_time.specs.Time.{Time, is_in_range}
-use Rattle.tsc_time.specs.OwnedTime.{Owner, IsMadeOwner, IsMadeValue}
+use Rattle.tsc_time.specs.OwnedTime.{Owner}
 use Rattle.tsc_trace.specs.declared.log.Line.{Line}
 use Rattle.tsc_trace.specs.declared.log.Said.{Said}
 use Rattle.tsc_trace.specs.declared.log.Said.TheVariants as said

@@ -1,14 +1,12 @@
 -- Reading a log line by line, and that its bytes read as one thing only.
-use Rattle.std.proofs.Common.{◌≡◌, ◌≢◌, ℕ, zero, suc, ◌+◌, ◌<◌, ◌≤◌, ◌==◌, List, [], ◌∷◌, ◌++◌, length, All, Bool, true, false, Result, Ok, Err, inl, inr, ◌⊎◌, refl, sym, ap, ◌∙◌, subst, arith, append_assoc, length-append}
-use Rattle.std.proofs.lemmas.Bool.Decides.{nat_tests}
+use Rattle.std.proofs.Common.{◌≡◌, ◌≢◌, ℕ, ◌+◌, ◌<◌, ◌==◌, List, [], ◌∷◌, ◌++◌, length, All, false, Err, inl, inr, ◌⊎◌, sym, ap, ◌∙◌, subst, arith, append_assoc, length-append}
 use Rattle.std.proofs.lemmas.List.Concat.{flat_map-append}
-use Rattle.std.proofs.lemmas.List.Elements.{All-push, All-head, All-tail}
+use Rattle.std.proofs.lemmas.List.Elements.{All-push}
 use Rattle.tsc_trace.specs.declared.log.Line.{Line}
-use Rattle.tsc_trace.specs.declared.log.Log.{Log}
 use Rattle.tsc_trace.specs.declared.log_reader.LogFault.{LogFault}
-use Rattle.tsc_trace.specs.declared.log_reader.LogFault.TheVariants.{Text, Length, NoMemory}
+use Rattle.tsc_trace.specs.declared.log_reader.LogFault.TheVariants.{Text, NoMemory}
 use Rattle.tsc_trace.specs.LogText.{line_feed, line_text, log_text}
-use Rattle.tsc_trace.specs.LogReading.{most_lines, IsWritable, IsLog, IsTextOf, HasNoLine, IsWrongAt, IsTooLong, ReadsAs, OneReading, ReadsBackLogs}
+use Rattle.tsc_trace.specs.LogReading.{IsWritable, HasNoLine, IsWrongAt, ReadsAs}
 use Rattle.tsc_trace.specs.ReadingBack.{IsWithout, IsNoLineText, AddsLine}
 use Rattle.tsc_trace.proofs.Cuts.{cut_same, no_cut}
 use Rattle.tsc_trace.proofs.LineTexts.{line_without_feed}

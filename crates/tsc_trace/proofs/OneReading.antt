@@ -1,14 +1,12 @@
 -- The bytes of a log read as one thing only.
-use Rattle.std.proofs.Common.{◌≡◌, ◌≢◌, ℕ, zero, suc, ◌+◌, ◌<◌, ◌≤◌, List, [], ◌∷◌, ◌++◌, length, All, Result, Ok, Err, inl, inr, ◌⊎◌, refl, sym, ap, ◌∙◌, subst, arith, append_assoc, length-append}
+use Rattle.std.proofs.Common.{◌≡◌, ℕ, suc, ◌+◌, ◌≤◌, List, [], ◌∷◌, ◌++◌, length, All, Ok, Err, inl, inr, ◌⊎◌, refl, sym, ap, ◌∙◌, arith, append_assoc, length-append}
 use Rattle.std.proofs.lemmas.List.{append-nil}
 use Rattle.std.proofs.lemmas.Bool.{cases_lt}
 use Rattle.std.proofs.lemmas.List.Elements.{All-head, All-tail}
 use Rattle.tsc_trace.specs.declared.log.Line.{Line}
-use Rattle.tsc_trace.specs.declared.log.Log.{Log}
-use Rattle.tsc_trace.specs.declared.log_reader.LogFault.{LogFault}
 use Rattle.tsc_trace.specs.declared.log_reader.LogFault.TheVariants.{Text, Length, NoMemory}
 use Rattle.tsc_trace.specs.LogText.{line_feed, line_text, log_text}
-use Rattle.tsc_trace.specs.LogReading.{most_lines, IsWritable, IsLog, IsTextOf, HasNoLine, IsWrongAt, IsTooLong, ReadsAs, OneReading, ReadsBackLogs}
+use Rattle.tsc_trace.specs.LogReading.{most_lines, IsWritable, IsTextOf, HasNoLine, IsWrongAt, IsTooLong, OneReading, ReadsBackLogs}
 use Rattle.tsc_trace.proofs.OneText.{same_line_then}
 
 ended : (mark : ℕ) (a b c : List ℕ) → ((a ++ mark ∷ []) ++ b) ++ c ≡ a ++ mark ∷ (b ++ c)

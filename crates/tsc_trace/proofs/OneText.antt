@@ -1,7 +1,7 @@
 -- No two lines have one text.
-use Rattle.std.proofs.Common.{◌≡◌, ◌≢◌, ℕ, ◌<◌, ◌^◌, List, [], ◌∷◌, ◌++◌, length, get_or, drop, Bool, true, false, Option, Some, None, codes, decimal, refl, sym, ap, ◌∙◌, arith}
+use Rattle.std.proofs.Common.{◌≡◌, ℕ, ◌<◌, ◌^◌, List, ◌∷◌, ◌++◌, get_or, drop, Bool, true, false, Option, Some, None, decimal, refl, sym, ap, ◌∙◌, arith}
 use Rattle.std.proofs.lemmas.Fmt.{decimal_injective}
-use Rattle.uuid.specs.Text.{hyphenated_text, lower, parsed}
+use Rattle.uuid.specs.Text.{hyphenated_text, lower}
 use Rattle.tsc_cache.specs.declared.added.Added.{Added}
 use Rattle.tsc_time.specs.Time.{Time, is_in_range}
 use Rattle.tsc_time.specs.OwnedTime.{OwnedTime, Owner, IsMadeOwner, IsMadeValue}

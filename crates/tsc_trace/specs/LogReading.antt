@@ -1,5 +1,5 @@
 -- What the bytes of a log read as: the lines whose text they are, or where they stop being the text of lines.
-use Rattle.std.specs.Prelude.{◌≡◌, ◌≢◌, ℕ, suc, ◌<◌, ◌≤◌, ◌^◌, List, [], ◌∷◌, ◌++◌, length, All, true, Option, Some, None, Result, Ok, Err}
+use Rattle.std.specs.Prelude.{◌≡◌, ◌≢◌, ℕ, suc, ◌<◌, ◌≤◌, ◌^◌, List, [], ◌∷◌, ◌++◌, length, All, true, Result, Ok, Err}
 use Rattle.tsc_time.specs.Time.{is_in_range}
 use Rattle.tsc_time.specs.OwnedTime.{IsMadeValue}
 use Rattle.tsc_trace.specs.declared.log.Line.{Line}

@@ -1,7 +1,5 @@
-use Rattle.std.proofs.Common.{◌≡◌, ◌≢◌, ◌+◌, Err, inl, inr, sym, ◌∙◌, subst, arith, rules}
-use Rattle.tsc_trace.specs.LogText.{line_feed}
-use Rattle.tsc_trace.specs.LogReading.{ReadsAs}
-use Rattle.tsc_trace.specs.declared.log_reader.LogFault.TheVariants.{Text, NoMemory}
+use Rattle.std.proofs.Common.{◌≡◌, ◌+◌, Err, arith, rules}
+use Rattle.tsc_trace.specs.declared.log_reader.LogFault.TheVariants.{Text}
 use Rattle.tsc_trace.proofs.LogReadings.{no_feed, no_line, wrong_line, refused, one_more}
 use Rattle.tsc_trace.proofs.log_reader.read_log.Goals as goal
 

@@ -1,4 +1,4 @@
-use Rattle.std.proofs.Common.{Some, None, rules}
+use Rattle.std.proofs.Common.{Some, None}
 use Rattle.tsc_trace.specs.LogText.{bit_text}
 use Rattle.tsc_trace.specs.ReadingBack.{IsAnyBit}
 use Rattle.tsc_trace.proofs.LineTexts.{bit_without_space}

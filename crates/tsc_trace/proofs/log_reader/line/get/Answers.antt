@@ -1,4 +1,3 @@
-use Rattle.std.proofs.Common.{◌≡◌, ◌<◌, ◌^◌, true, decimal, sym, ◌∙◌, rules}
 use Rattle.tsc_time.specs.OwnedTime.{owner_of}
 use Rattle.tsc_trace.specs.LogText.{space, time_text, owner_text}
 use Rattle.tsc_trace.proofs.Cuts.{no_cut}

@@ -1,4 +1,4 @@
-use Rattle.std.proofs.Common.{◌<◌, ◌^◌, Some, None, decimal, arith, rules}
+use Rattle.std.proofs.Common.{◌<◌, ◌^◌, Some, None, decimal, arith}
 use Rattle.tsc_trace.specs.LogText.{space}
 use Rattle.tsc_trace.proofs.LineTexts.{decimal_without}
 use Rattle.tsc_trace.proofs.FieldReading.{field_none, field_some}
