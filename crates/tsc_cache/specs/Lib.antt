@@ -7,3 +7,4 @@ pub mod CacheView
 pub mod Stacks
 pub mod CacheParts
 pub mod Laws
+pub use Rattle.tsc_span.specs.Span

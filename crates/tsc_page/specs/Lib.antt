@@ -1,3 +1,6 @@
 pub mod Page
 pub mod PageView
 pub mod Nodes
+pub use Rattle.tsc_time.specs.Time
+pub use Rattle.tsc_time.specs.Joint
+pub use Rattle.tsc_span.specs.Span

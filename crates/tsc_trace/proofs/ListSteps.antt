@@ -1,7 +1,7 @@
 -- One more list of a trace, in a replay.
-use Rattle.std.proofs.Common.{◌≡◌, ◌∙◌, sym, ap, ℕ, suc, ◌+◌, ◌<◌, List, ◌∷◌, ◌++◌, length, drop, drop-cons, get_or, [], Some, None, arith, append_assoc, add-one}
+use Rattle.std.proofs.Common.{◌≡◌, ◌∙◌, sym, ap, ℕ, suc, ◌+◌, ◌<◌, List, ◌∷◌, ◌++◌, length, drop, drop-cons, get_or, Some, arith, append_assoc, add-one}
 use Rattle.std.specs.Prelude.{slice_get}
-use Rattle.std.proofs.lemmas.Option.{slice_get_within, slice_get-get_or, get_or_from_slice_get}
+use Rattle.std.proofs.lemmas.Option.{slice_get_within, get_or_from_slice_get}
 use Rattle.tsc_cache.specs.Settings.{Settings}
 use Rattle.tsc_trace.specs.Play.{Standing, next_all, played, played_lists}
 use Rattle.tsc_trace.specs.declared.trace.Call.{Call}
@@ -23,14 +23,6 @@ told_with_list settings thread at lines more whole calls lists here added told =
     ∙ ap (λ n. lines ++ (played settings thread 0 at calls ++ played_lists settings n (next_all settings at calls) (drop (thread + 1) lists))) (add-one thread)
     ∙ ap (λ ls. lines ++ played_lists settings thread at ls) (sym (left_from lists thread calls here))
     ∙ told
-
--- a place within a list has something
-pub not_past : {X : Type 0} (xs : List X) (i : ℕ) → i < length xs → slice_get xs i ≡ None → ⊥
-not_past [] i within none = omega arith
-not_past (x ∷ xs) i within none =
-    let some = slice_get-get_or (x ∷ xs) i x within in
-    let clash : Some (get_or (x ∷ xs) i x) ≡ None = sym some ∙ none in
-    cc
 
 -- A replay in the midst of a list: what it has told, with what the calls that are left tell, is what it told before with what all of them tell; and they lead to where all of them lead.
 pub record IsUnderWay (old new : Player) (settings : Settings) (thread index : ℕ) (calls left : List Call) (from : Standing) : Type 0 where

@@ -1,9 +1,9 @@
 -- Lists of a trace, by their number.
-use Rattle.std.proofs.Common.{◌≡◌, ℕ, ◌<◌, ◌≤◌, Bool, true, false, ◌&&◌, List, length, get_or, map, None, refl, sym, ap, ◌∙◌, arith, Vec, Global}
+use Rattle.std.proofs.Common.{◌≡◌, ℕ, ◌<◌, ◌≤◌, Bool, true, false, ◌&&◌, List, length, get_or, map, Some, None, refl, sym, ap, ◌∙◌, arith, Vec, Global}
 use Rattle.std.specs.List.{sum_by}
 use Rattle.std.specs.Prelude.{slice_get}
 use Rattle.std.proofs.lemmas.Bool.{leb-true}
-use Rattle.std.proofs.lemmas.Option.{slice_get_past}
+use Rattle.std.proofs.lemmas.Option.{slice_get_past, slice_get-get_or}
 use Rattle.std.proofs.lemmas.List.{length-map, get_or-map}
 use Rattle.std.proofs.lemmas.List.Sums.{get_or-le-sum_by}
 use Rattle.tsc_trace.specs.Lists.{most_calls, fits_trace}
@@ -27,3 +27,9 @@ calls_within vs i v h lt is =
 
 pub past_lists : {C : Type 0} (vs : List (Vec C Global)) (i : ℕ) → length vs ≤ i → slice_get (map (λ v. v.items) vs) i ≡ None
 past_lists vs i le = slice_get_past (map (λ v. v.items) vs) i (omega (arith, length-map vs (λ v. v.items)))
+
+-- the list with a number, seen as the calls in it
+pub list_at : {C : Type 0} (vs : List (Vec C Global)) (i : ℕ) (v : Vec C Global) → i < length vs → v ≡ get_or vs i v → slice_get (map (λ v. v.items) vs) i ≡ Some v.items
+list_at vs i v lt is =
+    slice_get-get_or (map (λ v. v.items) vs) i v.items (omega (arith, length-map vs (λ v. v.items)))
+    ∙ ap Some (get_or-map (λ v. v.items) vs i v v.items lt ∙ ap (λ v. v.items) (sym is))

@@ -1,10 +1,15 @@
 pub mod Lists
 pub mod Trace
+pub mod TraceParts
 pub mod TraceText
+pub mod TraceData
+pub mod TraceLaws
 pub mod Reading
-pub mod KeySet
+pub mod Rows
 pub mod Log
 pub mod LogText
+pub mod LogReading
+pub mod ReadingBack
 pub mod Play
 pub mod PlayerParts
 pub mod Stream

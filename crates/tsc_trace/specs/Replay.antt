@@ -82,6 +82,11 @@ fault_of_input input_fault.NoMemory = NoMemory
 abbrev pub fault_of_trace : TraceFault → ReplayFault
 fault_of_trace trace_fault.NotJson = Refused trace_fault.NotJson
 fault_of_trace (trace_fault.Shape call) = Refused (trace_fault.Shape call)
+fault_of_trace (trace_fault.Number call) = Refused (trace_fault.Number call)
+fault_of_trace (trace_fault.Hex call) = Refused (trace_fault.Hex call)
+fault_of_trace (trace_fault.Uuid call) = Refused (trace_fault.Uuid call)
+fault_of_trace (trace_fault.Span call) = Refused (trace_fault.Span call)
+fault_of_trace trace_fault.Config = Refused trace_fault.Config
 fault_of_trace trace_fault.NoMemory = NoMemory
 
 -- how a fault of an output ends a replay
@@ -95,6 +100,11 @@ fault_text Read = codes "read failed"
 fault_text TooLong = codes "input too long"
 fault_text (Refused trace_fault.NotJson) = codes "trace refused: fault 1"
 fault_text (Refused (trace_fault.Shape call)) = codes "trace refused: fault 2 at call " ++ decimal call
+fault_text (Refused (trace_fault.Number call)) = codes "trace refused: fault 3 at call " ++ decimal call
+fault_text (Refused (trace_fault.Hex call)) = codes "trace refused: fault 4 at call " ++ decimal call
+fault_text (Refused (trace_fault.Uuid call)) = codes "trace refused: fault 5 at call " ++ decimal call
+fault_text (Refused (trace_fault.Span call)) = codes "trace refused: fault 6 at call " ++ decimal call
+fault_text (Refused trace_fault.Config) = codes "trace refused: fault 7"
 fault_text (Refused trace_fault.NoMemory) = codes "out of memory"
 fault_text Write = codes "write failed"
 fault_text NoMemory = codes "out of memory"

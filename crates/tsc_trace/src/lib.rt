@@ -2,18 +2,24 @@
 //!
 //! A [`Trace`] is a configuration and lists of calls. [`read_trace`] reads one, [`play`] makes its calls one
 //! after another over a [`Cache`](tsc_cache::Cache), and [`log_text`] is the text of the [`Log`] of their
-//! answers. [`replay_stream`] does all three, from a reader to a writer.
+//! answers. [`replay_stream`] does all three, from a reader to a writer. [`read_log`] reads a log's text back.
 #![tactic(auto)]
 
 pub mod fakes;
+pub mod laws;
 mod log;
+pub mod log_laws;
+mod log_reader;
 mod player;
 mod read;
 mod replays;
 mod stream;
+#[cfg(test)]
+mod tests;
 mod trace;
 
 pub use log::{Line, Lines, Log, Said, log_text};
+pub use log_reader::{LogFault, read_log};
 pub use player::play;
 pub use read::{TraceFault, read_trace};
 pub use replays::{OutFault, ReplayFault, replay, replay_stream, write_log};

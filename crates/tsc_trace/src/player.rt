@@ -85,10 +85,8 @@ pub fn play(alloc: Global, trace: &Trace) -> Result<Log, NoMemory>
         adds: 0,
         lines: Vec::new(alloc),
     };
-    for thread in 0..trace.threads.len() {
-        if let Some(calls) = trace.threads.list(thread) {
-            player.play_list(thread as u32, calls)?;
-        }
+    for (thread, calls) in trace.threads.slice().iter().enumerate() {
+        player.play_list(thread as u32, calls)?;
     }
     Ok(Log {
         lines: Lines::of(player.lines),

@@ -72,6 +72,19 @@ impl ReplayFault {
             ReplayFault::Trace(TraceFault::Shape(call)) => {
                 ("trace refused: fault 2 at call ", digits.format(call))
             }
+            ReplayFault::Trace(TraceFault::Number(call)) => {
+                ("trace refused: fault 3 at call ", digits.format(call))
+            }
+            ReplayFault::Trace(TraceFault::Hex(call)) => {
+                ("trace refused: fault 4 at call ", digits.format(call))
+            }
+            ReplayFault::Trace(TraceFault::Uuid(call)) => {
+                ("trace refused: fault 5 at call ", digits.format(call))
+            }
+            ReplayFault::Trace(TraceFault::Span(call)) => {
+                ("trace refused: fault 6 at call ", digits.format(call))
+            }
+            ReplayFault::Trace(TraceFault::Config) => ("trace refused: fault 7", ""),
             ReplayFault::Write => ("write failed", ""),
             ReplayFault::NoMemory | ReplayFault::Trace(TraceFault::NoMemory) => {
                 ("out of memory", "")
@@ -110,7 +123,13 @@ impl From<TraceFault> for ReplayFault {
     fn from(fault: TraceFault) -> ReplayFault {
         match fault {
             TraceFault::NoMemory => ReplayFault::NoMemory,
-            TraceFault::NotJson | TraceFault::Shape(_) => ReplayFault::Trace(fault),
+            TraceFault::NotJson
+            | TraceFault::Shape(_)
+            | TraceFault::Number(_)
+            | TraceFault::Hex(_)
+            | TraceFault::Uuid(_)
+            | TraceFault::Span(_)
+            | TraceFault::Config => ReplayFault::Trace(fault),
         }
     }
 }

@@ -1,7 +1,6 @@
-ghost use Rattle.std.specs.Prelude.{◌≡◌, ◌≤◌, ◌∷◌, [], length, option_map, slice_get, IfOk, IfSome};
-ghost use Rattle.tsc_trace.specs.Lists.{most_lists, most_calls};
+ghost use Rattle.std.specs.Prelude.{◌≡◌, ◌≤◌, true, map, length, option_map, slice_get, IfSome};
+ghost use Rattle.tsc_trace.specs.Lists.{most_lists, most_calls, fits_trace};
 
-use std::alloc::{AllocError, Global};
 use std::marker::Model;
 use tsc_cache::Config;
 use tsc_span::Span;
@@ -50,14 +49,20 @@ impl Model for Lists {
 }
 
 impl Lists {
-    /// One list of calls.
-    pub(crate) fn one(alloc: Global, calls: Vec<Call>) -> Result<Lists, AllocError>
-        requires { length calls.items ≤ most_calls }
-        ensures { IfOk result (λ lists. lists ≡ calls.items ∷ []) }
+    /// These lists.
+    pub(crate) fn of(lists: Vec<Vec<Call>>) -> Lists
+        requires { fits_trace (map (λ calls. calls.items) lists.items) ≡ true }
+        ensures { result ≡ map (λ calls. calls.items) lists.items }
     {
-        let mut lists = Vec::new(alloc);
-        lists.push(calls)?;
-        Ok(Lists { lists })
+        Lists { lists }
+    }
+
+    /// The lists as a slice.
+    pub(crate) fn slice(&self) -> &[Vec<Call>]
+        ensures value { map (λ calls. calls.items) result.now ≡ self.now }
+        ensures fits { fits_trace self.now ≡ true }
+    {
+        self.lists.as_slice()
     }
 
     /// How many lists there are.

@@ -34,9 +34,9 @@ pub(crate) fn status_of(fault: ReplayFault) -> u8
     ensures { result ≡ status_of fault }
 {
     match fault {
-        ReplayFault::Trace(TraceFault::NotJson | TraceFault::Shape(_)) => 1,
-        ReplayFault::Read | ReplayFault::TooLong | ReplayFault::Write => 4,
         ReplayFault::NoMemory | ReplayFault::Trace(TraceFault::NoMemory) => 5,
+        ReplayFault::Trace(_) => 1,
+        ReplayFault::Read | ReplayFault::TooLong | ReplayFault::Write => 4,
     }
 }
 

@@ -1,81 +1,72 @@
 //! The calls of a trace, and what they are made of.
 
-ghost use Rattle.std.specs.Prelude.{◌≡◌, option_map, option_and_then};
-ghost use Rattle.std.specs.Result.{result_ok};
-ghost use Rattle.hex.specs.Hex.{decode_of};
-ghost use Rattle.serde_json.specs.View.{view, items_view, members_view};
+ghost use Rattle.std.specs.Prelude.{◌≡◌, ◌+◌, ◌^◌, ◌<◌, map, length, option_map, Some, codes};
+ghost use Rattle.serde_json.specs.View.{view, members_view};
 ghost use Rattle.tsc_time.specs.OwnedTime.{owner_of};
-ghost use Rattle.uuid.specs.Text.{parsed};
-ghost use Rattle.tsc_trace.specs.Reading.{Gives};
-ghost use Rattle.tsc_trace.specs.TraceText.{time_of, key_of, owner_or_null, owner_member, optional, span_keys, span_of_keys, lookup_span_of_keys, add_of, get_of, low_of, call_by_name, call_of, calls_of};
+ghost use Rattle.tsc_trace.specs.Reading.{Gives, Tells};
+ghost use Rattle.tsc_trace.specs.TraceParts.{both, at_call};
+ghost use Rattle.tsc_trace.specs.TraceText.{unsigned_of, needed_as, time_in_range, time_of, owner_in, owner_member, added_span, looked_up_span, span_and_time, owner_and_now, add_of, get_of, low_of, call_by_name, call_of, calls_of};
 
-use super::json::{
-    Refusal, array, has_only, needed, number_32, number_64, object, optional, text, two,
-};
+use super::TraceFault;
+use super::json::{array, has_only, needed, object, optional, text, two, unsigned};
+use super::part::{NUMBER, PartFault, Refusal, SHAPE, at_call, both};
+use super::span::{added_span, looked_up_span};
 use crate::trace::Call;
-use hex::FromHexError;
 use serde_json::{Map, Value};
 use std::alloc::Global;
-use tsc_span::{Ends, Key, Span};
+use tsc_span::Span;
 use tsc_time::Timestamp;
 use uuid::Uuid;
 
-/// A trace names a span by its start and its end, and the end is excluded.
-const END_EXCLUDED: Ends = Ends {
-    exclude_from: false,
-    exclude_to: true,
-};
+/// A text that is no UUID.
+const UUID: Refusal = Refusal::Fault(PartFault::Uuid);
 
-/// A time: its wall time and its logical count.
+/// Two unsigned integers.
+fn two_numbers(first: &Value, second: &Value) -> Result<(u64, u64), Refusal>
+    ensures { Gives (λ pair. pair) result
+        (both (unsigned_of (view first.now)) (unsigned_of (view second.now))) }
+{
+    both(unsigned(first), unsigned(second))
+}
+
+/// The time of a wall time and a logical count.
+#[tactic(auto, unfolding(crate::specs::TraceText::time_in_range))]
+fn timestamp(wall: u64, logical: u64) -> Result<Timestamp, Refusal>
+    ensures { Gives (λ time. time) result (time_in_range wall logical) }
+{
+    let logical = u32::try_from(logical).map_err(|_| NUMBER)?;
+    Timestamp::new(wall, logical).ok_or(NUMBER)
+}
+
+/// A time: a list of its wall time and its logical count.
 #[tactic(auto, unfolding(crate::specs::TraceText::time_of))]
 pub(super) fn time(value: &Value) -> Result<Timestamp, Refusal>
     ensures { Gives (λ time. time) result (time_of (view value.now)) }
 {
     let (wall, logical) = two(array(value)?)?;
-    let wall = number_64(wall)?;
-    let logical = number_32(logical)?;
-    Timestamp::new(wall, logical).ok_or(Refusal::Shape)
+    let (wall, logical) = two_numbers(wall, logical)?;
+    timestamp(wall, logical)
 }
 
-/// The bytes that hexadecimal digits stand for.
-fn hex_bytes(alloc: Global, digits: &str) -> Result<Vec<u8>, Refusal>
-    ensures { Gives (λ bytes. bytes.items) result (result_ok (decode_of digits.now)) }
-{
-    match hex::decode(alloc, digits) {
-        Ok(bytes) => Ok(bytes),
-        Err(FromHexError::OutOfMemory) => Err(Refusal::Memory),
-        Err(_) => Err(Refusal::Shape),
-    }
-}
-
-/// A key: its bytes as hexadecimal digits.
-#[tactic(auto, unfolding(crate::specs::TraceText::key_of))]
-fn key(alloc: Global, value: &Value) -> Result<Key, Refusal>
-    ensures { Gives (λ key. key) result (key_of (view value.now)) }
-{
-    let digits = text(value)?;
-    let bytes = hex_bytes(alloc, digits)?;
-    Key::try_from(bytes).map_err(|_| Refusal::Shape)
-}
-
-/// The UUID that a text is.
-fn uuid(text: &str) -> Result<Uuid, Refusal>
-    ensures { Gives (λ uuid. uuid) result (parsed text.now) }
+/// The owner that a text names. The nil UUID stands for none.
+#[tactic(auto, unfolding(crate::specs::TraceText::owner_in))]
+fn owner_by_text(text: &str) -> Result<Uuid, Refusal>
+    ensures { Gives (λ name. owner_of name) result (owner_in text.now) }
 {
     match Uuid::parse_str(text) {
         Ok(uuid) => Ok(uuid),
-        Err(_) => Err(Refusal::Shape),
+        Err(_) => Err(UUID),
     }
 }
 
 /// The name of an owner. The nil UUID stands for none, and so does null.
 fn owner_name(value: &Value) -> Result<Uuid, Refusal>
-    ensures { Gives (λ name. owner_of name) result (owner_or_null (view value.now)) }
+    ensures { Gives (λ name. owner_of name) result (owner_member (Some (view value.now))) }
 {
     if value.is_null() {
         return Ok(Uuid::nil());
     }
-    uuid(text(value)?)
+    owner_by_text(text(value)?)
 }
 
 /// The name of an owner, which may be left out.
@@ -90,52 +81,35 @@ fn owner(value: Option<&Value>) -> Result<Uuid, Refusal>
     }
 }
 
-/// A key that may be left out.
-fn end_key(alloc: Global, value: Option<&Value>) -> Result<Option<Key>, Refusal>
-    ensures { Gives (λ end. end) result
-        (optional key_of (option_map (λ value. view value.now) value.entry)) }
+/// The span of an Add, by the call's members.
+fn span_in(alloc: Global, members: &Map<String, Value>) -> Result<Span, Refusal>
+    ensures { Gives (λ span. span) result
+        (needed_as (codes "span") added_span (members_view members.now.entries)) }
 {
-    match value {
-        None => Ok(None),
-        Some(value) => Ok(Some(key(alloc, value)?)),
-    }
+    added_span(alloc, needed(members, "span")?)
 }
 
-/// The start and the end of a span.
-#[tactic(auto, unfolding(crate::specs::TraceText::span_keys))]
-fn keys(alloc: Global, value: &Value) -> Result<(Key, Option<Key>), Refusal>
-    ensures { Gives (λ keys. keys) result (span_keys (view value.now)) }
+/// The time that a member is.
+pub(super) fn time_in(members: &Map<String, Value>, name: &str) -> Result<Timestamp, Refusal>
+    ensures { Gives (λ time. time) result
+        (needed_as name.now time_of (members_view members.now.entries)) }
 {
-    let members = object(value)?;
-    if !has_only(members, &["start", "end"]) {
-        return Err(Refusal::Shape);
-    }
-    let start = key(alloc, needed(members, "start")?)?;
-    let end = end_key(alloc, optional(members, "end"))?;
-    Ok((start, end))
+    time(needed(members, name)?)
 }
 
-/// The span of an Add. An inverted one is refused.
-#[tactic(auto, unfolding(crate::specs::TraceText::span_of_keys))]
-fn added_span(start: Key, end: Option<Key>) -> Result<Span, Refusal>
-    ensures { Gives (λ span. span) result (span_of_keys (start, end)) }
+/// The span and the time of an Add.
+fn span_and_time(alloc: Global, members: &Map<String, Value>) -> Result<(Span, Timestamp), Refusal>
+    ensures { Gives (λ parts. parts) result (span_and_time (members_view members.now.entries)) }
 {
-    match end {
-        None => Ok(Span::point(start)),
-        Some(end) => Span::of(start, end).map_err(|_| Refusal::Shape),
-    }
+    both(span_in(alloc, members), time_in(members, "time"))
 }
 
-/// The span of a lookup. An inverted one is the empty span.
-#[tactic(auto, unfolding(crate::specs::TraceText::span_of_keys, crate::specs::TraceText::lookup_span_of_keys))]
-fn lookup_span(start: Key, end: Option<Key>) -> Span
-    ensures { result ≡ lookup_span_of_keys (start, end) }
+/// The owner and the moment of an Add.
+fn owner_and_now(members: &Map<String, Value>) -> Result<(Uuid, Timestamp), Refusal>
+    ensures { Gives (λ parts. (owner_of parts.0, parts.1)) result
+        (owner_and_now (members_view members.now.entries)) }
 {
-    match end {
-        None => Span::point(start),
-        Some(end) if end.bytes().is_empty() => Span::point(start),
-        Some(end) => Span::for_lookup(start, end, END_EXCLUDED),
-    }
+    both(owner(optional(members, "owner")), time_in(members, "now"))
 }
 
 /// An Add, by its members.
@@ -144,13 +118,9 @@ fn add(alloc: Global, members: &Map<String, Value>) -> Result<Call, Refusal>
     ensures { Gives (λ call. call) result (add_of (members_view members.now.entries)) }
 {
     if !has_only(members, &["op", "span", "time", "owner", "now"]) {
-        return Err(Refusal::Shape);
+        return Err(SHAPE);
     }
-    let (start, end) = keys(alloc, needed(members, "span")?)?;
-    let span = added_span(start, end)?;
-    let at = time(needed(members, "time")?)?;
-    let owner = owner(optional(members, "owner"))?;
-    let now = time(needed(members, "now")?)?;
+    let ((span, at), (owner, now)) = both(span_and_time(alloc, members), owner_and_now(members))?;
     let value = tsc_time::Value::of(at, owner);
     Ok(Call::Add { span, value, now })
 }
@@ -161,10 +131,9 @@ fn get(alloc: Global, members: &Map<String, Value>) -> Result<Call, Refusal>
     ensures { Gives (λ call. call) result (get_of (members_view members.now.entries)) }
 {
     if !has_only(members, &["op", "span"]) {
-        return Err(Refusal::Shape);
+        return Err(SHAPE);
     }
-    let (start, end) = keys(alloc, needed(members, "span")?)?;
-    let span = lookup_span(start, end);
+    let span = looked_up_span(alloc, needed(members, "span")?)?;
     Ok(Call::Get { span })
 }
 
@@ -174,7 +143,7 @@ fn low(members: &Map<String, Value>) -> Result<Call, Refusal>
     ensures { Gives (λ call. call) result (low_of (members_view members.now.entries)) }
 {
     if !has_only(members, &["op"]) {
-        return Err(Refusal::Shape);
+        return Err(SHAPE);
     }
     Ok(Call::Low)
 }
@@ -193,7 +162,7 @@ fn named_call(alloc: Global, name: &str, members: &Map<String, Value>) -> Result
     if name == "low" {
         return low(members);
     }
-    Err(Refusal::Shape)
+    Err(SHAPE)
 }
 
 /// A call: an object whose member `op` names the operation.
@@ -206,13 +175,23 @@ fn call(alloc: Global, value: &Value) -> Result<Call, Refusal>
     named_call(alloc, name, members)
 }
 
-/// The calls of a list.
-pub(super) fn calls(alloc: Global, values: &[Value]) -> Result<Vec<Call>, Refusal>
-    ensures { Gives (λ calls. calls.items) result (calls_of (items_view values.now)) }
+/// The call with this number.
+fn call_at(alloc: Global, number: u64, value: &Value) -> Result<Call, TraceFault>
+    ensures { Tells (λ call. call) result (at_call number (call_of (view value.now))) }
+{
+    at_call(number, call(alloc, value))
+}
+
+/// The calls of a list, of which the first has this number.
+pub(super) fn calls(alloc: Global, first: u64, values: &[Value]) -> Result<Vec<Call>, TraceFault>
+    requires { first + length values.now < 2 ^ 64 }
+    ensures { Tells (λ calls. calls.items) result (calls_of first (map view values.now)) }
 {
     let mut calls = Vec::new(alloc);
+    let mut number = first;
     for value in values {
-        calls.push(call(alloc, value)?)?;
+        calls.push(call_at(alloc, number, value)?)?;
+        number += 1;
     }
     Ok(calls)
 }

@@ -1,299 +1,437 @@
 use super::*;
 use crate::trace::Call;
 use std::test::*;
-use tsc_span::{Ends, Key, Span};
-use tsc_time::Timestamp;
-use uuid::Uuid;
 
-/// What reading says of a text: how many calls its list has, or why it is refused.
-fn said(alloc: Global, text: &str) -> Result<usize, TraceFault> {
+/// What reading tells: how many calls there are, or the fault.
+type Told = Result<usize, TraceFault>;
+
+const CONFIG: Told = Err(TraceFault::Config);
+
+/// Faults of the head.
+const HEAD_SHAPE: Told = Err(TraceFault::Shape(0));
+
+const HEAD_NUMBER: Told = Err(TraceFault::Number(0));
+
+/// Faults of the first call.
+const SHAPE: Told = Err(TraceFault::Shape(1));
+
+const NUMBER: Told = Err(TraceFault::Number(1));
+
+const HEX: Told = Err(TraceFault::Hex(1));
+
+const UUID: Told = Err(TraceFault::Uuid(1));
+
+const SPAN: Told = Err(TraceFault::Span(1));
+
+/// The members of a head beside its lists.
+const HEAD: &str = r#""page_nodes":4,"min_pages":2,"retention":10,"low_water":[5,0]"#;
+
+/// `page_nodes`, `min_pages`, `retention`, `low_water` and `threads`, and what is told of them.
+static HEADS: [(&str, &str, &str, &str, &str, Told); 21] = [
+    ("4", "2", "10", "[5]", "[[]]", HEAD_SHAPE),
+    ("4", "2", "10", "[5,0,0]", "[[]]", HEAD_SHAPE),
+    ("4", "2", "10", "[5,null]", "[[]]", HEAD_SHAPE),
+    (r#""4""#, "2", "10", "[5,0]", "[[]]", HEAD_SHAPE),
+    ("4294967296", "2", "10", "[5]", "[[]]", HEAD_SHAPE),
+    ("4294967296", "2", "10", "[5,0]", "[7]", HEAD_SHAPE),
+    ("4294967296", "2", "10", "[5,0]", "[[]]", HEAD_NUMBER),
+    ("4294967296", "2", "10", "[5,0]", "[[{}]]", HEAD_NUMBER),
+    ("4", "4294967296", "10", "[5,0]", "[]", HEAD_NUMBER),
+    (
+        "4",
+        "2",
+        "18446744073709551616",
+        "[5,0]",
+        "[[]]",
+        HEAD_NUMBER,
+    ),
+    (
+        "4",
+        "2",
+        "10",
+        "[9223372036854775808,0]",
+        "[[]]",
+        HEAD_NUMBER,
+    ),
+    ("4", "2", "10", "[5,2147483648]", "[[]]", HEAD_NUMBER),
+    ("4", "2", "10", "[5,4294967296]", "[[]]", HEAD_NUMBER),
+    ("2.0", "2", "10", "[5,0]", "[[]]", HEAD_NUMBER),
+    ("2", "2", "2e1", "[5,0]", "[[]]", HEAD_NUMBER),
+    ("1", "2", "10", "[5,0]", "[[]]", CONFIG),
+    ("4294967295", "2", "10", "[5,0]", "[[]]", CONFIG),
+    ("4", "65", "10", "[5,0]", "[[]]", CONFIG),
+    ("4", "2", "18446744073709551615", "[5,0]", "[[]]", CONFIG),
+    ("1", "2", "10", "[5,0]", r#"[[{"op":"low","x":1}]]"#, CONFIG),
+    (
+        "65536",
+        "64",
+        "9223372036854775807",
+        "[9223372036854775807,2147483647]",
+        "[[]]",
+        Ok(0),
+    ),
+];
+
+/// The members of a head beside one empty list.
+static MEMBERS: [(&str, Told); 5] = [
+    (r#""page_nodes":4,"min_pages":2,"retention":10"#, HEAD_SHAPE),
+    (
+        r#""page_nodes":4,"min_pages":2,"retention":10,"low_water":[5,0],"x":1"#,
+        HEAD_SHAPE,
+    ),
+    (
+        r#""page_nodes":4294967296,"min_pages":2,"retention":10,"low_water":[5,0],"x":1"#,
+        HEAD_SHAPE,
+    ),
+    (
+        r#""page_nodes":1,"page_nodes":2,"min_pages":2,"retention":10,"low_water":[5,0]"#,
+        Ok(0),
+    ),
+    (
+        r#""page_nodes":2,"page_nodes":1,"min_pages":2,"retention":10,"low_water":[5,0]"#,
+        CONFIG,
+    ),
+];
+
+/// A call that is the only one of a trace.
+static CALLS: [(&str, Told); 44] = [
+    (r#"{"op":"low","op":"get","span":{"start":"61"}}"#, Ok(1)),
+    ("7", SHAPE),
+    ("{}", SHAPE),
+    (r#"{"op":7}"#, SHAPE),
+    (r#"{"op":"drop"}"#, SHAPE),
+    (r#"{"op":"low","x":1}"#, SHAPE),
+    (r#"{"op":"get"}"#, SHAPE),
+    (r#"{"op":"get","span":{"start":"61"},"now":[1,0]}"#, SHAPE),
+    (r#"{"op":"add","span":{"start":"61"},"time":[20,0]}"#, SHAPE),
+    (
+        r#"{"op":"add","span":{"start":"61"},"time":[20],"now":[20,0]}"#,
+        SHAPE,
+    ),
+    (
+        r#"{"op":"add","span":{"start":"61"},"time":[20,0],"now":[20,0],"owner":7}"#,
+        SHAPE,
+    ),
+    (r#"{"op":"get","span":"61"}"#, SHAPE),
+    (r#"{"op":"get","span":{}}"#, SHAPE),
+    (r#"{"op":"get","span":{"start":61}}"#, SHAPE),
+    (r#"{"op":"get","span":{"start":"61","end":null}}"#, SHAPE),
+    (r#"{"op":"get","span":{"start":"61","to":"62"}}"#, SHAPE),
+    (r#"{"op":"get","span":{"start":"61","ends":"[]"}}"#, SHAPE),
+    (
+        r#"{"op":"get","span":{"start":"61","end":"62","ends":"[["}}"#,
+        SHAPE,
+    ),
+    (
+        r#"{"op":"get","span":{"start":"61","end":"62","ends":"["}}"#,
+        SHAPE,
+    ),
+    (r#"{"op":"get","span":{"start":"61","onward":")"}}"#, SHAPE),
+    (r#"{"op":"get","span":{"start":"61","onward":true}}"#, SHAPE),
+    (
+        r#"{"op":"get","span":{"start":"61","end":"62","onward":"["}}"#,
+        SHAPE,
+    ),
+    (
+        r#"{"op":"get","span":{"start":"61","end":"62","ends":"[]","onward":"["}}"#,
+        SHAPE,
+    ),
+    (
+        r#"{"op":"get","span":{"start":"61","ends":"[]","onward":"["}}"#,
+        SHAPE,
+    ),
+    (
+        r#"{"op":"add","span":{"start":"61"},"time":[20,2147483648],"now":[20,0]}"#,
+        NUMBER,
+    ),
+    (
+        r#"{"op":"add","span":{"start":"61"},"time":[-1,0],"now":[20,0]}"#,
+        NUMBER,
+    ),
+    (
+        r#"{"op":"add","span":{"start":"61"},"time":[1.5,0],"now":[20,0]}"#,
+        NUMBER,
+    ),
+    (
+        r#"{"op":"add","span":{"start":"61"},"time":[9223372036854775807,2147483647],"now":[20,0]}"#,
+        Ok(1),
+    ),
+    (r#"{"op":"get","span":{"start":"6"}}"#, HEX),
+    (r#"{"op":"get","span":{"start":"6g"}}"#, HEX),
+    (r#"{"op":"get","span":{"start":"61","end":"6"}}"#, HEX),
+    (
+        r#"{"op":"add","span":{"start":"61"},"time":[20,0],"now":[20,0],"owner":"xyz"}"#,
+        UUID,
+    ),
+    (
+        r#"{"op":"add","span":{"start":"63","end":"61"},"time":[20,0],"now":[20,0]}"#,
+        SPAN,
+    ),
+    (
+        r#"{"op":"add","span":{"start":"63","end":"61","ends":"[]"},"time":[20,0],"now":[20,0]}"#,
+        SPAN,
+    ),
+    (r#"{"op":"get","span":{"start":"63","end":"61"}}"#, Ok(1)),
+    (
+        r#"{"op":"add","span":{"start":"6"},"time":[-1,0],"now":[20,0]}"#,
+        NUMBER,
+    ),
+    (
+        r#"{"op":"add","span":{"start":"6"},"time":[20,0],"now":[-1,0],"owner":"xyz"}"#,
+        NUMBER,
+    ),
+    (
+        r#"{"op":"add","span":{"start":"63","end":"61"},"time":[20,0],"now":[20,0],"owner":"xyz"}"#,
+        UUID,
+    ),
+    (
+        r#"{"op":"add","span":{"start":"6"},"time":[20,0],"now":[20,0],"owner":"xyz"}"#,
+        HEX,
+    ),
+    (
+        r#"{"op":"add","span":{"start":"6"},"time":[-1,0],"now":[20,0],"owner":7}"#,
+        SHAPE,
+    ),
+    (
+        r#"{"op":"add","span":{"start":"6"},"time":[-1,0],"now":[20]}"#,
+        SHAPE,
+    ),
+    (
+        r#"{"op":"add","span":{"start":"6"},"time":[-1,"x"],"now":[20,0]}"#,
+        SHAPE,
+    ),
+    (
+        r#"{"op":"get","span":{"start":"6","end":"61","ends":"<>"}}"#,
+        SHAPE,
+    ),
+    (r#"{"op":"get","span":{"start":"6","onward":"]"}}"#, SHAPE),
+];
+
+/// Lists of calls, which are numbered on through all of them; the first that has a fault decides.
+static THREADS: [(&str, Told); 10] = [
+    ("[[]]", Ok(0)),
+    ("[[],[]]", Ok(0)),
+    (r#"[[{"op":"low"}],[{"op":"low"},{"op":"low"}]]"#, Ok(3)),
+    ("[]", CONFIG),
+    ("{}", HEAD_SHAPE),
+    ("[[],7]", HEAD_SHAPE),
+    ("null", HEAD_SHAPE),
+    (
+        r#"[[{"op":"low"}],[],[{"op":"low"},{"op":"get","span":{"start":"6"}},{"op":"x"}]]"#,
+        Err(TraceFault::Hex(3)),
+    ),
+    (
+        r#"[[{"op":"low"},{"op":"get","span":{"start":"6"}}],[{"op":"x"}]]"#,
+        Err(TraceFault::Hex(2)),
+    ),
+    (r#"[[],[{"op":"x"}]]"#, SHAPE),
+];
+
+/// The text of `threads` as a front, a piece with how often it comes, and a tail; and what is told of it.
+static LONG_TRACES: [(&str, &str, usize, &str, Told); 8] = [
+    ("[", "[],", 63, "[]]", Ok(0)),
+    ("[", "[],", 64, "[]]", CONFIG),
+    (
+        "[[",
+        r#"{"op":"low"},"#,
+        65_535,
+        r#"{"op":"low"}]]"#,
+        Ok(65_536),
+    ),
+    (
+        "[[",
+        r#"{"op":"low"},"#,
+        65_536,
+        r#"{"op":"low"}]]"#,
+        CONFIG,
+    ),
+    (r#"[[{"op":"x"}],["#, "7,", 65_535, "7]]", CONFIG),
+    (
+        r#"[[{"op":"get","span":{"start":""#,
+        "61",
+        4096,
+        r#""}}]]"#,
+        Ok(1),
+    ),
+    (
+        r#"[[{"op":"get","span":{"start":""#,
+        "61",
+        4097,
+        r#""}}]]"#,
+        SPAN,
+    ),
+    (
+        r#"[[{"op":"get","span":{"start":"61","onward":"[","end":""#,
+        "61",
+        4097,
+        r#""}}]]"#,
+        SHAPE,
+    ),
+];
+
+/// Texts that are no JSON.
+static NO_JSON: [&[u8]; 6] = [
+    b"",
+    b"1e999",
+    &[b'['; 200],
+    b"{\"page_nodes\":4",
+    b"{} {}",
+    b"{\"threads\":\"\xff\"}",
+];
+
+/// What reading tells of a text.
+fn told(alloc: Global, text: &str) -> Told {
     let trace = read_trace(alloc, text.as_bytes())?;
-    Ok(trace.threads.list(0).map_or(0, |calls| calls.len()))
-}
-
-/// What reading says of a list of calls, on pages of this many keys.
-fn said_of_calls(
-    alloc: Global,
-    page_nodes: u32,
-    calls: &str,
-) -> Result<Result<usize, TraceFault>, Fail> {
-    let text = format!(in alloc;
-        "{{\"page_nodes\":{page_nodes},\"min_pages\":1,\"retention\":1000,\"low_water\":[5,0],\"threads\":[[{calls}]]}}"
-    )?;
-    Ok(said(alloc, &text))
-}
-
-const SHAPE: Result<usize, TraceFault> = Err(TraceFault::Shape(0));
-
-#[test]
-fn reads_a_trace(rt: HostRuntime) {
-    let text = r#"{"page_nodes":4,"min_pages":2,"retention":9223372036854775807,"low_water":[5,7],
-        "threads":[[
-            {"op":"add","span":{"start":"61","end":"63"},"time":[9,1],"owner":"00112233-4455-6677-8899-aabbccddeeff","now":[10,0]},
-            {"op":"get","span":{"start":"62"}},
-            {"op":"low"}
-        ]]}"#;
-    assert_eq!(rt; said(rt.alloc(), text), Ok(3));
-}
-
-/// The time of a wall time and a logical count.
-fn at(wall: u64, logical: u32) -> Result<Timestamp, Fail> {
-    let time = Timestamp::new(wall, logical).ok_or("out of range")?;
-    Ok(time)
-}
-
-/// The span from one key to another, without the other.
-fn range(alloc: Global, from: &[u8], to: &[u8]) -> Result<Span, Fail> {
-    let ends = Ends {
-        exclude_from: false,
-        exclude_to: true,
-    };
-    Ok(Span::range(Key::new(alloc, from)?, Key::new(alloc, to)?, ends)?)
-}
-
-/// Whether a call is the Add of a span with a value, at a moment.
-fn is_add(call: &Call, of: &Span, with: tsc_time::Value, moment: Timestamp) -> bool {
-    match call {
-        Call::Add { span, value, now } => span == of && *value == with && *now == moment,
-        Call::Get { .. } | Call::Low => false,
+    let mut calls = 0;
+    for i in 0..trace.threads.len() {
+        let list = trace.threads.list(i).map_or(0, |list| list.len());
+        calls = list.saturating_add(calls);
     }
-}
-
-/// Whether a call is the lookup of a span.
-fn is_get(call: &Call, of: &Span) -> bool {
-    matches!(call, Call::Get { span } if span == of)
-}
-
-const THREE_CALLS: &str =
-    r#"{"page_nodes":4,"min_pages":2,"retention":10,"low_water":[5,7],"threads":[[
-{"op":"add","span":{"start":"61","end":"63ff"},"time":[9,1],"owner":"00112233-4455-6677-8899-aabbccddeeff","now":[10,2]},
-{"op":"add","span":{"start":"62"},"time":[7,3],"now":[8,4]},
-{"op":"get","span":{"start":"61","end":"63ff"}}]]}"#;
-
-#[test]
-fn reads_what_calls_name(rt: HostRuntime) -> Result<(), Fail> {
-    let trace = read_trace(rt.alloc(), THREE_CALLS.as_bytes())?;
-    let calls = trace.threads.list(0).ok_or("no list")?;
-    let span = range(rt.alloc(), b"a", b"c\xff")?;
-    let point = Span::point(Key::new(rt.alloc(), b"b")?);
-    let owner = Uuid::from_u128(0x0011_2233_4455_6677_8899_aabb_ccdd_eeff);
-    let owned = tsc_time::Value::of(at(9, 1)?, owner);
-    let unowned = tsc_time::Value::unowned(at(7, 3)?);
-    assert_eq!(rt; calls.len(), 3);
-    assert!(rt; is_add(&calls[0], &span, owned, at(10, 2)?));
-    assert!(rt; is_add(&calls[1], &point, unowned, at(8, 4)?));
-    assert!(rt; is_get(&calls[2], &span));
-    Ok(())
-}
-
-/// Lists in lists, deeper than `serde_json` reads.
-const TOO_DEEP: [u8; 200] = [b'['; 200];
-
-#[test]
-fn tells_bytes_that_are_no_json(rt: HostRuntime) {
-    for bytes in [
-        b"".as_slice(),
-        b"1e999".as_slice(),
-        TOO_DEEP.as_slice(),
-        b"{\"page_nodes\":4".as_slice(),
-        b"{} {}".as_slice(),
-        b"{\"threads\":\"\xff\"}".as_slice(),
-    ] {
-        assert_eq!(rt;
-            read_trace(rt.alloc(), bytes).err(),
-            Some(TraceFault::NotJson)
-        );
-    }
+    Ok(calls)
 }
 
 #[test]
-fn reads_heads(rt: HostRuntime) {
-    for (text, want) in [
-        (
-            r#"{"page_nodes":2,"min_pages":1,"retention":0,"low_water":[0,0],"threads":[[]]}"#,
-            Ok(0),
-        ),
-        (
-            r#"{"page_nodes":2,"min_pages":65,"min_pages":64,"retention":0,"low_water":[0,0],"threads":[[]]}"#,
-            Ok(0),
-        ),
-        (
-            r#"{"page_nodes":2,"min_pages":64,"min_pages":65,"retention":0,"low_water":[0,0],"threads":[[]]}"#,
-            SHAPE,
-        ),
-        (
-            r#"{"page_nodes":1,"min_pages":1,"retention":0,"low_water":[0,0],"threads":[[]]}"#,
-            SHAPE,
-        ),
-        (
-            r#"{"page_nodes":2,"min_pages":65,"retention":0,"low_water":[0,0],"threads":[[]]}"#,
-            SHAPE,
-        ),
-        (
-            r#"{"page_nodes":2,"retention":0,"low_water":[0,0],"threads":[[]]}"#,
-            SHAPE,
-        ),
-        (
-            r#"{"page_nodes":2,"min_pages":1,"retention":9223372036854775808,"low_water":[0,0],"threads":[[]]}"#,
-            SHAPE,
-        ),
-        (
-            r#"{"page_nodes":2,"min_pages":1,"retention":0,"low_water":[0,0],"threads":[[]],"more":1}"#,
-            SHAPE,
-        ),
-        (
-            r#"{"page_nodes":2,"min_pages":1,"retention":0,"low_water":[-1,0],"threads":[[]]}"#,
-            SHAPE,
-        ),
-        (
-            r#"{"page_nodes":2,"min_pages":1,"retention":0,"low_water":[0],"threads":[[]]}"#,
-            SHAPE,
-        ),
-        (
-            r#"{"page_nodes":2,"min_pages":1,"retention":0,"low_water":[0,0],"threads":[[],[]]}"#,
-            SHAPE,
-        ),
-        (
-            r#"{"page_nodes":2,"min_pages":1,"retention":0,"low_water":[0,0],"threads":[]}"#,
-            SHAPE,
-        ),
-        ("[]", SHAPE),
-    ] {
-        assert_eq!(rt; said(rt.alloc(), text), want, "at {text}");
-    }
-}
-
-#[test]
-fn reads_numbers(rt: HostRuntime) -> Result<(), Fail> {
-    for (page_nodes, wall, want) in [
-        ("65536", "9223372036854775807", Ok(0)),
-        ("65537", "0", SHAPE),
-        ("4294967296", "0", SHAPE),
-        ("2", "9223372036854775808", SHAPE),
-        ("2", "18446744073709551616", SHAPE),
-        ("2", "-0", SHAPE),
-        ("2", "20.0", SHAPE),
-        ("2", "2e1", SHAPE),
-        ("2", "20,0", SHAPE),
-        ("2.0", "20", SHAPE),
-    ] {
+fn tells_what_decides(rt: HostRuntime) -> Result<(), Fail> {
+    for (page_nodes, min_pages, retention, low_water, threads, want) in HEADS.as_slice() {
         let text = format!(in rt.alloc();
-            "{{\"page_nodes\":{page_nodes},\"min_pages\":1,\"retention\":0,\"low_water\":[{wall},0],\"threads\":[[]]}}"
+            "{{\"page_nodes\":{page_nodes},\"min_pages\":{min_pages},\"retention\":{retention},\"low_water\":{low_water},\"threads\":{threads}}}"
         )?;
-        assert_eq!(rt; said(rt.alloc(), &text), want, "at {page_nodes} and {wall}");
+        assert_eq!(rt; told(rt.alloc(), &text), *want, "at {text}");
+    }
+    for (head, want) in MEMBERS.as_slice() {
+        let text = format!(in rt.alloc(); "{{{head},\"threads\":[[]]}}")?;
+        assert_eq!(rt; told(rt.alloc(), &text), *want, "at {text}");
+    }
+    for (call, want) in CALLS.as_slice() {
+        let text = format!(in rt.alloc(); "{{{HEAD},\"threads\":[[{call}]]}}")?;
+        assert_eq!(rt; told(rt.alloc(), &text), *want, "at {text}");
+    }
+    for (threads, want) in THREADS.as_slice() {
+        let text = format!(in rt.alloc(); "{{{HEAD},\"threads\":{threads}}}")?;
+        assert_eq!(rt; told(rt.alloc(), &text), *want, "at {text}");
+    }
+    for (front, piece, times, tail, want) in LONG_TRACES.as_slice() {
+        let mut text = format!(in rt.alloc(); "{{{HEAD},\"threads\":{front}")?;
+        for _ in 0..*times {
+            text.push_str(piece)?;
+        }
+        text.push_str(tail)?;
+        text.push_str("}")?;
+        assert_eq!(rt; told(rt.alloc(), &text), *want, "at {times} times {piece}");
+    }
+    for bytes in NO_JSON.as_slice() {
+        let fault = read_trace(rt.alloc(), bytes).err();
+        assert_eq!(rt; fault, Some(TraceFault::NotJson));
     }
     Ok(())
+}
+
+/// A span, and whether it covers each of the keys `a`, `b`, `c` and `d`.
+static SPANS: [(&str, [bool; 4]); 14] = [
+    (r#"{"start":"62"}"#, [false, true, false, false]),
+    (r#"{"start":"61","end":"63"}"#, [true, true, false, false]),
+    (r#"{"start":"62","end":""}"#, [false, true, false, false]),
+    (r#"{"start":"63","end":"61"}"#, [false, false, false, false]),
+    (
+        r#"{"start":"61","end":"63","ends":"[]"}"#,
+        [true, true, true, false],
+    ),
+    (
+        r#"{"start":"61","end":"63","ends":"[)"}"#,
+        [true, true, false, false],
+    ),
+    (
+        r#"{"start":"61","end":"63","ends":"(]"}"#,
+        [false, true, true, false],
+    ),
+    (
+        r#"{"start":"61","end":"63","ends":"()"}"#,
+        [false, true, false, false],
+    ),
+    (
+        r#"{"start":"62","end":"62","ends":"[)"}"#,
+        [false, true, false, false],
+    ),
+    (
+        r#"{"start":"62","end":"62","ends":"()"}"#,
+        [false, false, false, false],
+    ),
+    (
+        r#"{"start":"63","end":"61","ends":"[]"}"#,
+        [false, false, false, false],
+    ),
+    (r#"{"start":"62","onward":"["}"#, [false, true, true, true]),
+    (r#"{"start":"62","onward":"("}"#, [false, false, true, true]),
+    (r#"{"start":"","onward":"["}"#, [true, true, true, true]),
+];
+
+/// Which of the keys `a`, `b`, `c` and `d` the span of a trace's only call covers.
+fn covered(alloc: Global, span: &str) -> Result<[bool; 4], Fail> {
+    let text = format!(in alloc; "{{{HEAD},\"threads\":[[{{\"op\":\"get\",\"span\":{span}}}]]}}")?;
+    let trace = read_trace(alloc, text.as_bytes())?;
+    let calls = trace.threads.list(0).ok_or("no list")?;
+    let mut covered = [false; 4];
+    for (i, key) in [b"a", b"b", b"c", b"d"].into_iter().enumerate() {
+        if let Some(Call::Get { span }) = calls.first() {
+            covered[i] = span.covers(key);
+        }
+    }
+    Ok(covered)
+}
+
+#[test]
+fn reads_spans(rt: HostRuntime) -> Result<(), Fail> {
+    for (span, want) in SPANS.as_slice() {
+        assert_eq!(rt; covered(rt.alloc(), span)?, *want, "at {span}");
+    }
+    Ok(())
+}
+
+const OWNER: u128 = 0x0011_2233_4455_6677_8899_aabb_ccdd_eeff;
+
+/// An owner as a member behind `now`, and whose the value is.
+static OWNERS: [(&str, Option<u128>); 7] = [
+    ("", None),
+    (r#","owner":null"#, None),
+    (r#","owner":"00000000-0000-0000-0000-000000000000""#, None),
+    (
+        r#","owner":"00112233-4455-6677-8899-AABBCCDDEEFF""#,
+        Some(OWNER),
+    ),
+    (
+        r#","owner":"00112233445566778899aabbccddeeff""#,
+        Some(OWNER),
+    ),
+    (
+        r#","owner":"{00112233-4455-6677-8899-aabbccddeeff}""#,
+        Some(OWNER),
+    ),
+    (
+        r#","owner":"urn:uuid:00112233-4455-6677-8899-aabbccddeeff""#,
+        Some(OWNER),
+    ),
+];
+
+/// The wall times and the owner of the Add that is a trace's only call: of its value, and of its moment.
+fn added(alloc: Global, owner: &str) -> Result<(u64, u64, Option<u128>), Fail> {
+    let text = format!(in alloc;
+        "{{{HEAD},\"threads\":[[{{\"op\":\"add\",\"span\":{{\"start\":\"61\"}},\"time\":[20,1],\"now\":[30,2]{owner}}}]]}}"
+    )?;
+    let trace = read_trace(alloc, text.as_bytes())?;
+    let calls = trace.threads.list(0).ok_or("no list")?;
+    match calls.first() {
+        Some(Call::Add { value, now, .. }) => {
+            let owner = value.owner().map(|owner| owner.as_u128());
+            Ok((value.time().wall(), now.wall(), owner))
+        }
+        _ => Err(Fail::from("no Add")),
+    }
 }
 
 #[test]
 fn reads_owners(rt: HostRuntime) -> Result<(), Fail> {
-    for (owner, want) in [
-        ("null", Ok(1)),
-        (r#""00112233-4455-6677-8899-AABBCCDDEEFF""#, Ok(1)),
-        (r#""00112233445566778899aabbccddeeff""#, Ok(1)),
-        (r#""{00112233-4455-6677-8899-aabbccddeeff}""#, Ok(1)),
-        (r#""urn:uuid:00112233-4455-6677-8899-aabbccddeeff""#, Ok(1)),
-        (r#""""#, SHAPE),
-        (r#""0011223-34455-6677-8899-aabbccddeeff""#, SHAPE),
-        ("7", SHAPE),
-    ] {
-        let call = format!(in rt.alloc();
-            "{{\"op\":\"add\",\"span\":{{\"start\":\"61\"}},\"time\":[1,0],\"owner\":{owner},\"now\":[1,0]}}"
-        )?;
-        let said = said_of_calls(rt.alloc(), 2, &call)?;
-        assert_eq!(rt; said, want, "at {owner}");
-    }
-    Ok(())
-}
-
-#[test]
-fn reads_calls(rt: HostRuntime) -> Result<(), Fail> {
-    for (calls, want) in [
-        // An Add from one key to another.
-        (
-            r#"{"op":"add","span":{"start":"61","end":"62"},"time":[1,0],"now":[1,0]}"#,
-            Ok(1),
-        ),
-        // An empty end, a null owner, the nil UUID.
-        (
-            r#"{"op":"add","span":{"start":"61","end":""},"time":[1,0],"owner":null,"now":[1,0]}"#,
-            Ok(1),
-        ),
-        (
-            r#"{"op":"add","span":{"start":""},"time":[1,0],"owner":"00000000-0000-0000-0000-000000000000","now":[1,0]}"#,
-            Ok(1),
-        ),
-        // A lookup may be inverted, and an Add may not.
-        (r#"{"op":"get","span":{"start":"62","end":"61"}}"#, Ok(1)),
-        (
-            r#"{"op":"add","span":{"start":"62","end":"61"},"time":[1,0],"now":[1,0]}"#,
-            SHAPE,
-        ),
-        // Members that nobody reads.
-        (r#"{"op":"get","span":{"start":"61","ends":"()"}}"#, SHAPE),
-        (r#"{"op":"get","span":{"start":"61","onward":true}}"#, SHAPE),
-        (r#"{"op":"get","span":{"start":"61"},"now":[1,0]}"#, SHAPE),
-        (r#"{"op":"low","now":[1,0]}"#, SHAPE),
-        // Members that are missing.
-        (r#"{"op":"get"}"#, SHAPE),
-        (r#"{"op":"add","span":{"start":"61"},"time":[1,0]}"#, SHAPE),
-        // Digits, owners and times of a wrong form.
-        (r#"{"op":"get","span":{"start":"6g"}}"#, SHAPE),
-        (r#"{"op":"get","span":{"start":"616"}}"#, SHAPE),
-        (r#"{"op":"get","span":{"start":61}}"#, SHAPE),
-        (
-            r#"{"op":"add","span":{"start":"61"},"time":[1,0],"owner":"xyz","now":[1,0]}"#,
-            SHAPE,
-        ),
-        (
-            r#"{"op":"add","span":{"start":"61"},"time":[-1,0],"now":[1,0]}"#,
-            SHAPE,
-        ),
-        (
-            r#"{"op":"add","span":{"start":"61"},"time":[1,2147483648],"now":[1,0]}"#,
-            SHAPE,
-        ),
-        (
-            r#"{"op":"add","span":{"start":"61"},"time":[1,0.5],"now":[1,0]}"#,
-            SHAPE,
-        ),
-        (r#"{"op":"get","span":{"start":"6B"}}"#, Ok(1)),
-        (r#"{"op":"get","span":{"start":"61","end":null}}"#, SHAPE),
-        // The last of two members with one name counts.
-        (r#"{"op":"low","op":"get","span":{"start":"61"}}"#, Ok(1)),
-        (r#"{"op":"get","op":"low"}"#, Ok(1)),
-        (r#"{"op":"get","op":"low","span":{"start":"61"}}"#, SHAPE),
-        (r#"{"op":"drop"}"#, SHAPE),
-        ("7", SHAPE),
-    ] {
-        let said = said_of_calls(rt.alloc(), 2, calls)?;
-        assert_eq!(rt; said, want, "at {calls}");
-    }
-    Ok(())
-}
-
-#[test]
-fn counts_the_end_keys_of_adds(rt: HostRuntime) -> Result<(), Fail> {
-    let calls = r#"{"op":"add","span":{"start":"61","end":"62"},"time":[1,0],"now":[1,0]},
-        {"op":"add","span":{"start":"62","end":"63"},"time":[1,0],"now":[1,0]},
-        {"op":"get","span":{"start":"64","end":"65"}},
-        {"op":"add","span":{"start":"61","end":"63"},"time":[1,0],"now":[1,0]}"#;
-    assert_eq!(rt; said_of_calls(rt.alloc(), 2, calls)?, SHAPE);
-    assert_eq!(rt; said_of_calls(rt.alloc(), 3, calls)?, Ok(4));
-    Ok(())
-}
-
-#[test]
-fn reads_keys_of_4096_bytes(rt: HostRuntime) -> Result<(), Fail> {
-    for (bytes, want) in [(4096, Ok(1)), (4097, SHAPE)] {
-        let mut digits = String::new(rt.alloc());
-        for _ in 0..bytes {
-            digits.push_str("61")?;
-        }
-        let call = format!(in rt.alloc();
-            "{{\"op\":\"get\",\"span\":{{\"start\":\"{digits}\"}}}}"
-        )?;
-        assert_eq!(rt; said_of_calls(rt.alloc(), 2, &call)?, want);
+    for (owner, want) in OWNERS.as_slice() {
+        assert_eq!(rt; added(rt.alloc(), owner)?, (20, 30, *want), "at {owner}");
     }
     Ok(())
 }

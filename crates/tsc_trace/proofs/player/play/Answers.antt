@@ -1,12 +1,13 @@
 -- The log is told list by list.
-use Rattle.std.proofs.Common.{◌≡◌, ◌∙◌, refl, sym, ap, [], ◌++◌, ◌<◌, length, Some, None, option_map, arith}
+use Rattle.std.proofs.Common.{◌≡◌, ◌∙◌, refl, sym, ap, subst, [], ◌++◌, ◌<◌, ◌≤◌, length, Some, true, arith}
 use Rattle.std.specs.Prelude.{slice_get}
+use Rattle.tsc_trace.specs.Lists.{fits_trace, most_calls}
 use Rattle.tsc_trace.specs.Play.{standing_after, next_all, played}
 use Rattle.tsc_trace.specs.Log.{log_of}
 use Rattle.tsc_trace.proofs.Playing.{lists_anew}
-use Rattle.tsc_trace.proofs.ListSteps.{told_with_list, not_past}
+use Rattle.tsc_trace.proofs.ListSteps.{told_with_list}
+use Rattle.tsc_trace.proofs.Totals.{calls_within, list_at}
 use Rattle.tsc_trace.proofs.player.play.Goals as goal
-use Rattle.tsc_trace.proofs.player.play.Goals.{in-Some+in_ok-play_list, in_default}
 
 pub loop-thread-init : goal.loop-thread-init
 loop-thread-init c =
@@ -18,29 +19,33 @@ loop-thread-init c =
       counted = omega arith;
     }
 
+pub play_list-requires-clause-index : goal.play_list-requires-clause-index
+play_list-requires-clause-index c =
+    let slices = c.slice-calls-items.result.now in
+    let fits = subst (λ lists. fits_trace lists ≡ true) (sym c.slice-calls-items.ensures.value) c.slice-calls-items.ensures.fits in
+    let within : c.loop-thread.thread < length slices = omega arith in
+    rw c.deref.ensures.value (calls_within slices c.loop-thread.thread c.calls-item.result fits within c.calls-item.is)
+
 pub loop-thread-preserved : goal.loop-thread-preserved
-loop-thread-preserved c = elim c.match-list.branch [
-  | in-Some+in_ok-play_list w ↦
-      let settings = c.args.trace.now.config in
-      let lists = c.args.trace.now.threads in
-      let thread = c.loop-thread.thread in
-      let at = c.loop-thread.invariant.at in
-      let stands = c.loop-thread.invariant.stands in
-      let calls = w.in-Some.calls.now in
-      let here : slice_get lists thread ≡ Some calls = sym w.in-Some.ensures.value in
-      let added : c.match-list.player.lines.items ≡ c.loop-thread.player.lines.items ++ played settings thread 0 at calls = ap (λ p. p.lines.items) w.player-is ∙ w.in_ok-play_list.ensures.lines settings at stands in
-      record {
-        at = next_all settings at calls;
-        stands = rw w.player-is (w.in_ok-play_list.ensures.stands settings at stands);
-        told = told_with_list settings thread at c.loop-thread.player.lines.items c.match-list.player.lines.items (log_of c.args.trace.now) calls lists here added c.loop-thread.invariant.told;
-        counted =
-            let same : c.match-list.player.adds ≡ w.play_list.new.self.adds = ap (λ p. p.adds) w.player-is in
-            let more = w.in_ok-play_list.ensures.count in
-            let most = w.in-Some.ensures.few in
-            omega arith;
-      }
-  | in_default w ↦
-      let within : c.loop-thread.thread < length c.args.trace.now.threads = omega arith in
-      let none : slice_get c.args.trace.now.threads c.loop-thread.thread ≡ None = sym c.list.ensures.value ∙ ap (option_map (λ b. b.now)) w.in_default.is in
-      absurd (not_past c.args.trace.now.threads c.loop-thread.thread within none)
-]
+loop-thread-preserved c =
+    let settings = c.args.trace.now.config in
+    let lists = c.args.trace.now.threads in
+    let slices = c.slice-calls-items.result.now in
+    let thread = c.loop-thread.thread in
+    let at = c.loop-thread.invariant.at in
+    let stands = c.loop-thread.invariant.stands in
+    let calls = c.deref.result.now in
+    let within : thread < length slices = omega arith in
+    let fits = subst (λ lists. fits_trace lists ≡ true) (sym c.slice-calls-items.ensures.value) c.slice-calls-items.ensures.fits in
+    let here : slice_get lists thread ≡ Some calls =
+    ap (λ ls. slice_get ls thread) (sym c.slice-calls-items.ensures.value) ∙ list_at slices thread c.calls-item.result within c.calls-item.is ∙ ap Some (sym c.deref.ensures.value) in
+    let added : c.play_list.new.self.lines.items ≡ c.loop-thread.player.lines.items ++ played settings thread 0 at calls = c.in_ok-play_list.ensures.lines settings at stands in
+    record {
+      at = next_all settings at calls;
+      stands = c.in_ok-play_list.ensures.stands settings at stands;
+      told = told_with_list settings thread at c.loop-thread.player.lines.items c.play_list.new.self.lines.items (log_of c.args.trace.now) calls lists here added c.loop-thread.invariant.told;
+      counted =
+          let more = c.in_ok-play_list.ensures.count in
+          let most : length calls ≤ most_calls = rw c.deref.ensures.value (calls_within slices thread c.calls-item.result fits within c.calls-item.is) in
+          omega arith;
+    }

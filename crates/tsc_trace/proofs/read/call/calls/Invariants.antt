@@ -1,8 +1,13 @@
-use Rattle.std.proofs.Common.{◌≡◌}
-use Rattle.serde_json.specs.View.{items_view}
+use Rattle.std.proofs.Common.{◌≡◌, ◌+◌, map, drop}
+use Rattle.serde_json.specs.View.{view}
 use Rattle.tsc_trace.specs.TraceText.{calls_of}
-use Rattle.tsc_trace.proofs.Calls.{with_front, calls_from}
+use Rattle.tsc_trace.proofs.Calls.{with_front}
 use Rattle.tsc_trace.proofs.read.call.calls.Given as goal
 
+-- what is read and what the rest is read as are what the whole list is read as
 abbrev pub invariant-loop-value : goal.invariant-loop-value
-invariant-loop-value l = with_front l.calls.items (calls_from l.value-index l.values) ≡ calls_of (items_view l.values)
+invariant-loop-value l =
+    record {
+      counted : l.number ≡ l.fn.first + l.value-index;
+      left : with_front l.calls.items (calls_of l.number (map view (drop l.value-index l.values))) ≡ calls_of l.fn.first (map view l.values);
+    }

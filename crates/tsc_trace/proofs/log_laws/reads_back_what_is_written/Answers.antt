@@ -1,0 +1,5 @@
+use Rattle.tsc_trace.proofs.OneReading.{reads_back_logs}
+use Rattle.tsc_trace.proofs.log_laws.reads_back_what_is_written.Goals as goal
+
+pub returns : goal.returns
+returns c = reads_back_logs

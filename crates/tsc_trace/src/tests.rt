@@ -1,0 +1,245 @@
+use crate::fakes::{Faulty, Mishap};
+use crate::*;
+use std::alloc::Global;
+use std::test::Fail;
+use tsc_time::NoMemory;
+
+/// The head of most traces, up to their lists.
+const HEAD: &str =
+    r#"{"page_nodes":4,"min_pages":2,"retention":10,"low_water":[5,0],"threads":"#;
+
+const OVERLAPPING_READS: &str = r#"[[
+{"op":"add","span":{"start":"61","end":"63"},"time":[20,0],"owner":"11111111-1111-4111-8111-111111111111","now":[20,0]},
+{"op":"get","span":{"start":"62"}},
+{"op":"get","span":{"start":"63"}},
+{"op":"add","span":{"start":"62"},"time":[20,0],"owner":"22222222-2222-4222-8222-222222222222","now":[20,0]},
+{"op":"get","span":{"start":"62"}},
+{"op":"low"}]]}
+"#;
+
+const OVERLAPPING_READS_LOG: &str = "0 0 add 0 1 0 0
+0 1 get 1 20.0 11111111-1111-4111-8111-111111111111
+0 2 get 1 5.0 none
+0 3 add 1 1 0 0
+0 4 get 2 20.0 none
+0 5 low 2 5.0
+";
+
+/// What stands behind the head of a trace, and the log of its replay.
+static REPLAYS: [(&str, &str); 8] = [
+    (OVERLAPPING_READS, OVERLAPPING_READS_LOG),
+    ("[[]]}", ""),
+    ("[[],[]]}", ""),
+    // the lists of a trace come one after another
+    (
+        r#"[[{"op":"add","span":{"start":"61"},"time":[20,0],"owner":"11111111-1111-4111-8111-111111111111","now":[20,0]}],
+[{"op":"get","span":{"start":"61"}},{"op":"low"}]]}"#,
+        "0 0 add 0 1 0 0
+1 0 get 1 20.0 11111111-1111-4111-8111-111111111111
+1 1 low 1 5.0
+",
+    ),
+    (
+        r#"[[{"op":"add","span":{"start":"61"},"time":[20,0],"owner":"11111111-1111-4111-8111-111111111111","now":[20,0]}],
+[{"op":"add","span":{"start":"61"},"time":[30,0],"owner":"22222222-2222-4222-8222-222222222222","now":[20,0]}],
+[{"op":"get","span":{"start":"61"}}]]}"#,
+        "0 0 add 0 1 0 0
+1 0 add 1 1 0 0
+2 0 get 2 30.0 22222222-2222-4222-8222-222222222222
+",
+    ),
+    // the pages rotate twice, and the second time the oldest one is dropped
+    (
+        r#"[[{"op":"add","span":{"start":"61"},"time":[20,0],"now":[20,0]},
+{"op":"add","span":{"start":"62"},"time":[20,0],"now":[20,0]},
+{"op":"add","span":{"start":"63"},"time":[20,0],"now":[20,0]},
+{"op":"add","span":{"start":"64"},"time":[20,0],"now":[20,0]},
+{"op":"add","span":{"start":"65"},"time":[20,0],"now":[20,0]},
+{"op":"add","span":{"start":"66"},"time":[41,0],"now":[40,0]},
+{"op":"add","span":{"start":"67"},"time":[41,0],"now":[40,0]},
+{"op":"add","span":{"start":"68"},"time":[41,0],"now":[40,0]},
+{"op":"add","span":{"start":"69"},"time":[41,0],"now":[40,0]},
+{"op":"get","span":{"start":"61"}},
+{"op":"low"}]]}"#,
+        "0 0 add 0 1 0 0
+0 1 add 1 1 0 0
+0 2 add 2 1 0 0
+0 3 add 3 1 0 0
+0 4 add 4 1 1 0
+0 5 add 5 1 0 0
+0 6 add 6 1 0 0
+0 7 add 7 1 0 0
+0 8 add 8 1 1 1
+0 9 get 9 20.0 none
+0 10 low 9 20.0
+",
+    ),
+    // a range without its ends, and one without an end
+    (
+        r#"[[{"op":"add","span":{"start":"61","end":"63","ends":"()"},"time":[20,0],"owner":"11111111-1111-4111-8111-111111111111","now":[20,0]},
+{"op":"get","span":{"start":"61"}},
+{"op":"get","span":{"start":"62"}},
+{"op":"add","span":{"start":"6d","onward":"["},"time":[20,0],"owner":"11111111-1111-4111-8111-111111111111","now":[20,0]},
+{"op":"get","span":{"start":"ff"}},
+{"op":"get","span":{"start":"6d"}},
+{"op":"get","span":{"start":"6c"}},
+{"op":"get","span":{"start":"7a","onward":"["}}]]}"#,
+        "0 0 add 0 1 0 0
+0 1 get 1 5.0 none
+0 2 get 1 20.0 11111111-1111-4111-8111-111111111111
+0 3 add 1 1 0 0
+0 4 get 2 20.0 11111111-1111-4111-8111-111111111111
+0 5 get 2 20.0 11111111-1111-4111-8111-111111111111
+0 6 get 2 5.0 none
+0 7 get 2 20.0 11111111-1111-4111-8111-111111111111
+",
+    ),
+    // the latest time there is, and a lookup of an inverted range
+    (
+        r#"[[{"op":"get","span":{"start":"63","end":"61"}},
+{"op":"add","span":{"start":"61"},"time":[9223372036854775807,2147483647],"now":[0,0]},
+{"op":"get","span":{"start":"61","end":"63"}}]]}"#,
+        "0 0 get 0 5.0 none
+0 1 add 0 1 0 0
+0 2 get 1 9223372036854775807.2147483647 none
+",
+    ),
+];
+
+/// A writer that takes a byte at a time, and is interrupted now and then.
+fn slow_writer(alloc: Global) -> Metered<Faulty<Vec<u8>>> {
+    Metered::new(Faulty::new(
+        Vec::new(alloc),
+        1,
+        Mishap::InterruptedNowAndThen,
+    ))
+}
+
+/// Whether a slow writer holds this text.
+fn holds(writer: Metered<Faulty<Vec<u8>>>, text: &str) -> bool {
+    writer.into_inner().inner.as_slice() == text.as_bytes()
+}
+
+/// Whether each call gives this log of a trace.
+fn gives(alloc: Global, text: &str, log: &str) -> Result<bool, Fail> {
+    let trace = read_trace(alloc, text.as_bytes())?;
+    let played = play(alloc, &trace)?;
+    let (mut first, mut second, mut third) = (
+        slow_writer(alloc),
+        slow_writer(alloc),
+        slow_writer(alloc),
+    );
+    write_log(alloc, &played, &mut first)?;
+    replay(alloc, &trace, &mut second)?;
+    let slow = Faulty::new(text.as_bytes(), 1, Mishap::InterruptedNowAndThen);
+    replay_stream(alloc, &mut Metered::new(slow), &mut third)?;
+    let made = log_text(alloc, &played)?;
+    let back = read_log(alloc, made.as_slice())?;
+    Ok(made.as_slice() == log.as_bytes()
+        && back.lines.slice() == played.lines.slice()
+        && holds(first, log)
+        && holds(second, log)
+        && holds(third, log))
+}
+
+/// The first row of a table of replays that doesn't hold.
+fn wrong_replay(alloc: Global, rows: &[(&str, &str)]) -> Result<Option<usize>, Fail> {
+    for (i, (lists, log)) in rows.iter().enumerate() {
+        let text = format!(in alloc; "{HEAD}{lists}")?;
+        if !gives(alloc, text.as_str(), log)? {
+            return Ok(Some(i));
+        }
+    }
+    Ok(None)
+}
+
+/// How a replay ends whose reader and writer go wrong so, and how much is written. Each call moves 100 bytes.
+fn ends(
+    alloc: Global,
+    reading: Mishap,
+    writing: Mishap,
+) -> Result<(Option<ReplayFault>, usize), Fail> {
+    let text = format!(in alloc; "{HEAD}{OVERLAPPING_READS}")?;
+    let mut reader = Metered::new(Faulty::new(text.as_bytes(), 100, reading));
+    let mut writer = Metered::new(Faulty::new(Vec::new(alloc), 100, writing));
+    let ended = replay_stream(alloc, &mut reader, &mut writer);
+    Ok((ended.err(), writer.into_inner().inner.len()))
+}
+
+#[test]
+fn replays(rt: HostRuntime) -> Result<(), Fail> {
+    assert_eq!(rt; wrong_replay(rt.alloc(), &REPLAYS)?, None);
+    let (never, second) = (Mishap::Never, Mishap::FailsAt(1));
+    assert_eq!(rt; ends(rt.alloc(), never, never)?, (None, OVERLAPPING_READS_LOG.len()));
+    assert_eq!(rt; ends(rt.alloc(), second, never)?, (Some(ReplayFault::Read), 0));
+    let first_write = ends(rt.alloc(), never, Mishap::FailsAt(0))?;
+    assert_eq!(rt; first_write, (Some(ReplayFault::Write), 0));
+    assert_eq!(rt; ends(rt.alloc(), never, second)?, (Some(ReplayFault::Write), 100));
+    Ok(())
+}
+
+/// A trace. Where memory is refused the same call then succeeds.
+fn read_again(alloc: Global, text: &str) -> Result<Trace, Fail> {
+    match read_trace(alloc, text.as_bytes()) {
+        Err(TraceFault::NoMemory) => Ok(read_trace(alloc, text.as_bytes())?),
+        read => Ok(read?),
+    }
+}
+
+/// A log, in the same way.
+fn play_again(alloc: Global, trace: &Trace) -> Result<Log, Fail> {
+    match play(alloc, trace) {
+        Err(NoMemory) => Ok(play(alloc, trace)?),
+        played => Ok(played?),
+    }
+}
+
+/// Its text, in the same way, read back.
+fn text_again(alloc: Global, log: &Log) -> Result<Vec<u8>, Fail> {
+    let text = match log_text(alloc, log) {
+        Err(NoMemory) => log_text(alloc, log)?,
+        made => made?,
+    };
+    let back = match read_log(alloc, text.as_slice()) {
+        Err(LogFault::NoMemory) => read_log(alloc, text.as_slice())?,
+        read => read?,
+    };
+    if back.lines.slice() != log.lines.slice() {
+        return Err(Fail::from("read back as another log"));
+    }
+    Ok(text)
+}
+
+/// What is written of a log, where a refused call has written nothing.
+fn write_again(alloc: Global, log: &Log) -> Result<Vec<u8>, Fail> {
+    let mut writer = Metered::new(Vec::new(alloc));
+    if write_log(alloc, log, &mut writer) == Err(OutFault::NoMemory) {
+        write_log(alloc, log, &mut writer)?;
+    }
+    Ok(writer.into_inner())
+}
+
+/// What is written of a replay, in the same way.
+fn replay_again(alloc: Global, trace: &Trace) -> Result<Vec<u8>, Fail> {
+    let mut writer = Metered::new(Vec::new(alloc));
+    if replay(alloc, trace, &mut writer) == Err(OutFault::NoMemory) {
+        replay(alloc, trace, &mut writer)?;
+    }
+    Ok(writer.into_inner())
+}
+
+#[test]
+fn a_refused_growth_writes_nothing(rt: HostRuntime) -> Result<(), Fail> {
+    let alloc = rt.alloc();
+    let trace = read_again(
+        alloc,
+        r#"{"page_nodes":4,"min_pages":2,"retention":10,"low_water":[5,0],"threads":[[{"op":"add","span":{"start":"61","end":"63"},"time":[20,0],"owner":"11111111-1111-4111-8111-111111111111","now":[20,0]},{"op":"get","span":{"start":"62"}},{"op":"low"}]]}"#,
+    )?;
+    let log = play_again(alloc, &trace)?;
+    let text = text_again(alloc, &log)?;
+    let want = "0 0 add 0 1 0 0\n0 1 get 1 20.0 11111111-1111-4111-8111-111111111111\n0 2 low 1 5.0\n";
+    assert_eq!(rt; text.as_slice(), want.as_bytes());
+    assert_eq!(rt; write_again(alloc, &log)?.as_slice(), want.as_bytes());
+    assert_eq!(rt; replay_again(alloc, &trace)?.as_slice(), want.as_bytes());
+    Ok(())
+}
