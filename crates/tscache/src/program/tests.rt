@@ -159,9 +159,23 @@ fn words_of(
 fn check_rows<P: Place>(rt: &impl Abort, alloc: Global, place: &P, rows: &[Row]) {
     for (words, status, log, line) in rows {
         let calm = words_of(alloc, words, false);
-        check_call(rt, alloc, place, calm, Mishap::Never, (*status, *log, *line));
+        check_call(
+            rt,
+            alloc,
+            place,
+            calm,
+            Mishap::Never,
+            (*status, *log, *line),
+        );
         let mute = words_of(alloc, words, false);
-        check_call(rt, alloc, place, mute, Mishap::FailsAt(0), (*status, *log, ""));
+        check_call(
+            rt,
+            alloc,
+            place,
+            mute,
+            Mishap::FailsAt(0),
+            (*status, *log, ""),
+        );
     }
 }
 
@@ -170,7 +184,14 @@ fn check_without_words(rt: &impl Abort, alloc: Global, place: &Shelf) {
     let garbled = words_of(alloc, &["tscache", "replay", "two_readers.json"], true);
     check_call(rt, alloc, place, garbled, Mishap::Never, (2, "", USAGE));
     let refused = Err(WordsFault::NoMemory);
-    check_call(rt, alloc, place, refused, Mishap::Never, (5, "", OUT_OF_MEMORY));
+    check_call(
+        rt,
+        alloc,
+        place,
+        refused,
+        Mishap::Never,
+        (5, "", OUT_OF_MEMORY),
+    );
 }
 
 #[test]
