@@ -7,7 +7,7 @@ use Rattle.tscache.specs.declared.place.OpenFault.{OpenFault}
 abbrev pub Opening : Type 0
 Opening = Result (Option (List ℕ)) OpenFault
 
--- A file was opened whose reader was not called yet, with these bytes to read where they are known, or it was not opened.
+-- Opening a file came to what it may come to, and a reader that it gave was not called yet.
 abbrev pub IsOpening : {F : Type 0} → (F → KnownReader) → (Opening → Type 0) → Result F OpenFault → Type 0
 IsOpening known may_be (Ok file) = may_be (Ok (known file).bytes) × (known file ≡ fresh_reader (known file).bytes)
 IsOpening known may_be (Err fault) = may_be (Err fault)

@@ -1,6 +1,7 @@
 //! What the program takes from the system: its words, and the files that they name.
 //!
-//! Of neither do `std`'s contracts say anything. Tests show that these are the words of the call and the whole files.
+//! The contracts of `std` say nothing of either. Tests show that these are the words of the call, and that a
+//! file is read beyond its first bytes.
 ghost use Rattle.std.specs.Prelude.{◌≡◌, ◌↔◌};
 ghost use Rattle.tscache.specs.Place.{says_nothing};
 

@@ -48,13 +48,16 @@ static FILES: [Held; 4] = [
     ("large.json", Err(OpenFault::NoMemory)),
 ];
 
-/// A call with these words.
+/// A call with these words, which may be garbled: their first bytes are no text then.
 #[derive(Drop)]
-struct Called(&'static [&'static str]);
+struct Called {
+    words: &'static [&'static str],
+    is_garbled: bool,
+}
 
 impl Env for Called {
     fn arg(&self, i: usize, buf: &mut [u8]) -> Result<usize, FillError> {
-        let Some(word) = self.0.get(i) else {
+        let Some(word) = self.words.get(i) else {
             return Err(FillError::NotPresent);
         };
         let bytes = word.as_bytes();
@@ -62,6 +65,9 @@ impl Env for Called {
             return Err(FillError::TooLong);
         }
         buf[..bytes.len()].copy_from_slice(bytes);
+        if self.is_garbled && !bytes.is_empty() {
+            buf[0] = 0xff;
+        }
         Ok(bytes.len())
     }
 
@@ -140,34 +146,43 @@ fn check_call<P: Place>(
     assert_eq!(rt; errors.into_inner().inner.as_slice(), line.as_bytes());
 }
 
+/// The words of a call, as the program gets them.
+fn words_of(
+    alloc: Global,
+    words: &'static [&'static str],
+    is_garbled: bool,
+) -> Result<Vec<String>, WordsFault> {
+    fetch_words(&(Called { words, is_garbled }, alloc))
+}
+
 /// Calls the program with the words of each row, also where no fault can be told.
 fn check_rows<P: Place>(rt: &impl Abort, alloc: Global, place: &P, rows: &[Row]) {
     for (words, status, log, line) in rows {
-        let fetched = fetch_words(&(Called(*words), alloc));
+        let calm = words_of(alloc, words, false);
         check_call(
             rt,
             alloc,
             place,
-            fetched,
+            calm,
             Mishap::Never,
             (*status, *log, *line),
         );
-        let fetched = fetch_words(&(Called(*words), alloc));
+        let mute = words_of(alloc, words, false);
         check_call(
             rt,
             alloc,
             place,
-            fetched,
+            mute,
             Mishap::FailsAt(0),
             (*status, *log, ""),
         );
     }
 }
 
-/// Calls the program where its words are not to be had.
+/// Calls the program where its words are no text, and where memory is wanting for them.
 fn check_without_words(rt: &impl Abort, alloc: Global, place: &Shelf) {
-    let wrong = Err(WordsFault::Wrong);
-    check_call(rt, alloc, place, wrong, Mishap::Never, (2, "", USAGE));
+    let garbled = words_of(alloc, &["tscache", "replay", "two_readers.json"], true);
+    check_call(rt, alloc, place, garbled, Mishap::Never, (2, "", USAGE));
     let refused = Err(WordsFault::NoMemory);
     check_call(
         rt,

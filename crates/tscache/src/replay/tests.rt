@@ -64,7 +64,7 @@ static MISHAPS: [MishapRow; 10] = [
 ];
 
 /// The line that tells a fault.
-static LINES: [(ReplayFault, &str); 7] = [
+static LINES: [(ReplayFault, &str); 11] = [
     (ReplayFault::Read, READ_FAILED),
     (ReplayFault::TooLong, "input too long\n"),
     (
@@ -76,8 +76,24 @@ static LINES: [(ReplayFault, &str); 7] = [
         "trace refused: fault 2 at call 0\n",
     ),
     (
-        ReplayFault::Trace(TraceFault::Shape(17)),
-        "trace refused: fault 2 at call 17\n",
+        ReplayFault::Trace(TraceFault::Number(65_536)),
+        "trace refused: fault 3 at call 65536\n",
+    ),
+    (
+        ReplayFault::Trace(TraceFault::Hex(17)),
+        "trace refused: fault 4 at call 17\n",
+    ),
+    (
+        ReplayFault::Trace(TraceFault::Uuid(1)),
+        "trace refused: fault 5 at call 1\n",
+    ),
+    (
+        ReplayFault::Trace(TraceFault::Span(2)),
+        "trace refused: fault 6 at call 2\n",
+    ),
+    (
+        ReplayFault::Trace(TraceFault::Config),
+        "trace refused: fault 7\n",
     ),
     (ReplayFault::Write, "write failed\n"),
     (ReplayFault::NoMemory, "out of memory\n"),

@@ -45,9 +45,9 @@ pub(crate) const TWO_READERS_LOG: &str = "0 0 add 0 1 0 0
 
 pub(crate) const NO_JSON: &str = "trace refused: fault 1\n";
 
-const NO_HEAD: &str = "trace refused: fault 2 at call 0\n";
+const WRONG_CONFIG: &str = "trace refused: fault 7\n";
 
-pub(crate) static ROWS: [Row; 11] = [
+pub(crate) static ROWS: [Row; 14] = [
     (OVERLAPPING_READS, 0, OVERLAPPING_READS_LOG, ""),
     // The folder `examples`.
     (TWO_READERS, 0, TWO_READERS_LOG, ""),
@@ -120,18 +120,39 @@ pub(crate) static ROWS: [Row; 11] = [
     // No JSON.
     ("", 1, "", NO_JSON),
     (r#"{"page_nodes":4"#, 1, "", NO_JSON),
-    // Another shape.
-    ("[]", 1, "", NO_HEAD),
+    // A wrong head.
+    ("[]", 1, "", "trace refused: fault 2 at call 0\n"),
     (
-        r#"{"page_nodes":4,"min_pages":2,"retention":10,"low_water":[5,0],"threads":[]}"#,
+        r#"{"page_nodes":4294967296,"min_pages":2,"retention":10,"low_water":[5,0],"threads":[[]]}"#,
         1,
         "",
-        NO_HEAD,
+        "trace refused: fault 3 at call 0\n",
     ),
+    // A wrong configuration, or no list.
     (
         r#"{"page_nodes":1,"min_pages":2,"retention":10,"low_water":[5,0],"threads":[[]]}"#,
         1,
         "",
-        NO_HEAD,
+        WRONG_CONFIG,
+    ),
+    (
+        r#"{"page_nodes":4,"min_pages":2,"retention":10,"low_water":[5,0],"threads":[]}"#,
+        1,
+        "",
+        WRONG_CONFIG,
+    ),
+    // Wrong calls.
+    (
+        r#"{"page_nodes":4,"min_pages":2,"retention":10,"low_water":[5,0],"threads":[[{"op":"low","x":1}]]}"#,
+        1,
+        "",
+        "trace refused: fault 2 at call 1\n",
+    ),
+    (
+        r#"{"page_nodes":4,"min_pages":2,"retention":10,"low_water":[5,0],"threads":[[{"op":"low"},
+{"op":"get","span":{"start":"6g"}}]]}"#,
+        1,
+        "",
+        "trace refused: fault 4 at call 2\n",
     ),
 ];
