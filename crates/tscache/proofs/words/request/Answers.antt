@@ -1,4 +1,4 @@
-use Rattle.std.proofs.Common.{◌≡◌, ◌∙◌, sym, ap, subst, inl, inr, map, string_bytes, List, Option, Result}
+use Rattle.std.proofs.Common.{◌≡◌, ◌∙◌, sym, ap, subst, inl, inr, map, string_bytes, List, Option}
 use Rattle.clap.specs.Words.{subcommand_rows_of}
 use Rattle.tscache.specs.Words.{Answers, Explains, Request, Word, asks, request_in}
 use Rattle.tscache.specs.Commands.{request_found}

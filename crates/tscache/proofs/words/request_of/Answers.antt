@@ -1,6 +1,6 @@
-use Rattle.std.proofs.Common.{rules, ◌≡◌, ◌∙◌, sym, ap, subst, Option}
+use Rattle.std.proofs.Common.{rules, ◌∙◌, sym, ap, subst, Option}
 use Rattle.std.specs.Prelude.{option_map}
-use Rattle.tscache.specs.Words.{Answers, Explains, Request, asks, replay}
+use Rattle.tscache.specs.Words.{Answers, Request, asks, replay}
 use Rattle.tscache.proofs.FoundLemmas.{asks_found, explains_found, refused_alike}
 use Rattle.tscache.proofs.words.request_of.Goals as goal
 
