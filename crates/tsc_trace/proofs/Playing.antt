@@ -6,9 +6,13 @@ use Rattle.tsc_cache.specs.declared.history.Entry.{Entry}
 use Rattle.tsc_cache.specs.History.{History, own_count, mark_of, state_of}
 use Rattle.tsc_cache.proofs.Histories.{state_of-push}
 use Rattle.tsc_trace.specs.Log.{said_after, after_call, after_calls, lines_of_list, lines_of_lists}
-use Rattle.tsc_trace.specs.Play.{standing_after, said_at, next, next_all, played, played_lists}
+use Rattle.tsc_trace.specs.Play.{Standing, said_at, next, next_all, played, played_lists}
 use Rattle.tsc_trace.specs.declared.trace.Call.{Call}
 use Rattle.tsc_trace.specs.declared.trace.Call.TheVariants.{Add, Get, Low}
+
+-- where a replay stands after a history
+abbrev pub standing_after : Settings → History → Standing
+standing_after settings h = record { state = state_of settings h; adds = length h }
 
 -- one more entry
 standing_after-append : (settings : Settings) (h : History) (e : Entry) → standing_after settings (h ++ e ∷ []) ≡ record { state = (step settings (state_of settings h) (mark_of e) e.now).state; adds = suc (length h) }

@@ -1,8 +1,7 @@
 -- A replay that goes on from where it stands, in place of making each state anew.
-use Rattle.std.specs.Prelude.{ℕ, suc, List, [], ◌∷◌, ◌++◌, length}
+use Rattle.std.specs.Prelude.{ℕ, suc, List, [], ◌∷◌, ◌++◌}
 use Rattle.tsc_cache.specs.Settings.{Settings}
 use Rattle.tsc_cache.specs.State.{CacheState, step, look}
-use Rattle.tsc_cache.specs.History.{History, state_of}
 use Rattle.tsc_trace.specs.declared.trace.Call.{Call}
 use Rattle.tsc_trace.specs.declared.trace.Call.TheVariants.{Add, Get, Low}
 use Rattle.tsc_trace.specs.declared.log.Line.{Line}
@@ -13,10 +12,6 @@ use Rattle.tsc_trace.specs.declared.log.Said.TheVariants as said
 pub record Standing : Type 0 where
   pub state : CacheState
   pub adds : ℕ
-
--- where it stands after a history
-abbrev pub standing_after : Settings → History → Standing
-standing_after settings h = record { state = state_of settings h; adds = length h }
 
 -- what a call answers there
 abbrev pub said_at : Settings → Standing → Call → Said
