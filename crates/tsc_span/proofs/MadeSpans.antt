@@ -19,17 +19,17 @@ is_key k few small = record { fits = le-leb _ _ few; bytes = small }
 pub made_point : (k : KeyBytes) → IsKey k → IsMadeSpan (point k)
 made_point k h = (h, h, sides_in_order k)
 
-only_less : (o : Ordering) → is_lt o ≡ true → o ≡ Less
+pub only_less : (o : Ordering) → is_lt o ≡ true → o ≡ Less
 only_less Less e = refl
 only_less Equal e = cc
 only_less Greater e = cc
 
-less_before : (o : Ordering) → is_lt (ordering_then o Greater) ≡ true → o ≡ Less
+pub less_before : (o : Ordering) → is_lt (ordering_then o Greater) ≡ true → o ≡ Less
 less_before Less e = refl
 less_before Equal e = cc
 less_before Greater e = cc
 
-less_or_equal : (o : Ordering) → is_lt (ordering_then o Less) ≡ true → (o ≡ Less) ⊎ (o ≡ Equal)
+pub less_or_equal : (o : Ordering) → is_lt (ordering_then o Less) ≡ true → (o ≡ Less) ⊎ (o ≡ Equal)
 less_or_equal Less e = inl refl
 less_or_equal Equal e = inr refl
 less_or_equal Greater e = cc

@@ -1,9 +1,6 @@
 -- What is written is read again, part by part.
-use Rattle.std.proofs.Common.{◌≡◌, ◌⊎◌, inl, inr, ◌∙◌, refl, sym, ap, ℕ, zero, suc, ◌+◌, ◌^◌, ◌<◌, ◌≤◌, ◌&&◌, Bool, true, false, List, [], ◌∷◌, ◌++◌, map, length, Some, None, Ok, arith}
+use Rattle.std.proofs.Common.{◌≡◌, inl, inr, ◌∙◌, refl, sym, ap, ℕ, zero, suc, ◌+◌, ◌^◌, ◌<◌, ◌≤◌, ◌&&◌, Bool, true, false, List, [], ◌∷◌, ◌++◌, map, length, Some, None, Ok, arith}
 use Rattle.std.specs.Prelude.{slice_index, sum, nat_lt, nat_le, All}
-use Rattle.std.specs.declared.cmp.Ordering.{Ordering}
-use Rattle.std.specs.declared.cmp.Ordering.TheVariants.{Less, Equal, Greater}
-use Rattle.std.specs.Ordering.{is_lt, ordering_then}
 use Rattle.std.specs.List.{sum_by}
 use Rattle.std.proofs.lemmas.Bool.{leb-true, lt-ltb, and_parts}
 use Rattle.std.proofs.lemmas.List.{length-map}
@@ -17,6 +14,7 @@ use Rattle.serde_json.specs.Data.{Data, unsigned, number, string}
 use Rattle.serde_json.specs.View.{items_of}
 use Rattle.tsc_time.specs.Time.{Time, is_in_range}
 use Rattle.tsc_time.specs.OwnedTime.{IsMadeOwner}
+use Rattle.tsc_span.proofs.MadeSpans.{only_less, less_before, less_or_equal}
 use Rattle.tsc_span.specs.Span.{KeyBytes, key_cmp, before, after, last, Interval, nothing, between}
 use Rattle.tsc_span.specs.MadeSpan.{IsKey, IsMadeSpan}
 use Rattle.tsc_span.proofs.CutOrder.{key_cmp-same}
@@ -80,21 +78,6 @@ range_back k m x y of_k of_m = rw (key_back k of_k, key_back m of_m, ends_back x
 onward_back : (k : KeyBytes) (x : Bool) → IsKey k → span_form (onward_data k x) ≡ Ok (Onward k x)
 unfolding span_form object_of needed form_of onward_form
 onward_back k x of_k = rw (key_back k of_k, excluded_back x) refl
-
-only_less : (o : Ordering) → is_lt o ≡ true → o ≡ Less
-only_less Less e = refl
-only_less Equal e = cc
-only_less Greater e = cc
-
-less_before : (o : Ordering) → is_lt (ordering_then o Greater) ≡ true → o ≡ Less
-less_before Less e = refl
-less_before Equal e = cc
-less_before Greater e = cc
-
-less_or_equal : (o : Ordering) → is_lt (ordering_then o Less) ≡ true → (o ≡ Less) ⊎ (o ≡ Equal)
-less_or_equal Less e = inl refl
-less_or_equal Equal e = inr refl
-less_or_equal Greater e = cc
 
 empty_key : IsKey []
 empty_key = record { fits = refl; bytes = All-nil (λ b. b < 256) }
