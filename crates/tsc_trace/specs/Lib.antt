@@ -1,5 +1,4 @@
 pub mod Lists
-pub mod Trace
 pub mod TraceParts
 pub mod TraceText
 pub mod TraceData

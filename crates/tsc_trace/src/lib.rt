@@ -2,7 +2,8 @@
 //!
 //! A [`Trace`] is a configuration and lists of calls. [`read_trace`] reads one, [`play`] makes its calls one
 //! after another over a [`Cache`](tsc_cache::Cache), and [`log_text`] is the text of the [`Log`] of their
-//! answers. [`replay_stream`] does all three, from a reader to a writer. [`read_log`] reads a log's text back.
+//! answers. [`replay_stream`] does all three, from a reader to a writer. [`read_log`] reads the text of a
+//! log back.
 #![tactic(auto)]
 
 pub mod fakes;

@@ -58,8 +58,9 @@ struct Reader {
 impl Reader {
     /// Adds the line that has just this text, and stands at this number.
     fn add_line(&mut self, number: u64, text: &[u8]) -> Result<(), LogFault>
-        ensures { MatchResult result (λ _. AddsLine text.now self.old.lines.items self.new.lines.items) (λ fault.
-            (fault ≡ LogFault.NoMemory) ⊎ ((fault ≡ LogFault.Text number) × IsNoLineText text.now)) }
+        ensures { MatchResult result (λ _. AddsLine text.now self.old.lines.items self.new.lines.items)
+            (λ fault. (fault ≡ LogFault.NoMemory)
+            ⊎ ((fault ≡ LogFault.Text number) × IsNoLineText text.now)) }
     {
         // The line is taken apart because the check knows no plan for a push of a whole one.
         let Line {

@@ -1,6 +1,6 @@
 ghost use Rattle.std.specs.Prelude.{◌≡◌, ◌++◌, ◌+◌, ◌<◌, ◌≤◌, ◌^◌, length, IfOk, OnOk};
 ghost use Rattle.tsc_cache.specs.Settings.{Settings};
-ghost use Rattle.tsc_trace.specs.Trace.{most_calls};
+ghost use Rattle.tsc_trace.specs.Lists.{most_calls};
 ghost use Rattle.tsc_trace.specs.Log.{log_of};
 ghost use Rattle.tsc_trace.specs.Play.{Standing, said_at, next, next_all, played};
 

@@ -5,8 +5,7 @@ use std::test::Fail;
 use tsc_time::NoMemory;
 
 /// The head of most traces, up to their lists.
-const HEAD: &str =
-    r#"{"page_nodes":4,"min_pages":2,"retention":10,"low_water":[5,0],"threads":"#;
+const HEAD: &str = r#"{"page_nodes":4,"min_pages":2,"retention":10,"low_water":[5,0],"threads":"#;
 
 const OVERLAPPING_READS: &str = r#"[[
 {"op":"add","span":{"start":"61","end":"63"},"time":[20,0],"owner":"11111111-1111-4111-8111-111111111111","now":[20,0]},
@@ -108,11 +107,7 @@ static REPLAYS: [(&str, &str); 8] = [
 
 /// A writer that takes a byte at a time, and is interrupted now and then.
 fn slow_writer(alloc: Global) -> Metered<Faulty<Vec<u8>>> {
-    Metered::new(Faulty::new(
-        Vec::new(alloc),
-        1,
-        Mishap::InterruptedNowAndThen,
-    ))
+    Metered::new(Faulty::new(Vec::new(alloc), 1, Mishap::InterruptedNowAndThen))
 }
 
 /// Whether a slow writer holds this text.
@@ -135,11 +130,13 @@ fn gives(alloc: Global, text: &str, log: &str) -> Result<bool, Fail> {
     replay_stream(alloc, &mut Metered::new(slow), &mut third)?;
     let made = log_text(alloc, &played)?;
     let back = read_log(alloc, made.as_slice())?;
-    Ok(made.as_slice() == log.as_bytes()
-        && back.lines.slice() == played.lines.slice()
-        && holds(first, log)
-        && holds(second, log)
-        && holds(third, log))
+    Ok(
+        made.as_slice() == log.as_bytes()
+            && back.lines.slice() == played.lines.slice()
+            && holds(first, log)
+            && holds(second, log)
+            && holds(third, log),
+    )
 }
 
 /// The first row of a table of replays that doesn't hold.
@@ -170,11 +167,20 @@ fn ends(
 fn replays(rt: HostRuntime) -> Result<(), Fail> {
     assert_eq!(rt; wrong_replay(rt.alloc(), &REPLAYS)?, None);
     let (never, second) = (Mishap::Never, Mishap::FailsAt(1));
-    assert_eq!(rt; ends(rt.alloc(), never, never)?, (None, OVERLAPPING_READS_LOG.len()));
-    assert_eq!(rt; ends(rt.alloc(), second, never)?, (Some(ReplayFault::Read), 0));
+    assert_eq!(rt;
+        ends(rt.alloc(), never, never)?,
+        (None, OVERLAPPING_READS_LOG.len())
+    );
+    assert_eq!(rt;
+        ends(rt.alloc(), second, never)?,
+        (Some(ReplayFault::Read), 0)
+    );
     let first_write = ends(rt.alloc(), never, Mishap::FailsAt(0))?;
     assert_eq!(rt; first_write, (Some(ReplayFault::Write), 0));
-    assert_eq!(rt; ends(rt.alloc(), never, second)?, (Some(ReplayFault::Write), 100));
+    assert_eq!(rt;
+        ends(rt.alloc(), never, second)?,
+        (Some(ReplayFault::Write), 100)
+    );
     Ok(())
 }
 
@@ -237,7 +243,8 @@ fn a_refused_growth_writes_nothing(rt: HostRuntime) -> Result<(), Fail> {
     )?;
     let log = play_again(alloc, &trace)?;
     let text = text_again(alloc, &log)?;
-    let want = "0 0 add 0 1 0 0\n0 1 get 1 20.0 11111111-1111-4111-8111-111111111111\n0 2 low 1 5.0\n";
+    let want =
+        "0 0 add 0 1 0 0\n0 1 get 1 20.0 11111111-1111-4111-8111-111111111111\n0 2 low 1 5.0\n";
     assert_eq!(rt; text.as_slice(), want.as_bytes());
     assert_eq!(rt; write_again(alloc, &log)?.as_slice(), want.as_bytes());
     assert_eq!(rt; replay_again(alloc, &trace)?.as_slice(), want.as_bytes());

@@ -2,7 +2,8 @@
 //!
 //! Numbers and owners are read in every spelling that `parse` takes, so a text that is read need not be the
 //! text of the line that it gives. Whoever calls [`read_line`] compares the two.
-ghost use Rattle.std.specs.Prelude.{◌≡◌, ◌<◌, ◌^◌, ◌++◌, ◌∷◌, codes, decimal, option_map, true, MatchOption};
+ghost use Rattle.std.specs.Prelude.{◌≡◌, ◌<◌, ◌^◌, ◌++◌, ◌∷◌};
+ghost use Rattle.std.specs.Prelude.{codes, decimal, option_map, true, MatchOption};
 ghost use Rattle.tsc_time.specs.Time.{is_in_range};
 ghost use Rattle.tsc_time.specs.OwnedTime.{IsMadeOwner, owner_of};
 ghost use Rattle.tsc_trace.specs.LogText.{bit_text, dot, line_text, owner_text, said_text, space, time_text};
@@ -124,7 +125,8 @@ fn owner(text: &str) -> Option<Uuid>
 
 /// A number of 64 bits, and what follows the space behind it.
 fn number_field(text: &str) -> Option<(u64, &str)>
-    ensures { ReadsField (λ n. n < 2 ^ 64) decimal text.now (option_map (λ field. (field.0, field.1.now)) result) }
+    ensures { ReadsField (λ n. n < 2 ^ 64) decimal text.now
+        (option_map (λ field. (field.0, field.1.now)) result) }
 {
     let (field, rest) = cut_field(text)?;
     Some((number(field)?, rest))
@@ -132,7 +134,8 @@ fn number_field(text: &str) -> Option<(u64, &str)>
 
 /// A number of 32 bits, and what follows the space behind it.
 fn small_number_field(text: &str) -> Option<(u32, &str)>
-    ensures { ReadsField (λ n. n < 2 ^ 32) decimal text.now (option_map (λ field. (field.0, field.1.now)) result) }
+    ensures { ReadsField (λ n. n < 2 ^ 32) decimal text.now
+        (option_map (λ field. (field.0, field.1.now)) result) }
 {
     let (field, rest) = cut_field(text)?;
     Some((small_number(field)?, rest))
@@ -140,7 +143,8 @@ fn small_number_field(text: &str) -> Option<(u32, &str)>
 
 /// A bit, and what follows the space behind it.
 fn bit_field(text: &str) -> Option<(bool, &str)>
-    ensures { ReadsField IsAnyBit bit_text text.now (option_map (λ field. (field.0, field.1.now)) result) }
+    ensures { ReadsField IsAnyBit bit_text text.now
+        (option_map (λ field. (field.0, field.1.now)) result) }
 {
     let (field, rest) = cut_field(text)?;
     Some((bit(field)?, rest))
