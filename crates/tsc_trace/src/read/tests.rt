@@ -27,7 +27,7 @@ const SPAN: Told = Err(TraceFault::Span(1));
 const HEAD: &str = r#""page_nodes":4,"min_pages":2,"retention":10,"low_water":[5,0]"#;
 
 /// `page_nodes`, `min_pages`, `retention`, `low_water` and `threads`, and what is told of them.
-static HEADS: [(&str, &str, &str, &str, &str, Told); 21] = [
+static HEADS: [(&str, &str, &str, &str, &str, Told); 22] = [
     ("4", "2", "10", "[5]", "[[]]", HEAD_SHAPE),
     ("4", "2", "10", "[5,0,0]", "[[]]", HEAD_SHAPE),
     ("4", "2", "10", "[5,null]", "[[]]", HEAD_SHAPE),
@@ -56,6 +56,7 @@ static HEADS: [(&str, &str, &str, &str, &str, Told); 21] = [
     ("4", "2", "10", "[5,2147483648]", "[[]]", HEAD_NUMBER),
     ("4", "2", "10", "[5,4294967296]", "[[]]", HEAD_NUMBER),
     ("2.0", "2", "10", "[5,0]", "[[]]", HEAD_NUMBER),
+    ("4", "2", "-0", "[5,0]", "[[]]", HEAD_NUMBER),
     ("2", "2", "2e1", "[5,0]", "[[]]", HEAD_NUMBER),
     ("1", "2", "10", "[5,0]", "[[]]", CONFIG),
     ("4294967295", "2", "10", "[5,0]", "[[]]", CONFIG),
@@ -94,7 +95,7 @@ static MEMBERS: [(&str, Told); 5] = [
 ];
 
 /// A call that is the only one of a trace.
-static CALLS: [(&str, Told); 44] = [
+static CALLS: [(&str, Told); 45] = [
     (r#"{"op":"low","op":"get","span":{"start":"61"}}"#, Ok(1)),
     ("7", SHAPE),
     ("{}", SHAPE),
@@ -118,6 +119,10 @@ static CALLS: [(&str, Told); 44] = [
     (r#"{"op":"get","span":{"start":"61","end":null}}"#, SHAPE),
     (r#"{"op":"get","span":{"start":"61","to":"62"}}"#, SHAPE),
     (r#"{"op":"get","span":{"start":"61","ends":"[]"}}"#, SHAPE),
+    (
+        r#"{"op":"add","span":{"start":"61","end":"63","ends":"(("},"time":[20,0],"now":[20,0]}"#,
+        SHAPE,
+    ),
     (
         r#"{"op":"get","span":{"start":"61","end":"62","ends":"[["}}"#,
         SHAPE,
@@ -228,9 +233,10 @@ static THREADS: [(&str, Told); 10] = [
 ];
 
 /// The text of `threads` as a front, a piece with how often it comes, and a tail; and what is told of it.
-static LONG_TRACES: [(&str, &str, usize, &str, Told); 8] = [
+static LONG_TRACES: [(&str, &str, usize, &str, Told); 11] = [
     ("[", "[],", 63, "[]]", Ok(0)),
     ("[", "[],", 64, "[]]", CONFIG),
+    ("[", "[],", 64, r#"[{"op":"x"}]]"#, CONFIG),
     (
         "[[",
         r#"{"op":"low"},"#,
@@ -258,6 +264,20 @@ static LONG_TRACES: [(&str, &str, usize, &str, Told); 8] = [
         "61",
         4097,
         r#""}}]]"#,
+        SPAN,
+    ),
+    (
+        r#"[[{"op":"add","span":{"start":""#,
+        "61",
+        4096,
+        r#""},"time":[20,0],"now":[20,0]}]]"#,
+        Ok(1),
+    ),
+    (
+        r#"[[{"op":"add","span":{"start":""#,
+        "61",
+        4097,
+        r#""},"time":[20,0],"now":[20,0]}]]"#,
         SPAN,
     ),
     (
