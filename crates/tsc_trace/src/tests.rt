@@ -216,10 +216,10 @@ fn text_again(alloc: Global, log: &Log) -> Result<Vec<u8>, Fail> {
     Ok(text)
 }
 
-/// What is written of a log, where a refused call has written nothing.
+/// What is written of a log, where a refused call has written nothing: nor has one whose writer was refused.
 fn write_again(alloc: Global, log: &Log) -> Result<Vec<u8>, Fail> {
     let mut writer = Metered::new(Vec::new(alloc));
-    if write_log(alloc, log, &mut writer) == Err(OutFault::NoMemory) {
+    if write_log(alloc, log, &mut writer).is_err() {
         write_log(alloc, log, &mut writer)?;
     }
     Ok(writer.into_inner())
@@ -228,7 +228,7 @@ fn write_again(alloc: Global, log: &Log) -> Result<Vec<u8>, Fail> {
 /// What is written of a replay, in the same way.
 fn replay_again(alloc: Global, trace: &Trace) -> Result<Vec<u8>, Fail> {
     let mut writer = Metered::new(Vec::new(alloc));
-    if replay(alloc, trace, &mut writer) == Err(OutFault::NoMemory) {
+    if replay(alloc, trace, &mut writer).is_err() {
         replay(alloc, trace, &mut writer)?;
     }
     Ok(writer.into_inner())
