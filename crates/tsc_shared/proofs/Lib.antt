@@ -1,0 +1,6 @@
+pub mod Prefixes
+pub mod Totals
+pub mod DeskMoves
+pub mod Taking
+pub mod Meeting
+pub mod Posts

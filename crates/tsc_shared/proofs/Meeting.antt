@@ -1,0 +1,159 @@
+-- Places that are divided and put together, and what a seat is told.
+use Rattle.std.proofs.Common.{◌≡◌, ◌≢◌, ◌⊎◌, ◌∙◌, inl, inr, refl, sym, ap, subst, Bool, true, false, ℕ, zero, suc, ◌+◌, ◌<◌, ◌≤◌, List, [], ◌∷◌, ◌++◌, length, set, append_assoc, append-nil, arith, slice_index}
+use Rattle.std.specs.Prelude.{Option, Some, None, nat_lt, ◌==◌}
+use Rattle.std.specs.List.{sum_by}
+use mathlib.Core.Option as maybe
+use mathlib.Core.Option.{some-injective, some-ne-none}
+use lib.ListN.{get_elem?}
+use Rattle.std.proofs.lemmas.List.Sums.{sum_by-append, sum_by_push, sum_by-cons}
+use Rattle.atomic_table.proofs.Lists.{at_set, at_snoc, set_else}
+use Rattle.atomic_table.specs.Table.{State, Step, Me, Act, keeps as act_keeps, Allows, Valid, stepped, carried_after, Splits, Joins}
+use Rattle.tsc_cache.specs.History.{History, own_count, BeginsWith, IsLegal}
+use Rattle.tsc_shared.specs.declared.board.Terms.{Terms}
+use Rattle.tsc_shared.specs.declared.board.Held.{Held}
+use Rattle.tsc_shared.specs.declared.board.Post.{Post}
+use Rattle.tsc_shared.specs.declared.board.View.{View}
+use Rattle.tsc_shared.specs.Desk.{post, keeping, one_if, Kept, ViewFits, PostFits, posts_of, holders, first_view, fresh_posts, IsAfter}
+use Rattle.tsc_shared.specs.DeskSteps.{seated, meets, longer, note, spent, first_post, other_posts, seen_of}
+use Rattle.tsc_shared.proofs.Prefixes.{begins_itself, begins_empty, begins_on, own_between, legal_beginning, longer_begins}
+use Rattle.tsc_shared.proofs.Totals.{part, two_parts, total_set}
+use Rattle.tsc_shared.proofs.DeskMoves.{of_one, Moved, moved_kept}
+use Rattle.tsc_shared.proofs.Taking.{word_stepped, false_is_no}
+
+abbrev Board : Type 0
+Board = State (Option Held) View
+
+-- a place is divided in two that fit, and each post goes with one of them
+pub split_kept : (terms : Terms) (s : Board) (k : Kept terms s) (id : ℕ) (v left right : View) → get_elem? s.views id ≡ maybe.some v
+    → ViewFits terms k.history k.word left → ViewFits terms k.history k.word right
+    → ((number : ℕ) → posts_of number left + posts_of number right ≡ posts_of number v) → holders left + holders right ≡ holders v
+    → Kept terms (record { words = s.words; homes = s.homes; views = set s.views id left ++ right ∷ [] })
+split_kept terms s k id v left right at l r each one = record {
+  history = k.history;
+  word = k.word;
+  legal = k.legal;
+  limit = k.limit;
+  words = k.words;
+  views = λ other u e. elim (at_snoc (set s.views id left) right u other e) [
+    | inl old ↦ (elim (at_set s.views id other left u old) [
+      | inl same ↦ subst (ViewFits terms k.history k.word) same.1 l
+      | inr apart ↦ k.views other u apart.1
+    ])
+    | inr new ↦ subst (ViewFits terms k.history k.word) new r
+  ];
+  each = λ number. omega (arith, sum_by_push (posts_of number) (set s.views id left) right, total_set (posts_of number) s.views id v left at, each number, k.each number);
+  one = omega (arith, sum_by_push holders (set s.views id left) right, total_set holders s.views id v left at, one, k.one);
+  free = k.free;
+}
+
+spent_fits : (terms : Terms) (h : History) (word : ℕ) → ViewFits terms h word spent
+spent_fits terms h word = record { settled = λ e. absurd (false_is_no e); posts = λ i p e. absurd (some-ne-none p (sym e)); told = begins_empty h }
+
+-- two places are put together to one that fits, with the posts of both
+pub join_kept : (terms : Terms) (s : Board) (k : Kept terms s) (id : ℕ) (v : View) (other : ℕ) (w both : View) → get_elem? s.views id ≡ maybe.some v
+    → other ≢ id → get_elem? s.views other ≡ maybe.some w
+    → ViewFits terms k.history k.word both
+    → ((number : ℕ) → posts_of number both ≡ posts_of number v + posts_of number w) → holders both ≡ holders v + holders w
+    → Kept terms (record { words = s.words; homes = s.homes; views = set (set s.views id both) other spent })
+join_kept terms s k id v other w both at apart at_other fits each one =
+    let at_joined : get_elem? (set s.views id both) other ≡ maybe.some w = set_else s.views id other both apart ∙ at_other in record {
+      history = k.history;
+      word = k.word;
+      legal = k.legal;
+      limit = k.limit;
+      words = k.words;
+      views = λ j u e. elim (at_set (set s.views id both) other j spent u e) [
+        | inl same ↦ subst (ViewFits terms k.history k.word) same.1 (spent_fits terms k.history k.word)
+        | inr old ↦ (elim (at_set s.views id j both u old.1) [
+          | inl same ↦ subst (ViewFits terms k.history k.word) same.1 fits
+          | inr others ↦ k.views j u others.1
+        ])
+      ];
+      each = λ number. omega (arith, total_set (posts_of number) (set s.views id both) other w spent at_joined, total_set (posts_of number) s.views id v both at, each number, k.each number);
+      one = omega (arith, total_set holders (set s.views id both) other w spent at_joined, total_set holders s.views id v both at, one, k.one);
+      free = k.free;
+    }
+
+-- the place of a seat that was told a history
+abbrev pub informed : Terms → ℕ → History → ℕ → History → View
+informed t number seen count told = record (seated t number seen count false) { told = told }
+
+note_fits : (terms : Terms) (h : History) (word : ℕ) (t : Terms) (told : History) → t ≡ terms → BeginsWith h told → ViewFits terms h word (note t told)
+note_fits terms h word t told same begins = record { settled = λ _. same; posts = λ i p e. absurd (some-ne-none p (sym e)); told = begins }
+
+-- a note of what a seat has seen
+pub tell_splits : (terms : Terms) (id : ℕ) (t : Terms) (number : ℕ) (seen : History) (count : ℕ)
+    → Splits (Kept terms) id (seated t number seen count false) (seated t number seen count false) (note t seen)
+tell_splits terms id t number seen count s k at =
+    let fits = k.views id (seated t number seen count false) at in
+    split_kept terms s k id (seated t number seen count false) (seated t number seen count false) (note t seen) at fits
+      (note_fits terms k.history k.word t seen (fits.settled refl) (fits.posts 0 (post number seen count false) refl).begins)
+      (λ n. omega arith) (omega arith)
+
+-- it is handed to another seat
+pub inform_joins : (terms : Terms) (id : ℕ) (t : Terms) (number : ℕ) (seen : History) (count other : ℕ) (u : Terms) (told : History)
+    → Joins (Kept terms) id (seated t number seen count false) other (note u told) (informed t number seen count told) spent
+inform_joins terms id t number seen count other u told s k at apart at_other =
+    let v : View = seated t number seen count false in
+    let fits = k.views id v at in
+    let there : get_elem? s.views other ≡ maybe.some (note u told) = sym (set_else s.views id other (informed t number seen count told) apart) ∙ at_other in
+    join_kept terms s k id v other (note u told) (informed t number seen count told) at apart there
+      (record { settled = fits.settled; posts = fits.posts; told = (k.views other (note u told) there).told })
+      (λ n. omega arith) (omega arith)
+
+-- and that one has seen the longer from then on
+pub meet_allowed : (terms : Terms) (st : Step (Option Held)) (id : ℕ) (t : Terms) (number : ℕ) (seen : History) (count : ℕ) (told : History)
+    → Allows (Kept terms) 1 id (informed t number seen count told, []) 0 (λ n. n) (meets st (informed t number seen count told, []))
+meet_allowed terms st id t number seen count told s k deep at small =
+    let v : View = informed t number seen count told in
+    let fits = k.views id v at in
+    let mine = fits.posts 0 (post number seen count false) refl in
+    let same : t ≡ terms = fits.settled refl in
+    let long = longer_begins k.history seen told mine.begins fits.told in
+    let legal : IsLegal terms.seats (longer seen told) = legal_beginning terms.seats k.history (longer seen told) k.legal long.2 in
+    let own : own_count number (longer seen told) ≡ count = own_between number count k.history (longer seen told) seen long.2 long.0 mine.own mine.own_seen in
+    let w : View = seated t number (longer seen told) count false in
+    let found : k.word ≡ slice_index s.words 0 = sym (ap (λ (ws : List ℕ). slice_index ws 0) k.words) in
+    let moved : Moved terms s id v w k.history k.word s.homes = record {
+      at = at;
+      legal = k.legal;
+      limit = k.limit;
+      fits = of_one t (post number (longer seen told) count false) same (record { begins = long.2; own = mine.own; own_seen = own; holding = λ e. absurd (false_is_no e) });
+      others = λ other u apart e. k.views other u e;
+      each = λ _. refl;
+      one = omega (arith, k.one);
+      free = k.free;
+    } in (
+      w,
+      act_keeps,
+      tt,
+      word_stepped terms s k.word k.word (slice_index s.words 0) s.homes (set s.views id w) k.words found (moved_kept terms s k id v w k.history k.word s.homes moved),
+      (refl, long.0, long.1, rw same legal, own),
+    )
+
+-- the first post goes to a place of its own
+pub deal_splits : (terms : Terms) (id : ℕ) (t : Terms) (p : Post) (ps : List Post) → Splits (Kept terms) id (keeping t (p ∷ ps)) (keeping t ps) (keeping t (p ∷ []))
+deal_splits terms id t p ps s k at =
+    let fits = k.views id (keeping t (p ∷ ps)) at in
+    split_kept terms s k id (keeping t (p ∷ ps)) (keeping t ps) (keeping t (p ∷ [])) at
+      (record { settled = fits.settled; posts = λ i q e. fits.posts (suc i) q e; told = fits.told })
+      (of_one t p (fits.settled refl) (fits.posts 0 p refl))
+      (λ n. omega (arith, sum_by-cons (λ (q : Post). one_if (q.number == n)) p ps))
+      (omega (arith, sum_by-cons (λ (q : Post). one_if q.holds) p ps))
+
+at_joined : (xs ys : List Post) (i : ℕ) (q : Post) → get_elem? (xs ++ ys) i ≡ maybe.some q → ((j : ℕ) × (get_elem? xs j ≡ maybe.some q)) ⊎ ((j : ℕ) × (get_elem? ys j ≡ maybe.some q))
+at_joined [] ys i q e = inr (i, e)
+at_joined (x ∷ xs) ys zero q e = inl (zero, e)
+at_joined (x ∷ xs) ys (suc i) q e = elim (at_joined xs ys i q e) [ | inl a ↦ inl (suc a.0, a.1) | inr b ↦ inr b ]
+
+-- the posts of two places come together
+pub gather_joins : (terms : Terms) (id : ℕ) (t : Terms) (ps : List Post) (other : ℕ) (u : Terms) (qs : List Post)
+    → Joins (Kept terms) id (keeping t ps) other (keeping u qs) (keeping t (ps ++ qs)) spent
+gather_joins terms id t ps other u qs s k at apart at_other =
+    let fits = k.views id (keeping t ps) at in
+    let there : get_elem? s.views other ≡ maybe.some (keeping u qs) = sym (set_else s.views id other (keeping t (ps ++ qs)) apart) ∙ at_other in
+    let theirs = k.views other (keeping u qs) there in
+    join_kept terms s k id (keeping t ps) other (keeping u qs) (keeping t (ps ++ qs)) at apart there
+      (record { settled = fits.settled; posts = λ i q e. elim (at_joined ps qs i q e) [ | inl a ↦ fits.posts a.0 q a.1 | inr b ↦ theirs.posts b.0 q b.1 ]; told = fits.told })
+      (λ n. sum_by-append (λ (q : Post). one_if (q.number == n)) ps qs)
+      (sum_by-append (λ (q : Post). one_if q.holds) ps qs)

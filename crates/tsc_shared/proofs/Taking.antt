@@ -1,0 +1,179 @@
+-- Taking the desk, and giving it back.
+use Rattle.std.proofs.Common.{◌≡◌, ◌≢◌, ◌⊎◌, ◌∙◌, inl, inr, refl, sym, ap, subst, Bool, true, false, ℕ, zero, suc, ◌+◌, ◌^◌, ◌<◌, ◌≤◌, List, [], ◌∷◌, ◌++◌, length, set, append_assoc, append-nil, arith, slice_index, ne_eqb}
+use Rattle.std.specs.Prelude.{Option, Some, None, ◌==◌, nat_lt, if◌then◌else◌}
+use Rattle.std.specs.List.{sum_by}
+use mathlib.Core.Option as maybe
+use mathlib.Core.Option.{some-injective, some-ne-none}
+use lib.ListN.{get_elem?}
+use prog.Atomic.{either}
+use Rattle.std.proofs.lemmas.Bool.{lt-ltb}
+use Rattle.std.proofs.lemmas.Bool.Decides.{nat_tests}
+use Rattle.atomic_table.proofs.Lists.{set_again}
+use Rattle.atomic_table.specs.Table.{State, Step, Me, Act, takes as act_takes, keeps as act_keeps, gives as act_gives, Allows, Valid, stepped, carried_after}
+use Rattle.tsc_cache.specs.CacheView.{StandsForState}
+use Rattle.tsc_cache.specs.declared.history.Entry.{Entry}
+use Rattle.tsc_cache.specs.History.{History, own_count, BeginsWith, IsLegal, IsNext, IsMadeEntry}
+use Rattle.tsc_shared.specs.declared.board.Terms.{Terms}
+use Rattle.tsc_shared.specs.declared.board.Pending.{Pending}
+use Rattle.tsc_shared.specs.declared.board.Held.{Held}
+use Rattle.tsc_shared.specs.declared.board.Post.{Post}
+use Rattle.tsc_shared.specs.declared.board.View.{View}
+use Rattle.tsc_shared.specs.Desk.{post, keeping, one_if, Kept, ViewFits, PostFits, IsAfter, posts_of, holders}
+use Rattle.tsc_shared.specs.DeskSteps.{seated, Holds, takes, gives, given, new_entries, entry_of, pending_of}
+use Rattle.tsc_shared.proofs.Prefixes.{begins_itself, begins_empty, begins_more, begins_on, own_append, own_of_one, own_of_other, legal_push}
+use Rattle.tsc_shared.proofs.Totals.{part, two_parts, total_set}
+use Rattle.tsc_shared.proofs.DeskMoves.{Moved, moved_kept, of_one, any_word, more_of_another, same_number}
+
+abbrev Board : Type 0
+Board = State (Option Held) View
+
+abbrev At : Type 0
+At = Me (Option Held) View
+
+-- what the seat at a place is
+pub seated_fits : (terms : Terms) (h : History) (word : ℕ) (t : Terms) (number : ℕ) (seen : History) (count : ℕ) (holds : Bool)
+    → ViewFits terms h word (seated t number seen count holds) → PostFits h word (post number seen count holds)
+seated_fits terms h word t number seen count holds fits = fits.posts 0 (post number seen count holds) refl
+
+-- the desk after a step on its word
+pub word_stepped : (terms : Terms) (s : Board) (word n m : ℕ) (homes : List (maybe.Option (Option Held))) (views : List View) → s.words ≡ word ∷ [] → n ≡ m
+    → Kept terms (record { words = n ∷ []; homes = homes; views = views }) → Kept terms (record { words = set s.words 0 m; homes = homes; views = views })
+word_stepped terms s word n m homes views is same k = subst (λ (ws : List ℕ). Kept terms (record { words = set ws 0 m; homes = homes; views = views })) (sym is)
+    (subst (λ (x : ℕ). Kept terms (record { words = x ∷ []; homes = homes; views = views })) same k)
+
+pub false_is_no : false ≡ true → ⊥
+false_is_no e = omega (arith, ap one_if e)
+
+-- the desk has one slot
+only_home : {X : Type 0} (hs : List X) (x : X) → length hs ≡ 1 → set hs 0 x ≡ x ∷ []
+only_home [] x one = absurd (omega (arith, one))
+only_home (h ∷ []) x one = refl
+only_home (h ∷ k ∷ hs) x one = absurd (omega (arith, one))
+
+pub at_most_one : (b : Bool) → one_if b ≤ 1
+at_most_one true = omega arith
+at_most_one false = omega arith
+
+-- a word that is not 0 counts
+busy : (n : ℕ) → one_if (nat_lt 0 (n + 1)) ≡ 1
+busy n = ap one_if (lt-ltb 0 (n + 1) (omega arith))
+
+pub busy_word : (n : ℕ) → n ≢ 0 → one_if (nat_lt 0 n) ≡ 1
+busy_word n some = ap one_if (lt-ltb 0 n (omega arith))
+
+-- a step that changes nothing keeps the rule
+unmoved : (terms : Terms) (s : Board) (k : Kept terms s) (id : ℕ) (v : View) (m : ℕ) → get_elem? s.views id ≡ maybe.some v → k.word ≡ m
+    → Kept terms (record { words = set s.words 0 m; homes = s.homes; views = set s.views id v })
+unmoved terms s k id v m at same = subst (λ (vs : List View). Kept terms (record { words = set s.words 0 m; homes = s.homes; views = vs })) (sym (set_again s.views id v at))
+    (word_stepped terms s k.word k.word m s.homes s.views k.words same (subst (λ (ws : List ℕ). Kept terms (record { words = ws; homes = s.homes; views = s.views })) k.words k))
+
+module _ (terms : Terms) (st : Step (Option Held)) (id : ℕ) (t : Terms) (number : ℕ) (seen : History) (count : ℕ) where
+  abbrev Goes : Board → (ℕ → ℕ) → ℕ → Type 0
+  Goes s f found = (w : View) × (a : Act (Option Held)) × Valid s.homes [] a × Kept terms (stepped s 0 (f found) id [] w a) × takes st (seated t number seen count false, []) found (w, carried_after [] a)
+
+  -- where the desk is free
+  take_free : (s : Board) (k : Kept terms s) → get_elem? s.views id ≡ maybe.some (seated t number seen count false) → k.word ≡ 0 → Goes s (λ n. either (n == 0) (number + 1) n) k.word
+  take_free s k at free =
+      let here = k.free free in
+      let mine = seated_fits terms k.history k.word t number seen count false (k.views id _ at) in
+      let same : t ≡ terms = (k.views id _ at).settled refl in
+      let nobody : sum_by holders s.views ≡ 0 = k.one ∙ ap (λ n. one_if (nat_lt 0 n)) free in
+      let w : View = seated t number k.history count true in
+      let moved : Moved terms s id (seated t number seen count false) w k.history (number + 1) (set s.homes 0 maybe.none) = record {
+        at = at;
+        legal = k.legal;
+        limit = k.limit;
+        fits = of_one t (post number k.history count true) same (record { begins = begins_itself k.history; own = mine.own; own_seen = mine.own; holding = λ _. (refl, omega arith) });
+        others = λ other u apart e. any_word terms k.history k.word (number + 1) u (omega (arith, nobody, part holders s.views other u e)) (k.views other u e);
+        each = λ _. refl;
+        one = omega (arith, nobody, busy number);
+        free = λ none. absurd (omega (arith, none));
+      } in (
+        w,
+        act_takes 0 (Some here.0),
+        rw here.1 refl,
+        word_stepped terms s k.word (number + 1) (either (k.word == 0) (number + 1) k.word) (set s.homes 0 maybe.none) (set s.views id w) k.words (rw free refl) (moved_kept terms s k id _ w k.history (number + 1) (set s.homes 0 maybe.none) moved),
+        (
+          (λ _. (here.0, record { history = k.history; after = refl; begins = mine.begins; legal = rw same k.legal; own = mine.own; limit = rw same k.limit; is_after = rw same here.2 }, refl)),
+          (λ held. absurd (held free)),
+        ),
+      )
+
+  -- where another holds it
+  take_held : (s : Board) (k : Kept terms s) → get_elem? s.views id ≡ maybe.some (seated t number seen count false) → k.word ≢ 0 → Goes s (λ n. either (n == 0) (number + 1) n) k.word
+  take_held s k at held = (
+    seated t number seen count false,
+    act_keeps,
+    tt,
+    unmoved terms s k id _ (either (k.word == 0) (number + 1) k.word) at (rw (ne_eqb k.word 0 held) refl),
+    ((λ free. absurd (held free)), (λ _. refl)),
+  )
+
+  pub take_allowed : Allows (Kept terms) 1 id (seated t number seen count false, []) 0 (λ n. either (n == 0) (number + 1) n) (takes st (seated t number seen count false, []))
+  take_allowed s k deep at small =
+      let found : k.word ≡ slice_index s.words 0 = sym (ap (λ (ws : List ℕ). slice_index ws 0) k.words) in
+      subst (Goes s (λ n. either (n == 0) (number + 1) n)) found (elim (zero_or_not k.word) [ | inl free ↦ take_free s k at free | inr held ↦ take_held s k at held ])
+    where
+      zero_or_not : (n : ℕ) → (n ≡ 0) ⊎ (n ≢ 0)
+      zero_or_not zero = inl refl
+      zero_or_not (suc n) = inr (λ e. omega (arith, e))
+
+-- the entries that a holder may add: at most one, which a caller can make
+abbrev pub AreMade : History → Type 0
+AreMade es = (e : Entry) (before after : History) → es ≡ before ++ e ∷ after → IsMadeEntry e
+
+-- the history goes on legally
+new_legal : (seats number : ℕ) (h : History) (count : ℕ) (p : Option Pending) → number < seats → own_count number h ≡ count → IsLegal seats h → AreMade (new_entries number count p) → IsLegal seats (h ++ new_entries number count p)
+new_legal seats number h count None low own legal made = rw (append-nil h) legal
+new_legal seats number h count (Some p) low own legal made =
+    legal_push seats h (entry_of number count p) legal (record { seat = low; number = sym own; made = made (entry_of number count p) [] [] refl })
+
+-- all of them are the holder's
+new_own : (number count : ℕ) (p : Option Pending) → own_count number (new_entries number count p) ≡ length (new_entries number count p)
+new_own number count None = refl
+new_own number count (Some p) = own_of_one number (entry_of number count p) refl
+
+new_of_none_else : (number count : ℕ) (p : Option Pending) (other : ℕ) → other ≢ number → own_count other (new_entries number count p) ≡ 0
+new_of_none_else number count None other apart = refl
+new_of_none_else number count (Some p) other apart = own_of_other other (entry_of number count p) (λ is. apart (sym is))
+
+module _ (terms : Terms) (st : Step (Option Held)) (id : ℕ) (t : Terms) (number : ℕ) (h : History) (count : ℕ) (held : Held) where
+  -- what was made there
+  abbrev pub es : History
+  es = new_entries number count held.pending
+
+  -- the desk is given back with a longer history, after which lies what is laid there
+  pub give_allowed : AreMade es → length (h ++ es) ≤ t.limit → IsAfter t (h ++ es) held
+      → Allows (Kept terms) 1 id (seated t number h count true, (0, Some held) ∷ []) 0 (λ _. 0) (λ _. gives st (seated t number h count true, (0, Some held) ∷ []) 0)
+  give_allowed made within after s k deep at small =
+      let v : View = seated t number h count true in
+      let mine = seated_fits terms k.history k.word t number h count true (k.views id v at) in
+      let same : t ≡ terms = (k.views id v at).settled refl in
+      let all : h ≡ k.history = (mine.holding refl).0 in
+      let taken : k.word ≡ suc number = (mine.holding refl).1 in
+      let w : View = seated t number (h ++ es) (count + length es) false in
+      let one : sum_by holders s.views ≡ 1 = k.one ∙ busy_word k.word (omega (arith, taken)) in
+      let low : number < terms.seats = grind (arith, nat_tests, k.each number, part (posts_of number) s.views id v at) in
+      let its_own : posts_of number v ≡ 1 = omega (arith, ap one_if (same_number number number refl)) in
+      let own_all : own_count number (h ++ es) ≡ count + length es = omega (arith, own_append number h es, mine.own_seen, new_own number count held.pending) in
+      let moved : Moved terms s id v w (h ++ es) 0 (set s.homes 0 (maybe.some (Some held))) = record {
+        at = at;
+        legal = new_legal terms.seats number h count held.pending low mine.own_seen (subst (IsLegal terms.seats) (sym all) k.legal) made;
+        limit = subst (λ (x : Terms). length (h ++ es) ≤ x.limit) same within;
+        fits = of_one t (post number (h ++ es) (count + length es) false) same (record { begins = begins_itself (h ++ es); own = own_all; own_seen = own_all; holding = λ e. absurd (false_is_no e) });
+        others = λ other u apart e. subst (λ (x : History). ViewFits terms (x ++ es) 0 u) (sym all)
+            (more_of_another terms k.history es k.word number u
+              (omega (arith, one, two_parts holders s.views id other v u (λ is. apart (sym is)) at e))
+              (omega (arith, k.each number, at_most_one (nat_lt number terms.seats), its_own, two_parts (posts_of number) s.views id other v u (λ is. apart (sym is)) at e))
+              (new_of_none_else number count held.pending)
+              (k.views other u e));
+        each = λ _. refl;
+        one = omega (arith, one);
+        free = λ _. (held, only_home s.homes (maybe.some (Some held)) deep, subst (λ (x : Terms). IsAfter x (h ++ es) held) same after);
+      } in (
+        w,
+        act_gives,
+        tt,
+        word_stepped terms s k.word 0 0 (set s.homes 0 (maybe.some (Some held))) (set s.views id w) k.words refl (moved_kept terms s k id v w (h ++ es) 0 (set s.homes 0 (maybe.some (Some held))) moved),
+        refl,
+      )

@@ -1,0 +1,74 @@
+//! The adders' desk: what lies on it, and what is known of those who take it in turns.
+use atomic_table::{Seat as TableSeat, Shared, Table, TableRule};
+use std::alloc::Global;
+use std::collections::LinkedList;
+use std::snapshot::Snapshot;
+use tsc_cache::{Cache, Config, Entry};
+use tsc_span::Span;
+use tsc_time::{Timestamp, Value};
+
+/// What was settled when a cache was opened.
+#[derive(Clone, Copy, Debug)]
+pub struct Terms {
+    /// How the cache is set up.
+    pub config: Config,
+    /// How many seats there are.
+    pub seats: u32,
+    /// How many Adds there may be.
+    pub limit: u64,
+}
+
+/// An Add that the holder of the desk has made, and that no history has yet.
+#[derive(Drop)]
+pub struct Pending {
+    pub span: Snapshot<Span>,
+    pub value: Value,
+    pub now: Timestamp,
+}
+
+/// What lies on the desk: the cache after all Adds, and how many there were.
+#[derive(Drop)]
+pub struct Held {
+    pub cache: Cache,
+    pub length: u64,
+    pub pending: Option<Pending>,
+}
+
+/// A seat's number, what that seat has seen, how many of its own Adds are there, and whether it holds the
+/// desk. No value of it is made.
+pub struct Post {
+    pub number: u32,
+    pub seen: LinkedList<Entry>,
+    pub count: u64,
+    pub holds: bool,
+}
+
+/// What a place at the desk knows: the posts that it keeps, and what it was told. No value of it is made.
+pub struct View {
+    /// No longer once the place was joined to another.
+    pub live: bool,
+    pub terms: Terms,
+    pub posts: LinkedList<Post>,
+    pub told: LinkedList<Entry>,
+}
+
+/// One holds the desk at a time, and all that anybody has seen is a beginning of one history.
+pub struct Turns;
+
+impl TableRule<Option<Held>, View, Terms> for Turns {
+    ghost use Rattle.tsc_shared.specs.Desk.{Kept, first_view};
+
+    ghost holds = { Kept };
+
+    ghost first = { first_view };
+}
+
+/// Word 0 is 0 where the desk is free, and else one more than the number of the seat that holds it. Slot 0
+/// is the desk.
+pub type Desk = Table<Option<Held>, View, Terms, Turns, Global>;
+
+/// The desk as threads share it.
+pub type SharedDesk = Shared<Option<Held>, View, Terms, Turns>;
+
+/// A place at the desk.
+pub type Place = TableSeat<Option<Held>, View>;

@@ -1,0 +1,5 @@
+//! The timestamp cache, shared by threads.
+#![tactic(auto)]
+
+mod board;
+mod steps;
