@@ -9,7 +9,7 @@ use prog.Atomic.{either}
 use Rattle.std.proofs.lemmas.Bool.{lt-ltb}
 use Rattle.std.proofs.lemmas.Bool.Decides.{nat_tests}
 use Rattle.atomic_table.proofs.Lists.{set_again}
-use Rattle.atomic_table.specs.Table.{State, Step, Me, Act, takes as act_takes, keeps as act_keeps, gives as act_gives, Allows, Valid, stepped, carried_after}
+use Rattle.atomic_table.specs.Table.{State, Step, Me, Act, takes as act_takes, keeps as act_keeps, gives as act_gives, Allows, Valid, stepped, carried_after, rest}
 use Rattle.tsc_cache.specs.CacheView.{StandsForState}
 use Rattle.tsc_cache.specs.declared.history.Entry.{Entry}
 use Rattle.tsc_cache.specs.History.{History, own_count, BeginsWith, IsLegal, IsNext, IsMadeEntry}
@@ -19,7 +19,8 @@ use Rattle.tsc_shared.specs.declared.board.Held.{Held}
 use Rattle.tsc_shared.specs.declared.board.Post.{Post}
 use Rattle.tsc_shared.specs.declared.board.View.{View}
 use Rattle.tsc_shared.specs.Desk.{post, keeping, one_if, Kept, ViewFits, PostFits, IsAfter, posts_of, holders}
-use Rattle.tsc_shared.specs.DeskSteps.{seated, Holds, takes, gives, given, new_entries, entry_of, pending_of}
+use Rattle.tsc_shared.specs.Places.{IsAtRest, IsHolding}
+use Rattle.tsc_shared.specs.DeskSteps.{number_of, seen_of, count_of, seated, Holds, takes, gives, given, new_entries, entry_of, pending_of, IsMade}
 use Rattle.tsc_shared.proofs.Prefixes.{begins_itself, begins_empty, begins_more, begins_on, own_append, own_of_one, own_of_other, legal_push}
 use Rattle.tsc_shared.proofs.Totals.{part, two_parts, total_set}
 use Rattle.tsc_shared.proofs.DeskMoves.{Moved, moved_kept, of_one, any_word, more_of_another, same_number}
@@ -118,15 +119,11 @@ module _ (terms : Terms) (st : Step (Option Held)) (id : ℕ) (t : Terms) (numbe
       zero_or_not zero = inl refl
       zero_or_not (suc n) = inr (λ e. omega (arith, e))
 
--- the entries that a holder may add: at most one, which a caller can make
-abbrev pub AreMade : History → Type 0
-AreMade es = (e : Entry) (before after : History) → es ≡ before ++ e ∷ after → IsMadeEntry e
-
 -- the history goes on legally
-new_legal : (seats number : ℕ) (h : History) (count : ℕ) (p : Option Pending) → number < seats → own_count number h ≡ count → IsLegal seats h → AreMade (new_entries number count p) → IsLegal seats (h ++ new_entries number count p)
+new_legal : (seats number : ℕ) (h : History) (count : ℕ) (p : Option Pending) → number < seats → own_count number h ≡ count → IsLegal seats h → IsMade p → IsLegal seats (h ++ new_entries number count p)
 new_legal seats number h count None low own legal made = rw (append-nil h) legal
 new_legal seats number h count (Some p) low own legal made =
-    legal_push seats h (entry_of number count p) legal (record { seat = low; number = sym own; made = made (entry_of number count p) [] [] refl })
+    legal_push seats h (entry_of number count p) legal (record { seat = low; number = sym own; made = made number count })
 
 -- all of them are the holder's
 new_own : (number count : ℕ) (p : Option Pending) → own_count number (new_entries number count p) ≡ length (new_entries number count p)
@@ -143,7 +140,7 @@ module _ (terms : Terms) (st : Step (Option Held)) (id : ℕ) (t : Terms) (numbe
   es = new_entries number count held.pending
 
   -- the desk is given back with a longer history, after which lies what is laid there
-  pub give_allowed : AreMade es → length (h ++ es) ≤ t.limit → IsAfter t (h ++ es) held
+  pub give_allowed : IsMade held.pending → length (h ++ es) ≤ t.limit → IsAfter t (h ++ es) held
       → Allows (Kept terms) 1 id (seated t number h count true, (0, Some held) ∷ []) 0 (λ _. 0) (λ _. gives st (seated t number h count true, (0, Some held) ∷ []) 0)
   give_allowed made within after s k deep at small =
       let v : View = seated t number h count true in
@@ -177,3 +174,26 @@ module _ (terms : Terms) (st : Step (Option Held)) (id : ℕ) (t : Terms) (numbe
         word_stepped terms s k.word 0 0 (set s.homes 0 (maybe.some (Some held))) (set s.views id w) k.words refl (moved_kept terms s k id v w (h ++ es) 0 (set s.homes 0 (maybe.some (Some held))) moved),
         refl,
       )
+
+-- the same, as the calls have it
+pub take_at : (key : Terms) (slots : ℕ) (st : Step (Option Held)) (id number : ℕ) (me : At) → slots ≡ 1 → IsAtRest me → number ≡ number_of me.0
+    → Allows (Kept key) slots id me 0 (λ n. either (n == 0) (number + 1) n) (takes st me)
+take_at key slots st id number me one rest is =
+    subst (λ (n : ℕ). Allows (Kept key) n id me 0 (λ n. either (n == 0) (number + 1) n) (takes st me)) (sym one)
+    (subst (λ (n : ℕ). Allows (Kept key) 1 id me 0 (λ m. either (m == 0) (n + 1) m) (takes st me)) (sym is)
+    (subst (λ (m : At). Allows (Kept key) 1 id m 0 (λ n. either (n == 0) (number_of me.0 + 1) n) (takes st m)) (sym rest)
+    (take_allowed key st id me.0.terms (number_of me.0) (seen_of me.0) (count_of me.0))))
+
+pub give_at : (key : Terms) (slots : ℕ) (st : Step (Option Held)) (id : ℕ) (me me' : At) (held : Held) → slots ≡ 1 → IsHolding me → me' ≡ (me.0, (0, Some held) ∷ rest me.1)
+    → IsMade held.pending → length (seen_of me.0 ++ new_entries (number_of me.0) (count_of me.0) held.pending) ≤ me.0.terms.limit
+    → IsAfter me.0.terms (seen_of me.0 ++ new_entries (number_of me.0) (count_of me.0) held.pending) held
+    → Allows (Kept key) slots id me' 0 (λ _. 0) (λ _. gives st me' 0)
+give_at key slots st id me me' held one holding laid made within after =
+    let whole : me' ≡ (seated me.0.terms (number_of me.0) (seen_of me.0) (count_of me.0) true, (0, Some held) ∷ []) = laid ∙ (λ i. ((holding i).0, (0, Some held) ∷ rest (holding i).1)) in
+    subst (λ (n : ℕ). Allows (Kept key) n id me' 0 (λ _. 0) (λ _. gives st me' 0)) (sym one)
+    (subst (λ (m : At). Allows (Kept key) 1 id m 0 (λ _. 0) (λ _. gives st m 0)) (sym whole)
+    (give_allowed key st id me.0.terms (number_of me.0) (seen_of me.0) (count_of me.0) held made within after))
+
+-- what lay on the desk is the first that is in hand
+pub held_first : (slots : List (ℕ × Option Held)) (held : Held) → slots ≡ (0, Some held) ∷ [] → (x : Option Held) × (slots ≡ (0, x) ∷ rest slots)
+held_first slots held is = (Some held, is ∙ (λ i. (0, Some held) ∷ rest (sym is i)))

@@ -4,7 +4,7 @@ use Rattle.atomic_table.specs.Table.{Me, Step}
 use Rattle.tsc_time.specs.Time.{Time, zero_time}
 use Rattle.tsc_cache.specs.Settings.{Settings}
 use Rattle.tsc_cache.specs.declared.history.Entry.{Entry}
-use Rattle.tsc_cache.specs.History.{History, own_count, BeginsWith, IsLegal}
+use Rattle.tsc_cache.specs.History.{History, own_count, BeginsWith, IsLegal, IsMadeEntry}
 use Rattle.tsc_shared.specs.declared.board.Terms.{Terms}
 use Rattle.tsc_shared.specs.declared.board.Pending.{Pending}
 use Rattle.tsc_shared.specs.declared.board.Held.{Held}
@@ -52,6 +52,11 @@ entry_of number count p = record { seat = number; number = count; span = p.span.
 abbrev pub new_entries : ℕ → ℕ → Option Pending → History
 new_entries number count None = []
 new_entries number count (Some p) = entry_of number count p ∷ []
+
+-- an Add that the holder has made is one that a caller can make
+abbrev pub IsMade : Option Pending → Type 0
+IsMade None = Unit {0}
+IsMade (Some p) = (number count : ℕ) → IsMadeEntry (entry_of number count p)
 
 -- the longer of two histories
 abbrev pub longer : History → History → History

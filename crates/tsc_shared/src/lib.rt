@@ -2,4 +2,9 @@
 #![tactic(auto)]
 
 mod board;
+mod desk;
+mod seat;
 mod steps;
+
+pub use board::Terms;
+pub use seat::{Front, Seat};

@@ -1,0 +1,90 @@
+ghost use Rattle.std.specs.Prelude.{◌≡◌, length};
+ghost use Rattle.tsc_cache.specs.History.{own_count};
+ghost use Rattle.tsc_shared.specs.Seats.{IsSeat, IsFront};
+
+use crate::board::Place;
+use std::marker::Model;
+
+/// A caller's token at a shared cache, by which it adds and looks.
+///
+/// It carries its number, how many of its Adds were accepted, and the history that it has seen: what its own
+/// answers came after, and what it met. A running program can ask how long that is. A seat cannot be copied,
+/// and one that is dropped makes closing impossible.
+#[derive(Drop)]
+pub struct Seat {
+    pub(crate) place: Place,
+    pub(crate) number: u32,
+    pub(crate) count: u64,
+    pub(crate) seen: u64,
+}
+
+impl Model for Seat {
+    ghost use Rattle.std.specs.Prelude.{◌≡◌, length};
+    ghost use Rattle.tsc_shared.specs.Seats.{SeatView};
+
+    ghost Value = { SeatView };
+
+    ghost use Rattle.tsc_shared.specs.Seats.{IsSeat};
+    ghost use Rattle.tsc_shared.specs.DeskSteps.{number_of, seen_of, count_of};
+    ghost use Rattle.tsc_shared.specs.Places.{IsAtRest, seat_view};
+
+    ghost view = { λ s. seat_view s.place };
+
+    ghost invariant = { λ s. IsAtRest s.place.me × (s.number ≡ number_of s.place.me.0) × (s.count ≡ count_of s.place.me.0) × (s.seen ≡ length (seen_of s.place.me.0)) × IsSeat (seat_view s.place) };
+}
+
+impl Seat {
+    /// Its number, counted from 0.
+    pub fn number(&self) -> u32
+        ensures value { result ≡ self.now.number }
+        ensures seat { IsSeat self.now }
+    {
+        self.number
+    }
+
+    /// How many of its Adds were accepted.
+    pub fn count(&self) -> u64
+        ensures value { result ≡ self.now.count }
+        ensures own { result ≡ own_count self.now.number self.now.seen }
+    {
+        self.count
+    }
+
+    /// How many Adds there are in the history that it has seen, of whichever seats.
+    pub fn seen(&self) -> u64
+        ensures { result ≡ length self.now.seen }
+    {
+        self.seen
+    }
+}
+
+/// A history that was seen, to be shown to others. It cannot be copied.
+#[derive(Drop)]
+pub struct Front {
+    pub(crate) place: Place,
+    pub(crate) seen: u64,
+}
+
+impl Model for Front {
+    ghost use Rattle.std.specs.Prelude.{◌≡◌, length};
+    ghost use Rattle.tsc_shared.specs.Seats.{FrontView};
+
+    ghost Value = { FrontView };
+
+    ghost use Rattle.tsc_shared.specs.Seats.{IsFront};
+    ghost use Rattle.tsc_shared.specs.Places.{IsNote, front_view};
+
+    ghost view = { λ f. front_view f.place };
+
+    ghost invariant = { λ f. IsNote f.place.me × (f.seen ≡ length f.place.me.0.told) × IsFront (front_view f.place) };
+}
+
+impl Front {
+    /// How many Adds there are in its history.
+    pub fn len(&self) -> u64
+        ensures value { result ≡ length self.now.seen }
+        ensures front { IsFront self.now }
+    {
+        self.seen
+    }
+}
