@@ -47,18 +47,19 @@ impl Value {
         Value { time, owner: None }
     }
 
-    /// The time. Whoever has a value also learns here that it can be made.
+    /// The time.
     pub const fn time(self) -> Timestamp
-        ensures value { result ≡ self.time }
-        ensures made { IsMadeValue self }
+        ensures { result ≡ self.time }
     {
         self.time
     }
 
-    /// The transaction that owns the time, if one does.
+    /// The transaction that owns the time, if one does. Whoever has a value also learns here that it can
+    /// be made.
     pub const fn owner(self) -> Option<Uuid>
         ensures value { result ≡ self.owner }
         ensures not_nil { result ≢ Some zero_bytes }
+        ensures made { IsMadeValue self }
     {
         self.owner
     }
