@@ -1,6 +1,6 @@
 -- Histories of Adds, and the state that one leaves.
 use Rattle.std.specs.Prelude.{◌≡◌, ℕ, ◌<◌, List, [], ◌∷◌, ◌++◌, map, true, count_by, ◌==◌}
-use Rattle.tsc_time.specs.Time.{is_in_range}
+use Rattle.tsc_time.specs.Time.{Time, is_in_range}
 use Rattle.tsc_time.specs.OwnedTime.{OwnedTime, IsMadeValue}
 use Rattle.tsc_span.specs.Span.{Interval}
 use Rattle.tsc_span.specs.MadeSpan.{IsMadeSpan}
@@ -43,6 +43,10 @@ pub record IsMadeEntry (e : Entry) : Type 0 where
   pub span : IsMadeSpan e.span
   pub value : IsMadeValue e.value
   pub moment : is_in_range e.now ≡ true
+
+-- The entry of these parts can be made, whatever its seat and its number.
+abbrev pub CanBeAdded : Interval → OwnedTime → Time → Type 0
+CanBeAdded span value now = (seat number : ℕ) → IsMadeEntry (record { seat = seat; number = number; span = span; value = value; now = now })
 
 -- The next entry of a seat after a history: its seat is one of so many, its number is how many entries of that seat stand before it, and a caller can make it.
 pub record IsNext (seats : ℕ) (h : History) (e : Entry) : Type 0 where

@@ -1,7 +1,12 @@
 //! Laws of histories of Adds, over the definitions alone: for every configuration, history and span.
 //!
-//! No program needs to call these functions: their contracts are the laws.
+//! No program needs to call these functions: their contracts are the laws. Whoever keeps a history, as a
+//! ghost, calls [`can_be_added`] to know of an Add that it may stand there.
 ghost use Rattle.tsc_cache.specs.Laws.{KeptUp, Rising, FloorBehind, Real, NoWriteBelowARead, EvictsExpired};
+ghost use Rattle.tsc_cache.specs.History.{CanBeAdded};
+
+use tsc_span::Span;
+use tsc_time::{Timestamp, Value};
 
 /// A lookup answers no less than any Add that overlaps its span, also one that was not kept, and one
 /// whose page is gone.
@@ -38,3 +43,13 @@ pub fn no_write_below_a_read()
 pub fn evicts_the_expired()
     ensures { EvictsExpired }
 {}
+
+/// Whatever a program holds as a span, a value and a moment can be added: the entry is one that a caller
+/// can make.
+pub fn can_be_added(span: &Span, value: Value, now: Timestamp)
+    ensures { CanBeAdded span.now value now }
+{
+    let _cuts = span.cuts();
+    let _owner = value.owner();
+    let _wall = now.wall();
+}

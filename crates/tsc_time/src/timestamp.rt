@@ -52,10 +52,11 @@ impl Timestamp {
         }
     }
 
-    /// The wall time, in nanoseconds.
+    /// The wall time, in nanoseconds. Whoever has a timestamp also learns here that it is in range.
     pub const fn wall(self) -> u64
         ensures value { result ≡ self.wall }
         ensures range { result < wall_limit }
+        ensures made { is_in_range self ≡ true }
     {
         self.wall
     }

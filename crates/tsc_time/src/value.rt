@@ -1,11 +1,11 @@
-ghost use Rattle.std.specs.Prelude.{◌≡◌, ◌≢◌, ◌↔◌, ◌∷◌, [], IsTrue, Some, None};
+ghost use Rattle.std.specs.Prelude.{◌≡◌, ◌≢◌, ◌↔◌, ◌<◌, ◌∷◌, [], length, All, IsTrue, Some, None};
 ghost use Rattle.uuid.specs.Parts.{zero_bytes};
-ghost use Rattle.tsc_time.specs.OwnedTime.{unowned, owner_of};
+ghost use Rattle.tsc_time.specs.OwnedTime.{unowned, owner_of, IsMadeValue};
 ghost use Rattle.tsc_time.specs.Joint.{joint, ratcheted};
 
 use crate::Timestamp;
 use std::marker::Model;
-use uuid::Uuid;
+use uuid::{Bytes, Uuid};
 
 /// What the cache holds for a key: the time of a read, and the transaction that owns it, if one does.
 /// It restates `cacheValue` of CockroachDB's `pkg/kv/kvserver/tscache`.
@@ -19,15 +19,13 @@ pub struct Value {
 }
 
 impl Model for Value {
-    ghost use Rattle.std.specs.Prelude.{◌≢◌, Some};
-    ghost use Rattle.uuid.specs.Parts.{zero_bytes};
-    ghost use Rattle.tsc_time.specs.OwnedTime.{OwnedTime};
+    ghost use Rattle.tsc_time.specs.OwnedTime.{OwnedTime, IsMadeOwner};
 
     ghost Value = { OwnedTime };
 
     ghost view = { λ v. record { time = v.time; owner = v.owner } };
 
-    ghost invariant = { λ v. v.owner ≢ Some zero_bytes };
+    ghost invariant = { λ v. IsMadeOwner v.owner };
 
     ghost inverse = { λ v. record { time = v.time; owner = v.owner } };
 }
@@ -37,6 +35,7 @@ impl Value {
     pub fn of(time: Timestamp, owner: Uuid) -> Value
         ensures { result ≡ record { time = time; owner = owner_of owner } }
     {
+        let _bytes = bytes_of(owner);
         let owner = if owner.is_nil() { None } else { Some(owner) };
         Value { time, owner }
     }
@@ -55,13 +54,32 @@ impl Value {
         self.time
     }
 
-    /// The transaction that owns the time, if one does.
+    /// The transaction that owns the time, if one does. Whoever has a value also learns here that it can
+    /// be made.
     pub const fn owner(self) -> Option<Uuid>
         ensures value { result ≡ self.owner }
         ensures not_nil { result ≢ Some zero_bytes }
+        ensures made { IsMadeValue self }
     {
         self.owner
     }
+}
+
+/// The bytes of a UUID: sixteen, each of which is below 256.
+fn bytes_of(uuid: Uuid) -> Bytes
+    ensures long { length uuid ≡ 16 }
+    ensures small { All (λ b. b < 256) uuid }
+{
+    let bytes = uuid.into_bytes();
+    let _same = small_bytes(&bytes);
+    bytes
+}
+
+/// These bytes, each of which is below 256.
+fn small_bytes(bytes: &[u8]) -> &[u8]
+    ensures { All (λ b. b < 256) bytes.now }
+{
+    bytes
 }
 
 /// What `new` makes of `old`, and whether that differs from `old`: `ratchetValue` of CockroachDB's
