@@ -1,16 +1,6 @@
 pub mod LogExamples
-pub mod TraceTextExamples
-pub mod Items
-pub mod Calls
-pub mod Owners
-pub mod Texts
-pub mod AnyOrder
-pub mod Written
-pub mod Totals
 pub mod Playing
 pub mod ListSteps
-pub mod Input
-pub mod Output
 pub mod Cuts
 pub mod LineTexts
 pub mod FieldReading

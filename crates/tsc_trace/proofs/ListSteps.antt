@@ -4,7 +4,7 @@ use Rattle.std.specs.Prelude.{slice_get}
 use Rattle.std.proofs.lemmas.Option.{slice_get_within, get_or_from_slice_get}
 use Rattle.tsc_cache.specs.Settings.{Settings}
 use Rattle.tsc_trace.specs.Play.{Standing, next_all, played, played_lists}
-use Rattle.tsc_trace.specs.declared.trace.Call.{Call}
+use Rattle.tsc_json.specs.declared.trace.Call.{Call}
 use Rattle.tsc_trace.specs.declared.log.Line.{Line}
 use Rattle.tsc_trace.specs.declared.player.Player.{Player}
 use Rattle.tsc_trace.specs.PlayerParts.{StandsAt}

@@ -3,29 +3,16 @@ use Rattle.std.specs.Prelude.{◌≡◌, ℕ, List, [], ◌∷◌, ◌++◌, tru
 use Rattle.tsc_time.specs.OwnedTime.{unowned}
 use Rattle.tsc_span.specs.Span.{point}
 use Rattle.tsc_cache.proofs.ExampleSettings.{at, of_first, of_second, usual, twenty, without_end, added}
+use Rattle.tsc_json.proofs.ExampleTraces.{ended, example_trace}
 use Rattle.tsc_trace.specs.Log.{log_of}
 use Rattle.tsc_trace.specs.LogText.{log_text}
-use Rattle.tsc_trace.specs.declared.trace.Call.{Call}
-use Rattle.tsc_trace.specs.declared.trace.Call.TheVariants.{Add, Get, Low}
-use Rattle.tsc_trace.specs.declared.trace.Trace.{Trace}
+use Rattle.tsc_json.specs.declared.trace.Call.{Call}
+use Rattle.tsc_json.specs.declared.trace.Call.TheVariants.{Add, Get, Low}
+use Rattle.tsc_json.specs.declared.trace.Trace.{Trace}
 use Rattle.tsc_trace.specs.declared.log.Line.{Line}
 use Rattle.tsc_trace.specs.declared.log.Said.TheVariants as said
 use Rattle.std.specs.Fmt.{digits}
 use Rattle.uuid.specs.Text.{by_index}
-
--- a range of one transaction, a point of the other inside it, and lookups
-abbrev pub example_calls : List Call
-example_calls =
-    Add (without_end (codes "a") (codes "c")) (of_first twenty) twenty
-    ∷ Get (point (codes "b"))
-    ∷ Get (point (codes "c"))
-    ∷ Add (point (codes "b")) (of_second twenty) twenty
-    ∷ Get (point (codes "b"))
-    ∷ Low
-    ∷ []
-
-abbrev pub example_trace : Trace
-example_trace = record { config = usual; threads = example_calls ∷ [] }
 
 abbrev pub example_log : List Line
 example_log =
@@ -39,10 +26,6 @@ example_log =
 
 pub the_log_of_a_trace : log_of example_trace ≡ example_log
 the_log_of_a_trace = refl
-
--- a text with a line feed behind it
-abbrev pub ended : List ℕ → List ℕ
-ended text = text ++ 10 ∷ []
 
 abbrev pub example_log_text : List ℕ
 example_log_text =

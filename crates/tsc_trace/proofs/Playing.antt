@@ -7,8 +7,8 @@ use Rattle.tsc_cache.specs.History.{History, own_count, mark_of, state_of}
 use Rattle.tsc_cache.proofs.Histories.{state_of-push}
 use Rattle.tsc_trace.specs.Log.{said_after, after_call, after_calls, lines_of_list, lines_of_lists}
 use Rattle.tsc_trace.specs.Play.{Standing, said_at, next, next_all, played, played_lists}
-use Rattle.tsc_trace.specs.declared.trace.Call.{Call}
-use Rattle.tsc_trace.specs.declared.trace.Call.TheVariants.{Add, Get, Low}
+use Rattle.tsc_json.specs.declared.trace.Call.{Call}
+use Rattle.tsc_json.specs.declared.trace.Call.TheVariants.{Add, Get, Low}
 
 -- where a replay stands after a history
 abbrev pub standing_after : Settings → History → Standing

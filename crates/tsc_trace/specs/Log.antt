@@ -3,9 +3,9 @@ use Rattle.std.specs.Prelude.{ℕ, suc, List, [], ◌∷◌, ◌++◌, length}
 use Rattle.tsc_cache.specs.Settings.{Settings}
 use Rattle.tsc_cache.specs.State.{step, look}
 use Rattle.tsc_cache.specs.History.{History, own_count, state_of}
-use Rattle.tsc_trace.specs.declared.trace.Call.{Call}
-use Rattle.tsc_trace.specs.declared.trace.Call.TheVariants.{Add, Get, Low}
-use Rattle.tsc_trace.specs.declared.trace.Trace.{Trace}
+use Rattle.tsc_json.specs.declared.trace.Call.{Call}
+use Rattle.tsc_json.specs.declared.trace.Call.TheVariants.{Add, Get, Low}
+use Rattle.tsc_json.specs.declared.trace.Trace.{Trace}
 use Rattle.tsc_trace.specs.declared.log.Line.{Line}
 use Rattle.tsc_trace.specs.declared.log.Said.{Said}
 use Rattle.tsc_trace.specs.declared.log.Said.TheVariants as said

@@ -1,13 +1,13 @@
 ghost use Rattle.std.specs.Prelude.{◌≡◌, ◌++◌, ◌+◌, ◌<◌, ◌≤◌, ◌^◌, length, IfOk, OnOk};
 ghost use Rattle.tsc_cache.specs.Settings.{Settings};
-ghost use Rattle.tsc_trace.specs.Lists.{most_calls};
+ghost use Rattle.tsc_json.specs.Lists.{most_calls};
 ghost use Rattle.tsc_trace.specs.Log.{log_of};
 ghost use Rattle.tsc_trace.specs.Play.{Standing, said_at, next, next_all, played};
 
 use crate::log::{Line, Lines, Log, Said};
-use crate::trace::{Call, Trace};
 use std::alloc::Global;
 use tsc_cache::Cache;
+use tsc_json::{Call, Trace};
 use tsc_time::NoMemory;
 
 /// A replay under way: the cache, how many Adds there were, and the lines so far.

@@ -1,20 +1,19 @@
 //! Replays of recorded traces to a writer, and from a reader to a writer.
-ghost use Rattle.std.specs.Prelude.{◌≡◌, ◌++◌, Some, IfErr, OnOk};
+ghost use Rattle.std.specs.Prelude.{◌≡◌, ◌++◌, Some, IfErr, OnOk, OnErr};
 ghost use Rattle.tsc_trace.specs.LogText.{log_text};
 ghost use Rattle.tsc_trace.specs.Replay.{Done, StopsReplay, StopsWriting, fault_of_input, fault_of_output, fault_of_trace, fault_text, replay_text};
-ghost use Rattle.tsc_trace.specs.Stream.{HasWritten};
+ghost use Rattle.tsc_stream.specs.Stream.{CouldNotWrite, HasWritten};
 ghost use Rattle.tsc_trace.specs.declared.replays.OutFault.TheVariants as out_fault;
 
 use crate::log::{Log, log_text};
 use crate::player::play;
-use crate::read::{TraceFault, read_trace};
-use crate::stream::{InputFault, Sink, Source, WriteFailed, read_input, write_output};
-use crate::trace::Trace;
 use itoa::Buffer;
 use std::alloc::Global;
 use std::error::Error;
 use std::fmt;
 use thiserror::Error;
+use tsc_json::{Trace, TraceFault, read_trace};
+use tsc_stream::{InputFault, Sink, Source, WriteFailed, read_input, write_output};
 use tsc_time::NoMemory;
 
 /// Why a log was not written.
@@ -61,8 +60,19 @@ pub enum ReplayFault {
 }
 
 impl ReplayFault {
-    /// The text of a fault in two parts, of which the second is a number or empty. It takes no memory.
-    pub fn parts<'d>(self, digits: &'d mut Buffer) -> (&'static str, &'d str)
+    /// Writes the text of the fault. It takes no memory.
+    pub fn tell<W: Sink>(self, writer: &mut W) -> Result<(), WriteFailed>
+        ensures ok { OnOk result (HasWritten (W.known writer.old) (W.known writer.new) (fault_text self)) }
+        ensures err { OnErr result (CouldNotWrite (W.known writer.old) (W.known writer.new) (fault_text self)) }
+    {
+        let mut digits = Buffer::new();
+        let (text, number) = self.parts(&mut digits);
+        write_output(writer, text.as_bytes())?;
+        write_output(writer, number.as_bytes())
+    }
+
+    /// The text of the fault in two parts, of which the second is a number or empty.
+    fn parts<'d>(self, digits: &'d mut Buffer) -> (&'static str, &'d str)
         ensures { result.0.now ++ result.1.now ≡ fault_text self }
     {
         match self {

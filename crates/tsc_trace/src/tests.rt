@@ -1,7 +1,7 @@
-use crate::fakes::{Faulty, Mishap};
 use crate::*;
 use std::alloc::Global;
 use std::test::Fail;
+use tsc_stream::fakes::{Faulty, Mishap};
 use tsc_time::NoMemory;
 
 /// The head of most traces, up to their lists.

@@ -1,7 +1,7 @@
 -- What the program comes to where it is known which bytes each file has.
 use Rattle.std.proofs.Common.{◌≡◌, ◌==◌, ◌++◌, ◌⊎◌, ◌∙◌, ℕ, List, [], ◌∷◌, Option, Result, Ok, Err, Some, None, IsNone, codes, false, true≢false, inl, inr, sym, ap, subst, refl}
 use Rattle.tsc_trace.specs.LogText.{line_feed}
-use Rattle.tsc_trace.specs.Stream.{KnownWriter}
+use Rattle.tsc_stream.specs.Stream.{KnownWriter}
 use Rattle.tscache.specs.Place.{Opening}
 use Rattle.tscache.specs.Program.{AskFor, DoesAsked, OnlyTells, ReplaysBytes, ReplaysFile, ReplaysOpening, RunsProgram}
 use Rattle.tscache.specs.Words.{Request, Word, refusal_text, replay, request_in}

@@ -15,7 +15,7 @@ use crate::program::program;
 use crate::system::{SystemFiles, fetch_words};
 use std::io;
 use std::process::ExitCode;
-use tsc_trace::Metered;
+use tsc_stream::Metered;
 
 fn main(rt: HostRuntime) -> ExitCode {
     let mut output = Metered::new(io::writer(&rt));

@@ -3,7 +3,7 @@ ghost use Rattle.std.specs.Prelude.{ℕ, List, Option, Result};
 ghost use Rattle.tscache.specs.Place.{IsOpening};
 ghost use Rattle.tscache.specs.declared.place.OpenFault.{OpenFault};
 
-use tsc_trace::Source;
+use tsc_stream::Source;
 
 /// Why a file was not opened.
 #[derive(Clone, Copy, Debug, PartialEq, Eq)]

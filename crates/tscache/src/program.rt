@@ -8,7 +8,8 @@ use crate::place::{OpenFault, Place};
 use crate::replay::{replay_command, status_of, tell};
 use crate::words::{Asked, WordsFault, request};
 use std::alloc::Global;
-use tsc_trace::{ReplayFault, Sink, write_output};
+use tsc_stream::{Sink, write_output};
+use tsc_trace::ReplayFault;
 
 /// Does what the program's words ask for, and gives the exit status.
 ///

@@ -1,11 +1,11 @@
 //! The command that replays a trace from a reader to a writer, and tells how it ended.
 ghost use Rattle.std.specs.Prelude.{◌≡◌, OnOk, OnErr};
-ghost use Rattle.tsc_trace.specs.Stream.{CouldNotWrite, HasWritten};
+ghost use Rattle.tsc_stream.specs.Stream.{CouldNotWrite, HasWritten};
 ghost use Rattle.tscache.specs.Replay.{EndsReplay, Tells, fault_line, status_of};
 
-use itoa::Buffer;
 use std::alloc::Global;
-use tsc_trace::{ReplayFault, Sink, Source, TraceFault, WriteFailed, replay_stream, write_output};
+use tsc_stream::{Sink, Source, WriteFailed, write_output};
+use tsc_trace::{ReplayFault, TraceFault, replay_stream};
 
 /// Replays a trace from a reader to a writer, tells a fault on `errors`, and gives the exit status.
 ///
@@ -52,10 +52,7 @@ fn write_fault<E: Sink>(errors: &mut E, fault: ReplayFault) -> Result<(), WriteF
     ensures ok { OnOk result (HasWritten (E.known errors.old) (E.known errors.new) (fault_line fault)) }
     ensures err { OnErr result (CouldNotWrite (E.known errors.old) (E.known errors.new) (fault_line fault)) }
 {
-    let mut digits = Buffer::new();
-    let (text, number) = fault.parts(&mut digits);
-    write_output(errors, text.as_bytes())?;
-    write_output(errors, number.as_bytes())?;
+    fault.tell(errors)?;
     write_output(errors, b"\n")
 }
 

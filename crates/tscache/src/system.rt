@@ -11,7 +11,7 @@ use std::env::Env;
 use std::io::ErrorKind;
 use std::rt::Files;
 use std::{env, fs};
-use tsc_trace::Metered;
+use tsc_stream::Metered;
 
 /// The program's words, of which the first is its own name. A word that is no text is wrong.
 pub fn fetch_words<R: Env + AllocGlobal>(rt: &R) -> Result<Vec<String>, WordsFault> {

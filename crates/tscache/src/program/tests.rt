@@ -9,8 +9,8 @@ use crate::words::WordsFault;
 use std::alloc::Global;
 use std::env::{Env, FillError};
 use std::process::Abort;
-use tsc_trace::Metered;
-use tsc_trace::fakes::{Faulty, Mishap};
+use tsc_stream::Metered;
+use tsc_stream::fakes::{Faulty, Mishap};
 
 const USAGE: &str = "usage: tscache replay FILE, run FILE or check FILE LOG\n";
 

@@ -5,8 +5,9 @@ use std::alloc::Global;
 use std::io;
 use std::io::Read;
 use std::process::Abort;
-use tsc_trace::fakes::{Faulty, Mishap};
-use tsc_trace::{Metered, TraceFault};
+use tsc_stream::Metered;
+use tsc_stream::fakes::{Faulty, Mishap};
+use tsc_trace::TraceFault;
 
 /// How many bytes a call moves, and which calls go wrong.
 type Calls = (usize, Mishap);

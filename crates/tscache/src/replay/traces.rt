@@ -47,7 +47,7 @@ pub(crate) const NO_JSON: &str = "trace refused: fault 1\n";
 
 const WRONG_CONFIG: &str = "trace refused: fault 7\n";
 
-pub(crate) static ROWS: [Row; 14] = [
+pub(crate) static ROWS: [Row; 15] = [
     (OVERLAPPING_READS, 0, OVERLAPPING_READS_LOG, ""),
     // The folder `examples`.
     (TWO_READERS, 0, TWO_READERS_LOG, ""),
@@ -96,6 +96,40 @@ pub(crate) static ROWS: [Row; 14] = [
 0 6 get 2 0.0 none
 0 7 get 2 20.7 33333333-3333-4333-8333-333333333333
 0 8 get 2 0.0 none
+",
+        "",
+    ),
+    // Three lists, whose Adds fill a page twice: the second time the oldest one is dropped.
+    (
+        r#"{"page_nodes":3,"min_pages":2,"retention":10,"low_water":[5,0],"threads":[[
+{"op":"add","span":{"start":"61"},"time":[20,0],"owner":"11111111-1111-4111-8111-111111111111","now":[20,0]},
+{"op":"add","span":{"start":"62","end":"63"},"time":[20,1],"owner":"11111111-1111-4111-8111-111111111111","now":[20,0]},
+{"op":"get","span":{"start":"61"}}],[
+{"op":"add","span":{"start":"64"},"time":[25,0],"owner":"22222222-2222-4222-8222-222222222222","now":[25,0]},
+{"op":"get","span":{"start":"61"}},
+{"op":"low"},
+{"op":"add","span":{"start":"65","end":"67","ends":"[]"},"time":[41,0],"owner":"22222222-2222-4222-8222-222222222222","now":[41,0]},
+{"op":"get","span":{"start":"66"}}],[
+{"op":"add","span":{"start":"68","onward":"["},"time":[42,0],"owner":"33333333-3333-4333-8333-333333333333","now":[42,0]},
+{"op":"low"},
+{"op":"get","span":{"start":"61"}},
+{"op":"get","span":{"start":"64"}},
+{"op":"get","span":{"start":"61","end":"69"}}]]}
+"#,
+        0,
+        "0 0 add 0 1 0 0
+0 1 add 1 1 0 0
+0 2 get 2 20.0 11111111-1111-4111-8111-111111111111
+1 0 add 2 1 1 0
+1 1 get 3 20.0 11111111-1111-4111-8111-111111111111
+1 2 low 3 5.0
+1 3 add 3 1 0 0
+1 4 get 4 41.0 22222222-2222-4222-8222-222222222222
+2 0 add 4 1 1 1
+2 1 low 5 20.1
+2 2 get 5 20.1 none
+2 3 get 5 25.0 22222222-2222-4222-8222-222222222222
+2 4 get 5 42.0 33333333-3333-4333-8333-333333333333
 ",
         "",
     ),

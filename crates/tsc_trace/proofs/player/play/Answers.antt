@@ -1,12 +1,12 @@
 -- The log is told list by list.
 use Rattle.std.proofs.Common.{◌≡◌, ◌∙◌, refl, sym, ap, subst, [], ◌++◌, ◌<◌, ◌≤◌, length, Some, true, arith}
 use Rattle.std.specs.Prelude.{slice_get}
-use Rattle.tsc_trace.specs.Lists.{fits_trace, most_calls}
+use Rattle.tsc_json.specs.Lists.{fits_trace, most_calls}
 use Rattle.tsc_trace.specs.Play.{next_all, played}
 use Rattle.tsc_trace.specs.Log.{log_of}
 use Rattle.tsc_trace.proofs.Playing.{standing_after, lists_anew}
 use Rattle.tsc_trace.proofs.ListSteps.{told_with_list}
-use Rattle.tsc_trace.proofs.Totals.{calls_within, list_at}
+use Rattle.tsc_json.proofs.Totals.{calls_within, list_at}
 use Rattle.tsc_trace.proofs.player.play.Goals as goal
 
 pub loop-thread-init : goal.loop-thread-init

@@ -1,0 +1,9 @@
+pub mod ExampleTraces
+pub mod TraceTextExamples
+pub mod Items
+pub mod Calls
+pub mod Owners
+pub mod Texts
+pub mod AnyOrder
+pub mod Written
+pub mod Totals

@@ -1,0 +1,7 @@
+pub mod Lists
+pub mod TraceParts
+pub mod TraceText
+pub mod TraceData
+pub mod TraceLaws
+pub mod Reading
+pub mod Rows

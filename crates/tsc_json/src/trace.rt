@@ -1,0 +1,88 @@
+ghost use Rattle.std.specs.Prelude.{◌≡◌, ◌≤◌, true, map, length, option_map, slice_get, IfSome};
+ghost use Rattle.tsc_json.specs.Lists.{most_lists, most_calls, fits_trace};
+
+use std::marker::Model;
+use tsc_cache::Config;
+use tsc_span::Span;
+use tsc_time::{Timestamp, Value};
+
+/// A recorded run: a configuration, and lists of calls.
+#[derive(Debug, Drop)]
+pub struct Trace {
+    pub config: Config,
+    pub threads: Lists,
+}
+
+/// One call of a trace.
+#[derive(Debug, Drop)]
+pub enum Call {
+    /// Adds a span with its value, at the moment `now`.
+    Add {
+        span: Span,
+        value: Value,
+        now: Timestamp,
+    },
+    /// Asks for the value of a span.
+    Get {
+        span: Span,
+    },
+    /// Asks where the floor stands.
+    Low,
+}
+
+/// The lists of a trace: 1 to 64 lists of calls, with at most 65,536 calls in all.
+#[derive(Debug, Drop)]
+pub struct Lists {
+    lists: Vec<Vec<Call>>,
+}
+
+impl Model for Lists {
+    ghost use Rattle.std.specs.Prelude.{◌≡◌, true, List, map};
+    ghost use Rattle.tsc_json.specs.declared.trace.Call.{Call};
+    ghost use Rattle.tsc_json.specs.Lists.{fits_trace};
+
+    ghost Value = { List (List Call) };
+
+    ghost view = { λ a. map (λ calls. calls.items) a.lists.items };
+
+    ghost invariant = { λ a. fits_trace (map (λ calls. calls.items) a.lists.items) ≡ true };
+}
+
+impl Lists {
+    /// These lists.
+    pub(crate) fn of(lists: Vec<Vec<Call>>) -> Lists
+        requires { fits_trace (map (λ calls. calls.items) lists.items) ≡ true }
+        ensures { result ≡ map (λ calls. calls.items) lists.items }
+    {
+        Lists { lists }
+    }
+
+    /// The lists as a slice.
+    pub fn slice(&self) -> &[Vec<Call>]
+        ensures value { map (λ calls. calls.items) result.now ≡ self.now }
+        ensures fits { fits_trace self.now ≡ true }
+    {
+        self.lists.as_slice()
+    }
+
+    /// How many lists there are.
+    pub fn len(&self) -> usize
+        ensures value { result ≡ length self.now }
+        ensures some { 1 ≤ result }
+        ensures few { result ≤ most_lists }
+    {
+        self.lists.len()
+    }
+
+    /// A list by its number.
+    pub fn list(&self, i: usize) -> Option<&[Call]>
+        ensures value { option_map (λ calls. calls.now) result ≡ slice_get self.now i }
+        ensures few { IfSome result (λ calls. length calls.now ≤ most_calls) }
+    {
+        if i < self.lists.len() {
+            Some(self.lists[i].as_slice())
+        } else {
+            None
+        }
+    }
+}

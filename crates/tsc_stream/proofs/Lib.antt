@@ -1,0 +1,2 @@
+pub mod ReadSoFar
+pub mod WrittenSoFar

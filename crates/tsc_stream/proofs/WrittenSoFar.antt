@@ -1,0 +1,68 @@
+-- Writing a text: how far it has come.
+use Rattle.std.proofs.Common.{◌≡◌, ℕ, ◌+◌, ◌-◌, ◌<◌, List, ◌++◌, true, length, take, drop, sym, ap, ◌∙◌, subst, arith, length-append, append_assoc, take-append-drop}
+use Rattle.std.proofs.Math.Seq.{take-append_seam, take-append-add}
+use Rattle.std.proofs.lemmas.List.{take_rest, take-append-le}
+use Rattle.std.proofs.KnownBytes.{Appends-trans, Appends-kept}
+use Rattle.std.specs.Io.KnownBytes.{Appends, Keeps}
+use Rattle.tsc_stream.specs.Stream.{KnownWriter, HasWritten, CouldNotWrite}
+
+-- The text is what was written and then the rest, and no write has failed.
+pub record IsWriting (old new : KnownWriter) (text rest : List ℕ) : Type 0 where
+  pub written : List ℕ
+  pub split : text ≡ written ++ rest
+  pub appended : Appends old.bytes new.bytes written
+  pub unfailed : new.has_failed ≡ old.has_failed
+
+-- One more write took the first bytes of the rest.
+pub IsWriting-more : (old mid new : KnownWriter) (text rest : List ℕ) (count : ℕ)
+    → IsWriting old mid text rest → Appends mid.bytes new.bytes (take count rest) → new.has_failed ≡ mid.has_failed
+    → IsWriting old new text (take (length rest - count) (drop count rest))
+IsWriting-more old mid new text rest count so_far more unfailed =
+    let done = so_far.written in record {
+      written = done ++ take count rest;
+      split = so_far.split ∙ ap (λ l. done ++ l) (sym (take-append-drop count rest)) ∙ sym (append_assoc done (take count rest) (drop count rest))
+          ∙ ap (λ l. (done ++ take count rest) ++ l) (sym (take_rest rest count));
+      appended = Appends-trans _ _ _ _ _ so_far.appended more;
+      unfailed = unfailed ∙ so_far.unfailed;
+    }
+
+-- A write that failed took nothing more.
+pub CouldNotWrite-kept : (old mid new : KnownWriter) (text rest : List ℕ)
+    → IsWriting old mid text rest → 0 < length rest → Keeps mid.bytes new.bytes → new.has_failed ≡ true → CouldNotWrite old new text
+CouldNotWrite-kept old mid new text rest so_far left kept failed =
+    let done = so_far.written in record {
+      written = length done;
+      part =
+          let whole : length text ≡ length done + length rest = ap length so_far.split ∙ length-append done rest in
+          omega arith;
+      appended = subst (Appends old.bytes new.bytes) (sym (ap (take (length done)) so_far.split ∙ take-append_seam done rest))
+          (Appends-kept _ _ _ _ so_far.appended kept);
+      failed = failed;
+    }
+
+-- One text was written, and then another.
+pub HasWritten-then : (old mid new : KnownWriter) (text more : List ℕ) → HasWritten old mid text → HasWritten mid new more → HasWritten old new (text ++ more)
+HasWritten-then old mid new text more first second = record {
+  appended = Appends-trans _ _ _ _ _ first.appended second.appended;
+  unfailed = second.unfailed ∙ first.unfailed;
+}
+
+-- A part of a front is one of the whole.
+pub CouldNotWrite-front : (old new : KnownWriter) (front rest : List ℕ) → CouldNotWrite old new front → CouldNotWrite old new (front ++ rest)
+CouldNotWrite-front old new front rest begun =
+    let part = begun.part in record {
+      written = begun.written;
+      part = omega (arith, length-append front rest);
+      appended = subst (Appends old.bytes new.bytes) (sym (take-append-le begun.written front rest (omega arith))) begun.appended;
+      failed = begun.failed;
+    }
+
+-- A front was written, and a part of the rest behind it.
+pub CouldNotWrite-behind : (old mid new : KnownWriter) (front rest : List ℕ) → HasWritten old mid front → CouldNotWrite mid new rest → CouldNotWrite old new (front ++ rest)
+CouldNotWrite-behind old mid new front rest whole begun =
+    let part = begun.part in record {
+      written = length front + begun.written;
+      part = omega (arith, length-append front rest);
+      appended = subst (Appends old.bytes new.bytes) (sym (take-append-add front rest begun.written)) (Appends-trans _ _ _ _ _ whole.appended begun.appended);
+      failed = begun.failed;
+    }

@@ -1,0 +1,21 @@
+//! Readers and writers that may be called a bounded number of times, and remember a failure.
+//!
+//! No clause over `std`'s `Read` and `Write` can say that a call failed. [`Source`] and [`Sink`] can, so a
+//! contract over them tells why a command gave up. A [`Metered`] reader or writer is one of `std` with its
+//! calls counted. What it makes of a call to the one inside is proved; that it makes that call is for its few
+//! lines, and for tests. [`read_input`] reads all that a reader has left, and [`write_output`] writes a whole
+//! text.
+#![tactic(auto)]
+
+pub mod fakes;
+mod input;
+mod metered;
+mod output;
+mod stream;
+#[cfg(test)]
+mod tests;
+
+pub use input::{InputFault, read_input};
+pub use metered::Metered;
+pub use output::{WriteFailed, write_output};
+pub use stream::{Sink, Source, Trouble};

@@ -1,0 +1,117 @@
+//! Readers and writers of `std` whose calls are counted.
+ghost use Rattle.std.specs.Prelude.{◌≡◌, ◌≢◌, ◌<◌, Ok, Err, IfOk, IfErr};
+ghost use Rattle.tsc_stream.specs.Stream.{fresh_reader, fresh_writer};
+
+use crate::stream::{Sink, Source, Trouble};
+use std::io::{ErrorKind, Read, Write};
+
+/// How often a command reads before it gives up, and how often it writes.
+pub(crate) const MOST_TURNS: u32 = 33_554_432;
+
+/// A reader or a writer of `std` that may be called 33,554,432 times.
+#[derive(Drop)]
+pub struct Metered<T> {
+    inner: T,
+    turns: u32,
+    failed: bool,
+    ended: bool,
+}
+
+impl<T> Metered<T> {
+    ghost use Rattle.std.specs.Prelude.{List, Option, ℕ};
+    ghost use Rattle.tsc_stream.specs.MeteredParts.{inner_of, reader_of, writer_of};
+
+    /// `inner`, which has not been called yet.
+    pub fn new(inner: T) -> Metered<T>
+        ensures inner { inner_of result ≡ inner }
+        ensures reader { (bytes : Option (List ℕ)) → reader_of bytes result ≡ fresh_reader bytes }
+        ensures writer { (bytes : Option (List ℕ)) → writer_of bytes result ≡ fresh_writer bytes }
+    {
+        Metered {
+            inner,
+            turns: MOST_TURNS,
+            failed: false,
+            ended: false,
+        }
+    }
+
+    /// `inner`, with so many calls.
+    #[cfg(test)]
+    pub(crate) fn with_turns(inner: T, turns: u32) -> Metered<T> {
+        Metered {
+            inner,
+            turns,
+            failed: false,
+            ended: false,
+        }
+    }
+
+    /// What was wrapped.
+    pub fn into_inner(self) -> T
+        ensures { result ≡ inner_of self }
+    {
+        let Metered { inner, .. } = self;
+        inner
+    }
+}
+
+/// How a call to a reader or a writer of `std` went.
+fn settled(gave: Result<usize, ErrorKind>) -> Result<usize, Trouble>
+    ensures ok { IfOk gave (λ count. result ≡ Ok count) }
+    ensures interrupted { gave ≡ Err ErrorKind.Interrupted → result ≡ Err Trouble.Interrupted }
+    ensures failed { IfErr gave (λ kind. kind ≢ ErrorKind.Interrupted → result ≡ Err Trouble.Failed) }
+{
+    match gave {
+        Ok(count) => Ok(count),
+        Err(ErrorKind::Interrupted) => Err(Trouble::Interrupted),
+        Err(_) => Err(Trouble::Failed),
+    }
+}
+
+/// How a write went, of which taking nothing is a failure.
+fn settled_write(gave: Result<usize, ErrorKind>) -> Result<usize, Trouble>
+    ensures took { IfOk gave (λ count. 0 < count → result ≡ Ok count) }
+    ensures nothing { gave ≡ Ok 0 → result ≡ Err Trouble.Failed }
+    ensures interrupted { gave ≡ Err ErrorKind.Interrupted → result ≡ Err Trouble.Interrupted }
+    ensures failed { IfErr gave (λ kind. kind ≢ ErrorKind.Interrupted → result ≡ Err Trouble.Failed) }
+{
+    match gave {
+        Ok(0) => Err(Trouble::Failed),
+        gave => settled(gave),
+    }
+}
+
+impl<R: Read> Source for Metered<R> {
+    ghost use Rattle.tsc_stream.specs.MeteredParts.{inner_of, reader_of};
+
+    ghost known = { λ m. reader_of (R.remaining (inner_of m)) m };
+
+    fn read(&mut self, buf: &mut [u8]) -> Result<usize, Trouble> {
+        if self.turns == 0 {
+            self.failed = true;
+            return Err(Trouble::Failed);
+        }
+        self.turns -= 1;
+        let told = settled(self.inner.read(buf).map_err(|error| error.kind()));
+        self.failed |= told == Err(Trouble::Failed);
+        self.ended |= told == Ok(0);
+        told
+    }
+}
+
+impl<W: Write> Sink for Metered<W> {
+    ghost use Rattle.tsc_stream.specs.MeteredParts.{inner_of, writer_of};
+
+    ghost known = { λ m. writer_of (W.contents (inner_of m)) m };
+
+    fn write(&mut self, buf: &[u8]) -> Result<usize, Trouble> {
+        if self.turns == 0 {
+            self.failed = true;
+            return Err(Trouble::Failed);
+        }
+        self.turns -= 1;
+        let told = settled_write(self.inner.write(buf).map_err(|error| error.kind()));
+        self.failed |= told == Err(Trouble::Failed);
+        told
+    }
+}

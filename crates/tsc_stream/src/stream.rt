@@ -1,0 +1,44 @@
+//! Readers and writers that may be called a bounded number of times, and remember a failure.
+ghost use Rattle.std.specs.Prelude.{◌≡◌, ◌-◌, ◌<◌, ◌≤◌, ◌||◌, length, Err, IfOk};
+ghost use Rattle.std.specs.Io.KnownBytes.{ReadConsumes, WriteAppends};
+ghost use Rattle.tsc_stream.specs.Stream.{KnownReader, KnownWriter, is_end, is_failure};
+
+/// Why a reader gave nothing, or a writer took nothing.
+#[derive(Clone, Copy, Debug, PartialEq, Eq)]
+pub enum Trouble {
+    /// The call was interrupted, and may be made again.
+    Interrupted,
+    /// The call failed, or there had been as many as there may be.
+    Failed,
+}
+
+/// A reader that remembers whether it failed, and that may be called a bounded number of times.
+pub trait Source {
+    /// What is known of the reader.
+    ghost known: { Self → KnownReader };
+
+    /// Reads into the first bytes of `buf`. No bytes means the end.
+    fn read(&mut self, buf: &mut [u8]) -> Result<usize, Trouble>
+        requires room { 0 < length buf.old }
+        ensures bound { IfOk result (λ n. n ≤ length buf.new) }
+        ensures bytes { ReadConsumes (known self.old).bytes (known self.new).bytes result buf.new }
+        ensures failed { (known self.new).has_failed ≡ ((known self.old).has_failed || is_failure result) }
+        ensures ended { (known self.new).has_ended ≡ ((known self.old).has_ended || is_end result) }
+        ensures turn { (known self.new).turns ≡ (known self.old).turns - 1 }
+        ensures last { (known self.old).turns ≡ 0 → result ≡ Err Trouble.Failed };
+}
+
+/// A writer that remembers whether it failed, and that may be called a bounded number of times.
+pub trait Sink {
+    /// What is known of the writer.
+    ghost known: { Self → KnownWriter };
+
+    /// Writes the first bytes of `buf`, at least one. Taking none is a failure.
+    fn write(&mut self, buf: &[u8]) -> Result<usize, Trouble>
+        requires bytes { 0 < length buf.now }
+        ensures bound { IfOk result (λ n. (0 < n) × (n ≤ length buf.now)) }
+        ensures bytes { WriteAppends (known self.old).bytes (known self.new).bytes result buf.now }
+        ensures failed { (known self.new).has_failed ≡ ((known self.old).has_failed || is_failure result) }
+        ensures turn { (known self.new).turns ≡ (known self.old).turns - 1 }
+        ensures last { (known self.old).turns ≡ 0 → result ≡ Err Trouble.Failed };
+}
