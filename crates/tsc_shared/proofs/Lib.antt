@@ -4,3 +4,4 @@ pub mod DeskMoves
 pub mod Taking
 pub mod Meeting
 pub mod Posts
+pub mod SeatSteps

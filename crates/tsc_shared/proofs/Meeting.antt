@@ -14,7 +14,8 @@ use Rattle.tsc_shared.specs.declared.board.Held.{Held}
 use Rattle.tsc_shared.specs.declared.board.Post.{Post}
 use Rattle.tsc_shared.specs.declared.board.View.{View}
 use Rattle.tsc_shared.specs.Desk.{post, keeping, one_if, Kept, ViewFits, PostFits, posts_of, holders, first_view, fresh_posts, IsAfter}
-use Rattle.tsc_shared.specs.DeskSteps.{seated, meets, longer, note, spent, first_post, other_posts, seen_of}
+use Rattle.tsc_shared.specs.DeskSteps.{seated, meets, longer, note, spent, first_post, other_posts, number_of, seen_of, count_of}
+use Rattle.tsc_shared.specs.Places.{IsAtRest}
 use Rattle.tsc_shared.proofs.Prefixes.{begins_itself, begins_empty, begins_on, own_between, legal_beginning, longer_begins}
 use Rattle.tsc_shared.proofs.Totals.{part, two_parts, total_set}
 use Rattle.tsc_shared.proofs.DeskMoves.{of_one, Moved, moved_kept}
@@ -22,6 +23,9 @@ use Rattle.tsc_shared.proofs.Taking.{word_stepped, false_is_no}
 
 abbrev Board : Type 0
 Board = State (Option Held) View
+
+abbrev At : Type 0
+At = Me (Option Held) View
 
 -- a place is divided in two that fit, and each post goes with one of them
 pub split_kept : (terms : Terms) (s : Board) (k : Kept terms s) (id : ℕ) (v left right : View) → get_elem? s.views id ≡ maybe.some v
@@ -157,3 +161,7 @@ gather_joins terms id t ps other u qs s k at apart at_other =
       (record { settled = fits.settled; posts = λ i q e. elim (at_joined ps qs i q e) [ | inl a ↦ fits.posts a.0 q a.1 | inr b ↦ theirs.posts b.0 q b.1 ]; told = fits.told })
       (λ n. sum_by-append (λ (q : Post). one_if (q.number == n)) ps qs)
       (sum_by-append (λ (q : Post). one_if q.holds) ps qs)
+
+-- the same, as the call has it
+pub tell_at : (key : Terms) (id : ℕ) (me : At) → IsAtRest me → Splits (Kept key) id me.0 me.0 (note me.0.terms (seen_of me.0))
+tell_at key id me rest = subst (λ (m : At). Splits (Kept key) id m.0 m.0 (note me.0.terms (seen_of me.0))) (sym rest) (tell_splits key id me.0.terms (number_of me.0) (seen_of me.0) (count_of me.0))

@@ -6,10 +6,13 @@ use Rattle.tsc_time.specs.OwnedTime.{OwnedTime}
 use Rattle.tsc_time.specs.Joint.{IsAtMost}
 use Rattle.tsc_span.specs.Span.{Interval}
 use Rattle.tsc_cache.specs.State.{step, look}
-use Rattle.tsc_cache.specs.CacheView.{CacheView, StandsForState}
-use Rattle.tsc_cache.specs.declared.added.Added.{Added}
+use Rattle.tsc_cache.specs.CacheView.{StandsForState}
 use Rattle.tsc_cache.specs.declared.history.Entry.{Entry}
 use Rattle.tsc_cache.specs.History.{History, mark_of, own_count, state_of, entries_on, BeginsWith, IsLegal}
+use Rattle.tsc_shared.specs.declared.answers.Receipt.{Receipt}
+use Rattle.tsc_shared.specs.declared.answers.Answer.{Answer}
+use Rattle.tsc_shared.specs.declared.answers.LowWater.{LowWater}
+use Rattle.tsc_shared.specs.declared.answers.Closed.{Closed}
 use Rattle.tsc_shared.specs.Seats.{CacheName, SeatView, FrontView}
 
 -- the entry that a seat's next Add makes
@@ -23,15 +26,15 @@ pub record GoesOn (old new : SeatView) : Type 0 where
   pub begins : BeginsWith new.seen old.seen
 
 -- An accepted Add: after a history that begins with all that the seat had seen stands this entry, which is the last that the seat has seen then. The place is the length of that history, and what was added is the step from its state.
-pub record Accepts (old new : SeatView) (span : Interval) (value : OwnedTime) (now : Time) (place : ℕ) (added : Added) (front : FrontView) : Type 0 where
+pub record Accepts (old new : SeatView) (span : Interval) (value : OwnedTime) (now : Time) (receipt : Receipt) : Type 0 where
   pub before : History
   pub begins : BeginsWith before old.seen
   pub seen : new.seen ≡ before ++ entry_by old span value now ∷ []
   pub count : new.count ≡ old.count + 1
-  pub place : place ≡ length before
-  pub below : place < old.cache.terms.limit
-  pub added : added ≡ (step old.cache.terms.config (state_of old.cache.terms.config before) (mark_of (entry_by old span value now)) now).added
-  pub front : front ≡ record { cache = old.cache; seen = new.seen }
+  pub place : receipt.place ≡ length before
+  pub below : length before < old.cache.terms.limit
+  pub added : receipt.added ≡ (step old.cache.terms.config (state_of old.cache.terms.config before) (mark_of (entry_by old span value now)) now).added
+  pub front : receipt.front ≡ record { cache = old.cache; seen = new.seen }
 
 -- A refused Add: the seat's count stays, so no history that it sees has that Add.
 pub record Refuses (old new : SeatView) : Type 0 where
@@ -39,38 +42,38 @@ pub record Refuses (old new : SeatView) : Type 0 where
   pub count : new.count ≡ old.count
 
 -- Refused since the history is full: the front is all that the seat has seen then, and as long as the limit.
-pub record IsFull (old new : SeatView) (front : FrontView) : Type 0 where
-  pub front : front ≡ record { cache = old.cache; seen = new.seen }
+pub record IsFull (old new : SeatView) (shown : FrontView) : Type 0 where
+  pub front : shown ≡ record { cache = old.cache; seen = new.seen }
   pub limit : length new.seen ≡ old.cache.terms.limit
 
 -- A lookup answers from the state of all that the seat has seen then.
-pub record Looks (old new : SeatView) (span : Interval) (value : OwnedTime) (front : ℕ) : Type 0 where
+pub record Looks (old new : SeatView) (span : Interval) (answer : Answer) : Type 0 where
   pub goes_on : GoesOn old new
   pub count : new.count ≡ old.count
-  pub front : front ≡ length new.seen
-  pub value : value ≡ look (state_of old.cache.terms.config new.seen) span
+  pub front : answer.front ≡ length new.seen
+  pub value : answer.value ≡ look (state_of old.cache.terms.config new.seen) span
 
 -- The floor is told from the state of all that the seat has seen then.
-pub record Tells (old new : SeatView) (time : Time) (front : ℕ) : Type 0 where
+pub record Tells (old new : SeatView) (answer : LowWater) : Type 0 where
   pub goes_on : GoesOn old new
   pub count : new.count ≡ old.count
-  pub front : front ≡ length new.seen
-  pub time : time ≡ (state_of old.cache.terms.config new.seen).floor
+  pub front : answer.front ≡ length new.seen
+  pub time : answer.time ≡ (state_of old.cache.terms.config new.seen).floor
 
 -- Two seats meet: both have seen one history then, which begins with what each had seen.
-pub record Meets (a b a' b' : SeatView) (length_ : ℕ) : Type 0 where
+pub record Meets (a b a' b' : SeatView) (met : ℕ) : Type 0 where
   pub first : GoesOn a a'
   pub second : GoesOn b b'
   pub first_count : a'.count ≡ a.count
   pub second_count : b'.count ≡ b.count
   pub same : a'.seen ≡ b'.seen
-  pub long : length_ ≡ length a'.seen
+  pub long : met ≡ length a'.seen
 
 -- At closing there is one history, legal for the number of seats. What each seat has seen is a beginning of it, it has exactly the accepted Adds of each seat, and the cache stands for its state.
-pub record Closes (name : CacheName) (seats : List SeatView) (cache : CacheView) (adds : ℕ) : Type 0 where
+pub record Closes (name : CacheName) (seats : List SeatView) (closed : Closed) : Type 0 where
   pub history : History
   pub legal : IsLegal name.terms.seats history
   pub begins : All (λ seat. BeginsWith history seat.seen) seats
   pub own : All (λ seat. own_count seat.number history ≡ seat.count) seats
-  pub adds : adds ≡ length history
-  pub stands : StandsForState cache name.terms.config (state_of name.terms.config history)
+  pub adds : closed.adds ≡ length history
+  pub stands : StandsForState closed.cache name.terms.config (state_of name.terms.config history)

@@ -4,7 +4,7 @@ use Rattle.atomic_table.specs.Table.{Me, Step}
 use Rattle.tsc_time.specs.Time.{Time, zero_time}
 use Rattle.tsc_cache.specs.Settings.{Settings}
 use Rattle.tsc_cache.specs.declared.history.Entry.{Entry}
-use Rattle.tsc_cache.specs.History.{History, own_count, BeginsWith, IsLegal, IsMadeEntry}
+use Rattle.tsc_cache.specs.History.{History, own_count, BeginsWith, IsLegal, CanBeAdded}
 use Rattle.tsc_shared.specs.declared.board.Terms.{Terms}
 use Rattle.tsc_shared.specs.declared.board.Pending.{Pending}
 use Rattle.tsc_shared.specs.declared.board.Held.{Held}
@@ -56,7 +56,7 @@ new_entries number count (Some p) = entry_of number count p ∷ []
 -- an Add that the holder has made is one that a caller can make
 abbrev pub IsMade : Option Pending → Type 0
 IsMade None = Unit {0}
-IsMade (Some p) = (number count : ℕ) → IsMadeEntry (entry_of number count p)
+IsMade (Some p) = CanBeAdded p.span.value p.value p.now
 
 -- the longer of two histories
 abbrev pub longer : History → History → History

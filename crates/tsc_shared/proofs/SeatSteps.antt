@@ -1,0 +1,173 @@
+-- What becomes of a seat that took the desk and gave it back.
+use Rattle.std.proofs.Common.{◌≡◌, ◌∙◌, refl, sym, ap, subst, true, false, ℕ, suc, ◌+◌, ◌<◌, ◌≤◌, List, [], ◌∷◌, ◌++◌, length, append-nil, arith}
+use Rattle.std.specs.Prelude.{Option, Some, None}
+use Rattle.std.proofs.lemmas.List.{length_push}
+use Rattle.atomic_table.specs.Table.{Me}
+use Rattle.atomic_table.specs.declared.shared.Seat.{Seat as TableSeat}
+use Rattle.tsc_time.specs.Time.{Time}
+use Rattle.tsc_time.specs.OwnedTime.{OwnedTime}
+use Rattle.tsc_span.specs.Span.{Interval}
+use Rattle.tsc_cache.specs.Settings.{Settings}
+use Rattle.tsc_cache.specs.State.{CacheState, step, look}
+use Rattle.tsc_cache.specs.CacheView.{StandsForState}
+use Rattle.tsc_cache.specs.declared.history.Entry.{Entry}
+use Rattle.tsc_cache.specs.History.{History, mark_of, own_count, state_of, BeginsWith, IsLegal, CanBeAdded}
+use Rattle.tsc_cache.proofs.Histories.{state_of-push}
+use Rattle.tsc_shared.specs.declared.board.Terms.{Terms}
+use Rattle.tsc_shared.specs.declared.board.Pending.{Pending}
+use Rattle.tsc_shared.specs.declared.board.Held.{Held}
+use Rattle.tsc_shared.specs.declared.board.View.{View}
+use Rattle.tsc_shared.specs.Desk.{IsAfter}
+use Rattle.tsc_shared.specs.DeskSteps.{seated, given, entry_of, Holds, number_of, seen_of, count_of}
+use Rattle.tsc_shared.specs.Seats.{SeatView, FrontView, IsSeat, IsFront}
+use Rattle.tsc_shared.specs.Places.{name_of, seat_view, front_view, IsAtRest}
+use Rattle.tsc_shared.specs.declared.answers.Answer.{Answer}
+use Rattle.tsc_shared.specs.declared.answers.LowWater.{LowWater}
+use Rattle.tsc_shared.specs.declared.answers.Receipt.{Receipt}
+use Rattle.tsc_shared.specs.Answers.{GoesOn, Looks, Tells, Accepts, entry_by}
+use Rattle.tsc_shared.proofs.Prefixes.{begins_on, begins_more, legal_push, own_append, own_of_one}
+
+abbrev Place : Type 0
+Place = TableSeat (Option Held) View
+
+-- a seat that has seen this much then
+pub record Rested (old new : Place) (history : History) (count : ℕ) : Type 0 where
+  pub rest : IsAtRest new.me
+  pub number : number_of new.me.0 ≡ number_of old.me.0
+  pub counted : count_of new.me.0 ≡ count
+  pub seen : seen_of new.me.0 ≡ history
+  pub seat : IsSeat (seat_view new)
+  pub goes_on : GoesOn (seat_view old) (seat_view new)
+  pub name : name_of new ≡ name_of old
+  pub front : IsFront (record { cache = name_of new; seen = seen_of new.me.0 })
+
+pub rests : (old new : Place) (history : History) (count : ℕ) → new.table_id ≡ old.table_id → new.me ≡ (seated old.me.0.terms (number_of old.me.0) history count false, [])
+    → number_of old.me.0 < old.me.0.terms.seats → IsLegal old.me.0.terms.seats history → own_count (number_of old.me.0) history ≡ count → length history ≤ old.me.0.terms.limit
+    → BeginsWith history (seen_of old.me.0)
+    → Rested old new history count
+rests old new history count table is number legal own limit begins =
+    let terms : new.me.0.terms ≡ old.me.0.terms = ap (λ m. m.0.terms) is in
+    let seen : seen_of new.me.0 ≡ history = ap (λ m. seen_of m.0) is in
+    let num : number_of new.me.0 ≡ number_of old.me.0 = ap (λ m. number_of m.0) is in
+    let cnt : count_of new.me.0 ≡ count = ap (λ m. count_of m.0) is in
+    let name : name_of new ≡ name_of old = (λ i. record { table = table i; terms = terms i }) in
+    let legal' : IsLegal new.me.0.terms.seats (seen_of new.me.0) = rw (terms, seen) legal in
+    let limit' : length (seen_of new.me.0) ≤ new.me.0.terms.limit = rw (terms, seen) limit in
+    record {
+      rest = is ∙ (λ i. (seated (sym terms i) (sym num i) (sym seen i) (sym cnt i) false, []));
+      number = num;
+      counted = cnt;
+      seen = seen;
+      seat = record { number = rw (num, terms) number; legal = legal'; own = rw (num, seen, cnt) own; limit = limit' };
+      goes_on = record { cache = name; number = num; begins = rw seen begins };
+      name = name;
+      front = record { legal = legal'; limit = limit' };
+    }
+
+-- after what was laid back as it lay there
+pub rests_back : (old new : Place) (w : View) (held : Held) → IsSeat (seat_view old) → (h : Holds old.me.0 w held) → new.table_id ≡ old.table_id
+    → new.me ≡ (seated w.terms (number_of w) (seen_of w) (count_of w) false, []) → Rested old new h.history (count_of old.me.0)
+rests_back old new w held seat h table is =
+    rests old new h.history (count_of old.me.0) table (is ∙ ap (λ (v : View). (seated v.terms (number_of v) (seen_of v) (count_of v) false, [])) h.after) seat.number h.legal h.own h.limit h.begins
+
+-- the desk after an Add
+pub after_add : (terms : Terms) (h : History) (held held' : Held) (e : Entry) → IsAfter terms h held
+    → StandsForState held'.cache terms.config (step terms.config (state_of terms.config h) (mark_of e) e.now).state → held'.length ≡ held.length + 1 → IsAfter terms (h ++ e ∷ []) held'
+after_add terms h held held' e before stands longer = record {
+  stands = rw (state_of-push terms.config h e) stands;
+  length = longer ∙ ap (λ n. n + 1) before.length ∙ sym (length_push h e);
+}
+
+-- after an Add
+pub rests_added : (old new : Place) (w : View) (held : Held) (p : Pending) → IsSeat (seat_view old) → (h : Holds old.me.0 w held) → new.table_id ≡ old.table_id
+    → new.me ≡ (given w (Some p), []) → CanBeAdded p.span.value p.value p.now → length h.history < old.me.0.terms.limit
+    → Rested old new (h.history ++ entry_of (number_of old.me.0) (count_of old.me.0) p ∷ []) (count_of old.me.0 + 1)
+rests_added old new w held p seat h table is made room =
+    let e : Entry = entry_of (number_of old.me.0) (count_of old.me.0) p in
+    rests old new (h.history ++ e ∷ []) (count_of old.me.0 + 1) table (is ∙ ap (λ (v : View). (given v (Some p), [])) h.after) seat.number
+      (legal_push old.me.0.terms.seats h.history e h.legal (record { seat = seat.number; number = sym h.own; made = made (number_of old.me.0) (count_of old.me.0) }))
+      (omega (arith, own_append (number_of old.me.0) h.history (e ∷ []), own_of_one (number_of old.me.0) e refl, h.own))
+      (omega (arith, length_push h.history e, room))
+      (begins_on (h.history ++ e ∷ []) h.history (seen_of old.me.0) (begins_more h.history (e ∷ [])) h.begins)
+
+-- so long is what it has seen then
+pub length_back : (new : Place) (w : View) (length' : ℕ) → new.me ≡ (seated w.terms (number_of w) (seen_of w) (count_of w) false, []) → length' ≡ length (seen_of w) → length' ≡ length (seen_of new.me.0)
+length_back new w length' is long = long ∙ sym (ap (λ m. length (seen_of m.0)) is)
+
+-- a lookup
+pub looks_back : (old new : Place) (w : View) (held : Held) (span : Interval) (answer : Answer) → IsSeat (seat_view old) → (h : Holds old.me.0 w held) → new.table_id ≡ old.table_id
+    → new.me ≡ (seated w.terms (number_of w) (seen_of w) (count_of w) false, []) → answer.front ≡ length (seen_of w)
+    → ((settings : Settings) (s : CacheState) → StandsForState held.cache settings s → answer.value ≡ look s span) → Looks (seat_view old) (seat_view new) span answer
+looks_back old new w held span answer seat h table is long value =
+    let r = rests_back old new w held seat h table is in record {
+      goes_on = r.goes_on;
+      count = r.counted;
+      front = length_back new w answer.front is long;
+      value = subst (λ x. answer.value ≡ look (state_of old.me.0.terms.config x) span) (sym r.seen) (value old.me.0.terms.config (state_of old.me.0.terms.config h.history) h.is_after.stands);
+    }
+
+-- and of the floor
+pub tells_back : (old new : Place) (w : View) (held : Held) (answer : LowWater) → IsSeat (seat_view old) → (h : Holds old.me.0 w held) → new.table_id ≡ old.table_id
+    → new.me ≡ (seated w.terms (number_of w) (seen_of w) (count_of w) false, []) → answer.front ≡ length (seen_of w)
+    → ((settings : Settings) (s : CacheState) → StandsForState held.cache settings s → answer.time ≡ s.floor) → Tells (seat_view old) (seat_view new) answer
+tells_back old new w held answer seat h table is long time =
+    let r = rests_back old new w held seat h table is in record {
+      goes_on = r.goes_on;
+      count = r.counted;
+      front = length_back new w answer.front is long;
+      time = subst (λ x. answer.time ≡ (state_of old.me.0.terms.config x).floor) (sym r.seen) (time old.me.0.terms.config (state_of old.me.0.terms.config h.history) h.is_after.stands);
+    }
+
+-- an Add that was accepted
+pub accepted : (old new : Place) (w : View) (held : Held) (p : Pending) (receipt : Receipt) → IsSeat (seat_view old) → (h : Holds old.me.0 w held) → new.table_id ≡ old.table_id
+    → new.me ≡ (given w (Some p), []) → CanBeAdded p.span.value p.value p.now → length h.history < old.me.0.terms.limit → receipt.place ≡ held.length
+    → ((settings : Settings) (s : CacheState) → StandsForState held.cache settings s → receipt.added ≡ (step settings s (record { span = p.span.value; value = p.value }) p.now).added)
+    → receipt.front ≡ record { cache = name_of new; seen = seen_of new.me.0 }
+    → Accepts (seat_view old) (seat_view new) p.span.value p.value p.now receipt
+accepted old new w held p receipt seat h table is made room place added front =
+    let r = rests_added old new w held p seat h table is made room in record {
+      before = h.history;
+      begins = h.begins;
+      seen = r.seen;
+      count = r.counted;
+      place = place ∙ h.is_after.length;
+      below = room;
+      added = added old.me.0.terms.config (state_of old.me.0.terms.config h.history) h.is_after.stands;
+      front = front ∙ (λ i. record { cache = r.name i; seen = seen_of new.me.0 });
+    }
+
+-- the same, by a span that the snapshot is of
+pub accepted_at : (old new : Place) (w : View) (held : Held) (p : Pending) (span : Interval) (receipt : Receipt) → p.span.value ≡ span → IsSeat (seat_view old) → (h : Holds old.me.0 w held) → new.table_id ≡ old.table_id
+    → new.me ≡ (given w (Some p), []) → CanBeAdded span p.value p.now → length h.history < old.me.0.terms.limit → receipt.place ≡ held.length
+    → ((settings : Settings) (s : CacheState) → StandsForState held.cache settings s → receipt.added ≡ (step settings s (record { span = span; value = p.value }) p.now).added)
+    → receipt.front ≡ record { cache = name_of new; seen = seen_of new.me.0 }
+    → Accepts (seat_view old) (seat_view new) span p.value p.now receipt
+accepted_at old new w held p span receipt same seat h table is =
+    subst (λ (x : Interval). CanBeAdded x p.value p.now → length h.history < old.me.0.terms.limit → receipt.place ≡ held.length
+      → ((settings : Settings) (s : CacheState) → StandsForState held.cache settings s → receipt.added ≡ (step settings s (record { span = x; value = p.value }) p.now).added)
+      → receipt.front ≡ record { cache = name_of new; seen = seen_of new.me.0 }
+      → Accepts (seat_view old) (seat_view new) x p.value p.now receipt) same (λ made room place added front. accepted old new w held p receipt seat h table is made room place added front)
+
+-- what the holder of the desk has seen is what lies there
+pub held_after : (v w : View) (held : Held) → (h : Holds v w held) → IsAfter w.terms (seen_of w) held
+held_after v w held h = subst (λ (u : View). IsAfter u.terms (seen_of u) held) (sym h.after) h.is_after
+
+-- and after an Add
+pub laid_after : (v w : View) (held held' : Held) (p : Pending) (span : Interval) → p.span.value ≡ span → (h : Holds v w held)
+    → ((settings : Settings) (s : CacheState) → StandsForState held.cache settings s → StandsForState held'.cache settings (step settings s (record { span = span; value = p.value }) p.now).state)
+    → held'.length ≡ held.length + 1 → IsAfter w.terms (seen_of w ++ entry_of (number_of w) (count_of w) p ∷ []) held'
+laid_after v w held held' p span same h stands longer =
+    let before = held_after v w held h in
+    after_add w.terms (seen_of w) held held' (entry_of (number_of w) (count_of w) p) before (rw same (stands w.terms.config (state_of w.terms.config (seen_of w)) before.stands)) longer
+
+-- there was room for it
+pub had_room : (v w : View) (held : Held) (terms : Terms) → (h : Holds v w held) → v.terms ≡ terms → held.length < terms.limit → length h.history < v.terms.limit
+had_room v w held terms h same room = omega (arith, h.is_after.length, ap (λ (t : Terms). t.limit) same)
+
+-- so long is what it has seen after an Add
+pub length_added : (old new : Place) (w : View) (held : Held) (e : Entry) (count : ℕ) → (h : Holds old.me.0 w held) → Rested old new (h.history ++ e ∷ []) count → held.length + 1 ≡ length (seen_of new.me.0)
+length_added old new w held e count h r = omega (arith, h.is_after.length, ap length r.seen, length_push h.history e)
+
+-- what was told of a place, where only a note was split from it
+pub told_front : (a b : Place) → b.table_id ≡ a.table_id → b.me ≡ a.me → ◌≡◌ {A = FrontView} (record { cache = name_of a; seen = seen_of a.me.0 }) (record { cache = name_of b; seen = seen_of b.me.0 })
+told_front a b table me = (λ i. record { cache = record { table = sym table i; terms = (sym me i).0.terms }; seen = seen_of (sym me i).0 })

@@ -1,0 +1,127 @@
+ghost use Rattle.std.specs.Prelude.{◌≡◌, ◌<◌, IsOk, IfOk, IfErr, OnErr, length};
+ghost use Rattle.tsc_shared.specs.Answers.{Accepts, Refuses, IsFull, Looks, Tells};
+ghost use Rattle.tsc_shared.specs.Seats.{FrontView};
+ghost use Rattle.tsc_shared.specs.declared.answers.AddFault.TheVariants.{HistoryFull};
+
+use crate::answers::{AddFault, Answer, Gone, LowWater, Receipt};
+use crate::board::{Desk, Held, Pending, Terms};
+use crate::desk::{give, give_back, take, tell};
+use crate::seat::{Front, Seat};
+use std::marker::Model;
+use std::snapshot::Snapshot;
+use std::sync::Wait;
+use tsc_cache::laws::can_be_added;
+use tsc_span::Span;
+use tsc_time::{NoMemory, Timestamp, Value};
+
+/// A timestamp cache that threads share.
+///
+/// Adders take turns: each takes the desk, works on the cache that lies there, and gives it back.
+#[derive(Drop)]
+pub struct SharedCache {
+    desk: Desk,
+    terms: Terms,
+}
+
+impl Model for SharedCache {
+    ghost use Rattle.std.specs.Prelude.{◌≡◌};
+    ghost use Rattle.tsc_shared.specs.Seats.{CacheName};
+
+    ghost Value = { CacheName };
+
+    ghost view = { λ c. record { table = c.desk.shared.table_id; terms = c.terms } };
+
+    ghost invariant = { λ c. (c.desk.shared.table_id.words ≡ 1) × (c.desk.shared.table_id.slots ≡ 1) × (c.desk.shared.key ≡ c.terms) };
+}
+
+impl SharedCache {
+    /// Adds a span with its value, at the moment `now`, behind all Adds of the history that is then the
+    /// newest, as [`Cache::add`](tsc_cache::Cache::add) does. An Add that the cache does not keep is an
+    /// entry of the history too.
+    ///
+    /// It waits for the desk. The history is full once it has as many Adds as the limit says.
+    pub fn add<R: Wait>(
+        &self,
+        rt: &R,
+        seat: &mut Seat,
+        span: &Span,
+        value: Value,
+        now: Timestamp,
+    ) -> Result<Receipt, AddFault>
+        requires cache { seat.old.cache ≡ self.now }
+        ensures accepted { IfOk result (λ receipt. Accepts seat.old seat.new span.now value now receipt) }
+        ensures seat { (seat.new.cache ≡ seat.old.cache) × (seat.new.number ≡ seat.old.number) }
+        ensures refused { OnErr result (Refuses seat.old seat.new) }
+        ensures full { IfErr result (λ fault. (front : FrontView) → fault ≡ HistoryFull front → IsFull seat.old seat.new front) }
+    {
+        let desk = &self.desk.shared;
+        let mut held = take(rt, desk, &mut seat.place, seat.number);
+        let place = held.length;
+        if place >= self.terms.limit {
+            seat.seen = give_back(desk, &mut seat.place, held);
+            return Err(AddFault::HistoryFull(tell(desk, &mut seat.place, seat.seen)));
+        }
+        let Ok(added) = held.cache.add(span, value, now) else {
+            seat.seen = give_back(desk, &mut seat.place, held);
+            return Err(AddFault::NoMemory);
+        };
+        can_be_added(span, value, now);
+        let pending = Pending {
+            span: Snapshot::of(span),
+            value,
+            now,
+        };
+        let held = Held {
+            length: place + 1,
+            pending: Some(pending),
+            ..held
+        };
+        give(desk, &mut seat.place, held);
+        seat.count += 1;
+        seat.seen = place + 1;
+        let front = tell(desk, &mut seat.place, seat.seen);
+        Ok(Receipt {
+            place,
+            added,
+            front,
+        })
+    }
+
+    /// What the floor, and each Add that overlaps the span, come to together, as
+    /// [`Cache::get_max`](tsc_cache::Cache::get_max) does, after all Adds of the history that is then the
+    /// newest.
+    ///
+    /// It waits for the desk.
+    pub fn get_max<R: Wait>(&self, rt: &R, seat: &mut Seat, span: &Span) -> Result<Answer, Gone>
+        requires cache { seat.old.cache ≡ self.now }
+        ensures answered { IsOk result }
+        ensures looked { IfOk result (λ answer. Looks seat.old seat.new span.now answer) }
+    {
+        let desk = &self.desk.shared;
+        let held = take(rt, desk, &mut seat.place, seat.number);
+        let value = held.cache.get_max(span);
+        seat.seen = give_back(desk, &mut seat.place, held);
+        Ok(Answer {
+            value,
+            front: seat.seen,
+        })
+    }
+
+    /// Where the floor stands after all Adds of the history that is then the newest.
+    ///
+    /// It waits for the desk.
+    pub fn low_water<R: Wait>(&self, rt: &R, seat: &mut Seat) -> Result<LowWater, Gone>
+        requires cache { seat.old.cache ≡ self.now }
+        ensures answered { IsOk result }
+        ensures told { IfOk result (λ answer. Tells seat.old seat.new answer) }
+    {
+        let desk = &self.desk.shared;
+        let held = take(rt, desk, &mut seat.place, seat.number);
+        let time = held.cache.low_water();
+        seat.seen = give_back(desk, &mut seat.place, held);
+        Ok(LowWater {
+            time,
+            front: seat.seen,
+        })
+    }
+}
