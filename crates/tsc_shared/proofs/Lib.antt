@@ -5,3 +5,4 @@ pub mod Taking
 pub mod Meeting
 pub mod Posts
 pub mod SeatSteps
+pub mod Endings

@@ -1,6 +1,9 @@
 -- Places that are divided and put together, and what a seat is told.
-use Rattle.std.proofs.Common.{◌≡◌, ◌≢◌, ◌⊎◌, ◌∙◌, inl, inr, refl, sym, ap, subst, Bool, true, false, ℕ, zero, suc, ◌+◌, ◌<◌, ◌≤◌, List, [], ◌∷◌, ◌++◌, length, set, append_assoc, append-nil, arith, slice_index}
-use Rattle.std.specs.Prelude.{Option, Some, None, nat_lt, ◌==◌}
+use Rattle.std.proofs.Common.{◌≡◌, ◌≢◌, ◌⊎◌, ◌∙◌, inl, inr, refl, sym, ap, subst, Bool, true, false, ℕ, zero, suc, ◌+◌, ◌-◌, ◌<◌, ◌≤◌, List, [], ◌∷◌, ◌++◌, length, set, append_assoc, append-nil, arith, slice_index}
+use Rattle.std.specs.Prelude.{Option, Some, None, nat_lt, ◌==◌, All, map, slice_index_or}
+use Rattle.std.proofs.lemmas.List.{length-append, length_push}
+use Rattle.tsc_shared.specs.Seats.{SeatView}
+use Rattle.tsc_shared.specs.Closing.{post_of}
 use Rattle.std.specs.List.{sum_by}
 use mathlib.Core.Option as maybe
 use mathlib.Core.Option.{some-injective, some-ne-none}
@@ -16,7 +19,7 @@ use Rattle.tsc_shared.specs.declared.board.View.{View}
 use Rattle.tsc_shared.specs.Desk.{post, keeping, one_if, Kept, ViewFits, PostFits, posts_of, holders, first_view, fresh_posts, IsAfter}
 use Rattle.tsc_shared.specs.DeskSteps.{seated, meets, longer, note, spent, first_post, other_posts, number_of, seen_of, count_of}
 use Rattle.tsc_shared.specs.Places.{IsAtRest}
-use Rattle.tsc_shared.proofs.Prefixes.{begins_itself, begins_empty, begins_on, own_between, legal_beginning, longer_begins}
+use Rattle.tsc_shared.proofs.Prefixes.{begins_itself, begins_empty, begins_on, begins_length, own_between, legal_beginning, longer_begins}
 use Rattle.tsc_shared.proofs.Totals.{part, two_parts, total_set}
 use Rattle.tsc_shared.proofs.DeskMoves.{of_one, Moved, moved_kept}
 use Rattle.tsc_shared.proofs.Taking.{word_stepped, false_is_no}
@@ -91,8 +94,8 @@ pub tell_splits : (terms : Terms) (id : ℕ) (t : Terms) (number : ℕ) (seen : 
 tell_splits terms id t number seen count s k at =
     let fits = k.views id (seated t number seen count false) at in
     split_kept terms s k id (seated t number seen count false) (seated t number seen count false) (note t seen) at fits
-      (note_fits terms k.history k.word t seen (fits.settled refl) (fits.posts 0 (post number seen count false) refl).begins)
-      (λ n. omega arith) (omega arith)
+    (note_fits terms k.history k.word t seen (fits.settled refl) (fits.posts 0 (post number seen count false) refl).begins)
+    (λ n. omega arith) (omega arith)
 
 -- it is handed to another seat
 pub inform_joins : (terms : Terms) (id : ℕ) (t : Terms) (number : ℕ) (seen : History) (count other : ℕ) (u : Terms) (told : History)
@@ -102,8 +105,8 @@ inform_joins terms id t number seen count other u told s k at apart at_other =
     let fits = k.views id v at in
     let there : get_elem? s.views other ≡ maybe.some (note u told) = sym (set_else s.views id other (informed t number seen count told) apart) ∙ at_other in
     join_kept terms s k id v other (note u told) (informed t number seen count told) at apart there
-      (record { settled = fits.settled; posts = fits.posts; told = (k.views other (note u told) there).told })
-      (λ n. omega arith) (omega arith)
+    (record { settled = fits.settled; posts = fits.posts; told = (k.views other (note u told) there).told })
+    (λ n. omega arith) (omega arith)
 
 -- and that one has seen the longer from then on
 pub meet_allowed : (terms : Terms) (st : Step (Option Held)) (id : ℕ) (t : Terms) (number : ℕ) (seen : History) (count : ℕ) (told : History)
@@ -132,7 +135,7 @@ meet_allowed terms st id t number seen count told s k deep at small =
       act_keeps,
       tt,
       word_stepped terms s k.word k.word (slice_index s.words 0) s.homes (set s.views id w) k.words found (moved_kept terms s k id v w k.history k.word s.homes moved),
-      (refl, long.0, long.1, rw same legal, own),
+      (refl, long.0, long.1, rw same legal, own, rw same (omega (arith, begins_length k.history (longer seen told) long.2, k.limit))),
     )
 
 -- the first post goes to a place of its own
@@ -140,15 +143,15 @@ pub deal_splits : (terms : Terms) (id : ℕ) (t : Terms) (p : Post) (ps : List P
 deal_splits terms id t p ps s k at =
     let fits = k.views id (keeping t (p ∷ ps)) at in
     split_kept terms s k id (keeping t (p ∷ ps)) (keeping t ps) (keeping t (p ∷ [])) at
-      (record { settled = fits.settled; posts = λ i q e. fits.posts (suc i) q e; told = fits.told })
-      (of_one t p (fits.settled refl) (fits.posts 0 p refl))
-      (λ n. omega (arith, sum_by-cons (λ (q : Post). one_if (q.number == n)) p ps))
-      (omega (arith, sum_by-cons (λ (q : Post). one_if q.holds) p ps))
+    (record { settled = fits.settled; posts = λ i q e. fits.posts (suc i) q e; told = fits.told })
+    (of_one t p (fits.settled refl) (fits.posts 0 p refl))
+    (λ n. omega (arith, sum_by-cons (λ (q : Post). one_if (q.number == n)) p ps))
+    (omega (arith, sum_by-cons (λ (q : Post). one_if q.holds) p ps))
 
 at_joined : (xs ys : List Post) (i : ℕ) (q : Post) → get_elem? (xs ++ ys) i ≡ maybe.some q → ((j : ℕ) × (get_elem? xs j ≡ maybe.some q)) ⊎ ((j : ℕ) × (get_elem? ys j ≡ maybe.some q))
 at_joined [] ys i q e = inr (i, e)
 at_joined (x ∷ xs) ys zero q e = inl (zero, e)
-at_joined (x ∷ xs) ys (suc i) q e = elim (at_joined xs ys i q e) [ | inl a ↦ inl (suc a.0, a.1) | inr b ↦ inr b ]
+at_joined (x ∷ xs) ys (suc i) q e = elim (at_joined xs ys i q e) [ inl a ↦ inl (suc a.0, a.1) | inr b ↦ inr b ]
 
 -- the posts of two places come together
 pub gather_joins : (terms : Terms) (id : ℕ) (t : Terms) (ps : List Post) (other : ℕ) (u : Terms) (qs : List Post)
@@ -158,10 +161,91 @@ gather_joins terms id t ps other u qs s k at apart at_other =
     let there : get_elem? s.views other ≡ maybe.some (keeping u qs) = sym (set_else s.views id other (keeping t (ps ++ qs)) apart) ∙ at_other in
     let theirs = k.views other (keeping u qs) there in
     join_kept terms s k id (keeping t ps) other (keeping u qs) (keeping t (ps ++ qs)) at apart there
-      (record { settled = fits.settled; posts = λ i q e. elim (at_joined ps qs i q e) [ | inl a ↦ fits.posts a.0 q a.1 | inr b ↦ theirs.posts b.0 q b.1 ]; told = fits.told })
-      (λ n. sum_by-append (λ (q : Post). one_if (q.number == n)) ps qs)
-      (sum_by-append (λ (q : Post). one_if q.holds) ps qs)
+    (record { settled = fits.settled; posts = λ i q e. elim (at_joined ps qs i q e) [ inl a ↦ fits.posts a.0 q a.1 | inr b ↦ theirs.posts b.0 q b.1 ]; told = fits.told })
+    (λ n. sum_by-append (λ (q : Post). one_if (q.number == n)) ps qs)
+    (sum_by-append (λ (q : Post). one_if q.holds) ps qs)
 
 -- the same, as the call has it
 pub tell_at : (key : Terms) (id : ℕ) (me : At) → IsAtRest me → Splits (Kept key) id me.0 me.0 (note me.0.terms (seen_of me.0))
 tell_at key id me rest = subst (λ (m : At). Splits (Kept key) id m.0 m.0 (note me.0.terms (seen_of me.0))) (sym rest) (tell_splits key id me.0.terms (number_of me.0) (seen_of me.0) (count_of me.0))
+
+-- the first of the posts that are left
+fresh_first : (number n : ℕ) → number < n → fresh_posts number (n - number) ≡ post number [] 0 false ∷ fresh_posts (number + 1) (n - (number + 1))
+fresh_first number n low =
+    let more : n - number ≡ suc (n - (number + 1)) = omega arith in
+    let next : suc number ≡ number + 1 = omega arith in
+    ap (fresh_posts number) more ∙ ap (λ (k : ℕ). post number [] 0 false ∷ fresh_posts k (n - (number + 1))) next
+
+-- a place that keeps those that are left
+abbrev pub left_over : Terms → ℕ → ℕ → At
+left_over t number n = (keeping t (fresh_posts number (n - number)), [])
+
+abbrev first_over : Terms → ℕ → ℕ → At
+first_over t number n = (keeping t (post number [] 0 false ∷ fresh_posts (number + 1) (n - (number + 1))), [])
+
+left_first : (me : At) (t : Terms) (number n : ℕ) → number < n → me ≡ left_over t number n → me ≡ first_over t number n
+left_first me t number n low is = is ∙ ap (λ (ps : List Post). (keeping t ps, [])) (fresh_first number n low)
+
+-- the first of them goes to a place of its own, as the call has it
+pub deal_at : (key : Terms) (id : ℕ) (me : At) (t : Terms) (number n : ℕ) → number < n → me ≡ left_over t number n
+    → Splits (Kept key) id me.0 (keeping me.0.terms (other_posts me.0.posts)) (keeping me.0.terms (first_post me.0.posts ∷ []))
+deal_at key id me t number n low is =
+    subst (λ (m : At). Splits (Kept key) id m.0 (keeping m.0.terms (other_posts m.0.posts)) (keeping m.0.terms (first_post m.0.posts ∷ []))) (sym (left_first me t number n low is))
+    (deal_splits key id t (post number [] 0 false) (fresh_posts (number + 1) (n - (number + 1))))
+
+-- what is left then
+pub left_then : (me me' : At) (t : Terms) (number n : ℕ) → number < n → me ≡ left_over t number n → me' ≡ (keeping me.0.terms (other_posts me.0.posts), me.1) → me' ≡ left_over t (number + 1) n
+left_then me me' t number n low is then' = then' ∙ ap (λ (m : At). (keeping m.0.terms (other_posts m.0.posts), m.1)) (left_first me t number n low is)
+
+-- and what the new place keeps
+pub dealt_then : (me me' : At) (t : Terms) (number n : ℕ) → number < n → me ≡ left_over t number n → me' ≡ (keeping me.0.terms (first_post me.0.posts ∷ []), []) → me' ≡ (seated t number [] 0 false, [])
+dealt_then me me' t number n low is then' = then' ∙ ap (λ (m : At). (keeping m.0.terms (first_post m.0.posts ∷ []), [])) (left_first me t number n low is)
+
+-- a note is handed over, as the call has it
+pub inform_at : (key : Terms) (id : ℕ) (me : At) (other : ℕ) (told : At) (u : Terms) (seen : History) → IsAtRest me → told.0 ≡ note u seen
+    → Joins (Kept key) id me.0 other told.0 (record me.0 { told = told.0.told }) spent
+inform_at key id me other told u seen rest is =
+    subst (λ (w : View). Joins (Kept key) id me.0 other w (record me.0 { told = w.told }) spent) (sym is)
+    (subst (λ (m : At). Joins (Kept key) id m.0 other (note u seen) (record m.0 { told = seen }) spent) (sym rest)
+    (inform_joins key id me.0.terms (number_of me.0) (seen_of me.0) (count_of me.0) other u seen))
+
+-- what was told is met, as the call has it
+pub meet_at : (key : Terms) (slots : ℕ) (st : Step (Option Held)) (id : ℕ) (me : At) (t : Terms) (number : ℕ) (seen : History) (count : ℕ) (told : History) → slots ≡ 1 → me ≡ (informed t number seen count told, [])
+    → Allows (Kept key) slots id me 0 (λ n. n) (meets st me)
+meet_at key slots st id me t number seen count told one is =
+    subst (λ (n : ℕ). Allows (Kept key) n id me 0 (λ n. n) (meets st me)) (sym one)
+    (subst (λ (m : At). Allows (Kept key) 1 id m 0 (λ n. n) (meets st m)) (sym is) (meet_allowed key st id t number seen count told))
+
+-- a seat's place that was told, as the call leaves it
+pub told_then : (me me' told : At) (u : Terms) (seen : History) → IsAtRest me → told ≡ (note u seen, []) → me' ≡ (record me.0 { told = told.0.told }, me.1) → me' ≡ (informed me.0.terms (number_of me.0) (seen_of me.0) (count_of me.0) seen, [])
+told_then me me' told u seen rest is then' = then' ∙ (λ i. (record (rest i).0 { told = (is i).0.told }, (rest i).1))
+
+-- and what it tells when it has met
+pub met_then : (st : Step (Option Held)) (found : ℕ) (me me' : At) (t : Terms) (number : ℕ) (seen : History) (count : ℕ) (told : History) → me ≡ (informed t number seen count told, []) → meets st me found me'
+    → meets st (informed t number seen count told, []) found me'
+met_then st found me me' t number seen count told is told' = subst (λ (m : At). meets st m found me') is told'
+
+-- two places come together, as the call has it
+pub gather_at : (key : Terms) (id : ℕ) (v : View) (other : ℕ) (w : View) (t u : Terms) (ps qs : List Post) → v ≡ keeping t ps → w ≡ keeping u qs
+    → Joins (Kept key) id v other w (keeping v.terms (v.posts ++ w.posts)) spent
+gather_at key id v other w t u ps qs is iw =
+    subst (λ (x : View). Joins (Kept key) id x other w (keeping x.terms (x.posts ++ w.posts)) spent) (sym is)
+    (subst (λ (y : View). Joins (Kept key) id (keeping t ps) other y (keeping t (ps ++ y.posts)) spent) (sym iw) (gather_joins key id t ps other u qs))
+
+get_middle : {X : Type 0} (xs ys : List X) (x : X) → slice_index_or ((xs ++ x ∷ []) ++ ys) (length xs) x ≡ x
+get_middle [] ys x = refl
+get_middle (y ∷ xs) ys x = get_middle xs ys x
+
+-- what holds of all holds of one among them
+pub all_middle : {X : Type 0} (P : X → Type 0) (xs ys zs ws : List X) (x : X) → zs ≡ ws ++ ys → ws ≡ xs ++ x ∷ [] → All P zs → P x
+all_middle P xs ys zs ws x is whole all =
+    let same : zs ≡ (xs ++ x ∷ []) ++ ys = is ∙ ap (λ v. v ++ ys) whole in
+    subst P (ap (λ v. slice_index_or v (length xs) x) same ∙ get_middle xs ys x)
+    (all (length xs) x (omega (arith, ap length same, length-append (xs ++ x ∷ []) ys, length_push xs x)))
+
+-- a seat's post comes to the others
+pub gathered_then : (me me' all : At) (seat : SeatView) (taken : List SeatView) → IsAtRest me → post (number_of me.0) (seen_of me.0) (count_of me.0) false ≡ post_of seat
+    → all ≡ (keeping all.0.terms (map post_of taken), []) → me' ≡ (keeping me.0.terms (me.0.posts ++ all.0.posts), me.1) → me' ≡ (keeping me'.0.terms (map post_of (seat ∷ taken)), [])
+gathered_then me me' all seat taken rest same alls then' =
+    let terms : me'.0.terms ≡ me.0.terms = ap (λ m. m.0.terms) then' in
+    then' ∙ (λ i. (keeping (sym terms i) ((rest i).0.posts ++ (alls i).0.posts), (rest i).1)) ∙ ap (λ (p : Post). (keeping me'.0.terms (p ∷ map post_of taken), [])) same

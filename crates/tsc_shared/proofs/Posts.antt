@@ -83,6 +83,7 @@ opening_kept terms held stands none = record {
       told = begins_empty [];
     })
     at (suc id) v e = absurd (some-ne-none v (sym e))
+
     by_number : (number : ℕ) (t : Bool) → nat_lt number terms.seats ≡ t → of_seat number (fresh_posts 0 terms.seats) ≡ one_if (nat_lt number terms.seats)
     by_number number true is = fresh_among 0 terms.seats number (omega arith) (grind (arith, nat_tests)) ∙ sym (ap one_if is)
     by_number number false is = fresh_after 0 terms.seats number (grind (arith, nat_tests)) ∙ sym (ap one_if is)
@@ -119,8 +120,13 @@ below_zero (suc n) = omega (arith, below_zero n)
 counts_all : (n : ℕ) (ps : List Post) → ((i : ℕ) (p : Post) → get_elem? ps i ≡ maybe.some p → p.number < n) → below n (λ m. of_seat m ps) ≡ length ps
 counts_all n [] low = below_zero n
 counts_all n (p ∷ ps) low =
-    omega (arith, below_same n (λ m. of_seat m (p ∷ ps)) (λ m. one_if (p.number == m) + of_seat m ps) (λ m. sum_by-cons (λ (q : Post). one_if (q.number == m)) p ps),
-      below_add n (λ m. one_if (p.number == m)) (λ m. of_seat m ps), below_one n p.number (low 0 p refl), counts_all n ps (λ i q e. low (suc i) q e))
+    omega (
+      arith,
+      below_same n (λ m. of_seat m (p ∷ ps)) (λ m. one_if (p.number == m) + of_seat m ps) (λ m. sum_by-cons (λ (q : Post). one_if (q.number == m)) p ps),
+      below_add n (λ m. one_if (p.number == m)) (λ m. of_seat m ps),
+      below_one n p.number (low 0 p refl),
+      counts_all n ps (λ i q e. low (suc i) q e),
+    )
 
 below_bound : (n : ℕ) (f : ℕ → ℕ) → ((m : ℕ) → f m ≤ 1) → below n f ≤ n
 below_bound zero f one = omega arith
@@ -157,6 +163,7 @@ nobody_holds terms s k id v at none long = by_word k.word refl
   where
     low : (u : View) (j : ℕ) → get_elem? s.views j ≡ maybe.some u → (i : ℕ) (p : Post) → get_elem? u.posts i ≡ maybe.some p → p.number < terms.seats
     low u j e i p e' = grind (arith, nat_tests, k.each p.number, part (posts_of p.number) s.views j u e, part (λ (q : Post). one_if (q.number == p.number)) u.posts i p e', ap one_if (same_number p.number p.number refl))
+
     by_word : (w : ℕ) → k.word ≡ w → k.word ≡ 0
     by_word zero is = is
     by_word (suc w) is =

@@ -1,5 +1,5 @@
 -- What becomes of a seat that took the desk and gave it back.
-use Rattle.std.proofs.Common.{◌≡◌, ◌∙◌, refl, sym, ap, subst, true, false, ℕ, suc, ◌+◌, ◌<◌, ◌≤◌, List, [], ◌∷◌, ◌++◌, length, append-nil, arith}
+use Rattle.std.proofs.Common.{◌≡◌, ◌∙◌, refl, sym, ap, subst, true, false, ℕ, suc, ◌+◌, ◌-◌, ◌<◌, ◌≤◌, List, [], ◌∷◌, ◌++◌, length, append-nil, append_assoc, arith}
 use Rattle.std.specs.Prelude.{Option, Some, None}
 use Rattle.std.proofs.lemmas.List.{length_push}
 use Rattle.atomic_table.specs.Table.{Me}
@@ -19,13 +19,14 @@ use Rattle.tsc_shared.specs.declared.board.Held.{Held}
 use Rattle.tsc_shared.specs.declared.board.View.{View}
 use Rattle.tsc_shared.specs.Desk.{IsAfter}
 use Rattle.tsc_shared.specs.DeskSteps.{seated, given, entry_of, Holds, number_of, seen_of, count_of}
-use Rattle.tsc_shared.specs.Seats.{SeatView, FrontView, IsSeat, IsFront}
+use Rattle.atomic_table.specs.Seated.{TableId}
+use Rattle.tsc_shared.specs.Seats.{CacheName, SeatView, FrontView, IsSeat, IsFront, new_seat, new_seats}
 use Rattle.tsc_shared.specs.Places.{name_of, seat_view, front_view, IsAtRest}
 use Rattle.tsc_shared.specs.declared.answers.Answer.{Answer}
 use Rattle.tsc_shared.specs.declared.answers.LowWater.{LowWater}
 use Rattle.tsc_shared.specs.declared.answers.Receipt.{Receipt}
 use Rattle.tsc_shared.specs.Answers.{GoesOn, Looks, Tells, Accepts, entry_by}
-use Rattle.tsc_shared.proofs.Prefixes.{begins_on, begins_more, legal_push, own_append, own_of_one}
+use Rattle.tsc_shared.proofs.Prefixes.{begins_on, begins_more, legal_push, own_append, own_of_one, legal_empty}
 
 abbrev Place : Type 0
 Place = TableSeat (Option Held) View
@@ -85,10 +86,10 @@ pub rests_added : (old new : Place) (w : View) (held : Held) (p : Pending) → I
 rests_added old new w held p seat h table is made room =
     let e : Entry = entry_of (number_of old.me.0) (count_of old.me.0) p in
     rests old new (h.history ++ e ∷ []) (count_of old.me.0 + 1) table (is ∙ ap (λ (v : View). (given v (Some p), [])) h.after) seat.number
-      (legal_push old.me.0.terms.seats h.history e h.legal (record { seat = seat.number; number = sym h.own; made = made (number_of old.me.0) (count_of old.me.0) }))
-      (omega (arith, own_append (number_of old.me.0) h.history (e ∷ []), own_of_one (number_of old.me.0) e refl, h.own))
-      (omega (arith, length_push h.history e, room))
-      (begins_on (h.history ++ e ∷ []) h.history (seen_of old.me.0) (begins_more h.history (e ∷ [])) h.begins)
+    (legal_push old.me.0.terms.seats h.history e h.legal (record { seat = seat.number; number = sym h.own; made = made (number_of old.me.0) (count_of old.me.0) }))
+    (omega (arith, own_append (number_of old.me.0) h.history (e ∷ []), own_of_one (number_of old.me.0) e refl, h.own))
+    (omega (arith, length_push h.history e, room))
+    (begins_on (h.history ++ e ∷ []) h.history (seen_of old.me.0) (begins_more h.history (e ∷ [])) h.begins)
 
 -- so long is what it has seen then
 pub length_back : (new : Place) (w : View) (length' : ℕ) → new.me ≡ (seated w.terms (number_of w) (seen_of w) (count_of w) false, []) → length' ≡ length (seen_of w) → length' ≡ length (seen_of new.me.0)
@@ -144,9 +145,9 @@ pub accepted_at : (old new : Place) (w : View) (held : Held) (p : Pending) (span
     → Accepts (seat_view old) (seat_view new) span p.value p.now receipt
 accepted_at old new w held p span receipt same seat h table is =
     subst (λ (x : Interval). CanBeAdded x p.value p.now → length h.history < old.me.0.terms.limit → receipt.place ≡ held.length
-      → ((settings : Settings) (s : CacheState) → StandsForState held.cache settings s → receipt.added ≡ (step settings s (record { span = x; value = p.value }) p.now).added)
-      → receipt.front ≡ record { cache = name_of new; seen = seen_of new.me.0 }
-      → Accepts (seat_view old) (seat_view new) x p.value p.now receipt) same (λ made room place added front. accepted old new w held p receipt seat h table is made room place added front)
+    → ((settings : Settings) (s : CacheState) → StandsForState held.cache settings s → receipt.added ≡ (step settings s (record { span = x; value = p.value }) p.now).added)
+    → receipt.front ≡ record { cache = name_of new; seen = seen_of new.me.0 }
+    → Accepts (seat_view old) (seat_view new) x p.value p.now receipt) same (λ made room place added front. accepted old new w held p receipt seat h table is made room place added front)
 
 -- what the holder of the desk has seen is what lies there
 pub held_after : (v w : View) (held : Held) → (h : Holds v w held) → IsAfter w.terms (seen_of w) held
@@ -171,3 +172,44 @@ length_added old new w held e count h r = omega (arith, h.is_after.length, ap le
 -- what was told of a place, where only a note was split from it
 pub told_front : (a b : Place) → b.table_id ≡ a.table_id → b.me ≡ a.me → ◌≡◌ {A = FrontView} (record { cache = name_of a; seen = seen_of a.me.0 }) (record { cache = name_of b; seen = seen_of b.me.0 })
 told_front a b table me = (λ i. record { cache = record { table = sym table i; terms = (sym me i).0.terms }; seen = seen_of (sym me i).0 })
+
+-- a seat that nobody has used
+pub new_rests : (p : Place) (t : Terms) (number : ℕ) → p.me ≡ (seated t number [] 0 false, []) → number < t.seats
+    → IsAtRest p.me × (number ≡ number_of p.me.0) × (0 ≡ count_of p.me.0) × (0 ≡ length (seen_of p.me.0)) × IsSeat (seat_view p)
+new_rests p t number is low =
+    let terms : p.me.0.terms ≡ t = ap (λ m. m.0.terms) is in
+    let seen : seen_of p.me.0 ≡ [] = ap (λ m. seen_of m.0) is in
+    let num : number_of p.me.0 ≡ number = ap (λ m. number_of m.0) is in
+    let cnt : count_of p.me.0 ≡ 0 = ap (λ m. count_of m.0) is in (
+      is ∙ (λ i. (seated (sym terms i) (sym num i) (sym seen i) (sym cnt i) false, [])),
+      sym num,
+      sym cnt,
+      omega (arith, ap length seen),
+      record {
+        number = rw (num, terms) low;
+        legal = rw (terms, seen) (legal_empty t.seats);
+        own = rw (num, seen, cnt) refl;
+        limit = rw (terms, seen) (omega arith);
+      },
+    )
+
+-- is as new
+pub new_view : (p : Place) (t : Terms) (table : TableId) (number : ℕ) → p.table_id ≡ table → p.me ≡ (seated t number [] 0 false, []) → seat_view p ≡ new_seat (record { table = table; terms = t }) number
+new_view p t table number same is = (λ i. record { cache = record { table = same i; terms = (is i).0.terms }; number = number_of (is i).0; count = count_of (is i).0; seen = seen_of (is i).0 })
+
+-- the next of the seats that are to be made
+pub new_seats_first : (cache : CacheName) (number n : ℕ) → number < n → new_seats cache number (n - number) ≡ new_seat cache number ∷ new_seats cache (number + 1) (n - (number + 1))
+new_seats_first cache number n low =
+    let more : n - number ≡ suc (n - (number + 1)) = omega arith in
+    let next : suc number ≡ number + 1 = omega arith in
+    ap (new_seats cache number) more ∙ ap (λ (k : ℕ). new_seat cache number ∷ new_seats cache k (n - (number + 1))) next
+
+pub new_seats_more : (cache : CacheName) (number n : ℕ) (xs ys all : List SeatView) (seat : SeatView) → number < n → xs ++ new_seats cache number (n - number) ≡ all → seat ≡ new_seat cache number → ys ≡ xs ++ seat ∷ []
+    → ys ++ new_seats cache (number + 1) (n - (number + 1)) ≡ all
+new_seats_more cache number n xs ys all seat low so_far is pushed =
+    rw (pushed, is, append_assoc xs (new_seat cache number ∷ []) (new_seats cache (number + 1) (n - (number + 1))), ← new_seats_first cache number n low) so_far
+
+pub new_seats_done : (cache : CacheName) (number n : ℕ) (xs all : List SeatView) → n ≤ number → xs ++ new_seats cache number (n - number) ≡ all → xs ≡ all
+new_seats_done cache number n xs all high so_far =
+    let none : n - number ≡ 0 = omega arith in
+    sym (append-nil xs) ∙ ap (λ (k : ℕ). xs ++ new_seats cache number k) (sym none) ∙ so_far

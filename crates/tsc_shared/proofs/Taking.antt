@@ -113,7 +113,7 @@ module _ (terms : Terms) (st : Step (Option Held)) (id : ℕ) (t : Terms) (numbe
   pub take_allowed : Allows (Kept terms) 1 id (seated t number seen count false, []) 0 (λ n. either (n == 0) (number + 1) n) (takes st (seated t number seen count false, []))
   take_allowed s k deep at small =
       let found : k.word ≡ slice_index s.words 0 = sym (ap (λ (ws : List ℕ). slice_index ws 0) k.words) in
-      subst (Goes s (λ n. either (n == 0) (number + 1) n)) found (elim (zero_or_not k.word) [ | inl free ↦ take_free s k at free | inr held ↦ take_held s k at held ])
+      subst (Goes s (λ n. either (n == 0) (number + 1) n)) found (elim (zero_or_not k.word) [ inl free ↦ take_free s k at free | inr held ↦ take_held s k at held ])
     where
       zero_or_not : (n : ℕ) → (n ≡ 0) ⊎ (n ≢ 0)
       zero_or_not zero = inl refl
@@ -160,10 +160,10 @@ module _ (terms : Terms) (st : Step (Option Held)) (id : ℕ) (t : Terms) (numbe
         fits = of_one t (post number (h ++ es) (count + length es) false) same (record { begins = begins_itself (h ++ es); own = own_all; own_seen = own_all; holding = λ e. absurd (false_is_no e) });
         others = λ other u apart e. subst (λ (x : History). ViewFits terms (x ++ es) 0 u) (sym all)
             (more_of_another terms k.history es k.word number u
-              (omega (arith, one, two_parts holders s.views id other v u (λ is. apart (sym is)) at e))
-              (omega (arith, k.each number, at_most_one (nat_lt number terms.seats), its_own, two_parts (posts_of number) s.views id other v u (λ is. apart (sym is)) at e))
-              (new_of_none_else number count held.pending)
-              (k.views other u e));
+            (omega (arith, one, two_parts holders s.views id other v u (λ is. apart (sym is)) at e))
+            (omega (arith, k.each number, at_most_one (nat_lt number terms.seats), its_own, two_parts (posts_of number) s.views id other v u (λ is. apart (sym is)) at e))
+            (new_of_none_else number count held.pending)
+            (k.views other u e));
         each = λ _. refl;
         one = omega (arith, one);
         free = λ _. (held, only_home s.homes (maybe.some (Some held)) deep, subst (λ (x : Terms). IsAfter x (h ++ es) held) same after);

@@ -1,5 +1,5 @@
 -- What each call of a shared cache answers, and what its seat has seen then.
-use Rattle.std.specs.Prelude.{◌≡◌, ℕ, suc, ◌+◌, ◌<◌, List, [], ◌∷◌, ◌++◌, map, length, All}
+use Rattle.std.specs.Prelude.{◌≡◌, ℕ, suc, ◌+◌, ◌<◌, List, [], ◌∷◌, ◌++◌, length, All, true, if◌then◌else◌}
 use Rattle.std.specs.List.{Contains}
 use Rattle.tsc_time.specs.Time.{Time, is_before}
 use Rattle.tsc_time.specs.OwnedTime.{OwnedTime}
@@ -9,11 +9,24 @@ use Rattle.tsc_cache.specs.State.{step, look}
 use Rattle.tsc_cache.specs.CacheView.{StandsForState}
 use Rattle.tsc_cache.specs.declared.history.Entry.{Entry}
 use Rattle.tsc_cache.specs.History.{History, mark_of, own_count, state_of, entries_on, BeginsWith, IsLegal}
+use Rattle.tsc_shared.specs.declared.answers.OpenFault.{OpenFault}
+use Rattle.tsc_shared.specs.declared.answers.OpenFault.TheVariants.{NoMemory, Seats}
 use Rattle.tsc_shared.specs.declared.answers.Receipt.{Receipt}
 use Rattle.tsc_shared.specs.declared.answers.Answer.{Answer}
 use Rattle.tsc_shared.specs.declared.answers.LowWater.{LowWater}
 use Rattle.tsc_shared.specs.declared.answers.Closed.{Closed}
-use Rattle.tsc_shared.specs.Seats.{CacheName, SeatView, FrontView}
+use Rattle.tsc_shared.specs.declared.board.Terms.{Terms}
+use Rattle.tsc_shared.specs.Seats.{CacheName, SeatView, FrontView, new_seats, is_seat_count}
+
+-- A cache is opened under these terms, with that many seats, which nobody has used.
+pub record Opens (terms : Terms) (cache : CacheName) (seats : List SeatView) : Type 0 where
+  pub terms_kept : cache.terms ≡ terms
+  pub count : is_seat_count terms.seats ≡ true
+  pub seats_in_order : seats ≡ new_seats cache 0 terms.seats
+
+-- why no cache is opened: there may not be so many seats, or else memory was refused
+abbrev pub open_fault : ℕ → OpenFault
+open_fault seats = if is_seat_count seats then NoMemory else Seats
 
 -- the entry that a seat's next Add makes
 abbrev pub entry_by : SeatView → Interval → OwnedTime → Time → Entry

@@ -97,3 +97,4 @@ abbrev pub meets : Step (Option Held) → At → ℕ → At → Type 0
 meets st me found me' = (me' ≡ (seated me.0.terms (number_of me.0) (longer (seen_of me.0) me.0.told) (count_of me.0) false, []))
     × BeginsWith (longer (seen_of me.0) me.0.told) (seen_of me.0) × BeginsWith (longer (seen_of me.0) me.0.told) me.0.told
     × IsLegal me.0.terms.seats (longer (seen_of me.0) me.0.told) × (own_count (number_of me.0) (longer (seen_of me.0) me.0.told) ≡ count_of me.0)
+    × (length (longer (seen_of me.0) me.0.told) ≤ me.0.terms.limit)

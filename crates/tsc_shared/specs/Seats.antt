@@ -1,5 +1,5 @@
 -- What can be seen of a shared cache, of its seats, and of what was told of its history.
-use Rattle.std.specs.Prelude.{◌≡◌, ℕ, ◌<◌, ◌≤◌, [], length}
+use Rattle.std.specs.Prelude.{◌≡◌, ℕ, zero, suc, ◌<◌, ◌≤◌, ◌&&◌, nat_le, Bool, List, [], ◌∷◌, length}
 use Rattle.atomic_table.specs.Seated.{TableId}
 use Rattle.tsc_cache.specs.History.{History, own_count, IsLegal}
 use Rattle.tsc_shared.specs.declared.board.Terms.{Terms}
@@ -36,3 +36,12 @@ pub record IsFront (f : FrontView) : Type 0 where
 -- a seat that nobody has used yet
 abbrev pub new_seat : CacheName → ℕ → SeatView
 new_seat cache number = record { cache = cache; number = number; count = 0; seen = [] }
+
+-- seats that nobody has used, in the order of their numbers, from one on
+abbrev pub new_seats : CacheName → ℕ → ℕ → List SeatView
+new_seats cache number zero = []
+new_seats cache number (suc others) = new_seat cache number ∷ new_seats cache (suc number) others
+
+-- whether a cache may have so many seats
+abbrev pub is_seat_count : ℕ → Bool
+is_seat_count n = nat_le 1 n && nat_le n 64

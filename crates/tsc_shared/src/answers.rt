@@ -1,6 +1,4 @@
-use crate::Front;
-use crate::SharedCache;
-use crate::Seat;
+use crate::{Front, Seat, SharedCache};
 use thiserror::Error;
 use tsc_cache::{Added, Cache};
 use tsc_time::{NoMemory, Timestamp, Value};

@@ -1,14 +1,16 @@
 //! The timestamp cache, shared by threads.
 #![tactic(auto)]
 
-mod board;
 mod answers;
+mod board;
+mod closing;
 mod desk;
+mod opening;
 mod seat;
 mod shared;
 mod steps;
 
-pub use board::Terms;
 pub use answers::{AddFault, Answer, Closed, Gone, LowWater, OpenFault, Receipt, StillOut};
-pub use shared::SharedCache;
+pub use board::Terms;
 pub use seat::{Front, Seat};
+pub use shared::SharedCache;

@@ -1,15 +1,19 @@
-ghost use Rattle.std.specs.Prelude.{◌≡◌, ◌<◌, IsOk, IfOk, IfErr, OnErr, length};
-ghost use Rattle.tsc_shared.specs.Answers.{Accepts, Refuses, IsFull, Looks, Tells};
+ghost use Rattle.std.specs.Prelude.{◌≡◌, ◌<◌, IsOk, IfOk, IfErr, OnErr, All, length, ◌↔◌};
+ghost use Rattle.tsc_shared.specs.Answers.{Opens, open_fault, Accepts, Refuses, IsFull, Looks, Tells, Meets, Closes};
 ghost use Rattle.tsc_shared.specs.Seats.{FrontView};
 ghost use Rattle.tsc_shared.specs.declared.answers.AddFault.TheVariants.{HistoryFull};
 
-use crate::answers::{AddFault, Answer, Gone, LowWater, Receipt};
+use crate::answers::{AddFault, Answer, Closed, Gone, LowWater, OpenFault, Receipt, StillOut};
 use crate::board::{Desk, Held, Pending, Terms};
+use crate::closing::{clear, gather, inform};
 use crate::desk::{give, give_back, take, tell};
-use crate::seat::{Front, Seat};
+use crate::opening::{new_desk, seat_all};
+use crate::seat::Seat;
+use std::alloc::Global;
 use std::marker::Model;
 use std::snapshot::Snapshot;
 use std::sync::Wait;
+use tsc_cache::Config;
 use tsc_cache::laws::can_be_added;
 use tsc_span::Span;
 use tsc_time::{NoMemory, Timestamp, Value};
@@ -24,17 +28,46 @@ pub struct SharedCache {
 }
 
 impl Model for SharedCache {
-    ghost use Rattle.std.specs.Prelude.{◌≡◌};
+    ghost use Rattle.std.specs.Prelude.{◌≡◌, ◌≤◌};
     ghost use Rattle.tsc_shared.specs.Seats.{CacheName};
 
     ghost Value = { CacheName };
 
     ghost view = { λ c. record { table = c.desk.shared.table_id; terms = c.terms } };
 
-    ghost invariant = { λ c. (c.desk.shared.table_id.words ≡ 1) × (c.desk.shared.table_id.slots ≡ 1) × (c.desk.shared.key ≡ c.terms) };
+    ghost invariant = { λ c. (c.desk.shared.table_id.words ≡ 1) × (c.desk.shared.table_id.slots ≡ 1) × (c.desk.shared.key ≡ c.terms) × (1 ≤ c.terms.seats) };
 }
 
+/// How many seats a cache may have at the most.
+pub const MOST_SEATS: u32 = 64;
+
 impl SharedCache {
+    /// A cache to which nothing was added, and its seats, which are numbered from 0. Its history may have as
+    /// many Adds as `history_limit` says.
+    ///
+    /// It takes the memory of one empty page, of the desk and of the seats.
+    pub fn open(
+        alloc: Global,
+        config: Config,
+        seats: u32,
+        history_limit: u64,
+    ) -> Result<(SharedCache, Vec<Seat>), OpenFault>
+        ensures opened { IfOk result (λ opened. Opens (record { config = config; seats = seats; limit = history_limit }) opened.0 opened.1.items) }
+        ensures refused { IfErr result (λ fault. fault ≡ open_fault seats) }
+    {
+        if !(1..=MOST_SEATS).contains(&seats) {
+            return Err(OpenFault::Seats);
+        }
+        let terms = Terms {
+            config,
+            seats,
+            limit: history_limit,
+        };
+        let (desk, all) = new_desk(alloc, &terms)?;
+        let seats = seat_all(alloc, &desk.shared, all, &terms)?;
+        Ok((SharedCache { desk, terms }, seats))
+    }
+
     /// Adds a span with its value, at the moment `now`, behind all Adds of the history that is then the
     /// newest, as [`Cache::add`](tsc_cache::Cache::add) does. An Add that the cache does not keep is an
     /// entry of the history too.
@@ -122,6 +155,45 @@ impl SharedCache {
         Ok(LowWater {
             time,
             front: seat.seen,
+        })
+    }
+
+    /// Has two seats meet: both have then seen one history, which begins with what each had seen. Its
+    /// length is the answer.
+    pub fn meet<R: Wait>(&self, _rt: &R, first: &mut Seat, second: &mut Seat) -> Result<u64, Gone>
+        requires first { first.old.cache ≡ self.now }
+        requires second { second.old.cache ≡ self.now }
+        ensures answered { IsOk result }
+        ensures met { IfOk result (λ met. Meets first.old second.old first.new second.new met) }
+    {
+        let desk = &self.desk.shared;
+        inform(desk, &mut first.place, &mut second.place);
+        inform(desk, &mut second.place, &mut first.place);
+        let met = first.seen.max(second.seen);
+        first.seen = met;
+        second.seen = met;
+        Ok(met)
+    }
+
+    /// Ends the cache where all its seats are handed in, and gives what it holds. Where some are missing it
+    /// hands all back.
+    pub fn close<R: Wait>(self, _rt: &R, seats: Vec<Seat>) -> Result<Closed, StillOut>
+        requires seats { All (λ seat. seat.cache ≡ self) seats.items }
+        ensures closed { IfOk result (λ closed. Closes self seats.items closed) }
+        ensures exactly { IsOk result ↔ (length seats.items ≡ self.terms.seats) }
+        ensures still_out { IfErr result (λ out. (out.cache ≡ self) × (out.seats.items ≡ seats.items)) }
+    {
+        if seats.len() != self.terms.seats as usize {
+            return Err(StillOut { cache: self, seats });
+        }
+        let SharedCache { desk, terms: _ } = self;
+        let Some(all) = gather(&desk.shared, seats) else {
+            unreachable!()
+        };
+        let held = clear(desk, all);
+        Ok(Closed {
+            cache: held.cache,
+            adds: held.length,
         })
     }
 }

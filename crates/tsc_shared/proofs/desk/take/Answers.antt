@@ -13,7 +13,7 @@ compare_exchange-requires g c =
       c.loop.invariant.2 ∙ c.requires.place.table,
       omega (arith, c.requires.place.words),
       take_at c.args.desk.now.key c.args.desk.now.table_id.slots (step c.args.desk.now.table_id.slots 0 0 (c.from.result + 1) maybe.none) c.loop.place.id c.from.result c.loop.place.me
-        c.requires.place.slots (subst IsAtRest (sym same) c.requires.rest) (c.from.ensures ∙ c.requires.number ∙ ap (λ m. number_of m.0) (sym same)),
+          c.requires.place.slots (subst IsAtRest (sym same) c.requires.rest) (c.from.ensures ∙ c.requires.number ∙ ap (λ m. number_of m.0) (sym same)),
     )
 
 -- src/desk.rt:24:30

@@ -47,16 +47,16 @@ give-requires-clause-made g c = subst (λ span. CanBeAdded span c.args.value c.a
 pub give-requires-clause-after : goal.give-requires-clause-after
 give-requires-clause-after g c =
     laid_after c.seat.inside.place.me.0 c.take-held.new.place.me.0 c.take-held.result
-      (record { cache = c.add.new.self; length = c.take-held.result.length + 1; pending = Some (record { span = c.of.result; value = c.args.value; now = c.args.now }) })
-      (record { span = c.of.result; value = c.args.value; now = c.args.now }) c.args.span.now c.of.ensures c.take-held.ensures.held c.in-Ok.ensures.stands refl
+    (record { cache = c.add.new.self; length = c.take-held.result.length + 1; pending = Some (record { span = c.of.result; value = c.args.value; now = c.args.now }) })
+    (record { span = c.of.result; value = c.args.value; now = c.args.now }) c.args.span.now c.of.ensures c.take-held.ensures.held c.in-Ok.ensures.stands refl
 
 -- src/shared.rt:82:13
 pub tell-front-requires-clause-front : goal.tell-front-requires-clause-front
 tell-front-requires-clause-front g c =
     let same = ap (λ s. s.cache.terms) c.seat.view_is ∙ ap (λ n. n.terms) (c.requires.cache ∙ sym c.self.view_is) in
     (rests_added c.seat.inside.place c.give.new.place c.take-held.new.place.me.0 c.take-held.result (record { span = c.of.result; value = c.args.value; now = c.args.now }) c.seat.invariant.4 c.take-held.ensures.held
-      (c.give.ensures.table ∙ c.take-held.ensures.table) c.give.ensures.given (subst (λ span. CanBeAdded span c.args.value c.args.now) (sym c.of.ensures) c.can_be_added.ensures)
-      (had_room c.seat.inside.place.me.0 c.take-held.new.place.me.0 c.take-held.result c.self.inside.terms c.take-held.ensures.held same c.if-place-self.false)).front
+    (c.give.ensures.table ∙ c.take-held.ensures.table) c.give.ensures.given (subst (λ span. CanBeAdded span c.args.value c.args.now) (sym c.of.ensures) c.can_be_added.ensures)
+    (had_room c.seat.inside.place.me.0 c.take-held.new.place.me.0 c.take-held.result c.self.inside.terms c.take-held.ensures.held same c.if-place-self.false)).front
 
 -- src/shared.rt:43:5
 pub invariant_of-seat-2 : goal.invariant_of-seat-2
@@ -64,8 +64,8 @@ invariant_of-seat-2 g c =
     let same = ap (λ s. s.cache.terms) c.seat.view_is ∙ ap (λ n. n.terms) (c.requires.cache ∙ sym c.self.view_is) in
     let p : Pending = record { span = c.of.result; value = c.args.value; now = c.args.now } in
     let r = rests_added c.seat.inside.place c.tell-front.new.place c.take-held.new.place.me.0 c.take-held.result p c.seat.invariant.4 c.take-held.ensures.held
-      (c.tell-front.ensures.place.0 ∙ c.give.ensures.table ∙ c.take-held.ensures.table) (c.tell-front.ensures.place.1 ∙ c.give.ensures.given) (subst (λ span. CanBeAdded span c.args.value c.args.now) (sym c.of.ensures) c.can_be_added.ensures)
-      (had_room c.seat.inside.place.me.0 c.take-held.new.place.me.0 c.take-held.result c.self.inside.terms c.take-held.ensures.held same c.if-place-self.false) in (
+    (c.tell-front.ensures.place.0 ∙ c.give.ensures.table ∙ c.take-held.ensures.table) (c.tell-front.ensures.place.1 ∙ c.give.ensures.given) (subst (λ span. CanBeAdded span c.args.value c.args.now) (sym c.of.ensures) c.can_be_added.ensures)
+    (had_room c.seat.inside.place.me.0 c.take-held.new.place.me.0 c.take-held.result c.self.inside.terms c.take-held.ensures.held same c.if-place-self.false) in (
       r.rest,
       c.seat.invariant.1 ∙ sym r.number,
       ap (λ n. n + 1) c.seat.invariant.2 ∙ sym r.counted,
@@ -80,7 +80,7 @@ returns-clause-accepted g c =
     let receipt : Receipt = record { place = c.take-held.result.length; added = c.in-Ok.added; front = c.tell-front.result } in
     subst (λ old. Accepts old (seat_view c.tell-front.new.place) c.args.span.now c.args.value c.args.now receipt) c.seat.view_is
     (accepted_at c.seat.inside.place c.tell-front.new.place c.take-held.new.place.me.0 c.take-held.result (record { span = c.of.result; value = c.args.value; now = c.args.now }) c.args.span.now receipt
-      c.of.ensures c.seat.invariant.4 c.take-held.ensures.held
-      (c.tell-front.ensures.place.0 ∙ c.give.ensures.table ∙ c.take-held.ensures.table) (c.tell-front.ensures.place.1 ∙ c.give.ensures.given) c.can_be_added.ensures
-      (had_room c.seat.inside.place.me.0 c.take-held.new.place.me.0 c.take-held.result c.self.inside.terms c.take-held.ensures.held same c.if-place-self.false)
-      refl c.in-Ok.ensures.added (c.tell-front.ensures.front ∙ told_front c.give.new.place c.tell-front.new.place c.tell-front.ensures.place.0 c.tell-front.ensures.place.1))
+    c.of.ensures c.seat.invariant.4 c.take-held.ensures.held
+    (c.tell-front.ensures.place.0 ∙ c.give.ensures.table ∙ c.take-held.ensures.table) (c.tell-front.ensures.place.1 ∙ c.give.ensures.given) c.can_be_added.ensures
+    (had_room c.seat.inside.place.me.0 c.take-held.new.place.me.0 c.take-held.result c.self.inside.terms c.take-held.ensures.held same c.if-place-self.false)
+    refl c.in-Ok.ensures.added (c.tell-front.ensures.front ∙ told_front c.give.new.place c.tell-front.new.place c.tell-front.ensures.place.0 c.tell-front.ensures.place.1))

@@ -22,4 +22,4 @@ returns-clause-looked g c =
     let back = c.give_back-seat-inside.ensures in
     subst (λ old. Looks old (seat_view c.give_back-seat-inside.new.place) c.args.span.now (record { value = c.get_max-value.result; front = c.give_back-seat-inside.result })) c.seat.view_is
     (looks_back c.seat.inside.place c.give_back-seat-inside.new.place c.take-held.new.place.me.0 c.take-held.result c.args.span.now (record { value = c.get_max-value.result; front = c.give_back-seat-inside.result })
-      c.seat.invariant.4 c.take-held.ensures.held (back.table ∙ c.take-held.ensures.table) back.given back.length c.get_max-value.ensures.stands)
+    c.seat.invariant.4 c.take-held.ensures.held (back.table ∙ c.take-held.ensures.table) back.given back.length c.get_max-value.ensures.stands)

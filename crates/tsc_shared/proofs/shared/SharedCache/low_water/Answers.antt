@@ -22,4 +22,4 @@ returns-clause-told g c =
     let back = c.give_back-seat-inside.ensures in
     subst (λ old. Tells old (seat_view c.give_back-seat-inside.new.place) (record { time = c.low_water-time.result; front = c.give_back-seat-inside.result })) c.seat.view_is
     (tells_back c.seat.inside.place c.give_back-seat-inside.new.place c.take-held.new.place.me.0 c.take-held.result (record { time = c.low_water-time.result; front = c.give_back-seat-inside.result })
-      c.seat.invariant.4 c.take-held.ensures.held (back.table ∙ c.take-held.ensures.table) back.given back.length c.low_water-time.ensures.stands)
+    c.seat.invariant.4 c.take-held.ensures.held (back.table ∙ c.take-held.ensures.table) back.given back.length c.low_water-time.ensures.stands)
