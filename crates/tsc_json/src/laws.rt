@@ -9,7 +9,8 @@ pub fn reads_what_is_written()
     ensures { ReadsWhatIsWritten }
 {}
 
-/// The order of an object's members makes no difference to what it is read as, or why it is refused.
+/// The order of members, of any object at any depth, makes no difference to what a trace is read as, or why
+/// it is refused.
 pub fn reads_in_any_order()
     ensures { ReadsInAnyOrder }
 {}

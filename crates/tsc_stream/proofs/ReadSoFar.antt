@@ -1,18 +1,18 @@
 -- Reading an input in place: how far it has come.
-use Rattle.std.proofs.Common.{◌≡◌, ℕ, ◌+◌, ◌<◌, ◌≤◌, List, ◌++◌, length, take, sym, ap, ◌∙◌, subst, arith, length-append, length-take, length-take-le, append_assoc}
+use Rattle.std.proofs.Common.{◌≡◌, ◌≢◌, ◌⊎◌, inr, refl, ℕ, zero, suc, Ok, ◌+◌, ◌<◌, ◌≤◌, List, ◌++◌, length, take, sym, ap, ◌∙◌, subst, arith, length-append, length-take, length-take-le, append_assoc}
 use Rattle.std.proofs.Math.Seq.{take-append-add}
 use Rattle.std.proofs.lemmas.List.{take-take, take-append-le}
 use Rattle.std.proofs.KnownBytes.{Consumes-trans, Consumes-kept}
 use Rattle.std.specs.Io.KnownBytes.{Consumes, Keeps}
-use Rattle.tsc_stream.specs.Stream.{KnownReader, longest_input, HasReadTooMuch, HasReadWithin}
+use Rattle.tsc_stream.specs.Stream.{KnownReader, longest_input, phase_after, HasReadTooMuch, HasReadWithin}
+use Rattle.tsc_stream.specs.declared.stream.Phase.TheVariants as phase
 
--- The first bytes of a buffer are what was read, and no read has failed or told the end.
+-- The first bytes of a buffer are what was read, and reading goes on, or has not begun.
 pub record HasFilled (old new : KnownReader) (buffer : List ℕ) (filled : ℕ) : Type 0 where
   pub within : filled ≤ length buffer
   pub small : filled ≤ longest_input
   pub consumed : Consumes old.bytes new.bytes (take filled buffer)
-  pub unfailed : new.has_failed ≡ old.has_failed
-  pub unended : new.has_ended ≡ old.has_ended
+  pub goes_on : (new ≡ old) ⊎ (new.phase ≡ phase.Open)
 
 -- a part that was read behind a front
 pub take-read_behind : (xs part after tail : List ℕ) (filled count len : ℕ) → filled ≤ length xs → count ≤ length part → filled + count ≤ len
@@ -32,9 +32,9 @@ take-read_behind xs part after tail filled count len within fits small =
 pub HasFilled-more : (old mid new : KnownReader) (buffer xs part after tail : List ℕ) (filled count len : ℕ)
     → HasFilled old mid buffer filled → take filled xs ≡ take filled buffer → filled ≤ length xs → count ≤ length part
     → Consumes mid.bytes new.bytes (take count part) → filled + count ≤ len → filled + count ≤ longest_input
-    → new.has_failed ≡ mid.has_failed → new.has_ended ≡ mid.has_ended
+    → new.phase ≡ phase.Open
     → HasFilled old new (take len ((take filled xs ++ (part ++ after)) ++ tail)) (filled + count)
-HasFilled-more old mid new buffer xs part after tail filled count len so_far front within fits read room small unfailed unended =
+HasFilled-more old mid new buffer xs part after tail filled count len so_far front within fits read room small open_still =
     let front_read = subst (Consumes old.bytes mid.bytes) (sym front) so_far.consumed in
     record {
       within = omega (
@@ -47,22 +47,20 @@ HasFilled-more old mid new buffer xs part after tail filled count len so_far fro
       );
       small = small;
       consumed = subst (Consumes old.bytes new.bytes) (sym (take-read_behind xs part after tail filled count len within fits room)) (Consumes-trans _ _ _ _ _ front_read read);
-      unfailed = unfailed ∙ so_far.unfailed;
-      unended = unended ∙ so_far.unended;
+      goes_on = inr open_still;
     }
 
 -- What one more read gave is too much.
 pub HasReadTooMuch-filled : (old mid new : KnownReader) (buffer part : List ℕ) (filled count : ℕ)
     → HasFilled old mid buffer filled → count ≤ length part
     → Consumes mid.bytes new.bytes (take count part) → longest_input < filled + count
-    → new.has_failed ≡ mid.has_failed → new.has_ended ≡ mid.has_ended
+    → new.phase ≡ phase.Open
     → HasReadTooMuch old new
-HasReadTooMuch-filled old mid new buffer part filled count so_far fits read beyond unfailed unended = record {
+HasReadTooMuch-filled old mid new buffer part filled count so_far fits read beyond open_still = record {
   read = take filled buffer ++ take count part;
   consumed = Consumes-trans _ _ _ _ _ so_far.consumed read;
   beyond = omega (arith, length-append (take filled buffer) (take count part), length-take-le filled buffer so_far.within, length-take-le count part fits);
-  unfailed = unfailed ∙ so_far.unfailed;
-  unended = unended ∙ so_far.unended;
+  goes_on = open_still;
 }
 
 -- What was read so far, where reading stops.
@@ -80,3 +78,8 @@ HasReadWithin-kept old mid new buffer filled so_far kept = record {
   consumed = Consumes-kept _ _ _ _ so_far.consumed kept;
   within = omega (arith, so_far.small, length-take-le filled buffer so_far.within);
 }
+
+-- A read that gave bytes leaves the reader open.
+pub open_after : (count : ℕ) → count ≢ 0 → phase_after (Ok count) ≡ phase.Open
+open_after zero some = absurd (some refl)
+open_after (suc n) some = refl

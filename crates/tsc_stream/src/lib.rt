@@ -1,4 +1,4 @@
-//! Readers and writers that may be called a bounded number of times, and remember a failure.
+//! Readers and writers that may be called a bounded number of times, and fail for good.
 //!
 //! No clause over `std`'s `Read` and `Write` can say that a call failed. [`Source`] and [`Sink`] can, so a
 //! contract over them tells why a command gave up. A [`Metered`] reader or writer is one of `std` with its
@@ -18,4 +18,4 @@ mod tests;
 pub use input::{InputFault, read_input};
 pub use metered::Metered;
 pub use output::{WriteFailed, write_output};
-pub use stream::{Sink, Source, Trouble};
+pub use stream::{Phase, Sink, Source, Trouble};

@@ -1,25 +1,26 @@
 //! Readers and writers of `std` whose calls are counted.
-ghost use Rattle.std.specs.Prelude.{◌≡◌, ◌≢◌, ◌<◌, Ok, Err, IfOk, IfErr};
-ghost use Rattle.tsc_stream.specs.Stream.{fresh_reader, fresh_writer};
+ghost use Rattle.std.specs.Prelude.{◌≡◌, ◌≢◌, ◌<◌, ◌-◌, ◌==◌, Ok, Err, IfOk, IfErr};
+ghost use Rattle.tsc_stream.specs.Stream.{fresh_reader, fresh_writer, phase_after};
 
-use crate::stream::{Sink, Source, Trouble};
+use crate::stream::{Phase, Sink, Source, Trouble};
 use std::io::{ErrorKind, Read, Write};
 
 /// How often a command reads before it gives up, and how often it writes.
 pub(crate) const MOST_TURNS: u32 = 33_554_432;
 
 /// A reader or a writer of `std` that may be called 33,554,432 times.
+///
+/// Once a call has failed, or a read has told the end, the one inside is not asked again.
 #[derive(Drop)]
 pub struct Metered<T> {
     inner: T,
     turns: u32,
-    failed: bool,
-    ended: bool,
+    phase: Phase,
 }
 
 impl<T> Metered<T> {
     ghost use Rattle.std.specs.Prelude.{List, Option, ℕ};
-    ghost use Rattle.tsc_stream.specs.MeteredParts.{inner_of, reader_of, writer_of};
+    ghost use Rattle.tsc_stream.specs.MeteredParts.{inner_of, phase_in, reader_of, turns_of, writer_of};
 
     /// `inner`, which has not been called yet.
     pub fn new(inner: T) -> Metered<T>
@@ -30,8 +31,7 @@ impl<T> Metered<T> {
         Metered {
             inner,
             turns: MOST_TURNS,
-            failed: false,
-            ended: false,
+            phase: Phase::Open,
         }
     }
 
@@ -41,9 +41,19 @@ impl<T> Metered<T> {
         Metered {
             inner,
             turns,
-            failed: false,
-            ended: false,
+            phase: Phase::Open,
         }
+    }
+
+    /// Counts a call, and says whether it is one too many.
+    fn count_call(&mut self) -> bool
+        ensures value { result ≡ (turns_of self.old == 0) }
+        ensures turns { turns_of self.new ≡ turns_of self.old - 1 }
+        ensures others { (inner_of self.new ≡ inner_of self.old) × (phase_in self.new ≡ phase_in self.old) }
+    {
+        let left = self.turns;
+        self.turns = left.saturating_sub(1);
+        left == 0
     }
 
     /// What was wrapped.
@@ -81,20 +91,32 @@ fn settled_write(gave: Result<usize, ErrorKind>) -> Result<usize, Trouble>
     }
 }
 
+/// Where a reader is after a read that gave this.
+fn phase_after(told: Result<usize, Trouble>) -> Phase
+    ensures { result ≡ phase_after told }
+{
+    match told {
+        Ok(0) => Phase::Ended,
+        Ok(_) | Err(Trouble::Interrupted) => Phase::Open,
+        Err(Trouble::Failed) => Phase::Failed,
+    }
+}
+
 impl<R: Read> Source for Metered<R> {
     ghost use Rattle.tsc_stream.specs.MeteredParts.{inner_of, reader_of};
 
     ghost known = { λ m. reader_of (R.remaining (inner_of m)) m };
 
     fn read(&mut self, buf: &mut [u8]) -> Result<usize, Trouble> {
-        if self.turns == 0 {
-            self.failed = true;
-            return Err(Trouble::Failed);
-        }
-        self.turns -= 1;
-        let told = settled(self.inner.read(buf).map_err(|error| error.kind()));
-        self.failed |= told == Err(Trouble::Failed);
-        self.ended |= told == Ok(0);
+        let is_too_many = self.count_call();
+        let told = match self.phase {
+            Phase::Ended => Ok(0),
+            Phase::Open if !is_too_many => settled(
+                self.inner.read(buf).map_err(|error| error.kind()),
+            ),
+            Phase::Open | Phase::Failed => Err(Trouble::Failed),
+        };
+        self.phase = phase_after(told);
         told
     }
 }
@@ -105,13 +127,15 @@ impl<W: Write> Sink for Metered<W> {
     ghost known = { λ m. writer_of (W.contents (inner_of m)) m };
 
     fn write(&mut self, buf: &[u8]) -> Result<usize, Trouble> {
-        if self.turns == 0 {
-            self.failed = true;
+        let is_too_many = self.count_call();
+        if is_too_many || self.phase == Phase::Failed {
+            self.phase = Phase::Failed;
             return Err(Trouble::Failed);
         }
-        self.turns -= 1;
         let told = settled_write(self.inner.write(buf).map_err(|error| error.kind()));
-        self.failed |= told == Err(Trouble::Failed);
+        if told == Err(Trouble::Failed) {
+            self.phase = Phase::Failed;
+        }
         told
     }
 }

@@ -91,6 +91,76 @@ fn wrong_writing(alloc: Global, rows: &[Writing]) -> Option<usize> {
     None
 }
 
+/// Which calls go wrong, what three calls give, and how many of them the one inside has met.
+type Calls = (Mishap, &'static [Result<usize, Trouble>], u64);
+
+/// Reads of one byte, and then of the end. A failure is final, and so is the end.
+static READS: [Calls; 3] = [
+    (Mishap::Never, &[Ok(1), Ok(0), Ok(0)], 2),
+    (
+        Mishap::FailsAt(0),
+        &[
+            Err(Trouble::Failed),
+            Err(Trouble::Failed),
+            Err(Trouble::Failed),
+        ],
+        1,
+    ),
+    (
+        Mishap::InterruptedNowAndThen,
+        &[Err(Trouble::Interrupted), Ok(1), Err(Trouble::Interrupted)],
+        3,
+    ),
+];
+
+/// Writes of a byte.
+static WRITES: [Calls; 3] = [
+    (Mishap::Never, &[Ok(1), Ok(1), Ok(1)], 3),
+    (
+        Mishap::FailsAt(1),
+        &[Ok(1), Err(Trouble::Failed), Err(Trouble::Failed)],
+        2,
+    ),
+    (
+        Mishap::InterruptedNowAndThen,
+        &[Err(Trouble::Interrupted), Ok(1), Err(Trouble::Interrupted)],
+        3,
+    ),
+];
+
+/// The first row of a table of three reads that doesn't hold.
+fn wrong_reads(rows: &[Calls]) -> Option<usize> {
+    for (i, (mishap, gave, calls)) in rows.iter().enumerate() {
+        let mut reader = Metered::new(Faulty::new(&b"a"[..], 1, *mishap));
+        let mut room = [0; 4];
+        for want in *gave {
+            if reader.read(&mut room) != *want {
+                return Some(i);
+            }
+        }
+        if reader.into_inner().calls != *calls {
+            return Some(i);
+        }
+    }
+    None
+}
+
+/// The first row of a table of three writes that doesn't hold.
+fn wrong_writes(alloc: Global, rows: &[Calls]) -> Option<usize> {
+    for (i, (mishap, gave, calls)) in rows.iter().enumerate() {
+        let mut writer = Metered::new(Faulty::new(Vec::new(alloc), 1, *mishap));
+        for want in *gave {
+            if writer.write(b"abc") != *want {
+                return Some(i);
+            }
+        }
+        if writer.into_inner().calls != *calls {
+            return Some(i);
+        }
+    }
+    None
+}
+
 /// Bytes that do not repeat soon.
 fn pattern(alloc: Global, len: u32) -> Result<Vec<u8>, AllocError> {
     (0..len).map(|i| (i % 251) as u8).collect(alloc)
@@ -118,6 +188,8 @@ fn read_spaces(alloc: Global, count: u64) -> Result<usize, InputFault> {
 fn reading_and_writing(rt: HostRuntime) -> Result<(), Fail> {
     assert_eq!(rt; wrong_reading(rt.alloc(), &READINGS), None);
     assert_eq!(rt; wrong_writing(rt.alloc(), &WRITINGS), None);
+    assert_eq!(rt; wrong_reads(&READS), None);
+    assert_eq!(rt; wrong_writes(rt.alloc(), &WRITES), None);
     let bytes = pattern(rt.alloc(), 200_000)?;
     for step in [7, 65_536, 1_000_000] {
         assert!(rt; moves_all(rt.alloc(), &bytes, step)?, "{step}");

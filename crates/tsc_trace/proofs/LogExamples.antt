@@ -2,12 +2,11 @@
 use Rattle.std.specs.Prelude.{◌≡◌, ℕ, List, [], ◌∷◌, ◌++◌, true, false, codes, refl}
 use Rattle.tsc_time.specs.OwnedTime.{unowned}
 use Rattle.tsc_span.specs.Span.{point}
-use Rattle.tsc_cache.proofs.ExampleSettings.{at, of_first, of_second, usual, twenty, without_end, added}
+use Rattle.tsc_cache.proofs.ExampleSettings.{at, of_first, of_second, usual, twenty, added}
 use Rattle.tsc_json.proofs.ExampleTraces.{ended, example_trace}
 use Rattle.tsc_trace.specs.Log.{log_of}
 use Rattle.tsc_trace.specs.LogText.{log_text}
-use Rattle.tsc_json.specs.declared.trace.Call.{Call}
-use Rattle.tsc_json.specs.declared.trace.Call.TheVariants.{Add, Get, Low}
+use Rattle.tsc_json.specs.declared.trace.Call.TheVariants.{Add, Get}
 use Rattle.tsc_json.specs.declared.trace.Trace.{Trace}
 use Rattle.tsc_trace.specs.declared.log.Line.{Line}
 use Rattle.tsc_trace.specs.declared.log.Said.TheVariants as said

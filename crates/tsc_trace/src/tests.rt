@@ -219,19 +219,24 @@ fn text_again(alloc: Global, log: &Log) -> Result<Vec<u8>, Fail> {
 /// What is written of a log, where a refused call has written nothing: nor has one whose writer was refused.
 fn write_again(alloc: Global, log: &Log) -> Result<Vec<u8>, Fail> {
     let mut writer = Metered::new(Vec::new(alloc));
-    if write_log(alloc, log, &mut writer).is_err() {
-        write_log(alloc, log, &mut writer)?;
+    if write_log(alloc, log, &mut writer).is_ok() {
+        return Ok(writer.into_inner());
     }
-    Ok(writer.into_inner())
+    // A writer that has failed takes nothing more.
+    let mut again = Metered::new(writer.into_inner());
+    write_log(alloc, log, &mut again)?;
+    Ok(again.into_inner())
 }
 
 /// What is written of a replay, in the same way.
 fn replay_again(alloc: Global, trace: &Trace) -> Result<Vec<u8>, Fail> {
     let mut writer = Metered::new(Vec::new(alloc));
-    if replay(alloc, trace, &mut writer).is_err() {
-        replay(alloc, trace, &mut writer)?;
+    if replay(alloc, trace, &mut writer).is_ok() {
+        return Ok(writer.into_inner());
     }
-    Ok(writer.into_inner())
+    let mut again = Metered::new(writer.into_inner());
+    replay(alloc, trace, &mut again)?;
+    Ok(again.into_inner())
 }
 
 #[test]

@@ -10,8 +10,8 @@ loop-input-preserved-else-filled-gt-LONGEST_INPUT g c =
     let within : filled ≤ length shown = search rules in
     let room : filled + c.in-Ok.count ≤ c.make_room.new.input.len = search rules in
     HasFilled-more _ _ _ _ shown c.read.new.buf _ _ filled c.in-Ok.count _ c.loop-input.invariant front within c.in-Ok.ensures.bound c.in-Ok.ensures.bytes.0 room
-    (omega arith) (search rules) (search rules)
+    (omega arith) (search rules)
 
 pub returns-then-filled-gt-LONGEST_INPUT-clause-err : goal.returns-then-filled-gt-LONGEST_INPUT-clause-err
 returns-then-filled-gt-LONGEST_INPUT-clause-err g c =
-    HasReadTooMuch-filled _ _ _ _ c.read.new.buf _ _ c.loop-input.invariant c.in-Ok.ensures.bound c.in-Ok.ensures.bytes.0 (omega arith) (search rules) (search rules)
+    HasReadTooMuch-filled _ _ _ _ c.read.new.buf _ _ c.loop-input.invariant c.in-Ok.ensures.bound c.in-Ok.ensures.bytes.0 (omega arith) (search rules)
