@@ -154,8 +154,8 @@ reads_again lines (Ok log) writable is =
     elim (cases_lt most_lines (length lines)) [
       | inl long ↦ absurd (not_long (log_text lines) log.lines is (too_long lines writable long))
       | inr within ↦
-        let same : log.lines ≡ lines = (same_reading (log_text lines) log.lines lines [] [] (log_reading (log_text lines) log.lines is) (log_reading (log_text lines) lines (text_of lines writable (omega arith)))).0 in
-        (same, omega arith)
+          let same : log.lines ≡ lines = (same_reading (log_text lines) log.lines lines [] [] (log_reading (log_text lines) log.lines is) (log_reading (log_text lines) lines (text_of lines writable (omega arith)))).0 in
+          (same, omega arith)
     ]
 reads_again lines (Err Length) writable is =
     elim (cases_lt most_lines (length lines)) [
