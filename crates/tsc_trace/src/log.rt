@@ -1,6 +1,6 @@
 ghost use Rattle.std.specs.Prelude.{◌≡◌, All, IfOk};
 ghost use Rattle.tsc_trace.specs.LogText.{bit_text, log_text};
-ghost use Rattle.tsc_trace.specs.LogReading.{IsWritable, IsWritableSaid};
+ghost use Rattle.tsc_trace.specs.LogReading.{IsWritable};
 
 use std::alloc::Global;
 use std::fmt;
@@ -65,32 +65,12 @@ pub struct Log {
     pub lines: Lines,
 }
 
-impl Said {
-    /// The answer. Whoever has one learns here that a log can hold it.
-    fn held(self) -> Said
-        ensures value { result ≡ self }
-        ensures writable { IsWritableSaid self }
-    {
-        match self {
-            Said::Add { .. } => {}
-            Said::Get { value, .. } => {
-                let _owner = value.owner();
-            }
-            Said::Low { time, .. } => {
-                let _wall = time.wall();
-            }
-        }
-        self
-    }
-}
-
 impl Line {
     /// The line. Whoever has one learns here that a log can hold it.
     fn held(self) -> Line
         ensures value { result ≡ self }
         ensures writable { IsWritable self }
     {
-        let _said = self.said.held();
         self
     }
 }
