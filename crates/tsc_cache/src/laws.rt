@@ -50,6 +50,4 @@ pub fn can_be_added(span: &Span, value: Value, now: Timestamp)
     ensures { CanBeAdded span.now value now }
 {
     let _cuts = span.cuts();
-    let _owner = value.owner();
-    let _wall = now.wall();
 }

@@ -1,12 +1,15 @@
 -- The bytes of a log read as one thing only.
-use Rattle.std.proofs.Common.{◌≡◌, ℕ, suc, ◌+◌, ◌≤◌, List, [], ◌∷◌, ◌++◌, length, All, Ok, Err, inl, inr, ◌⊎◌, refl, sym, ap, ◌∙◌, arith, append_assoc, length-append}
-use Rattle.std.proofs.lemmas.List.{append-nil}
+use Rattle.std.proofs.Common.{◌≡◌, ◌≢◌, ℕ, suc, ◌+◌, ◌<◌, ◌≤◌, List, [], ◌∷◌, ◌++◌, length, take, drop, All, Result, Ok, Err, inl, inr, ◌⊎◌, refl, sym, ap, ◌∙◌, arith, append_assoc, length-append}
+use Rattle.std.proofs.lemmas.List.{append-nil, take-append-drop, length-take-le, length-drop}
+use Rattle.std.proofs.lemmas.List.Concat.{flat_map-append}
 use Rattle.std.proofs.lemmas.Bool.{cases_lt}
-use Rattle.std.proofs.lemmas.List.Elements.{All-head, All-tail}
+use Rattle.std.proofs.lemmas.List.Elements.{All-head, All-tail, All-take}
 use Rattle.tsc_trace.specs.declared.log.Line.{Line}
+use Rattle.tsc_trace.specs.declared.log.Log.{Log}
+use Rattle.tsc_trace.specs.declared.log_reader.LogFault.{LogFault}
 use Rattle.tsc_trace.specs.declared.log_reader.LogFault.TheVariants.{Text, Length, NoMemory}
 use Rattle.tsc_trace.specs.LogText.{line_feed, line_text, log_text}
-use Rattle.tsc_trace.specs.LogReading.{most_lines, IsWritable, IsTextOf, HasNoLine, IsWrongAt, IsTooLong, OneReading, ReadsBackLogs}
+use Rattle.tsc_trace.specs.LogReading.{most_lines, IsWritable, IsTextOf, HasNoLine, IsWrongAt, IsTooLong, ReadsAs, OneReading, ReadsBackLogs, ReadsAgain}
 use Rattle.tsc_trace.proofs.OneText.{same_line_then}
 
 ended : (mark : ℕ) (a b c : List ℕ) → ((a ++ mark ∷ []) ++ b) ++ c ≡ a ++ mark ∷ (b ++ c)
@@ -64,8 +67,12 @@ same_reading bytes lines others rest after a b =
       | inr longer ↦ let back = shorter_first bytes others lines after rest b a longer in (sym back.0, sym back.1)
     ]
 
+-- a text with a line feed in it is not empty
+not_nothing : (text after : List ℕ) → [] ≢ text ++ line_feed ∷ after
+not_nothing text after e = let long : 0 ≡ length text + suc (length after) = ap length e ∙ length-append text (line_feed ∷ after) in absurd (omega (arith, long))
+
 nothing_has_no_line : HasNoLine []
-nothing_has_no_line line after writable e = let long : 0 ≡ length (line_text line) + suc (length after) = ap length e ∙ length-append (line_text line) (line_feed ∷ after) in absurd (omega (arith, long))
+nothing_has_no_line line after writable = not_nothing (line_text line) after
 
 log_reading : (bytes : List ℕ) (lines : List Line) → IsTextOf bytes lines → IsReading bytes lines []
 log_reading bytes lines is = let is_log = is.is_log in
@@ -118,3 +125,45 @@ pub reads_back_logs : ReadsBackLogs
 reads_back_logs log is_log =
     let itself : IsTextOf (log_text log.lines) log.lines = record { text = refl; is_log = is_log } in
     (itself, λ read some is. one_reading (log_text log.lines) read (Ok log) some (λ e. absurd cc) is itself)
+
+-- ---- lines of any number
+
+text_of : (lines : List Line) → All IsWritable lines → length lines ≤ most_lines → IsTextOf (log_text lines) lines
+text_of lines writable within = record { text = refl; is_log = record { writable = writable; within = within } }
+
+some_text : (lines : List Line) → 0 < length lines → log_text lines ≢ []
+some_text [] some e = absurd (omega arith)
+some_text (line ∷ lines) some e =
+    not_nothing (line_text line) (log_text lines ++ []) (sym e ∙ sym (append-nil (log_text (line ∷ lines))) ∙ first_line line lines [])
+
+too_long : (lines : List Line) → All IsWritable lines → most_lines < length lines → IsTooLong (log_text lines)
+too_long lines writable long =
+    record {
+      before = take most_lines lines;
+      rest = log_text (drop most_lines lines);
+      text = ap log_text (sym (take-append-drop most_lines lines)) ∙ flat_map-append (λ line. line_text line ++ line_feed ∷ []) (take most_lines lines) (drop most_lines lines);
+      writable = All-take IsWritable most_lines lines writable;
+      full = length-take-le most_lines lines (omega arith);
+      more = some_text (drop most_lines lines) (let left = length-drop most_lines lines in omega arith);
+    }
+
+-- the text of writable lines reads as just these, or as too many
+pub reads_again : (lines : List Line) (read : Result Log LogFault) → All IsWritable lines → ReadsAs (log_text lines) read → ReadsAgain lines read
+reads_again lines (Err NoMemory) writable is = tt
+reads_again lines (Ok log) writable is =
+    elim (cases_lt most_lines (length lines)) [
+      | inl long ↦ absurd (not_long (log_text lines) log.lines is (too_long lines writable long))
+      | inr within ↦
+          let same : log.lines ≡ lines = (same_reading (log_text lines) log.lines lines [] [] (log_reading (log_text lines) log.lines is) (log_reading (log_text lines) lines (text_of lines writable (omega arith)))).0 in
+          (same, omega arith)
+    ]
+reads_again lines (Err Length) writable is =
+    elim (cases_lt most_lines (length lines)) [
+      | inl long ↦ long
+      | inr within ↦ absurd (not_long (log_text lines) lines (text_of lines writable (omega arith)) is)
+    ]
+reads_again lines (Err (Text number)) writable is =
+    elim (cases_lt most_lines (length lines)) [
+      | inl long ↦ absurd (wrong_or_long (log_text lines) number is (too_long lines writable long))
+      | inr within ↦ absurd (not_wrong (log_text lines) lines number (text_of lines writable (omega arith)) is)
+    ]

@@ -75,3 +75,10 @@ OneReading = (bytes : List ℕ) (a b : Result Log LogFault) → a ≢ Err NoMemo
 abbrev pub ReadsBackLogs : Type 0
 ReadsBackLogs = (log : Log) → IsLog log.lines → ReadsAs (log_text log.lines) (Ok log)
     × ((read : Result Log LogFault) → read ≢ Err NoMemory → ReadsAs (log_text log.lines) read → read ≡ Ok log)
+
+-- What the text of these lines reads as: a log of just these lines, or too many of them. Want of memory says nothing of them.
+abbrev pub ReadsAgain : List Line → Result Log LogFault → Type 0
+ReadsAgain lines (Ok log) = (log.lines ≡ lines) × (length lines ≤ most_lines)
+ReadsAgain lines (Err (Text number)) = ⊥
+ReadsAgain lines (Err Length) = most_lines < length lines
+ReadsAgain lines (Err NoMemory) = Unit {0}

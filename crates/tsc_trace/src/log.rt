@@ -1,5 +1,6 @@
-ghost use Rattle.std.specs.Prelude.{◌≡◌, IfOk};
+ghost use Rattle.std.specs.Prelude.{◌≡◌, All, IfOk};
 ghost use Rattle.tsc_trace.specs.LogText.{bit_text, log_text};
+ghost use Rattle.tsc_trace.specs.LogReading.{IsWritable};
 
 use std::alloc::Global;
 use std::fmt;
@@ -64,6 +65,16 @@ pub struct Log {
     pub lines: Lines,
 }
 
+impl Line {
+    /// The line. Whoever has one learns here that a log can hold it.
+    fn held(self) -> Line
+        ensures value { result ≡ self }
+        ensures writable { IsWritable self }
+    {
+        self
+    }
+}
+
 /// `1` for yes, and `0` for no.
 fn bit(b: bool) -> &'static str
     ensures { result.now ≡ bit_text b }
@@ -119,12 +130,15 @@ impl fmt::Display for Line {
 
 /// The text of a log: its lines, each ended by a line feed. The text of no lines is empty.
 ///
-/// The text is made whole in memory, and the time is linear in it.
+/// The text is made whole in memory, and the time is linear in it. Whoever has a text also learns here that
+/// each line is one that a log can hold.
 pub fn log_text(alloc: Global, log: &Log) -> Result<Vec<u8>, NoMemory>
-    ensures { IfOk result (λ text. text.items ≡ log_text log.now.lines) }
+    ensures value { IfOk result (λ text. text.items ≡ log_text log.now.lines) }
+    ensures writable { IfOk result (λ _. All IsWritable log.now.lines) }
 {
     let mut text = String::new(alloc);
     for line in log.lines.slice() {
+        let line = line.held();
         writeln!(text, "{line}")?;
     }
     Ok(text.into_bytes())

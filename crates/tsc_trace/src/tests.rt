@@ -1,3 +1,4 @@
+use crate::log_laws::reads_again;
 use crate::*;
 use std::alloc::Global;
 use std::test::Fail;
@@ -130,9 +131,11 @@ fn gives(alloc: Global, text: &str, log: &str) -> Result<bool, Fail> {
     replay_stream(alloc, &mut Metered::new(slow), &mut third)?;
     let made = log_text(alloc, &played)?;
     let back = read_log(alloc, made.as_slice())?;
+    let again = reads_again(alloc, &played)?;
     Ok(
         made.as_slice() == log.as_bytes()
             && back.lines.slice() == played.lines.slice()
+            && again.lines.slice() == played.lines.slice()
             && holds(first, log)
             && holds(second, log)
             && holds(third, log),
