@@ -15,3 +15,9 @@ pub mod Ends
 pub mod Standing
 pub mod PlainMarks
 pub mod Tops
+pub mod Joins
+pub mod LeafAnswers
+pub mod LeafLists
+pub mod LeafKeys
+pub mod LeafRaises
+pub mod LeafMakes
