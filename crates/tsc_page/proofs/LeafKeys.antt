@@ -101,7 +101,7 @@ placed k xs (n ∷ ns) ys zero some (inr low) high h fits = absurd (Lt-not_Le (a
 placed k xs (n ∷ ns) ys (suc i) some (inr low) high h fits = later_on k xs n ns ys i h high fits
 
 -- keys of one of three lists
-is_in-append : (k : KeyBytes) (xs ys : List Node) → is_in k (node_keys (xs ++ ys)) ≡ (is_in k (node_keys xs) || is_in k (node_keys ys))
+pub is_in-append : (k : KeyBytes) (xs ys : List Node) → is_in k (node_keys (xs ++ ys)) ≡ (is_in k (node_keys xs) || is_in k (node_keys ys))
 is_in-append k [] ys = refl
 is_in-append k (x ∷ xs) ys = ap (λ b. bytes_eq k x.key || b) (is_in-append k xs ys) ∙ grouped (bytes_eq k x.key) (is_in k (node_keys xs)) (is_in k (node_keys ys))
   where

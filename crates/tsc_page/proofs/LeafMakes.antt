@@ -19,7 +19,7 @@ leaf_cut [] p a u h = absurd (omega arith)
 leaf_cut (m ∷ ls) zero a u h = sym (append_assoc a u (nodes_of ls))
 leaf_cut (m ∷ ls) (suc p) a u h = ap (λ (ns : List Node). m ++ ns) (leaf_cut ls p a u (omega arith)) ∙ sym (append_assoc m (nodes_of (take p ls)) ((a ++ u) ++ nodes_of (drop (suc p) ls)))
 
-sizes_with : (ls : List (List Node)) (p : ℕ) (a : List Node) → AreLeafSizes (leaf_sizes ls) → 1 ≤ length a → length a ≤ 64 → AreLeafSizes (leaf_sizes (set ls p a))
+pub sizes_with : (ls : List (List Node)) (p : ℕ) (a : List Node) → AreLeafSizes (leaf_sizes ls) → 1 ≤ length a → length a ≤ 64 → AreLeafSizes (leaf_sizes (set ls p a))
 sizes_with [] p a sizes some few = tt
 sizes_with (m ∷ ls) zero a sizes some few = (some, few, sizes.2)
 sizes_with (m ∷ ls) (suc p) a sizes some few = (sizes.0, sizes.1, sizes_with ls p a sizes.2 some few)

@@ -21,3 +21,5 @@ pub mod LeafLists
 pub mod LeafKeys
 pub mod LeafRaises
 pub mod LeafMakes
+pub mod LeafAdds
+pub mod Refusals

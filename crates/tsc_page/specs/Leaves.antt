@@ -1,7 +1,7 @@
 -- How the nodes of a page stand in leaves, one after another.
-use Rattle.std.specs.Prelude.{◌≡◌, ℕ, suc, ◌<◌, ◌≤◌, ◌-◌, List, [], ◌∷◌, ◌++◌, length, map, slice_index_or, true, false}
+use Rattle.std.specs.Prelude.{◌≡◌, ℕ, suc, ◌<◌, ◌≤◌, ◌-◌, List, [], ◌∷◌, ◌++◌, length, map, slice_index_or, true, false, Option, Some, None, if◌then◌else◌}
 use Rattle.tsc_time.specs.OwnedTime.{OwnedTime}
-use Rattle.tsc_span.specs.Span.{Cut, Interval, is_below, end_keys}
+use Rattle.tsc_span.specs.Span.{KeyBytes, Cut, after, Interval, is_below, end_keys}
 use Rattle.tsc_page.specs.PageView.{AreLeafSizes}
 use Rattle.tsc_page.specs.Nodes.{Node, next_cut, node_stretches, IsSorted, IsSplitAt, raise_nodes}
 
@@ -34,3 +34,8 @@ pub record AddsTo (old new : List Node) (span : Interval) (value : OwnedTime) : 
   pub mid : List Node
   pub split : IsSplitAt old mid (end_keys span)
   pub raised : new ≡ raise_nodes span value mid
+
+-- a key, where it lies wholly below a cut
+abbrev pub key_below : Cut → Option KeyBytes → Option KeyBytes
+key_below c None = None
+key_below c (Some k) = if is_below (after k) c then Some k else None

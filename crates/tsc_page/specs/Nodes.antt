@@ -176,6 +176,12 @@ pub record MakesNodes (old new : List Node) (first second : Option KeyBytes) : T
   pub has_lower : IsNewKey old first lower
   pub nodes : new ≡ with_new (with_new old upper) lower
 
+-- Nodes with those of two keys, in which a value is raised in a span.
+pub record AddsNodes (old new : List Node) (first second : Option KeyBytes) (span : Interval) (value : OwnedTime) : Type 0 where
+  pub mid : List Node
+  pub made : MakesNodes old mid first second
+  pub raised : new ≡ raise_nodes span value mid
+
 -- the nodes with those of more keys, which answer as before
 pub record IsSplitAt (old new : List Node) (more : List KeyBytes) : Type 0 where
   pub sorted : IsSorted new

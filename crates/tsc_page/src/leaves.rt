@@ -1,10 +1,10 @@
 ghost use Rattle.std.specs.Prelude.{◌≡◌, ◌<◌, ◌≤◌, ◌+◌, ◌^◌, [], ◌++◌, suc, length, drop, slice_set, slice_get, slice_index_or, true, false, IsOk, IfOk, IfErr, IfSome, OnOk, OnErr, option_map, option_to_list};
-ghost use Rattle.tsc_span.specs.Span.{is_below, between, end_keys};
+ghost use Rattle.tsc_span.specs.Span.{is_below, after, between, end_keys};
 ghost use Rattle.tsc_span.specs.Cuts.{cut_of};
 ghost use Rattle.tsc_page.specs.declared.TheConstants.{MOST_NODES};
 ghost use Rattle.tsc_page.specs.PageView.{AreLeafSizes, is_new_among};
 ghost use Rattle.tsc_page.specs.Nodes.{IsSorted, IsSplitAt, IsInOrder, node_keys, answer_of, raise_nodes};
-ghost use Rattle.tsc_page.specs.Leaves.{leaf_sizes, nodes_of, start_of, IsLeafAt, AddsTo};
+ghost use Rattle.tsc_page.specs.Leaves.{leaf_sizes, nodes_of, start_of, key_below, IsLeafAt, AddsTo};
 ghost use Rattle.tsc_page.specs.LeafParts.{leaves_of, all_nodes, AreCounted};
 
 use crate::nodes::Nodes;
@@ -209,12 +209,79 @@ impl Leaves {
         ensures counted { AreCounted self.new }
         ensures unchanged { OnErr result (leaves_of self.new ≡ leaves_of self.old) }
     {
+        if self.add_in_place(first, second, from, to, value)? {
+            return Ok(());
+        }
         let mut next = self.try_copy()?;
         next.make_node(second)?;
         next.make_node(first)?;
         next.raise_between(from, to, value)?;
         *self = next;
         Ok(())
+    }
+
+    /// The same in place, where the span lies in one leaf that nobody else holds and that has room. Says
+    /// whether it did.
+    fn add_in_place(
+        &mut self,
+        first: Option<&Key>,
+        second: Option<&Key>,
+        from: Cut<'_>,
+        to: Cut<'_>,
+        value: Value,
+    ) -> Result<bool, NoMemory>
+        requires counted { AreCounted self.old }
+        requires small { self.old.count ≤ MOST_NODES }
+        requires order { is_below (cut_of from) (cut_of to) ≡ true }
+        requires keys { option_to_list (option_map (λ k. k.now) first) ++ option_to_list (option_map (λ k. k.now) second) ≡ end_keys (between (cut_of from) (cut_of to)) }
+        ensures added { IfOk result (λ done. done ≡ true → AddsTo (all_nodes self.old) (all_nodes self.new) (between (cut_of from.entry) (cut_of to.entry)) value) }
+        ensures left { IfOk result (λ done. done ≡ false → (leaves_of self.new ≡ leaves_of self.old) × (self.new.count ≡ self.old.count)) }
+        ensures counted { AreCounted self.new }
+        ensures unchanged { OnErr result (leaves_of self.new ≡ leaves_of self.old) }
+    {
+        let place = self.leaf_at(from);
+        if place >= self.list.len() {
+            return Ok(false);
+        }
+        if self.goes_on(place, to) {
+            return Ok(false);
+        }
+        let first = self.key_within(place, first);
+        let second = self.key_within(place, second);
+        let slot = &mut self.list[place];
+        let Some(leaf) = Arc::get_mut(slot) else { return Ok(false) };
+        let before = leaf.len();
+        if before + 2 > LEAF_NODES {
+            return Ok(false);
+        }
+        leaf.add(first, second, from, to, value)?;
+        let after = leaf.len();
+        self.count = self.count - before + after;
+        Ok(true)
+    }
+
+    /// A key, where it lies below what comes after a leaf.
+    fn key_within<'k>(&self, place: usize, key: Option<&'k Key>) -> Option<&'k Key>
+        requires sizes { AreLeafSizes (leaf_sizes (leaves_of self.now)) }
+        requires bound { place < length (leaves_of self.now) }
+        ensures { option_map (λ k. k.now) result ≡ key_below (start_of (nodes_of (drop (suc place) (leaves_of self.now)))) (option_map (λ k. k.now) key.entry) }
+    {
+        match key {
+            Some(key) if self.is_within(place, key) => Some(key),
+            _ => None,
+        }
+    }
+
+    /// Whether a key lies below what comes after a leaf.
+    fn is_within(&self, place: usize, key: &Key) -> bool
+        requires sizes { AreLeafSizes (leaf_sizes (leaves_of self.now)) }
+        requires bound { place < length (leaves_of self.now) }
+        ensures { result ≡ is_below (after key.now) (start_of (nodes_of (drop (suc place) (leaves_of self.now)))) }
+    {
+        match self.list.get(place + 1) {
+            Some(next) => Cut::After(key.bytes()).is_below(next.start()),
+            None => true,
+        }
     }
 
     /// The same leaves once more.

@@ -5,7 +5,7 @@ ghost use Rattle.tsc_time.specs.OwnedTime.{unowned};
 ghost use Rattle.tsc_span.specs.Span.{is_below, before, between};
 ghost use Rattle.tsc_span.specs.Cuts.{cut_of};
 ghost use Rattle.tsc_page.specs.PageView.{is_new_among};
-ghost use Rattle.tsc_page.specs.Nodes.{IsSorted, FitsAt, IsPlaceFor, IsNewKey, FitsIn, with_new, IsInOrder, HasNodes, MakesNodes, PartsKeysAt, HoldsKeysOn, HoldsGapsOn, node_keys, answer_of, raise_nodes, node_in_gap, gap_value, start_of_gap, next_cut, node_stretches};
+ghost use Rattle.tsc_page.specs.Nodes.{IsSorted, FitsAt, IsPlaceFor, IsNewKey, FitsIn, with_new, IsInOrder, HasNodes, MakesNodes, AddsNodes, PartsKeysAt, HoldsKeysOn, HoldsGapsOn, node_keys, answer_of, raise_nodes, node_in_gap, gap_value, start_of_gap, next_cut, node_stretches};
 
 use crate::node::Node;
 use std::alloc::Global;
@@ -202,7 +202,7 @@ impl Nodes {
 
     /// Makes nodes of the keys that have none, of which the first is the smaller. Where memory is refused
     /// nothing changes, and the list has not grown. Where both have nodes no memory is asked for.
-    pub(crate) fn split_at(
+    fn split_at(
         &mut self,
         first: Option<&Key>,
         second: Option<&Key>,
@@ -224,6 +224,30 @@ impl Nodes {
         self.list.reserve(new)?;
         self.split(second);
         self.split(first);
+        Ok(())
+    }
+
+    /// Makes nodes of the keys that have none, of which the first is the smaller, and ratchets a value into the
+    /// keys and gaps between two cuts. Where memory is refused nothing changes. Where both keys have nodes
+    /// no memory is asked for.
+    pub(crate) fn add(
+        &mut self,
+        first: Option<&Key>,
+        second: Option<&Key>,
+        from: Cut<'_>,
+        to: Cut<'_>,
+        value: Value,
+    ) -> Result<(), NoMemory>
+        requires sorted { IsSorted self.old.list.items }
+        requires in_order { IsInOrder (option_map (λ k. k.now) first) (option_map (λ k. k.now) second) }
+        requires order { is_below (cut_of from) (cut_of to) ≡ true }
+        ensures added { OnOk result (AddsNodes self.old.list.items self.new.list.items (option_map (λ k. k.now) first.entry) (option_map (λ k. k.now) second.entry)
+            (between (cut_of from.entry) (cut_of to.entry)) value) }
+        ensures unchanged { OnErr result (self.new.list.items ≡ self.old.list.items) }
+        ensures memory { HasNodes self.old.list.items (option_map (λ k. k.now) first.entry) (option_map (λ k. k.now) second.entry) → IsOk result }
+    {
+        self.split_at(first, second)?;
+        self.raise_between(from, to, value);
         Ok(())
     }
 

@@ -1,6 +1,5 @@
 -- The nodes are split at the span's ends, and then raised within it.
 use Rattle.std.proofs.Common.{◌≡◌, ◌∙◌, sym, ap, subst, ◌++◌, ◌||◌, ◌∷◌, [], cond, ◌≤◌, nat_le, List, length, arith, true}
-use Rattle.std.specs.Prelude.{Result, Ok, Err, OnErr}
 use Rattle.std.specs.Ordering.{ord_max}
 use Rattle.std.proofs.lemmas.Bool.{leb-true}
 use Rattle.tsc_time.specs.Time.{Time, time_cmp, later}
@@ -12,6 +11,7 @@ use Rattle.tsc_page.specs.PageView.{PageView, StandsFor, NoAnswerAboveTop, answe
 use Rattle.tsc_page.specs.Nodes.{Node, answer_of, node_keys, page_of}
 use Rattle.tsc_page.specs.Leaves.{nodes_of, leaf_sizes}
 use Rattle.tsc_page.specs.LeafParts.{leaves_of, all_nodes}
+use Rattle.tsc_page.proofs.Refusals.{on_refusal}
 use Rattle.tsc_page.proofs.Standing.{later-max, added_length, added_keys, added_answers, added_covers, added_stands}
 use Rattle.tsc_page.proofs.page.Page.add.Goals as goal
 
@@ -29,11 +29,6 @@ invariant_of-self c =
       c.self.invariant.2,
       subst (λ (ls : List (List Node)). NoAnswerAboveTop (page_of c.self.inside.page_nodes c.self.inside.top (nodes_of ls) (leaf_sizes ls))) (sym same) c.self.invariant.3,
     )
-
--- what holds anyway holds of a refusal
-on_refusal : {T E : Type 0} (r : Result T E) (P : Type 0) → P → OnErr r P
-on_refusal (Ok x) P p = tt
-on_refusal (Err e) P p = p
 
 pub returns-in_err-add-clause-unchanged : goal.returns-in_err-add-clause-unchanged
 returns-in_err-add-clause-unchanged c = on_refusal c.from_residual.result _ (ap (λ (ls : List (List Node)). page_of c.self.inside.page_nodes c.self.inside.top (nodes_of ls) (leaf_sizes ls)) c.in_err-add.ensures.unchanged ∙ c.self.view_is)
