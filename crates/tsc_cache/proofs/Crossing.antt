@@ -7,6 +7,7 @@ use Rattle.tsc_time.specs.contracts.value.Value.{the_row as value}
 use Rattle.tsc_span.specs.contracts.key.Key.{the_row as key}
 use Rattle.tsc_page.specs.contracts.node.Node.{the_row as node}
 use Rattle.tsc_page.specs.contracts.nodes.Nodes.{the_row as nodes}
+use Rattle.tsc_page.specs.contracts.leaves.Leaves.{the_row as leaves}
 use Rattle.tsc_page.specs.contracts.page.Page.{the_row as page}
 use Rattle.tsc_span.specs.contracts.span.Shape.{the_row as shape}
 use Rattle.tsc_span.specs.contracts.span.Span.{the_row as span}
@@ -49,11 +50,17 @@ nodes_send = search (sendable, crosses, node_sends) depth 20
 nodes_sync : IsSync nodes
 nodes_sync = search (sendable, crosses, node_syncs) depth 20
 
+leaves_send : IsSend leaves
+leaves_send = search (sendable, crosses, nodes_send, nodes_sync) depth 20
+
+leaves_sync : IsSync leaves
+leaves_sync = search (sendable, crosses, nodes_send, nodes_sync) depth 20
+
 page_sends : IsSend page
-page_sends = search (sendable, declared_send, as_row_send, timestamp_sends, nodes_send) depth 20
+page_sends = search (sendable, declared_send, as_row_send, timestamp_sends, leaves_send) depth 20
 
 page_syncs : IsSync page
-page_syncs = search (sendable, declared_sync, as_row_sync, timestamp_syncs, nodes_sync) depth 20
+page_syncs = search (sendable, declared_sync, as_row_sync, timestamp_syncs, leaves_sync) depth 20
 
 pub config_sends : IsSend config
 config_sends = search (sendable, crosses, timestamp_sends) depth 20

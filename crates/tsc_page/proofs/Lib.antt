@@ -15,3 +15,11 @@ pub mod Ends
 pub mod Standing
 pub mod PlainMarks
 pub mod Tops
+pub mod Joins
+pub mod LeafAnswers
+pub mod LeafLists
+pub mod LeafKeys
+pub mod LeafRaises
+pub mod LeafMakes
+pub mod LeafAdds
+pub mod Refusals

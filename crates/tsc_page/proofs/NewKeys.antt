@@ -13,7 +13,7 @@ use Rattle.tsc_time.specs.OwnedTime.{unowned}
 use Rattle.std.proofs.lemmas.Bool.{cases_Bool}
 use Rattle.tsc_span.specs.Span.{KeyBytes, before, after, is_below}
 use Rattle.tsc_page.specs.PageView.{is_in, is_new_among}
-use Rattle.tsc_page.specs.Nodes.{Node, node_keys, IsSorted, FitsAt, FitsIn, IsNewKey, IsInOrder, IsSplitAt, with_new, node_in_gap, gap_value}
+use Rattle.tsc_page.specs.Nodes.{Node, node_keys, IsSorted, FitsAt, FitsIn, IsNewKey, IsInOrder, IsSplitAt, MakesNodes, with_new, node_in_gap, gap_value}
 use Rattle.tsc_page.proofs.Splits.{split_answers}
 use Rattle.tsc_page.proofs.Edits.{insert-sorted, insert-keys, FitsAt-below, FitsAt-absent}
 
@@ -102,3 +102,10 @@ splits_chain a b c ks ms first then = record {
   keys = λ q. then.keys q ∙ ap (λ x. x || is_in q ms) (first.keys q) ∙ joined (is_in q (node_keys a)) (is_in q ks) (is_in q ms) ∙ ap (λ x. is_in q (node_keys a) || x) (sym (list_any-append (bytes_eq q) ms ks));
   answers = λ s. then.answers s ∙ first.answers s;
 }
+
+-- nodes made of two keys are in order
+pub makes_sorted : (old mid : List Node) (o p : Option KeyBytes) → IsSorted old → IsInOrder o p → MakesNodes old mid o p → IsSorted mid
+makes_sorted old mid o p sorted order made =
+    let once = with_new_splits old p made.upper sorted made.has_upper in
+    let twice = with_new_splits (with_new old made.upper) o made.lower once.sorted (still_new old o p made.lower made.upper sorted order made.has_lower made.has_upper) in
+    subst IsSorted (sym made.nodes) twice.sorted

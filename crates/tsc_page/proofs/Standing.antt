@@ -200,17 +200,17 @@ module _ (old mid : List Node) (f t : Cut) (up : Lt f t) (value : OwnedTime) (sp
   added_answers s = raise_nodes_answers f t value mid split.sorted added_cuts.0 added_cuts.1 s ∙ ap (λ (w : OwnedTime). cond (overlaps (between f t) s) (joint w (value ∷ [])) w) (split.answers s)
 
   -- no answer comes to lie above the top
-  pub added_covers : (limit : ℕ) (before_it after_it : Time) → NoAnswerAboveTop (page_of limit before_it old) → after_it ≡ later before_it value.time → NoAnswerAboveTop (page_of limit after_it (raise_nodes (between f t) value mid))
-  added_covers limit before_it after_it covers is s =
+  pub added_covers : (sizes more : List ℕ) (limit : ℕ) (before_it after_it : Time) → NoAnswerAboveTop (page_of limit before_it old sizes) → after_it ≡ later before_it value.time → NoAnswerAboveTop (page_of limit after_it (raise_nodes (between f t) value mid) more)
+  added_covers sizes more limit before_it after_it covers is s =
       subst (λ (x : Time). is_before x (answer_of (raise_nodes (between f t) value mid) s).time ≡ false) (sym is)
       (subst (λ (w : OwnedTime). is_before (later before_it value.time) w.time ≡ false) (sym (added_answers s)) (raised_covers before_it (answer_of old s) value (overlaps (between f t) s) (covers s)))
 
   -- the page then stands for the list with the mark
-  pub added_stands : (limit : ℕ) (before_it after_it : Time) (p : PageMarks)
-      → StandsFor (page_of limit before_it old) p
+  pub added_stands : (sizes more : List ℕ) (limit : ℕ) (before_it after_it : Time) (p : PageMarks)
+      → StandsFor (page_of limit before_it old sizes) p
       → after_it ≡ later before_it value.time
-      → StandsFor (page_of limit after_it (raise_nodes (between f t) value mid)) (with_mark p (record { span = between f t; value = value }))
-  added_stands limit before_it after_it p stands is = record {
+      → StandsFor (page_of limit after_it (raise_nodes (between f t) value mid) more) (with_mark p (record { span = between f t; value = value }))
+  added_stands sizes more limit before_it after_it p stands is = record {
     top = is ∙ ap (λ x. later x value.time) stands.top ∙ sym (top_with p m);
     keys = λ k. added_keys k ∙ ap (λ b. b || is_in k (end_keys (between f t))) (stands.keys k)
         ∙ sym (list_any-append (bytes_eq k) (marked_keys p.marks) (end_keys (between f t))) ∙ ap (is_in k) (sym more_keys);

@@ -1,6 +1,8 @@
 pub mod Page
 pub mod PageView
 pub mod Nodes
+pub mod Leaves
+pub mod LeafParts
 pub use Rattle.tsc_time.specs.Time
 pub use Rattle.tsc_time.specs.Joint
 pub use Rattle.tsc_span.specs.Span

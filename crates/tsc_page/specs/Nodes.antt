@@ -46,9 +46,9 @@ stretch_spans (x ∷ xs) = record { span = between x.from (next_cut xs); value =
 abbrev pub node_keys : List Node → List KeyBytes
 node_keys nodes = map (λ n. n.key) nodes
 
--- what can be seen of a page by its limit, its top and its nodes
-abbrev pub page_of : ℕ → Time → List Node → PageView
-page_of limit t nodes = record { page_nodes = limit; top = t; keys = node_keys nodes; spans = stretch_spans (stretches nodes) }
+-- what can be seen of a page by its limit, its top, its nodes and the sizes of its leaves
+abbrev pub page_of : ℕ → Time → List Node → List ℕ → PageView
+page_of limit t nodes sizes = record { page_nodes = limit; top = t; keys = node_keys nodes; spans = stretch_spans (stretches nodes); leaves = sizes }
 
 -- what nodes answer to a span
 abbrev pub answer_of : List Node → Interval → OwnedTime
@@ -167,6 +167,20 @@ IsInOrder (Some k) (Some m) = is_below (after k) (before m) ≡ true
 -- of two keys each has a node, where it is one
 abbrev pub HasNodes : List Node → Option KeyBytes → Option KeyBytes → Type 0
 HasNodes nodes first second = (is_new_among (node_keys nodes) first ≡ false) × (is_new_among (node_keys nodes) second ≡ false)
+
+-- Nodes that were made of two keys, of which the second comes first.
+pub record MakesNodes (old new : List Node) (first second : Option KeyBytes) : Type 0 where
+  pub lower : Option (ℕ × KeyBytes)
+  pub upper : Option (ℕ × KeyBytes)
+  pub has_upper : IsNewKey old second upper
+  pub has_lower : IsNewKey old first lower
+  pub nodes : new ≡ with_new (with_new old upper) lower
+
+-- Nodes with those of two keys, in which a value is raised in a span.
+pub record AddsNodes (old new : List Node) (first second : Option KeyBytes) (span : Interval) (value : OwnedTime) : Type 0 where
+  pub mid : List Node
+  pub made : MakesNodes old mid first second
+  pub raised : new ≡ raise_nodes span value mid
 
 -- the nodes with those of more keys, which answer as before
 pub record IsSplitAt (old new : List Node) (more : List KeyBytes) : Type 0 where

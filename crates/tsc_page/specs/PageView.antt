@@ -1,5 +1,5 @@
 -- What can be seen of a page, and which list of marks it stands for.
-use Rattle.std.specs.Prelude.{◌≡◌, ℕ, List, ◌++◌, nat_le, Bool, true, false, not, Option, Some, None}
+use Rattle.std.specs.Prelude.{◌≡◌, ℕ, ◌≤◌, List, [], ◌∷◌, ◌++◌, nat_le, Bool, true, false, not, Option, Some, None}
 use Rattle.std.specs.List.{list_any}
 use Rattle.std.specs.Str.{bytes_eq}
 use Rattle.tsc_time.specs.Time.{Time, zero_time, is_before}
@@ -8,12 +8,18 @@ use Rattle.tsc_time.specs.Joint.{joint_above}
 use Rattle.tsc_span.specs.Span.{KeyBytes, Interval, end_keys}
 use Rattle.tsc_page.specs.Page.{Mark, PageMarks, top, values_on, marked_keys, count_distinct}
 
--- How many different end keys a page may hold, its top, its end keys, and spans with values that tell its answers.
+-- How many different end keys a page may hold, its top, its end keys, spans with values that tell its answers, and the sizes of its leaves.
 pub record PageView : Type 0 where
   pub page_nodes : ℕ
   pub top : Time
   pub keys : List KeyBytes
   pub spans : List Mark
+  pub leaves : List ℕ
+
+-- each leaf has 1 to 64 nodes
+abbrev pub AreLeafSizes : List ℕ → Type 0
+AreLeafSizes [] = Unit {0}
+AreLeafSizes (n ∷ ns) = (1 ≤ n) × (n ≤ 64) × AreLeafSizes ns
 
 -- what a page answers to a span: the joint value of those that overlap it, above time zero
 abbrev pub answer : PageView → Interval → OwnedTime
@@ -41,9 +47,9 @@ HasEndKeys v span = (k : KeyBytes) → is_in k (end_keys span) ≡ true → is_i
 abbrev pub has_room_for : PageView → Interval → Bool
 has_room_for v span = nat_le (count_distinct (v.keys ++ end_keys span)) v.page_nodes
 
--- what can be seen of a page that keeps the list itself
+-- what can be seen of a page that keeps the list itself, without leaves
 abbrev pub view_of : ℕ → PageMarks → PageView
-view_of page_nodes p = record { page_nodes = page_nodes; top = top p; keys = marked_keys p.marks; spans = p.marks }
+view_of page_nodes p = record { page_nodes = page_nodes; top = top p; keys = marked_keys p.marks; spans = p.marks; leaves = [] }
 
 -- whether this is a key, and not in a list
 abbrev pub is_new_among : List KeyBytes → Option KeyBytes → Bool

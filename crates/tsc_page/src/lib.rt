@@ -16,6 +16,7 @@
 //! A [`PlainPage`] is the same thing as the list of what was added: slow, and easy to believe.
 #![tactic(auto)]
 
+mod leaves;
 mod node;
 mod nodes;
 mod page;

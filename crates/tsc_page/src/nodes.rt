@@ -1,11 +1,11 @@
-ghost use Rattle.std.specs.Prelude.{◌≡◌, ◌<◌, ◌≤◌, [], ◌++◌, length, drop, true, false, IsOk, IfOk, IfErr, OnOk, OnErr, IfSome, is_some, ◌+◌, option_map, option_to_list, if◌then◌else◌};
+ghost use Rattle.std.specs.Prelude.{◌≡◌, ◌<◌, ◌≤◌, [], ◌∷◌, length, take, drop, true, false, IsOk, IfOk, IfErr, OnOk, OnErr, IfSome, is_some, ◌+◌, option_map, if◌then◌else◌};
 ghost use Rattle.std.specs.Vec.{vec_len, vec_capacity};
 ghost use Rattle.tsc_time.specs.Time.{zero_time};
 ghost use Rattle.tsc_time.specs.OwnedTime.{unowned};
 ghost use Rattle.tsc_span.specs.Span.{is_below, before, between};
 ghost use Rattle.tsc_span.specs.Cuts.{cut_of};
 ghost use Rattle.tsc_page.specs.PageView.{is_new_among};
-ghost use Rattle.tsc_page.specs.Nodes.{IsSorted, FitsAt, IsPlaceFor, IsNewKey, FitsIn, with_new, IsInOrder, HasNodes, IsSplitAt, PartsKeysAt, HoldsKeysOn, HoldsGapsOn, node_keys, answer_of, raise_nodes, node_in_gap, gap_value, start_of_gap, next_cut, node_stretches};
+ghost use Rattle.tsc_page.specs.Nodes.{IsSorted, FitsAt, IsPlaceFor, IsNewKey, FitsIn, with_new, IsInOrder, HasNodes, MakesNodes, AddsNodes, PartsKeysAt, HoldsKeysOn, HoldsGapsOn, node_keys, answer_of, raise_nodes, node_in_gap, gap_value, start_of_gap, next_cut, node_stretches};
 
 use crate::node::Node;
 use std::alloc::Global;
@@ -13,7 +13,7 @@ use std::ops::Range;
 use tsc_span::{Cut, Key};
 use tsc_time::{NoMemory, Timestamp, Value, ratchet};
 
-/// Nodes in the order of their keys.
+/// Nodes in the order of their keys: a leaf of a page.
 #[derive(Debug, Drop)]
 pub(crate) struct Nodes {
     list: Vec<Node>,
@@ -34,8 +34,33 @@ impl Nodes {
         self.list.len()
     }
 
+    /// A node of a key, with time zero without an owner.
+    pub(crate) fn of_key(alloc: Global, key: &Key) -> Result<Nodes, NoMemory>
+        ensures { IfOk result (λ nodes. nodes.list.items ≡ node_in_gap key.now (unowned zero_time) ∷ []) }
+    {
+        let mut list = Vec::with_capacity(alloc, 1)?;
+        let value = Value::unowned(Timestamp::ZERO);
+        let key = key.try_copy()?;
+        list.push(Node {
+            key,
+            value,
+            gap: value,
+        })?;
+        Ok(Nodes { list })
+    }
+
+    /// Where the nodes begin.
+    pub(crate) fn start(&self) -> Cut<'_>
+        ensures { cut_of result ≡ next_cut (node_stretches self.now.list.items) }
+    {
+        match self.list.first() {
+            Some(first) => Cut::Before(first.key.bytes()),
+            None => Cut::Last,
+        }
+    }
+
     /// The place for a key that has no node, or `None` for one that has.
-    fn place_for(&self, key: &Key) -> Option<usize>
+    pub(crate) fn place_for(&self, key: &Key) -> Option<usize>
         requires sorted { IsSorted self.now.list.items }
         ensures place { IsPlaceFor key.now self.now.list.items result }
         ensures bound { IfSome result (λ i. i ≤ length self.now.list.items) }
@@ -44,17 +69,6 @@ impl Nodes {
             .as_slice()
             .binary_search_by(|node| node.key.cmp(key))
             .err()
-    }
-
-    /// Whether this is a key that has no node.
-    pub(crate) fn is_new(&self, key: Option<&Key>) -> bool
-        requires sorted { IsSorted self.now.list.items }
-        ensures { result ≡ is_new_among (node_keys self.now.list.items) (option_map (λ k. k.now) key.entry) }
-    {
-        match key {
-            Some(key) => self.place_for(key).is_some(),
-            None => false,
-        }
     }
 
     /// The places of the nodes whose keys lie between two cuts.
@@ -166,7 +180,7 @@ impl Nodes {
 
     /// Makes a node of a new key, with the value of the gap in which it falls, or time zero without an
     /// owner below the first node.
-    fn split(&mut self, new: Option<(usize, Key)>)
+    pub(crate) fn split(&mut self, new: Option<(usize, Key)>)
         requires fits { FitsIn self.old.list.items new }
         requires room { vec_len self.old.list + (if is_some new then 1 else 0) ≤ vec_capacity self.old.list }
         ensures inserted { self.new.list.items ≡ with_new self.old.list.items new }
@@ -188,15 +202,14 @@ impl Nodes {
 
     /// Makes nodes of the keys that have none, of which the first is the smaller. Where memory is refused
     /// nothing changes, and the list has not grown. Where both have nodes no memory is asked for.
-    pub(crate) fn split_at(
+    fn split_at(
         &mut self,
         first: Option<&Key>,
         second: Option<&Key>,
     ) -> Result<(), NoMemory>
         requires sorted { IsSorted self.old.list.items }
         requires order { IsInOrder (option_map (λ k. k.now) first) (option_map (λ k. k.now) second) }
-        ensures split { OnOk result (IsSplitAt self.old.list.items self.new.list.items
-            (option_to_list (option_map (λ k. k.now) first.entry) ++ option_to_list (option_map (λ k. k.now) second.entry))) }
+        ensures made { OnOk result (MakesNodes self.old.list.items self.new.list.items (option_map (λ k. k.now) first.entry) (option_map (λ k. k.now) second.entry)) }
         ensures unchanged { OnErr result (self.new.list.items ≡ self.old.list.items) }
         ensures capacity { OnErr result (vec_capacity self.new.list ≡ vec_capacity self.old.list) }
         ensures memory { HasNodes self.old.list.items (option_map (λ k. k.now) first.entry) (option_map (λ k. k.now) second.entry)
@@ -214,14 +227,52 @@ impl Nodes {
         Ok(())
     }
 
-    /// A copy of the nodes.
-    pub(crate) fn try_copy(&self) -> Result<Nodes, NoMemory>
-        ensures { IfOk result (λ copy. copy.list.items ≡ self.now.list.items) }
+    /// Makes nodes of the keys that have none, of which the first is the smaller, and ratchets a value into the
+    /// keys and gaps between two cuts. Where memory is refused nothing changes. Where both keys have nodes
+    /// no memory is asked for.
+    pub(crate) fn add(
+        &mut self,
+        first: Option<&Key>,
+        second: Option<&Key>,
+        from: Cut<'_>,
+        to: Cut<'_>,
+        value: Value,
+    ) -> Result<(), NoMemory>
+        requires sorted { IsSorted self.old.list.items }
+        requires in_order { IsInOrder (option_map (λ k. k.now) first) (option_map (λ k. k.now) second) }
+        requires order { is_below (cut_of from) (cut_of to) ≡ true }
+        ensures added { OnOk result (AddsNodes self.old.list.items self.new.list.items (option_map (λ k. k.now) first.entry) (option_map (λ k. k.now) second.entry)
+            (between (cut_of from.entry) (cut_of to.entry)) value) }
+        ensures unchanged { OnErr result (self.new.list.items ≡ self.old.list.items) }
+        ensures memory { HasNodes self.old.list.items (option_map (λ k. k.now) first.entry) (option_map (λ k. k.now) second.entry) → IsOk result }
     {
-        let mut list = Vec::with_capacity(*self.list.allocator(), self.list.len())?;
+        self.split_at(first, second)?;
+        self.raise_between(from, to, value);
+        Ok(())
+    }
+
+    /// Takes off the nodes from a place on.
+    pub(crate) fn split_off(&mut self, place: usize) -> Result<Nodes, NoMemory>
+        requires bound { place ≤ length self.old.list.items }
+        ensures kept { OnOk result (self.new.list.items ≡ take place self.old.list.items) }
+        ensures rest { IfOk result (λ upper. upper.list.items ≡ drop place self.old.list.items) }
+    {
+        Ok(Nodes {
+            list: self.list.split_off(place)?,
+        })
+    }
+
+    /// A copy of the nodes, with room for more.
+    pub(crate) fn try_copy(&self, more: usize) -> Result<Nodes, NoMemory>
+        requires small { more ≤ 2 }
+        ensures items { IfOk result (λ copy. copy.list.items ≡ self.now.list.items) }
+        ensures room { IfOk result (λ copy. vec_len copy.list + more ≤ vec_capacity copy.list) }
+    {
+        let mut list = Vec::with_capacity(*self.list.allocator(), self.list.len() + more)?;
         for node in &self.list {
             list.push(node.try_copy()?)?;
         }
+        list.reserve(more)?;
         Ok(Nodes { list })
     }
 }

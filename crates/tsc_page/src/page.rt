@@ -1,12 +1,12 @@
-ghost use Rattle.std.specs.Prelude.{◌≡◌, ◌≤◌, ◌||◌, ◌∷◌, [], true, false, IsOk, IfOk, OnOk, OnErr, if◌then◌else◌};
+ghost use Rattle.std.specs.Prelude.{sum, slice_get, ◌≡◌, ◌≤◌, ◌||◌, ◌∷◌, [], true, false, IsOk, IfOk, OnOk, OnErr, if◌then◌else◌};
 ghost use Rattle.tsc_time.specs.Joint.{joint, joint_above};
 ghost use Rattle.tsc_time.specs.Time.{zero_time, is_before, later};
 ghost use Rattle.tsc_span.specs.Span.{KeyBytes, Interval, is_empty_span, overlaps, end_keys};
 ghost use Rattle.tsc_page.specs.declared.TheConstants.{LEAST_NODES, MOST_NODES};
 ghost use Rattle.tsc_page.specs.Page.{PageMarks, Mark, empty_page, with_mark, top, values_on, marked_keys, count_distinct, has_room};
-ghost use Rattle.tsc_page.specs.PageView.{StandsFor, NoAnswerAboveTop, answer, is_in, has_room_for, HasEndKeys};
+ghost use Rattle.tsc_page.specs.PageView.{AreLeafSizes, StandsFor, NoAnswerAboveTop, answer, is_in, has_room_for};
 
-use crate::nodes::Nodes;
+use crate::leaves::Leaves;
 use std::alloc::Global;
 use std::marker::Model;
 use tsc_span::{Key, Span};
@@ -20,20 +20,22 @@ use tsc_time::{NoMemory, Timestamp, Value};
 pub struct Page {
     page_nodes: u32,
     top: Timestamp,
-    nodes: Nodes,
+    leaves: Leaves,
 }
 
 impl Model for Page {
     ghost use Rattle.std.specs.Prelude.{length, ◌≤◌};
     ghost use Rattle.tsc_page.specs.declared.TheConstants.{MOST_NODES};
     ghost use Rattle.tsc_page.specs.PageView.{PageView, NoAnswerAboveTop};
-    ghost use Rattle.tsc_page.specs.Nodes.{IsSorted, page_of};
+    ghost use Rattle.tsc_page.specs.Nodes.{page_of};
+    ghost use Rattle.tsc_page.specs.Leaves.{leaf_sizes};
+    ghost use Rattle.tsc_page.specs.LeafParts.{leaves_of, all_nodes, AreCounted};
 
     ghost Value = { PageView };
 
-    ghost view = { λ p. page_of p.page_nodes p.top p.nodes.list.items };
+    ghost view = { λ p. page_of p.page_nodes p.top (all_nodes p.leaves) (leaf_sizes (leaves_of p.leaves)) };
 
-    ghost invariant = { λ p. IsSorted p.nodes.list.items × (length p.nodes.list.items ≤ p.page_nodes) × (p.page_nodes ≤ MOST_NODES) × NoAnswerAboveTop (page_of p.page_nodes p.top p.nodes.list.items) };
+    ghost invariant = { λ p. AreCounted p.leaves × (length (all_nodes p.leaves) ≤ p.page_nodes) × (p.page_nodes ≤ MOST_NODES) × NoAnswerAboveTop (page_of p.page_nodes p.top (all_nodes p.leaves) (leaf_sizes (leaves_of p.leaves))) };
 }
 
 impl Page {
@@ -51,7 +53,7 @@ impl Page {
         Ok(Page {
             page_nodes,
             top: base,
-            nodes: Nodes::new(alloc),
+            leaves: Leaves::new(alloc),
         })
     }
 
@@ -62,8 +64,8 @@ impl Page {
         ensures stands { (p : PageMarks) → StandsFor self.now p → result ≡ has_room self.now.page_nodes p span.now }
     {
         let (first, second) = span.end_keys();
-        let new = usize::from(self.nodes.is_new(first)) + usize::from(self.nodes.is_new(second));
-        self.nodes.len() + new <= self.page_nodes as usize
+        let new = usize::from(self.leaves.is_new(first)) + usize::from(self.leaves.is_new(second));
+        self.leaves.len() + new <= self.page_nodes as usize
     }
 
     /// Adds a span with its value. The span is not empty, and the page has room for it. Where memory is
@@ -83,14 +85,12 @@ impl Page {
         ensures answers { OnOk result ((s : Interval) → answer self.new s
             ≡ (if overlaps span.now s then joint (answer self.old s) (value ∷ []) else answer self.old s)) }
         ensures unchanged { OnErr result (self.new ≡ self.old) }
-        ensures memory { HasEndKeys self.old span.now → IsOk result }
     {
         let Some((from, to)) = span.cuts() else {
             return Ok(());
         };
         let (first, second) = span.end_keys();
-        self.nodes.split_at(first, second)?;
-        self.nodes.raise_between(from, to, value);
+        self.leaves.add(first, second, from, to, value)?;
         self.top = self.top.max(value.time());
         Ok(())
     }
@@ -103,7 +103,7 @@ impl Page {
         ensures stands { (p : PageMarks) → StandsFor self.now p → result ≡ joint_above zero_time (values_on span.now p.marks) }
     {
         match span.cuts() {
-            Some((from, to)) => self.nodes.joint_between(from, to),
+            Some((from, to)) => self.leaves.joint_between(from, to),
             None => Value::unowned(Timestamp::ZERO),
         }
     }
@@ -123,7 +123,20 @@ impl Page {
         ensures stands { (p : PageMarks) → StandsFor self.now p → result ≡ count_distinct (marked_keys p.marks) }
         ensures limit { result ≤ self.now.page_nodes }
     {
-        self.nodes.len() as u32
+        self.leaves.len() as u32
+    }
+
+    /// How many nodes a leaf has, from the first one in the order of keys on; `None` past the last. A page
+    /// keeps its nodes in leaves, each of 1 to 64, and copies of a page share those that are the same.
+    pub fn leaf_nodes(&self, i: u32) -> Option<u32>
+        ensures value { result ≡ slice_get self.now.leaves i }
+        ensures sizes { AreLeafSizes self.now.leaves }
+        ensures total { sum self.now.leaves ≡ count_distinct self.now.keys }
+    {
+        match self.leaves.leaf_len(i as usize) {
+            Some(len) => Some(len as u32),
+            None => None,
+        }
     }
 
     /// A copy of the page. It takes as much memory as the page's keys and nodes.
@@ -134,7 +147,7 @@ impl Page {
         Ok(Page {
             page_nodes: self.page_nodes,
             top: self.top,
-            nodes: self.nodes.try_copy()?,
+            leaves: self.leaves.try_copy()?,
         })
     }
 }

@@ -411,3 +411,170 @@ fn the_largest_page(rt: HostRuntime) -> Result<(), Fail> {
     assert!(rt; is_full(rt.alloc(), &copy)? && copy.top() == page.top());
     Ok(())
 }
+
+/// A key of one byte.
+fn byte_key(alloc: Global, byte: u32) -> Result<Key, Fail> {
+    Ok(Key::new(alloc, &[byte as u8])?)
+}
+
+/// A range between two keys of one byte.
+fn byte_range(alloc: Global, from: u32, to: u32, ends: Ends) -> Result<Span, Fail> {
+    Ok(Span::for_lookup(byte_key(alloc, from)?, byte_key(alloc, to)?, ends))
+}
+
+/// The sizes of a page's first leaves, and nothing past the last.
+fn has_leaves(page: &Page, sizes: &[u32]) -> bool {
+    let mut alike = true;
+    let mut place = 0;
+    for size in sizes {
+        alike &= page.leaf_nodes(place) == Some(*size);
+        place += 1;
+    }
+    alike && page.leaf_nodes(place).is_none()
+}
+
+/// A page with the keys 0 to 129, each with a time of its own.
+fn page_of_bytes(alloc: Global) -> Result<Page, Fail> {
+    let mut page = Page::new(alloc, 200, Timestamp::ZERO)?;
+    for byte in 0..130 {
+        let span = Span::point(byte_key(alloc, byte)?);
+        add_once(&mut page, &span, value(u64::from(byte) + 1, 0, FIRST)?)?;
+    }
+    Ok(page)
+}
+
+/// Adds a value to a span, and once more where memory was refused, which leaves the leaves as they were.
+fn add_once(page: &mut Page, span: &Span, value: Value) -> Result<(), Fail> {
+    if span.is_empty() || !page.room(span) {
+        return Err(Fail::new("no room"));
+    }
+    let (nodes, first) = (page.nodes(), page.leaf_nodes(0));
+    if let Err(NoMemory) = page.add(span, value) {
+        if page.nodes() != nodes || page.leaf_nodes(0) != first || !page.room(span) {
+            return Err(Fail::new("a refused Add changed the page"));
+        }
+        page.add(span, value)?;
+    }
+    Ok(())
+}
+
+/// What a page of the keys 0 to 129 answers after an Add over most of its leaves.
+fn answers_after_a_long_add(alloc: Global, page: &Page) -> Result<bool, Fail> {
+    let open = Ends {
+        exclude_from: true,
+        exclude_to: true,
+    };
+    let mut alike = page.nodes() == 130 && page.top() == value(200, 0, NOBODY)?.time();
+    for byte in [10, 11, 31, 32, 63, 64, 95, 96, 119] {
+        let span = Span::point(byte_key(alloc, byte)?);
+        alike &= page.lookup(&span) == value(200, 0, SECOND)?;
+    }
+    for byte in [0, 9, 120, 129] {
+        let span = Span::point(byte_key(alloc, byte)?);
+        alike &= page.lookup(&span) == value(u64::from(byte) + 1, 0, FIRST)?;
+    }
+    let below = page.lookup(&byte_range(alloc, 9, 10, open)?);
+    let last = page.lookup(&byte_range(alloc, 119, 120, open)?);
+    let across = page.lookup(&byte_range(alloc, 31, 32, open)?);
+    Ok(alike && below == value(0, 0, NOBODY)? && last == value(200, 0, SECOND)? && across == last)
+}
+
+/// An Add over the leaves of a page that a copy shares: the copy answers as before.
+#[test]
+fn an_add_over_shared_leaves(rt: HostRuntime) -> Result<(), Fail> {
+    let mut page = page_of_bytes(rt.alloc())?;
+    assert!(rt; has_leaves(&page, &[32, 32, 32, 34]));
+    let copy = page.try_copy()?;
+    let ends = Ends {
+        exclude_from: false,
+        exclude_to: true,
+    };
+    let span = byte_range(rt.alloc(), 10, 120, ends)?;
+    add_once(&mut page, &span, value(200, 0, SECOND)?)?;
+    assert!(rt; answers_after_a_long_add(rt.alloc(), &page)?);
+    assert!(rt; has_leaves(&page, &[32, 32, 32, 34]) && has_leaves(&copy, &[32, 32, 32, 34]));
+    let single = Span::point(byte_key(rt.alloc(), 10)?);
+    assert!(rt; copy.lookup(&single) == value(11, 0, FIRST)? && copy.top() == value(130, 0, NOBODY)?.time());
+    Ok(())
+}
+
+/// In which order keys come to a page.
+#[derive(Clone, Copy, Debug)]
+enum Order {
+    Rising,
+    Falling,
+    Mixed,
+}
+
+/// The number of a step among so many.
+fn number(order: Order, step: u32, count: u32) -> u32 {
+    match order {
+        Order::Rising => step,
+        Order::Falling => count - 1 - step,
+        Order::Mixed => step.wrapping_mul(37) % count,
+    }
+}
+
+/// The key of a number, alone or after a beginning that all keys have.
+fn numbered_key(alloc: Global, number: u32, alike: bool) -> Result<Key, Fail> {
+    let mut bytes = [7; 20];
+    bytes[16..].copy_from_slice(&number.to_be_bytes());
+    let bytes = if alike { &bytes[..] } else { &bytes[16..] };
+    Ok(Key::new(alloc, bytes)?)
+}
+
+/// Fills both pages with the keys of so many numbers, each in a range up to the key of the next number.
+fn fill(alloc: Global, pages: &mut Pages, order: Order, alike: bool, count: u32) -> Result<(), Fail> {
+    for step in 0..count {
+        let at = number(order, step, count);
+        let ends = Ends {
+            exclude_from: at % 3 == 1,
+            exclude_to: at % 2 == 0,
+        };
+        let (from, to) = (numbered_key(alloc, at, alike)?, numbered_key(alloc, (at + 1).min(count - 1), alike)?);
+        let span = Span::for_lookup(from, to, ends);
+        if !span.is_empty() {
+            pages.add(&span, value(u64::from(step % 50) + 1, 0, u128::from(step % 3))?)?;
+        }
+    }
+    Ok(())
+}
+
+/// Whether both pages answer alike to each key, to the gap after it, and to ranges of several lengths.
+fn filled_alike(alloc: Global, pages: &Pages, alike: bool, count: u32) -> Result<bool, Fail> {
+    let mut same = pages.page.top() == pages.plain.top() && pages.page.nodes() == pages.plain.nodes();
+    for at in 0..count {
+        for (length, exclude) in [(0, false), (1, true), (40, false), (count, true)] {
+            let ends = Ends {
+                exclude_from: exclude,
+                exclude_to: exclude,
+            };
+            let (from, to) = (numbered_key(alloc, at, alike)?, numbered_key(alloc, at + length, alike)?);
+            let span = Span::for_lookup(from, to, ends);
+            same &= pages.page.lookup(&span) == pages.plain.lookup(&span);
+        }
+    }
+    Ok(same)
+}
+
+/// What pages are filled with: how many keys, in which order, and whether they begin alike.
+static FILLS: [(u32, Order, bool); 8] = [
+    (64, Order::Rising, false),
+    (65, Order::Falling, true),
+    (65, Order::Rising, true),
+    (128, Order::Mixed, false),
+    (129, Order::Rising, false),
+    (129, Order::Falling, false),
+    (129, Order::Mixed, true),
+    (200, Order::Mixed, false),
+];
+
+#[test]
+fn filled_pages_answer_alike(rt: HostRuntime) -> Result<(), Fail> {
+    for (count, order, alike) in &FILLS {
+        let mut pages = Pages::new(rt.alloc(), 4096, 0)?;
+        fill(rt.alloc(), &mut pages, *order, *alike, *count)?;
+        assert!(rt; filled_alike(rt.alloc(), &pages, *alike, *count)?, "{count} {order:?}");
+    }
+    Ok(())
+}

@@ -17,19 +17,18 @@ split-requires-2-clause-fits c =
     let new = still_new nodes first second c.in_ok-first.first c.in_ok-second.second c.requires.sorted c.requires.order c.in_ok-first.ensures.value c.in_ok-second.ensures.value in
     subst (λ (ns : List Node). FitsIn ns c.in_ok-first.first) (sym once) (new_fits (with_new nodes c.in_ok-second.second) first c.in_ok-first.first new)
 
-pub returns-clause-split : goal.returns-clause-split
-returns-clause-split c =
-    let nodes : List Node = c.args.self.now.list.items in
-    let first : Option KeyBytes = option_map (λ k. k.now) c.args.first in
-    let second : Option KeyBytes = option_map (λ k. k.now) c.args.second in
+pub returns-clause-made : goal.returns-clause-made
+returns-clause-made c =
     let f = c.in_ok-first.first in
     let g = c.in_ok-second.second in
     let once = c.split.ensures.inserted ∙ ap (λ (ns : List Node). with_new ns g) c.in_ok-reserve.ensures.items in
-    let twice = c.split-2.ensures.inserted ∙ ap (λ (ns : List Node). with_new ns f) once in
-    let splits = with_new_splits nodes second g c.requires.sorted c.in_ok-second.ensures.value in
-    let new = still_new nodes first second f g c.requires.sorted c.requires.order c.in_ok-first.ensures.value c.in_ok-second.ensures.value in
-    let more = with_new_splits (with_new nodes g) first f splits.sorted new in
-    subst (λ (ns : List Node). IsSplitAt nodes ns (option_to_list first ++ option_to_list second)) (sym twice) (splits_chain nodes (with_new nodes g) (with_new (with_new nodes g) f) (option_to_list second) (option_to_list first) splits more)
+    record {
+      lower = f;
+      upper = g;
+      has_upper = c.in_ok-second.ensures.value;
+      has_lower = c.in_ok-first.ensures.value;
+      nodes = c.split-2.ensures.inserted ∙ ap (λ (ns : List Node). with_new ns f) once;
+    }
 
 pub returns-in_err-reserve-clause-memory : goal.returns-in_err-reserve-clause-memory
 returns-in_err-reserve-clause-memory c known =

@@ -1,0 +1,132 @@
+-- A new key in a leaf, among the nodes of all leaves.
+use Rattle.std.proofs.Common.{◌≡◌, ◌⊎◌, inl, inr, ◌∙◌, refl, sym, ap, subst, Bool, true, false, ◌||◌, ℕ, zero, suc, ◌+◌, ◌<◌, ◌≤◌, List, [], ◌∷◌, ◌++◌, length, arith}
+use mathlib.Core.Bool.{true≢false}
+use Rattle.std.specs.declared.cmp.Ordering.{Ordering}
+use Rattle.std.specs.declared.cmp.Ordering.TheVariants.{Less, Equal, Greater}
+use Rattle.std.specs.Ordering.{is_lt}
+use Rattle.std.specs.Prelude.{Option, Some, None, IfSome, not}
+use Rattle.std.specs.Option.{is_some, option_to_list}
+use Rattle.std.specs.List.{insert}
+use Rattle.std.specs.Str.{bytes_eq}
+use Rattle.std.proofs.Math.Bool.{or-true}
+use Rattle.std.proofs.lemmas.List.{length-append}
+use Rattle.tsc_time.specs.Time.{zero_time}
+use Rattle.tsc_time.specs.OwnedTime.{OwnedTime, unowned}
+use Rattle.tsc_span.specs.Span.{KeyBytes, key_cmp, Cut, before, after, last}
+use Rattle.tsc_page.specs.PageView.{is_in}
+use Rattle.tsc_page.specs.Nodes.{Node, node_keys, IsSorted, FitsAt, IsPlaceFor, IsNewKey, IsSplitAt, with_new, node_in_gap, gap_value}
+use Rattle.tsc_page.specs.Leaves.{start_of}
+use Rattle.tsc_page.proofs.CutOrder.{Lt, Le, Lt-not_Le, Le-chain, Le-from_Lt, Lt-chain, after-before, below_last, before-after}
+use Rattle.tsc_page.proofs.Cuts.{lowest}
+use Rattle.tsc_page.proofs.Edits.{FitsAt-absent}
+use Rattle.tsc_page.proofs.NewKeys.{with_new_splits}
+
+-- a key below where nodes begin is wholly below it
+pub wholly_below : (k : KeyBytes) (ys : List Node) → Lt (before k) (start_of ys) → Lt (after k) (start_of ys)
+wholly_below k [] h = below_last k
+wholly_below k (m ∷ ys) h = after-before k m.key (by (key_cmp k m.key) h)
+  where
+    by : (o : Ordering) → is_lt o ≡ true → o ≡ Less
+    by Less e = refl
+    by Equal e = absurd (true≢false (sym e))
+    by Greater e = absurd (true≢false (sym e))
+
+-- a place after as many nodes more
+abbrev pub shift : List Node → ℕ → ℕ
+shift [] i = i
+shift (x ∷ xs) i = suc (shift xs i)
+
+shift_bound : (xs ys : List Node) (i : ℕ) → i ≤ length ys → shift xs i ≤ length (xs ++ ys)
+shift_bound [] ys i h = h
+shift_bound (x ∷ xs) ys i h = let rest = shift_bound xs ys i h in omega arith
+
+insert_left : (xs ys : List Node) (i : ℕ) (n : Node) → i ≤ length xs → insert (xs ++ ys) i n ≡ insert xs i n ++ ys
+insert_left xs ys zero n h = refl
+insert_left [] ys (suc i) n h = absurd (omega arith)
+insert_left (x ∷ xs) ys (suc i) n h = ap (λ (ns : List Node). x ∷ ns) (insert_left xs ys i n (omega arith))
+
+insert_right : (xs ys : List Node) (i : ℕ) (n : Node) → insert (xs ++ ys) (shift xs i) n ≡ xs ++ insert ys i n
+insert_right [] ys i n = refl
+insert_right (x ∷ xs) ys i n = ap (λ (ns : List Node). x ∷ ns) (insert_right xs ys i n)
+
+gap_value_left : (v : OwnedTime) (xs ys : List Node) (i : ℕ) → i ≤ length xs → gap_value v (xs ++ ys) i ≡ gap_value v xs i
+gap_value_left v xs ys zero h = refl
+gap_value_left v [] ys (suc i) h = absurd (omega arith)
+gap_value_left v (x ∷ xs) ys (suc i) h = gap_value_left x.gap xs ys i (omega arith)
+
+gap_value_right : (v w : OwnedTime) (xs : List Node) (n : Node) (ys : List Node) (i : ℕ) → gap_value v (xs ++ n ∷ ys) (shift xs (suc i)) ≡ gap_value w (n ∷ ys) (suc i)
+gap_value_right v w [] n ys i = refl
+gap_value_right v w (x ∷ xs) n ys i = gap_value_right x.gap w xs n ys i
+
+fits_left : (k : KeyBytes) (low : Cut) (xs ys : List Node) (i : ℕ) → i ≤ length xs → Lt (after k) (start_of ys) → FitsAt k low xs i → FitsAt k low (xs ++ ys) i
+fits_left k low [] ys zero h high fits = (fits.0, high)
+fits_left k low (x ∷ xs) ys zero h high fits = fits
+fits_left k low [] ys (suc i) h high fits = absurd (omega arith)
+fits_left k low (x ∷ xs) ys (suc i) h high fits = fits_left k (after x.key) xs ys i (omega arith) high fits
+
+fits_right : (k : KeyBytes) (low mid : Cut) (xs : List Node) (n : Node) (ys : List Node) (i : ℕ) → FitsAt k mid (n ∷ ys) (suc i) → FitsAt k low (xs ++ n ∷ ys) (shift xs (suc i))
+fits_right k low mid [] n ys i fits = fits
+fits_right k low mid (x ∷ xs) n ys i fits = fits_right k (after x.key) mid xs n ys i fits
+
+-- What a leaf's place for a key is among all nodes.
+pub record IsPlacedAt (k : KeyBytes) (xs leaf ys : List Node) (i : ℕ) : Type 0 where
+  pub fits : FitsAt k (before []) (xs ++ (leaf ++ ys)) (shift xs i)
+  pub bound : shift xs i ≤ length (xs ++ (leaf ++ ys))
+  pub nodes : with_new (xs ++ (leaf ++ ys)) (Some (shift xs i, k)) ≡ xs ++ (with_new leaf (Some (i, k)) ++ ys)
+
+at_first : (k : KeyBytes) (leaf ys : List Node) (i : ℕ) → i ≤ length leaf → Lt (after k) (start_of ys) → FitsAt k (before []) leaf i → IsPlacedAt k [] leaf ys i
+at_first k leaf ys i h high fits = record {
+  fits = fits_left k (before []) leaf ys i h high fits;
+  bound = omega (arith, length-append leaf ys);
+  nodes = ap (λ (v : OwnedTime). insert (leaf ++ ys) i (node_in_gap k v)) (gap_value_left (unowned zero_time) leaf ys i h) ∙ insert_left leaf ys i (node_in_gap k (gap_value (unowned zero_time) leaf i)) h;
+}
+
+later_on : (k : KeyBytes) (xs : List Node) (n : Node) (ns ys : List Node) (i : ℕ) → suc i ≤ length (n ∷ ns) → Lt (after k) (start_of ys) → FitsAt k (before []) (n ∷ ns) (suc i) → IsPlacedAt k xs (n ∷ ns) ys (suc i)
+later_on k xs n ns ys i h high fits = record {
+  fits = fits_right k (before []) (before []) xs n (ns ++ ys) i (fits_left k (before []) (n ∷ ns) ys (suc i) h high fits);
+  bound = shift_bound xs (n ∷ (ns ++ ys)) (suc i) (omega (arith, h, length-append ns ys));
+  nodes =
+      ap (λ (v : OwnedTime). insert (xs ++ n ∷ (ns ++ ys)) (shift xs (suc i)) (node_in_gap k v)) (gap_value_right (unowned zero_time) (unowned zero_time) xs n (ns ++ ys) i ∙ gap_value_left (unowned zero_time) (n ∷ ns) ys (suc i) h)
+      ∙ insert_right xs (n ∷ (ns ++ ys)) (suc i) node
+      ∙ ap (λ (ms : List Node). xs ++ ms) (insert_left (n ∷ ns) ys (suc i) node h);
+}
+  where
+    node : Node
+    node = node_in_gap k (gap_value (unowned zero_time) (n ∷ ns) (suc i))
+
+pub placed : (k : KeyBytes) (xs leaf ys : List Node) (i : ℕ) → 1 ≤ length leaf → (xs ≡ []) ⊎ Le (start_of leaf) (before k) → Lt (after k) (start_of ys) → i ≤ length leaf → FitsAt k (before []) leaf i → IsPlacedAt k xs leaf ys i
+placed k xs leaf ys i some (inl none) high h fits = subst (λ (ns : List Node). IsPlacedAt k ns leaf ys i) (sym none) (at_first k leaf ys i h high fits)
+placed k xs [] ys i some (inr low) high h fits = absurd (omega (arith, some))
+placed k xs (n ∷ ns) ys zero some (inr low) high h fits = absurd (Lt-not_Le (after k) (before n.key) fits.1 (Le-chain (before n.key) (before k) (after k) low (Le-from_Lt (before k) (after k) (before-after k))))
+placed k xs (n ∷ ns) ys (suc i) some (inr low) high h fits = later_on k xs n ns ys i h high fits
+
+-- keys of one of three lists
+pub is_in-append : (k : KeyBytes) (xs ys : List Node) → is_in k (node_keys (xs ++ ys)) ≡ (is_in k (node_keys xs) || is_in k (node_keys ys))
+is_in-append k [] ys = refl
+is_in-append k (x ∷ xs) ys = ap (λ b. bytes_eq k x.key || b) (is_in-append k xs ys) ∙ grouped (bytes_eq k x.key) (is_in k (node_keys xs)) (is_in k (node_keys ys))
+  where
+    grouped : (a b c : Bool) → (a || (b || c)) ≡ ((a || b) || c)
+    grouped true b c = refl
+    grouped false b c = refl
+
+pub known_within : (k : KeyBytes) (xs leaf ys : List Node) → is_in k (node_keys leaf) ≡ true → is_in k (node_keys (xs ++ (leaf ++ ys))) ≡ true
+known_within k xs leaf ys h = is_in-append k xs (leaf ++ ys) ∙ ap (λ b. is_in k (node_keys xs) || b) (is_in-append k leaf ys ∙ rw h refl) ∙ or-true (is_in k (node_keys xs))
+
+-- a leaf's place for a key tells whether it is new among all nodes
+pub told_by_leaf : (k : KeyBytes) (xs leaf ys : List Node) (r : Option ℕ) → IsSorted (xs ++ (leaf ++ ys)) → 1 ≤ length leaf → (xs ≡ []) ⊎ Le (start_of leaf) (before k) → Lt (after k) (start_of ys)
+    → IsPlaceFor k leaf r → IfSome r (λ i. i ≤ length leaf) → is_some r ≡ not (is_in k (node_keys (xs ++ (leaf ++ ys))))
+told_by_leaf k xs leaf ys None sorted some low high at bound = rw (known_within k xs leaf ys at) refl
+told_by_leaf k xs leaf ys (Some i) sorted some low high at bound = let there = placed k xs leaf ys i some low high bound at in rw (FitsAt-absent k (xs ++ (leaf ++ ys)) (shift xs i) (before []) sorted there.fits) refl
+
+-- a node made in a leaf splits a gap of all nodes
+pub made_in_leaf : (k : KeyBytes) (xs leaf ys : List Node) (i : ℕ) → IsSorted (xs ++ (leaf ++ ys)) → 1 ≤ length leaf → (xs ≡ []) ⊎ Le (start_of leaf) (before k) → Lt (after k) (start_of ys) → i ≤ length leaf → FitsAt k (before []) leaf i
+    → IsSplitAt (xs ++ (leaf ++ ys)) (xs ++ (with_new leaf (Some (i, k)) ++ ys)) (k ∷ [])
+made_in_leaf k xs leaf ys i sorted some low high h fits =
+    let there = placed k xs leaf ys i some low high h fits in
+    subst (λ (ns : List Node). IsSplitAt (xs ++ (leaf ++ ys)) ns (k ∷ [])) there.nodes (with_new_splits (xs ++ (leaf ++ ys)) (Some k) (Some (shift xs i, k)) sorted (refl, there.fits, there.bound))
+
+pub known_in_leaf : (k : KeyBytes) (xs leaf ys : List Node) → IsSorted (xs ++ (leaf ++ ys)) → is_in k (node_keys leaf) ≡ true → IsSplitAt (xs ++ (leaf ++ ys)) (xs ++ (leaf ++ ys)) (k ∷ [])
+known_in_leaf k xs leaf ys sorted h = with_new_splits (xs ++ (leaf ++ ys)) (Some k) None sorted (known_within k xs leaf ys h)
+
+pub made_first : (k : KeyBytes) → IsSplitAt [] (node_in_gap k (unowned zero_time) ∷ []) (k ∷ [])
+made_first k = with_new_splits [] (Some k) (Some (0, k)) tt (refl, (lowest (before k), below_last k), omega arith)

@@ -1,0 +1,14 @@
+use Rattle.std.proofs.Common.{suc, drop}
+use Rattle.tsc_span.specs.Cuts.{cut_of}
+use Rattle.tsc_page.specs.Leaves.{nodes_of, start_of}
+use Rattle.tsc_page.specs.LeafParts.{leaves_of, all_nodes}
+use Rattle.tsc_page.proofs.CutOrder.{Lt}
+use Rattle.tsc_page.proofs.LeafAnswers.{AnswersSoFar}
+use Rattle.tsc_page.proofs.leaves.Leaves.joint_between.Given as goal
+
+-- the best so far, with the answer of the leaves that are left, is the answer of all
+abbrev pub invariant-loop-place : goal.invariant-loop-place
+invariant-loop-place l =
+    AnswersSoFar (all_nodes l.self) (nodes_of (drop l.place (leaves_of l.self))) (cut_of l.from) (cut_of l.to) (cut_of l.low) l.best
+    × Lt (cut_of l.low) (cut_of l.to)
+    × Lt (cut_of l.low) (start_of (nodes_of (drop (suc l.place) (leaves_of l.self))))

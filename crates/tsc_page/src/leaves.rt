@@ -1,0 +1,301 @@
+ghost use Rattle.std.specs.Prelude.{◌≡◌, ◌<◌, ◌≤◌, ◌+◌, ◌^◌, [], ◌++◌, suc, length, drop, slice_set, slice_get, slice_index_or, true, false, IsOk, IfOk, IfErr, IfSome, OnOk, OnErr, option_map, option_to_list};
+ghost use Rattle.tsc_span.specs.Span.{is_below, after, between, end_keys};
+ghost use Rattle.tsc_span.specs.Cuts.{cut_of};
+ghost use Rattle.tsc_page.specs.declared.TheConstants.{MOST_NODES};
+ghost use Rattle.tsc_page.specs.PageView.{AreLeafSizes, is_new_among};
+ghost use Rattle.tsc_page.specs.Nodes.{IsSorted, IsSplitAt, IsInOrder, node_keys, answer_of, raise_nodes};
+ghost use Rattle.tsc_page.specs.Leaves.{leaf_sizes, nodes_of, start_of, key_below, IsLeafAt, AddsTo};
+ghost use Rattle.tsc_page.specs.LeafParts.{leaves_of, all_nodes, AreCounted};
+
+use crate::nodes::Nodes;
+use std::alloc::Global;
+use std::sync::Arc;
+use tsc_span::{Cut, Key};
+use tsc_time::{NoMemory, Timestamp, Value, ratchet};
+
+/// How many nodes a leaf has at the most.
+const LEAF_NODES: usize = 64;
+
+/// The nodes of a page in leaves, one after another, and how many there are. A leaf that others hold too is
+/// never changed.
+#[derive(Debug, Drop)]
+pub(crate) struct Leaves {
+    list: Vec<Arc<Nodes>>,
+    count: usize,
+}
+
+impl Leaves {
+    pub(crate) fn new(alloc: Global) -> Leaves
+        ensures leaves { leaves_of result ≡ [] }
+        ensures counted { AreCounted result }
+    {
+        Leaves {
+            list: Vec::new(alloc),
+            count: 0,
+        }
+    }
+
+    /// How many nodes there are.
+    pub(crate) fn len(&self) -> usize
+        ensures { result ≡ self.now.count }
+    {
+        self.count
+    }
+
+    /// How many nodes a leaf has.
+    pub(crate) fn leaf_len(&self, place: usize) -> Option<usize>
+        requires counted { AreCounted self.now }
+        ensures value { result ≡ slice_get (leaf_sizes (leaves_of self.now)) place }
+        ensures few { IfSome result (λ len. len ≤ 64) }
+    {
+        match self.list.get(place) {
+            Some(leaf) => Some(leaf.len()),
+            None => None,
+        }
+    }
+
+    /// The place of the leaf in which a cut falls.
+    fn leaf_at(&self, cut: Cut<'_>) -> usize
+        requires counted { AreCounted self.now }
+        ensures { IsLeafAt (leaves_of self.now) (cut_of cut.entry) result }
+    {
+        self.list
+            .as_slice()
+            .partition_point(|leaf| !cut.is_below(leaf.start()))
+            .saturating_sub(1)
+    }
+
+    /// Whether what stops at a cut goes on beyond a leaf.
+    fn goes_on(&self, place: usize, to: Cut<'_>) -> bool
+        requires sizes { AreLeafSizes (leaf_sizes (leaves_of self.now)) }
+        requires bound { place < length (leaves_of self.now) }
+        ensures { result ≡ is_below (start_of (nodes_of (drop (suc place) (leaves_of self.now)))) (cut_of to.entry) }
+    {
+        match self.list.get(place + 1) {
+            Some(next) => next.start().is_below(to),
+            None => false,
+        }
+    }
+
+    /// Whether this is a key that has no node.
+    pub(crate) fn is_new(&self, key: Option<&Key>) -> bool
+        requires counted { AreCounted self.now }
+        ensures { result ≡ is_new_among (node_keys (all_nodes self.now)) (option_map (λ k. k.now) key.entry) }
+    {
+        let Some(key) = key else { return false };
+        match self.list.get(self.leaf_at(Cut::Before(key.bytes()))) {
+            Some(leaf) => leaf.place_for(key).is_some(),
+            None => true,
+        }
+    }
+
+    /// The joint value of the keys and gaps between two cuts.
+    pub(crate) fn joint_between(&self, from: Cut<'_>, to: Cut<'_>) -> Value
+        requires counted { AreCounted self.now }
+        requires order { is_below (cut_of from) (cut_of to) ≡ true }
+        ensures { result ≡ answer_of (all_nodes self.now) (between (cut_of from.entry) (cut_of to.entry)) }
+    {
+        let mut best = Value::unowned(Timestamp::ZERO);
+        let mut low = from;
+        for place in self.leaf_at(from)..self.list.len() {
+            if !self.goes_on(place, to) {
+                return ratchet(best, self.list[place].joint_between(low, to)).0;
+            }
+            best = ratchet(best, self.list[place].joint_between(low, Cut::Last)).0;
+            low = Cut::Before(&[]);
+        }
+        best
+    }
+
+    /// Ratchets a value into the keys and gaps of a leaf between two cuts: in place, or in a copy where
+    /// others hold the leaf too.
+    fn raise_leaf(
+        &mut self,
+        place: usize,
+        from: Cut<'_>,
+        to: Cut<'_>,
+        value: Value,
+    ) -> Result<(), NoMemory>
+        requires bound { place < length (leaves_of self.old) }
+        requires sorted { IsSorted (slice_index_or (leaves_of self.old) place []) }
+        requires order { is_below (cut_of from) (cut_of to) ≡ true }
+        ensures raised { OnOk result (leaves_of self.new ≡ slice_set (leaves_of self.old) place
+            (raise_nodes (between (cut_of from.entry) (cut_of to.entry)) value (slice_index_or (leaves_of self.old) place []))) }
+        ensures count { self.new.count ≡ self.old.count }
+    {
+        let alloc = *self.list.allocator();
+        let slot = &mut self.list[place];
+        match Arc::get_mut(slot) {
+            Some(leaf) => leaf.raise_between(from, to, value),
+            None => {
+                let mut leaf = slot.try_copy(0)?;
+                leaf.raise_between(from, to, value);
+                *slot = Arc::new(alloc, leaf)?;
+            }
+        }
+        Ok(())
+    }
+
+    /// Ratchets a value into the keys and gaps between two cuts. Where memory is refused, some may be
+    /// raised and others not.
+    fn raise_between(
+        &mut self,
+        from: Cut<'_>,
+        to: Cut<'_>,
+        value: Value,
+    ) -> Result<(), NoMemory>
+        requires counted { AreCounted self.old }
+        requires order { is_below (cut_of from) (cut_of to) ≡ true }
+        ensures raised { OnOk result (all_nodes self.new ≡ raise_nodes (between (cut_of from.entry) (cut_of to.entry)) value (all_nodes self.old)) }
+        ensures counted { OnOk result (AreCounted self.new) }
+    {
+        let mut low = from;
+        for place in self.leaf_at(from)..self.list.len() {
+            let goes_on = self.goes_on(place, to);
+            let high = if goes_on { Cut::Last } else { to };
+            self.raise_leaf(place, low, high, value)?;
+            if !goes_on {
+                return Ok(());
+            }
+            low = Cut::Before(&[]);
+        }
+        Ok(())
+    }
+
+    /// Makes a node of a key that has none, in a copy of its leaf.
+    fn make_node(&mut self, key: Option<&Key>) -> Result<(), NoMemory>
+        requires counted { AreCounted self.old }
+        requires small { self.old.count < 2 ^ 32 }
+        ensures split { OnOk result (IsSplitAt (all_nodes self.old) (all_nodes self.new) (option_to_list (option_map (λ k. k.now) key.entry))) }
+        ensures counted { OnOk result (AreCounted self.new) }
+        ensures more { OnOk result (self.new.count ≤ self.old.count + 1) }
+    {
+        let Some(key) = key else { return Ok(()) };
+        let alloc = *self.list.allocator();
+        let place = self.leaf_at(Cut::Before(key.bytes()));
+        let Some(leaf) = self.list.get(place) else {
+            let leaf = Nodes::of_key(alloc, key)?;
+            self.list.push(Arc::new(alloc, leaf)?)?;
+            self.count = 1;
+            return Ok(());
+        };
+        let Some(at) = leaf.place_for(key) else { return Ok(()) };
+        let mut leaf = leaf.try_copy(1)?;
+        leaf.split(Some((at, key.try_copy()?)));
+        if leaf.len() > LEAF_NODES {
+            let upper = leaf.split_off(LEAF_NODES / 2)?;
+            self.list.insert(place + 1, Arc::new(alloc, upper)?)?;
+        }
+        self.list[place] = Arc::new(alloc, leaf)?;
+        self.count += 1;
+        Ok(())
+    }
+
+    /// Makes nodes of the keys that have none, of which the first is the smaller, and ratchets a value into
+    /// the keys and gaps between two cuts, which lie at these keys. Where memory is refused nothing changes.
+    pub(crate) fn add(
+        &mut self,
+        first: Option<&Key>,
+        second: Option<&Key>,
+        from: Cut<'_>,
+        to: Cut<'_>,
+        value: Value,
+    ) -> Result<(), NoMemory>
+        requires counted { AreCounted self.old }
+        requires small { self.old.count ≤ MOST_NODES }
+        requires order { is_below (cut_of from) (cut_of to) ≡ true }
+        requires keys { option_to_list (option_map (λ k. k.now) first) ++ option_to_list (option_map (λ k. k.now) second) ≡ end_keys (between (cut_of from) (cut_of to)) }
+        ensures added { OnOk result (AddsTo (all_nodes self.old) (all_nodes self.new) (between (cut_of from.entry) (cut_of to.entry)) value) }
+        ensures counted { AreCounted self.new }
+        ensures unchanged { OnErr result (leaves_of self.new ≡ leaves_of self.old) }
+    {
+        if self.add_in_place(first, second, from, to, value)? {
+            return Ok(());
+        }
+        let mut next = self.try_copy()?;
+        next.make_node(second)?;
+        next.make_node(first)?;
+        next.raise_between(from, to, value)?;
+        *self = next;
+        Ok(())
+    }
+
+    /// The same in place, where the span lies in one leaf that nobody else holds and that has room. Says
+    /// whether it did.
+    fn add_in_place(
+        &mut self,
+        first: Option<&Key>,
+        second: Option<&Key>,
+        from: Cut<'_>,
+        to: Cut<'_>,
+        value: Value,
+    ) -> Result<bool, NoMemory>
+        requires counted { AreCounted self.old }
+        requires small { self.old.count ≤ MOST_NODES }
+        requires order { is_below (cut_of from) (cut_of to) ≡ true }
+        requires keys { option_to_list (option_map (λ k. k.now) first) ++ option_to_list (option_map (λ k. k.now) second) ≡ end_keys (between (cut_of from) (cut_of to)) }
+        ensures added { IfOk result (λ done. done ≡ true → AddsTo (all_nodes self.old) (all_nodes self.new) (between (cut_of from.entry) (cut_of to.entry)) value) }
+        ensures left { IfOk result (λ done. done ≡ false → (leaves_of self.new ≡ leaves_of self.old) × (self.new.count ≡ self.old.count)) }
+        ensures counted { AreCounted self.new }
+        ensures unchanged { OnErr result (leaves_of self.new ≡ leaves_of self.old) }
+    {
+        let place = self.leaf_at(from);
+        if place >= self.list.len() {
+            return Ok(false);
+        }
+        if self.goes_on(place, to) {
+            return Ok(false);
+        }
+        let first = self.key_within(place, first);
+        let second = self.key_within(place, second);
+        let slot = &mut self.list[place];
+        let Some(leaf) = Arc::get_mut(slot) else { return Ok(false) };
+        let before = leaf.len();
+        if before + 2 > LEAF_NODES {
+            return Ok(false);
+        }
+        leaf.add(first, second, from, to, value)?;
+        let after = leaf.len();
+        self.count = self.count - before + after;
+        Ok(true)
+    }
+
+    /// A key, where it lies below what comes after a leaf.
+    fn key_within<'k>(&self, place: usize, key: Option<&'k Key>) -> Option<&'k Key>
+        requires sizes { AreLeafSizes (leaf_sizes (leaves_of self.now)) }
+        requires bound { place < length (leaves_of self.now) }
+        ensures { option_map (λ k. k.now) result ≡ key_below (start_of (nodes_of (drop (suc place) (leaves_of self.now)))) (option_map (λ k. k.now) key.entry) }
+    {
+        match key {
+            Some(key) if self.is_within(place, key) => Some(key),
+            _ => None,
+        }
+    }
+
+    /// Whether a key lies below what comes after a leaf.
+    fn is_within(&self, place: usize, key: &Key) -> bool
+        requires sizes { AreLeafSizes (leaf_sizes (leaves_of self.now)) }
+        requires bound { place < length (leaves_of self.now) }
+        ensures { result ≡ is_below (after key.now) (start_of (nodes_of (drop (suc place) (leaves_of self.now)))) }
+    {
+        match self.list.get(place + 1) {
+            Some(next) => Cut::After(key.bytes()).is_below(next.start()),
+            None => true,
+        }
+    }
+
+    /// The same leaves once more.
+    pub(crate) fn try_copy(&self) -> Result<Leaves, NoMemory>
+        ensures leaves { IfOk result (λ copy. leaves_of copy ≡ leaves_of self.now) }
+        ensures count { IfOk result (λ copy. copy.count ≡ self.now.count) }
+    {
+        let mut list = Vec::with_capacity(*self.list.allocator(), self.list.len())?;
+        for leaf in &self.list {
+            list.push(Arc::try_clone(leaf)?)?;
+        }
+        Ok(Leaves {
+            list,
+            count: self.count,
+        })
+    }
+}
