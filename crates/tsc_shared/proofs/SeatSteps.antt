@@ -12,7 +12,12 @@ use Rattle.tsc_cache.specs.State.{CacheState, step, look}
 use Rattle.tsc_cache.specs.CacheView.{StandsForState}
 use Rattle.tsc_cache.specs.declared.history.Entry.{Entry}
 use Rattle.tsc_cache.specs.History.{History, mark_of, own_count, state_of, BeginsWith, IsLegal, CanBeAdded}
-use Rattle.tsc_cache.proofs.Histories.{state_of-push}
+use Rattle.tsc_time.specs.Time.{is_before}
+use Rattle.tsc_time.specs.Joint.{IsAtMost}
+use Rattle.std.specs.List.{flat_map}
+use Rattle.tsc_page.specs.Page.{values_on}
+use Rattle.tsc_time.proofs.JointLemmas.{latest-start}
+use Rattle.tsc_cache.proofs.Histories.{state_of-push, kept_up}
 use Rattle.tsc_shared.specs.declared.board.Terms.{Terms}
 use Rattle.tsc_shared.specs.declared.board.Pending.{Pending}
 use Rattle.tsc_shared.specs.declared.board.Held.{Held}
@@ -25,7 +30,7 @@ use Rattle.tsc_shared.specs.Places.{name_of, seat_view, front_view, IsAtRest}
 use Rattle.tsc_shared.specs.declared.answers.Answer.{Answer}
 use Rattle.tsc_shared.specs.declared.answers.LowWater.{LowWater}
 use Rattle.tsc_shared.specs.declared.answers.Receipt.{Receipt}
-use Rattle.tsc_shared.specs.Answers.{GoesOn, Looks, Tells, Accepts, entry_by}
+use Rattle.tsc_shared.specs.Answers.{GoesOn, Looks, IsAbove, Tells, Accepts, IsFull, entry_by}
 use Rattle.tsc_shared.proofs.Prefixes.{begins_on, begins_more, legal_push, own_append, own_of_one, legal_empty}
 
 abbrev Place : Type 0
@@ -213,3 +218,25 @@ pub new_seats_done : (cache : CacheName) (number n : ℕ) (xs all : List SeatVie
 new_seats_done cache number n xs all high so_far =
     let none : n - number ≡ 0 = omega arith in
     sym (append-nil xs) ∙ ap (λ (k : ℕ). xs ++ new_seats cache number k) (sym none) ∙ so_far
+
+-- memory was refused before the history was full
+pub was_room : (old new : Place) (w : View) (held : Held) (terms : Terms) → (h : Holds old.me.0 w held) → Rested old new h.history (count_of old.me.0) → old.me.0.terms ≡ terms → held.length < terms.limit
+    → length (seat_view new).seen < (seat_view old).cache.terms.limit
+was_room old new w held terms h r same room = omega (arith, h.is_after.length, ap (λ (t : Terms). t.limit) same, ap length r.seen)
+
+-- the history was full
+pub was_full : (old new : Place) (w : View) (held : Held) (terms : Terms) (shown : FrontView) → (h : Holds old.me.0 w held) → Rested old new h.history (count_of old.me.0) → old.me.0.terms ≡ terms → terms.limit ≤ held.length
+    → shown ≡ record { cache = name_of new; seen = seen_of new.me.0 } → IsFull (seat_view old) (seat_view new) shown
+was_full old new w held terms shown h r same full is = record {
+  front = is ∙ (λ i. record { cache = r.name i; seen = seen_of new.me.0 });
+  limit = omega (arith, h.is_after.length, ap (λ (t : Terms). t.limit) same, ap length r.seen, h.limit);
+}
+
+-- what a lookup answers is above all that was seen
+pub is_above : (old new : SeatView) (span : Interval) (answer : Answer) → Looks old new span answer → IsAbove new span answer.value
+is_above old new span answer looks =
+    let value : answer.value ≡ look (state_of new.cache.terms.config new.seen) span = looks.value ∙ ap (λ (c : CacheName). look (state_of c.terms.config new.seen) span) (sym looks.goes_on.cache) in
+    record {
+      adds = λ e has over. subst (IsAtMost e.value) (sym value) (kept_up new.cache.terms.config new.seen e span has over);
+      floor = subst (λ (v : OwnedTime). is_before v.time (state_of new.cache.terms.config new.seen).floor ≡ false) (sym value) (latest-start (state_of new.cache.terms.config new.seen).floor (flat_map (λ p. values_on span p.marks) (state_of new.cache.terms.config new.seen).pages));
+    }

@@ -1,16 +1,19 @@
 -- What each call of a shared cache answers, and what its seat has seen then.
-use Rattle.std.specs.Prelude.{◌≡◌, ℕ, suc, ◌+◌, ◌<◌, List, [], ◌∷◌, ◌++◌, length, All, true, if◌then◌else◌}
+use Rattle.std.specs.Prelude.{◌≡◌, ℕ, suc, ◌+◌, ◌<◌, List, [], ◌∷◌, ◌++◌, length, All, true, false, if◌then◌else◌}
 use Rattle.std.specs.List.{Contains}
 use Rattle.tsc_time.specs.Time.{Time, is_before}
 use Rattle.tsc_time.specs.OwnedTime.{OwnedTime}
 use Rattle.tsc_time.specs.Joint.{IsAtMost}
-use Rattle.tsc_span.specs.Span.{Interval}
+use Rattle.tsc_span.specs.Span.{Interval, overlaps}
 use Rattle.tsc_cache.specs.State.{step, look}
 use Rattle.tsc_cache.specs.CacheView.{StandsForState}
 use Rattle.tsc_cache.specs.declared.history.Entry.{Entry}
 use Rattle.tsc_cache.specs.History.{History, mark_of, own_count, state_of, entries_on, BeginsWith, IsLegal}
 use Rattle.tsc_shared.specs.declared.answers.OpenFault.{OpenFault}
 use Rattle.tsc_shared.specs.declared.answers.OpenFault.TheVariants.{NoMemory, Seats}
+use Rattle.tsc_shared.specs.declared.answers.AddFault.{AddFault}
+use Rattle.tsc_shared.specs.declared.answers.AddFault.TheVariants.{HistoryFull}
+use Rattle.tsc_shared.specs.declared.answers.AddFault.TheVariants as fault
 use Rattle.tsc_shared.specs.declared.answers.Receipt.{Receipt}
 use Rattle.tsc_shared.specs.declared.answers.Answer.{Answer}
 use Rattle.tsc_shared.specs.declared.answers.LowWater.{LowWater}
@@ -59,12 +62,22 @@ pub record IsFull (old new : SeatView) (shown : FrontView) : Type 0 where
   pub front : shown ≡ record { cache = old.cache; seen = new.seen }
   pub limit : length new.seen ≡ old.cache.terms.limit
 
+-- Why an Add was refused: the history was full, or memory was refused and it was not.
+abbrev pub RefusedFor : SeatView → SeatView → AddFault → Type 0
+RefusedFor old new (HistoryFull front) = IsFull old new front
+RefusedFor old new fault.NoMemory = length new.seen < old.cache.terms.limit
+
 -- A lookup answers from the state of all that the seat has seen then.
 pub record Looks (old new : SeatView) (span : Interval) (answer : Answer) : Type 0 where
   pub goes_on : GoesOn old new
   pub count : new.count ≡ old.count
   pub front : answer.front ≡ length new.seen
   pub value : answer.value ≡ look (state_of old.cache.terms.config new.seen) span
+
+-- What a lookup answers is no less than any Add on the span that its seat has seen, and no earlier than the floor.
+pub record IsAbove (seat : SeatView) (span : Interval) (value : OwnedTime) : Type 0 where
+  pub adds : (e : Entry) → Contains seat.seen e → overlaps e.span span ≡ true → IsAtMost e.value value
+  pub floor : is_before value.time (state_of seat.cache.terms.config seat.seen).floor ≡ false
 
 -- The floor is told from the state of all that the seat has seen then.
 pub record Tells (old new : SeatView) (answer : LowWater) : Type 0 where

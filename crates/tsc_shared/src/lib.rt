@@ -10,6 +10,9 @@ mod seat;
 mod shared;
 mod steps;
 
+#[cfg(test)]
+mod tests;
+
 pub use answers::{AddFault, Answer, Closed, Gone, LowWater, OpenFault, Receipt, StillOut};
 pub use board::Terms;
 pub use seat::{Front, Seat};

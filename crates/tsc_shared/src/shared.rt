@@ -1,7 +1,5 @@
 ghost use Rattle.std.specs.Prelude.{◌≡◌, ◌<◌, IsOk, IfOk, IfErr, OnErr, All, length, ◌↔◌};
-ghost use Rattle.tsc_shared.specs.Answers.{Opens, open_fault, Accepts, Refuses, IsFull, Looks, Tells, Meets, Closes};
-ghost use Rattle.tsc_shared.specs.Seats.{FrontView};
-ghost use Rattle.tsc_shared.specs.declared.answers.AddFault.TheVariants.{HistoryFull};
+ghost use Rattle.tsc_shared.specs.Answers.{Opens, open_fault, Accepts, Refuses, RefusedFor, Looks, IsAbove, Tells, Meets, Closes};
 
 use crate::answers::{AddFault, Answer, Closed, Gone, LowWater, OpenFault, Receipt, StillOut};
 use crate::board::{Desk, Held, Pending, Terms};
@@ -85,7 +83,7 @@ impl SharedCache {
         ensures accepted { IfOk result (λ receipt. Accepts seat.old seat.new span.now value now receipt) }
         ensures seat { (seat.new.cache ≡ seat.old.cache) × (seat.new.number ≡ seat.old.number) }
         ensures refused { OnErr result (Refuses seat.old seat.new) }
-        ensures full { IfErr result (λ fault. (front : FrontView) → fault ≡ HistoryFull front → IsFull seat.old seat.new front) }
+        ensures why { IfErr result (λ fault. RefusedFor seat.old seat.new fault) }
     {
         let desk = &self.desk.shared;
         let mut held = take(rt, desk, &mut seat.place, seat.number);
@@ -129,6 +127,7 @@ impl SharedCache {
         requires cache { seat.old.cache ≡ self.now }
         ensures answered { IsOk result }
         ensures looked { IfOk result (λ answer. Looks seat.old seat.new span.now answer) }
+        ensures above { IfOk result (λ answer. IsAbove seat.new span.now answer.value) }
     {
         let desk = &self.desk.shared;
         let held = take(rt, desk, &mut seat.place, seat.number);

@@ -2,7 +2,7 @@ use Rattle.std.proofs.Common.{◌≡◌, ◌∙◌, sym, subst}
 use Rattle.tsc_shared.specs.Answers.{Looks}
 use Rattle.tsc_shared.specs.Places.{seat_view}
 use Rattle.tsc_shared.proofs.shared.SharedCache.get_max.Goals as goal
-use Rattle.tsc_shared.proofs.SeatSteps.{rests_back, length_back, looks_back}
+use Rattle.tsc_shared.proofs.SeatSteps.{rests_back, length_back, looks_back, is_above}
 
 -- src/shared.rt:95:5
 pub invariant_of-seat : goal.invariant_of-seat
@@ -23,3 +23,7 @@ returns-clause-looked g c =
     subst (λ old. Looks old (seat_view c.give_back-seat-inside.new.place) c.args.span.now (record { value = c.get_max-value.result; front = c.give_back-seat-inside.result })) c.seat.view_is
     (looks_back c.seat.inside.place c.give_back-seat-inside.new.place c.take-held.new.place.me.0 c.take-held.result c.args.span.now (record { value = c.get_max-value.result; front = c.give_back-seat-inside.result })
     c.seat.invariant.4 c.take-held.ensures.held (back.table ∙ c.take-held.ensures.table) back.given back.length c.get_max-value.ensures.stands)
+
+-- src/shared.rt:95:5
+pub returns-clause-above : goal.returns-clause-above
+returns-clause-above g c = is_above c.args.seat.now (seat_view c.give_back-seat-inside.new.place) c.args.span.now (record { value = c.get_max-value.result; front = c.give_back-seat-inside.result }) (returns-clause-looked g c)

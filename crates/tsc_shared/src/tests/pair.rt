@@ -1,0 +1,178 @@
+//! A cache with its two seats.
+ghost use Rattle.std.specs.Prelude.{◌≡◌, IfOk};
+
+use crate::{AddFault, Seat, SharedCache};
+use std::alloc::Global;
+use std::process::Abort;
+use std::sync::Wait;
+use std::test::Fail;
+use tsc_cache::Config;
+use tsc_span::{Ends, Key, Span};
+use tsc_time::{NoMemory, Timestamp, Value};
+use uuid::Uuid;
+
+/// What a seat does: the first seat is 0, and the second any other number.
+#[derive(Clone, Copy, Debug)]
+pub enum Step {
+    /// Adds a key at 20.0, for the one owner that there is.
+    Add(u32, &'static str),
+    /// Adds the empty span.
+    AddNothing(u32),
+    Get(u32, &'static str),
+    Low(u32),
+    Meet,
+}
+
+/// And what it is told.
+#[derive(Clone, Copy, Debug, PartialEq, Eq)]
+pub enum Told {
+    /// The place, whether the Add was kept, and the length of the front.
+    Place(u64, bool, u64),
+    /// The length of the front.
+    Full(u64),
+    Value { wall: u64, owned: bool, front: u64 },
+    /// The wall time, and how many Adds came before.
+    Floor(u64, u64),
+    Met(u64),
+}
+
+/// How many Adds of its own a seat counts, and how many it has seen.
+type Counts = (u64, u64);
+
+/// The limit of the history, the steps with what is told and how the seat counts then, and how many Adds
+/// there are at closing.
+pub type Row = (u64, &'static [(Step, Told, Counts)], u64);
+
+#[derive(Drop)]
+pub struct Pair {
+    cache: SharedCache,
+    first: Seat,
+    second: Seat,
+    ghost first_is: { first.cache ≡ cache },
+    ghost second_is: { second.cache ≡ cache },
+}
+
+fn point(alloc: Global, key: &str) -> Result<Span, Fail> {
+    Ok(Span::point(Key::new(alloc, key.as_bytes())?))
+}
+
+/// The span between `a` and itself, without it.
+fn nothing(alloc: Global) -> Result<Span, Fail> {
+    let ends = Ends {
+        exclude_from: true,
+        exclude_to: true,
+    };
+    Ok(Span::range(Key::new(alloc, b"a")?, Key::new(alloc, b"a")?, ends)?)
+}
+
+fn at(wall: u64) -> Result<Timestamp, Fail> {
+    Ok(Timestamp::new(wall, 0).ok_or("a time in range")?)
+}
+
+fn counts(seat: &Seat) -> Counts {
+    (seat.count(), seat.seen())
+}
+
+fn add<R: Wait>(rt: &R, cache: &SharedCache, seat: &mut Seat, span: &Span) -> Result<Told, Fail>
+    requires { seat.old.cache ≡ cache.now }
+    ensures { seat.new.cache ≡ seat.old.cache }
+{
+    let value = Value::of(at(20)?, Uuid::from_bytes([1; 16]));
+    match cache.add(rt, seat, span, value, at(20)?) {
+        Ok(receipt) => Ok(Told::Place(receipt.place, receipt.added.kept, receipt.front.len())),
+        Err(AddFault::HistoryFull(front)) => Ok(Told::Full(front.len())),
+        Err(AddFault::NoMemory) => Err(NoMemory.into()),
+    }
+}
+
+fn get<R: Wait>(rt: &R, cache: &SharedCache, seat: &mut Seat, span: &Span) -> Result<Told, Fail>
+    requires { seat.old.cache ≡ cache.now }
+    ensures { seat.new.cache ≡ seat.old.cache }
+{
+    let answer = cache.get_max(rt, seat, span)?;
+    Ok(Told::Value {
+        wall: answer.value.time().wall(),
+        owned: answer.value.owner().is_some(),
+        front: answer.front,
+    })
+}
+
+fn low<R: Wait>(rt: &R, cache: &SharedCache, seat: &mut Seat) -> Result<Told, Fail>
+    requires { seat.old.cache ≡ cache.now }
+    ensures { seat.new.cache ≡ seat.old.cache }
+{
+    let answer = cache.low_water(rt, seat)?;
+    Ok(Told::Floor(answer.time.wall(), answer.front))
+}
+
+/// One step of one seat, and how it counts then.
+fn take_step<R: Wait>(
+    rt: &R,
+    alloc: Global,
+    cache: &SharedCache,
+    seat: &mut Seat,
+    step: &Step,
+) -> Result<(Told, Counts), Fail>
+    requires { seat.old.cache ≡ cache.now }
+    ensures { seat.new.cache ≡ seat.old.cache }
+{
+    let told = match step {
+        Step::Add(_, key) => add(rt, cache, seat, &point(alloc, key)?)?,
+        Step::AddNothing(_) => add(rt, cache, seat, &nothing(alloc)?)?,
+        Step::Get(_, key) => get(rt, cache, seat, &point(alloc, key)?)?,
+        Step::Low(_) => low(rt, cache, seat)?,
+        Step::Meet => return Err("one seat cannot meet".into()),
+    };
+    Ok((told, counts(seat)))
+}
+
+impl Pair {
+    pub fn open(alloc: Global, config: Config, limit: u64) -> Result<Pair, Fail> {
+        let (cache, mut seats) = SharedCache::open(alloc, config, 2, limit)?;
+        let second = seats.pop().ok_or("two seats")?;
+        let first = seats.pop().ok_or("one seat")?;
+        Ok(Pair {
+            cache,
+            first,
+            second,
+        })
+    }
+
+    pub fn take<R: Wait>(
+        &mut self,
+        rt: &R,
+        alloc: Global,
+        next: &Step,
+    ) -> Result<(Told, Counts), Fail> {
+        match next {
+            Step::Meet => {
+                let met = self.cache.meet(rt, &mut self.first, &mut self.second)?;
+                Ok((Told::Met(met), counts(&self.first)))
+            }
+            Step::Add(0, _) | Step::AddNothing(0) | Step::Get(0, _) | Step::Low(0) => {
+                take_step(rt, alloc, &self.cache, &mut self.first, next)
+            }
+            _ => take_step(rt, alloc, &self.cache, &mut self.second, next),
+        }
+    }
+
+    /// Closes the cache, and tells how many Adds there were. The first seat alone cannot close it.
+    pub fn close<R: Wait>(self, rt: &R, alloc: Global) -> Result<u64, Fail> {
+        let Pair {
+            cache,
+            first,
+            second,
+        } = self;
+        let mut seats = Vec::with_capacity(alloc, 2)?;
+        seats.push(first)?;
+        let Err(out) = cache.close(rt, seats) else {
+            return Err("closed without the second seat".into());
+        };
+        let mut seats = out.seats;
+        seats.push(second)?;
+        match out.cache.close(rt, seats) {
+            Ok(closed) => Ok(closed.adds),
+            Err(_) => Err("still out".into()),
+        }
+    }
+}
