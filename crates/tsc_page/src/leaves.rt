@@ -138,12 +138,7 @@ impl Leaves {
 
     /// Ratchets a value into the keys and gaps between two cuts. Where memory is refused, some may be
     /// raised and others not.
-    fn raise_between(
-        &mut self,
-        from: Cut<'_>,
-        to: Cut<'_>,
-        value: Value,
-    ) -> Result<(), NoMemory>
+    fn raise_between(&mut self, from: Cut<'_>, to: Cut<'_>, value: Value) -> Result<(), NoMemory>
         requires counted { AreCounted self.old }
         requires order { is_below (cut_of from) (cut_of to) ≡ true }
         ensures raised { OnOk result (all_nodes self.new ≡ raise_nodes (between (cut_of from.entry) (cut_of to.entry)) value (all_nodes self.old)) }
@@ -179,7 +174,9 @@ impl Leaves {
             self.count = 1;
             return Ok(());
         };
-        let Some(at) = leaf.place_for(key) else { return Ok(()) };
+        let Some(at) = leaf.place_for(key) else {
+            return Ok(())
+        };
         let mut leaf = leaf.try_copy(1)?;
         leaf.split(Some((at, key.try_copy()?)));
         if leaf.len() > LEAF_NODES {
@@ -249,7 +246,9 @@ impl Leaves {
         let first = self.key_within(place, first);
         let second = self.key_within(place, second);
         let slot = &mut self.list[place];
-        let Some(leaf) = Arc::get_mut(slot) else { return Ok(false) };
+        let Some(leaf) = Arc::get_mut(slot) else {
+            return Ok(false)
+        };
         let before = leaf.len();
         if before + 2 > LEAF_NODES {
             return Ok(false);

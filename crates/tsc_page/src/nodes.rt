@@ -202,11 +202,7 @@ impl Nodes {
 
     /// Makes nodes of the keys that have none, of which the first is the smaller. Where memory is refused
     /// nothing changes, and the list has not grown. Where both have nodes no memory is asked for.
-    fn split_at(
-        &mut self,
-        first: Option<&Key>,
-        second: Option<&Key>,
-    ) -> Result<(), NoMemory>
+    fn split_at(&mut self, first: Option<&Key>, second: Option<&Key>) -> Result<(), NoMemory>
         requires sorted { IsSorted self.old.list.items }
         requires order { IsInOrder (option_map (λ k. k.now) first) (option_map (λ k. k.now) second) }
         ensures made { OnOk result (MakesNodes self.old.list.items self.new.list.items (option_map (λ k. k.now) first.entry) (option_map (λ k. k.now) second.entry)) }

@@ -69,11 +69,14 @@ impl Page {
     }
 
     /// Adds a span with its value. The span is not empty, and the page has room for it. Where memory is
-    /// refused the page is as before. A span whose end keys the page holds already takes none, and cannot
-    /// be refused.
+    /// refused the page is as before, and so are its leaves.
     ///
-    /// It costs a few searches, a copy of each end key that is new to the page, a move of the nodes above a
-    /// new one, and of all where the list has to grow, and a step for each node within the span.
+    /// Where the span lies within one leaf that no copy of the page shares, and that has room for two more
+    /// nodes, the leaf is changed in place. That costs a few searches, a copy of each end key that is new to
+    /// the page, a move of the leaf's nodes above a new one, and a step for each node within the span; a span
+    /// whose end keys the page holds already takes no memory then. Any other Add copies the list of leaves,
+    /// and of the leaves themselves those that it changes; a leaf that comes to have 65 nodes is cut into its
+    /// first 32 and its last 33.
     pub fn add(&mut self, span: &Span, value: Value) -> Result<(), NoMemory>
         requires not_empty { is_empty_span span.now ≡ false }
         requires room { has_room_for self.old span.now ≡ true }
@@ -96,7 +99,7 @@ impl Page {
     }
 
     /// The joint value of time zero without an owner and of all that was added and overlaps the span. It
-    /// costs a few searches, and a step for each node within the span.
+    /// costs a search among the leaves, two in each leaf that the span meets, and a step for each node within the span.
     pub fn lookup(&self, span: &Span) -> Value
         ensures value { result ≡ answer self.now span.now }
         ensures below_top { is_before self.now.top result.time ≡ false }
@@ -139,7 +142,7 @@ impl Page {
         }
     }
 
-    /// A copy of the page. It takes as much memory as the page's keys and nodes.
+    /// A copy of the page, which shares its leaves. It takes the memory of the list of leaves.
     pub fn try_copy(&self) -> Result<Page, NoMemory>
         ensures value { IfOk result (λ copy. copy ≡ self.now) }
         ensures stands { IfOk result (λ copy. (p : PageMarks) → StandsFor self.now p → StandsFor copy p) }

@@ -121,9 +121,9 @@ returns-clause-added c =
     let order = ends_in_order f t o q c.requires.order c.requires.keys in
     let new : List Node = c.add.new.self.list.items in
     let adds : AddsNodes (get_or ls p []) new (key_below after_it o) (key_below after_it q) (between f t) v =
-        subst (λ (l : List Node). AddsNodes l new (key_below after_it o) (key_below after_it q) (between f t) v) is
-        (subst (λ (x : Option KeyBytes). AddsNodes c.in-Some.leaf.now.list.items new x (key_below after_it q) (between f t) v) c.key_within-first.ensures
-        (subst (λ (x : Option KeyBytes). AddsNodes c.in-Some.leaf.now.list.items new (option_map (λ k. k.now) c.key_within-first.result) x (between f t) v) c.key_within-second.ensures c.in_ok-add.ensures.added)) in
+    subst (λ (l : List Node). AddsNodes l new (key_below after_it o) (key_below after_it q) (between f t) v) is
+    (subst (λ (x : Option KeyBytes). AddsNodes c.in-Some.leaf.now.list.items new x (key_below after_it q) (between f t) v) c.key_within-first.ensures
+    (subst (λ (x : Option KeyBytes). AddsNodes c.in-Some.leaf.now.list.items new (option_map (λ k. k.now) c.key_within-first.result) x (between f t) v) c.key_within-second.ensures c.in_ok-add.ensures.added)) in
     let placed = map-set read items p (arc_with_value c.index_mut-slot.result.now c.add.new.self) in
     λ e. subst (λ (ms : List (List Node)). AddsTo (nodes_of ls) (nodes_of ms) (between f t) v) (sym placed) (leaf_adds ls p f t v leaves inside c.requires.order around high o q order c.requires.keys new adds)
 
@@ -148,9 +148,9 @@ returns-clause-counted c =
     let order = ends_in_order f t o q c.requires.order c.requires.keys in
     let new : List Node = c.add.new.self.list.items in
     let adds : AddsNodes (get_or ls p []) new (key_below after_it o) (key_below after_it q) (between f t) v =
-        subst (λ (l : List Node). AddsNodes l new (key_below after_it o) (key_below after_it q) (between f t) v) is
-        (subst (λ (x : Option KeyBytes). AddsNodes c.in-Some.leaf.now.list.items new x (key_below after_it q) (between f t) v) c.key_within-first.ensures
-        (subst (λ (x : Option KeyBytes). AddsNodes c.in-Some.leaf.now.list.items new (option_map (λ k. k.now) c.key_within-first.result) x (between f t) v) c.key_within-second.ensures c.in_ok-add.ensures.added)) in
+    subst (λ (l : List Node). AddsNodes l new (key_below after_it o) (key_below after_it q) (between f t) v) is
+    (subst (λ (x : Option KeyBytes). AddsNodes c.in-Some.leaf.now.list.items new x (key_below after_it q) (between f t) v) c.key_within-first.ensures
+    (subst (λ (x : Option KeyBytes). AddsNodes c.in-Some.leaf.now.list.items new (option_map (λ k. k.now) c.key_within-first.result) x (between f t) v) c.key_within-second.ensures c.in_ok-add.ensures.added)) in
     let placed = map-set read items p (arc_with_value c.index_mut-slot.result.now c.add.new.self) in
     let lengths = new_length ls p f t v leaves inside c.requires.order around high o q order c.requires.keys new adds in
     let few : length new ≤ 64 = omega (arith, lengths, c.if-before-gt-LEAF_NODES.false, c.len-before.ensures, ap length is) in

@@ -76,7 +76,7 @@ returns c =
     let fits : FitsAt k (before []) (get_or ls p []) i = subst (λ (l : List Node). FitsAt k (before []) l i) (ap leaf_of c.deref-2.ensures ∙ is) c.in-Some-place_for.ensures.place in
     let bound : i ≤ length (get_or ls p []) = subst (λ (l : List Node). i ≤ length l) (ap leaf_of c.deref-2.ensures ∙ is) c.in-Some-place_for.ensures.bound in
     let with_key : leaf_of c.split.new.self ≡ with_new (get_or ls p []) (Some (i, k)) =
-        c.split.ensures.inserted ∙ ap (λ (l : List Node). with_new l (Some (i, c.in_ok-try_copy.field-0))) (c.in_ok-leaf-2.ensures.items ∙ ap leaf_of c.deref-3.ensures ∙ is) ∙ ap (λ (b : KeyBytes). with_new (get_or ls p []) (Some (i, b))) c.in_ok-try_copy.ensures in
+    c.split.ensures.inserted ∙ ap (λ (l : List Node). with_new l (Some (i, c.in_ok-try_copy.field-0))) (c.in_ok-leaf-2.ensures.items ∙ ap leaf_of c.deref-3.ensures ∙ is) ∙ ap (λ (b : KeyBytes). with_new (get_or ls p []) (Some (i, b))) c.in_ok-try_copy.ensures in
     let new : leaf_in c.in_ok-self.field-0 ≡ leaf_of c.if-len-gt-LEAF_NODES.leaf = ap leaf_of c.in_ok-self.ensures.ok in
     let placed = map-set read c.if-len-gt-LEAF_NODES.self.list.items p c.in_ok-self.field-0 in
     let made : HasMade ls (set (map read c.if-len-gt-LEAF_NODES.self.list.items) p (leaf_in c.in_ok-self.field-0)) k × (c.if-len-gt-LEAF_NODES.self.count ≡ c.args.self.now.count) = elim c.if-len-gt-LEAF_NODES.branch [
