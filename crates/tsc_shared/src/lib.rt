@@ -9,7 +9,6 @@ mod opening;
 mod seat;
 mod shared;
 mod steps;
-
 #[cfg(test)]
 mod tests;
 

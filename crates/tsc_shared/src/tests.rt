@@ -53,11 +53,7 @@ static FULL: Row = (
 );
 
 /// It may hold none.
-static NONE_AT_ALL: Row = (
-    0,
-    &[(Step::Add(0, "a"), Told::Full(0), (0, 0))],
-    0,
-);
+static NONE_AT_ALL: Row = (0, &[(Step::Add(0, "a"), Told::Full(0), (0, 0))], 0);
 
 /// Two seats meet. An Add that the cache does not keep has its place too.
 static MET: Row = (
