@@ -6,3 +6,4 @@ pub mod Meeting
 pub mod Posts
 pub mod SeatSteps
 pub mod Endings
+pub mod Crossing
