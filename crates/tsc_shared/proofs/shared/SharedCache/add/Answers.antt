@@ -1,4 +1,4 @@
-use Rattle.std.proofs.Common.{◌≡◌, ◌∙◌, ◌+◌, refl, sym, ap, subst, Some}
+use Rattle.std.proofs.Common.{◌≡◌, ◌∙◌, ◌+◌, refl, sym, ap, subst, arith, Some}
 use Rattle.tsc_cache.specs.History.{CanBeAdded}
 use Rattle.tsc_shared.specs.declared.board.Pending.{Pending}
 use Rattle.tsc_shared.specs.declared.answers.Receipt.{Receipt}
@@ -56,7 +56,7 @@ tell-front-requires-clause-front g c =
     let same = ap (λ s. s.cache.terms) c.seat.view_is ∙ ap (λ n. n.terms) (c.requires.cache ∙ sym c.self.view_is) in
     (rests_added c.seat.inside.place c.give.new.place c.take-held.new.place.me.0 c.take-held.result (record { span = c.of.result; value = c.args.value; now = c.args.now }) c.seat.invariant.4 c.take-held.ensures.held
     (c.give.ensures.table ∙ c.take-held.ensures.table) c.give.ensures.given (subst (λ span. CanBeAdded span c.args.value c.args.now) (sym c.of.ensures) c.can_be_added.ensures)
-    (had_room c.seat.inside.place.me.0 c.take-held.new.place.me.0 c.take-held.result c.self.inside.terms c.take-held.ensures.held same c.if-place-self.false)).front
+    (had_room c.seat.inside.place.me.0 c.take-held.new.place.me.0 c.take-held.result c.self.inside.terms c.take-held.ensures.held same (omega (arith, c.if-place-self.false)))).front
 
 -- src/shared.rt:43:5
 pub invariant_of-seat-2 : goal.invariant_of-seat-2
@@ -65,7 +65,7 @@ invariant_of-seat-2 g c =
     let p : Pending = record { span = c.of.result; value = c.args.value; now = c.args.now } in
     let r = rests_added c.seat.inside.place c.tell-front.new.place c.take-held.new.place.me.0 c.take-held.result p c.seat.invariant.4 c.take-held.ensures.held
     (c.tell-front.ensures.place.0 ∙ c.give.ensures.table ∙ c.take-held.ensures.table) (c.tell-front.ensures.place.1 ∙ c.give.ensures.given) (subst (λ span. CanBeAdded span c.args.value c.args.now) (sym c.of.ensures) c.can_be_added.ensures)
-    (had_room c.seat.inside.place.me.0 c.take-held.new.place.me.0 c.take-held.result c.self.inside.terms c.take-held.ensures.held same c.if-place-self.false) in (
+    (had_room c.seat.inside.place.me.0 c.take-held.new.place.me.0 c.take-held.result c.self.inside.terms c.take-held.ensures.held same (omega (arith, c.if-place-self.false))) in (
       r.rest,
       c.seat.invariant.1 ∙ sym r.number,
       ap (λ n. n + 1) c.seat.invariant.2 ∙ sym r.counted,
@@ -82,5 +82,5 @@ returns-clause-accepted g c =
     (accepted_at c.seat.inside.place c.tell-front.new.place c.take-held.new.place.me.0 c.take-held.result (record { span = c.of.result; value = c.args.value; now = c.args.now }) c.args.span.now receipt
     c.of.ensures c.seat.invariant.4 c.take-held.ensures.held
     (c.tell-front.ensures.place.0 ∙ c.give.ensures.table ∙ c.take-held.ensures.table) (c.tell-front.ensures.place.1 ∙ c.give.ensures.given) c.can_be_added.ensures
-    (had_room c.seat.inside.place.me.0 c.take-held.new.place.me.0 c.take-held.result c.self.inside.terms c.take-held.ensures.held same c.if-place-self.false)
+    (had_room c.seat.inside.place.me.0 c.take-held.new.place.me.0 c.take-held.result c.self.inside.terms c.take-held.ensures.held same (omega (arith, c.if-place-self.false)))
     refl c.in-Ok.ensures.added (c.tell-front.ensures.front ∙ told_front c.give.new.place c.tell-front.new.place c.tell-front.ensures.place.0 c.tell-front.ensures.place.1))
