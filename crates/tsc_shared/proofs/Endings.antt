@@ -1,6 +1,6 @@
 -- Seats that meet, and the end of a cache.
 use Rattle.std.proofs.Common.{◌≡◌, ◌∙◌, refl, sym, ap, subst, Bool, true, false, ℕ, zero, suc, ◌+◌, ◌<◌, ◌≤◌, List, [], ◌∷◌, ◌++◌, length, map, arith}
-use Rattle.std.specs.Prelude.{Option, Some, None, All, nat_le, max, slice_index_or}
+use Rattle.std.specs.Prelude.{Option, Some, None, All, nat_le, max, slice_index_or, count_by, ◌==◌}
 use Rattle.std.specs.List.{sum_by}
 use mathlib.Core.Option as maybe
 use mathlib.Core.Option.{some-injective}
@@ -24,7 +24,7 @@ use Rattle.tsc_shared.specs.Seats.{CacheName, SeatView, IsSeat}
 use Rattle.tsc_shared.specs.Places.{seat_view}
 use Rattle.tsc_shared.specs.Answers.{Meets, Closes}
 use Rattle.tsc_shared.specs.Closing.{post_of, IsEnd}
-use Rattle.tsc_shared.proofs.Posts.{nobody_holds}
+use Rattle.tsc_shared.proofs.Posts.{nobody_holds, each_there}
 use Rattle.tsc_shared.proofs.SeatSteps.{Rested, rests}
 
 abbrev Place : Type 0
@@ -101,6 +101,7 @@ home_at key s k id v at none long slots get x is =
       here.0,
       some-injective x (Some here.0) (sym is ∙ there),
       record {
+        each = each_there key s k id v at long;
         history = k.history;
         legal = k.legal;
         is_after = here.2;
@@ -115,9 +116,18 @@ held_or d (Some h) = h
 pub end_of : (key : Terms) (ps : List Post) (x : Option Held) (held other : Held) → x ≡ Some held → IsEnd key ps held → x ≡ Some other → IsEnd key ps other
 end_of key ps x held other is end_ also = subst (IsEnd key ps) (ap (held_or held) (sym is ∙ also)) end_
 
+-- seats are counted as their posts are
+count_in : (number : ℕ) (seats : List SeatView) → count_by (λ (seat : SeatView). seat.number == number) seats ≡ sum_by (λ (p : Post). one_if (p.number == number)) (map post_of seats)
+count_in number [] = refl
+count_in number (s ∷ seats) =
+    let first : count_by (λ (seat : SeatView). seat.number == number) (s ∷ seats) ≡ one_if (s.number == number) + count_by (λ (seat : SeatView). seat.number == number) seats
+        = sum_by-cons (λ (seat : SeatView). one_if (seat.number == number)) s seats in
+    omega (arith, first, sum_by-cons (λ (p : Post). one_if (p.number == number)) (post_of s) (map post_of seats), count_in number seats)
+
 -- the closed cache
 pub closes : (name : CacheName) (seats : List SeatView) (ps : List Post) (key : Terms) (held : Held) → ps ≡ map post_of seats → key ≡ name.terms → IsEnd key ps held → Closes name seats (record { cache = held.cache; adds = held.length })
 closes name seats ps key held is same end_ = record {
+  each = λ number low. count_in number seats ∙ ap (λ (qs : List Post). sum_by (λ (p : Post). one_if (p.number == number)) qs) (sym is) ∙ end_.each number (omega (arith, low, ap (λ (t : Terms). t.seats) same));
   history = end_.history;
   legal = subst (λ (t : Terms). IsLegal t.seats end_.history) same end_.legal;
   begins = λ i d low. (at_seat i d low).begins;

@@ -156,14 +156,22 @@ holds_if : (b : Bool) → one_if b ≢ 0 → b ≡ true
 holds_if true some = refl
 holds_if false some = absurd (some refl)
 
+-- the number of a post is one of the seats'
+low_number : (terms : Terms) (s : State (Option Held) View) (k : Kept terms s) (u : View) (j : ℕ) → get_elem? s.views j ≡ maybe.some u → (i : ℕ) (p : Post) → get_elem? u.posts i ≡ maybe.some p → p.number < terms.seats
+low_number terms s k u j e i p e' = grind (arith, nat_tests, k.each p.number, part (posts_of p.number) s.views j u e, part (λ (q : Post). one_if (q.number == p.number)) u.posts i p e', ap one_if (same_number p.number p.number refl))
+
+-- where as many posts are in one hand as there are seats, each seat's is there, once
+pub each_there : (terms : Terms) (s : State (Option Held) View) (k : Kept terms s) (id : ℕ) (v : View) → get_elem? s.views id ≡ maybe.some v → length v.posts ≡ terms.seats
+    → (number : ℕ) → number < terms.seats → of_seat number v.posts ≡ 1
+each_there terms s k id v at long number low =
+    let some = all_there terms.seats v.posts (low_number terms s k v id at) (λ m. omega (arith, k.each m, at_most_one (nat_lt m terms.seats), part (posts_of m) s.views id v at)) long number low in
+    omega (arith, some, k.each number, at_most_one (nat_lt number terms.seats), part (posts_of number) s.views id v at)
+
 -- where all posts are in one hand, and none of them holds the desk, nobody does
 pub nobody_holds : (terms : Terms) (s : State (Option Held) View) (k : Kept terms s) (id : ℕ) (v : View) → get_elem? s.views id ≡ maybe.some v
     → holders v ≡ 0 → length v.posts ≡ terms.seats → k.word ≡ 0
 nobody_holds terms s k id v at none long = by_word k.word refl
   where
-    low : (u : View) (j : ℕ) → get_elem? s.views j ≡ maybe.some u → (i : ℕ) (p : Post) → get_elem? u.posts i ≡ maybe.some p → p.number < terms.seats
-    low u j e i p e' = grind (arith, nat_tests, k.each p.number, part (posts_of p.number) s.views j u e, part (λ (q : Post). one_if (q.number == p.number)) u.posts i p e', ap one_if (same_number p.number p.number refl))
-
     by_word : (w : ℕ) → k.word ≡ w → k.word ≡ 0
     by_word zero is = is
     by_word (suc w) is =
@@ -174,6 +182,6 @@ nobody_holds terms s k id v at none long = by_word k.word refl
         let p : Post = theirs.1 in
         let apart : id ≢ there.0 = λ same. there.3 (ap holders (some-injective u v (sym there.2 ∙ ap (get_elem? s.views) (sym same) ∙ at)) ∙ none) in
         let both = two_parts (posts_of p.number) s.views id there.0 v u apart at there.2 in
-        let mine = all_there terms.seats v.posts (low v id at) (λ m. omega (arith, k.each m, at_most_one (nat_lt m terms.seats), part (posts_of m) s.views id v at)) long p.number (low u there.0 there.2 theirs.0 p theirs.2) in
+        let mine = each_there terms s k id v at long p.number (low_number terms s k u there.0 there.2 theirs.0 p theirs.2) in
         let its = part (λ (q : Post). one_if (q.number == p.number)) u.posts theirs.0 p theirs.2 in
         absurd (omega (arith, mine, its, ap one_if (same_number p.number p.number refl), both, k.each p.number, at_most_one (nat_lt p.number terms.seats)))

@@ -59,13 +59,14 @@ rests old new history count table is number legal own limit begins =
     let name : name_of new ≡ name_of old = (λ i. record { table = table i; terms = terms i }) in
     let legal' : IsLegal new.me.0.terms.seats (seen_of new.me.0) = rw (terms, seen) legal in
     let limit' : length (seen_of new.me.0) ≤ new.me.0.terms.limit = rw (terms, seen) limit in
+    let seat : IsSeat (seat_view new) = record { number = rw (num, terms) number; legal = legal'; own = rw (num, seen, cnt) own; limit = limit' } in
     record {
       rest = is ∙ (λ i. (seated (sym terms i) (sym num i) (sym seen i) (sym cnt i) false, []));
       number = num;
       counted = cnt;
       seen = seen;
-      seat = record { number = rw (num, terms) number; legal = legal'; own = rw (num, seen, cnt) own; limit = limit' };
-      goes_on = record { cache = name; number = num; begins = rw seen begins };
+      seat = seat;
+      goes_on = record { cache = name; number = num; begins = rw seen begins; is_seat = seat };
       name = name;
       front = record { legal = legal'; limit = limit' };
     }

@@ -1,5 +1,5 @@
 -- What each call of a shared cache answers, and what its seat has seen then.
-use Rattle.std.specs.Prelude.{◌≡◌, ℕ, suc, ◌+◌, ◌<◌, List, [], ◌∷◌, ◌++◌, length, All, true, false, if◌then◌else◌}
+use Rattle.std.specs.Prelude.{◌≡◌, ℕ, suc, ◌+◌, ◌<◌, List, [], ◌∷◌, ◌++◌, length, All, true, false, count_by, ◌==◌, if◌then◌else◌}
 use Rattle.std.specs.List.{Contains}
 use Rattle.tsc_time.specs.Time.{Time, is_before}
 use Rattle.tsc_time.specs.OwnedTime.{OwnedTime}
@@ -19,7 +19,7 @@ use Rattle.tsc_shared.specs.declared.answers.Answer.{Answer}
 use Rattle.tsc_shared.specs.declared.answers.LowWater.{LowWater}
 use Rattle.tsc_shared.specs.declared.answers.Closed.{Closed}
 use Rattle.tsc_shared.specs.declared.board.Terms.{Terms}
-use Rattle.tsc_shared.specs.Seats.{CacheName, SeatView, FrontView, new_seats, is_seat_count}
+use Rattle.tsc_shared.specs.Seats.{CacheName, SeatView, FrontView, IsSeat, new_seats, is_seat_count}
 
 -- A cache is opened under these terms, with that many seats, which nobody has used.
 pub record Opens (terms : Terms) (cache : CacheName) (seats : List SeatView) : Type 0 where
@@ -35,11 +35,12 @@ open_fault seats = if is_seat_count seats then NoMemory else Seats
 abbrev pub entry_by : SeatView → Interval → OwnedTime → Time → Entry
 entry_by seat span value now = record { seat = seat.number; number = seat.count; span = span; value = value; now = now }
 
--- A seat stays who it is, and what it has seen begins with what it had seen.
+-- A seat stays who it is, and is as seats always are. What it has seen begins with what it had seen.
 pub record GoesOn (old new : SeatView) : Type 0 where
   pub cache : new.cache ≡ old.cache
   pub number : new.number ≡ old.number
   pub begins : BeginsWith new.seen old.seen
+  pub is_seat : IsSeat new
 
 -- An accepted Add: after a history that begins with all that the seat had seen stands this entry, which is the last that the seat has seen then. The place is the length of that history, and what was added is the step from its state.
 pub record Accepts (old new : SeatView) (span : Interval) (value : OwnedTime) (now : Time) (receipt : Receipt) : Type 0 where
@@ -52,9 +53,8 @@ pub record Accepts (old new : SeatView) (span : Interval) (value : OwnedTime) (n
   pub added : receipt.added ≡ (step old.cache.terms.config (state_of old.cache.terms.config before) (mark_of (entry_by old span value now)) now).added
   pub front : receipt.front ≡ record { cache = old.cache; seen = new.seen }
 
--- A refused Add: the seat's count stays, so no history that it sees has that Add.
+-- A refused Add: the seat's count stays. A seat has seen exactly as many Adds of its own as it counts, so this one is in no history that it sees.
 pub record Refuses (old new : SeatView) : Type 0 where
-  pub goes_on : GoesOn old new
   pub count : new.count ≡ old.count
 
 -- Refused since the history is full: the front is all that the seat has seen then, and as long as the limit.
@@ -62,7 +62,7 @@ pub record IsFull (old new : SeatView) (shown : FrontView) : Type 0 where
   pub front : shown ≡ record { cache = old.cache; seen = new.seen }
   pub limit : length new.seen ≡ old.cache.terms.limit
 
--- Why an Add was refused: the history was full, or memory was refused and it was not.
+-- Why an Add was refused: the history was full; or it is said that memory was, which no clause can check, and what the seat has seen then is shorter than the limit.
 abbrev pub RefusedFor : SeatView → SeatView → AddFault → Type 0
 RefusedFor old new (HistoryFull front) = IsFull old new front
 RefusedFor old new fault.NoMemory = length new.seen < old.cache.terms.limit
@@ -95,8 +95,9 @@ pub record Meets (a b a' b' : SeatView) (met : ℕ) : Type 0 where
   pub same : a'.seen ≡ b'.seen
   pub long : met ≡ length a'.seen
 
--- At closing there is one history, legal for the number of seats. What each seat has seen is a beginning of it, it has exactly the accepted Adds of each seat, and the cache stands for its state.
+-- At closing each seat is there, and there is one history, legal for their number. What each seat has seen is a beginning of it, it has exactly the accepted Adds of each seat, and the cache stands for its state.
 pub record Closes (name : CacheName) (seats : List SeatView) (closed : Closed) : Type 0 where
+  pub each : (number : ℕ) → number < name.terms.seats → count_by (λ (seat : SeatView). seat.number == number) seats ≡ 1
   pub history : History
   pub legal : IsLegal name.terms.seats history
   pub begins : All (λ seat. BeginsWith history seat.seen) seats

@@ -1,4 +1,4 @@
--- The rule of the desk: what holds between any two steps of any threads.
+-- The rule of the desk: what holds between any two steps of any threads. No public contract cites it; what they promise follows from it.
 use Rattle.std.specs.Prelude.{◌≡◌, ℕ, suc, ◌+◌, ◌≤◌, ◌<◌, ◌==◌, nat_lt, List, [], ◌∷◌, ◌++◌, length, Bool, true, false, Option, Some, None, if◌then◌else◌}
 use Rattle.std.specs.List.{sum_by}
 use mathlib.Core.Option as maybe

@@ -1,4 +1,4 @@
--- What each step at the desk tells the one who takes it.
+-- What each step at the desk tells the one who takes it. (For private contracts.)
 use Rattle.std.specs.Prelude.{◌≡◌, ◌≢◌, ℕ, ◌+◌, ◌≤◌, ◌<◌, nat_le, List, [], ◌∷◌, ◌++◌, length, Bool, true, false, Option, Some, None, if◌then◌else◌}
 use Rattle.atomic_table.specs.Table.{Me, Step}
 use Rattle.tsc_time.specs.Time.{Time, zero_time}
@@ -75,7 +75,7 @@ pub record Holds (v w : View) (held : Held) : Type 0 where
 abbrev At : Type 0
 At = Me (Option Held) View
 
--- The desk is taken where it was free, with what lies there.
+-- The desk is taken where it was free, with what lies there. A try that finds it held changes nothing.
 abbrev pub takes : Step (Option Held) → At → ℕ → At → Type 0
 takes st me found me' = (found ≡ 0 → (held : Held) × Holds me.0 me'.0 held × (me'.1 ≡ (0, Some held) ∷ [])) × (found ≢ 0 → me' ≡ me)
 
@@ -85,10 +85,11 @@ pending_of [] = None
 pending_of ((k, None) ∷ others) = None
 pending_of ((k, Some held) ∷ others) = held.pending
 
--- The desk is given back, and what was made there is in the history.
+-- the place of one that has given the desk back: what was made there is in the history that it has seen
 abbrev pub given : View → Option Pending → View
 given v p = let es = new_entries (number_of v) (count_of v) p in seated v.terms (number_of v) (seen_of v ++ es) (count_of v + length es) false
 
+-- The desk is given back, and nothing is in hand.
 abbrev pub gives : Step (Option Held) → At → ℕ → At → Type 0
 gives st me stored me' = me' ≡ (given me.0 (pending_of me.1), [])
 

@@ -1,4 +1,4 @@
--- A seat and a front, by the place at the desk that they keep.
+-- A seat and a front, by the place at the desk that they keep. (For private contracts and the models.)
 use Rattle.std.specs.Prelude.{◌≡◌, ℕ, [], ◌∷◌, true, false, Option, None}
 use Rattle.atomic_table.specs.Seated.{TableId}
 use Rattle.atomic_table.specs.Table.{Me}

@@ -4,7 +4,7 @@ use Rattle.atomic_table.specs.Seated.{TableId}
 use Rattle.tsc_cache.specs.History.{History, own_count, IsLegal}
 use Rattle.tsc_shared.specs.declared.board.Terms.{Terms}
 
--- Which cache it is, and what was settled when it was opened. No two caches have the same name.
+-- Which cache it is, by the table of its desk, and what was settled when it was opened.
 pub record CacheName : Type 0 where
   pub table : TableId
   pub terms : Terms

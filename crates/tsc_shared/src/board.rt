@@ -1,4 +1,13 @@
-//! The adders' desk: what lies on it, and what is known of those who take it in turns.
+//! The desk: what lies on it, and what is known of those who take it in turns.
+//!
+//! The *desk* is a table of `atomic_table` with one word and one slot, and a *place* is a seat of that table.
+//! What a place knows is its *view*: the *posts* of the seats that it keeps, and a history that it was told. Our
+//! seats keep one post each. A *note* keeps none and was told a history, and a front is a note.
+//!
+//! Between any two steps of any threads there is one legal history, within the limit. All that anybody has seen
+//! or was told is a beginning of it, with all Adds of that seat. Each seat has one post, and who holds the desk
+//! has seen all. Where the word is 0, nobody holds it, and the cache in the slot stands for the state of that
+//! history. `specs/Desk.antt` says it in full.
 use atomic_table::{Seat as TableSeat, Shared, Table, TableRule};
 use std::alloc::Global;
 use std::collections::LinkedList;
@@ -7,7 +16,7 @@ use tsc_cache::{Cache, Config, Entry};
 use tsc_span::Span;
 use tsc_time::{Timestamp, Value};
 
-/// What was settled when a cache was opened.
+/// What was settled when a cache was opened. Contracts name it; no call takes or gives one.
 #[derive(Clone, Copy, Debug)]
 pub struct Terms {
     /// How the cache is set up.
@@ -18,7 +27,8 @@ pub struct Terms {
     pub limit: u64,
 }
 
-/// An Add that the holder of the desk has made, and that no history has yet.
+/// The Add that whoever held the desk last has made, if it made one. The step that gives the desk back reads
+/// there which entry it adds to the history, and whoever takes the desk next sets it anew.
 #[derive(Drop)]
 pub struct Pending {
     pub span: Snapshot<Span>,
@@ -26,7 +36,8 @@ pub struct Pending {
     pub now: Timestamp,
 }
 
-/// What lies on the desk: the cache after all Adds, and how many there were.
+/// What lies on the desk, or in the hand of who holds it: the cache after all Adds, how many there were, and
+/// the Add that was made last.
 #[derive(Drop)]
 pub struct Held {
     pub cache: Cache,

@@ -7,8 +7,8 @@ use std::marker::Model;
 
 /// A caller's token at a shared cache, by which it adds and looks.
 ///
-/// It carries its number, how many of its Adds were accepted, and the history that it has seen: what its own
-/// answers came after, and what it met. A running program can ask how long that is. A seat cannot be copied,
+/// It carries its number, how many of its Adds were accepted, and the history that it has seen: its own Adds,
+/// all that its answers came after, and what it met. A running program can ask how long that is. A seat cannot be copied,
 /// and one that is dropped makes closing impossible.
 #[derive(Drop)]
 pub struct Seat {
@@ -52,13 +52,14 @@ impl Seat {
 
     /// How many Adds there are in the history that it has seen, of whichever seats.
     pub fn seen(&self) -> u64
-        ensures { result ≡ length self.now.seen }
+        ensures value { result ≡ length self.now.seen }
+        ensures seat { IsSeat self.now }
     {
         self.seen
     }
 }
 
-/// A history that was seen, to be shown to others. It cannot be copied.
+/// A history that was seen, to be shown to others. So far only its length can be asked. It cannot be copied.
 #[derive(Drop)]
 pub struct Front {
     pub(crate) place: Place,

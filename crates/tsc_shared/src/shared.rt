@@ -1,5 +1,5 @@
 ghost use Rattle.std.specs.Prelude.{◌≡◌, ◌<◌, IsOk, IfOk, IfErr, OnErr, All, length, ◌↔◌};
-ghost use Rattle.tsc_shared.specs.Answers.{Opens, open_fault, Accepts, Refuses, RefusedFor, Looks, IsAbove, Tells, Meets, Closes};
+ghost use Rattle.tsc_shared.specs.Answers.{Opens, open_fault, GoesOn, Accepts, Refuses, RefusedFor, Looks, IsAbove, Tells, Meets, Closes};
 
 use crate::answers::{AddFault, Answer, Closed, Gone, LowWater, OpenFault, Receipt, StillOut};
 use crate::board::{Desk, Held, Pending, Terms};
@@ -18,7 +18,8 @@ use tsc_time::{NoMemory, Timestamp, Value};
 
 /// A timestamp cache that threads share.
 ///
-/// Adders take turns: each takes the desk, works on the cache that lies there, and gives it back.
+/// Callers take turns: each Add and each lookup takes the desk, works on the cache that lies there, and gives
+/// it back.
 #[derive(Drop)]
 pub struct SharedCache {
     desk: Desk,
@@ -37,13 +38,14 @@ impl Model for SharedCache {
 }
 
 /// How many seats a cache may have at the most.
-pub const MOST_SEATS: u32 = 64;
+const MOST_SEATS: u32 = 64;
 
 impl SharedCache {
-    /// A cache to which nothing was added, and its seats, which are numbered from 0. Its history may have as
-    /// many Adds as `history_limit` says.
+    /// A cache to which nothing was added, and its seats, numbered from 0 in their order. Its history may
+    /// have as many Adds as `history_limit` says.
     ///
-    /// It takes the memory of one empty page, of the desk and of the seats.
+    /// It is refused as `Seats` where there were to be no seats or more than 64, which is tested first, and
+    /// else as `NoMemory`. It takes the memory of one empty page, of the desk and of the seats.
     pub fn open(
         alloc: Global,
         config: Config,
@@ -70,7 +72,11 @@ impl SharedCache {
     /// newest, as [`Cache::add`](tsc_cache::Cache::add) does. An Add that the cache does not keep is an
     /// entry of the history too.
     ///
-    /// It waits for the desk. The history is full once it has as many Adds as the limit says.
+    /// It is refused as `HistoryFull` where the history has as many Adds as the limit says, and else as
+    /// `NoMemory`. A refused Add is in no history, and the cache is as it was. The seat counts as many as
+    /// before, but may have seen more.
+    ///
+    /// It waits for the desk, and holds it for one Add.
     pub fn add<R: Wait>(
         &self,
         rt: &R,
@@ -81,7 +87,7 @@ impl SharedCache {
     ) -> Result<Receipt, AddFault>
         requires cache { seat.old.cache ≡ self.now }
         ensures accepted { IfOk result (λ receipt. Accepts seat.old seat.new span.now value now receipt) }
-        ensures seat { (seat.new.cache ≡ seat.old.cache) × (seat.new.number ≡ seat.old.number) }
+        ensures seat { GoesOn seat.old seat.new }
         ensures refused { OnErr result (Refuses seat.old seat.new) }
         ensures why { IfErr result (λ fault. RefusedFor seat.old seat.new fault) }
     {
@@ -122,7 +128,7 @@ impl SharedCache {
     /// [`Cache::get_max`](tsc_cache::Cache::get_max) does, after all Adds of the history that is then the
     /// newest.
     ///
-    /// It waits for the desk.
+    /// It waits for the desk, and takes no memory. So far it is never [`Gone`].
     pub fn get_max<R: Wait>(&self, rt: &R, seat: &mut Seat, span: &Span) -> Result<Answer, Gone>
         requires cache { seat.old.cache ≡ self.now }
         ensures answered { IsOk result }
@@ -141,7 +147,7 @@ impl SharedCache {
 
     /// Where the floor stands after all Adds of the history that is then the newest.
     ///
-    /// It waits for the desk.
+    /// It waits for the desk, and takes no memory. So far it is never [`Gone`].
     pub fn low_water<R: Wait>(&self, rt: &R, seat: &mut Seat) -> Result<LowWater, Gone>
         requires cache { seat.old.cache ≡ self.now }
         ensures answered { IsOk result }
@@ -159,6 +165,8 @@ impl SharedCache {
 
     /// Has two seats meet: both have then seen one history, which begins with what each had seen. Its
     /// length is the answer.
+    ///
+    /// It takes no memory, and does not wait so far: it costs a few atomic steps.
     pub fn meet<R: Wait>(&self, _rt: &R, first: &mut Seat, second: &mut Seat) -> Result<u64, Gone>
         requires first { first.old.cache ≡ self.now }
         requires second { second.old.cache ≡ self.now }
@@ -175,7 +183,9 @@ impl SharedCache {
     }
 
     /// Ends the cache where all its seats are handed in, and gives what it holds. Where some are missing it
-    /// hands all back.
+    /// hands all back. A seat that was dropped is missing for good.
+    ///
+    /// It takes no memory, and does not wait so far. It takes a step for each seat.
     pub fn close<R: Wait>(self, _rt: &R, seats: Vec<Seat>) -> Result<Closed, StillOut>
         requires seats { All (λ seat. seat.cache ≡ self) seats.items }
         ensures closed { IfOk result (λ closed. Closes self seats.items closed) }

@@ -2,7 +2,7 @@ use Rattle.std.proofs.Common.{◌≡◌, ◌∙◌, ◌+◌, refl, sym, ap, subs
 use Rattle.tsc_cache.specs.History.{CanBeAdded}
 use Rattle.tsc_shared.specs.declared.board.Pending.{Pending}
 use Rattle.tsc_shared.specs.declared.answers.Receipt.{Receipt}
-use Rattle.tsc_shared.specs.Answers.{Accepts}
+use Rattle.tsc_shared.specs.Answers.{GoesOn, Accepts}
 use Rattle.tsc_shared.specs.DeskSteps.{entry_of, number_of, count_of}
 use Rattle.tsc_shared.specs.Places.{seat_view}
 use Rattle.tsc_shared.proofs.shared.SharedCache.add.Goals as goal
@@ -84,3 +84,27 @@ returns-clause-accepted g c =
     (c.tell-front.ensures.place.0 ∙ c.give.ensures.table ∙ c.take-held.ensures.table) (c.tell-front.ensures.place.1 ∙ c.give.ensures.given) c.can_be_added.ensures
     (had_room c.seat.inside.place.me.0 c.take-held.new.place.me.0 c.take-held.result c.self.inside.terms c.take-held.ensures.held same (omega (arith, c.if-place-self.false)))
     refl c.in-Ok.ensures.added (c.tell-front.ensures.front ∙ told_front c.give.new.place c.tell-front.new.place c.tell-front.ensures.place.0 c.tell-front.ensures.place.1))
+
+-- src/shared.rt:99:13
+pub returns-then-place-self-clause-seat : goal.returns-then-place-self-clause-seat
+returns-then-place-self-clause-seat g c =
+    let back = c.give_back-seat-inside.ensures in
+    let r = rests_back c.seat.inside.place c.tell.new.place c.take-held.new.place.me.0 c.take-held.result c.seat.invariant.4 c.take-held.ensures.held (c.tell.ensures.place.0 ∙ back.table ∙ c.take-held.ensures.table) (c.tell.ensures.place.1 ∙ back.given) in
+    subst (λ old. GoesOn old (seat_view c.tell.new.place)) c.seat.view_is r.goes_on
+
+-- src/shared.rt:103:13
+pub returns-in_default-clause-seat : goal.returns-in_default-clause-seat
+returns-in_default-clause-seat g c =
+    let back = c.give_back-seat-inside-in_default.ensures in
+    let r = rests_back c.seat.inside.place c.give_back-seat-inside-in_default.new.place c.take-held.new.place.me.0 c.take-held.result c.seat.invariant.4 c.take-held.ensures.held (back.table ∙ c.take-held.ensures.table) back.given in
+    subst (λ old. GoesOn old (seat_view c.give_back-seat-inside-in_default.new.place)) c.seat.view_is r.goes_on
+
+-- src/shared.rt:80:5
+pub returns-clause-seat : goal.returns-clause-seat
+returns-clause-seat g c =
+    let same = ap (λ s. s.cache.terms) c.seat.view_is ∙ ap (λ n. n.terms) (c.requires.cache ∙ sym c.self.view_is) in
+    let p : Pending = record { span = c.of.result; value = c.args.value; now = c.args.now } in
+    let r = rests_added c.seat.inside.place c.tell-front.new.place c.take-held.new.place.me.0 c.take-held.result p c.seat.invariant.4 c.take-held.ensures.held
+      (c.tell-front.ensures.place.0 ∙ c.give.ensures.table ∙ c.take-held.ensures.table) (c.tell-front.ensures.place.1 ∙ c.give.ensures.given) (subst (λ span. CanBeAdded span c.args.value c.args.now) (sym c.of.ensures) c.can_be_added.ensures)
+      (had_room c.seat.inside.place.me.0 c.take-held.new.place.me.0 c.take-held.result c.self.inside.terms c.take-held.ensures.held same (omega (arith, c.if-place-self.false))) in
+    subst (λ old. GoesOn old (seat_view c.tell-front.new.place)) c.seat.view_is r.goes_on

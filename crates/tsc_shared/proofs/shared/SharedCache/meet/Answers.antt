@@ -1,8 +1,11 @@
-use Rattle.std.proofs.Common.{◌≡◌, ◌∙◌, sym, ap}
+use Rattle.std.proofs.Common.{◌≡◌, ◌∙◌, refl, sym, ap, subst}
+use Rattle.tsc_cache.specs.History.{History}
+use Rattle.tsc_shared.specs.Answers.{Meets}
+use Rattle.tsc_shared.specs.Places.{seat_view}
 use Rattle.tsc_shared.specs.DeskSteps.{longer, seen_of, count_of}
 use Rattle.tsc_shared.proofs.shared.SharedCache.meet.Goals as goal
 use Rattle.tsc_shared.proofs.SeatSteps.{rests}
-use Rattle.tsc_shared.proofs.Endings.{met_second, longer_again, met_length}
+use Rattle.tsc_shared.proofs.Endings.{met_second, longer_again, met_length, meets_both}
 
 -- src/shared.rt:163:5
 pub invariant_of-first : goal.invariant_of-first
@@ -31,3 +34,17 @@ invariant_of-second g c =
       met_length a b (seen_of c.inform-2.new.place.me.0) c.first.inside.seen c.second.inside.seen c.max-met.result c.max-met.ensures c.first.invariant.3 c.second.invariant.3 r.seen,
       r.seat,
     )
+
+-- src/shared.rt:170:5
+pub returns-clause-met : goal.returns-clause-met
+returns-clause-met g c =
+    let a : History = seen_of c.first.inside.place.me.0 in
+    let b : History = seen_of c.second.inside.place.me.0 in
+    let r = rests c.first.inside.place c.inform-2.new.other (longer a b) (count_of c.first.inside.place.me.0) (c.inform-2.ensures.other_same.0 ∙ c.inform.ensures.table) (c.inform-2.ensures.other_same.1 ∙ c.inform.ensures.met)
+      c.first.invariant.4.number c.inform.ensures.legal c.inform.ensures.own c.inform.ensures.limit c.inform.ensures.begins.0 in
+    let s = met_second c.second.inside.place c.inform.new.other c.inform-2.new.place (seen_of c.inform.new.place.me.0) (longer a b) c.inform.ensures.other_same.1 (ap (λ m. seen_of m.0) c.inform.ensures.met) (longer_again a b) c.second.invariant.4
+      (c.inform-2.ensures.table ∙ c.inform.ensures.other_same.0) c.inform-2.ensures.met c.inform-2.ensures.begins.0 c.inform-2.ensures.legal c.inform-2.ensures.own c.inform-2.ensures.limit in
+    subst (λ first. Meets first c.args.second.now (seat_view c.inform-2.new.other) (seat_view c.inform-2.new.place) c.max-met.result) c.first.view_is
+    (subst (λ second. Meets (seat_view c.first.inside.place) second (seat_view c.inform-2.new.other) (seat_view c.inform-2.new.place) c.max-met.result) c.second.view_is
+    (meets_both c.first.inside.place c.second.inside.place c.inform-2.new.other c.inform-2.new.place (longer a b) c.max-met.result r s
+      (met_length a b (longer a b) c.first.inside.seen c.second.inside.seen c.max-met.result c.max-met.ensures c.first.invariant.3 c.second.invariant.3 refl)))
