@@ -121,7 +121,7 @@ count_in : (number : ℕ) (seats : List SeatView) → count_by (λ (seat : SeatV
 count_in number [] = refl
 count_in number (s ∷ seats) =
     let first : count_by (λ (seat : SeatView). seat.number == number) (s ∷ seats) ≡ one_if (s.number == number) + count_by (λ (seat : SeatView). seat.number == number) seats
-        = sum_by-cons (λ (seat : SeatView). one_if (seat.number == number)) s seats in
+    = sum_by-cons (λ (seat : SeatView). one_if (seat.number == number)) s seats in
     omega (arith, first, sum_by-cons (λ (p : Post). one_if (p.number == number)) (post_of s) (map post_of seats), count_in number seats)
 
 -- the closed cache

@@ -105,6 +105,6 @@ returns-clause-seat g c =
     let same = ap (λ s. s.cache.terms) c.seat.view_is ∙ ap (λ n. n.terms) (c.requires.cache ∙ sym c.self.view_is) in
     let p : Pending = record { span = c.of.result; value = c.args.value; now = c.args.now } in
     let r = rests_added c.seat.inside.place c.tell-front.new.place c.take-held.new.place.me.0 c.take-held.result p c.seat.invariant.4 c.take-held.ensures.held
-      (c.tell-front.ensures.place.0 ∙ c.give.ensures.table ∙ c.take-held.ensures.table) (c.tell-front.ensures.place.1 ∙ c.give.ensures.given) (subst (λ span. CanBeAdded span c.args.value c.args.now) (sym c.of.ensures) c.can_be_added.ensures)
-      (had_room c.seat.inside.place.me.0 c.take-held.new.place.me.0 c.take-held.result c.self.inside.terms c.take-held.ensures.held same (omega (arith, c.if-place-self.false))) in
+    (c.tell-front.ensures.place.0 ∙ c.give.ensures.table ∙ c.take-held.ensures.table) (c.tell-front.ensures.place.1 ∙ c.give.ensures.given) (subst (λ span. CanBeAdded span c.args.value c.args.now) (sym c.of.ensures) c.can_be_added.ensures)
+    (had_room c.seat.inside.place.me.0 c.take-held.new.place.me.0 c.take-held.result c.self.inside.terms c.take-held.ensures.held same (omega (arith, c.if-place-self.false))) in
     subst (λ old. GoesOn old (seat_view c.tell-front.new.place)) c.seat.view_is r.goes_on

@@ -41,10 +41,10 @@ returns-clause-met g c =
     let a : History = seen_of c.first.inside.place.me.0 in
     let b : History = seen_of c.second.inside.place.me.0 in
     let r = rests c.first.inside.place c.inform-2.new.other (longer a b) (count_of c.first.inside.place.me.0) (c.inform-2.ensures.other_same.0 ∙ c.inform.ensures.table) (c.inform-2.ensures.other_same.1 ∙ c.inform.ensures.met)
-      c.first.invariant.4.number c.inform.ensures.legal c.inform.ensures.own c.inform.ensures.limit c.inform.ensures.begins.0 in
+    c.first.invariant.4.number c.inform.ensures.legal c.inform.ensures.own c.inform.ensures.limit c.inform.ensures.begins.0 in
     let s = met_second c.second.inside.place c.inform.new.other c.inform-2.new.place (seen_of c.inform.new.place.me.0) (longer a b) c.inform.ensures.other_same.1 (ap (λ m. seen_of m.0) c.inform.ensures.met) (longer_again a b) c.second.invariant.4
-      (c.inform-2.ensures.table ∙ c.inform.ensures.other_same.0) c.inform-2.ensures.met c.inform-2.ensures.begins.0 c.inform-2.ensures.legal c.inform-2.ensures.own c.inform-2.ensures.limit in
+    (c.inform-2.ensures.table ∙ c.inform.ensures.other_same.0) c.inform-2.ensures.met c.inform-2.ensures.begins.0 c.inform-2.ensures.legal c.inform-2.ensures.own c.inform-2.ensures.limit in
     subst (λ first. Meets first c.args.second.now (seat_view c.inform-2.new.other) (seat_view c.inform-2.new.place) c.max-met.result) c.first.view_is
     (subst (λ second. Meets (seat_view c.first.inside.place) second (seat_view c.inform-2.new.other) (seat_view c.inform-2.new.place) c.max-met.result) c.second.view_is
     (meets_both c.first.inside.place c.second.inside.place c.inform-2.new.other c.inform-2.new.place (longer a b) c.max-met.result r s
-      (met_length a b (longer a b) c.first.inside.seen c.second.inside.seen c.max-met.result c.max-met.ensures c.first.invariant.3 c.second.invariant.3 refl)))
+    (met_length a b (longer a b) c.first.inside.seen c.second.inside.seen c.max-met.result c.max-met.ensures c.first.invariant.3 c.second.invariant.3 refl)))
