@@ -1,11 +1,11 @@
 -- Nodes of two lists, one after the other: what a span meets and raises in both.
-use Rattle.std.proofs.Common.{◌≡◌, ◌⊎◌, inl, inr, ◌∙◌, refl, sym, ap, Bool, true, false, cond, List, [], ◌∷◌, ◌++◌}
+use Rattle.std.proofs.Common.{◌≡◌, ◌⊎◌, inl, inr, ◌∙◌, refl, sym, ap, Bool, false, cond, List, [], ◌∷◌, ◌++◌}
 use mathlib.Core.Bool.{true≢false}
 use Rattle.std.proofs.lemmas.Bool.{cases_Bool}
 use Rattle.tsc_time.specs.OwnedTime.{OwnedTime}
 use Rattle.tsc_time.specs.Joint.{joint}
-use Rattle.tsc_span.specs.Span.{Cut, before, after, last, Interval, between, overlaps}
-use Rattle.tsc_page.specs.Nodes.{Node, Stretch, node_stretches, IsSorted, raise_nodes}
+use Rattle.tsc_span.specs.Span.{Cut, before, after, last, between, overlaps}
+use Rattle.tsc_page.specs.Nodes.{Node, node_stretches, IsSorted, raise_nodes}
 use Rattle.tsc_page.specs.Leaves.{start_of}
 use Rattle.tsc_page.proofs.CutOrder.{Lt, Le, Meet, Lt-not_Le, Le-from_Lt, Le-itself, Lt-chain, Le-chain, Le_Lt-chain, Lt_Le-chain, before-after, below_last, none_above_last, overlaps-from, overlaps-tells}
 use Rattle.tsc_page.proofs.Cuts.{lowest}

@@ -17,9 +17,9 @@ use Rattle.tsc_time.specs.Time.{zero_time}
 use Rattle.tsc_time.specs.OwnedTime.{OwnedTime, unowned}
 use Rattle.tsc_span.specs.Span.{KeyBytes, key_cmp, Cut, before, after, last, between, key_of_cut, different_keys, end_keys, is_below}
 use Rattle.tsc_span.proofs.CutOrder.{key_cmp_back}
-use Rattle.tsc_page.specs.PageView.{is_in, AreLeafSizes}
-use Rattle.tsc_page.specs.Nodes.{Node, node_keys, IsSorted, FitsAt, IsNewKey, IsInOrder, IsSplitAt, MakesNodes, AddsNodes, with_new, node_in_gap, gap_value, raise_nodes}
-use Rattle.tsc_page.specs.Leaves.{nodes_of, leaf_sizes, AreLeaves, start_of, IsLeafAt, AddsTo, key_below}
+use Rattle.tsc_page.specs.PageView.{is_in}
+use Rattle.tsc_page.specs.Nodes.{Node, node_keys, IsSorted, FitsAt, IsNewKey, IsInOrder, IsSplitAt, AddsNodes, with_new, node_in_gap, gap_value, raise_nodes}
+use Rattle.tsc_page.specs.Leaves.{nodes_of, AreLeaves, start_of, AddsTo, key_below}
 use Rattle.tsc_page.proofs.CutOrder.{Lt, Le, Lt-or_Le, Lt-not_Le, Le-chain, Le-from_Lt, Lt-from_Le_sides, before-after}
 use Rattle.tsc_page.proofs.DistinctKeys.{bytes_eq-itself}
 use Rattle.tsc_page.proofs.Edits.{raise_nodes-length, raise_nodes-sorted}

@@ -7,7 +7,7 @@ use Rattle.tsc_time.proofs.RatchetOrder.{IsAtMost-itself, IsAtMost-antisymmetric
 use Rattle.tsc_span.specs.Span.{Cut, before, last, Interval, between}
 use Rattle.tsc_page.specs.Nodes.{Node, Stretch, node_stretches, stretches, IsSorted, answer_of}
 use Rattle.tsc_page.specs.Leaves.{start_of}
-use Rattle.tsc_page.proofs.Answers.{values_over-is, Meets, answer_over, answer-above, answer-above_zero, answer-least}
+use Rattle.tsc_page.proofs.Answers.{values_over-is, Meets, answer-above, answer-above_zero, answer-least}
 use Rattle.tsc_page.proofs.CutOrder.{Lt, Le}
 use Rattle.tsc_page.proofs.Raises.{first_below, second_below, both_below}
 use Rattle.tsc_page.proofs.Seen.{IsJointOf, none_seen}

@@ -1,22 +1,22 @@
 -- A new key in a leaf, among the nodes of all leaves.
-use Rattle.std.proofs.Common.{◌≡◌, ◌⊎◌, inl, inr, ◌∙◌, refl, sym, ap, subst, Bool, true, false, ◌||◌, ℕ, zero, suc, ◌+◌, ◌<◌, ◌≤◌, List, [], ◌∷◌, ◌++◌, length, arith}
+use Rattle.std.proofs.Common.{◌≡◌, ◌⊎◌, inl, inr, ◌∙◌, refl, sym, ap, subst, Bool, true, false, ◌||◌, ℕ, zero, suc, ◌≤◌, List, [], ◌∷◌, ◌++◌, length, arith}
 use mathlib.Core.Bool.{true≢false}
 use Rattle.std.specs.declared.cmp.Ordering.{Ordering}
 use Rattle.std.specs.declared.cmp.Ordering.TheVariants.{Less, Equal, Greater}
 use Rattle.std.specs.Ordering.{is_lt}
 use Rattle.std.specs.Prelude.{Option, Some, None, IfSome, not}
-use Rattle.std.specs.Option.{is_some, option_to_list}
+use Rattle.std.specs.Option.{is_some}
 use Rattle.std.specs.List.{insert}
 use Rattle.std.specs.Str.{bytes_eq}
 use Rattle.std.proofs.Math.Bool.{or-true}
 use Rattle.std.proofs.lemmas.List.{length-append}
 use Rattle.tsc_time.specs.Time.{zero_time}
 use Rattle.tsc_time.specs.OwnedTime.{OwnedTime, unowned}
-use Rattle.tsc_span.specs.Span.{KeyBytes, key_cmp, Cut, before, after, last}
+use Rattle.tsc_span.specs.Span.{KeyBytes, key_cmp, Cut, before, after}
 use Rattle.tsc_page.specs.PageView.{is_in}
-use Rattle.tsc_page.specs.Nodes.{Node, node_keys, IsSorted, FitsAt, IsPlaceFor, IsNewKey, IsSplitAt, with_new, node_in_gap, gap_value}
+use Rattle.tsc_page.specs.Nodes.{Node, node_keys, IsSorted, FitsAt, IsPlaceFor, IsSplitAt, with_new, node_in_gap, gap_value}
 use Rattle.tsc_page.specs.Leaves.{start_of}
-use Rattle.tsc_page.proofs.CutOrder.{Lt, Le, Lt-not_Le, Le-chain, Le-from_Lt, Lt-chain, after-before, below_last, before-after}
+use Rattle.tsc_page.proofs.CutOrder.{Lt, Le, Lt-not_Le, Le-chain, Le-from_Lt, after-before, below_last, before-after}
 use Rattle.tsc_page.proofs.Cuts.{lowest}
 use Rattle.tsc_page.proofs.Edits.{FitsAt-absent}
 use Rattle.tsc_page.proofs.NewKeys.{with_new_splits}

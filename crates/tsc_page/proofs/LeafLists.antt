@@ -1,7 +1,6 @@
 -- Lists of leaves, and where a cut falls among them.
 use Rattle.std.proofs.Common.{◌≡◌, ◌⊎◌, inl, inr, ◌∙◌, refl, sym, ap, subst, Bool, true, false, ℕ, zero, suc, ◌+◌, ◌-◌, ◌<◌, ◌≤◌, List, [], ◌∷◌, ◌++◌, length, map, take, drop, get_or, set, arith}
 use Rattle.std.specs.Prelude.{not, Some, None, sum, slice_get}
-use Rattle.std.specs.List.{insert}
 use Rattle.std.specs.List.Sorted.{IsPartitionPoint, IsPartitionedBy}
 use Rattle.std.proofs.lemmas.List.{append_assoc, length-map, length-append}
 use Rattle.std.proofs.lemmas.List.Sums.{sum-map, sum_by-cons}

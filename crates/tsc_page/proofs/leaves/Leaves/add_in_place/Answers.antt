@@ -1,5 +1,5 @@
 -- One leaf takes the Add, and the others stay.
-use Rattle.std.proofs.Common.{◌≡◌, ◌∙◌, ◌+◌, ◌<◌, ◌≤◌, ap, sym, subst, refl, ℕ, suc, List, [], get_or, set, drop, length, arith, Global}
+use Rattle.std.proofs.Common.{◌∙◌, ◌<◌, ◌≤◌, ap, sym, subst, refl, ℕ, suc, List, [], get_or, set, drop, length, arith, Global}
 use Rattle.std.specs.Prelude.{Option, option_map}
 use Rattle.std.proofs.lemmas.List.{length-map, map-set, set-get_or}
 use Rattle.std.specs.Arc.{arc_with_value}
@@ -8,7 +8,7 @@ use Rattle.tsc_span.specs.Span.{KeyBytes, Cut, between}
 use Rattle.tsc_span.specs.Cuts.{cut_of}
 use Rattle.tsc_page.specs.Nodes.{Node, IsSorted, IsInOrder, AddsNodes}
 use Rattle.tsc_page.specs.Leaves.{nodes_of, AreLeaves, start_of, key_below, AddsTo}
-use Rattle.tsc_page.specs.LeafParts.{leaf_of, leaf_in, leaves_of, all_nodes}
+use Rattle.tsc_page.specs.LeafParts.{leaf_of, leaf_in, leaves_of}
 use Rattle.tsc_page.specs.declared.nodes.Nodes.{Nodes}
 use Rattle.tsc_page.proofs.CutOrder.{Le}
 use Rattle.tsc_page.proofs.Ends.{ends_in_order}

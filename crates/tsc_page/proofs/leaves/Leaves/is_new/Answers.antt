@@ -1,5 +1,5 @@
 -- A key is new where the leaf in which it falls has a place for it.
-use Rattle.std.proofs.Common.{◌≡◌, ◌∙◌, ◌<◌, ◌≤◌, ap, sym, subst, refl, ℕ, List, [], get_or, take, drop, suc, length, arith, Global}
+use Rattle.std.proofs.Common.{◌∙◌, ◌<◌, ◌≤◌, ap, sym, subst, refl, ℕ, List, [], get_or, take, drop, suc, length, arith, Global}
 use Rattle.std.specs.Prelude.{option_map, not, IfSome}
 use Rattle.std.proofs.lemmas.List.{length-map}
 use Rattle.std.specs.declared.sync.Arc.{Arc}

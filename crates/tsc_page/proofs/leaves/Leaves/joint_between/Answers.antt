@@ -1,15 +1,15 @@
 -- One leaf after another, up to the one in which the span stops.
-use Rattle.std.proofs.Common.{◌≡◌, ◌∙◌, ◌+◌, ◌<◌, ◌≤◌, ap, sym, subst, ℕ, suc, true, false, List, [], ◌∷◌, ◌++◌, get_or, take, drop, length, arith, Global}
+use Rattle.std.proofs.Common.{◌≡◌, ◌∙◌, ◌+◌, ◌<◌, ◌≤◌, ap, sym, subst, ℕ, suc, List, [], ◌∷◌, get_or, take, drop, length, arith, Global}
 use Rattle.std.proofs.lemmas.List.{length-map, drop_all}
 use Rattle.std.specs.declared.sync.Arc.{Arc}
 use Rattle.tsc_time.specs.Time.{zero_time}
 use Rattle.tsc_time.specs.OwnedTime.{OwnedTime, unowned}
 use Rattle.tsc_time.specs.Joint.{joint}
-use Rattle.tsc_span.specs.Span.{Cut, before, last, between, is_below}
+use Rattle.tsc_span.specs.Span.{Cut, before, last, between}
 use Rattle.tsc_span.specs.Cuts.{cut_of}
 use Rattle.tsc_page.specs.Nodes.{Node, IsSorted, answer_of}
 use Rattle.tsc_page.specs.Leaves.{nodes_of, start_of}
-use Rattle.tsc_page.specs.LeafParts.{leaf_of, leaf_in, leaves_of, all_nodes}
+use Rattle.tsc_page.specs.LeafParts.{leaf_of, leaf_in, leaves_of}
 use Rattle.tsc_page.specs.declared.nodes.Nodes.{Nodes}
 use Rattle.tsc_page.proofs.CutOrder.{Lt, Le, Le_Lt-chain}
 use Rattle.tsc_page.proofs.Cuts.{lowest}

@@ -1,5 +1,5 @@
 -- A leaf's size is that of its list.
-use Rattle.std.proofs.Common.{◌≡◌, ◌∙◌, ◌<◌, ◌≤◌, ap, List, get_or, length, arith, Global}
+use Rattle.std.proofs.Common.{◌∙◌, ◌<◌, ◌≤◌, ap, List, get_or, length, arith, Global}
 use Rattle.std.specs.Prelude.{Some}
 use Rattle.std.specs.declared.sync.Arc.{Arc}
 use Rattle.tsc_page.specs.Nodes.{Node}

@@ -1,15 +1,14 @@
 -- One leaf after another is raised, up to the one in which the span stops.
-use Rattle.std.proofs.Common.{◌≡◌, ◌∙◌, ◌+◌, ◌<◌, ◌≤◌, refl, ap, sym, subst, ℕ, suc, true, false, List, [], drop, set, get_or, length, arith, Global}
+use Rattle.std.proofs.Common.{◌≡◌, ◌∙◌, ◌+◌, ◌<◌, ◌≤◌, refl, ap, sym, subst, ℕ, suc, List, [], drop, set, get_or, length, arith, Global}
 use mathlib.Core.Bool.{true≢false}
 use Rattle.std.proofs.lemmas.List.{length-map}
 use Rattle.std.specs.declared.sync.Arc.{Arc}
-use Rattle.tsc_time.specs.OwnedTime.{OwnedTime}
 use Rattle.tsc_span.specs.Span.{Cut, before, last, between}
 use Rattle.tsc_span.specs.Cuts.{cut_of}
 use Rattle.tsc_page.specs.PageView.{AreLeafSizes}
-use Rattle.tsc_page.specs.Nodes.{Node, IsSorted, raise_nodes}
+use Rattle.tsc_page.specs.Nodes.{Node, raise_nodes}
 use Rattle.tsc_page.specs.Leaves.{nodes_of, leaf_sizes, start_of}
-use Rattle.tsc_page.specs.LeafParts.{leaf_in, leaves_of, all_nodes, AreCounted}
+use Rattle.tsc_page.specs.LeafParts.{leaf_in, leaves_of, all_nodes}
 use Rattle.tsc_page.specs.declared.nodes.Nodes.{Nodes}
 use Rattle.tsc_page.proofs.CutOrder.{Lt, Le}
 use Rattle.tsc_page.proofs.Joins.{sorted_left, up_to_last}

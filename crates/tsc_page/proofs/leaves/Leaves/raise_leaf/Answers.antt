@@ -1,7 +1,7 @@
 -- The leaf at the place is raised, and no other.
-use Rattle.std.proofs.Common.{◌≡◌, ◌∙◌, ◌<◌, ap, sym, List, [], set, get_or, length, arith, Global}
+use Rattle.std.proofs.Common.{◌∙◌, ◌<◌, ap, List, set, length, arith, Global}
 use Rattle.std.proofs.lemmas.List.{length-map, map-set}
-use Rattle.std.specs.Arc.{arc_value, arc_with_value}
+use Rattle.std.specs.Arc.{arc_with_value}
 use Rattle.std.specs.declared.sync.Arc.{Arc}
 use Rattle.tsc_span.specs.Span.{Interval, between}
 use Rattle.tsc_span.specs.Cuts.{cut_of}

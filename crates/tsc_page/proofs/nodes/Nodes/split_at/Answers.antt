@@ -1,11 +1,10 @@
 -- The greater key's node comes first, and leaves the smaller one's place as it was. Where neither is new none is made.
-use Rattle.std.proofs.Common.{◌≡◌, ◌∙◌, ap, subst, sym, ◌++◌, List, arith}
+use Rattle.std.proofs.Common.{◌≡◌, ◌∙◌, ap, subst, sym, List, arith}
 use mir.Val.{bool_byte}
 use Rattle.std.specs.Prelude.{Option, option_map}
-use Rattle.std.specs.Option.{option_to_list}
 use Rattle.tsc_span.specs.Span.{KeyBytes}
-use Rattle.tsc_page.specs.Nodes.{Node, FitsIn, IsSplitAt, with_new}
-use Rattle.tsc_page.proofs.NewKeys.{known_not_new, with_new_splits, new_fits, still_new, splits_chain}
+use Rattle.tsc_page.specs.Nodes.{Node, FitsIn, with_new}
+use Rattle.tsc_page.proofs.NewKeys.{known_not_new, new_fits, still_new}
 use Rattle.tsc_page.proofs.nodes.Nodes.split_at.Goals as goal
 
 pub split-requires-2-clause-fits : goal.split-requires-2-clause-fits

@@ -4,7 +4,7 @@ use Rattle.std.specs.Ordering.{ord_max}
 use Rattle.std.proofs.lemmas.Bool.{leb-true}
 use Rattle.tsc_time.specs.Time.{Time, time_cmp, later}
 use Rattle.tsc_time.specs.Joint.{joint}
-use Rattle.tsc_span.specs.Span.{KeyBytes, Cut, Interval, between, overlaps, end_keys}
+use Rattle.tsc_span.specs.Span.{Cut, Interval, between, overlaps, end_keys}
 use Rattle.tsc_span.specs.Cuts.{cut_of}
 use Rattle.tsc_page.specs.Page.{with_mark, count_distinct}
 use Rattle.tsc_page.specs.PageView.{PageView, StandsFor, NoAnswerAboveTop, answer, is_in, has_room_for}

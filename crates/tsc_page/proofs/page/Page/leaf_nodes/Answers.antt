@@ -1,9 +1,8 @@
 -- The sizes of a page's leaves.
-use Rattle.std.proofs.Common.{◌≡◌, ◌∙◌, sym, ap, subst, List}
+use Rattle.std.proofs.Common.{◌∙◌, sym, ap, subst}
 use Rattle.std.specs.Prelude.{sum, slice_get}
 use Rattle.tsc_page.specs.Page.{count_distinct}
 use Rattle.tsc_page.specs.PageView.{PageView, AreLeafSizes}
-use Rattle.tsc_page.specs.Nodes.{Node}
 use Rattle.tsc_page.specs.LeafParts.{leaves_of, all_nodes}
 use Rattle.tsc_page.proofs.LeafLists.{sizes_sum}
 use Rattle.tsc_page.proofs.Standing.{count_of_nodes}
