@@ -8,8 +8,8 @@ use std::marker::Model;
 /// A caller's token at a shared cache, by which it adds and looks.
 ///
 /// It carries its number, how many of its Adds were accepted, and the history that it has seen: its own Adds,
-/// all that its answers came after, and what it met. A running program can ask how long that is. A seat cannot be copied,
-/// and one that is dropped makes closing impossible.
+/// all that its answers came after, and what it met. A running program can ask how long that is. A seat cannot
+/// be copied, and one that is dropped makes closing impossible.
 #[derive(Drop)]
 pub struct Seat {
     pub(crate) place: Place,

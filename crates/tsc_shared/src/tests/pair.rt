@@ -131,6 +131,9 @@ impl Pair {
         let (cache, mut seats) = SharedCache::open(alloc, config, 2, limit)?;
         let second = seats.pop().ok_or("two seats")?;
         let first = seats.pop().ok_or("one seat")?;
+        if (first.number(), second.number()) != (0, 1) {
+            return Err("seats in the order of their numbers".into());
+        }
         Ok(Pair {
             cache,
             first,
@@ -147,6 +150,9 @@ impl Pair {
         match next {
             Step::Meet => {
                 let met = self.cache.meet(rt, &mut self.first, &mut self.second)?;
+                if self.second.seen() != self.first.seen() {
+                    return Err("both have seen the same".into());
+                }
                 Ok((Told::Met(met), counts(&self.first)))
             }
             Step::Add(0, _) | Step::AddNothing(0) | Step::Get(0, _) | Step::Low(0) => {
