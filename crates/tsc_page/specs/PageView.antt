@@ -39,10 +39,6 @@ pub record StandsFor (v : PageView) (p : PageMarks) : Type 0 where
   pub keys : (k : KeyBytes) → is_in k v.keys ≡ is_in k (marked_keys p.marks)
   pub answers : (span : Interval) → answer v span ≡ joint_above zero_time (values_on span p.marks)
 
--- a page that holds the end keys of a span already
-abbrev pub HasEndKeys : PageView → Interval → Type 0
-HasEndKeys v span = (k : KeyBytes) → is_in k (end_keys span) ≡ true → is_in k v.keys ≡ true
-
 -- whether the end keys of a page and of one more span, counted without repeats, are no more than it may hold
 abbrev pub has_room_for : PageView → Interval → Bool
 has_room_for v span = nat_le (count_distinct (v.keys ++ end_keys span)) v.page_nodes
