@@ -22,8 +22,6 @@ pub mod laws;
 mod pages;
 mod plain;
 mod plain_pages;
-#[cfg(test)]
-mod tests;
 
 pub use added::Added;
 pub use cache::Cache;

@@ -8,8 +8,6 @@ mod head;
 mod json;
 mod part;
 mod span;
-#[cfg(test)]
-mod tests;
 
 use crate::trace::Trace;
 use head::trace;

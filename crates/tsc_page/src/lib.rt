@@ -22,8 +22,6 @@ mod node;
 mod nodes;
 mod page;
 mod plain;
-#[cfg(test)]
-mod tests;
 
 pub use page::Page;
 pub use plain::PlainPage;

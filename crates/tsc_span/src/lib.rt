@@ -13,8 +13,6 @@ mod fault;
 mod key;
 pub mod laws;
 mod span;
-#[cfg(test)]
-mod tests;
 
 pub use cut::Cut;
 pub use fault::SpanFault;

@@ -7,8 +7,6 @@
 
 pub mod laws;
 mod memory;
-#[cfg(test)]
-mod tests;
 mod timestamp;
 mod value;
 

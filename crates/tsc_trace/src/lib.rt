@@ -11,8 +11,6 @@ pub mod log_laws;
 mod log_reader;
 mod player;
 mod replays;
-#[cfg(test)]
-mod tests;
 
 pub use log::{Line, Lines, Log, Said, log_text};
 pub use log_reader::{LogFault, read_log};

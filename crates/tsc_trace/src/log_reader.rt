@@ -5,8 +5,6 @@ ghost use Rattle.tsc_trace.specs.ReadingBack.{AddsLine, IsNoLineText, IsWithout,
 ghost use Rattle.tsc_trace.specs.declared.log_reader.LogFault.TheVariants.{NoMemory};
 
 mod line;
-#[cfg(test)]
-mod tests;
 
 use crate::log::{Line, Lines, Log};
 use line::read_line;

@@ -1,6 +1,6 @@
-use super::*;
-use crate::log::log_text;
+use std::alloc::{AllocError, Global};
 use std::test::Fail;
+use tsc_trace::{LogFault, log_text, read_log};
 
 /// The log of a list with six calls.
 const SIX_LINES: &[u8] = b"0 0 add 0 1 0 0\n\

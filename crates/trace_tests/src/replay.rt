@@ -1,9 +1,9 @@
-use crate::log_laws::reads_again;
-use crate::*;
 use std::alloc::Global;
 use std::test::Fail;
 use tsc_stream::fakes::{Faulty, Mishap};
 use tsc_time::NoMemory;
+use tsc_trace::log_laws::reads_again;
+use tsc_trace::*;
 
 /// The head of most traces, up to their lists.
 const HEAD: &str = r#"{"page_nodes":4,"min_pages":2,"retention":10,"low_water":[5,0],"threads":"#;

@@ -5,10 +5,10 @@ mod runner;
 use self::agreement::first_difference;
 use self::rows::{COUNTED, FLOOR, ROTATIONS, Row, TIGHT, USUAL};
 use self::runner::{WAYS, a_shared_front_is_left, at, first_failure};
-use crate::{Config, ConfigFault};
 use std::alloc::Global;
 use std::process::Abort;
 use std::test::Fail;
+use tsc_cache::{Config, ConfigFault};
 
 /// Plays rows in each way, on pages of so many nodes, of which so many are kept at the least.
 fn play(

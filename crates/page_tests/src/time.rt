@@ -1,6 +1,6 @@
-use crate::{NoMemory, Timestamp, Value, ratchet};
 use std::alloc::{AllocError, AllocFailed};
 use std::test::Fail;
+use tsc_time::{NoMemory, Timestamp, Value, ratchet};
 use uuid::Uuid;
 
 const NOBODY: u128 = 0;

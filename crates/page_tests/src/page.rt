@@ -1,6 +1,6 @@
-use crate::{LEAST_NODES, MOST_NODES, Page, PlainPage};
 use std::alloc::Global;
 use std::test::Fail;
+use tsc_page::{LEAST_NODES, MOST_NODES, Page, PlainPage};
 use tsc_span::{Ends, Key, Span};
 use tsc_time::{NoMemory, Timestamp, Value};
 use uuid::Uuid;

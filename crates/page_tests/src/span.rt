@@ -1,6 +1,6 @@
-use crate::{Ends, Key, LONGEST_KEY, Span, SpanFault};
 use std::alloc::Global;
 use std::test::Fail;
+use tsc_span::{Ends, Key, LONGEST_KEY, Span, SpanFault};
 
 const NONE: Ends = Ends {
     exclude_from: false,

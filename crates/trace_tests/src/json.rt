@@ -1,6 +1,6 @@
-use super::*;
-use crate::trace::Call;
+use std::alloc::Global;
 use std::test::*;
+use tsc_json::{Call, TraceFault, read_trace};
 
 /// What reading tells: how many calls there are, or the fault.
 type Told = Result<usize, TraceFault>;

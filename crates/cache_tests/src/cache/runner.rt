@@ -1,9 +1,9 @@
 //! Plays the steps of a row on a cache.
 use super::rows::{FLOOR, KEPT, RETENTION, Row, Step, Time, Told};
-use crate::{Cache, Config, PlainCache};
 use std::alloc::Global;
 use std::mem;
 use std::test::Fail;
+use tsc_cache::{Cache, Config, PlainCache};
 use tsc_span::{Ends, Key, Span};
 use tsc_time::{NoMemory, Timestamp, Value};
 use uuid::Uuid;

@@ -1,9 +1,9 @@
 //! The same Adds on both caches and by `next`, in a sequence that looks random.
 use super::runner::{at, value};
-use crate::{Cache, Config, PlainCache};
 use std::alloc::Global;
 use std::mem;
 use std::test::Fail;
+use tsc_cache::{Cache, Config, PlainCache};
 use tsc_span::{Ends, Key, Span};
 use tsc_time::{NoMemory, Timestamp, Value};
 

@@ -1,0 +1,7 @@
+//! Tests of caches, through their public calls.
+//!
+//! They stand apart because a crate that has tests is proved once with them and once without.
+#![tactic(auto)]
+
+#[cfg(test)]
+mod cache;

@@ -1,0 +1,11 @@
+//! Tests of times, spans and pages, through their public calls.
+//!
+//! They stand apart because a crate that has tests is proved once with them and once without.
+#![tactic(auto)]
+
+#[cfg(test)]
+mod page;
+#[cfg(test)]
+mod span;
+#[cfg(test)]
+mod time;
