@@ -1,4 +1,4 @@
--- A step of one place keeps the rule of the desk.
+-- A step of one desk seat keeps the rule of the desk.
 use Rattle.std.proofs.Common.{◌≡◌, ◌≢◌, ◌⊎◌, ◌∙◌, inl, inr, refl, sym, ap, subst, Bool, true, false, ℕ, zero, suc, ◌+◌, ◌<◌, ◌≤◌, List, [], ◌∷◌, ◌++◌, length, set, append_assoc, append-nil, arith, ⊎_elim}
 use Rattle.std.specs.Prelude.{All, Option, Some, None, ◌==◌, nat_lt, if◌then◌else◌}
 use Rattle.std.specs.List.{sum_by}
@@ -16,14 +16,14 @@ use Rattle.tsc_shared.specs.declared.board.Terms.{Terms}
 use Rattle.tsc_shared.specs.declared.board.Held.{Held}
 use Rattle.tsc_shared.specs.declared.board.Post.{Post}
 use Rattle.tsc_shared.specs.declared.board.View.{View}
-use Rattle.tsc_shared.specs.Desk.{keeping, one_if, Kept, ViewFits, PostFits, IsAfter, posts_of, holders}
+use Rattle.tsc_shared.specs.Desk.{keeping, one_if, DeskRule, ViewFits, PostFits, IsAfter, posts_of, holders}
 use Rattle.tsc_shared.proofs.Prefixes.{begins_itself, begins_empty, begins_more, begins_on, own_append}
 use Rattle.tsc_shared.proofs.Totals.{part, two_parts, total_set}
 
 abbrev Board : Type 0
 Board = State (Option Held) View
 
--- the desk where one place has another view, with another history and word
+-- the desk where one of its seats has another view, with another history and word
 pub record Moved (terms : Terms) (s : Board) (id : ℕ) (v w : View) (h : History) (word : ℕ) (homes : List (maybe.Option (Option Held))) : Type 0 where
   pub at : get_elem? s.views id ≡ maybe.some v
   pub legal : IsLegal terms.seats h
@@ -34,8 +34,8 @@ pub record Moved (terms : Terms) (s : Board) (id : ℕ) (v w : View) (h : Histor
   pub one : sum_by holders s.views + holders w ≡ one_if (nat_lt 0 word) + holders v
   pub free : word ≡ 0 → (held : Held) × (homes ≡ maybe.some (Some held) ∷ []) × IsAfter terms h held
 
-pub moved_kept : (terms : Terms) (s : Board) (k : Kept terms s) (id : ℕ) (v w : View) (h : History) (word : ℕ) (homes : List (maybe.Option (Option Held)))
-    → Moved terms s id v w h word homes → Kept terms (record { words = word ∷ []; homes = homes; views = set s.views id w })
+pub moved_kept : (terms : Terms) (s : Board) (k : DeskRule terms s) (id : ℕ) (v w : View) (h : History) (word : ℕ) (homes : List (maybe.Option (Option Held)))
+    → Moved terms s id v w h word homes → DeskRule terms (record { words = word ∷ []; homes = homes; views = set s.views id w })
 moved_kept terms s k id v w h word homes m = record {
   history = h;
   word = word;
@@ -51,9 +51,9 @@ moved_kept terms s k id v w h word homes m = record {
   free = m.free;
 }
 
--- the only post of a place
+-- the only post of a desk seat
 pub of_one : {terms : Terms} {h : History} {word : ℕ} (t : Terms) (p : Post) → t ≡ terms → PostFits h word p → ViewFits terms h word (keeping t (p ∷ []))
-of_one {terms} {h} {word} t p is fits = record { settled = λ _. is; posts = at; told = begins_empty h }
+of_one {terms} {h} {word} t p is fits = record { settled = λ _. is; posts = at; noted = begins_empty h }
   where
     at : (i : ℕ) (q : Post) → get_elem? (p ∷ []) i ≡ maybe.some q → PostFits h word q
     at zero q e = subst (PostFits h word) (some-injective p q e) fits
@@ -76,7 +76,7 @@ any_word terms h word other v none fits = record {
     own_seen = was.own_seen;
     holding = λ holds. absurd (holds_none p holds (omega (arith, none, part (λ (q : Post). one_if q.holds) v.posts i p e)));
   };
-  told = fits.told;
+  noted = fits.noted;
 }
 
 -- and where it has no post of a seat, it fits the history with more entries of that seat
@@ -90,7 +90,7 @@ more_of_another terms h es word number v none no_post theirs fits = record {
     own_seen = was.own_seen;
     holding = λ holds. absurd (holds_none p holds (omega (arith, none, part (λ (q : Post). one_if q.holds) v.posts i p e)));
   };
-  told = begins_on (h ++ es) h v.told (begins_more h es) fits.told;
+  noted = begins_on (h ++ es) h v.noted (begins_more h es) fits.noted;
 }
   where
     not_its : (p : Post) → one_if (p.number == number) ≤ 0 → p.number ≢ number

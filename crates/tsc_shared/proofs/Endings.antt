@@ -18,17 +18,17 @@ use Rattle.tsc_shared.specs.declared.board.Held.{Held}
 use Rattle.tsc_shared.specs.declared.board.Post.{Post}
 use Rattle.tsc_shared.specs.declared.board.View.{View}
 use Rattle.tsc_shared.specs.declared.answers.Closed.{Closed}
-use Rattle.tsc_shared.specs.Desk.{one_if, Kept, PostFits, holders}
+use Rattle.tsc_shared.specs.Desk.{one_if, DeskRule, PostFits, holders}
 use Rattle.tsc_shared.specs.DeskSteps.{seated, longer, number_of, seen_of, count_of}
-use Rattle.tsc_shared.specs.Seats.{CacheName, SeatView, IsSeat}
-use Rattle.tsc_shared.specs.Places.{seat_view}
+use Rattle.tsc_shared.specs.Seats.{SharedView, SeatView, IsSeat}
+use Rattle.tsc_shared.specs.AtDesk.{seat_view}
 use Rattle.tsc_shared.specs.Answers.{Meets, Closes}
 use Rattle.tsc_shared.specs.Closing.{post_of, IsEnd}
 use Rattle.tsc_shared.proofs.Posts.{nobody_holds, each_there}
 use Rattle.tsc_shared.proofs.SeatSteps.{Rested, rests}
 
-abbrev Place : Type 0
-Place = TableSeat (Option Held) View
+abbrev DeskSeat : Type 0
+DeskSeat = TableSeat (Option Held) View
 
 -- the longer of two is one of them
 pub longer_again : (a b : History) → longer b (longer a b) ≡ longer a b
@@ -59,13 +59,13 @@ pub met_length : (a b seen : History) (x y met : ℕ) → met ≡ max x y → x 
 met_length a b seen x y met is xa yb same = is ∙ (λ i. max (xa i) (yb i)) ∙ sym (longer_length a b) ∙ sym (ap length same)
 
 -- the second of two seats that meet
-pub met_second : (p q new : Place) (told h : History) → q.me ≡ p.me → told ≡ h → longer (seen_of p.me.0) h ≡ h → IsSeat (seat_view p) → new.table_id ≡ p.table_id
-    → new.me ≡ (seated q.me.0.terms (number_of q.me.0) (longer (seen_of q.me.0) told) (count_of q.me.0) false, [])
-    → BeginsWith (longer (seen_of q.me.0) told) (seen_of q.me.0) → IsLegal q.me.0.terms.seats (longer (seen_of q.me.0) told)
-    → own_count (number_of q.me.0) (longer (seen_of q.me.0) told) ≡ count_of q.me.0 → length (longer (seen_of q.me.0) told) ≤ q.me.0.terms.limit
+pub met_second : (p q new : DeskSeat) (noted h : History) → q.me ≡ p.me → noted ≡ h → longer (seen_of p.me.0) h ≡ h → IsSeat (seat_view p) → new.table_id ≡ p.table_id
+    → new.me ≡ (seated q.me.0.terms (number_of q.me.0) (longer (seen_of q.me.0) noted) (count_of q.me.0) false, [])
+    → BeginsWith (longer (seen_of q.me.0) noted) (seen_of q.me.0) → IsLegal q.me.0.terms.seats (longer (seen_of q.me.0) noted)
+    → own_count (number_of q.me.0) (longer (seen_of q.me.0) noted) ≡ count_of q.me.0 → length (longer (seen_of q.me.0) noted) ≤ q.me.0.terms.limit
     → Rested p new h (count_of p.me.0)
-met_second p q new told h same is again seat table me begins legal own limit =
-    let whole : longer (seen_of q.me.0) told ≡ h = (λ i. longer (seen_of (same i).0) (is i)) ∙ again in
+met_second p q new noted h same is again seat table me begins legal own limit =
+    let whole : longer (seen_of q.me.0) noted ≡ h = (λ i. longer (seen_of (same i).0) (is i)) ∙ again in
     rests p new h (count_of p.me.0) table
     (me ∙ (λ i. (seated (same i).0.terms (number_of (same i).0) (whole i) (count_of (same i).0) false, [])))
     seat.number
@@ -75,7 +75,7 @@ met_second p q new told h same is again seat table me begins legal own limit =
     (subst (λ m. BeginsWith h (seen_of m.0)) same (subst (λ x. BeginsWith x (seen_of q.me.0)) whole begins))
 
 -- both have met
-pub meets_both : (p q p' q' : Place) (h : History) (met : ℕ) → Rested p p' h (count_of p.me.0) → Rested q q' h (count_of q.me.0) → met ≡ length h → Meets (seat_view p) (seat_view q) (seat_view p') (seat_view q') met
+pub meets_both : (p q p' q' : DeskSeat) (h : History) (met : ℕ) → Rested p p' h (count_of p.me.0) → Rested q q' h (count_of q.me.0) → met ≡ length h → Meets (seat_view p) (seat_view q) (seat_view p') (seat_view q') met
 meets_both p q p' q' h met r s long = record {
   first = r.goes_on;
   second = s.goes_on;
@@ -91,7 +91,7 @@ nobody_in [] = refl
 nobody_in (s ∷ seats) = omega (arith, sum_by-cons (λ (p : Post). one_if p.holds) (post_of s) (map post_of seats), nobody_in seats)
 
 -- what lies on the desk once all posts are in one hand
-pub home_at : (key : Terms) (s : State (Option Held) View) (k : Kept key s) (id : ℕ) (v : View) → get_elem? s.views id ≡ maybe.some v → holders v ≡ 0 → length v.posts ≡ key.seats
+pub home_at : (key : Terms) (s : State (Option Held) View) (k : DeskRule key s) (id : ℕ) (v : View) → get_elem? s.views id ≡ maybe.some v → holders v ≡ 0 → length v.posts ≡ key.seats
     → (slots : List (Option Held)) → ((i : ℕ) (y : Option Held) → get_elem? s.homes i ≡ maybe.some (maybe.some y) → get_elem? slots i ≡ maybe.some y)
     → (x : Option Held) → get_elem? slots 0 ≡ maybe.some x → (held : Held) × (x ≡ Some held) × IsEnd key v.posts held
 home_at key s k id v at none long slots get x is =
@@ -124,9 +124,13 @@ count_in number (s ∷ seats) =
     = sum_by-cons (λ (seat : SeatView). one_if (seat.number == number)) s seats in
     omega (arith, first, sum_by-cons (λ (p : Post). one_if (p.number == number)) (post_of s) (map post_of seats), count_in number seats)
 
+-- under which terms a cache was opened
+abbrev pub terms_of : SharedView → Terms
+terms_of cache = record { config = cache.config; seats = cache.seats; limit = cache.limit }
+
 -- the closed cache
-pub closes : (name : CacheName) (seats : List SeatView) (ps : List Post) (key : Terms) (held : Held) → ps ≡ map post_of seats → key ≡ name.terms → IsEnd key ps held → Closes name seats (record { cache = held.cache; adds = held.length })
-closes name seats ps key held is same end_ = record {
+pub closes : (cache : SharedView) (seats : List SeatView) (ps : List Post) (key : Terms) (held : Held) → ps ≡ map post_of seats → key ≡ terms_of cache → IsEnd key ps held → Closes cache seats (record { cache = held.cache; adds = held.length })
+closes cache seats ps key held is same end_ = record {
   each = λ number low. count_in number seats ∙ ap (λ (qs : List Post). sum_by (λ (p : Post). one_if (p.number == number)) qs) (sym is) ∙ end_.each number (omega (arith, low, ap (λ (t : Terms). t.seats) same));
   history = end_.history;
   legal = subst (λ (t : Terms). IsLegal t.seats end_.history) same end_.legal;

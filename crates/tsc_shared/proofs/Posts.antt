@@ -15,7 +15,7 @@ use Rattle.tsc_shared.specs.declared.board.Post.{Post}
 use Rattle.tsc_shared.specs.declared.board.View.{View}
 use Rattle.tsc_cache.specs.CacheView.{StandsForState}
 use Rattle.tsc_cache.specs.State.{opening as opening_state}
-use Rattle.tsc_shared.specs.Desk.{post, keeping, one_if, Kept, ViewFits, PostFits, posts_of, holders, first_view, fresh_posts, IsAfter}
+use Rattle.tsc_shared.specs.Desk.{post, keeping, one_if, DeskRule, ViewFits, PostFits, posts_of, holders, first_view, fresh_posts, IsAfter}
 use Rattle.tsc_shared.proofs.Prefixes.{begins_empty, legal_empty}
 use Rattle.tsc_shared.proofs.Totals.{part, two_parts}
 use Rattle.tsc_shared.proofs.DeskMoves.{same_number}
@@ -63,7 +63,7 @@ fresh_at from (suc n) (suc i) p e = fresh_at (suc from) n i p e ∙ ap (λ (k : 
 
 -- the rule holds when the table is made
 pub opening_kept : (terms : Terms) (held : Held) → StandsForState held.cache terms.config (opening_state terms.config) → held.length ≡ 0
-    → Kept terms (opening (0 ∷ []) (Some held ∷ []) (first_view terms))
+    → DeskRule terms (opening (0 ∷ []) (Some held ∷ []) (first_view terms))
 opening_kept terms held stands none = record {
   history = [];
   word = 0;
@@ -80,7 +80,7 @@ opening_kept terms held stands none = record {
     at zero v e = subst (ViewFits terms [] 0) (some-injective (first_view terms) v e) (record {
       settled = λ _. refl;
       posts = λ i p e'. subst (PostFits [] 0) (sym (fresh_at 0 terms.seats i p e')) (record { begins = begins_empty []; own = refl; own_seen = refl; holding = λ f. absurd (false_is_no f) });
-      told = begins_empty [];
+      noted = begins_empty [];
     })
     at (suc id) v e = absurd (some-ne-none v (sym e))
 
@@ -157,18 +157,18 @@ holds_if true some = refl
 holds_if false some = absurd (some refl)
 
 -- the number of a post is one of the seats'
-low_number : (terms : Terms) (s : State (Option Held) View) (k : Kept terms s) (u : View) (j : ℕ) → get_elem? s.views j ≡ maybe.some u → (i : ℕ) (p : Post) → get_elem? u.posts i ≡ maybe.some p → p.number < terms.seats
+low_number : (terms : Terms) (s : State (Option Held) View) (k : DeskRule terms s) (u : View) (j : ℕ) → get_elem? s.views j ≡ maybe.some u → (i : ℕ) (p : Post) → get_elem? u.posts i ≡ maybe.some p → p.number < terms.seats
 low_number terms s k u j e i p e' = grind (arith, nat_tests, k.each p.number, part (posts_of p.number) s.views j u e, part (λ (q : Post). one_if (q.number == p.number)) u.posts i p e', ap one_if (same_number p.number p.number refl))
 
 -- where as many posts are in one hand as there are seats, each seat's is there, once
-pub each_there : (terms : Terms) (s : State (Option Held) View) (k : Kept terms s) (id : ℕ) (v : View) → get_elem? s.views id ≡ maybe.some v → length v.posts ≡ terms.seats
+pub each_there : (terms : Terms) (s : State (Option Held) View) (k : DeskRule terms s) (id : ℕ) (v : View) → get_elem? s.views id ≡ maybe.some v → length v.posts ≡ terms.seats
     → (number : ℕ) → number < terms.seats → of_seat number v.posts ≡ 1
 each_there terms s k id v at long number low =
     let some = all_there terms.seats v.posts (low_number terms s k v id at) (λ m. omega (arith, k.each m, at_most_one (nat_lt m terms.seats), part (posts_of m) s.views id v at)) long number low in
     omega (arith, some, k.each number, at_most_one (nat_lt number terms.seats), part (posts_of number) s.views id v at)
 
 -- where all posts are in one hand, and none of them holds the desk, nobody does
-pub nobody_holds : (terms : Terms) (s : State (Option Held) View) (k : Kept terms s) (id : ℕ) (v : View) → get_elem? s.views id ≡ maybe.some v
+pub nobody_holds : (terms : Terms) (s : State (Option Held) View) (k : DeskRule terms s) (id : ℕ) (v : View) → get_elem? s.views id ≡ maybe.some v
     → holders v ≡ 0 → length v.posts ≡ terms.seats → k.word ≡ 0
 nobody_holds terms s k id v at none long = by_word k.word refl
   where

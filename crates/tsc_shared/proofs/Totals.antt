@@ -1,4 +1,4 @@
--- Sums over the places at the desk.
+-- Sums over the seats of the desk.
 use Rattle.std.proofs.Common.{◌≡◌, ◌≢◌, ◌∙◌, refl, sym, ap, ℕ, zero, suc, ◌+◌, ◌<◌, ◌≤◌, List, [], ◌∷◌, ◌++◌, set, arith}
 use Rattle.std.specs.List.{sum_by}
 use mathlib.Core.Option.{some, some-injective, some-ne-none}

@@ -22,11 +22,11 @@ abbrev pub fresh_posts : ℕ → ℕ → List Post
 fresh_posts number ℕ.zero = []
 fresh_posts number (suc others) = post number [] 0 false ∷ fresh_posts (suc number) others
 
--- a place that keeps posts, and was told nothing
+-- a desk seat that keeps posts, and where nothing is noted
 abbrev pub keeping : Terms → List Post → View
-keeping terms posts = record { live = true; terms = terms; posts = posts; told = [] }
+keeping terms posts = record { live = true; terms = terms; posts = posts; noted = [] }
 
--- the first place keeps the posts of all seats
+-- the first desk seat keeps the posts of all seats
 abbrev pub first_view : Terms → View
 first_view terms = keeping terms (fresh_posts 0 terms.seats)
 
@@ -49,19 +49,19 @@ pub record PostFits (h : History) (word : ℕ) (p : Post) : Type 0 where
   pub own_seen : own_count p.number p.seen ≡ p.count
   pub holding : p.holds ≡ true → (p.seen ≡ h) × (word ≡ suc p.number)
 
--- What a place knows fits.
+-- What a desk seat knows fits.
 pub record ViewFits (terms : Terms) (h : History) (word : ℕ) (v : View) : Type 0 where
   pub settled : v.live ≡ true → v.terms ≡ terms
   pub posts : (at : ℕ) (p : Post) → get_elem? v.posts at ≡ maybe.some p → PostFits h word p
-  pub told : BeginsWith h v.told
+  pub noted : BeginsWith h v.noted
 
 -- What lies on the desk stands for the state that a history leaves.
 pub record IsAfter (terms : Terms) (h : History) (held : Held) : Type 0 where
   pub stands : StandsForState held.cache terms.config (state_of terms.config h)
   pub length : held.length ≡ length h
 
--- There is one history, legal and within the limit. What each place knows fits it, and each seat has one post. Where the desk is free, nobody holds it and what lies there is after that history; else one holds it.
-pub record Kept (terms : Terms) (s : State (Option Held) View) : Type 0 where
+-- There is one history, legal and within the limit. What each desk seat knows fits it, and each seat has one post. Where the desk is free, nobody holds it and what lies there is after that history; else one holds it.
+pub record DeskRule (terms : Terms) (s : State (Option Held) View) : Type 0 where
   pub history : History
   pub word : ℕ
   pub legal : IsLegal terms.seats history

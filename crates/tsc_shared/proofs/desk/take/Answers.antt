@@ -2,7 +2,7 @@ use Rattle.std.proofs.Common.{◌≡◌, ◌∙◌, ◌∷◌, [], ◌+◌, sym,
 use mathlib.Core.Option as maybe
 use Rattle.atomic_table.specs.Table.{step, rest}
 use Rattle.tsc_shared.specs.DeskSteps.{number_of}
-use Rattle.tsc_shared.specs.Places.{IsAtRest}
+use Rattle.tsc_shared.specs.AtDesk.{IsAtRest}
 use Rattle.tsc_shared.proofs.desk.take.Goals as goal
 use Rattle.tsc_shared.proofs.Taking.{take_at, held_first}
 
@@ -10,16 +10,16 @@ use Rattle.tsc_shared.proofs.Taking.{take_at, held_first}
 pub compare_exchange-requires : goal.compare_exchange-requires
 compare_exchange-requires g c =
     let same = c.loop.invariant.3 in (
-      c.loop.invariant.2 ∙ c.requires.place.table,
-      omega (arith, c.requires.place.words),
-      take_at c.args.desk.now.key c.args.desk.now.table_id.slots (step c.args.desk.now.table_id.slots 0 0 (c.from.result + 1) maybe.none) c.loop.place.id c.from.result c.loop.place.me
-          c.requires.place.slots (subst IsAtRest (sym same) c.requires.rest) (c.from.ensures ∙ c.requires.number ∙ ap (λ m. number_of m.0) (sym same)),
+      c.loop.invariant.2 ∙ c.requires.at_desk.table,
+      omega (arith, c.requires.at_desk.words),
+      take_at c.args.desk.now.key c.args.desk.now.table_id.slots (step c.args.desk.now.table_id.slots 0 0 (c.from.result + 1) maybe.none) c.loop.at_desk.id c.from.result c.loop.at_desk.me
+          c.requires.at_desk.slots (subst IsAtRest (sym same) c.requires.rest) (c.from.ensures ∙ c.requires.number ∙ ap (λ m. number_of m.0) (sym same)),
     )
 
 -- src/desk.rt:24:30
 pub exchange-requires : goal.exchange-requires
 exchange-requires g c =
     let here = c.compare_exchange.ensures.2.0 c.if-compare_exchange-eq0.true in (
-      c.compare_exchange.ensures.0 ∙ c.loop.invariant.2 ∙ c.requires.place.table,
+      c.compare_exchange.ensures.0 ∙ c.loop.invariant.2 ∙ c.requires.at_desk.table,
       held_first c.compare_exchange.new.seat.me.1 here.0 here.2,
     )

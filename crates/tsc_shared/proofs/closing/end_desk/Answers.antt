@@ -1,6 +1,6 @@
 use Rattle.std.proofs.Common.{◌≡◌}
 use Rattle.std.specs.Slots.{slots_items}
-use Rattle.tsc_shared.proofs.closing.clear.Goals as goal
+use Rattle.tsc_shared.proofs.closing.end_desk.Goals as goal
 use Rattle.tsc_shared.proofs.Endings.{home_at, end_of}
 
 -- src/closing.rt:59:34
