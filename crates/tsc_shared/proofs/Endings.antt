@@ -8,7 +8,7 @@ use lib.ListN.{get_elem?}
 use Rattle.std.proofs.lemmas.Bool.Decides.{nat_tests}
 use Rattle.std.proofs.lemmas.List.{length-map}
 use Rattle.std.proofs.lemmas.List.Sums.{sum_by-cons}
-use Rattle.atomic_table.specs.Table.{State}
+use Rattle.atomic_table.specs.Table.{State, Me}
 use Rattle.atomic_table.specs.declared.shared.Seat.{Seat as TableSeat}
 use Rattle.atomic_table.proofs.Lists.{at_index, at_map}
 use Rattle.tsc_cache.specs.CacheView.{StandsForState}
@@ -19,16 +19,19 @@ use Rattle.tsc_shared.specs.declared.board.Post.{Post}
 use Rattle.tsc_shared.specs.declared.board.View.{View}
 use Rattle.tsc_shared.specs.declared.answers.Closed.{Closed}
 use Rattle.tsc_shared.specs.Desk.{one_if, DeskRule, PostFits, holders}
-use Rattle.tsc_shared.specs.DeskSteps.{seated, longer, number_of, seen_of, count_of}
+use Rattle.tsc_shared.specs.DeskSteps.{CatchesUp, longer, seen_of, count_of}
 use Rattle.tsc_shared.specs.Seats.{SharedView, SeatView, IsSeat}
-use Rattle.tsc_shared.specs.AtDesk.{seat_view}
+use Rattle.tsc_shared.specs.AtDesk.{seat_view, KeepsSeat}
 use Rattle.tsc_shared.specs.Answers.{Meets, Closes}
 use Rattle.tsc_shared.specs.Closing.{post_of, IsEnd}
 use Rattle.tsc_shared.proofs.Posts.{nobody_holds, each_there}
-use Rattle.tsc_shared.proofs.SeatSteps.{Rested, rests}
+use Rattle.tsc_shared.proofs.SeatSteps.{Rested, rests_met}
 
 abbrev DeskSeat : Type 0
 DeskSeat = TableSeat (Option Held) View
+
+abbrev At : Type 0
+At = Me (Option Held) View
 
 -- the longer of two is one of them
 pub longer_again : (a b : History) → longer b (longer a b) ≡ longer a b
@@ -58,21 +61,19 @@ longer_length a b = by_length (nat_le (length a) (length b)) refl
 pub met_length : (a b seen : History) (x y met : ℕ) → met ≡ max x y → x ≡ length a → y ≡ length b → seen ≡ longer a b → met ≡ length seen
 met_length a b seen x y met is xa yb same = is ∙ (λ i. max (xa i) (yb i)) ∙ sym (longer_length a b) ∙ sym (ap length same)
 
--- the second of two seats that meet
-pub met_second : (p q new : DeskSeat) (noted h : History) → q.me ≡ p.me → noted ≡ h → longer (seen_of p.me.0) h ≡ h → IsSeat (seat_view p) → new.table_id ≡ p.table_id
-    → new.me ≡ (seated q.me.0.terms (number_of q.me.0) (longer (seen_of q.me.0) noted) (count_of q.me.0) false, [])
-    → BeginsWith (longer (seen_of q.me.0) noted) (seen_of q.me.0) → IsLegal q.me.0.terms.seats (longer (seen_of q.me.0) noted)
-    → own_count (number_of q.me.0) (longer (seen_of q.me.0) noted) ≡ count_of q.me.0 → length (longer (seen_of q.me.0) noted) ≤ q.me.0.terms.limit
-    → Rested p new h (count_of p.me.0)
-met_second p q new noted h same is again seat table me begins legal own limit =
-    let whole : longer (seen_of q.me.0) noted ≡ h = (λ i. longer (seen_of (same i).0) (is i)) ∙ again in
-    rests p new h (count_of p.me.0) table
-    (me ∙ (λ i. (seated (same i).0.terms (number_of (same i).0) (whole i) (count_of (same i).0) false, [])))
-    seat.number
-    (subst (λ m. IsLegal m.0.terms.seats h) same (subst (IsLegal q.me.0.terms.seats) whole legal))
-    (subst (λ m. own_count (number_of m.0) h ≡ count_of m.0) same (subst (λ x. own_count (number_of q.me.0) x ≡ count_of q.me.0) whole own))
-    (subst (λ m. length h ≤ m.0.terms.limit) same (subst (λ x. length x ≤ q.me.0.terms.limit) whole limit))
-    (subst (λ m. BeginsWith h (seen_of m.0)) same (subst (λ x. BeginsWith x (seen_of q.me.0)) whole begins))
+-- two seats that catch up with one another have seen one history
+met_alike : (a b a' b' : At) → (m : CatchesUp a a' (seen_of b.0)) → (n : CatchesUp b b' (seen_of a'.0)) → n.history ≡ m.history
+met_alike a b a' b' m n = n.is_longer ∙ ap (longer (seen_of b.0)) (ap (λ (x : At). seen_of x.0) m.after ∙ m.is_longer) ∙ longer_again (seen_of a.0) (seen_of b.0) ∙ sym m.is_longer
+
+-- the second of them
+pub met_second : (p q new : DeskSeat) (a b : At) → b ≡ q.me → IsSeat (seat_view q) → new.table_id ≡ q.table_id → (m : CatchesUp p.me a (seen_of q.me.0)) → CatchesUp b new.me (seen_of a.0) → Rested q new m.history (count_of q.me.0)
+met_second p q new a b same seat table m n =
+    let next : CatchesUp q.me new.me (seen_of a.0) = subst (λ (me : At). CatchesUp me new.me (seen_of a.0)) same n in
+    subst (λ (h : History). Rested q new h (count_of q.me.0)) (met_alike p.me q.me a new.me m next) (rests_met q new new.me (seen_of a.0) seat table refl next)
+
+-- a seat that has met is kept, and so long is what it has seen
+pub kept_met : (old new : DeskSeat) (h : History) (number count seen met : ℕ) → KeepsSeat old number count seen → Rested old new h (count_of old.me.0) → met ≡ length h → KeepsSeat new number count met
+kept_met old new h number count seen met k r long = record { rest = r.rest; number_kept = k.number_kept ∙ sym r.number; count_kept = k.count_kept ∙ sym r.counted; seen_kept = long ∙ sym (ap length r.seen); seat = r.seat }
 
 -- both have met
 pub meets_both : (p q p' q' : DeskSeat) (h : History) (met : ℕ) → Rested p p' h (count_of p.me.0) → Rested q q' h (count_of q.me.0) → met ≡ length h → Meets (seat_view p) (seat_view q) (seat_view p') (seat_view q') met

@@ -17,7 +17,7 @@ use Rattle.tsc_shared.specs.declared.board.Held.{Held}
 use Rattle.tsc_shared.specs.declared.board.Post.{Post}
 use Rattle.tsc_shared.specs.declared.board.View.{View}
 use Rattle.tsc_shared.specs.Desk.{post, keeping, one_if, DeskRule, ViewFits, PostFits, posts_of, holders, first_view, fresh_posts, IsAfter}
-use Rattle.tsc_shared.specs.DeskSteps.{seated, meets, longer, note, spent, first_post, other_posts, number_of, seen_of, count_of}
+use Rattle.tsc_shared.specs.DeskSteps.{seated, meets, CatchesUp, longer, note, spent, first_post, other_posts, number_of, seen_of, count_of}
 use Rattle.tsc_shared.specs.AtDesk.{IsAtRest}
 use Rattle.tsc_shared.proofs.Prefixes.{begins_itself, begins_empty, begins_on, begins_length, own_between, legal_beginning, longer_begins}
 use Rattle.tsc_shared.proofs.Totals.{part, two_parts, total_set}
@@ -135,7 +135,16 @@ meet_allowed terms st id t number seen count noted s k deep at small =
       act_keeps,
       tt,
       word_stepped terms s k.word k.word (slice_index s.words 0) s.homes (set s.views id w) k.words found (moved_kept terms s k id v w k.history k.word s.homes moved),
-      (refl, long.0, long.1, rw same legal, own, rw same (omega (arith, begins_length k.history (longer seen noted) long.2, k.limit))),
+      record {
+        history = longer seen noted;
+        is_longer = refl;
+        after = refl;
+        begins = long.0;
+        begins_other = long.1;
+        legal = rw same legal;
+        own = own;
+        limit = rw same (omega (arith, begins_length k.history (longer seen noted) long.2, k.limit));
+      },
     )
 
 -- the first post goes to a desk seat of its own
@@ -220,10 +229,11 @@ meet_at key slots st id me t number seen count noted one is =
 pub noted_then : (me me' noted : At) (u : Terms) (seen : History) → IsAtRest me → noted ≡ (note u seen, []) → me' ≡ (record me.0 { noted = noted.0.noted }, me.1) → me' ≡ (noting me.0.terms (number_of me.0) (seen_of me.0) (count_of me.0) seen, [])
 noted_then me me' noted u seen rest is then' = then' ∙ (λ i. (record (rest i).0 { noted = (is i).0.noted }, (rest i).1))
 
--- and what the step says when it has met
-pub met_then : (st : Step (Option Held)) (found : ℕ) (me me' : At) (t : Terms) (number : ℕ) (seen : History) (count : ℕ) (noted : History) → me ≡ (noting t number seen count noted, []) → meets st me found me'
-    → meets st (noting t number seen count noted, []) found me'
-met_then st found me me' t number seen count noted is was = subst (λ (m : At). meets st m found me') is was
+-- and it has caught up then
+pub met_then : (st : Step (Option Held)) (found : ℕ) (me was me' : At) (noted : History) → was ≡ (noting me.0.terms (number_of me.0) (seen_of me.0) (count_of me.0) noted, []) → meets st was found me' → CatchesUp me me' noted
+met_then st found me was me' noted is met =
+    let m : CatchesUp (noting me.0.terms (number_of me.0) (seen_of me.0) (count_of me.0) noted, []) me' noted = subst (λ (x : At). meets st x found me') is met in
+    record { history = m.history; is_longer = m.is_longer; after = m.after; begins = m.begins; begins_other = m.begins_other; legal = m.legal; own = m.own; limit = m.limit }
 
 -- two desk seats come together, as the call has it
 pub gather_at : (key : Terms) (id : ℕ) (v : View) (other : ℕ) (w : View) (t u : Terms) (ps qs : List Post) → v ≡ keeping t ps → w ≡ keeping u qs

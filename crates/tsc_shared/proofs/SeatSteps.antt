@@ -23,10 +23,10 @@ use Rattle.tsc_shared.specs.declared.board.Pending.{Pending}
 use Rattle.tsc_shared.specs.declared.board.Held.{Held}
 use Rattle.tsc_shared.specs.declared.board.View.{View}
 use Rattle.tsc_shared.specs.Desk.{IsAfter}
-use Rattle.tsc_shared.specs.DeskSteps.{seated, given, entry_of, Holds, number_of, seen_of, count_of}
+use Rattle.tsc_shared.specs.DeskSteps.{seated, given, entry_of, Holds, CatchesUp, number_of, seen_of, count_of}
 use Rattle.atomic_table.specs.Seated.{TableId}
 use Rattle.tsc_shared.specs.Seats.{SharedView, SeatView, FrontView, IsSeat, IsFront, new_seat, new_seats}
-use Rattle.tsc_shared.specs.AtDesk.{shared_view, cache_of, seat_view, front_view, IsAtRest}
+use Rattle.tsc_shared.specs.AtDesk.{shared_view, cache_of, seat_view, front_view, IsAtRest, KeepsSeat}
 use Rattle.tsc_shared.specs.declared.answers.Answer.{Answer}
 use Rattle.tsc_shared.specs.declared.answers.LowWater.{LowWater}
 use Rattle.tsc_shared.specs.declared.answers.Receipt.{Receipt}
@@ -35,6 +35,9 @@ use Rattle.tsc_shared.proofs.Prefixes.{begins_on, begins_more, legal_push, own_a
 
 abbrev DeskSeat : Type 0
 DeskSeat = TableSeat (Option Held) View
+
+abbrev At : Type 0
+At = Me (Option Held) View
 
 -- a seat that has seen this much then
 pub record Rested (old new : DeskSeat) (history : History) (count : ℕ) : Type 0 where
@@ -97,9 +100,20 @@ rests_added old new w held p seat h table is made room =
     (omega (arith, length_push h.history e, room))
     (begins_on (h.history ++ e ∷ []) h.history (seen_of old.me.0) (begins_more h.history (e ∷ [])) h.begins)
 
+-- after it has caught up with another
+pub rests_met : (old new : DeskSeat) (me : At) (other : History) → IsSeat (seat_view old) → new.table_id ≡ old.table_id → new.me ≡ me → (m : CatchesUp old.me me other) → Rested old new m.history (count_of old.me.0)
+rests_met old new me other seat table same m = rests old new m.history (count_of old.me.0) table (same ∙ m.after) seat.number m.legal m.own m.limit m.begins
+
 -- so long is what it has seen then
 pub length_back : (new : DeskSeat) (w : View) (length' : ℕ) → new.me ≡ (seated w.terms (number_of w) (seen_of w) (count_of w) false, []) → length' ≡ length (seen_of w) → length' ≡ length (seen_of new.me.0)
 length_back new w length' is long = long ∙ sym (ap (λ m. length (seen_of m.0)) is)
+
+-- a seat is kept where what lay on the desk was laid back as it was
+pub kept_back : (old new : DeskSeat) (w : View) (held : Held) (number count seen long : ℕ) → KeepsSeat old number count seen → (h : Holds old.me.0 w held) → new.table_id ≡ old.table_id
+    → new.me ≡ (seated w.terms (number_of w) (seen_of w) (count_of w) false, []) → long ≡ length (seen_of w) → KeepsSeat new number count long
+kept_back old new w held number count seen long k h table is so_long =
+    let r = rests_back old new w held k.seat h table is in
+    record { rest = r.rest; number_kept = k.number_kept ∙ sym r.number; count_kept = k.count_kept ∙ sym r.counted; seen_kept = length_back new w long is so_long; seat = r.seat }
 
 -- a lookup
 pub looks_back : (old new : DeskSeat) (w : View) (held : Held) (span : Interval) (answer : Answer) → IsSeat (seat_view old) → (h : Holds old.me.0 w held) → new.table_id ≡ old.table_id
@@ -175,29 +189,41 @@ had_room v w held limit h same room = omega (arith, h.is_after.length, same)
 pub length_added : (old new : DeskSeat) (w : View) (held : Held) (e : Entry) (count : ℕ) → (h : Holds old.me.0 w held) → Rested old new (h.history ++ e ∷ []) count → held.length + 1 ≡ length (seen_of new.me.0)
 length_added old new w held e count h r = omega (arith, h.is_after.length, ap length r.seen, length_push h.history e)
 
+-- a seat is kept after an Add
+pub kept_added : (old new : DeskSeat) (w : View) (held : Held) (p : Pending) (number count seen : ℕ) → KeepsSeat old number count seen → (h : Holds old.me.0 w held) → new.table_id ≡ old.table_id
+    → new.me ≡ (given w (Some p), []) → CanBeAdded p.span.value p.value p.now → length h.history < old.me.0.terms.limit → KeepsSeat new number (count + 1) (held.length + 1)
+kept_added old new w held p number count seen k h table is made room =
+    let r = rests_added old new w held p k.seat h table is made room in record {
+      rest = r.rest;
+      number_kept = k.number_kept ∙ sym r.number;
+      count_kept = ap (λ n. n + 1) k.count_kept ∙ sym r.counted;
+      seen_kept = length_added old new w held (entry_of (number_of old.me.0) (count_of old.me.0) p) (count_of old.me.0 + 1) h r;
+      seat = r.seat;
+    }
+
 -- the front of a seat from which a note was split
 pub same_front : (a b : DeskSeat) → b.table_id ≡ a.table_id → b.me ≡ a.me → ◌≡◌ {A = FrontView} (record { cache = cache_of a; seen = seen_of a.me.0 }) (record { cache = cache_of b; seen = seen_of b.me.0 })
 same_front a b table me = (λ i. record { cache = shared_view (sym table i) (sym me i).0.terms; seen = seen_of (sym me i).0 })
 
 -- a seat that nobody has used
 pub new_rests : (p : DeskSeat) (t : Terms) (number : ℕ) → p.me ≡ (seated t number [] 0 false, []) → number < t.seats
-    → IsAtRest p.me × (number ≡ number_of p.me.0) × (0 ≡ count_of p.me.0) × (0 ≡ length (seen_of p.me.0)) × IsSeat (seat_view p)
+    → KeepsSeat p number 0 0
 new_rests p t number is low =
     let terms : p.me.0.terms ≡ t = ap (λ m. m.0.terms) is in
     let seen : seen_of p.me.0 ≡ [] = ap (λ m. seen_of m.0) is in
     let num : number_of p.me.0 ≡ number = ap (λ m. number_of m.0) is in
-    let cnt : count_of p.me.0 ≡ 0 = ap (λ m. count_of m.0) is in (
-      is ∙ (λ i. (seated (sym terms i) (sym num i) (sym seen i) (sym cnt i) false, [])),
-      sym num,
-      sym cnt,
-      omega (arith, ap length seen),
-      record {
+    let cnt : count_of p.me.0 ≡ 0 = ap (λ m. count_of m.0) is in record {
+      rest = is ∙ (λ i. (seated (sym terms i) (sym num i) (sym seen i) (sym cnt i) false, []));
+      number_kept = sym num;
+      count_kept = sym cnt;
+      seen_kept = omega (arith, ap length seen);
+      seat = record {
         number = rw (num, terms) low;
         legal = rw (terms, seen) (legal_empty t.seats);
         own = rw (num, seen, cnt) refl;
         limit = rw (terms, seen) (omega arith);
-      },
-    )
+      };
+    }
 
 -- is as new
 pub new_view : (p : DeskSeat) (t : Terms) (table : TableId) (number : ℕ) → p.table_id ≡ table → p.me ≡ (seated t number [] 0 false, []) → seat_view p ≡ new_seat (shared_view table t) number
@@ -219,19 +245,6 @@ pub new_seats_done : (cache : SharedView) (number n : ℕ) (xs all : List SeatVi
 new_seats_done cache number n xs all high so_far =
     let none : n - number ≡ 0 = omega arith in
     sym (append-nil xs) ∙ ap (λ (k : ℕ). xs ++ new_seats cache number k) (sym none) ∙ so_far
-
--- memory was refused before the history was full
-pub was_room : (old new : DeskSeat) (w : View) (held : Held) (limit : ℕ) → (h : Holds old.me.0 w held) → Rested old new h.history (count_of old.me.0) → old.me.0.terms.limit ≡ limit → held.length < limit
-    → length (seat_view new).seen < (seat_view old).cache.limit
-was_room old new w held limit h r same room = omega (arith, h.is_after.length, same, ap length r.seen)
-
--- the history was full
-pub was_full : (old new : DeskSeat) (w : View) (held : Held) (limit : ℕ) (shown : FrontView) → (h : Holds old.me.0 w held) → Rested old new h.history (count_of old.me.0) → old.me.0.terms.limit ≡ limit → limit ≤ held.length
-    → shown ≡ record { cache = cache_of new; seen = seen_of new.me.0 } → IsFull (seat_view old) (seat_view new) shown
-was_full old new w held limit shown h r same full is = record {
-  front = is ∙ (λ i. record { cache = r.cache i; seen = seen_of new.me.0 });
-  limit = omega (arith, h.is_after.length, same, ap length r.seen, h.limit);
-}
 
 -- what a lookup answers is above all that was seen
 pub is_above : (old new : SeatView) (span : Interval) (answer : Answer) → Looks old new span answer → IsAbove new span answer.value

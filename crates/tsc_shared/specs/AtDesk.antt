@@ -1,5 +1,5 @@
 -- A seat and a front, by the desk seat that they keep. (For private contracts and the models.)
-use Rattle.std.specs.Prelude.{◌≡◌, ℕ, [], ◌∷◌, true, false, Option, None}
+use Rattle.std.specs.Prelude.{◌≡◌, ℕ, length, [], ◌∷◌, true, false, Option, None}
 use Rattle.atomic_table.specs.Seated.{TableId}
 use Rattle.atomic_table.specs.Table.{Me}
 use Rattle.atomic_table.specs.declared.shared.Seat.{Seat as TableSeat}
@@ -7,7 +7,7 @@ use Rattle.tsc_shared.specs.declared.board.Terms.{Terms}
 use Rattle.tsc_shared.specs.declared.board.Held.{Held}
 use Rattle.tsc_shared.specs.declared.board.View.{View}
 use Rattle.tsc_shared.specs.DeskSteps.{seated, note, number_of, seen_of, count_of}
-use Rattle.tsc_shared.specs.Seats.{SharedView, SeatView, FrontView}
+use Rattle.tsc_shared.specs.Seats.{SharedView, SeatView, FrontView, IsSeat}
 
 abbrev DeskSeat : Type 0
 DeskSeat = TableSeat (Option Held) View
@@ -40,6 +40,14 @@ IsHolding me = me ≡ (seated me.0.terms (number_of me.0) (seen_of me.0) (count_
 -- a front
 abbrev pub IsNote : At → Type 0
 IsNote me = me ≡ (note me.0.terms me.0.noted, [])
+
+-- A desk seat keeps a seat with this number, this count of its Adds, and so long a history that it has seen.
+pub record KeepsSeat (p : DeskSeat) (number count seen : ℕ) : Type 0 where
+  pub rest : IsAtRest p.me
+  pub number_kept : number ≡ number_of p.me.0
+  pub count_kept : count ≡ count_of p.me.0
+  pub seen_kept : seen ≡ length (seen_of p.me.0)
+  pub seat : IsSeat (seat_view p)
 
 -- it is a seat of this desk, which has one word and one slot
 pub record IsSeatAt (p : DeskSeat) (desk : TableId) : Type 0 where

@@ -93,9 +93,17 @@ given v p = let es = new_entries (number_of v) (count_of v) p in seated v.terms 
 abbrev pub gives : Step (Option Held) → At → ℕ → At → Type 0
 gives st me stored me' = me' ≡ (given me.0 (pending_of me.1), [])
 
--- What is noted at a seat, it has seen from then on.
+-- A seat that does not hold the desk catches up with another: it has seen the longer of what both had seen, which begins with both.
+pub record CatchesUp (me me' : At) (other : History) : Type 0 where
+  pub history : History
+  pub is_longer : history ≡ longer (seen_of me.0) other
+  pub after : me' ≡ (seated me.0.terms (number_of me.0) history (count_of me.0) false, [])
+  pub begins : BeginsWith history (seen_of me.0)
+  pub begins_other : BeginsWith history other
+  pub legal : IsLegal me.0.terms.seats history
+  pub own : own_count (number_of me.0) history ≡ count_of me.0
+  pub limit : length history ≤ me.0.terms.limit
+
+-- A seat catches up with what is noted there.
 abbrev pub meets : Step (Option Held) → At → ℕ → At → Type 0
-meets st me found me' = (me' ≡ (seated me.0.terms (number_of me.0) (longer (seen_of me.0) me.0.noted) (count_of me.0) false, []))
-    × BeginsWith (longer (seen_of me.0) me.0.noted) (seen_of me.0) × BeginsWith (longer (seen_of me.0) me.0.noted) me.0.noted
-    × IsLegal me.0.terms.seats (longer (seen_of me.0) me.0.noted) × (own_count (number_of me.0) (longer (seen_of me.0) me.0.noted) ≡ count_of me.0)
-    × (length (longer (seen_of me.0) me.0.noted) ≤ me.0.terms.limit)
+meets st me found me' = CatchesUp me me' me.0.noted

@@ -19,18 +19,15 @@ pub struct Seat {
 }
 
 impl Model for Seat {
-    ghost use Rattle.std.specs.Prelude.{◌≡◌, length};
     ghost use Rattle.tsc_shared.specs.Seats.{SeatView};
 
     ghost Value = { SeatView };
 
-    ghost use Rattle.tsc_shared.specs.Seats.{IsSeat};
-    ghost use Rattle.tsc_shared.specs.DeskSteps.{number_of, seen_of, count_of};
-    ghost use Rattle.tsc_shared.specs.AtDesk.{IsAtRest, seat_view};
+    ghost use Rattle.tsc_shared.specs.AtDesk.{seat_view, KeepsSeat};
 
     ghost view = { λ s. seat_view s.at_desk };
 
-    ghost invariant = { λ s. IsAtRest s.at_desk.me × (s.number ≡ number_of s.at_desk.me.0) × (s.count ≡ count_of s.at_desk.me.0) × (s.seen ≡ length (seen_of s.at_desk.me.0)) × IsSeat (seat_view s.at_desk) };
+    ghost invariant = { λ s. KeepsSeat s.at_desk s.number s.count s.seen };
 }
 
 impl Seat {

@@ -34,9 +34,8 @@ load-requires c = (
 )
 
 -- src/closing.rt:15:1
-pub returns-clause-legal : goal.returns-clause-legal
-returns-clause-legal c =
-    (met_then (step c.args.desk.now.table_id.slots 0 0 0 maybe.none) c.load.result c.join_seat.new.seat.me c.load.new.seat.me
-    c.args.at_desk.now.me.0.terms (number_of c.args.at_desk.now.me.0) (seen_of c.args.at_desk.now.me.0) (count_of c.args.at_desk.now.me.0) (seen_of c.args.other.now.me.0)
+pub returns-clause-met : goal.returns-clause-met
+returns-clause-met c =
+    met_then (step c.args.desk.now.table_id.slots 0 0 0 maybe.none) c.load.result c.args.at_desk.now.me c.join_seat.new.seat.me c.load.new.seat.me (seen_of c.args.other.now.me.0)
     (noted_then c.args.at_desk.now.me c.join_seat.new.seat.me c.split_seat-note.result.me c.args.other.now.me.0.terms (seen_of c.args.other.now.me.0) c.requires.rest c.split_seat-note.ensures.4 c.join_seat.ensures.2)
-    c.load.ensures.2).3
+    c.load.ensures.2
