@@ -1,34 +1,27 @@
 -- Desk seats that are divided and put together, and what is noted there.
-use Rattle.std.proofs.Common.{◌≡◌, ◌≢◌, ◌⊎◌, ◌∙◌, inl, inr, refl, sym, ap, subst, Bool, true, false, ℕ, zero, suc, ◌+◌, ◌-◌, ◌<◌, ◌≤◌, List, [], ◌∷◌, ◌++◌, length, set, append_assoc, append-nil, arith, slice_index}
-use Rattle.std.specs.Prelude.{Option, Some, None, nat_lt, ◌==◌, All, map, slice_index_or}
+use Rattle.std.proofs.Common.{◌≡◌, ◌≢◌, ◌⊎◌, ◌∙◌, inl, inr, refl, sym, ap, subst, false, ℕ, zero, suc, ◌+◌, ◌-◌, ◌<◌, List, [], ◌∷◌, ◌++◌, length, set, arith, slice_index}
+use Rattle.std.specs.Prelude.{Option, ◌==◌, All, map, slice_index_or}
 use Rattle.std.proofs.lemmas.List.{length-append, length_push}
 use Rattle.tsc_shared.specs.Seats.{SeatView}
 use Rattle.tsc_shared.specs.Closing.{post_of}
-use Rattle.std.specs.List.{sum_by}
 use mathlib.Core.Option as maybe
 use mathlib.Core.Option.{some-injective, some-ne-none}
 use lib.ListN.{get_elem?}
 use Rattle.std.proofs.lemmas.List.Sums.{sum_by-append, sum_by_push, sum_by-cons}
 use Rattle.atomic_table.proofs.Lists.{at_set, at_snoc, set_else}
-use Rattle.atomic_table.specs.Table.{State, Step, Me, Act, keeps as act_keeps, Allows, Valid, stepped, carried_after, Splits, Joins}
+use Rattle.atomic_table.specs.Table.{Step, keeps as act_keeps, Allows, Splits, Joins}
 use Rattle.tsc_cache.specs.History.{History, own_count, BeginsWith, IsLegal}
 use Rattle.tsc_shared.specs.declared.board.Terms.{Terms}
 use Rattle.tsc_shared.specs.declared.board.Held.{Held}
 use Rattle.tsc_shared.specs.declared.board.Post.{Post}
 use Rattle.tsc_shared.specs.declared.board.View.{View}
-use Rattle.tsc_shared.specs.Desk.{post, keeping, one_if, DeskRule, ViewFits, PostFits, posts_of, holders, first_view, fresh_posts, IsAfter}
-use Rattle.tsc_shared.specs.DeskSteps.{seated, meets, CatchesUp, longer, note, spent, first_post, other_posts, number_of, seen_of, count_of}
+use Rattle.tsc_shared.specs.Desk.{post, keeping, one_if, DeskRule, ViewFits, posts_of, holders, fresh_posts}
+use Rattle.tsc_shared.specs.DeskSteps.{At, seated, meets, CatchesUp, longer, note, spent, first_post, other_posts, number_of, seen_of, count_of}
 use Rattle.tsc_shared.specs.AtDesk.{IsAtRest}
-use Rattle.tsc_shared.proofs.Prefixes.{begins_itself, begins_empty, begins_on, begins_length, own_between, legal_beginning, longer_begins}
-use Rattle.tsc_shared.proofs.Totals.{part, two_parts, total_set}
-use Rattle.tsc_shared.proofs.DeskMoves.{of_one, Moved, moved_kept}
+use Rattle.tsc_shared.proofs.Prefixes.{begins_empty, begins_length, own_between, legal_beginning, longer_begins}
+use Rattle.tsc_shared.proofs.Totals.{total_set}
+use Rattle.tsc_shared.proofs.DeskMoves.{Board, of_one, Moved, moved_kept}
 use Rattle.tsc_shared.proofs.Taking.{word_stepped, false_is_no}
-
-abbrev Board : Type 0
-Board = State (Option Held) View
-
-abbrev At : Type 0
-At = Me (Option Held) View
 
 -- a desk seat is divided in two that fit, and each post goes with one of them
 pub split_kept : (terms : Terms) (s : Board) (k : DeskRule terms s) (id : ℕ) (v left right : View) → get_elem? s.views id ≡ maybe.some v

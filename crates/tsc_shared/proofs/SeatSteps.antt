@@ -1,10 +1,7 @@
 -- What becomes of a seat that took the desk and gave it back.
-use Rattle.std.proofs.Common.{◌≡◌, ◌∙◌, refl, sym, ap, subst, true, false, ℕ, suc, ◌+◌, ◌-◌, ◌<◌, ◌≤◌, List, [], ◌∷◌, ◌++◌, length, append-nil, append_assoc, arith}
-use Rattle.std.specs.Prelude.{Option, Some, None}
+use Rattle.std.proofs.Common.{◌≡◌, ◌∙◌, refl, sym, ap, subst, false, ℕ, suc, ◌+◌, ◌-◌, ◌<◌, ◌≤◌, List, [], ◌∷◌, ◌++◌, length, append-nil, append_assoc, arith}
+use Rattle.std.specs.Prelude.{Some}
 use Rattle.std.proofs.lemmas.List.{length_push}
-use Rattle.atomic_table.specs.Table.{Me}
-use Rattle.atomic_table.specs.declared.shared.Seat.{Seat as TableSeat}
-use Rattle.tsc_time.specs.Time.{Time}
 use Rattle.tsc_time.specs.OwnedTime.{OwnedTime}
 use Rattle.tsc_span.specs.Span.{Interval}
 use Rattle.tsc_cache.specs.Settings.{Settings}
@@ -23,21 +20,15 @@ use Rattle.tsc_shared.specs.declared.board.Pending.{Pending}
 use Rattle.tsc_shared.specs.declared.board.Held.{Held}
 use Rattle.tsc_shared.specs.declared.board.View.{View}
 use Rattle.tsc_shared.specs.Desk.{IsAfter}
-use Rattle.tsc_shared.specs.DeskSteps.{seated, given, entry_of, Holds, CatchesUp, number_of, seen_of, count_of}
+use Rattle.tsc_shared.specs.DeskSteps.{At, seated, given, entry_of, Holds, CatchesUp, number_of, seen_of, count_of}
 use Rattle.atomic_table.specs.Seated.{TableId}
 use Rattle.tsc_shared.specs.Seats.{SharedView, SeatView, FrontView, IsSeat, IsFront, new_seat, new_seats}
-use Rattle.tsc_shared.specs.AtDesk.{shared_view, cache_of, seat_view, front_view, IsAtRest, KeepsSeat}
+use Rattle.tsc_shared.specs.AtDesk.{DeskSeat, shared_view, cache_of, seat_view, IsAtRest, KeepsSeat}
 use Rattle.tsc_shared.specs.declared.answers.Answer.{Answer}
 use Rattle.tsc_shared.specs.declared.answers.LowWater.{LowWater}
 use Rattle.tsc_shared.specs.declared.answers.Receipt.{Receipt}
-use Rattle.tsc_shared.specs.Answers.{GoesOn, Looks, IsAbove, ReadsFloor, Accepts, IsFull, entry_by}
+use Rattle.tsc_shared.specs.Answers.{GoesOn, Looks, IsAbove, ReadsFloor, Accepts}
 use Rattle.tsc_shared.proofs.Prefixes.{begins_on, begins_more, legal_push, own_append, own_of_one, legal_empty}
-
-abbrev DeskSeat : Type 0
-DeskSeat = TableSeat (Option Held) View
-
-abbrev At : Type 0
-At = Me (Option Held) View
 
 -- a seat that has seen this much then
 pub record Rested (old new : DeskSeat) (history : History) (count : ℕ) : Type 0 where

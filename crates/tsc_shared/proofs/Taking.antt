@@ -1,6 +1,6 @@
 -- Taking the desk, and giving it back.
-use Rattle.std.proofs.Common.{◌≡◌, ◌≢◌, ◌⊎◌, ◌∙◌, inl, inr, refl, sym, ap, subst, Bool, true, false, ℕ, zero, suc, ◌+◌, ◌^◌, ◌<◌, ◌≤◌, List, [], ◌∷◌, ◌++◌, length, set, append_assoc, append-nil, arith, slice_index, ne_eqb}
-use Rattle.std.specs.Prelude.{Option, Some, None, ◌==◌, nat_lt, if◌then◌else◌}
+use Rattle.std.proofs.Common.{◌≡◌, ◌≢◌, ◌⊎◌, ◌∙◌, inl, inr, refl, sym, ap, subst, Bool, true, false, ℕ, zero, suc, ◌+◌, ◌<◌, ◌≤◌, List, [], ◌∷◌, ◌++◌, length, set, append-nil, arith, slice_index, ne_eqb}
+use Rattle.std.specs.Prelude.{Option, Some, None, ◌==◌, nat_lt}
 use Rattle.std.specs.List.{sum_by}
 use mathlib.Core.Option as maybe
 use mathlib.Core.Option.{some-injective, some-ne-none}
@@ -9,27 +9,18 @@ use prog.Atomic.{either}
 use Rattle.std.proofs.lemmas.Bool.{lt-ltb}
 use Rattle.std.proofs.lemmas.Bool.Decides.{nat_tests}
 use Rattle.atomic_table.proofs.Lists.{set_again}
-use Rattle.atomic_table.specs.Table.{State, Step, Me, Act, takes as act_takes, keeps as act_keeps, gives as act_gives, Allows, Valid, stepped, carried_after, rest}
-use Rattle.tsc_cache.specs.CacheView.{StandsForState}
-use Rattle.tsc_cache.specs.declared.history.Entry.{Entry}
-use Rattle.tsc_cache.specs.History.{History, own_count, BeginsWith, IsLegal, IsNext, IsMadeEntry}
+use Rattle.atomic_table.specs.Table.{Step, Act, takes as act_takes, keeps as act_keeps, gives as act_gives, Allows, Valid, stepped, carried_after, rest}
+use Rattle.tsc_cache.specs.History.{History, own_count, IsLegal}
 use Rattle.tsc_shared.specs.declared.board.Terms.{Terms}
 use Rattle.tsc_shared.specs.declared.board.Pending.{Pending}
 use Rattle.tsc_shared.specs.declared.board.Held.{Held}
-use Rattle.tsc_shared.specs.declared.board.Post.{Post}
 use Rattle.tsc_shared.specs.declared.board.View.{View}
-use Rattle.tsc_shared.specs.Desk.{post, keeping, one_if, DeskRule, ViewFits, PostFits, IsAfter, posts_of, holders}
+use Rattle.tsc_shared.specs.Desk.{post, one_if, DeskRule, ViewFits, PostFits, IsAfter, posts_of, holders}
 use Rattle.tsc_shared.specs.AtDesk.{IsAtRest, IsHolding}
-use Rattle.tsc_shared.specs.DeskSteps.{number_of, seen_of, count_of, seated, Holds, takes, gives, given, new_entries, entry_of, pending_of, IsMade}
-use Rattle.tsc_shared.proofs.Prefixes.{begins_itself, begins_empty, begins_more, begins_on, own_append, own_of_one, own_of_other, legal_push}
-use Rattle.tsc_shared.proofs.Totals.{part, two_parts, total_set}
-use Rattle.tsc_shared.proofs.DeskMoves.{Moved, moved_kept, of_one, any_word, more_of_another, same_number}
-
-abbrev Board : Type 0
-Board = State (Option Held) View
-
-abbrev At : Type 0
-At = Me (Option Held) View
+use Rattle.tsc_shared.specs.DeskSteps.{At, number_of, seen_of, count_of, seated, takes, gives, new_entries, entry_of, IsMade}
+use Rattle.tsc_shared.proofs.Prefixes.{begins_itself, own_append, own_of_one, own_of_other, legal_push}
+use Rattle.tsc_shared.proofs.Totals.{part, two_parts}
+use Rattle.tsc_shared.proofs.DeskMoves.{Board, Moved, moved_kept, of_one, any_word, more_of_another, same_number}
 
 -- the post of a seat fits where its view does
 pub seated_fits : (terms : Terms) (h : History) (word : ℕ) (t : Terms) (number : ℕ) (seen : History) (count : ℕ) (holds : Bool)

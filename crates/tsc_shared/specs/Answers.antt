@@ -1,5 +1,5 @@
 -- What each call of a shared cache answers, and what its seat has seen then.
-use Rattle.std.specs.Prelude.{◌≡◌, ℕ, suc, ◌+◌, ◌<◌, List, [], ◌∷◌, ◌++◌, length, All, true, false, count_by, ◌==◌, if◌then◌else◌}
+use Rattle.std.specs.Prelude.{◌≡◌, ℕ, ◌+◌, ◌<◌, List, [], ◌∷◌, ◌++◌, length, All, true, false, count_by, ◌==◌, if◌then◌else◌}
 use Rattle.std.specs.List.{Contains}
 use Rattle.tsc_time.specs.Time.{Time, is_before}
 use Rattle.tsc_time.specs.OwnedTime.{OwnedTime}
@@ -9,7 +9,7 @@ use Rattle.tsc_cache.specs.Settings.{Settings}
 use Rattle.tsc_cache.specs.State.{step, look}
 use Rattle.tsc_cache.specs.CacheView.{StandsForState}
 use Rattle.tsc_cache.specs.declared.history.Entry.{Entry}
-use Rattle.tsc_cache.specs.History.{History, mark_of, own_count, state_of, entries_on, BeginsWith, IsLegal}
+use Rattle.tsc_cache.specs.History.{History, mark_of, own_count, state_of, BeginsWith, IsLegal}
 use Rattle.tsc_shared.specs.declared.answers.OpenFault.{OpenFault}
 use Rattle.tsc_shared.specs.declared.answers.OpenFault.TheVariants.{NoMemory, Seats}
 use Rattle.tsc_shared.specs.declared.answers.AddFault.{AddFault}

@@ -1,8 +1,7 @@
 -- What each step at the desk says to the one who takes it. (For private contracts.)
-use Rattle.std.specs.Prelude.{◌≡◌, ◌≢◌, ℕ, ◌+◌, ◌≤◌, ◌<◌, nat_le, List, [], ◌∷◌, ◌++◌, length, Bool, true, false, Option, Some, None, if◌then◌else◌}
+use Rattle.std.specs.Prelude.{◌≡◌, ◌≢◌, ℕ, ◌+◌, ◌≤◌, nat_le, List, [], ◌∷◌, ◌++◌, length, Bool, true, false, Option, Some, None, if◌then◌else◌}
 use Rattle.atomic_table.specs.Table.{Me, Step}
-use Rattle.tsc_time.specs.Time.{Time, zero_time}
-use Rattle.tsc_cache.specs.Settings.{Settings}
+use Rattle.tsc_time.specs.Time.{zero_time}
 use Rattle.tsc_cache.specs.declared.history.Entry.{Entry}
 use Rattle.tsc_cache.specs.History.{History, own_count, BeginsWith, IsLegal, CanBeAdded}
 use Rattle.tsc_shared.specs.declared.board.Terms.{Terms}
@@ -11,6 +10,10 @@ use Rattle.tsc_shared.specs.declared.board.Held.{Held}
 use Rattle.tsc_shared.specs.declared.board.Post.{Post}
 use Rattle.tsc_shared.specs.declared.board.View.{View}
 use Rattle.tsc_shared.specs.Desk.{post, keeping, IsAfter}
+
+-- what a desk seat knows, and what it has in hand
+abbrev pub At : Type 0
+At = Me (Option Held) View
 
 -- the desk seat of one seat
 abbrev pub seated : Terms → ℕ → History → ℕ → Bool → View
@@ -71,9 +74,6 @@ pub record Holds (v w : View) (held : Held) : Type 0 where
   pub own : own_count (number_of v) history ≡ count_of v
   pub limit : length history ≤ v.terms.limit
   pub is_after : IsAfter v.terms history held
-
-abbrev At : Type 0
-At = Me (Option Held) View
 
 -- The desk is taken where it was free, with what lies there. A try that finds it held changes nothing.
 abbrev pub takes : Step (Option Held) → At → ℕ → At → Type 0

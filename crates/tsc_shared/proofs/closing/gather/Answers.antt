@@ -1,5 +1,4 @@
 use Rattle.std.proofs.Common.{◌≡◌, ◌∙◌, ◌++◌, ◌∷◌, [], append_assoc, refl, sym, ap, arith}
-use Rattle.tsc_shared.specs.declared.board.Post.{Post}
 use Rattle.tsc_shared.specs.Desk.{post}
 use Rattle.tsc_shared.specs.DeskSteps.{number_of, seen_of, count_of}
 use Rattle.tsc_shared.specs.Closing.{post_of}

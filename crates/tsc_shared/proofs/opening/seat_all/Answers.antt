@@ -1,4 +1,4 @@
-use Rattle.std.proofs.Common.{◌≡◌, ◌∙◌, sym, arith}
+use Rattle.std.proofs.Common.{◌∙◌, arith}
 use Rattle.tsc_shared.specs.Seats.{SharedView, new_seats}
 use Rattle.tsc_shared.specs.AtDesk.{shared_view, seat_view}
 use Rattle.tsc_shared.proofs.opening.seat_all.Goals as goal

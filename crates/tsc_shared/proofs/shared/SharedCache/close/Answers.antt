@@ -1,4 +1,4 @@
-use Rattle.std.proofs.Common.{◌≡◌, ◌∙◌, sym, ap}
+use Rattle.std.proofs.Common.{◌∙◌, sym, ap}
 use Rattle.tsc_shared.specs.Desk.{holders}
 use Rattle.tsc_shared.proofs.shared.SharedCache.close.Goals as goal
 use Rattle.tsc_shared.proofs.Endings.{nobody_in, terms_of, closes}

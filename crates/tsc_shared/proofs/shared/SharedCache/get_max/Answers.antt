@@ -1,4 +1,4 @@
-use Rattle.std.proofs.Common.{◌≡◌, ◌∙◌, sym, subst}
+use Rattle.std.proofs.Common.{◌∙◌, subst}
 use Rattle.tsc_shared.specs.Answers.{Looks}
 use Rattle.tsc_shared.specs.AtDesk.{seat_view}
 use Rattle.tsc_shared.proofs.shared.SharedCache.get_max.Goals as goal
