@@ -20,6 +20,5 @@ mod steps;
 mod tests;
 
 pub use answers::{AddFault, Answer, Closed, Gone, LowWater, OpenFault, Receipt, StillOut};
-pub use board::Terms;
 pub use seat::{Front, Seat};
 pub use shared::SharedCache;
