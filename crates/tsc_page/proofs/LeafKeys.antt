@@ -36,35 +36,35 @@ abbrev pub shift : List Node → ℕ → ℕ
 shift [] i = i
 shift (x ∷ xs) i = suc (shift xs i)
 
-shift_bound : (xs ys : List Node) (i : ℕ) → i ≤ length ys → shift xs i ≤ length (xs ++ ys)
+pub shift_bound : (xs ys : List Node) (i : ℕ) → i ≤ length ys → shift xs i ≤ length (xs ++ ys)
 shift_bound [] ys i h = h
 shift_bound (x ∷ xs) ys i h = let rest = shift_bound xs ys i h in omega arith
 
-insert_left : (xs ys : List Node) (i : ℕ) (n : Node) → i ≤ length xs → insert (xs ++ ys) i n ≡ insert xs i n ++ ys
+pub insert_left : (xs ys : List Node) (i : ℕ) (n : Node) → i ≤ length xs → insert (xs ++ ys) i n ≡ insert xs i n ++ ys
 insert_left xs ys zero n h = refl
 insert_left [] ys (suc i) n h = absurd (omega arith)
 insert_left (x ∷ xs) ys (suc i) n h = ap (λ (ns : List Node). x ∷ ns) (insert_left xs ys i n (omega arith))
 
-insert_right : (xs ys : List Node) (i : ℕ) (n : Node) → insert (xs ++ ys) (shift xs i) n ≡ xs ++ insert ys i n
+pub insert_right : (xs ys : List Node) (i : ℕ) (n : Node) → insert (xs ++ ys) (shift xs i) n ≡ xs ++ insert ys i n
 insert_right [] ys i n = refl
 insert_right (x ∷ xs) ys i n = ap (λ (ns : List Node). x ∷ ns) (insert_right xs ys i n)
 
-gap_value_left : (v : OwnedTime) (xs ys : List Node) (i : ℕ) → i ≤ length xs → gap_value v (xs ++ ys) i ≡ gap_value v xs i
+pub gap_value_left : (v : OwnedTime) (xs ys : List Node) (i : ℕ) → i ≤ length xs → gap_value v (xs ++ ys) i ≡ gap_value v xs i
 gap_value_left v xs ys zero h = refl
 gap_value_left v [] ys (suc i) h = absurd (omega arith)
 gap_value_left v (x ∷ xs) ys (suc i) h = gap_value_left x.gap xs ys i (omega arith)
 
-gap_value_right : (v w : OwnedTime) (xs : List Node) (n : Node) (ys : List Node) (i : ℕ) → gap_value v (xs ++ n ∷ ys) (shift xs (suc i)) ≡ gap_value w (n ∷ ys) (suc i)
+pub gap_value_right : (v w : OwnedTime) (xs : List Node) (n : Node) (ys : List Node) (i : ℕ) → gap_value v (xs ++ n ∷ ys) (shift xs (suc i)) ≡ gap_value w (n ∷ ys) (suc i)
 gap_value_right v w [] n ys i = refl
 gap_value_right v w (x ∷ xs) n ys i = gap_value_right x.gap w xs n ys i
 
-fits_left : (k : KeyBytes) (low : Cut) (xs ys : List Node) (i : ℕ) → i ≤ length xs → Lt (after k) (start_of ys) → FitsAt k low xs i → FitsAt k low (xs ++ ys) i
+pub fits_left : (k : KeyBytes) (low : Cut) (xs ys : List Node) (i : ℕ) → i ≤ length xs → Lt (after k) (start_of ys) → FitsAt k low xs i → FitsAt k low (xs ++ ys) i
 fits_left k low [] ys zero h high fits = (fits.0, high)
 fits_left k low (x ∷ xs) ys zero h high fits = fits
 fits_left k low [] ys (suc i) h high fits = absurd (omega arith)
 fits_left k low (x ∷ xs) ys (suc i) h high fits = fits_left k (after x.key) xs ys i (omega arith) high fits
 
-fits_right : (k : KeyBytes) (low mid : Cut) (xs : List Node) (n : Node) (ys : List Node) (i : ℕ) → FitsAt k mid (n ∷ ys) (suc i) → FitsAt k low (xs ++ n ∷ ys) (shift xs (suc i))
+pub fits_right : (k : KeyBytes) (low mid : Cut) (xs : List Node) (n : Node) (ys : List Node) (i : ℕ) → FitsAt k mid (n ∷ ys) (suc i) → FitsAt k low (xs ++ n ∷ ys) (shift xs (suc i))
 fits_right k low mid [] n ys i fits = fits
 fits_right k low mid (x ∷ xs) n ys i fits = fits_right k (after x.key) mid xs n ys i fits
 

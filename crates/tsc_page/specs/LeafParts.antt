@@ -14,6 +14,10 @@ leaf_of n = n.list.items
 abbrev pub leaf_in : {Z : Type 0} → Arc Nodes Z → List Node
 leaf_in a = leaf_of (arc_value a)
 
+-- and of each of a list
+abbrev pub leaf_lists : {Z : Type 0} → List (Arc Nodes Z) → List (List Node)
+leaf_lists xs = map (λ a. leaf_in a) xs
+
 -- and of each leaf
 abbrev pub leaves_of : Leaves → List (List Node)
 leaves_of l = map (λ a. leaf_in a) l.list.items

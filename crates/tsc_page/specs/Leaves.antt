@@ -1,9 +1,9 @@
 -- How the nodes of a page stand in leaves, one after another.
-use Rattle.std.specs.Prelude.{◌≡◌, ℕ, suc, ◌<◌, ◌≤◌, ◌-◌, List, [], ◌∷◌, ◌++◌, length, map, slice_index_or, true, false, Option, Some, None, if◌then◌else◌}
+use Rattle.std.specs.Prelude.{◌≡◌, ℕ, suc, ◌<◌, ◌≤◌, ◌+◌, ◌-◌, ◌⊎◌, List, [], ◌∷◌, ◌++◌, length, map, slice_index_or, true, false, Option, Some, None, if◌then◌else◌}
 use Rattle.tsc_time.specs.OwnedTime.{OwnedTime}
-use Rattle.tsc_span.specs.Span.{KeyBytes, Cut, after, Interval, is_below, end_keys}
+use Rattle.tsc_span.specs.Span.{KeyBytes, Cut, before, after, Interval, is_below, end_keys}
 use Rattle.tsc_page.specs.PageView.{AreLeafSizes}
-use Rattle.tsc_page.specs.Nodes.{Node, next_cut, node_stretches, IsSorted, IsSplitAt, raise_nodes}
+use Rattle.tsc_page.specs.Nodes.{Node, next_cut, node_stretches, IsSorted, IsSplitAt, AddsNodes, raise_nodes}
 
 -- the nodes of all leaves, in their order
 abbrev pub nodes_of : List (List Node) → List Node
@@ -39,3 +39,15 @@ pub record AddsTo (old new : List Node) (span : Interval) (value : OwnedTime) : 
 abbrev pub key_below : Cut → Option KeyBytes → Option KeyBytes
 key_below c None = None
 key_below c (Some k) = if is_below (after k) c then Some k else None
+
+-- a key at a cut, where it is one
+abbrev pub LiesAt : Option KeyBytes → Cut → Type 0
+LiesAt None c = Unit {0}
+LiesAt (Some k) c = (c ≡ before k) ⊎ (c ≡ after k)
+
+-- What an Add makes of leaves in place: it adds to their nodes, and as many come in as are told.
+pub record AddsLeaves (old new : List (List Node)) (first second : Option KeyBytes) (span : Interval) (value : OwnedTime) (more : ℕ) : Type 0 where
+  pub adds : AddsNodes (nodes_of old) (nodes_of new) first second span value
+  pub sizes : AreLeafSizes (leaf_sizes new)
+  pub count : length (nodes_of new) ≡ length (nodes_of old) + more
+  pub few : more ≤ 2

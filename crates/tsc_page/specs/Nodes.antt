@@ -1,5 +1,5 @@
 -- How the code keeps a page: nodes in the order of their keys, each with the value of its key and that of the gap up to the next node.
-use Rattle.std.specs.Prelude.{◌≡◌, ℕ, zero, suc, ◌<◌, ◌≤◌, List, [], ◌∷◌, length, map, drop, slice_index_or, true, false, Option, Some, None, Result, Ok, Err, ◌||◌, if◌then◌else◌}
+use Rattle.std.specs.Prelude.{◌≡◌, ℕ, zero, suc, ◌<◌, ◌≤◌, List, [], ◌∷◌, length, map, drop, slice_index_or, true, false, ◌+◌, Option, Some, None, is_some, Result, Ok, Err, ◌||◌, if◌then◌else◌}
 use Rattle.std.specs.List.{insert}
 use Rattle.tsc_time.specs.Time.{Time, zero_time}
 use Rattle.tsc_time.specs.OwnedTime.{OwnedTime, unowned}
@@ -163,6 +163,10 @@ abbrev pub IsInOrder : Option KeyBytes → Option KeyBytes → Type 0
 IsInOrder None second = Unit {0}
 IsInOrder (Some k) None = Unit {0}
 IsInOrder (Some k) (Some m) = is_below (after k) (before m) ≡ true
+
+-- how many of two keys there are
+abbrev pub new_count : Option (ℕ × KeyBytes) → Option (ℕ × KeyBytes) → ℕ
+new_count lower upper = (if is_some lower then 1 else 0) + (if is_some upper then 1 else 0)
 
 -- of two keys each has a node, where it is one
 abbrev pub HasNodes : List Node → Option KeyBytes → Option KeyBytes → Type 0

@@ -1,11 +1,11 @@
-ghost use Rattle.std.specs.Prelude.{◌≡◌, ◌<◌, ◌≤◌, ◌+◌, ◌^◌, [], ◌++◌, suc, length, drop, slice_set, slice_get, slice_index_or, true, false, IsOk, IfOk, IfErr, IfSome, OnOk, OnErr, option_map, option_to_list};
+ghost use Rattle.std.specs.Prelude.{◌≡◌, None, ◌<◌, ◌≤◌, ◌+◌, ◌^◌, [], ◌++◌, suc, length, drop, slice_set, slice_get, slice_index_or, true, false, IsOk, IfOk, IfErr, IfSome, OnOk, OnErr, option_map, option_to_list};
 ghost use Rattle.tsc_span.specs.Span.{is_below, after, between, end_keys};
 ghost use Rattle.tsc_span.specs.Cuts.{cut_of};
 ghost use Rattle.tsc_page.specs.declared.TheConstants.{MOST_NODES};
 ghost use Rattle.tsc_page.specs.PageView.{AreLeafSizes, is_new_among};
 ghost use Rattle.tsc_page.specs.Nodes.{IsSorted, IsSplitAt, IsInOrder, node_keys, answer_of, raise_nodes};
-ghost use Rattle.tsc_page.specs.Leaves.{leaf_sizes, nodes_of, start_of, key_below, IsLeafAt, AddsTo};
-ghost use Rattle.tsc_page.specs.LeafParts.{leaves_of, all_nodes, AreCounted};
+ghost use Rattle.tsc_page.specs.Leaves.{LiesAt, AddsLeaves, AreLeaves, leaf_sizes, nodes_of, start_of, key_below, IsLeafAt, AddsTo};
+ghost use Rattle.tsc_page.specs.LeafParts.{leaf_lists, leaves_of, all_nodes, AreCounted};
 
 use crate::nodes::Nodes;
 use std::alloc::Global;
@@ -201,6 +201,8 @@ impl Leaves {
         requires counted { AreCounted self.old }
         requires small { self.old.count ≤ MOST_NODES }
         requires order { is_below (cut_of from) (cut_of to) ≡ true }
+        requires first { LiesAt (option_map (λ k. k.now) first) (cut_of from) }
+        requires second { LiesAt (option_map (λ k. k.now) second) (cut_of to) }
         requires keys { option_to_list (option_map (λ k. k.now) first) ++ option_to_list (option_map (λ k. k.now) second) ≡ end_keys (between (cut_of from) (cut_of to)) }
         ensures added { OnOk result (AddsTo (all_nodes self.old) (all_nodes self.new) (between (cut_of from.entry) (cut_of to.entry)) value) }
         ensures counted { AreCounted self.new }
@@ -217,8 +219,8 @@ impl Leaves {
         Ok(())
     }
 
-    /// The same in place, where the span lies in one leaf that nobody else holds and that has room. Says
-    /// whether it did.
+    /// The same in place, where nobody else holds the leaves that the span meets and none of them has to be
+    /// cut. Says whether it did.
     fn add_in_place(
         &mut self,
         first: Option<&Key>,
@@ -230,6 +232,8 @@ impl Leaves {
         requires counted { AreCounted self.old }
         requires small { self.old.count ≤ MOST_NODES }
         requires order { is_below (cut_of from) (cut_of to) ≡ true }
+        requires first { LiesAt (option_map (λ k. k.now) first) (cut_of from) }
+        requires second { LiesAt (option_map (λ k. k.now) second) (cut_of to) }
         requires keys { option_to_list (option_map (λ k. k.now) first) ++ option_to_list (option_map (λ k. k.now) second) ≡ end_keys (between (cut_of from) (cut_of to)) }
         ensures added { IfOk result (λ done. done ≡ true → AddsTo (all_nodes self.old) (all_nodes self.new) (between (cut_of from.entry) (cut_of to.entry)) value) }
         ensures left { IfOk result (λ done. done ≡ false → (leaves_of self.new ≡ leaves_of self.old) × (self.new.count ≡ self.old.count)) }
@@ -237,49 +241,13 @@ impl Leaves {
         ensures unchanged { OnErr result (leaves_of self.new ≡ leaves_of self.old) }
     {
         let place = self.leaf_at(from);
-        if place >= self.list.len() {
-            return Ok(false);
-        }
-        if self.goes_on(place, to) {
-            return Ok(false);
-        }
-        let first = self.key_within(place, first);
-        let second = self.key_within(place, second);
-        let slot = &mut self.list[place];
-        let Some(leaf) = Arc::get_mut(slot) else {
-            return Ok(false)
-        };
-        let before = leaf.len();
-        if before + 2 > LEAF_NODES {
-            return Ok(false);
-        }
-        leaf.add(first, second, from, to, value)?;
-        let after = leaf.len();
-        self.count = self.count - before + after;
-        Ok(true)
-    }
-
-    /// A key, where it lies below what comes after a leaf.
-    fn key_within<'k>(&self, place: usize, key: Option<&'k Key>) -> Option<&'k Key>
-        requires sizes { AreLeafSizes (leaf_sizes (leaves_of self.now)) }
-        requires bound { place < length (leaves_of self.now) }
-        ensures { option_map (λ k. k.now) result ≡ key_below (start_of (nodes_of (drop (suc place) (leaves_of self.now)))) (option_map (λ k. k.now) key.entry) }
-    {
-        match key {
-            Some(key) if self.is_within(place, key) => Some(key),
-            _ => None,
-        }
-    }
-
-    /// Whether a key lies below what comes after a leaf.
-    fn is_within(&self, place: usize, key: &Key) -> bool
-        requires sizes { AreLeafSizes (leaf_sizes (leaves_of self.now)) }
-        requires bound { place < length (leaves_of self.now) }
-        ensures { result ≡ is_below (after key.now) (start_of (nodes_of (drop (suc place) (leaves_of self.now)))) }
-    {
-        match self.list.get(place + 1) {
-            Some(next) => Cut::After(key.bytes()).is_below(next.start()),
-            None => true,
+        let (_, leaves) = self.list.split_at_mut(place);
+        match add_owned(leaves, first, second, from, to, value)? {
+            Some(more) => {
+                self.count += more;
+                Ok(true)
+            }
+            None => Ok(false),
         }
     }
 
@@ -296,5 +264,75 @@ impl Leaves {
             list,
             count: self.count,
         })
+    }
+}
+
+/// Makes nodes of the keys that have none, in the first leaf and in that in which a span stops, and ratchets a
+/// value into the keys and gaps between two cuts, of which the lower one falls in the first leaf. Tells how
+/// many nodes came in; or `None`, where others hold one of these leaves or where one would have to be cut.
+/// Nothing changes then, nor where memory is refused: a leaf is changed only once those after it are.
+fn add_owned(
+    leaves: &mut [Arc<Nodes>],
+    first: Option<&Key>,
+    second: Option<&Key>,
+    from: Cut<'_>,
+    to: Cut<'_>,
+    value: Value,
+) -> Result<Option<usize>, NoMemory>
+    requires leaves { AreLeaves (leaf_lists leaves.old) }
+    requires order { is_below (cut_of from) (cut_of to) ≡ true }
+    requires low { is_below (cut_of from) (start_of (nodes_of (drop 1 (leaf_lists leaves.old)))) ≡ true }
+    requires in_order { IsInOrder (option_map (λ k. k.now) first) (option_map (λ k. k.now) second) }
+    requires first { LiesAt (option_map (λ k. k.now) first) (cut_of from) }
+    requires second { LiesAt (option_map (λ k. k.now) second) (cut_of to) }
+    ensures added { IfOk result (λ done. IfSome done (λ more. AddsLeaves (leaf_lists leaves.old) (leaf_lists leaves.new)
+        (option_map (λ k. k.now) first.entry) (option_map (λ k. k.now) second.entry) (between (cut_of from.entry) (cut_of to.entry)) value more)) }
+    ensures left { IfOk result (λ done. done ≡ None → leaf_lists leaves.new ≡ leaf_lists leaves.old) }
+    ensures unchanged { OnErr result (leaf_lists leaves.new ≡ leaf_lists leaves.old) }
+{
+    if leaves.len() == 0 {
+        return Ok(None);
+    }
+    let (head, rest) = leaves.split_at_mut(1);
+    let Some(leaf) = Arc::get_mut(&mut head[0]) else {
+        return Ok(None)
+    };
+    let end = start_of(rest);
+    let goes_on = end.is_below(to);
+    let new = leaf.new_keys(key_below(first, end), key_below(second, end))?;
+    let made = new.len();
+    if leaf.len() + made > LEAF_NODES {
+        return Ok(None);
+    }
+    leaf.reserve(&new)?;
+    if !goes_on {
+        leaf.add(new, from, to, value);
+        return Ok(Some(made));
+    }
+    let Some(more) = add_owned(rest, None, second, Cut::Before(&[]), to, value)? else {
+        return Ok(None)
+    };
+    leaf.add(new, from, Cut::Last, value);
+    Ok(Some(made + more))
+}
+
+/// Where the nodes of leaves begin.
+fn start_of(leaves: &[Arc<Nodes>]) -> Cut<'_>
+    requires { AreLeafSizes (leaf_sizes (leaf_lists leaves.now)) }
+    ensures { cut_of result ≡ start_of (nodes_of (leaf_lists leaves.now)) }
+{
+    match leaves.first() {
+        Some(first) => first.start(),
+        None => Cut::Last,
+    }
+}
+
+/// A key, where it lies wholly below a cut.
+fn key_below<'k>(key: Option<&'k Key>, cut: Cut<'_>) -> Option<&'k Key>
+    ensures { option_map (λ k. k.now) result ≡ key_below (cut_of cut.entry) (option_map (λ k. k.now) key.entry) }
+{
+    match key {
+        Some(key) if Cut::After(key.bytes()).is_below(cut) => Some(key),
+        _ => None,
     }
 }

@@ -5,7 +5,7 @@ ghost use Rattle.tsc_time.specs.OwnedTime.{unowned};
 ghost use Rattle.tsc_span.specs.Span.{is_below, before, between};
 ghost use Rattle.tsc_span.specs.Cuts.{cut_of};
 ghost use Rattle.tsc_page.specs.PageView.{is_new_among};
-ghost use Rattle.tsc_page.specs.Nodes.{IsSorted, FitsAt, IsPlaceFor, IsNewKey, FitsIn, with_new, IsInOrder, HasNodes, MakesNodes, AddsNodes, PartsKeysAt, HoldsKeysOn, HoldsGapsOn, node_keys, answer_of, raise_nodes, node_in_gap, gap_value, start_of_gap, next_cut, node_stretches};
+ghost use Rattle.tsc_page.specs.Nodes.{IsSorted, FitsAt, IsPlaceFor, IsNewKey, FitsIn, with_new, IsInOrder, HasNodes, new_count, PartsKeysAt, HoldsKeysOn, HoldsGapsOn, node_keys, answer_of, raise_nodes, node_in_gap, gap_value, start_of_gap, next_cut, node_stretches};
 
 use crate::node::Node;
 use std::alloc::Global;
@@ -200,51 +200,52 @@ impl Nodes {
         self.list.insert(place, node).ok();
     }
 
-    /// Makes nodes of the keys that have none, of which the first is the smaller. Where memory is refused
-    /// nothing changes, and the list has not grown. Where both have nodes no memory is asked for.
-    fn split_at(&mut self, first: Option<&Key>, second: Option<&Key>) -> Result<(), NoMemory>
-        requires sorted { IsSorted self.old.list.items }
-        requires order { IsInOrder (option_map (λ k. k.now) first) (option_map (λ k. k.now) second) }
-        ensures made { OnOk result (MakesNodes self.old.list.items self.new.list.items (option_map (λ k. k.now) first.entry) (option_map (λ k. k.now) second.entry)) }
-        ensures unchanged { OnErr result (self.new.list.items ≡ self.old.list.items) }
-        ensures capacity { OnErr result (vec_capacity self.new.list ≡ vec_capacity self.old.list) }
-        ensures memory { HasNodes self.old.list.items (option_map (λ k. k.now) first.entry) (option_map (λ k. k.now) second.entry)
-            → IsOk result × (self.new.list ≡ self.old.list) }
+    /// Copies of the keys that have no node, with the places for them. Where both have nodes no memory is
+    /// asked for.
+    pub(crate) fn new_keys(
+        &self,
+        first: Option<&Key>,
+        second: Option<&Key>,
+    ) -> Result<NewKeys, NoMemory>
+        requires sorted { IsSorted self.now.list.items }
+        ensures first { IfOk result (λ new. IsNewKey self.now.list.items (option_map (λ k. k.now) first.entry) new.first) }
+        ensures second { IfOk result (λ new. IsNewKey self.now.list.items (option_map (λ k. k.now) second.entry) new.second) }
+        ensures memory { HasNodes self.now.list.items (option_map (λ k. k.now) first.entry) (option_map (λ k. k.now) second.entry) → IsOk result }
     {
-        let first = self.new_key(first)?;
-        let second = self.new_key(second)?;
-        let new = usize::from(first.is_some()) + usize::from(second.is_some());
+        Ok(NewKeys {
+            first: self.new_key(first)?,
+            second: self.new_key(second)?,
+        })
+    }
+
+    /// Makes room for nodes of new keys. Where there are none no memory is asked for.
+    pub(crate) fn reserve(&mut self, new: &NewKeys) -> Result<(), NoMemory>
+        ensures kept { self.new.list.items ≡ self.old.list.items }
+        ensures room { OnOk result (vec_len self.new.list + (new_count new.now.first new.now.second) ≤ vec_capacity self.new.list) }
+        ensures memory { new_count new.now.first new.now.second ≡ 0 → IsOk result }
+    {
+        let new = new.len();
         if new == 0 {
             return Ok(());
         }
-        self.list.reserve(new)?;
-        self.split(second);
-        self.split(first);
-        Ok(())
+        Ok(self.list.reserve(new)?)
     }
 
-    /// Makes nodes of the keys that have none, of which the first is the smaller, and ratchets a value into the
-    /// keys and gaps between two cuts. Where memory is refused nothing changes. Where both keys have nodes
-    /// no memory is asked for.
-    pub(crate) fn add(
-        &mut self,
-        first: Option<&Key>,
-        second: Option<&Key>,
-        from: Cut<'_>,
-        to: Cut<'_>,
-        value: Value,
-    ) -> Result<(), NoMemory>
-        requires sorted { IsSorted self.old.list.items }
-        requires in_order { IsInOrder (option_map (λ k. k.now) first) (option_map (λ k. k.now) second) }
+    /// Makes nodes of new keys, of which the first is the smaller, and ratchets a value into the keys and gaps
+    /// between two cuts. It takes no memory.
+    pub(crate) fn add(&mut self, new: NewKeys, from: Cut<'_>, to: Cut<'_>, value: Value)
+        requires sorted { IsSorted (with_new (with_new self.old.list.items new.second) new.first) }
+        requires second { FitsIn self.old.list.items new.second }
+        requires first { FitsIn (with_new self.old.list.items new.second) new.first }
+        requires room { vec_len self.old.list + (new_count new.first new.second) ≤ vec_capacity self.old.list }
         requires order { is_below (cut_of from) (cut_of to) ≡ true }
-        ensures added { OnOk result (AddsNodes self.old.list.items self.new.list.items (option_map (λ k. k.now) first.entry) (option_map (λ k. k.now) second.entry)
-            (between (cut_of from.entry) (cut_of to.entry)) value) }
-        ensures unchanged { OnErr result (self.new.list.items ≡ self.old.list.items) }
-        ensures memory { HasNodes self.old.list.items (option_map (λ k. k.now) first.entry) (option_map (λ k. k.now) second.entry) → IsOk result }
+        ensures { self.new.list.items ≡ raise_nodes (between (cut_of from.entry) (cut_of to.entry)) value
+            (with_new (with_new self.old.list.items new.second) new.first) }
     {
-        self.split_at(first, second)?;
+        let NewKeys { first, second } = new;
+        self.split(second);
+        self.split(first);
         self.raise_between(from, to, value);
-        Ok(())
     }
 
     /// Takes off the nodes from a place on.
@@ -270,5 +271,21 @@ impl Nodes {
         }
         list.reserve(more)?;
         Ok(Nodes { list })
+    }
+}
+
+/// Copies of up to two keys that have no node, of which the first is the smaller, with the places for them.
+#[derive(Debug, Drop)]
+pub(crate) struct NewKeys {
+    first: Option<(usize, Key)>,
+    second: Option<(usize, Key)>,
+}
+
+impl NewKeys {
+    /// How many there are.
+    pub(crate) fn len(&self) -> usize
+        ensures { result ≡ new_count self.now.first self.now.second }
+    {
+        usize::from(self.first.is_some()) + usize::from(self.second.is_some())
     }
 }

@@ -1,22 +1,36 @@
 -- The nodes are split at the span's ends, and then raised within it.
 use Rattle.std.proofs.Common.{◌≡◌, ◌∙◌, sym, ap, subst, ◌++◌, ◌||◌, ◌∷◌, [], cond, ◌≤◌, nat_le, List, length, arith, true}
+use Rattle.std.specs.Prelude.{Option, slice_get}
 use Rattle.std.specs.Ordering.{ord_max}
 use Rattle.std.proofs.lemmas.Bool.{leb-true}
 use Rattle.tsc_time.specs.Time.{Time, time_cmp, later}
 use Rattle.tsc_time.specs.Joint.{joint}
-use Rattle.tsc_span.specs.Span.{Cut, Interval, between, overlaps, end_keys}
+use Rattle.tsc_span.specs.Span.{KeyBytes, Cut, Interval, between, overlaps, end_keys}
 use Rattle.tsc_span.specs.Cuts.{cut_of}
 use Rattle.tsc_page.specs.Page.{with_mark, count_distinct}
 use Rattle.tsc_page.specs.PageView.{PageView, StandsFor, NoAnswerAboveTop, answer, is_in, has_room_for}
 use Rattle.tsc_page.specs.Nodes.{Node, answer_of, node_keys, page_of}
-use Rattle.tsc_page.specs.Leaves.{nodes_of, leaf_sizes}
+use Rattle.tsc_page.specs.Leaves.{nodes_of, leaf_sizes, LiesAt}
 use Rattle.tsc_page.specs.LeafParts.{leaves_of, all_nodes}
+use Rattle.tsc_page.proofs.LeafAdds.{ends_lie}
 use Rattle.tsc_page.proofs.Refusals.{on_refusal}
 use Rattle.tsc_page.proofs.Standing.{later-max, added_length, added_keys, added_answers, added_covers, added_stands}
 use Rattle.tsc_page.proofs.page.Page.add.Goals as goal
 
 pub add-requires-clause-keys : goal.add-requires-clause-keys
 add-requires-clause-keys c = c.end_keys.ensures.keys ∙ ap end_keys (sym c.in-Some.ensures.value)
+
+pub add-requires-clause-first : goal.add-requires-clause-first
+add-requires-clause-first c =
+    let f : Cut = cut_of c.in-Some.from in
+    let t : Cut = cut_of c.in-Some.to in
+    subst (λ (o : Option KeyBytes). LiesAt o f) (sym (c.end_keys.ensures.start ∙ ap (λ (s : Interval). slice_get (end_keys s) 0) (sym c.in-Some.ensures.value))) (ends_lie f t c.in-Some.ensures.order).0
+
+pub add-requires-clause-second : goal.add-requires-clause-second
+add-requires-clause-second c =
+    let f : Cut = cut_of c.in-Some.from in
+    let t : Cut = cut_of c.in-Some.to in
+    subst (λ (o : Option KeyBytes). LiesAt o t) (sym (c.end_keys.ensures.end ∙ ap (λ (s : Interval). slice_get (end_keys s) 1) (sym c.in-Some.ensures.value))) (ends_lie f t c.in-Some.ensures.order).1
 
 pub add-requires-clause-small : goal.add-requires-clause-small
 add-requires-clause-small c = omega (arith, c.self.invariant.0.count, c.self.invariant.1, c.self.invariant.2)
