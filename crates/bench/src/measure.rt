@@ -73,6 +73,11 @@ impl Figure {
         self.nanoseconds / self.operations.max(1)
     }
 
+    /// How many were made in a second.
+    pub fn per_second(self) -> u64 {
+        self.operations.saturating_mul(1_000_000_000) / self.nanoseconds.max(1)
+    }
+
     /// What one took as a percentage of what another one took, to the nearest.
     pub fn percent_of(self, other: Figure) -> u64 {
         let one = other.each().max(1);

@@ -18,7 +18,7 @@ use tsc_span::Span;
 use tsc_time::{Timestamp, Value};
 
 /// What was settled when a cache was opened.
-#[derive(Clone, Copy, Debug)]
+#[derive(Clone, Copy)]
 pub struct Terms {
     /// How the cache is set up.
     pub config: Config,
