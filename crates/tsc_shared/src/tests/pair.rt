@@ -1,7 +1,8 @@
 //! A cache with its two seats.
 ghost use Rattle.std.specs.Prelude.{◌≡◌, IfOk};
+ghost use Rattle.tsc_shared.specs.Answers.{Opens};
 
-use crate::{AddFault, Seat, SharedCache};
+use crate::{AddFault, Answer, LowWater, OpenFault, Seat, SharedCache};
 use std::alloc::Global;
 use std::process::Abort;
 use std::sync::Wait;
@@ -16,6 +17,8 @@ use uuid::Uuid;
 pub enum Step {
     /// Adds a key at 20.0, for the one owner that there is.
     Add(u32, &'static str),
+    /// Adds a key at another wall time, which is the moment too.
+    AddAt(u32, &'static str, u64),
     /// Adds the empty span.
     AddNothing(u32),
     Get(u32, &'static str),
@@ -48,6 +51,8 @@ pub struct Pair {
     cache: SharedCache,
     first: Seat,
     second: Seat,
+    /// Whether an Add that is refused memory is made once more, after a look whether nothing changed.
+    tries_again: bool,
     ghost first_is: { first.cache ≡ cache },
     ghost second_is: { second.cache ≡ cache },
 }
@@ -73,15 +78,86 @@ fn counts(seat: &Seat) -> Counts {
     (seat.count(), seat.seen())
 }
 
-fn add<R: Wait>(rt: &R, cache: &SharedCache, seat: &mut Seat, span: &Span) -> Result<Told, Fail>
+/// What can be seen: how many Adds of its own a seat counts, and what a lookup and the floor answer it.
+fn look<R: Wait>(
+    rt: &R,
+    cache: &SharedCache,
+    seat: &mut Seat,
+    span: &Span,
+) -> Result<(u64, Answer, LowWater), Fail>
     requires { seat.old.cache ≡ cache.now }
     ensures { seat.new.cache ≡ seat.old.cache }
 {
-    let value = Value::of(at(20)?, Uuid::from_bytes([1; 16]));
-    match cache.add(rt, seat, span, value, at(20)?) {
-        Ok(receipt) => Ok(Told::Place(receipt.place, receipt.added.kept, receipt.front.len())),
-        Err(AddFault::HistoryFull(front)) => Ok(Told::Full(front.len())),
-        Err(AddFault::NoMemory) => Err(NoMemory.into()),
+    let answer = cache.get_max(rt, seat, span)?;
+    let floor = cache.low_water(rt, seat)?;
+    Ok((seat.count(), answer, floor))
+}
+
+/// An Add at a wall time. `None` where it is refused memory.
+fn add_once<R: Wait>(
+    rt: &R,
+    cache: &SharedCache,
+    seat: &mut Seat,
+    span: &Span,
+    wall: u64,
+) -> Result<Option<Told>, Fail>
+    requires { seat.old.cache ≡ cache.now }
+    ensures { seat.new.cache ≡ seat.old.cache }
+{
+    let value = Value::of(at(wall)?, Uuid::from_bytes([1; 16]));
+    match cache.add(rt, seat, span, value, at(wall)?) {
+        Ok(receipt) => {
+            let told = Told::Place(receipt.place, receipt.added.kept, receipt.front.len());
+            Ok(Some(told))
+        }
+        Err(AddFault::HistoryFull(front)) => Ok(Some(Told::Full(front.len()))),
+        Err(AddFault::NoMemory) => Ok(None),
+    }
+}
+
+/// The same, once more where it is refused memory. After the refusal all is as before.
+fn add_again<R: Wait>(
+    rt: &R,
+    cache: &SharedCache,
+    seat: &mut Seat,
+    span: &Span,
+    wall: u64,
+) -> Result<Option<Told>, Fail>
+    requires { seat.old.cache ≡ cache.now }
+    ensures { seat.new.cache ≡ seat.old.cache }
+{
+    let before = look(rt, cache, seat, span)?;
+    if let Some(told) = add_once(rt, cache, seat, span, wall)? {
+        return Ok(Some(told));
+    }
+    if look(rt, cache, seat, span)? != before {
+        return Err("a refused Add changed what can be seen".into());
+    }
+    match add_once(rt, cache, seat, span, wall)? {
+        Some(told) => Ok(Some(told)),
+        None => Err("an Add was refused again".into()),
+    }
+}
+
+fn add<R: Wait>(
+    rt: &R,
+    cache: &SharedCache,
+    seat: &mut Seat,
+    span: &Span,
+    wall: u64,
+    tries_again: bool,
+) -> Result<Told, Fail>
+    requires { seat.old.cache ≡ cache.now }
+    ensures { seat.new.cache ≡ seat.old.cache }
+{
+    let told = if tries_again {
+        add_again(rt, cache, seat, span, wall)?
+    } else {
+        add_once(rt, cache, seat, span, wall)?
+    };
+    match told {
+        Some(told) => Ok(told),
+        None => Err(NoMemory.into()),
     }
 }
 
@@ -112,13 +188,17 @@ fn take_step<R: Wait>(
     cache: &SharedCache,
     seat: &mut Seat,
     step: &Step,
+    tries_again: bool,
 ) -> Result<(Told, Counts), Fail>
     requires { seat.old.cache ≡ cache.now }
     ensures { seat.new.cache ≡ seat.old.cache }
 {
     let told = match step {
-        Step::Add(_, key) => add(rt, cache, seat, &point(alloc, key)?)?,
-        Step::AddNothing(_) => add(rt, cache, seat, &nothing(alloc)?)?,
+        Step::Add(_, key) => add(rt, cache, seat, &point(alloc, key)?, 20, tries_again)?,
+        Step::AddAt(_, key, wall) => {
+            add(rt, cache, seat, &point(alloc, key)?, *wall, tries_again)?
+        }
+        Step::AddNothing(_) => add(rt, cache, seat, &nothing(alloc)?, 20, tries_again)?,
         Step::Get(_, key) => get(rt, cache, seat, &point(alloc, key)?)?,
         Step::Low(_) => low(rt, cache, seat)?,
         Step::Meet => return Err("one seat cannot meet".into()),
@@ -126,9 +206,32 @@ fn take_step<R: Wait>(
     Ok((told, counts(seat)))
 }
 
+/// A cache of two seats. Where it is refused memory it is opened once more.
+fn open_again(
+    alloc: Global,
+    config: Config,
+    limit: u64,
+) -> Result<(SharedCache, Vec<Seat>), OpenFault>
+    ensures { IfOk result (λ opened. Opens (record { config = config; seats = 2; limit = limit }) opened.0 opened.1.items) }
+{
+    match SharedCache::open(alloc, config, 2, limit) {
+        Ok(opened) => Ok(opened),
+        Err(_) => SharedCache::open(alloc, config, 2, limit),
+    }
+}
+
 impl Pair {
-    pub fn open(alloc: Global, config: Config, limit: u64) -> Result<Pair, Fail> {
-        let (cache, mut seats) = SharedCache::open(alloc, config, 2, limit)?;
+    pub fn open(
+        alloc: Global,
+        config: Config,
+        limit: u64,
+        tries_again: bool,
+    ) -> Result<Pair, Fail> {
+        let (cache, mut seats) = if tries_again {
+            open_again(alloc, config, limit)?
+        } else {
+            SharedCache::open(alloc, config, 2, limit)?
+        };
         let second = seats.pop().ok_or("two seats")?;
         let first = seats.pop().ok_or("one seat")?;
         if (first.number(), second.number()) != (0, 1) {
@@ -138,6 +241,7 @@ impl Pair {
             cache,
             first,
             second,
+            tries_again,
         })
     }
 
@@ -155,10 +259,26 @@ impl Pair {
                 }
                 Ok((Told::Met(met), counts(&self.first)))
             }
-            Step::Add(0, _) | Step::AddNothing(0) | Step::Get(0, _) | Step::Low(0) => {
-                take_step(rt, alloc, &self.cache, &mut self.first, next)
-            }
-            _ => take_step(rt, alloc, &self.cache, &mut self.second, next),
+            Step::Add(0, _)
+            | Step::AddAt(0, _, _)
+            | Step::AddNothing(0)
+            | Step::Get(0, _)
+            | Step::Low(0) => take_step(
+                rt,
+                alloc,
+                &self.cache,
+                &mut self.first,
+                next,
+                self.tries_again,
+            ),
+            _ => take_step(
+                rt,
+                alloc,
+                &self.cache,
+                &mut self.second,
+                next,
+                self.tries_again,
+            ),
         }
     }
 
@@ -168,6 +288,7 @@ impl Pair {
             cache,
             first,
             second,
+            tries_again: _,
         } = self;
         let mut seats = Vec::with_capacity(alloc, 2)?;
         seats.push(first)?;
