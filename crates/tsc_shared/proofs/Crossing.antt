@@ -9,15 +9,13 @@ use Rattle.atomic_table.proofs.Sent.{seat_keyless, owns_keyless, shares_keyless}
 use Rattle.atomic_table.proofs.Rights.{right_send}
 use Rattle.tsc_time.specs.contracts.timestamp.Timestamp.{the_row as timestamp}
 use Rattle.tsc_time.specs.contracts.value.Value.{the_row as value}
-use Rattle.tsc_cache.proofs.Crossing.{config_sends, config_syncs, cache_sends, cache_syncs, span_sends, span_syncs}
+use Rattle.tsc_cache.proofs.Crossing.{config_sends, config_syncs, cache_sends}
 use Rattle.atomic_table.specs.contracts.owned.Table.{the_row as table}
 use Rattle.atomic_table.specs.contracts.shared.Shared.{the_row as the_shared, the_type as shared_type}
 use denote.Struct.Struct.{Struct}
 use denote.Struct.Owning.{shape}
 use Rattle.atomic_table.specs.contracts.send_lease.SendLease.{the_row as send_lease}
 use Rattle.std.specs.contracts.option.Option.{the_row as option}
-use Rattle.tsc_shared.specs.contracts.board.TurnsTableRuleOptionHeldViewTerms.TheImpl.{ghosts as rule}
-use Rattle.std.specs.contracts.impls.GlobalAllocator.TheImpl.{ghosts as global_ghosts}
 use Rattle.tsc_shared.specs.contracts.board.Terms.{the_row as terms}
 use Rattle.tsc_shared.specs.contracts.board.Pending.{the_row as pending}
 use Rattle.tsc_shared.specs.contracts.board.Held.{the_row as held}
@@ -44,10 +42,10 @@ held_sends : IsSend held
 held_sends = search (sendable, crosses, declared_send, as_row_send, cache_sends, pending_sends) depth 20
 
 pub seat_sends : IsSend seat
-seat_sends = search (sendable, crosses, declared_send, as_row_send, seat_keyless, held_sends) depth 20
+seat_sends = search (sendable, crosses, seat_keyless, held_sends) depth 20
 
 pub front_sends : IsSend front
-front_sends = search (sendable, crosses, declared_send, as_row_send, seat_keyless, held_sends) depth 20
+front_sends = search (sendable, crosses, seat_keyless, held_sends) depth 20
 
 -- a table, over whatever its slots hold
 module _ (S V K P A : RattleType) (rule : RuleGhosts P.Denot S.Denot V.Denot K.Denot) (heap : HeapGhosts A.Denot) where

@@ -1,40 +1,33 @@
--- Places that are divided and put together, and what a seat is told.
-use Rattle.std.proofs.Common.{◌≡◌, ◌≢◌, ◌⊎◌, ◌∙◌, inl, inr, refl, sym, ap, subst, Bool, true, false, ℕ, zero, suc, ◌+◌, ◌-◌, ◌<◌, ◌≤◌, List, [], ◌∷◌, ◌++◌, length, set, append_assoc, append-nil, arith, slice_index}
-use Rattle.std.specs.Prelude.{Option, Some, None, nat_lt, ◌==◌, All, map, slice_index_or}
+-- Desk seats that are divided and put together, and what is noted there.
+use Rattle.std.proofs.Common.{◌≡◌, ◌≢◌, ◌⊎◌, ◌∙◌, inl, inr, refl, sym, ap, subst, false, ℕ, zero, suc, ◌+◌, ◌-◌, ◌<◌, List, [], ◌∷◌, ◌++◌, length, set, arith, slice_index}
+use Rattle.std.specs.Prelude.{Option, ◌==◌, All, map, slice_index_or}
 use Rattle.std.proofs.lemmas.List.{length-append, length_push}
 use Rattle.tsc_shared.specs.Seats.{SeatView}
 use Rattle.tsc_shared.specs.Closing.{post_of}
-use Rattle.std.specs.List.{sum_by}
 use mathlib.Core.Option as maybe
 use mathlib.Core.Option.{some-injective, some-ne-none}
 use lib.ListN.{get_elem?}
 use Rattle.std.proofs.lemmas.List.Sums.{sum_by-append, sum_by_push, sum_by-cons}
 use Rattle.atomic_table.proofs.Lists.{at_set, at_snoc, set_else}
-use Rattle.atomic_table.specs.Table.{State, Step, Me, Act, keeps as act_keeps, Allows, Valid, stepped, carried_after, Splits, Joins}
+use Rattle.atomic_table.specs.Table.{Step, keeps as act_keeps, Allows, Splits, Joins}
 use Rattle.tsc_cache.specs.History.{History, own_count, BeginsWith, IsLegal}
 use Rattle.tsc_shared.specs.declared.board.Terms.{Terms}
 use Rattle.tsc_shared.specs.declared.board.Held.{Held}
 use Rattle.tsc_shared.specs.declared.board.Post.{Post}
 use Rattle.tsc_shared.specs.declared.board.View.{View}
-use Rattle.tsc_shared.specs.Desk.{post, keeping, one_if, Kept, ViewFits, PostFits, posts_of, holders, first_view, fresh_posts, IsAfter}
-use Rattle.tsc_shared.specs.DeskSteps.{seated, meets, longer, note, spent, first_post, other_posts, number_of, seen_of, count_of}
-use Rattle.tsc_shared.specs.Places.{IsAtRest}
-use Rattle.tsc_shared.proofs.Prefixes.{begins_itself, begins_empty, begins_on, begins_length, own_between, legal_beginning, longer_begins}
-use Rattle.tsc_shared.proofs.Totals.{part, two_parts, total_set}
-use Rattle.tsc_shared.proofs.DeskMoves.{of_one, Moved, moved_kept}
+use Rattle.tsc_shared.specs.Desk.{post, keeping, one_if, DeskRule, ViewFits, posts_of, holders, fresh_posts}
+use Rattle.tsc_shared.specs.DeskSteps.{At, seated, meets, CatchesUp, longer, note, spent, first_post, other_posts, number_of, seen_of, count_of}
+use Rattle.tsc_shared.specs.AtDesk.{IsAtRest}
+use Rattle.tsc_shared.proofs.Prefixes.{begins_empty, begins_length, own_between, legal_beginning, longer_begins}
+use Rattle.tsc_shared.proofs.Totals.{total_set}
+use Rattle.tsc_shared.proofs.DeskMoves.{Board, of_one, Moved, moved_kept}
 use Rattle.tsc_shared.proofs.Taking.{word_stepped, false_is_no}
 
-abbrev Board : Type 0
-Board = State (Option Held) View
-
-abbrev At : Type 0
-At = Me (Option Held) View
-
--- a place is divided in two that fit, and each post goes with one of them
-pub split_kept : (terms : Terms) (s : Board) (k : Kept terms s) (id : ℕ) (v left right : View) → get_elem? s.views id ≡ maybe.some v
+-- a desk seat is divided in two that fit, and each post goes with one of them
+pub split_kept : (terms : Terms) (s : Board) (k : DeskRule terms s) (id : ℕ) (v left right : View) → get_elem? s.views id ≡ maybe.some v
     → ViewFits terms k.history k.word left → ViewFits terms k.history k.word right
     → ((number : ℕ) → posts_of number left + posts_of number right ≡ posts_of number v) → holders left + holders right ≡ holders v
-    → Kept terms (record { words = s.words; homes = s.homes; views = set s.views id left ++ right ∷ [] })
+    → DeskRule terms (record { words = s.words; homes = s.homes; views = set s.views id left ++ right ∷ [] })
 split_kept terms s k id v left right at l r each one = record {
   history = k.history;
   word = k.word;
@@ -54,14 +47,14 @@ split_kept terms s k id v left right at l r each one = record {
 }
 
 spent_fits : (terms : Terms) (h : History) (word : ℕ) → ViewFits terms h word spent
-spent_fits terms h word = record { settled = λ e. absurd (false_is_no e); posts = λ i p e. absurd (some-ne-none p (sym e)); told = begins_empty h }
+spent_fits terms h word = record { settled = λ e. absurd (false_is_no e); posts = λ i p e. absurd (some-ne-none p (sym e)); noted = begins_empty h }
 
--- two places are put together to one that fits, with the posts of both
-pub join_kept : (terms : Terms) (s : Board) (k : Kept terms s) (id : ℕ) (v : View) (other : ℕ) (w both : View) → get_elem? s.views id ≡ maybe.some v
+-- two desk seats are put together to one that fits, with the posts of both
+pub join_kept : (terms : Terms) (s : Board) (k : DeskRule terms s) (id : ℕ) (v : View) (other : ℕ) (w both : View) → get_elem? s.views id ≡ maybe.some v
     → other ≢ id → get_elem? s.views other ≡ maybe.some w
     → ViewFits terms k.history k.word both
     → ((number : ℕ) → posts_of number both ≡ posts_of number v + posts_of number w) → holders both ≡ holders v + holders w
-    → Kept terms (record { words = s.words; homes = s.homes; views = set (set s.views id both) other spent })
+    → DeskRule terms (record { words = s.words; homes = s.homes; views = set (set s.views id both) other spent })
 join_kept terms s k id v other w both at apart at_other fits each one =
     let at_joined : get_elem? (set s.views id both) other ≡ maybe.some w = set_else s.views id other both apart ∙ at_other in record {
       history = k.history;
@@ -81,51 +74,51 @@ join_kept terms s k id v other w both at apart at_other fits each one =
       free = k.free;
     }
 
--- the place of a seat that was told a history
-abbrev pub informed : Terms → ℕ → History → ℕ → History → View
-informed t number seen count told = record (seated t number seen count false) { told = told }
+-- the view of a seat where a history is noted
+abbrev pub noting : Terms → ℕ → History → ℕ → History → View
+noting t number seen count noted = record (seated t number seen count false) { noted = noted }
 
-note_fits : (terms : Terms) (h : History) (word : ℕ) (t : Terms) (told : History) → t ≡ terms → BeginsWith h told → ViewFits terms h word (note t told)
-note_fits terms h word t told same begins = record { settled = λ _. same; posts = λ i p e. absurd (some-ne-none p (sym e)); told = begins }
+note_fits : (terms : Terms) (h : History) (word : ℕ) (t : Terms) (noted : History) → t ≡ terms → BeginsWith h noted → ViewFits terms h word (note t noted)
+note_fits terms h word t noted same begins = record { settled = λ _. same; posts = λ i p e. absurd (some-ne-none p (sym e)); noted = begins }
 
 -- a note of what a seat has seen
-pub tell_splits : (terms : Terms) (id : ℕ) (t : Terms) (number : ℕ) (seen : History) (count : ℕ)
-    → Splits (Kept terms) id (seated t number seen count false) (seated t number seen count false) (note t seen)
-tell_splits terms id t number seen count s k at =
+pub note_splits : (terms : Terms) (id : ℕ) (t : Terms) (number : ℕ) (seen : History) (count : ℕ)
+    → Splits (DeskRule terms) id (seated t number seen count false) (seated t number seen count false) (note t seen)
+note_splits terms id t number seen count s k at =
     let fits = k.views id (seated t number seen count false) at in
     split_kept terms s k id (seated t number seen count false) (seated t number seen count false) (note t seen) at fits
     (note_fits terms k.history k.word t seen (fits.settled refl) (fits.posts 0 (post number seen count false) refl).begins)
     (λ n. omega arith) (omega arith)
 
 -- it is handed to another seat
-pub inform_joins : (terms : Terms) (id : ℕ) (t : Terms) (number : ℕ) (seen : History) (count other : ℕ) (u : Terms) (told : History)
-    → Joins (Kept terms) id (seated t number seen count false) other (note u told) (informed t number seen count told) spent
-inform_joins terms id t number seen count other u told s k at apart at_other =
+pub read_joins : (terms : Terms) (id : ℕ) (t : Terms) (number : ℕ) (seen : History) (count other : ℕ) (u : Terms) (noted : History)
+    → Joins (DeskRule terms) id (seated t number seen count false) other (note u noted) (noting t number seen count noted) spent
+read_joins terms id t number seen count other u noted s k at apart at_other =
     let v : View = seated t number seen count false in
     let fits = k.views id v at in
-    let there : get_elem? s.views other ≡ maybe.some (note u told) = sym (set_else s.views id other (informed t number seen count told) apart) ∙ at_other in
-    join_kept terms s k id v other (note u told) (informed t number seen count told) at apart there
-    (record { settled = fits.settled; posts = fits.posts; told = (k.views other (note u told) there).told })
+    let there : get_elem? s.views other ≡ maybe.some (note u noted) = sym (set_else s.views id other (noting t number seen count noted) apart) ∙ at_other in
+    join_kept terms s k id v other (note u noted) (noting t number seen count noted) at apart there
+    (record { settled = fits.settled; posts = fits.posts; noted = (k.views other (note u noted) there).noted })
     (λ n. omega arith) (omega arith)
 
 -- and that one has seen the longer from then on
-pub meet_allowed : (terms : Terms) (st : Step (Option Held)) (id : ℕ) (t : Terms) (number : ℕ) (seen : History) (count : ℕ) (told : History)
-    → Allows (Kept terms) 1 id (informed t number seen count told, []) 0 (λ n. n) (meets st (informed t number seen count told, []))
-meet_allowed terms st id t number seen count told s k deep at small =
-    let v : View = informed t number seen count told in
+pub meet_allowed : (terms : Terms) (st : Step (Option Held)) (id : ℕ) (t : Terms) (number : ℕ) (seen : History) (count : ℕ) (noted : History)
+    → Allows (DeskRule terms) 1 id (noting t number seen count noted, []) 0 (λ n. n) (meets st (noting t number seen count noted, []))
+meet_allowed terms st id t number seen count noted s k deep at small =
+    let v : View = noting t number seen count noted in
     let fits = k.views id v at in
     let mine = fits.posts 0 (post number seen count false) refl in
     let same : t ≡ terms = fits.settled refl in
-    let long = longer_begins k.history seen told mine.begins fits.told in
-    let legal : IsLegal terms.seats (longer seen told) = legal_beginning terms.seats k.history (longer seen told) k.legal long.2 in
-    let own : own_count number (longer seen told) ≡ count = own_between number count k.history (longer seen told) seen long.2 long.0 mine.own mine.own_seen in
-    let w : View = seated t number (longer seen told) count false in
+    let long = longer_begins k.history seen noted mine.begins fits.noted in
+    let legal : IsLegal terms.seats (longer seen noted) = legal_beginning terms.seats k.history (longer seen noted) k.legal long.2 in
+    let own : own_count number (longer seen noted) ≡ count = own_between number count k.history (longer seen noted) seen long.2 long.0 mine.own mine.own_seen in
+    let w : View = seated t number (longer seen noted) count false in
     let found : k.word ≡ slice_index s.words 0 = sym (ap (λ (ws : List ℕ). slice_index ws 0) k.words) in
     let moved : Moved terms s id v w k.history k.word s.homes = record {
       at = at;
       legal = k.legal;
       limit = k.limit;
-      fits = of_one t (post number (longer seen told) count false) same (record { begins = long.2; own = mine.own; own_seen = own; holding = λ e. absurd (false_is_no e) });
+      fits = of_one t (post number (longer seen noted) count false) same (record { begins = long.2; own = mine.own; own_seen = own; holding = λ e. absurd (false_is_no e) });
       others = λ other u apart e. k.views other u e;
       each = λ _. refl;
       one = omega (arith, k.one);
@@ -135,15 +128,24 @@ meet_allowed terms st id t number seen count told s k deep at small =
       act_keeps,
       tt,
       word_stepped terms s k.word k.word (slice_index s.words 0) s.homes (set s.views id w) k.words found (moved_kept terms s k id v w k.history k.word s.homes moved),
-      (refl, long.0, long.1, rw same legal, own, rw same (omega (arith, begins_length k.history (longer seen told) long.2, k.limit))),
+      record {
+        history = longer seen noted;
+        is_longer = refl;
+        after = refl;
+        begins = long.0;
+        begins_other = long.1;
+        legal = rw same legal;
+        own = own;
+        limit = rw same (omega (arith, begins_length k.history (longer seen noted) long.2, k.limit));
+      },
     )
 
--- the first post goes to a place of its own
-pub deal_splits : (terms : Terms) (id : ℕ) (t : Terms) (p : Post) (ps : List Post) → Splits (Kept terms) id (keeping t (p ∷ ps)) (keeping t ps) (keeping t (p ∷ []))
+-- the first post goes to a desk seat of its own
+pub deal_splits : (terms : Terms) (id : ℕ) (t : Terms) (p : Post) (ps : List Post) → Splits (DeskRule terms) id (keeping t (p ∷ ps)) (keeping t ps) (keeping t (p ∷ []))
 deal_splits terms id t p ps s k at =
     let fits = k.views id (keeping t (p ∷ ps)) at in
     split_kept terms s k id (keeping t (p ∷ ps)) (keeping t ps) (keeping t (p ∷ [])) at
-    (record { settled = fits.settled; posts = λ i q e. fits.posts (suc i) q e; told = fits.told })
+    (record { settled = fits.settled; posts = λ i q e. fits.posts (suc i) q e; noted = fits.noted })
     (of_one t p (fits.settled refl) (fits.posts 0 p refl))
     (λ n. omega (arith, sum_by-cons (λ (q : Post). one_if (q.number == n)) p ps))
     (omega (arith, sum_by-cons (λ (q : Post). one_if q.holds) p ps))
@@ -153,21 +155,21 @@ at_joined [] ys i q e = inr (i, e)
 at_joined (x ∷ xs) ys zero q e = inl (zero, e)
 at_joined (x ∷ xs) ys (suc i) q e = elim (at_joined xs ys i q e) [ inl a ↦ inl (suc a.0, a.1) | inr b ↦ inr b ]
 
--- the posts of two places come together
+-- the posts of two desk seats come together
 pub gather_joins : (terms : Terms) (id : ℕ) (t : Terms) (ps : List Post) (other : ℕ) (u : Terms) (qs : List Post)
-    → Joins (Kept terms) id (keeping t ps) other (keeping u qs) (keeping t (ps ++ qs)) spent
+    → Joins (DeskRule terms) id (keeping t ps) other (keeping u qs) (keeping t (ps ++ qs)) spent
 gather_joins terms id t ps other u qs s k at apart at_other =
     let fits = k.views id (keeping t ps) at in
     let there : get_elem? s.views other ≡ maybe.some (keeping u qs) = sym (set_else s.views id other (keeping t (ps ++ qs)) apart) ∙ at_other in
     let theirs = k.views other (keeping u qs) there in
     join_kept terms s k id (keeping t ps) other (keeping u qs) (keeping t (ps ++ qs)) at apart there
-    (record { settled = fits.settled; posts = λ i q e. elim (at_joined ps qs i q e) [ inl a ↦ fits.posts a.0 q a.1 | inr b ↦ theirs.posts b.0 q b.1 ]; told = fits.told })
+    (record { settled = fits.settled; posts = λ i q e. elim (at_joined ps qs i q e) [ inl a ↦ fits.posts a.0 q a.1 | inr b ↦ theirs.posts b.0 q b.1 ]; noted = fits.noted })
     (λ n. sum_by-append (λ (q : Post). one_if (q.number == n)) ps qs)
     (sum_by-append (λ (q : Post). one_if q.holds) ps qs)
 
 -- the same, as the call has it
-pub tell_at : (key : Terms) (id : ℕ) (me : At) → IsAtRest me → Splits (Kept key) id me.0 me.0 (note me.0.terms (seen_of me.0))
-tell_at key id me rest = subst (λ (m : At). Splits (Kept key) id m.0 m.0 (note me.0.terms (seen_of me.0))) (sym rest) (tell_splits key id me.0.terms (number_of me.0) (seen_of me.0) (count_of me.0))
+pub note_at : (key : Terms) (id : ℕ) (me : At) → IsAtRest me → Splits (DeskRule key) id me.0 me.0 (note me.0.terms (seen_of me.0))
+note_at key id me rest = subst (λ (m : At). Splits (DeskRule key) id m.0 m.0 (note me.0.terms (seen_of me.0))) (sym rest) (note_splits key id me.0.terms (number_of me.0) (seen_of me.0) (count_of me.0))
 
 -- the first of the posts that are left
 fresh_first : (number n : ℕ) → number < n → fresh_posts number (n - number) ≡ post number [] 0 false ∷ fresh_posts (number + 1) (n - (number + 1))
@@ -176,7 +178,7 @@ fresh_first number n low =
     let next : suc number ≡ number + 1 = omega arith in
     ap (fresh_posts number) more ∙ ap (λ (k : ℕ). post number [] 0 false ∷ fresh_posts k (n - (number + 1))) next
 
--- a place that keeps those that are left
+-- a desk seat that keeps those that are left
 abbrev pub left_over : Terms → ℕ → ℕ → At
 left_over t number n = (keeping t (fresh_posts number (n - number)), [])
 
@@ -186,51 +188,52 @@ first_over t number n = (keeping t (post number [] 0 false ∷ fresh_posts (numb
 left_first : (me : At) (t : Terms) (number n : ℕ) → number < n → me ≡ left_over t number n → me ≡ first_over t number n
 left_first me t number n low is = is ∙ ap (λ (ps : List Post). (keeping t ps, [])) (fresh_first number n low)
 
--- the first of them goes to a place of its own, as the call has it
+-- the first of them goes to a desk seat of its own, as the call has it
 pub deal_at : (key : Terms) (id : ℕ) (me : At) (t : Terms) (number n : ℕ) → number < n → me ≡ left_over t number n
-    → Splits (Kept key) id me.0 (keeping me.0.terms (other_posts me.0.posts)) (keeping me.0.terms (first_post me.0.posts ∷ []))
+    → Splits (DeskRule key) id me.0 (keeping me.0.terms (other_posts me.0.posts)) (keeping me.0.terms (first_post me.0.posts ∷ []))
 deal_at key id me t number n low is =
-    subst (λ (m : At). Splits (Kept key) id m.0 (keeping m.0.terms (other_posts m.0.posts)) (keeping m.0.terms (first_post m.0.posts ∷ []))) (sym (left_first me t number n low is))
+    subst (λ (m : At). Splits (DeskRule key) id m.0 (keeping m.0.terms (other_posts m.0.posts)) (keeping m.0.terms (first_post m.0.posts ∷ []))) (sym (left_first me t number n low is))
     (deal_splits key id t (post number [] 0 false) (fresh_posts (number + 1) (n - (number + 1))))
 
 -- what is left then
 pub left_then : (me me' : At) (t : Terms) (number n : ℕ) → number < n → me ≡ left_over t number n → me' ≡ (keeping me.0.terms (other_posts me.0.posts), me.1) → me' ≡ left_over t (number + 1) n
 left_then me me' t number n low is then' = then' ∙ ap (λ (m : At). (keeping m.0.terms (other_posts m.0.posts), m.1)) (left_first me t number n low is)
 
--- and what the new place keeps
+-- and what the new one keeps
 pub dealt_then : (me me' : At) (t : Terms) (number n : ℕ) → number < n → me ≡ left_over t number n → me' ≡ (keeping me.0.terms (first_post me.0.posts ∷ []), []) → me' ≡ (seated t number [] 0 false, [])
 dealt_then me me' t number n low is then' = then' ∙ ap (λ (m : At). (keeping m.0.terms (first_post m.0.posts ∷ []), [])) (left_first me t number n low is)
 
 -- a note is handed over, as the call has it
-pub inform_at : (key : Terms) (id : ℕ) (me : At) (other : ℕ) (told : At) (u : Terms) (seen : History) → IsAtRest me → told.0 ≡ note u seen
-    → Joins (Kept key) id me.0 other told.0 (record me.0 { told = told.0.told }) spent
-inform_at key id me other told u seen rest is =
-    subst (λ (w : View). Joins (Kept key) id me.0 other w (record me.0 { told = w.told }) spent) (sym is)
-    (subst (λ (m : At). Joins (Kept key) id m.0 other (note u seen) (record m.0 { told = seen }) spent) (sym rest)
-    (inform_joins key id me.0.terms (number_of me.0) (seen_of me.0) (count_of me.0) other u seen))
+pub read_at : (key : Terms) (id : ℕ) (me : At) (other : ℕ) (noted : At) (u : Terms) (seen : History) → IsAtRest me → noted.0 ≡ note u seen
+    → Joins (DeskRule key) id me.0 other noted.0 (record me.0 { noted = noted.0.noted }) spent
+read_at key id me other noted u seen rest is =
+    subst (λ (w : View). Joins (DeskRule key) id me.0 other w (record me.0 { noted = w.noted }) spent) (sym is)
+    (subst (λ (m : At). Joins (DeskRule key) id m.0 other (note u seen) (record m.0 { noted = seen }) spent) (sym rest)
+    (read_joins key id me.0.terms (number_of me.0) (seen_of me.0) (count_of me.0) other u seen))
 
--- what was told is met, as the call has it
-pub meet_at : (key : Terms) (slots : ℕ) (st : Step (Option Held)) (id : ℕ) (me : At) (t : Terms) (number : ℕ) (seen : History) (count : ℕ) (told : History) → slots ≡ 1 → me ≡ (informed t number seen count told, [])
-    → Allows (Kept key) slots id me 0 (λ n. n) (meets st me)
-meet_at key slots st id me t number seen count told one is =
-    subst (λ (n : ℕ). Allows (Kept key) n id me 0 (λ n. n) (meets st me)) (sym one)
-    (subst (λ (m : At). Allows (Kept key) 1 id m 0 (λ n. n) (meets st m)) (sym is) (meet_allowed key st id t number seen count told))
+-- what is noted has been seen, as the call has it
+pub meet_at : (key : Terms) (slots : ℕ) (st : Step (Option Held)) (id : ℕ) (me : At) (t : Terms) (number : ℕ) (seen : History) (count : ℕ) (noted : History) → slots ≡ 1 → me ≡ (noting t number seen count noted, [])
+    → Allows (DeskRule key) slots id me 0 (λ n. n) (meets st me)
+meet_at key slots st id me t number seen count noted one is =
+    subst (λ (n : ℕ). Allows (DeskRule key) n id me 0 (λ n. n) (meets st me)) (sym one)
+    (subst (λ (m : At). Allows (DeskRule key) 1 id m 0 (λ n. n) (meets st m)) (sym is) (meet_allowed key st id t number seen count noted))
 
--- a seat's place that was told, as the call leaves it
-pub told_then : (me me' told : At) (u : Terms) (seen : History) → IsAtRest me → told ≡ (note u seen, []) → me' ≡ (record me.0 { told = told.0.told }, me.1) → me' ≡ (informed me.0.terms (number_of me.0) (seen_of me.0) (count_of me.0) seen, [])
-told_then me me' told u seen rest is then' = then' ∙ (λ i. (record (rest i).0 { told = (is i).0.told }, (rest i).1))
+-- a seat where a history was noted, as the call leaves it
+pub noted_then : (me me' noted : At) (u : Terms) (seen : History) → IsAtRest me → noted ≡ (note u seen, []) → me' ≡ (record me.0 { noted = noted.0.noted }, me.1) → me' ≡ (noting me.0.terms (number_of me.0) (seen_of me.0) (count_of me.0) seen, [])
+noted_then me me' noted u seen rest is then' = then' ∙ (λ i. (record (rest i).0 { noted = (is i).0.noted }, (rest i).1))
 
--- and what it tells when it has met
-pub met_then : (st : Step (Option Held)) (found : ℕ) (me me' : At) (t : Terms) (number : ℕ) (seen : History) (count : ℕ) (told : History) → me ≡ (informed t number seen count told, []) → meets st me found me'
-    → meets st (informed t number seen count told, []) found me'
-met_then st found me me' t number seen count told is told' = subst (λ (m : At). meets st m found me') is told'
+-- and it has caught up then
+pub met_then : (st : Step (Option Held)) (found : ℕ) (me was me' : At) (noted : History) → was ≡ (noting me.0.terms (number_of me.0) (seen_of me.0) (count_of me.0) noted, []) → meets st was found me' → CatchesUp me me' noted
+met_then st found me was me' noted is met =
+    let m : CatchesUp (noting me.0.terms (number_of me.0) (seen_of me.0) (count_of me.0) noted, []) me' noted = subst (λ (x : At). meets st x found me') is met in
+    record { history = m.history; is_longer = m.is_longer; after = m.after; begins = m.begins; begins_other = m.begins_other; legal = m.legal; own = m.own; limit = m.limit }
 
--- two places come together, as the call has it
+-- two desk seats come together, as the call has it
 pub gather_at : (key : Terms) (id : ℕ) (v : View) (other : ℕ) (w : View) (t u : Terms) (ps qs : List Post) → v ≡ keeping t ps → w ≡ keeping u qs
-    → Joins (Kept key) id v other w (keeping v.terms (v.posts ++ w.posts)) spent
+    → Joins (DeskRule key) id v other w (keeping v.terms (v.posts ++ w.posts)) spent
 gather_at key id v other w t u ps qs is iw =
-    subst (λ (x : View). Joins (Kept key) id x other w (keeping x.terms (x.posts ++ w.posts)) spent) (sym is)
-    (subst (λ (y : View). Joins (Kept key) id (keeping t ps) other y (keeping t (ps ++ y.posts)) spent) (sym iw) (gather_joins key id t ps other u qs))
+    subst (λ (x : View). Joins (DeskRule key) id x other w (keeping x.terms (x.posts ++ w.posts)) spent) (sym is)
+    (subst (λ (y : View). Joins (DeskRule key) id (keeping t ps) other y (keeping t (ps ++ y.posts)) spent) (sym iw) (gather_joins key id t ps other u qs))
 
 get_middle : {X : Type 0} (xs ys : List X) (x : X) → slice_index_or ((xs ++ x ∷ []) ++ ys) (length xs) x ≡ x
 get_middle [] ys x = refl

@@ -1,6 +1,6 @@
 -- Taking the desk, and giving it back.
-use Rattle.std.proofs.Common.{◌≡◌, ◌≢◌, ◌⊎◌, ◌∙◌, inl, inr, refl, sym, ap, subst, Bool, true, false, ℕ, zero, suc, ◌+◌, ◌^◌, ◌<◌, ◌≤◌, List, [], ◌∷◌, ◌++◌, length, set, append_assoc, append-nil, arith, slice_index, ne_eqb}
-use Rattle.std.specs.Prelude.{Option, Some, None, ◌==◌, nat_lt, if◌then◌else◌}
+use Rattle.std.proofs.Common.{◌≡◌, ◌≢◌, ◌⊎◌, ◌∙◌, inl, inr, refl, sym, ap, subst, Bool, true, false, ℕ, zero, suc, ◌+◌, ◌<◌, ◌≤◌, List, [], ◌∷◌, ◌++◌, length, set, append-nil, arith, slice_index, ne_eqb}
+use Rattle.std.specs.Prelude.{Option, Some, None, ◌==◌, nat_lt}
 use Rattle.std.specs.List.{sum_by}
 use mathlib.Core.Option as maybe
 use mathlib.Core.Option.{some-injective, some-ne-none}
@@ -9,38 +9,29 @@ use prog.Atomic.{either}
 use Rattle.std.proofs.lemmas.Bool.{lt-ltb}
 use Rattle.std.proofs.lemmas.Bool.Decides.{nat_tests}
 use Rattle.atomic_table.proofs.Lists.{set_again}
-use Rattle.atomic_table.specs.Table.{State, Step, Me, Act, takes as act_takes, keeps as act_keeps, gives as act_gives, Allows, Valid, stepped, carried_after, rest}
-use Rattle.tsc_cache.specs.CacheView.{StandsForState}
-use Rattle.tsc_cache.specs.declared.history.Entry.{Entry}
-use Rattle.tsc_cache.specs.History.{History, own_count, BeginsWith, IsLegal, IsNext, IsMadeEntry}
+use Rattle.atomic_table.specs.Table.{Step, Act, takes as act_takes, keeps as act_keeps, gives as act_gives, Allows, Valid, stepped, carried_after, rest}
+use Rattle.tsc_cache.specs.History.{History, own_count, IsLegal}
 use Rattle.tsc_shared.specs.declared.board.Terms.{Terms}
 use Rattle.tsc_shared.specs.declared.board.Pending.{Pending}
 use Rattle.tsc_shared.specs.declared.board.Held.{Held}
-use Rattle.tsc_shared.specs.declared.board.Post.{Post}
 use Rattle.tsc_shared.specs.declared.board.View.{View}
-use Rattle.tsc_shared.specs.Desk.{post, keeping, one_if, Kept, ViewFits, PostFits, IsAfter, posts_of, holders}
-use Rattle.tsc_shared.specs.Places.{IsAtRest, IsHolding}
-use Rattle.tsc_shared.specs.DeskSteps.{number_of, seen_of, count_of, seated, Holds, takes, gives, given, new_entries, entry_of, pending_of, IsMade}
-use Rattle.tsc_shared.proofs.Prefixes.{begins_itself, begins_empty, begins_more, begins_on, own_append, own_of_one, own_of_other, legal_push}
-use Rattle.tsc_shared.proofs.Totals.{part, two_parts, total_set}
-use Rattle.tsc_shared.proofs.DeskMoves.{Moved, moved_kept, of_one, any_word, more_of_another, same_number}
+use Rattle.tsc_shared.specs.Desk.{post, one_if, DeskRule, ViewFits, PostFits, IsAfter, posts_of, holders}
+use Rattle.tsc_shared.specs.AtDesk.{IsAtRest, IsHolding}
+use Rattle.tsc_shared.specs.DeskSteps.{At, number_of, seen_of, count_of, seated, takes, gives, new_entries, entry_of, IsMade}
+use Rattle.tsc_shared.proofs.Prefixes.{begins_itself, own_append, own_of_one, own_of_other, legal_push}
+use Rattle.tsc_shared.proofs.Totals.{part, two_parts}
+use Rattle.tsc_shared.proofs.DeskMoves.{Board, Moved, moved_kept, of_one, any_word, more_of_another, same_number}
 
-abbrev Board : Type 0
-Board = State (Option Held) View
-
-abbrev At : Type 0
-At = Me (Option Held) View
-
--- what the seat at a place is
+-- the post of a seat fits where its view does
 pub seated_fits : (terms : Terms) (h : History) (word : ℕ) (t : Terms) (number : ℕ) (seen : History) (count : ℕ) (holds : Bool)
     → ViewFits terms h word (seated t number seen count holds) → PostFits h word (post number seen count holds)
 seated_fits terms h word t number seen count holds fits = fits.posts 0 (post number seen count holds) refl
 
 -- the desk after a step on its word
 pub word_stepped : (terms : Terms) (s : Board) (word n m : ℕ) (homes : List (maybe.Option (Option Held))) (views : List View) → s.words ≡ word ∷ [] → n ≡ m
-    → Kept terms (record { words = n ∷ []; homes = homes; views = views }) → Kept terms (record { words = set s.words 0 m; homes = homes; views = views })
-word_stepped terms s word n m homes views is same k = subst (λ (ws : List ℕ). Kept terms (record { words = set ws 0 m; homes = homes; views = views })) (sym is)
-    (subst (λ (x : ℕ). Kept terms (record { words = x ∷ []; homes = homes; views = views })) same k)
+    → DeskRule terms (record { words = n ∷ []; homes = homes; views = views }) → DeskRule terms (record { words = set s.words 0 m; homes = homes; views = views })
+word_stepped terms s word n m homes views is same k = subst (λ (ws : List ℕ). DeskRule terms (record { words = set ws 0 m; homes = homes; views = views })) (sym is)
+    (subst (λ (x : ℕ). DeskRule terms (record { words = x ∷ []; homes = homes; views = views })) same k)
 
 pub false_is_no : false ≡ true → ⊥
 false_is_no e = omega (arith, ap one_if e)
@@ -63,17 +54,17 @@ pub busy_word : (n : ℕ) → n ≢ 0 → one_if (nat_lt 0 n) ≡ 1
 busy_word n some = ap one_if (lt-ltb 0 n (omega arith))
 
 -- a step that changes nothing keeps the rule
-unmoved : (terms : Terms) (s : Board) (k : Kept terms s) (id : ℕ) (v : View) (m : ℕ) → get_elem? s.views id ≡ maybe.some v → k.word ≡ m
-    → Kept terms (record { words = set s.words 0 m; homes = s.homes; views = set s.views id v })
-unmoved terms s k id v m at same = subst (λ (vs : List View). Kept terms (record { words = set s.words 0 m; homes = s.homes; views = vs })) (sym (set_again s.views id v at))
-    (word_stepped terms s k.word k.word m s.homes s.views k.words same (subst (λ (ws : List ℕ). Kept terms (record { words = ws; homes = s.homes; views = s.views })) k.words k))
+unmoved : (terms : Terms) (s : Board) (k : DeskRule terms s) (id : ℕ) (v : View) (m : ℕ) → get_elem? s.views id ≡ maybe.some v → k.word ≡ m
+    → DeskRule terms (record { words = set s.words 0 m; homes = s.homes; views = set s.views id v })
+unmoved terms s k id v m at same = subst (λ (vs : List View). DeskRule terms (record { words = set s.words 0 m; homes = s.homes; views = vs })) (sym (set_again s.views id v at))
+    (word_stepped terms s k.word k.word m s.homes s.views k.words same (subst (λ (ws : List ℕ). DeskRule terms (record { words = ws; homes = s.homes; views = s.views })) k.words k))
 
 module _ (terms : Terms) (st : Step (Option Held)) (id : ℕ) (t : Terms) (number : ℕ) (seen : History) (count : ℕ) where
   abbrev Goes : Board → (ℕ → ℕ) → ℕ → Type 0
-  Goes s f found = (w : View) × (a : Act (Option Held)) × Valid s.homes [] a × Kept terms (stepped s 0 (f found) id [] w a) × takes st (seated t number seen count false, []) found (w, carried_after [] a)
+  Goes s f found = (w : View) × (a : Act (Option Held)) × Valid s.homes [] a × DeskRule terms (stepped s 0 (f found) id [] w a) × takes st (seated t number seen count false, []) found (w, carried_after [] a)
 
   -- where the desk is free
-  take_free : (s : Board) (k : Kept terms s) → get_elem? s.views id ≡ maybe.some (seated t number seen count false) → k.word ≡ 0 → Goes s (λ n. either (n == 0) (number + 1) n) k.word
+  take_free : (s : Board) (k : DeskRule terms s) → get_elem? s.views id ≡ maybe.some (seated t number seen count false) → k.word ≡ 0 → Goes s (λ n. either (n == 0) (number + 1) n) k.word
   take_free s k at free =
       let here = k.free free in
       let mine = seated_fits terms k.history k.word t number seen count false (k.views id _ at) in
@@ -101,7 +92,7 @@ module _ (terms : Terms) (st : Step (Option Held)) (id : ℕ) (t : Terms) (numbe
       )
 
   -- where another holds it
-  take_held : (s : Board) (k : Kept terms s) → get_elem? s.views id ≡ maybe.some (seated t number seen count false) → k.word ≢ 0 → Goes s (λ n. either (n == 0) (number + 1) n) k.word
+  take_held : (s : Board) (k : DeskRule terms s) → get_elem? s.views id ≡ maybe.some (seated t number seen count false) → k.word ≢ 0 → Goes s (λ n. either (n == 0) (number + 1) n) k.word
   take_held s k at held = (
     seated t number seen count false,
     act_keeps,
@@ -110,7 +101,7 @@ module _ (terms : Terms) (st : Step (Option Held)) (id : ℕ) (t : Terms) (numbe
     ((λ free. absurd (held free)), (λ _. refl)),
   )
 
-  pub take_allowed : Allows (Kept terms) 1 id (seated t number seen count false, []) 0 (λ n. either (n == 0) (number + 1) n) (takes st (seated t number seen count false, []))
+  pub take_allowed : Allows (DeskRule terms) 1 id (seated t number seen count false, []) 0 (λ n. either (n == 0) (number + 1) n) (takes st (seated t number seen count false, []))
   take_allowed s k deep at small =
       let found : k.word ≡ slice_index s.words 0 = sym (ap (λ (ws : List ℕ). slice_index ws 0) k.words) in
       subst (Goes s (λ n. either (n == 0) (number + 1) n)) found (elim (zero_or_not k.word) [ inl free ↦ take_free s k at free | inr held ↦ take_held s k at held ])
@@ -141,7 +132,7 @@ module _ (terms : Terms) (st : Step (Option Held)) (id : ℕ) (t : Terms) (numbe
 
   -- the desk is given back with a longer history, after which lies what is laid there
   pub give_allowed : IsMade held.pending → length (h ++ es) ≤ t.limit → IsAfter t (h ++ es) held
-      → Allows (Kept terms) 1 id (seated t number h count true, (0, Some held) ∷ []) 0 (λ _. 0) (λ _. gives st (seated t number h count true, (0, Some held) ∷ []) 0)
+      → Allows (DeskRule terms) 1 id (seated t number h count true, (0, Some held) ∷ []) 0 (λ _. 0) (λ _. gives st (seated t number h count true, (0, Some held) ∷ []) 0)
   give_allowed made within after s k deep at small =
       let v : View = seated t number h count true in
       let mine = seated_fits terms k.history k.word t number h count true (k.views id v at) in
@@ -177,21 +168,21 @@ module _ (terms : Terms) (st : Step (Option Held)) (id : ℕ) (t : Terms) (numbe
 
 -- the same, as the calls have it
 pub take_at : (key : Terms) (slots : ℕ) (st : Step (Option Held)) (id number : ℕ) (me : At) → slots ≡ 1 → IsAtRest me → number ≡ number_of me.0
-    → Allows (Kept key) slots id me 0 (λ n. either (n == 0) (number + 1) n) (takes st me)
+    → Allows (DeskRule key) slots id me 0 (λ n. either (n == 0) (number + 1) n) (takes st me)
 take_at key slots st id number me one rest is =
-    subst (λ (n : ℕ). Allows (Kept key) n id me 0 (λ n. either (n == 0) (number + 1) n) (takes st me)) (sym one)
-    (subst (λ (n : ℕ). Allows (Kept key) 1 id me 0 (λ m. either (m == 0) (n + 1) m) (takes st me)) (sym is)
-    (subst (λ (m : At). Allows (Kept key) 1 id m 0 (λ n. either (n == 0) (number_of me.0 + 1) n) (takes st m)) (sym rest)
+    subst (λ (n : ℕ). Allows (DeskRule key) n id me 0 (λ n. either (n == 0) (number + 1) n) (takes st me)) (sym one)
+    (subst (λ (n : ℕ). Allows (DeskRule key) 1 id me 0 (λ m. either (m == 0) (n + 1) m) (takes st me)) (sym is)
+    (subst (λ (m : At). Allows (DeskRule key) 1 id m 0 (λ n. either (n == 0) (number_of me.0 + 1) n) (takes st m)) (sym rest)
     (take_allowed key st id me.0.terms (number_of me.0) (seen_of me.0) (count_of me.0))))
 
 pub give_at : (key : Terms) (slots : ℕ) (st : Step (Option Held)) (id : ℕ) (me me' : At) (held : Held) → slots ≡ 1 → IsHolding me → me' ≡ (me.0, (0, Some held) ∷ rest me.1)
     → IsMade held.pending → length (seen_of me.0 ++ new_entries (number_of me.0) (count_of me.0) held.pending) ≤ me.0.terms.limit
     → IsAfter me.0.terms (seen_of me.0 ++ new_entries (number_of me.0) (count_of me.0) held.pending) held
-    → Allows (Kept key) slots id me' 0 (λ _. 0) (λ _. gives st me' 0)
+    → Allows (DeskRule key) slots id me' 0 (λ _. 0) (λ _. gives st me' 0)
 give_at key slots st id me me' held one holding laid made within after =
     let whole : me' ≡ (seated me.0.terms (number_of me.0) (seen_of me.0) (count_of me.0) true, (0, Some held) ∷ []) = laid ∙ (λ i. ((holding i).0, (0, Some held) ∷ rest (holding i).1)) in
-    subst (λ (n : ℕ). Allows (Kept key) n id me' 0 (λ _. 0) (λ _. gives st me' 0)) (sym one)
-    (subst (λ (m : At). Allows (Kept key) 1 id m 0 (λ _. 0) (λ _. gives st m 0)) (sym whole)
+    subst (λ (n : ℕ). Allows (DeskRule key) n id me' 0 (λ _. 0) (λ _. gives st me' 0)) (sym one)
+    (subst (λ (m : At). Allows (DeskRule key) 1 id m 0 (λ _. 0) (λ _. gives st m 0)) (sym whole)
     (give_allowed key st id me.0.terms (number_of me.0) (seen_of me.0) (count_of me.0) held made within after))
 
 -- what lay on the desk is the first that is in hand

@@ -1,13 +1,14 @@
 //! The desk: what lies on it, and what is known of those who take it in turns.
 //!
-//! The *desk* is a table of `atomic_table` with one word and one slot, and a *place* is a seat of that table.
-//! What a place knows is its *view*: the *posts* of the seats that it keeps, and a history that it was told. Our
-//! seats keep one post each. A *note* keeps none and was told a history, and a front is a note.
+//! The *desk* is a table of `atomic_table` with one word and one slot, and a *desk seat* is a seat of that table.
+//! What a desk seat knows is its *view*: the *posts* of the cache's seats that it keeps, and the history that is
+//! noted there. Each seat of the cache has a desk seat that keeps its post. A *note* is a desk seat that keeps no
+//! post and notes a history, and a front is a note.
 //!
-//! Between any two steps of any threads there is one legal history, within the limit. All that anybody has seen
-//! or was told is a beginning of it, with all Adds of that seat. Each seat has one post, and who holds the desk
-//! has seen all. Where the word is 0, nobody holds it, and the cache in the slot stands for the state of that
-//! history. `specs/Desk.antt` says it in full.
+//! Between any two steps of any threads there is one legal history, within the limit. All that a seat has seen
+//! is a beginning of it, with all Adds of that seat, and so is all that is noted. Each seat has one post, and who
+//! holds the desk has seen all. Where the word is 0, nobody holds it, and the cache in the slot stands for the
+//! state of that history. `specs/Desk.antt` says it in full.
 use atomic_table::{Seat as TableSeat, Shared, Table, TableRule};
 use std::alloc::Global;
 use std::collections::LinkedList;
@@ -16,7 +17,7 @@ use tsc_cache::{Cache, Config, Entry};
 use tsc_span::Span;
 use tsc_time::{Timestamp, Value};
 
-/// What was settled when a cache was opened. Contracts name it; no call takes or gives one.
+/// What was settled when a cache was opened.
 #[derive(Clone, Copy, Debug)]
 pub struct Terms {
     /// How the cache is set up.
@@ -54,22 +55,22 @@ pub struct Post {
     pub holds: bool,
 }
 
-/// What a place at the desk knows: the posts that it keeps, and what it was told. No value of it is made.
+/// What a desk seat knows: the posts that it keeps, and the history that is noted there. No value of it is made.
 pub struct View {
-    /// No longer once the place was joined to another.
+    /// No longer once it was joined to another.
     pub live: bool,
     pub terms: Terms,
     pub posts: LinkedList<Post>,
-    pub told: LinkedList<Entry>,
+    pub noted: LinkedList<Entry>,
 }
 
 /// One holds the desk at a time, and all that anybody has seen is a beginning of one history.
 pub struct Turns;
 
 impl TableRule<Option<Held>, View, Terms> for Turns {
-    ghost use Rattle.tsc_shared.specs.Desk.{Kept, first_view};
+    ghost use Rattle.tsc_shared.specs.Desk.{DeskRule, first_view};
 
-    ghost holds = { Kept };
+    ghost holds = { DeskRule };
 
     ghost first = { first_view };
 }
@@ -81,5 +82,5 @@ pub type Desk = Table<Option<Held>, View, Terms, Turns, Global>;
 /// The desk as threads share it.
 pub type SharedDesk = Shared<Option<Held>, View, Terms, Turns>;
 
-/// A place at the desk.
-pub type Place = TableSeat<Option<Held>, View>;
+/// A seat of the desk's table.
+pub type DeskSeat = TableSeat<Option<Held>, View>;

@@ -21,7 +21,6 @@ mod steps;
 mod tests;
 
 pub use answers::{AddFault, Answer, Closed, Gone, LowWater, OpenFault, Receipt, StillOut};
-pub use board::Terms;
 pub use gate::{Gate, NoGate};
 pub use seat::{Front, Seat};
 pub use shared::SharedCache;

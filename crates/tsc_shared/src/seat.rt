@@ -2,7 +2,7 @@ ghost use Rattle.std.specs.Prelude.{◌≡◌, length};
 ghost use Rattle.tsc_cache.specs.History.{own_count};
 ghost use Rattle.tsc_shared.specs.Seats.{IsSeat, IsFront};
 
-use crate::board::Place;
+use crate::board::DeskSeat;
 use std::marker::Model;
 
 /// A caller's token at a shared cache, by which it adds and looks.
@@ -12,25 +12,22 @@ use std::marker::Model;
 /// be copied, and one that is dropped makes closing impossible.
 #[derive(Drop)]
 pub struct Seat {
-    pub(crate) place: Place,
+    pub(crate) at_desk: DeskSeat,
     pub(crate) number: u32,
     pub(crate) count: u64,
     pub(crate) seen: u64,
 }
 
 impl Model for Seat {
-    ghost use Rattle.std.specs.Prelude.{◌≡◌, length};
     ghost use Rattle.tsc_shared.specs.Seats.{SeatView};
 
     ghost Value = { SeatView };
 
-    ghost use Rattle.tsc_shared.specs.Seats.{IsSeat};
-    ghost use Rattle.tsc_shared.specs.DeskSteps.{number_of, seen_of, count_of};
-    ghost use Rattle.tsc_shared.specs.Places.{IsAtRest, seat_view};
+    ghost use Rattle.tsc_shared.specs.AtDesk.{seat_view, KeepsSeat};
 
-    ghost view = { λ s. seat_view s.place };
+    ghost view = { λ s. seat_view s.at_desk };
 
-    ghost invariant = { λ s. IsAtRest s.place.me × (s.number ≡ number_of s.place.me.0) × (s.count ≡ count_of s.place.me.0) × (s.seen ≡ length (seen_of s.place.me.0)) × IsSeat (seat_view s.place) };
+    ghost invariant = { λ s. KeepsSeat s.at_desk s.number s.count s.seen };
 }
 
 impl Seat {
@@ -62,7 +59,7 @@ impl Seat {
 /// A history that was seen, to be shown to others. So far only its length can be asked. It cannot be copied.
 #[derive(Drop)]
 pub struct Front {
-    pub(crate) place: Place,
+    pub(crate) at_desk: DeskSeat,
     pub(crate) seen: u64,
 }
 
@@ -73,11 +70,11 @@ impl Model for Front {
     ghost Value = { FrontView };
 
     ghost use Rattle.tsc_shared.specs.Seats.{IsFront};
-    ghost use Rattle.tsc_shared.specs.Places.{IsNote, front_view};
+    ghost use Rattle.tsc_shared.specs.AtDesk.{IsNote, front_view};
 
-    ghost view = { λ f. front_view f.place };
+    ghost view = { λ f. front_view f.at_desk };
 
-    ghost invariant = { λ f. IsNote f.place.me × (f.seen ≡ length f.place.me.0.told) × IsFront (front_view f.place) };
+    ghost invariant = { λ f. IsNote f.at_desk.me × (f.seen ≡ length f.at_desk.me.0.noted) × IsFront (front_view f.at_desk) };
 }
 
 impl Front {

@@ -1,10 +1,10 @@
 ghost use Rattle.std.specs.Prelude.{◌≡◌, ◌<◌, IsOk, IfOk, IfErr, OnErr, All, length, ◌↔◌};
-ghost use Rattle.tsc_shared.specs.Answers.{Opens, open_fault, GoesOn, Accepts, Refuses, RefusedFor, Looks, IsAbove, Tells, Meets, Closes};
+ghost use Rattle.tsc_shared.specs.Answers.{Opens, open_fault, GoesOn, Accepts, Refuses, RefusedFor, Looks, IsAbove, ReadsFloor, Meets, Closes};
 
 use crate::answers::{AddFault, Answer, Closed, Gone, LowWater, OpenFault, Receipt, StillOut};
 use crate::board::{Desk, Held, Pending, Terms};
-use crate::closing::{clear, gather, inform};
-use crate::desk::{give, give_back, take, tell};
+use crate::closing::{catch_up, end_desk, gather};
+use crate::desk::{front_of, give, give_back, take};
 use crate::opening::{new_desk, seat_all};
 use crate::seat::Seat;
 use std::alloc::Global;
@@ -28,11 +28,13 @@ pub struct SharedCache {
 
 impl Model for SharedCache {
     ghost use Rattle.std.specs.Prelude.{◌≡◌, ◌≤◌};
-    ghost use Rattle.tsc_shared.specs.Seats.{CacheName};
+    ghost use Rattle.tsc_shared.specs.Seats.{SharedView};
 
-    ghost Value = { CacheName };
+    ghost Value = { SharedView };
 
-    ghost view = { λ c. record { table = c.desk.shared.table_id; terms = c.terms } };
+    ghost use Rattle.tsc_shared.specs.AtDesk.{shared_view};
+
+    ghost view = { λ c. shared_view c.desk.shared.table_id c.terms };
 
     ghost invariant = { λ c. (c.desk.shared.table_id.words ≡ 1) × (c.desk.shared.table_id.slots ≡ 1) × (c.desk.shared.key ≡ c.terms) × (1 ≤ c.terms.seats) };
 }
@@ -52,7 +54,7 @@ impl SharedCache {
         seats: u32,
         history_limit: u64,
     ) -> Result<(SharedCache, Vec<Seat>), OpenFault>
-        ensures opened { IfOk result (λ opened. Opens (record { config = config; seats = seats; limit = history_limit }) opened.0 opened.1.items) }
+        ensures opened { IfOk result (λ opened. Opens config seats history_limit opened.0 opened.1.items) }
         ensures refused { IfErr result (λ fault. fault ≡ open_fault seats) }
     {
         if !(1..=MOST_SEATS).contains(&seats) {
@@ -92,14 +94,14 @@ impl SharedCache {
         ensures why { IfErr result (λ fault. RefusedFor seat.old seat.new fault) }
     {
         let desk = &self.desk.shared;
-        let mut held = take(rt, desk, &mut seat.place, seat.number);
+        let mut held = take(rt, desk, &mut seat.at_desk, seat.number);
         let place = held.length;
         if place >= self.terms.limit {
-            seat.seen = give_back(desk, &mut seat.place, held);
-            return Err(AddFault::HistoryFull(tell(desk, &mut seat.place, seat.seen)));
+            seat.seen = give_back(desk, &mut seat.at_desk, held);
+            return Err(AddFault::HistoryFull(front_of(desk, &mut seat.at_desk, seat.seen)));
         }
         let Ok(added) = held.cache.add(span, value, now) else {
-            seat.seen = give_back(desk, &mut seat.place, held);
+            seat.seen = give_back(desk, &mut seat.at_desk, held);
             return Err(AddFault::NoMemory);
         };
         can_be_added(span, value, now);
@@ -113,10 +115,10 @@ impl SharedCache {
             pending: Some(pending),
             ..held
         };
-        give(desk, &mut seat.place, held);
+        give(desk, &mut seat.at_desk, held);
         seat.count += 1;
         seat.seen = place + 1;
-        let front = tell(desk, &mut seat.place, seat.seen);
+        let front = front_of(desk, &mut seat.at_desk, seat.seen);
         Ok(Receipt {
             place,
             added,
@@ -136,9 +138,9 @@ impl SharedCache {
         ensures above { IfOk result (λ answer. IsAbove seat.new span.now answer.value) }
     {
         let desk = &self.desk.shared;
-        let held = take(rt, desk, &mut seat.place, seat.number);
+        let held = take(rt, desk, &mut seat.at_desk, seat.number);
         let value = held.cache.get_max(span);
-        seat.seen = give_back(desk, &mut seat.place, held);
+        seat.seen = give_back(desk, &mut seat.at_desk, held);
         Ok(Answer {
             value,
             front: seat.seen,
@@ -151,12 +153,12 @@ impl SharedCache {
     pub fn low_water<R: Wait>(&self, rt: &R, seat: &mut Seat) -> Result<LowWater, Gone>
         requires cache { seat.old.cache ≡ self.now }
         ensures answered { IsOk result }
-        ensures told { IfOk result (λ answer. Tells seat.old seat.new answer) }
+        ensures floor { IfOk result (λ answer. ReadsFloor seat.old seat.new answer) }
     {
         let desk = &self.desk.shared;
-        let held = take(rt, desk, &mut seat.place, seat.number);
+        let held = take(rt, desk, &mut seat.at_desk, seat.number);
         let time = held.cache.low_water();
-        seat.seen = give_back(desk, &mut seat.place, held);
+        seat.seen = give_back(desk, &mut seat.at_desk, held);
         Ok(LowWater {
             time,
             front: seat.seen,
@@ -174,8 +176,8 @@ impl SharedCache {
         ensures met { IfOk result (λ met. Meets first.old second.old first.new second.new met) }
     {
         let desk = &self.desk.shared;
-        inform(desk, &mut first.place, &mut second.place);
-        inform(desk, &mut second.place, &mut first.place);
+        catch_up(desk, &mut first.at_desk, &mut second.at_desk);
+        catch_up(desk, &mut second.at_desk, &mut first.at_desk);
         let met = first.seen.max(second.seen);
         first.seen = met;
         second.seen = met;
@@ -189,7 +191,7 @@ impl SharedCache {
     pub fn close<R: Wait>(self, _rt: &R, seats: Vec<Seat>) -> Result<Closed, StillOut>
         requires seats { All (λ seat. seat.cache ≡ self) seats.items }
         ensures closed { IfOk result (λ closed. Closes self seats.items closed) }
-        ensures exactly { IsOk result ↔ (length seats.items ≡ self.terms.seats) }
+        ensures exactly { IsOk result ↔ (length seats.items ≡ self.seats) }
         ensures still_out { IfErr result (λ out. (out.cache ≡ self) × (out.seats.items ≡ seats.items)) }
     {
         if seats.len() != self.terms.seats as usize {
@@ -199,7 +201,7 @@ impl SharedCache {
         let Some(all) = gather(&desk.shared, seats) else {
             unreachable!()
         };
-        let held = clear(desk, all);
+        let held = end_desk(desk, all);
         Ok(Closed {
             cache: held.cache,
             adds: held.length,

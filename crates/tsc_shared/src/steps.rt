@@ -1,4 +1,4 @@
-//! What each step at the desk tells.
+//! The steps at the desk.
 use crate::board::{Held, View};
 use atomic_table::{Join, Play, Split};
 
@@ -20,7 +20,7 @@ impl Play<Option<Held>, View> for Give {
     ghost then = { gives };
 }
 
-/// Takes in what a seat was told.
+/// A seat has seen what is noted at its desk seat, where that is longer.
 pub(crate) struct Meet;
 
 impl Play<Option<Held>, View> for Meet {
@@ -29,7 +29,7 @@ impl Play<Option<Held>, View> for Meet {
     ghost then = { meets };
 }
 
-/// The first post goes to a place of its own.
+/// The first post goes to a desk seat of its own.
 pub(crate) struct Deal;
 
 impl Split<View> for Deal {
@@ -43,9 +43,9 @@ impl Split<View> for Deal {
 }
 
 /// What a seat has seen goes to a note.
-pub(crate) struct Tell;
+pub(crate) struct WriteNote;
 
-impl Split<View> for Tell {
+impl Split<View> for WriteNote {
     ghost use Rattle.tsc_shared.specs.DeskSteps.{note, seen_of};
 
     ghost left = { λ v. v };
@@ -53,7 +53,7 @@ impl Split<View> for Tell {
     ghost right = { λ v. note v.terms (seen_of v) };
 }
 
-/// The posts of two places come together.
+/// The posts of two desk seats come together.
 pub(crate) struct Gather;
 
 impl Join<View> for Gather {
@@ -66,13 +66,13 @@ impl Join<View> for Gather {
     ghost spent = { spent };
 }
 
-/// A place is told what a note says.
-pub(crate) struct Inform;
+/// What a note says is noted at another desk seat.
+pub(crate) struct ReadNote;
 
-impl Join<View> for Inform {
+impl Join<View> for ReadNote {
     ghost use Rattle.tsc_shared.specs.DeskSteps.{spent};
 
-    ghost both = { λ v w. record v { told = w.told } };
+    ghost both = { λ v w. record v { noted = w.noted } };
 
     ghost spent = { spent };
 }
