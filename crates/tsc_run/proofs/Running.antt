@@ -5,7 +5,7 @@ use Rattle.std.proofs.lemmas.List.Sums.{sum_by-append, sum_by-cons}
 use Rattle.std.proofs.lemmas.List.Elements.{All-cons, All-nil}
 use Rattle.tsc_json.specs.Lists.{most_calls}
 use Rattle.std.proofs.lemmas.List.{drop_all}
-use Rattle.tsc_shared.specs.Seats.{CacheName, SeatView, new_seat, new_seats}
+use Rattle.tsc_shared.specs.Seats.{SharedView, SeatView, new_seat, new_seats}
 use Rattle.tsc_shared.specs.Answers.{GoesOn}
 use Rattle.tsc_json.specs.declared.trace.Call.{Call}
 use Rattle.tsc_trace.specs.declared.log.Line.{Line}
@@ -36,7 +36,7 @@ all_made start seat calls lines index past way =
     subst (λ ls. Runs start 0 calls ls seat) (append-nil lines) (way [] seat end)
 
 -- one list more, behind the others
-pub one_list_more : (cache : CacheName) (thread : ℕ) (lists : List (List Call)) (lines more : List Line) (seats : List SeatView) (calls : List Call) (seat : SeatView)
+pub one_list_more : (cache : SharedView) (thread : ℕ) (lists : List (List Call)) (lines more : List Line) (seats : List SeatView) (calls : List Call) (seat : SeatView)
     → RunsAll cache thread lists lines seats → Runs (new_seat cache (thread + length lists)) 0 calls more seat → RunsAll cache thread (lists ++ calls ∷ []) (lines ++ more) (seats ++ seat ∷ [])
 one_list_more cache thread [] lines more [] calls seat none run =
     (more, [], (ap (λ ls. ls ++ more) none ∙ sym (append-nil more)), subst (λ n. Runs (new_seat cache n) 0 calls more seat) (omega arith) run, refl)
@@ -52,7 +52,7 @@ one_list_more cache thread (first ∷ lists) lines more (s ∷ seats) calls seat
     )
 
 -- the last of some new seats
-last_seat : (cache : CacheName) (number n : ℕ) → new_seats cache number (suc n) ≡ new_seats cache number n ++ new_seat cache (number + n) ∷ []
+last_seat : (cache : SharedView) (number n : ℕ) → new_seats cache number (suc n) ≡ new_seats cache number n ++ new_seat cache (number + n) ∷ []
 last_seat cache number zero = ap (λ (k : ℕ). new_seat cache k ∷ []) (omega arith)
 last_seat cache number (suc n) = ap (λ seats. new_seat cache number ∷ seats) (last_seat cache (suc number) n ∙ ap (λ (k : ℕ). new_seats cache (suc number) n ++ new_seat cache k ∷ []) (omega arith))
 
@@ -70,7 +70,7 @@ same_ends (z ∷ xs) (w ∷ ys) x y e =
     (ap (λ s. s ∷ xs) first ∙ ap (λ seats. w ∷ seats) both.0, both.1)
 
 -- the last seat is taken from new ones
-pub seat_taken : (cache : CacheName) (seats rest : List SeatView) (seat : SeatView) (lists others : List (List Call)) (calls : List Call)
+pub seat_taken : (cache : SharedView) (seats rest : List SeatView) (seat : SeatView) (lists others : List (List Call)) (calls : List Call)
     → seats ≡ new_seats cache 0 (length lists) → seats ≡ rest ++ seat ∷ [] → lists ≡ others ++ calls ∷ [] → (rest ≡ new_seats cache 0 (length others)) × (seat ≡ new_seat cache (length others))
 seat_taken cache seats rest seat lists others calls new last parted =
     let long : length lists ≡ suc (length others) = omega (arith, ap length parted, length-append others (calls ∷ [])) in
@@ -78,7 +78,7 @@ seat_taken cache seats rest seat lists others calls new last parted =
     (both.0, both.1 ∙ ap (new_seat cache) (omega arith))
 
 -- the runs with that of the last list
-pub run_added : (cache : CacheName) (lists others : List (List Call)) (calls : List Call) (lines more whole : List Line) (seats seats' : List SeatView) (from seat : SeatView)
+pub run_added : (cache : SharedView) (lists others : List (List Call)) (calls : List Call) (lines more whole : List Line) (seats seats' : List SeatView) (from seat : SeatView)
     → lists ≡ others ++ calls ∷ [] → from ≡ new_seat cache (length others) → RunsAll cache 0 others lines seats → Runs from 0 calls more seat
     → whole ≡ lines ++ more → seats' ≡ seats ++ seat ∷ [] → RunsAll cache 0 lists whole seats'
 run_added cache lists others calls lines more whole seats seats' from seat parted new runs run added pushed =
@@ -96,13 +96,13 @@ stays start seat index [] (line ∷ lines) run = absurd run
 stays start seat index (call ∷ calls) [] run = absurd run
 stays start seat index (call ∷ calls) (line ∷ lines) run = stays run.2 seat (suc index) calls lines run.5 ∙ run.3.cache
 
-pub all_stay : (cache : CacheName) (thread : ℕ) (lists : List (List Call)) (lines : List Line) (seats : List SeatView) → RunsAll cache thread lists lines seats → All (λ (seat : SeatView). seat.cache ≡ cache) seats
+pub all_stay : (cache : SharedView) (thread : ℕ) (lists : List (List Call)) (lines : List Line) (seats : List SeatView) → RunsAll cache thread lists lines seats → All (λ (seat : SeatView). seat.cache ≡ cache) seats
 all_stay cache thread [] lines [] runs = All-nil (λ (seat : SeatView). seat.cache ≡ cache)
 all_stay cache thread [] lines (s ∷ seats) runs = absurd runs
 all_stay cache thread (calls ∷ lists) lines [] runs = absurd runs
 all_stay cache thread (calls ∷ lists) lines (s ∷ seats) runs = All-cons (λ (seat : SeatView). seat.cache ≡ cache) s seats (stays (new_seat cache thread) s 0 calls runs.0 runs.3) (all_stay cache (suc thread) lists runs.1 seats runs.4)
 
-pub as_many : (cache : CacheName) (thread : ℕ) (lists : List (List Call)) (lines : List Line) (seats : List SeatView) → RunsAll cache thread lists lines seats → length seats ≡ length lists
+pub as_many : (cache : SharedView) (thread : ℕ) (lists : List (List Call)) (lines : List Line) (seats : List SeatView) → RunsAll cache thread lists lines seats → length seats ≡ length lists
 as_many cache thread [] lines [] runs = refl
 as_many cache thread [] lines (s ∷ seats) runs = absurd runs
 as_many cache thread (calls ∷ lists) lines [] runs = absurd runs

@@ -10,5 +10,5 @@ pub unreachable-requires : goal.unreachable-requires
 unreachable-requires g c =
     let slices = c.slice-lists.result.now in
     let many = as_many c.in_ok-cache.cache 0 _ _ c.in_ok-runs.runs.seats.items c.in_ok-runs.ensures ∙ length-map slices (λ calls. calls.items) in
-    let seats : c.in_ok-cache.cache.terms.seats ≡ length slices = ap (λ t. t.seats) c.in_ok-cache.ensures.opened.terms_kept in
+    let seats : c.in_ok-cache.cache.seats ≡ length slices = c.in_ok-cache.ensures.opened.count_kept in
     let e = c.in_default.ensures.exactly.1 (many ∙ sym seats) in cc

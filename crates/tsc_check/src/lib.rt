@@ -1,0 +1,6 @@
+//! The check of a log against its trace: whether the log can be that of a run on threads.
+#![tactic(auto)]
+
+mod verdict;
+
+pub use verdict::Verdict;
