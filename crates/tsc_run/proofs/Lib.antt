@@ -1,2 +1,3 @@
 pub mod Running
 pub mod Crossing
+pub mod Truth

@@ -28,10 +28,3 @@ RunsAll cache thread [] lines [] = lines ≡ []
 RunsAll cache thread (calls ∷ lists) lines (seat ∷ seats) =
     (first : List Line) × (others : List Line) × (lines ≡ first ++ others) × Runs (new_seat cache thread) 0 calls first seat × RunsAll cache (suc thread) lists others seats
 RunsAll cache thread lists lines seats = ⊥
-
--- how many Adds there are in a list
-abbrev pub adds_of : List Call → ℕ
-adds_of [] = 0
-adds_of (Add span value now ∷ calls) = suc (adds_of calls)
-adds_of (Get span ∷ calls) = adds_of calls
-adds_of (Low ∷ calls) = adds_of calls

@@ -1,7 +1,8 @@
 ghost use Rattle.std.specs.Prelude.{◌≡◌, ◌≤◌, IfOk, length, map};
 ghost use Rattle.std.specs.List.{sum_by};
 ghost use Rattle.tsc_json.specs.Lists.{most_calls};
-ghost use Rattle.tsc_run.specs.Runs.{adds_of, RunsAll};
+ghost use Rattle.tsc_cache.specs.History.{History};
+ghost use Rattle.tsc_check.specs.TrueLog.{adds_of_list, adds_of_lists, IsRunOf};
 
 use crate::fault::RunFault;
 use crate::threads::run_lists;
@@ -14,7 +15,7 @@ use tsc_trace::{Call, Lines, Log, Trace};
 /// How many Adds there are in a list.
 fn count_adds(calls: &[Call]) -> u64
     requires calls { length calls.now ≤ most_calls }
-    ensures value { result ≡ adds_of calls.now }
+    ensures value { result ≡ adds_of_list calls.now }
     ensures few { result ≤ length calls.now }
 {
     let mut adds = 0;
@@ -29,7 +30,7 @@ fn count_adds(calls: &[Call]) -> u64
 /// How many Adds there are in some lists.
 fn count_all_adds(lists: &[Vec<Call>]) -> u64
     requires calls { sum_by length (map (λ calls. calls.items) lists.now) ≤ most_calls }
-    ensures value { result ≡ sum_by adds_of (map (λ calls. calls.items) lists.now) }
+    ensures value { result ≡ adds_of_lists (map (λ calls. calls.items) lists.now) }
 {
     let mut adds = 0;
     for calls in lists {
@@ -48,7 +49,9 @@ pub fn run_trace<R: Threads + Wait + Sync, G: Gate + Sync>(
     alloc: Global,
     trace: &Trace,
     gate: &G,
-) -> Result<Log, RunFault> {
+) -> Result<Log, RunFault>
+    ensures run { IfOk result (λ log. (h : History) × IsRunOf trace.now log.lines h) }
+{
     let lists = trace.threads.slice();
     let adds = count_all_adds(lists);
     let (cache, seats) = SharedCache::open(alloc, trace.config, lists.len() as u32, adds)?;
