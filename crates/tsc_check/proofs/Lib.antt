@@ -1,1 +1,5 @@
 pub mod VerdictExamples
+pub mod Each
+pub mod Places
+pub mod TrueRuns
+pub mod TrueVerdict

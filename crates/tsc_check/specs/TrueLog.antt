@@ -7,7 +7,8 @@ use Rattle.tsc_json.specs.declared.trace.Call.TheVariants.{Add, Get, Low}
 use Rattle.tsc_json.specs.declared.trace.Trace.{Trace}
 use Rattle.tsc_trace.specs.Log.{said_after, after_call}
 use Rattle.tsc_trace.specs.declared.log.Line.{Line}
-use Rattle.tsc_check.specs.Verdict.{reach}
+use Rattle.tsc_check.specs.Verdict.{reach, verdict_of}
+use Rattle.tsc_check.specs.declared.verdict.Verdict.TheVariants.{Right}
 
 -- whether a call is an Add
 abbrev pub is_add_call : Call → Bool
@@ -49,3 +50,7 @@ AreTrueLists settings h thread (calls ∷ lists) lines =
 pub record IsRunOf (trace : Trace) (lines : List Line) (h : History) : Type 0 where
   pub size : length h ≡ adds_of_lists trace.threads
   pub lines_are_true : AreTrueLists trace.config h 0 trace.threads lines
+
+-- The verdict on the log of a run is right.
+abbrev pub RunsAreRight : Type 0
+RunsAreRight = (trace : Trace) (lines : List Line) (h : History) → IsRunOf trace lines h → verdict_of trace lines ≡ Right

@@ -1,0 +1,261 @@
+-- Lines that tell the truth of a history fail none of the tests.
+use Rattle.std.proofs.Common.{◌≡◌, inl, inr, ◌∙◌, sym, ap, refl, ℕ, zero, suc, max, ◌<◌, ◌≤◌, List, [], ◌∷◌, ◌++◌, length, take, Bool, true, false, not, ◌&&◌, ◌==◌, nat_lt, nat_le, Option, Some, None, true≢false, length-append, append_assoc, arith}
+use Rattle.std.specs.Prelude.{slice_get}
+use Rattle.std.proofs.lemmas.Bool.Decides.{nat_tests}
+use Rattle.std.proofs.Math.Seq.{take-append_seam}
+use Rattle.tsc_time.proofs.TimeOrder.{is_same_time-Decides}
+use Rattle.tsc_time.proofs.SharedOwner.{is_same_owner-Decides}
+use Rattle.tsc_cache.specs.Settings.{Settings}
+use Rattle.tsc_cache.specs.declared.history.Entry.{Entry}
+use Rattle.tsc_cache.specs.History.{History, BeginsWith, own_count}
+use Rattle.tsc_json.specs.declared.trace.Call.{Call}
+use Rattle.tsc_json.specs.declared.trace.Call.TheVariants.{Add, Get, Low}
+use Rattle.tsc_json.specs.declared.trace.Trace.{Trace}
+use Rattle.tsc_trace.specs.Log.{said_after, after_call}
+use Rattle.tsc_trace.specs.declared.log.Line.{Line}
+use Rattle.tsc_trace.specs.declared.log.Said.{Said}
+use Rattle.tsc_trace.specs.declared.log.Said.TheVariants as said
+use Rattle.tsc_check.specs.declared.verdict.Verdict.TheVariants.{Right}
+use Rattle.tsc_check.specs.Verdict.{PlacedCall, calls_of, is_of_kind, is_line_of, is_wrong_call, reach, front_of, is_add_at, adds_in, is_misplaced, is_misplaced_line, is_wrong_place, with_adds_at, first_adds, is_same_bit, is_same_answer, is_untrue_pair, is_wrong_answer, least, verdict_of}
+use Rattle.tsc_check.specs.TrueLog.{IsRunOf}
+use Rattle.tsc_check.proofs.Each.{Each, Ordered, each_weaker, ordered_both, before_it, each_at, none_passes, at_seam}
+use Rattle.tsc_check.proofs.Places.{tested, one_if, count_at, HaveOtherPlaces, IsPlacedBelow, one_at_each}
+use Rattle.tsc_check.proofs.TrueRuns.{IsTrueOf, AllTrue, GoesBefore, front_said, ordered_lists, true_lists, adds_of_true_lists}
+
+-- ---- the first test
+
+same_number : (a : ℕ) → (a == a) ≡ true
+same_number a = grind (arith, nat_tests)
+
+kind_of_said : (settings : Settings) (before : History) (call : Call) → is_of_kind call (said_after settings before call) ≡ true
+kind_of_said settings before (Add span value now) = refl
+kind_of_said settings before (Get span) = refl
+kind_of_said settings before Low = refl
+
+line_of_call : (settings : Settings) (h : History) (c : PlacedCall) (line : Line) → IsTrueOf settings h c line → is_line_of c line ≡ true
+line_of_call settings h c line t =
+    ap (is_line_of c) t.told ∙ rw (same_number c.thread, same_number c.index, kind_of_said settings t.before c.call) refl
+
+right_calls : (settings : Settings) (h : History) (cs : List PlacedCall) (ls : List Line) → AllTrue settings h cs ls → (i : ℕ) → is_wrong_call cs ls i ≡ false
+right_calls settings h [] [] a i = refl
+right_calls settings h [] (l ∷ ls) a i = absurd a
+right_calls settings h (c ∷ cs) [] a i = absurd a
+right_calls settings h (c ∷ cs) (l ∷ ls) a zero = ap not (line_of_call settings h c l a.0)
+right_calls settings h (c ∷ cs) (l ∷ ls) a (suc i) = right_calls settings h cs ls a.1 i
+
+-- ---- the second test
+
+-- where a line is that of an Add, its entry stands at its place
+abbrev IsSeated : History → Line → Type 0
+IsSeated h line = (p : ℕ) → is_add_at p line.said ≡ true → (e : Entry) × (slice_get h p ≡ Some e) × (e.seat ≡ line.thread)
+
+-- and its front is at most the length
+abbrev IsWithin : History → Line → Type 0
+IsWithin h line = front_of line.said ≤ length h
+
+is_number : (a b : ℕ) → (a == b) ≡ true → a ≡ b
+is_number a b e = grind (arith, nat_tests)
+
+seated_call : (settings : Settings) (h before : History) (thread : ℕ) (call : Call) → BeginsWith h (after_call thread before call) → (p : ℕ) → is_add_at p (said_after settings before call) ≡ true → (e : Entry) × (slice_get h p ≡ Some e) × (e.seat ≡ thread)
+seated_call settings h before thread (Add span value now) part p at =
+    let e : Entry = record { seat = thread; number = own_count thread before; span = span; value = value; now = now } in
+    (e, rw (← is_number (length before) p at, part.1) (at_seam before part.0 e), refl)
+seated_call settings h before thread (Get span) part p at = absurd (true≢false (sym at))
+seated_call settings h before thread Low part p at = absurd (true≢false (sym at))
+
+seated : (settings : Settings) (h : History) (c : PlacedCall) (line : Line) → IsTrueOf settings h c line → IsSeated h line
+seated settings h c line t p at =
+    let s = seated_call settings h t.before c.thread c.call t.part p (sym (ap (λ l. is_add_at p l.said) t.told) ∙ at) in
+    (s.0, s.1, s.2 ∙ sym (ap (λ l. l.thread) t.told))
+
+within_call : (h before : History) (thread : ℕ) (call : Call) → BeginsWith h (after_call thread before call) → length before ≤ length h
+within_call h before thread (Add span value now) part =
+    let e : Entry = record { seat = thread; number = own_count thread before; span = span; value = value; now = now } in
+    omega (arith, ap length part.1, length-append (before ++ e ∷ []) part.0, length-append before (e ∷ []))
+within_call h before thread (Get span) part = omega (arith, ap length part.1, length-append before part.0)
+within_call h before thread Low part = omega (arith, ap length part.1, length-append before part.0)
+
+within : (settings : Settings) (h : History) (c : PlacedCall) (line : Line) → IsTrueOf settings h c line → IsWithin h line
+within settings h c line t = omega (arith, ap (λ l. front_of l.said) t.told, front_said settings t.before c.call, within_call h t.before c.thread c.call t.part)
+
+each_line : (settings : Settings) (h : History) (P : Line → Type 0) → ((c : PlacedCall) (line : Line) → IsTrueOf settings h c line → P line) → (cs : List PlacedCall) (ls : List Line) → AllTrue settings h cs ls → Each P ls
+each_line settings h P f [] [] a = tt
+each_line settings h P f [] (l ∷ ls) a = absurd a
+each_line settings h P f (c ∷ cs) [] a = absurd a
+each_line settings h P f (c ∷ cs) (l ∷ ls) a = (f c l a.0, each_line settings h P f cs ls a.1)
+
+some_below : (h : History) (p : ℕ) (e : Entry) → slice_get h p ≡ Some e → p < length h
+some_below [] p e s = absurd (no_some e s)
+  where
+    no_some : (x : Entry) → None ≡ Some x → ⊥
+    no_some x e = cc
+some_below (x ∷ h) zero e s = omega arith
+some_below (x ∷ h) (suc p) e s = omega (arith, some_below h p e s)
+
+reach_of_add : (p : ℕ) (s : Said) → is_add_at p s ≡ true → (reach s ≡ suc p) × (front_of s ≡ p)
+reach_of_add p (said.Add place added) at = (ap suc (is_number place p at), is_number place p at)
+reach_of_add p (said.Get front value) at = absurd (true≢false (sym at))
+reach_of_add p (said.Low front time) at = absurd (true≢false (sym at))
+
+same_entry : (a b : Entry) (o : Option Entry) → o ≡ Some a → o ≡ Some b → a ≡ b
+same_entry a b o e f = cc
+
+-- of two lines one reaches at most the front of the other, if both are of one list; so they are not Adds at one place
+other_places : (h : History) (a b : Line) → IsSeated h a → IsSeated h b → GoesBefore a b → HaveOtherPlaces a b
+other_places h a b sa sb goes p at = elim (tested (is_add_at p b.said)) [
+  | inl also ↦
+      let x = sa p at in
+      let y = sb p also in
+      let one : x.0 ≡ y.0 = same_entry x.0 y.0 (slice_get h p) x.1 y.1 in
+      let threads : a.thread ≡ b.thread = sym x.2 ∙ ap (λ (e : Entry). e.seat) one ∙ y.2 in
+      absurd (omega (arith, goes threads, (reach_of_add p a.said at).0, (reach_of_add p b.said also).1))
+  | inr e ↦ e
+]
+
+-- what a line must keep towards an earlier one
+abbrev IsFineAfter : Line → Line → Type 0
+IsFineAfter a b = GoesBefore a b × HaveOtherPlaces a b
+
+reaches_none : (thread n : ℕ) (line : Line) → (line.thread ≡ thread → reach line.said ≤ n) → ((line.thread == thread) && nat_lt n (reach line.said)) ≡ false
+reaches_none thread n line most = by_test (line.thread == thread) refl
+  where
+    too_far : (a b : ℕ) → a ≤ b → nat_lt b a ≡ false
+    too_far a b e = grind (arith, nat_tests)
+
+    by_test : (b : Bool) → (line.thread == thread) ≡ b → ((line.thread == thread) && nat_lt n (reach line.said)) ≡ false
+    by_test true e = rw e (too_far (reach line.said) n (most (is_number line.thread thread e)))
+    by_test false e = rw e refl
+
+below_test : (a b : ℕ) → a < b → nat_le b a ≡ false
+below_test a b e = grind (arith, nat_tests)
+
+within_test : (a b : ℕ) → a ≤ b → nat_lt b a ≡ false
+within_test a b e = grind (arith, nat_tests)
+
+placed : (n : ℕ) (earlier : List Line) (thread : ℕ) (s : Said)
+    → ((p : ℕ) → is_add_at p s ≡ true → p < n) → front_of s ≤ n
+    → Each (λ l. (l.thread ≡ thread → reach l.said ≤ front_of s) × ((p : ℕ) → is_add_at p l.said ≡ true → is_add_at p s ≡ false)) earlier
+    → is_misplaced n earlier thread s ≡ false
+placed n earlier thread (said.Add place added) below most fine =
+    let low = below_test place n (below place (same_number place)) in
+    let alone = none_passes (λ (l : Line). is_add_at place l.said) earlier (each_weaker _ (λ l. is_add_at place l.said ≡ false) (λ l f. free l f.1) earlier fine) in
+    let after = none_passes (λ (l : Line). (l.thread == thread) && nat_lt place (reach l.said)) earlier (each_weaker _ (λ l. ((l.thread == thread) && nat_lt place (reach l.said)) ≡ false) (λ l f. reaches_none thread place l f.0) earlier fine) in
+    rw (low, alone, after) refl
+  where
+    free : (l : Line) → ((p : ℕ) → is_add_at p l.said ≡ true → (place == p) ≡ false) → is_add_at place l.said ≡ false
+    free l other = elim (tested (is_add_at place l.said)) [
+      | inl e ↦ absurd (true≢false (sym (same_number place) ∙ other place e))
+      | inr e ↦ e
+    ]
+placed n earlier thread (said.Get front value) below most fine =
+    let after = none_passes (λ (l : Line). (l.thread == thread) && nat_lt front (reach l.said)) earlier (each_weaker _ (λ l. ((l.thread == thread) && nat_lt front (reach l.said)) ≡ false) (λ l f. reaches_none thread front l f.0) earlier fine) in
+    rw (within_test front n most, after) refl
+placed n earlier thread (said.Low front time) below most fine =
+    let after = none_passes (λ (l : Line). (l.thread == thread) && nat_lt front (reach l.said)) earlier (each_weaker _ (λ l. ((l.thread == thread) && nat_lt front (reach l.said)) ≡ false) (λ l f. reaches_none thread front l f.0) earlier fine) in
+    rw (within_test front n most, after) refl
+
+right_places : (n : ℕ) (lines : List Line) → Each (IsPlacedBelow n) lines → Each (λ l. front_of l.said ≤ n) lines → Ordered IsFineAfter lines → (i : ℕ) (o : Option Line) → slice_get lines i ≡ o → is_misplaced_line n (take i lines) o ≡ false
+right_places n lines below most fine i None at = refl
+right_places n lines below most fine i (Some line) at =
+    placed n (take i lines) line.thread line.said (each_at (IsPlacedBelow n) lines i line at below) (each_at (λ l. front_of l.said ≤ n) lines i line at most) (before_it IsFineAfter lines i line at fine)
+
+-- ---- the third test
+
+same_bits : (b : Bool) → is_same_bit b b ≡ true
+same_bits true = refl
+same_bits false = refl
+
+same_answers : (s : Said) → is_same_answer s s ≡ true
+same_answers (said.Add place added) = rw (same_bits added.kept, same_bits added.rotated, same_number added.evicted) refl
+same_answers (said.Get front value) = rw ((is_same_time-Decides value.time value.time).1 refl, (is_same_owner-Decides value.owner value.owner).1 refl) refl
+same_answers (said.Low front time) = (is_same_time-Decides time time).1 refl
+
+-- the first part of a history of some length
+begins_take : (h before : History) → BeginsWith h before → take (length before) h ≡ before
+begins_take h before part = ap (take (length before)) part.1 ∙ take-append_seam before part.0
+
+-- what a call leaves of a first part is one too
+begins_after : (h before : History) (thread : ℕ) (call : Call) → BeginsWith h (after_call thread before call) → BeginsWith h before
+begins_after h before thread (Add span value now) part =
+    let e : Entry = record { seat = thread; number = own_count thread before; span = span; value = value; now = now } in
+    (e ∷ part.0, part.1 ∙ append_assoc before (e ∷ []) part.0)
+begins_after h before thread (Get span) part = part
+begins_after h before thread Low part = part
+
+-- where no line is that of an Add at a place, no Add is put there
+none_put : (p : ℕ) (cs : List PlacedCall) (ls : List Line) (g : History) → count_at p ls ≡ 0 → with_adds_at p cs ls g ≡ g
+none_put p [] ls g none = refl
+none_put p (c ∷ cs) [] g none = refl
+none_put p (c ∷ cs) (l ∷ ls) g none = elim (tested (is_add_at p l.said)) [
+  | inl e ↦ absurd (omega (arith, none, ap one_if e))
+  | inr e ↦ rw e (none_put p cs ls g (omega (arith, none, ap one_if e)))
+]
+
+put_call : (settings : Settings) (h before : History) (thread : ℕ) (call : Call) → BeginsWith h (after_call thread before call) → (p : ℕ) → is_add_at p (said_after settings before call) ≡ true → after_call thread (take p h) call ≡ take (suc p) h
+put_call settings h before thread (Add span value now) part p at =
+    let e : Entry = record { seat = thread; number = own_count thread before; span = span; value = value; now = now } in
+    let here : length before ≡ p = is_number (length before) p at in
+    let front : take p h ≡ before = ap (λ n. take n h) (sym here) ∙ begins_take h before (begins_after h before thread (Add span value now) part) in
+    let more : length (before ++ e ∷ []) ≡ suc p = omega (arith, length-append before (e ∷ []), here) in
+    ap (λ g. after_call thread g (Add span value now)) front ∙ sym (begins_take h (before ++ e ∷ []) part) ∙ ap (λ n. take n h) more
+put_call settings h before thread (Get span) part p at = absurd (true≢false (sym at))
+put_call settings h before thread Low part p at = absurd (true≢false (sym at))
+
+-- where one is, just this one is
+one_put : (settings : Settings) (h : History) (p : ℕ) (cs : List PlacedCall) (ls : List Line) → AllTrue settings h cs ls → count_at p ls ≡ 1 → with_adds_at p cs ls (take p h) ≡ take (suc p) h
+one_put settings h p [] [] a one = absurd (omega (arith, one))
+one_put settings h p [] (l ∷ ls) a one = absurd a
+one_put settings h p (c ∷ cs) [] a one = absurd a
+one_put settings h p (c ∷ cs) (l ∷ ls) a one = elim (tested (is_add_at p l.said)) [
+  | inl e ↦ rw (e, put_call settings h a.0.before c.thread c.call a.0.part p (sym (ap (λ (x : Line). is_add_at p x.said) a.0.told) ∙ e))
+      (none_put p cs ls (take (suc p) h) (omega (arith, one, ap one_if e)))
+  | inr e ↦ rw e (one_put settings h p cs ls a.1 (omega (arith, one, ap one_if e)))
+]
+
+-- the first Adds by their places are the first entries
+first_entries : (settings : Settings) (h : History) (cs : List PlacedCall) (ls : List Line) → AllTrue settings h cs ls → ((p : ℕ) → p < length h → count_at p ls ≡ 1) → (p : ℕ) → p ≤ length h → first_adds cs ls p ≡ take p h
+first_entries settings h cs ls a ones zero low = refl
+first_entries settings h cs ls a ones (suc p) low =
+    ap (with_adds_at p cs ls) (first_entries settings h cs ls a ones p (omega arith)) ∙ one_put settings h p cs ls a (ones p (omega arith))
+
+right_answer : (trace : Trace) (h : History) (all : List Line) (c : PlacedCall) (line : Line) → ((p : ℕ) → p ≤ length h → first_adds (calls_of trace) all p ≡ take p h) → IsTrueOf trace.config h c line
+    → is_untrue_pair trace all (Some c) (Some line) ≡ false
+right_answer trace h all c line first t =
+    let front : front_of line.said ≡ length t.before = ap (λ l. front_of l.said) t.told ∙ front_said trace.config t.before c.call in
+    let before : first_adds (calls_of trace) all (front_of line.said) ≡ t.before =
+    ap (first_adds (calls_of trace) all) front ∙ first (length t.before) (within_call h t.before c.thread c.call t.part) ∙ begins_take h t.before (begins_after h t.before c.thread c.call t.part) in
+    let says : line.said ≡ said_after trace.config t.before c.call = ap (λ l. l.said) t.told in
+    rw before (rw says (ap not (same_answers (said_after trace.config t.before c.call))))
+
+right_answers : (trace : Trace) (h : History) (all : List Line) → ((p : ℕ) → p ≤ length h → first_adds (calls_of trace) all p ≡ take p h) → (cs : List PlacedCall) (ls : List Line) → AllTrue trace.config h cs ls
+    → (i : ℕ) → is_untrue_pair trace all (slice_get cs i) (slice_get ls i) ≡ false
+right_answers trace h all first [] [] a i = refl
+right_answers trace h all first [] (l ∷ ls) a i = absurd a
+right_answers trace h all first (c ∷ cs) [] a i = absurd a
+right_answers trace h all first (c ∷ cs) (l ∷ ls) a zero = right_answer trace h all c l first a.0
+right_answers trace h all first (c ∷ cs) (l ∷ ls) a (suc i) = right_answers trace h all first cs ls a.1 i
+
+-- ---- the verdict
+
+pub least_none : (test : ℕ → Bool) (n : ℕ) → ((i : ℕ) → test i ≡ false) → least test n ≡ None
+least_none test zero none = refl
+least_none test (suc n) none = rw (least_none test n none, none n) refl
+
+-- the lines of a run are right
+pub run_is_right : (trace : Trace) (lines : List Line) (h : History) → IsRunOf trace lines h → verdict_of trace lines ≡ Right
+run_is_right trace lines h run =
+    let n = length h in
+    let cs = calls_of trace in
+    let all = true_lists trace.config h 0 trace.threads lines run.lines_are_true in
+    let size : adds_in lines ≡ n = adds_of_true_lists trace.config h 0 trace.threads lines run.lines_are_true ∙ sym run.size in
+    let goes = ordered_lists trace.config h 0 trace.threads lines run.lines_are_true in
+    let seats = each_line trace.config h (IsSeated h) (seated trace.config h) cs lines all in
+    let below = each_weaker (IsSeated h) (IsPlacedBelow n) (λ l s p at. some_below h p (s p at).0 (s p at).1) lines seats in
+    let most = each_line trace.config h (IsWithin h) (within trace.config h) cs lines all in
+    let fine = ordered_both (IsSeated h) GoesBefore IsFineAfter (λ a b sa sb g. (g, other_places h a b sa sb g)) lines seats goes in
+    let others = ordered_both (IsSeated h) GoesBefore HaveOtherPlaces (λ a b sa sb g. other_places h a b sa sb g) lines seats goes in
+    let first = first_entries trace.config h cs lines all (one_at_each n lines below others size) in
+    let calls = least_none (is_wrong_call cs lines) (max (length cs) (length lines)) (right_calls trace.config h cs lines all) in
+    let places = least_none (is_wrong_place lines) (length lines) (λ i. rw size (right_places n lines below most fine i (slice_get lines i) refl)) in
+    let answers = least_none (is_wrong_answer trace lines) (length lines) (right_answers trace h lines first cs lines all) in
+    rw (calls, places, answers) refl

@@ -1,0 +1,9 @@
+//! Laws of verdicts.
+//!
+//! No program needs to call these functions: their contracts are the laws, for every trace and every log.
+ghost use Rattle.tsc_check.specs.TrueLog.{RunsAreRight};
+
+/// The verdict on the log of a run is right.
+pub fn runs_are_right()
+    ensures { RunsAreRight }
+{}
