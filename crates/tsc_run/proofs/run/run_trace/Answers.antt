@@ -1,7 +1,9 @@
 use Rattle.std.proofs.Common.{◌≡◌, ◌∙◌, sym, ap, subst, length, List}
 use Rattle.std.proofs.lemmas.List.{length-map}
 use Rattle.tsc_json.specs.declared.trace.Call.{Call}
+use Rattle.tsc_check.specs.Verdict.{verdict_of}
 use Rattle.tsc_check.specs.TrueLog.{IsRunOf}
+use Rattle.tsc_check.proofs.TrueVerdict.{run_is_right}
 use Rattle.tsc_run.specs.Runs.{RunsAll}
 use Rattle.tsc_run.proofs.Running.{all_stay, as_many}
 use Rattle.tsc_run.proofs.Truth.{run_of}
@@ -25,4 +27,7 @@ returns g c =
     let runs = subst (λ (ls : List (List Call)). RunsAll cache 0 ls c.in_ok-runs.runs.lines.items c.in_ok-runs.runs.seats.items) lists c.in_ok-runs.ensures in
     let many : cache.seats ≡ length c.args.trace.now.threads = opened.count_kept ∙ sym (length-map slices (λ calls. calls.items)) ∙ ap length lists in
     let ran = run_of c.args.trace.now cache c.in_ok-runs.runs.lines.items c.in_ok-runs.runs.seats.items c.in-Ok._closed opened.settings_kept many runs c.in-Ok.ensures.closed in
-    record { run = (ran.0, subst (λ ls. IsRunOf c.args.trace.now ls ran.0) (sym c.of.ensures) ran.1) }
+    record {
+      right = ap (verdict_of c.args.trace.now) c.of.ensures ∙ run_is_right c.args.trace.now c.in_ok-runs.runs.lines.items ran.0 ran.1;
+      run = (ran.0, subst (λ ls. IsRunOf c.args.trace.now ls ran.0) (sym c.of.ensures) ran.1);
+    }
