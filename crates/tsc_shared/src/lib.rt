@@ -12,6 +12,7 @@ mod answers;
 mod board;
 mod closing;
 mod desk;
+mod gate;
 mod opening;
 mod seat;
 mod shared;
@@ -20,5 +21,6 @@ mod steps;
 mod tests;
 
 pub use answers::{AddFault, Answer, Closed, Gone, LowWater, OpenFault, Receipt, StillOut};
+pub use gate::{Gate, NoGate};
 pub use seat::{Front, Seat};
 pub use shared::SharedCache;

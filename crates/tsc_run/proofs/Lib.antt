@@ -1,0 +1,3 @@
+pub mod Running
+pub mod Crossing
+pub mod Truth

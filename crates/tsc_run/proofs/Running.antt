@@ -1,0 +1,109 @@
+-- A list's run, call after call, and the runs of lists, one list after another.
+use Rattle.std.proofs.Common.{◌≡◌, ◌∙◌, refl, sym, ap, subst, ℕ, zero, suc, ◌+◌, ◌<◌, ◌≤◌, List, [], ◌∷◌, ◌++◌, length, drop, get_or, drop-cons, append_assoc, append-nil, length-append, add-one, arith, All}
+use Rattle.std.specs.List.{sum_by}
+use Rattle.std.proofs.lemmas.List.Sums.{sum_by-append, sum_by-cons}
+use Rattle.std.proofs.lemmas.List.Elements.{All-cons, All-nil}
+use Rattle.tsc_json.specs.Lists.{most_calls}
+use Rattle.std.proofs.lemmas.List.{drop_all}
+use Rattle.tsc_shared.specs.Seats.{SharedView, SeatView, new_seat, new_seats}
+use Rattle.tsc_shared.specs.Answers.{GoesOn}
+use Rattle.tsc_json.specs.declared.trace.Call.{Call}
+use Rattle.tsc_trace.specs.declared.log.Line.{Line}
+use Rattle.tsc_run.specs.Runs.{Says, Runs, RunsAll}
+
+-- Whatever run is made from here makes the lines so far a run of the list.
+abbrev pub IsUnderWay : SeatView → List Call → List Line → SeatView → ℕ → Type 0
+IsUnderWay start calls lines seat index = (rest : List Line) (last : SeatView) → Runs seat index (drop index calls) rest last → Runs start 0 calls (lines ++ rest) last
+
+left_from : (calls : List Call) (index : ℕ) (call : Call) → index < length calls → call ≡ get_or calls index call → drop index calls ≡ call ∷ drop (index + 1) calls
+left_from calls index call within here =
+    drop-cons calls index call within ∙ ap (λ c. c ∷ drop (suc index) calls) (sym here) ∙ ap (λ n. call ∷ drop n calls) (sym (add-one index))
+
+-- one call more
+pub one_more : (start seat seat' : SeatView) (calls : List Call) (lines more : List Line) (line : Line) (index : ℕ) (call : Call)
+    → index < length calls → call ≡ get_or calls index call → line.thread ≡ seat.number → line.index ≡ index → GoesOn seat seat' → Says seat seat' call line.said
+    → more ≡ lines ++ line ∷ [] → IsUnderWay start calls lines seat index → IsUnderWay start calls more seat' (index + 1)
+one_more start seat seat' calls lines more line index call within here thread number goes says added way rest last run =
+    let next : Runs seat' (suc index) (drop (index + 1) calls) rest last = subst (λ n. Runs seat' n (drop (index + 1) calls) rest last) (add-one index) run in
+    let from : Runs seat index (call ∷ drop (index + 1) calls) (line ∷ rest) last = (thread, number, seat', goes, says, next) in
+    let whole : Runs start 0 calls (lines ++ line ∷ rest) last = way (line ∷ rest) last (subst (λ cs. Runs seat index cs (line ∷ rest) last) (sym (left_from calls index call within here)) from) in
+    subst (λ ls. Runs start 0 calls ls last) (sym (ap (λ ls. ls ++ rest) added ∙ append_assoc lines (line ∷ []) rest)) whole
+
+-- none are left
+pub all_made : (start seat : SeatView) (calls : List Call) (lines : List Line) (index : ℕ) → length calls ≤ index → IsUnderWay start calls lines seat index → Runs start 0 calls lines seat
+all_made start seat calls lines index past way =
+    let end : Runs seat index (drop index calls) [] seat = subst (λ cs. Runs seat index cs [] seat) (sym (drop_all index calls past)) refl in
+    subst (λ ls. Runs start 0 calls ls seat) (append-nil lines) (way [] seat end)
+
+-- one list more, behind the others
+pub one_list_more : (cache : SharedView) (thread : ℕ) (lists : List (List Call)) (lines more : List Line) (seats : List SeatView) (calls : List Call) (seat : SeatView)
+    → RunsAll cache thread lists lines seats → Runs (new_seat cache (thread + length lists)) 0 calls more seat → RunsAll cache thread (lists ++ calls ∷ []) (lines ++ more) (seats ++ seat ∷ [])
+one_list_more cache thread [] lines more [] calls seat none run =
+    (more, [], (ap (λ ls. ls ++ more) none ∙ sym (append-nil more)), subst (λ n. Runs (new_seat cache n) 0 calls more seat) (omega arith) run, refl)
+one_list_more cache thread [] lines more (s ∷ seats) calls seat none run = absurd none
+one_list_more cache thread (first ∷ lists) lines more [] calls seat none run = absurd none
+one_list_more cache thread (first ∷ lists) lines more (s ∷ seats) calls seat runs run =
+    let at : Runs (new_seat cache (suc thread + length lists)) 0 calls more seat = subst (λ n. Runs (new_seat cache n) 0 calls more seat) (omega arith) run in (
+      runs.0,
+      runs.1 ++ more,
+      (ap (λ ls. ls ++ more) runs.2 ∙ append_assoc runs.0 runs.1 more),
+      runs.3,
+      one_list_more cache (suc thread) lists runs.1 more seats calls seat runs.4 at,
+    )
+
+-- the last of some new seats
+last_seat : (cache : SharedView) (number n : ℕ) → new_seats cache number (suc n) ≡ new_seats cache number n ++ new_seat cache (number + n) ∷ []
+last_seat cache number zero = ap (λ (k : ℕ). new_seat cache k ∷ []) (omega arith)
+last_seat cache number (suc n) = ap (λ seats. new_seat cache number ∷ seats) (last_seat cache (suc number) n ∙ ap (λ (k : ℕ). new_seats cache (suc number) n ++ new_seat cache k ∷ []) (omega arith))
+
+abbrev other_seats : List SeatView → List SeatView
+other_seats [] = []
+other_seats (s ∷ seats) = seats
+
+same_ends : (xs ys : List SeatView) (x y : SeatView) → xs ++ x ∷ [] ≡ ys ++ y ∷ [] → (xs ≡ ys) × (x ≡ y)
+same_ends [] [] x y e = (refl, ap (λ seats. get_or seats 0 x) e)
+same_ends [] (z ∷ ys) x y e = absurd (omega (arith, ap length e, length-append ys (y ∷ [])))
+same_ends (z ∷ xs) [] x y e = absurd (omega (arith, ap length e, length-append xs (x ∷ [])))
+same_ends (z ∷ xs) (w ∷ ys) x y e =
+    let both = same_ends xs ys x y (ap other_seats e) in
+    let first : z ≡ w = ap (λ seats. get_or seats 0 z) e in
+    (ap (λ s. s ∷ xs) first ∙ ap (λ seats. w ∷ seats) both.0, both.1)
+
+-- the last seat is taken from new ones
+pub seat_taken : (cache : SharedView) (seats rest : List SeatView) (seat : SeatView) (lists others : List (List Call)) (calls : List Call)
+    → seats ≡ new_seats cache 0 (length lists) → seats ≡ rest ++ seat ∷ [] → lists ≡ others ++ calls ∷ [] → (rest ≡ new_seats cache 0 (length others)) × (seat ≡ new_seat cache (length others))
+seat_taken cache seats rest seat lists others calls new last parted =
+    let long : length lists ≡ suc (length others) = omega (arith, ap length parted, length-append others (calls ∷ [])) in
+    let both = same_ends rest (new_seats cache 0 (length others)) seat (new_seat cache (0 + length others)) (sym last ∙ new ∙ ap (new_seats cache 0) long ∙ last_seat cache 0 (length others)) in
+    (both.0, both.1 ∙ ap (new_seat cache) (omega arith))
+
+-- the runs with that of the last list
+pub run_added : (cache : SharedView) (lists others : List (List Call)) (calls : List Call) (lines more whole : List Line) (seats seats' : List SeatView) (from seat : SeatView)
+    → lists ≡ others ++ calls ∷ [] → from ≡ new_seat cache (length others) → RunsAll cache 0 others lines seats → Runs from 0 calls more seat
+    → whole ≡ lines ++ more → seats' ≡ seats ++ seat ∷ [] → RunsAll cache 0 lists whole seats'
+run_added cache lists others calls lines more whole seats seats' from seat parted new runs run added pushed =
+    let at : Runs (new_seat cache (0 + length others)) 0 calls more seat = subst (λ s. Runs s 0 calls more seat) (new ∙ ap (new_seat cache) (omega arith)) run in
+    rw (parted, added, pushed) (one_list_more cache 0 others lines more seats calls seat runs at)
+
+-- the last list has no more calls than all
+pub last_fits : (lists others : List (List Call)) (calls : List Call) → lists ≡ others ++ calls ∷ [] → sum_by length lists ≤ most_calls → length calls ≤ most_calls
+last_fits lists others calls parted few = omega (arith, ap (sum_by length) parted, sum_by-append length others (calls ∷ []), sum_by-cons length calls [])
+
+-- a seat is of its cache all along
+stays : (start seat : SeatView) (index : ℕ) (calls : List Call) (lines : List Line) → Runs start index calls lines seat → seat.cache ≡ start.cache
+stays start seat index [] [] run = ap (λ s. s.cache) run
+stays start seat index [] (line ∷ lines) run = absurd run
+stays start seat index (call ∷ calls) [] run = absurd run
+stays start seat index (call ∷ calls) (line ∷ lines) run = stays run.2 seat (suc index) calls lines run.5 ∙ run.3.cache
+
+pub all_stay : (cache : SharedView) (thread : ℕ) (lists : List (List Call)) (lines : List Line) (seats : List SeatView) → RunsAll cache thread lists lines seats → All (λ (seat : SeatView). seat.cache ≡ cache) seats
+all_stay cache thread [] lines [] runs = All-nil (λ (seat : SeatView). seat.cache ≡ cache)
+all_stay cache thread [] lines (s ∷ seats) runs = absurd runs
+all_stay cache thread (calls ∷ lists) lines [] runs = absurd runs
+all_stay cache thread (calls ∷ lists) lines (s ∷ seats) runs = All-cons (λ (seat : SeatView). seat.cache ≡ cache) s seats (stays (new_seat cache thread) s 0 calls runs.0 runs.3) (all_stay cache (suc thread) lists runs.1 seats runs.4)
+
+pub as_many : (cache : SharedView) (thread : ℕ) (lists : List (List Call)) (lines : List Line) (seats : List SeatView) → RunsAll cache thread lists lines seats → length seats ≡ length lists
+as_many cache thread [] lines [] runs = refl
+as_many cache thread [] lines (s ∷ seats) runs = absurd runs
+as_many cache thread (calls ∷ lists) lines [] runs = absurd runs
+as_many cache thread (calls ∷ lists) lines (s ∷ seats) runs = ap suc (as_many cache (suc thread) lists runs.1 seats runs.4)

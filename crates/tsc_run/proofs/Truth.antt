@@ -1,0 +1,190 @@
+-- The lines of lists' runs are a run of the trace, where one legal history begins with all that the seats have seen, and has just their Adds.
+use Rattle.std.proofs.Common.{◌≡◌, ◌≢◌, ◌⊎◌, ◌∙◌, inl, inr, refl, sym, ap, subst, Bool, true, false, ℕ, zero, suc, ◌+◌, ◌<◌, ◌≤◌, List, [], ◌∷◌, ◌++◌, length, append_assoc, append-nil, length-append, arith, All}
+use Rattle.std.specs.Prelude.{◌==◌, cond}
+use Rattle.std.proofs.lemmas.Bool.Decides.{nat_tests}
+use Rattle.std.proofs.lemmas.List.Sums.{sum_by-cons}
+use Rattle.std.proofs.lemmas.List.Elements.{All-head, All-tail}
+use Rattle.tsc_cache.specs.Settings.{Settings}
+use Rattle.tsc_cache.specs.declared.history.Entry.{Entry}
+use Rattle.tsc_cache.specs.History.{History, own_count, BeginsWith, IsLegal}
+use Rattle.tsc_json.specs.declared.trace.Call.{Call}
+use Rattle.tsc_json.specs.declared.trace.Call.TheVariants.{Add, Get, Low}
+use Rattle.tsc_json.specs.declared.trace.Trace.{Trace}
+use Rattle.tsc_trace.specs.Log.{said_after, after_call}
+use Rattle.tsc_trace.specs.declared.log.Line.{Line}
+use Rattle.tsc_trace.specs.declared.log.Said.{Said}
+use Rattle.tsc_trace.specs.declared.log.Said.TheVariants as said
+use Rattle.tsc_check.specs.Verdict.{reach}
+use Rattle.tsc_check.specs.TrueLog.{AreTrueLines, AreTrueLists, IsRunOf, is_add_call, adds_of_list, adds_of_lists}
+use Rattle.tsc_shared.specs.Seats.{SharedView, SeatView, new_seat}
+use Rattle.tsc_shared.specs.Answers.{GoesOn, Closes, entry_by}
+use Rattle.tsc_shared.specs.declared.answers.Closed.{Closed}
+use Rattle.tsc_shared.proofs.Prefixes.{begins_itself, begins_on, begins_length, own_append, own_of_one, own_of_other}
+use Rattle.tsc_run.specs.Runs.{Says, Runs, RunsAll}
+
+-- ---- each line
+
+same_line : (line : Line) (thread index : ℕ) (answer : Said) → line.thread ≡ thread → line.index ≡ index → line.said ≡ answer → line ≡ record { thread = thread; index = index; said = answer }
+same_line line thread index answer a b c =
+    ap (λ (t : ℕ). record { thread = t; index = line.index; said = line.said }) a ∙ ap (λ (i : ℕ). record { thread = thread; index = i; said = line.said }) b
+    ∙ ap (λ (s : Said). record { thread = thread; index = index; said = s }) c
+
+-- what a line reaches is what its seat has seen then
+reaches : (old mid : SeatView) (call : Call) (answer : Said) → Says old mid call answer → reach answer ≡ length mid.seen
+reaches old mid (Add span value now) (said.Add place added) says = omega (arith, says.1.place, ap length says.1.seen, length-append says.1.before (entry_by old span value now ∷ []))
+reaches old mid (Add span value now) (said.Get front value') says = absurd says
+reaches old mid (Add span value now) (said.Low front time) says = absurd says
+reaches old mid (Get span) (said.Add place added) says = absurd says
+reaches old mid (Get span) (said.Get front value) says = says.front
+reaches old mid (Get span) (said.Low front time) says = absurd says
+reaches old mid Low (said.Add place added) says = absurd says
+reaches old mid Low (said.Get front value) says = absurd says
+reaches old mid Low (said.Low front time) says = says.front
+
+-- what a call was answered is what it answers after a first part of what its seat has seen then
+record IsTold (old mid : SeatView) (call : Call) (answer : Said) : Type 0 where
+  before : History
+  told : answer ≡ said_after old.cache.config before call
+  part : BeginsWith mid.seen (after_call old.number before call)
+  later : length old.seen ≤ length before
+
+is_told : (old mid : SeatView) (call : Call) (answer : Said) → GoesOn old mid → Says old mid call answer → IsTold old mid call answer
+is_told old mid (Add span value now) (said.Add place added) goes says =
+    let acc = says.1 in
+    let e : Entry = record { seat = old.number; number = old.count; span = span; value = value; now = now } in
+    let next = goes.is_seat.legal acc.before e ([], acc.seen ∙ sym (append-nil (acc.before ++ e ∷ []))) in
+    let own : Entry = record { seat = old.number; number = own_count old.number acc.before; span = span; value = value; now = now } in
+    record {
+      before = acc.before;
+      told = ap (λ n. said.Add n added) acc.place ∙ ap (said.Add (length acc.before)) acc.added;
+      part = ([], acc.seen ∙ ap (λ (n : ℕ). acc.before ++ record { seat = old.number; number = n; span = span; value = value; now = now } ∷ []) next.number ∙ sym (append-nil (acc.before ++ own ∷ [])));
+      later = begins_length acc.before old.seen acc.begins;
+    }
+is_told old mid (Add span value now) (said.Get front value') goes says = absurd says
+is_told old mid (Add span value now) (said.Low front time) goes says = absurd says
+is_told old mid (Get span) (said.Add place added) goes says = absurd says
+is_told old mid (Get span) (said.Get front value) goes says = record { before = mid.seen; told = ap (λ n. said.Get n value) says.front ∙ ap (said.Get (length mid.seen)) says.value; part = begins_itself mid.seen; later = begins_length mid.seen old.seen goes.begins }
+is_told old mid (Get span) (said.Low front time) goes says = absurd says
+is_told old mid Low (said.Add place added) goes says = absurd says
+is_told old mid Low (said.Get front value) goes says = absurd says
+is_told old mid Low (said.Low front time) goes says = record { before = mid.seen; told = ap (λ n. said.Low n time) says.front ∙ ap (said.Low (length mid.seen)) says.time; part = begins_itself mid.seen; later = begins_length mid.seen old.seen goes.begins }
+
+-- ---- each list
+
+went_on : (start seat : SeatView) (index : ℕ) (calls : List Call) (lines : List Line) → Runs start index calls lines seat → BeginsWith seat.seen start.seen
+went_on start seat index [] [] run = subst (λ s. BeginsWith s.seen start.seen) (sym run) (begins_itself start.seen)
+went_on start seat index [] (line ∷ lines) run = absurd run
+went_on start seat index (call ∷ calls) [] run = absurd run
+went_on start seat index (call ∷ calls) (line ∷ lines) run = begins_on seat.seen run.2.seen start.seen (went_on run.2 seat (suc index) calls lines run.5) run.3.begins
+
+true_lines : (settings : Settings) (h : History) (start seat : SeatView) (thread index : ℕ) (calls : List Call) (lines : List Line) → start.cache.config ≡ settings → start.number ≡ thread → BeginsWith h seat.seen
+    → Runs start index calls lines seat → AreTrueLines settings h thread index (length start.seen) calls lines
+true_lines settings h start seat thread index [] [] set num begins run = tt
+true_lines settings h start seat thread index [] (line ∷ lines) set num begins run = run
+true_lines settings h start seat thread index (call ∷ calls) [] set num begins run = run
+true_lines settings h start seat thread index (call ∷ calls) (line ∷ lines) set num begins run =
+    let mid = run.2 in
+    let told = is_told start mid call line.said run.3 run.4 in
+    let seen : BeginsWith h mid.seen = begins_on h seat.seen mid.seen begins (went_on mid seat (suc index) calls lines run.5) in
+    let rest = true_lines settings h mid seat thread (suc index) calls lines (ap (λ (c : SharedView). c.config) run.3.cache ∙ set) (run.3.number ∙ num) begins run.5 in (
+      record {
+        before = told.before;
+        told = same_line line thread index (said_after settings told.before call) (run.0 ∙ num) run.1 (told.told ∙ ap (λ s. said_after s told.before call) set);
+        part = begins_on h mid.seen (after_call thread told.before call) seen (subst (λ n. BeginsWith mid.seen (after_call n told.before call)) num told.part);
+        later = told.later;
+      },
+      subst (λ n. AreTrueLines settings h thread (suc index) n calls lines) (sym (reaches start mid call line.said run.4)) rest,
+    )
+
+true_lists : (cache : SharedView) (h : History) (thread : ℕ) (lists : List (List Call)) (lines : List Line) (seats : List SeatView) → All (λ (seat : SeatView). BeginsWith h seat.seen) seats
+    → RunsAll cache thread lists lines seats → AreTrueLists cache.config h thread lists lines
+true_lists cache h thread [] lines [] begin runs = runs
+true_lists cache h thread [] lines (s ∷ seats) begin runs = absurd runs
+true_lists cache h thread (calls ∷ lists) lines [] begin runs = absurd runs
+true_lists cache h thread (calls ∷ lists) lines (s ∷ seats) begin runs = (
+  runs.0,
+  runs.1,
+  runs.2,
+  true_lines cache.config h (new_seat cache thread) s thread 0 calls runs.0 refl refl (All-head (λ (seat : SeatView). BeginsWith h seat.seen) s seats begin) runs.3,
+  true_lists cache h (suc thread) lists runs.1 seats (All-tail (λ (seat : SeatView). BeginsWith h seat.seen) s seats begin) runs.4,
+)
+
+-- ---- how many Adds there are
+
+-- how many entries so many seats have, from a number on
+abbrev of_seats : ℕ → ℕ → History → ℕ
+of_seats from zero h = 0
+of_seats from (suc others) h = own_count from h + of_seats (suc from) others h
+
+none_at_all : (from n : ℕ) → of_seats from n [] ≡ 0
+none_at_all from zero = refl
+none_at_all from (suc n) = omega (arith, none_at_all (suc from) n)
+
+same_or_not : (a b : ℕ) → (a ≡ b) ⊎ (a ≢ b)
+same_or_not a b = by_test (a == b) refl
+  where
+    by_test : (t : Bool) → (a == b) ≡ t → (a ≡ b) ⊎ (a ≢ b)
+    by_test true is = inl (grind (arith, nat_tests))
+    by_test false is = inr (grind (arith, nat_tests))
+
+of_later_seats : (from n : ℕ) (e : Entry) (h : History) → e.seat < from → of_seats from n (e ∷ h) ≡ of_seats from n h
+of_later_seats from zero e h below = refl
+of_later_seats from (suc n) e h below =
+    omega (arith, own_append from (e ∷ []) h, own_of_other from e (λ same. omega (arith, same)), of_later_seats (suc from) n e h (omega arith))
+
+of_one_of_them : (from n : ℕ) (e : Entry) (h : History) → from ≤ e.seat → e.seat < from + n → of_seats from n (e ∷ h) ≡ suc (of_seats from n h)
+of_one_of_them from zero e h low high = absurd (omega arith)
+of_one_of_them from (suc n) e h low high =
+    elim (same_or_not e.seat from) [
+      | inl same ↦ omega (arith, own_append from (e ∷ []) h, own_of_one from e same, of_later_seats (suc from) n e h (omega (arith, same)))
+      | inr other ↦ omega (arith, own_append from (e ∷ []) h, own_of_other from e other, of_one_of_them (suc from) n e h (omega (arith, other)) (omega arith))
+    ]
+
+-- a legal history has no entries but those of its seats
+all_are_of_seats : (seats : ℕ) (done left : History) → IsLegal seats (done ++ left) → length left ≡ of_seats 0 seats left
+all_are_of_seats seats done [] legal = sym (none_at_all 0 seats)
+all_are_of_seats seats done (e ∷ left) legal =
+    let next = legal done e (left, sym (append_assoc done (e ∷ []) left)) in
+    let rest = all_are_of_seats seats (done ++ e ∷ []) left (subst (IsLegal seats) (sym (append_assoc done (e ∷ []) left)) legal) in
+    omega (arith, rest, of_one_of_them 0 seats e left (omega arith) (omega (arith, next.seat)))
+
+counted : (start seat : SeatView) (index : ℕ) (calls : List Call) (lines : List Line) → Runs start index calls lines seat → (seat.number ≡ start.number) × (seat.count ≡ start.count + adds_of_list calls)
+counted start seat index [] [] run = (ap (λ s. s.number) run, omega (arith, ap (λ (s : SeatView). s.count) run))
+counted start seat index [] (line ∷ lines) run = absurd run
+counted start seat index (call ∷ calls) [] run = absurd run
+counted start seat index (call ∷ calls) (line ∷ lines) run =
+    let rest = counted run.2 seat (suc index) calls lines run.5 in
+    (rest.0 ∙ run.3.number, omega (arith, rest.1, one call line.said run.4, sum_by-cons (λ (c : Call). cond (is_add_call c) 1 0) call calls))
+  where
+    one : (call : Call) (answer : Said) → Says start run.2 call answer → run.2.count ≡ start.count + (cond (is_add_call call) 1 0)
+    one (Add span value now) (said.Add place added) says = says.1.count
+    one (Add span value now) (said.Get front value') says = absurd says
+    one (Add span value now) (said.Low front time) says = absurd says
+    one (Get span) (said.Add place added) says = absurd says
+    one (Get span) (said.Get front value) says = omega (arith, says.count)
+    one (Get span) (said.Low front time) says = absurd says
+    one Low (said.Add place added) says = absurd says
+    one Low (said.Get front value) says = absurd says
+    one Low (said.Low front time) says = omega (arith, says.count)
+
+adds_of_seats : (cache : SharedView) (h : History) (thread : ℕ) (lists : List (List Call)) (lines : List Line) (seats : List SeatView) → All (λ (seat : SeatView). own_count seat.number h ≡ seat.count) seats
+    → RunsAll cache thread lists lines seats → of_seats thread (length lists) h ≡ adds_of_lists lists
+adds_of_seats cache h thread [] lines [] own runs = refl
+adds_of_seats cache h thread [] lines (s ∷ seats) own runs = absurd runs
+adds_of_seats cache h thread (calls ∷ lists) lines [] own runs = absurd runs
+adds_of_seats cache h thread (calls ∷ lists) lines (s ∷ seats) own runs =
+    let one = counted (new_seat cache thread) s 0 calls runs.0 runs.3 in
+    let mine : own_count thread h ≡ s.count = subst (λ n. own_count n h ≡ s.count) one.0 (All-head (λ (seat : SeatView). own_count seat.number h ≡ seat.count) s seats own) in
+    omega (arith, mine, one.1, adds_of_seats cache h (suc thread) lists runs.1 seats (All-tail (λ (seat : SeatView). own_count seat.number h ≡ seat.count) s seats own) runs.4)
+
+-- ---- the log
+
+pub run_of : (trace : Trace) (cache : SharedView) (lines : List Line) (seats : List SeatView) (closed : Closed) → cache.config ≡ trace.config → cache.seats ≡ length trace.threads
+    → RunsAll cache 0 trace.threads lines seats → Closes cache seats closed → (h : History) × IsRunOf trace lines h
+run_of trace cache lines seats closed config count runs closes = (
+  closes.history,
+  record {
+    size = all_are_of_seats (length trace.threads) [] closes.history (subst (λ n. IsLegal n closes.history) count closes.legal) ∙ adds_of_seats cache closes.history 0 trace.threads lines seats closes.own runs;
+    lines_are_true = subst (λ s. AreTrueLists s closes.history 0 trace.threads lines) config (true_lists cache closes.history 0 trace.threads lines seats closes.begins runs);
+  },
+)

@@ -1,0 +1,30 @@
+-- What the thread of a list is answered, call after call.
+use Rattle.std.specs.Prelude.{◌≡◌, ℕ, suc, List, [], ◌∷◌, ◌++◌}
+use Rattle.tsc_shared.specs.Seats.{SharedView, SeatView, FrontView, new_seat}
+use Rattle.tsc_shared.specs.Answers.{GoesOn, Accepts, Looks, ReadsFloor}
+use Rattle.tsc_json.specs.declared.trace.Call.{Call}
+use Rattle.tsc_json.specs.declared.trace.Call.TheVariants.{Add, Get, Low}
+use Rattle.tsc_trace.specs.declared.log.Line.{Line}
+use Rattle.tsc_trace.specs.declared.log.Said.{Said}
+use Rattle.tsc_trace.specs.declared.log.Said.TheVariants as said
+
+-- What is said of a call is what the shared cache answered, where the seat was as the first before and is as the second then.
+abbrev pub Says : SeatView → SeatView → Call → Said → Type 0
+Says old new (Add span value now) (said.Add place added) = (front : FrontView) × Accepts old new span value now (record { place = place; added = added; front = front })
+Says old new (Get span) (said.Get front value) = Looks old new span (record { value = value; front = front })
+Says old new Low (said.Low front time) = ReadsFloor old new (record { time = time; front = front })
+Says old new call said = ⊥
+
+-- A list's run: its calls were made at one seat, one after another, and each line says what was answered. The lines have the seat's number, and are numbered from a place in the list on.
+abbrev pub Runs : SeatView → ℕ → List Call → List Line → SeatView → Type 0
+Runs old index [] [] new = new ≡ old
+Runs old index (call ∷ calls) (line ∷ lines) new =
+    (line.thread ≡ old.number) × (line.index ≡ index) × (mid : SeatView) × GoesOn old mid × Says old mid call line.said × Runs mid (suc index) calls lines new
+Runs old index calls lines new = ⊥
+
+-- The runs of lists, from the list with this number on, each at a new seat of the cache: their lines in a row, and how they leave their seats.
+abbrev pub RunsAll : SharedView → ℕ → List (List Call) → List Line → List SeatView → Type 0
+RunsAll cache thread [] lines [] = lines ≡ []
+RunsAll cache thread (calls ∷ lists) lines (seat ∷ seats) =
+    (first : List Line) × (others : List Line) × (lines ≡ first ++ others) × Runs (new_seat cache thread) 0 calls first seat × RunsAll cache (suc thread) lists others seats
+RunsAll cache thread lists lines seats = ⊥

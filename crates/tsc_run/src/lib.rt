@@ -1,0 +1,15 @@
+//! A trace on threads.
+//!
+//! [`run_trace`] runs each list of a [`Trace`](tsc_trace::Trace) on a thread of its own, over one
+//! [`SharedCache`](tsc_shared::SharedCache), and gives the log of what the threads were answered.
+#![tactic(auto)]
+
+mod fault;
+mod list;
+mod run;
+#[cfg(test)]
+mod tests;
+mod threads;
+
+pub use fault::RunFault;
+pub use run::run_trace;

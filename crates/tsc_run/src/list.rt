@@ -1,0 +1,85 @@
+//! One list of a trace, at a seat of the shared cache.
+ghost use Rattle.std.specs.Prelude.{◌≡◌, ◌≤◌, IfOk, length};
+ghost use Rattle.tsc_json.specs.Lists.{most_calls};
+ghost use Rattle.tsc_shared.specs.Answers.{GoesOn};
+ghost use Rattle.tsc_run.specs.Runs.{Says, Runs};
+
+use crate::fault::RunFault;
+use std::alloc::Global;
+use std::sync::Wait;
+use tsc_shared::{AddFault, Gate, Seat, SharedCache};
+use tsc_trace::{Call, Line, Said};
+
+/// What a list's run leaves: its seat, and a line for each of its calls.
+#[derive(Drop)]
+pub(crate) struct ListRun {
+    pub seat: Seat,
+    pub lines: Vec<Line>,
+}
+
+/// Makes a call at this seat, and gives its answer.
+fn answer<R: Wait>(
+    rt: &R,
+    cache: &SharedCache,
+    seat: &mut Seat,
+    call: &Call,
+) -> Result<Said, RunFault>
+    requires cache { seat.old.cache ≡ cache.now }
+    ensures seat { GoesOn seat.old seat.new }
+    ensures said { IfOk result (λ said. Says seat.old seat.new call.now said) }
+{
+    match call {
+        Call::Add { span, value, now } => match cache.add(rt, seat, span, *value, *now) {
+            Ok(receipt) => Ok(Said::Add {
+                place: receipt.place,
+                added: receipt.added,
+            }),
+            Err(AddFault::HistoryFull(_)) => Err(RunFault::HistoryFull),
+            Err(AddFault::NoMemory) => Err(RunFault::NoMemory),
+        },
+        Call::Get { span } => {
+            let answer = cache.get_max(rt, seat, span)?;
+            Ok(Said::Get {
+                front: answer.front,
+                value: answer.value,
+            })
+        }
+        Call::Low => {
+            let answer = cache.low_water(rt, seat)?;
+            Ok(Said::Low {
+                front: answer.front,
+                time: answer.time,
+            })
+        }
+    }
+}
+
+/// Makes the calls of a list, one after another, and tells the gate of each. The list has the number of its
+/// seat.
+pub(crate) fn run_list<R: Wait, G: Gate>(
+    rt: &R,
+    alloc: Global,
+    cache: &SharedCache,
+    mut seat: Seat,
+    calls: &[Call],
+    gate: &G,
+) -> Result<ListRun, RunFault>
+    requires cache { seat.cache ≡ cache.now }
+    requires calls { length calls.now ≤ most_calls }
+    ensures { IfOk result (λ ran. Runs seat 0 calls.now ran.lines.items ran.seat) }
+{
+    let thread = seat.number();
+    let mut lines = Vec::with_capacity(alloc, calls.len())?;
+    for (index, call) in calls.iter().enumerate() {
+        let index = index as u32;
+        gate.start(thread, index);
+        let said = answer(rt, cache, &mut seat, call)?;
+        gate.done(thread, index);
+        lines.push(Line {
+            thread,
+            index,
+            said,
+        })?;
+    }
+    Ok(ListRun { seat, lines })
+}
