@@ -180,7 +180,7 @@ impl Leaves {
         let mut leaf = leaf.try_copy(1)?;
         leaf.split(Some((at, key.try_copy()?)));
         if leaf.len() > LEAF_NODES {
-            let upper = leaf.split_off(LEAF_NODES / 2)?;
+            let upper = leaf.cut()?;
             self.list.insert(place + 1, Arc::new(alloc, upper)?)?;
         }
         self.list[place] = Arc::new(alloc, leaf)?;

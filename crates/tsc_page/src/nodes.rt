@@ -252,14 +252,14 @@ impl Nodes {
         self.raise_between(from, to, value);
     }
 
-    /// Takes off the nodes from a place on.
-    pub(crate) fn split_off(&mut self, place: usize) -> Result<Nodes, NoMemory>
-        requires bound { place ≤ length self.old.list.items }
-        ensures kept { OnOk result (self.new.list.items ≡ take place self.old.list.items) }
-        ensures rest { IfOk result (λ upper. upper.list.items ≡ drop place self.old.list.items) }
+    /// Takes off the nodes behind the first 32.
+    pub(crate) fn cut(&mut self) -> Result<Nodes, NoMemory>
+        requires long { 32 ≤ length self.old.list.items }
+        ensures kept { OnOk result (self.new.list.items ≡ take 32 self.old.list.items) }
+        ensures rest { IfOk result (λ upper. upper.list.items ≡ drop 32 self.old.list.items) }
     {
         Ok(Nodes {
-            list: self.list.split_off(place)?,
+            list: self.list.split_off(32)?,
         })
     }
 
