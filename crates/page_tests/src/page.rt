@@ -477,7 +477,8 @@ fn answers_after_a_long_add(alloc: Global, page: &Page) -> Result<bool, Fail> {
     Ok(alike && below == value(0, 0, NOBODY)? && last == value(200, 0, SECOND)? && across == last)
 }
 
-/// An Add over the leaves of a page that a copy shares: the copy answers as before.
+/// An Add over leaves of a page of which a copy shares all but one: the copy answers as before. And one over
+/// leaves that nobody else holds, with a new key in the last.
 #[test]
 fn an_add_over_shared_leaves(rt: HostRuntime) -> Result<(), Fail> {
     let mut page = page_of_bytes(rt.alloc())?;
@@ -487,14 +488,18 @@ fn an_add_over_shared_leaves(rt: HostRuntime) -> Result<(), Fail> {
         exclude_from: false,
         exclude_to: true,
     };
+    let inner = Span::point(byte_key(rt.alloc(), 40)?);
+    add_once(&mut page, &inner, value(150, 0, SECOND)?)?;
     let span = byte_range(rt.alloc(), 10, 120, ends)?;
     add_once(&mut page, &span, value(200, 0, SECOND)?)?;
     assert!(rt; answers_after_a_long_add(rt.alloc(), &page)?);
     assert!(rt; has_leaves(&page, &[32, 32, 32, 34]) && has_leaves(&copy, &[32, 32, 32, 34]));
-    let single = Span::point(byte_key(rt.alloc(), 10)?);
-    assert!(rt;
-        copy.lookup(&single) == value(11, 0, FIRST)? && copy.top() == value(130, 0, NOBODY)?.time()
-    );
+    let longer = byte_range(rt.alloc(), 10, 150, ends)?;
+    add_once(&mut page, &longer, value(201, 0, FIRST)?)?;
+    assert!(rt; has_leaves(&page, &[32, 32, 32, 35]));
+    assert!(rt; page.lookup(&inner) == value(201, 0, FIRST)? && page.nodes() == 131);
+    assert!(rt; copy.lookup(&inner) == value(41, 0, FIRST)? && copy.nodes() == 130);
+    assert!(rt; copy.top() == value(130, 0, NOBODY)?.time());
     Ok(())
 }
 

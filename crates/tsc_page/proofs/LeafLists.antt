@@ -1,5 +1,5 @@
 -- Lists of leaves, and where a cut falls among them.
-use Rattle.std.proofs.Common.{◌≡◌, ◌⊎◌, inl, inr, ◌∙◌, refl, sym, ap, subst, Bool, true, false, ℕ, zero, suc, ◌+◌, ◌-◌, ◌<◌, ◌≤◌, List, [], ◌∷◌, ◌++◌, length, map, take, drop, get_or, set, arith}
+use Rattle.std.proofs.Common.{◌≡◌, ◌⊎◌, inl, inr, ◌∙◌, refl, sym, ap, subst, Bool, true, false, ℕ, zero, suc, ◌+◌, ◌<◌, ◌≤◌, List, [], ◌∷◌, ◌++◌, length, map, take, drop, get_or, set, arith}
 use Rattle.std.specs.Prelude.{not, Some, None, sum, slice_get}
 use Rattle.std.specs.List.Sorted.{IsPartitionPoint, IsPartitionedBy}
 use Rattle.std.proofs.lemmas.List.{append_assoc, length-map, length-append}
@@ -142,18 +142,16 @@ starts_part f xs c leaves i j d h g e =
     not_true true q = sym q
     not_true false q = refl
 
--- where a search for a cut ends
-pub leaf_found : {X : Type 0} (f : X → List Node) (xs : List X) (c : Cut) (r : ℕ) → r ≤ length xs
-    → IsPartitionPoint (λ (x : X). not (is_below c (start_of (f x))) ≡ true) (λ x. not (is_below c (start_of (f x))) ≡ false) xs r → IsLeafAt (map f xs) c (r - 1)
-leaf_found f xs c r within parts = record {
+-- where a search for a cut among the leaves behind the first one ends
+pub leaf_found : {X : Type 0} (f : X → List Node) (x : X) (xs : List X) (c : Cut) (r : ℕ) → r ≤ length xs
+    → IsPartitionPoint (λ (y : X). not (is_below c (start_of (f y))) ≡ true) (λ y. not (is_below c (start_of (f y))) ≡ false) xs r → IsLeafAt (f x ∷ map f xs) c r
+leaf_found {X = X} f x xs c r within parts = record {
   bound = omega (arith, length-map xs f, within);
-  low = λ h.
-      let read = map_read f xs (r - 1) (omega (arith, h)) in
-      subst (λ (l : List Node). is_below c (start_of l) ≡ false) (sym read.1) (not_true (is_below c (start_of (f (get_or xs (r - 1) read.0)))) (parts.0 (r - 1) read.0 (omega arith) (omega (arith, h))));
+  low = λ h. below r h within parts.0;
   high = λ h.
-      let inside : suc (r - 1) < length xs = omega (arith, length-map xs f, h) in
-      let read = map_read f xs (suc (r - 1)) inside in
-      subst (λ (l : List Node). is_below c (start_of l) ≡ true) (sym read.1) (not_false (is_below c (start_of (f (get_or xs (suc (r - 1)) read.0)))) (parts.1 (suc (r - 1)) read.0 (omega arith) inside));
+      let inside : r < length xs = omega (arith, length-map xs f, h) in
+      let read = map_read f xs r inside in
+      subst (λ (l : List Node). is_below c (start_of l) ≡ true) (sym read.1) (not_false (is_below c (start_of (f (get_or xs r read.0)))) (parts.1 r read.0 (omega arith) inside));
 }
   where
     not_true : (b : Bool) → not b ≡ true → b ≡ false
@@ -163,6 +161,12 @@ leaf_found f xs c r within parts = record {
     not_false : (b : Bool) → not b ≡ false → b ≡ true
     not_false true q = refl
     not_false false q = sym q
+
+    below : (q : ℕ) → 1 ≤ q → q ≤ length xs → ((i : ℕ) (d : X) → 0 ≤ i → i < q → not (is_below c (start_of (f (get_or xs i d)))) ≡ true) → is_below c (start_of (get_or (f x ∷ map f xs) q [])) ≡ false
+    below zero h within low = absurd (omega (arith, h))
+    below (suc q) h within low =
+        let read = map_read f xs q (omega (arith, within)) in
+        subst (λ (l : List Node). is_below c (start_of l) ≡ false) (sym read.1) (not_true (is_below c (start_of (f (get_or xs q read.0)))) (low q read.0 (omega arith) (omega (arith, within))))
 
 -- what stands before the leaf of a cut stands below the cut
 pub starts_low : (ls : List (List Node)) (c : Cut) (p : ℕ) → AreLeafSizes (leaf_sizes ls) → IsLeafAt ls c p → (nodes_of (take p ls) ≡ []) ⊎ Le (start_of (nodes_of (drop p ls))) c

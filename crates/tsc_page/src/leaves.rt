@@ -59,10 +59,10 @@ impl Leaves {
         requires counted { AreCounted self.now }
         ensures { IsLeafAt (leaves_of self.now) (cut_of cut.entry) result }
     {
-        self.list
-            .as_slice()
-            .partition_point(|leaf| !cut.is_below(leaf.start()))
-            .saturating_sub(1)
+        match self.list.split_first() {
+            Some((_, rest)) => rest.partition_point(|leaf| !cut.is_below(leaf.start())),
+            None => 0,
+        }
     }
 
     /// Whether what stops at a cut goes on beyond a leaf.
@@ -180,7 +180,7 @@ impl Leaves {
         let mut leaf = leaf.try_copy(1)?;
         leaf.split(Some((at, key.try_copy()?)));
         if leaf.len() > LEAF_NODES {
-            let upper = leaf.split_off(LEAF_NODES / 2)?;
+            let upper = leaf.cut()?;
             self.list.insert(place + 1, Arc::new(alloc, upper)?)?;
         }
         self.list[place] = Arc::new(alloc, leaf)?;

@@ -211,6 +211,8 @@ impl Nodes {
         ensures first { IfOk result (λ new. IsNewKey self.now.list.items (option_map (λ k. k.now) first.entry) new.first) }
         ensures second { IfOk result (λ new. IsNewKey self.now.list.items (option_map (λ k. k.now) second.entry) new.second) }
         ensures memory { HasNodes self.now.list.items (option_map (λ k. k.now) first.entry) (option_map (λ k. k.now) second.entry) → IsOk result }
+        ensures known { IfOk result (λ new. HasNodes self.now.list.items (option_map (λ k. k.now) first.entry) (option_map (λ k. k.now) second.entry)
+            → new_count new.first new.second ≡ 0) }
     {
         Ok(NewKeys {
             first: self.new_key(first)?,
@@ -218,10 +220,12 @@ impl Nodes {
         })
     }
 
-    /// Makes room for nodes of new keys. Where there are none no memory is asked for.
+    /// Makes room for nodes of new keys. Where memory is refused the list has not grown. Where there are no new keys
+    /// no memory is asked for.
     pub(crate) fn reserve(&mut self, new: &NewKeys) -> Result<(), NoMemory>
         ensures kept { self.new.list.items ≡ self.old.list.items }
         ensures room { OnOk result (vec_len self.new.list + (new_count new.now.first new.now.second) ≤ vec_capacity self.new.list) }
+        ensures capacity { OnErr result (vec_capacity self.new.list ≡ vec_capacity self.old.list) }
         ensures memory { new_count new.now.first new.now.second ≡ 0 → IsOk result }
     {
         let new = new.len();
@@ -248,14 +252,14 @@ impl Nodes {
         self.raise_between(from, to, value);
     }
 
-    /// Takes off the nodes from a place on.
-    pub(crate) fn split_off(&mut self, place: usize) -> Result<Nodes, NoMemory>
-        requires bound { place ≤ length self.old.list.items }
-        ensures kept { OnOk result (self.new.list.items ≡ take place self.old.list.items) }
-        ensures rest { IfOk result (λ upper. upper.list.items ≡ drop place self.old.list.items) }
+    /// Takes off the nodes behind the first 32.
+    pub(crate) fn cut(&mut self) -> Result<Nodes, NoMemory>
+        requires long { 32 ≤ length self.old.list.items }
+        ensures kept { OnOk result (self.new.list.items ≡ take 32 self.old.list.items) }
+        ensures rest { IfOk result (λ upper. upper.list.items ≡ drop 32 self.old.list.items) }
     {
         Ok(Nodes {
-            list: self.list.split_off(place)?,
+            list: self.list.split_off(32)?,
         })
     }
 
