@@ -212,7 +212,7 @@ fn open_again(
     config: Config,
     limit: u64,
 ) -> Result<(SharedCache, Vec<Seat>), OpenFault>
-    ensures { IfOk result (λ opened. Opens (record { config = config; seats = 2; limit = limit }) opened.0 opened.1.items) }
+    ensures { IfOk result (λ opened. Opens config 2 limit opened.0 opened.1.items) }
 {
     match SharedCache::open(alloc, config, 2, limit) {
         Ok(opened) => Ok(opened),
