@@ -1,5 +1,7 @@
 //! Runs over memory, of traces whose logs are known.
-use crate::replay::traces::{NO_JSON, OVERLAPPING_READS, OVERLAPPING_READS_LOG, TWO_READERS, TWO_READERS_LOG, Row};
+use crate::replay::traces::{
+    NO_JSON, OVERLAPPING_READS, OVERLAPPING_READS_LOG, Row, TWO_READERS, TWO_READERS_LOG,
+};
 use crate::run::{run_command, tell_stop};
 use std::alloc::Global;
 use std::process::Abort;
