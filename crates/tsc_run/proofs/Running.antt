@@ -1,10 +1,10 @@
 -- A list's run, call after call, and the runs of lists, one list after another.
-use Rattle.std.proofs.Common.{◌≡◌, ◌∙◌, refl, sym, ap, subst, ℕ, zero, suc, ◌+◌, ◌<◌, ◌≤◌, List, [], ◌∷◌, ◌++◌, length, drop, get_or, drop-cons, append_assoc, append-nil, length-append, add-one, arith, All}
+use Rattle.std.proofs.Common.{◌≡◌, ◌∙◌, refl, sym, ap, subst, ℕ, zero, suc, ◌+◌, ◌<◌, ◌≤◌, List, [], ◌∷◌, ◌++◌, length, drop, get_or, drop-cons, append_assoc, append-nil, length-append, add-one, arith, All, map, Vec, Global}
 use Rattle.std.specs.List.{sum_by}
 use Rattle.std.proofs.lemmas.List.Sums.{sum_by-append, sum_by-cons}
 use Rattle.std.proofs.lemmas.List.Elements.{All-cons, All-nil}
 use Rattle.tsc_json.specs.Lists.{most_calls}
-use Rattle.std.proofs.lemmas.List.{drop_all}
+use Rattle.std.proofs.lemmas.List.{drop_all, length-map}
 use Rattle.tsc_shared.specs.Seats.{SharedView, SeatView, new_seat, new_seats}
 use Rattle.tsc_shared.specs.Answers.{GoesOn}
 use Rattle.tsc_json.specs.declared.trace.Call.{Call}
@@ -69,21 +69,28 @@ same_ends (z ∷ xs) (w ∷ ys) x y e =
     let first : z ≡ w = ap (λ seats. get_or seats 0 z) e in
     (ap (λ s. s ∷ xs) first ∙ ap (λ seats. w ∷ seats) both.0, both.1)
 
+-- the calls of lists, as the code has them
+abbrev pub calls_in : List (Vec Call Global) → List (List Call)
+calls_in lists = map (λ calls. calls.items) lists
+
 -- the last seat is taken from new ones
-pub seat_taken : (cache : SharedView) (seats rest : List SeatView) (seat : SeatView) (lists others : List (List Call)) (calls : List Call)
-    → seats ≡ new_seats cache 0 (length lists) → seats ≡ rest ++ seat ∷ [] → lists ≡ others ++ calls ∷ [] → (rest ≡ new_seats cache 0 (length others)) × (seat ≡ new_seat cache (length others))
+pub seat_taken : (cache : SharedView) (seats rest : List SeatView) (seat : SeatView) (lists others : List (Vec Call Global)) (calls : List Call)
+    → seats ≡ new_seats cache 0 (length lists) → seats ≡ rest ++ seat ∷ [] → calls_in lists ≡ calls_in others ++ calls ∷ []
+    → (rest ≡ new_seats cache 0 (length others)) × (seat ≡ new_seat cache (length others))
 seat_taken cache seats rest seat lists others calls new last parted =
-    let long : length lists ≡ suc (length others) = omega (arith, ap length parted, length-append others (calls ∷ [])) in
+    let long : length lists ≡ suc (length others) =
+    omega (arith, ap length parted, length-append (calls_in others) (calls ∷ []), length-map lists (λ (calls : Vec Call Global). calls.items), length-map others (λ (calls : Vec Call Global). calls.items)) in
     let both = same_ends rest (new_seats cache 0 (length others)) seat (new_seat cache (0 + length others)) (sym last ∙ new ∙ ap (new_seats cache 0) long ∙ last_seat cache 0 (length others)) in
     (both.0, both.1 ∙ ap (new_seat cache) (omega arith))
 
 -- the runs with that of the last list
-pub run_added : (cache : SharedView) (lists others : List (List Call)) (calls : List Call) (lines more whole : List Line) (seats seats' : List SeatView) (from seat : SeatView)
-    → lists ≡ others ++ calls ∷ [] → from ≡ new_seat cache (length others) → RunsAll cache 0 others lines seats → Runs from 0 calls more seat
-    → whole ≡ lines ++ more → seats' ≡ seats ++ seat ∷ [] → RunsAll cache 0 lists whole seats'
+pub run_added : (cache : SharedView) (lists others : List (Vec Call Global)) (calls : List Call) (lines more whole : List Line) (seats seats' : List SeatView) (from seat : SeatView)
+    → calls_in lists ≡ calls_in others ++ calls ∷ [] → from ≡ new_seat cache (length others) → RunsAll cache 0 (calls_in others) lines seats → Runs from 0 calls more seat
+    → whole ≡ lines ++ more → seats' ≡ seats ++ seat ∷ [] → RunsAll cache 0 (calls_in lists) whole seats'
 run_added cache lists others calls lines more whole seats seats' from seat parted new runs run added pushed =
-    let at : Runs (new_seat cache (0 + length others)) 0 calls more seat = subst (λ s. Runs s 0 calls more seat) (new ∙ ap (new_seat cache) (omega arith)) run in
-    rw (parted, added, pushed) (one_list_more cache 0 others lines more seats calls seat runs at)
+    let long : length others ≡ 0 + length (calls_in others) = omega (arith, length-map others (λ (calls : Vec Call Global). calls.items)) in
+    let at : Runs (new_seat cache (0 + length (calls_in others))) 0 calls more seat = subst (λ s. Runs s 0 calls more seat) (new ∙ ap (new_seat cache) long) run in
+    rw (parted, added, pushed) (one_list_more cache 0 (calls_in others) lines more seats calls seat runs at)
 
 -- the last list has no more calls than all
 pub last_fits : (lists others : List (List Call)) (calls : List Call) → lists ≡ others ++ calls ∷ [] → sum_by length lists ≤ most_calls → length calls ≤ most_calls

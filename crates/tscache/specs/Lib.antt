@@ -3,3 +3,4 @@ pub mod Place
 pub mod Program
 pub mod Replay
 pub mod Words
+pub mod Run

@@ -8,6 +8,7 @@
 mod place;
 mod program;
 mod replay;
+mod run;
 mod system;
 mod words;
 

@@ -1,12 +1,11 @@
-use Rattle.std.proofs.Common.{◌≡◌, ◌∙◌, sym, ap, subst, map, ◌++◌, ◌∷◌, []}
-use Rattle.std.proofs.lemmas.List.{length-map}
+use Rattle.std.proofs.Common.{◌≡◌, ◌∙◌, ap, subst, ◌++◌, ◌∷◌, []}
 use Rattle.std.proofs.Crossing.{crosses}
 use denote.Param.Send.{sendable}
 use Rattle.tsc_shared.proofs.Crossing.{seat_sends, shared_cache_syncs}
-use Rattle.tsc_shared.specs.Seats.{SeatView, new_seats}
+use Rattle.tsc_shared.specs.Seats.{SeatView}
 use Rattle.tsc_run.specs.Runs.{Runs}
 use Rattle.tsc_run.proofs.Crossing.{call_syncs, fault_sends, list_run_sends}
-use Rattle.tsc_run.proofs.Running.{seat_taken, run_added, last_fits}
+use Rattle.tsc_run.proofs.Running.{calls_in, seat_taken, run_added, last_fits}
 use Rattle.tsc_run.proofs.threads.+run_in.Goals as goal
 
 pub spawn_with-requires-send-F : goal.spawn_with-requires-send-F
@@ -17,26 +16,22 @@ spawn_with-requires-send-T g t c κs within = search (sendable, crosses, fault_s
 
 pub spawn_with-requires-clause-runs : goal.spawn_with-requires-clause-runs
 spawn_with-requires-clause-runs g t c κs within =
-    let lists = map (λ calls. calls.items) c.args.lists.now in let others = map (λ calls. calls.items) c.in-Some-split_last.others.now in
-    let parted = c.in-Some-split_last.ensures.some in
-    let taken = seat_taken c.args.cache.now c.args.seats.items c.pop.new.self.items c.in-Some.seat lists others c.in-Some-split_last.calls.now (c.requires.seats ∙ ap (new_seats c.args.cache.now 0) (sym (length-map c.args.lists.now (λ calls. calls.items)))) c.in-Some.ensures.items parted in
-    (ap (λ (s : SeatView). s.cache) taken.1, last_fits lists others c.in-Some-split_last.calls.now parted c.requires.calls)
+    let others = c.in-Some-split_last.others.now in let calls = c.in-Some-split_last.calls.now in let parted = c.in-Some-split_last.ensures.some in
+    let taken = seat_taken c.args.cache.now c.args.seats.items c.pop.new.self.items c.in-Some.seat c.args.lists.now others calls c.requires.seats c.in-Some.ensures.items parted in
+    (ap (λ (s : SeatView). s.cache) taken.1, last_fits (calls_in c.args.lists.now) (calls_in others) calls parted c.requires.calls)
 
 pub run_in-runs-requires-clause-seats : goal.run_in-runs-requires-clause-seats
 run_in-runs-requires-clause-seats g t c κs within =
-    let lists = map (λ calls. calls.items) c.args.lists.now in let others = map (λ calls. calls.items) c.in-Some-split_last.others.now in
-    let taken = seat_taken c.args.cache.now c.args.seats.items c.pop.new.self.items c.in-Some.seat lists others c.in-Some-split_last.calls.now (c.requires.seats ∙ ap (new_seats c.args.cache.now 0) (sym (length-map c.args.lists.now (λ calls. calls.items)))) c.in-Some.ensures.items c.in-Some-split_last.ensures.some in
-    taken.0 ∙ ap (new_seats c.args.cache.now 0) (length-map c.in-Some-split_last.others.now (λ calls. calls.items))
+    (seat_taken c.args.cache.now c.args.seats.items c.pop.new.self.items c.in-Some.seat c.args.lists.now c.in-Some-split_last.others.now c.in-Some-split_last.calls.now c.requires.seats c.in-Some.ensures.items
+    c.in-Some-split_last.ensures.some).0
 
 pub returns : goal.returns
 returns g t c =
-    let lists = map (λ calls. calls.items) c.args.lists.now in let others = map (λ calls. calls.items) c.in-Some-split_last.others.now in
-    let parted = c.in-Some-split_last.ensures.some in
-    let taken = seat_taken c.args.cache.now c.args.seats.items c.pop.new.self.items c.in-Some.seat lists others c.in-Some-split_last.calls.now (c.requires.seats ∙ ap (new_seats c.args.cache.now 0) (sym (length-map c.args.lists.now (λ calls. calls.items)))) c.in-Some.ensures.items parted in
+    let others = c.in-Some-split_last.others.now in let calls = c.in-Some-split_last.calls.now in let parted = c.in-Some-split_last.ensures.some in
+    let taken = seat_taken c.args.cache.now c.args.seats.items c.pop.new.self.items c.in-Some.seat c.args.lists.now others calls c.requires.seats c.in-Some.ensures.items parted in
     let promised = c.in-Ok.ensures.ok in let runs = c.in_ok-seats.field-0 in let run = c.in_ok-seat.field-0 in
     let added : c.append.new.self.items ≡ runs.lines.items ++ run.lines.items = let a = c.in_ok-append.ensures.items in let b = c.in_ok-seats.lines-is in let d = c.in_ok-seat.more-is in cc in
     let pushed : c.push.new.self.items ≡ runs.seats.items ++ run.seat ∷ [] = let a = c.in_ok-push.ensures.items in let b = c.in_ok-seats.seats-is in let d = c.in_ok-seat.seat-is in cc in
-    run_added c.args.cache.now lists others c.in-Some-split_last.calls.now runs.lines.items run.lines.items c.append.new.self.items runs.seats.items c.push.new.self.items c.in-Ok.child.promise.seat.value run.seat
-    parted (ap (λ p. p.seat.value) promised ∙ c.of.ensures ∙ taken.1) c.in_ok-seats.ensures
-    (subst (λ calls. Runs c.in-Ok.child.promise.seat.value 0 calls run.lines.items run.seat) (ap (λ p. p.calls.now) promised) c.in_ok-seat.ensures)
-    added pushed
+    let ran = subst (λ calls. Runs c.in-Ok.child.promise.seat.value 0 calls run.lines.items run.seat) (ap (λ p. p.calls.now) promised) c.in_ok-seat.ensures in
+    run_added c.args.cache.now c.args.lists.now others calls runs.lines.items run.lines.items c.append.new.self.items runs.seats.items c.push.new.self.items c.in-Ok.child.promise.seat.value run.seat
+    parted (ap (λ p. p.seat.value) promised ∙ c.of.ensures ∙ taken.1) c.in_ok-seats.ensures ran added pushed

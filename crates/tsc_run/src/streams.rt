@@ -1,0 +1,103 @@
+//! Runs of recorded traces from a reader to a writer.
+ghost use Rattle.std.specs.Prelude.{◌≡◌, IfErr, OnOk, OnErr};
+ghost use Rattle.tsc_stream.specs.Stream.{CouldNotWrite, HasWritten};
+ghost use Rattle.tsc_trace.specs.Replay.{fault_of_input, fault_of_output, fault_of_trace};
+ghost use Rattle.tsc_run.specs.Ending.{Ran, StopsRun, stop_of_run, stop_text};
+ghost use Rattle.tsc_run.specs.declared.streams.RunStop.TheVariants.{Stream};
+
+use crate::fault::RunFault;
+use crate::run::run_trace;
+use std::alloc::Global;
+use std::sync::Wait;
+use std::thread::Threads;
+use tsc_shared::Gate;
+use tsc_stream::{InputFault, Sink, Source, WriteFailed, read_input, write_output};
+use tsc_trace::{OutFault, ReplayFault, TraceFault, read_trace, write_log};
+
+/// Why a run ended early. Only a failed write comes after a written byte.
+#[derive(Clone, Copy, Debug, PartialEq, Eq)]
+pub enum RunStop {
+    /// Reading, the trace, writing, or want of memory, as a replay ends.
+    Stream(ReplayFault),
+    /// A lookup found no version of the cache.
+    NoView,
+    /// An Add found as many Adds in the history as the trace has.
+    HistoryFull,
+    /// A thread could not be started.
+    NoThread,
+}
+
+impl RunStop {
+    /// Writes the text of why the run ended. It takes no memory.
+    pub fn tell<W: Sink>(self, writer: &mut W) -> Result<(), WriteFailed>
+        ensures ok { OnOk result (HasWritten (W.known writer.old) (W.known writer.new) (stop_text self)) }
+        ensures err { OnErr result (CouldNotWrite (W.known writer.old) (W.known writer.new) (stop_text self)) }
+    {
+        match self {
+            RunStop::Stream(fault) => fault.tell(writer),
+            RunStop::NoView => write_output(writer, b"no view"),
+            RunStop::HistoryFull => write_output(writer, b"history full"),
+            RunStop::NoThread => write_output(writer, b"no thread"),
+        }
+    }
+}
+
+impl From<InputFault> for RunStop {
+    ghost from_gives = { λ fault given. given ≡ Stream (fault_of_input fault) };
+
+    fn from(fault: InputFault) -> RunStop {
+        RunStop::Stream(fault.into())
+    }
+}
+
+impl From<TraceFault> for RunStop {
+    ghost from_gives = { λ fault given. given ≡ Stream (fault_of_trace fault) };
+
+    fn from(fault: TraceFault) -> RunStop {
+        RunStop::Stream(fault.into())
+    }
+}
+
+impl From<OutFault> for RunStop {
+    ghost from_gives = { λ fault given. given ≡ Stream (fault_of_output fault) };
+
+    fn from(fault: OutFault) -> RunStop {
+        RunStop::Stream(fault.into())
+    }
+}
+
+impl From<RunFault> for RunStop {
+    ghost from_gives = { λ fault given. given ≡ stop_of_run fault };
+
+    /// A trace has no more lists than a cache has seats, so a cache that was not opened is want of memory.
+    fn from(fault: RunFault) -> RunStop {
+        match fault {
+            RunFault::Open(_) | RunFault::NoMemory => RunStop::Stream(ReplayFault::NoMemory),
+            RunFault::Gone => RunStop::NoView,
+            RunFault::HistoryFull => RunStop::HistoryFull,
+            RunFault::NoThread => RunStop::NoThread,
+        }
+    }
+}
+
+/// Reads a trace to its end, runs it on threads, and writes the text of the log.
+///
+/// The input is freed before the run begins, and the log is whole before any of it is written. Once a read
+/// or a write has failed, no later call makes up for it.
+pub fn run_stream<T: Threads + Wait + Sync, R: Source, W: Sink, G: Gate + Sync>(
+    rt: &T,
+    alloc: Global,
+    reader: &mut R,
+    writer: &mut W,
+    gate: &G,
+) -> Result<(), RunStop>
+    ensures ok { OnOk result (Ran (R.known reader.old) (R.known reader.new) (W.known writer.old) (W.known writer.new)) }
+    ensures err { IfErr result (λ stop. StopsRun stop (R.known reader.old) (R.known reader.new)
+        (W.known writer.old) (W.known writer.new)) }
+{
+    let input = read_input(alloc, reader)?;
+    let trace = read_trace(alloc, &input)?;
+    drop(input);
+    let log = run_trace(rt, alloc, &trace, gate)?;
+    Ok(write_log(alloc, &log, writer)?)
+}
