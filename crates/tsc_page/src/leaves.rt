@@ -16,6 +16,9 @@ use tsc_time::{NoMemory, Timestamp, Value, ratchet};
 /// How many nodes a leaf has at the most.
 const LEAF_NODES: usize = 64;
 
+/// How many leaves an Add changes in place at the most: each takes some 750 bytes of the stack.
+const DEEPEST: usize = 512;
+
 /// The nodes of a page in leaves, one after another, and how many there are. A leaf that others hold too is
 /// never changed.
 #[derive(Debug, Drop)]
@@ -242,7 +245,7 @@ impl Leaves {
     {
         let place = self.leaf_at(from);
         let (_, leaves) = self.list.split_at_mut(place);
-        match add_owned(leaves, first, second, from, to, value)? {
+        match add_owned(leaves, first, second, from, to, value, DEEPEST)? {
             Some(more) => {
                 self.count += more;
                 Ok(true)
@@ -269,7 +272,8 @@ impl Leaves {
 
 /// Makes nodes of the keys that have none, in the first leaf and in that in which a span stops, and ratchets a
 /// value into the keys and gaps between two cuts, of which the lower one falls in the first leaf. Tells how
-/// many nodes came in; or `None`, where others hold one of these leaves or where one would have to be cut.
+/// many nodes came in; or `None`, where others hold one of these leaves, where one would have to be cut, or where
+/// they are more than so many.
 /// Nothing changes then, nor where memory is refused: a leaf is changed only once those after it are.
 fn add_owned(
     leaves: &mut [Arc<Nodes>],
@@ -278,6 +282,7 @@ fn add_owned(
     from: Cut<'_>,
     to: Cut<'_>,
     value: Value,
+    deep: usize,
 ) -> Result<Option<usize>, NoMemory>
     requires leaves { AreLeaves (leaf_lists leaves.old) }
     requires order { is_below (cut_of from) (cut_of to) ≡ true }
@@ -291,6 +296,9 @@ fn add_owned(
     ensures unchanged { OnErr result (leaf_lists leaves.new ≡ leaf_lists leaves.old) }
 {
     if leaves.len() == 0 {
+        return Ok(None);
+    }
+    if deep == 0 {
         return Ok(None);
     }
     let (head, rest) = leaves.split_at_mut(1);
@@ -309,7 +317,8 @@ fn add_owned(
         leaf.add(new, from, to, value);
         return Ok(Some(made));
     }
-    let Some(more) = add_owned(rest, None, second, Cut::Before(&[]), to, value)? else {
+    let low = Cut::Before(&[]);
+    let Some(more) = add_owned(rest, None, second, low, to, value, deep - 1)? else {
         return Ok(None)
     };
     leaf.add(new, from, Cut::Last, value);
