@@ -9,3 +9,4 @@ pub mod Slots
 pub mod Misplaced
 pub mod Sweeping
 pub mod Verdicts
+pub mod Replayed

@@ -355,7 +355,7 @@ lowers_pass test looks adds i old mid new l at only = record {
     | inl e ↦ elim l.found [ inl f ↦ inl (e ∙ f) | inr f ↦ inr (ap test e ∙ f) ]
     | inr p ↦ inr (ap test p.0 ∙ p.1)
   ];
-  lowest = λ j s t. elim (either _ _ s) [
+  lowest = λ j s t. elim (either (looks j) (adds j) s) [
     | inl a ↦ omega (arith, at.less, l.lowest j a t)
     | inr b ↦ let same : j ≡ i = only j b in omega (arith, same, at.lowest (ap test (sym same) ∙ t))
   ];
