@@ -3,3 +3,10 @@ pub mod Each
 pub mod Places
 pub mod TrueRuns
 pub mod TrueVerdict
+pub mod FirstOther
+pub mod LeftLists
+pub mod Slots
+pub mod Misplaced
+pub mod Sweeping
+pub mod Verdicts
+pub mod Replayed

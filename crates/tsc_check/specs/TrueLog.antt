@@ -5,7 +5,7 @@ use Rattle.tsc_cache.specs.History.{History, BeginsWith}
 use Rattle.tsc_json.specs.declared.trace.Call.{Call}
 use Rattle.tsc_json.specs.declared.trace.Call.TheVariants.{Add, Get, Low}
 use Rattle.tsc_json.specs.declared.trace.Trace.{Trace}
-use Rattle.tsc_trace.specs.Log.{said_after, after_call}
+use Rattle.tsc_trace.specs.Log.{said_after, after_call, log_of}
 use Rattle.tsc_trace.specs.declared.log.Line.{Line}
 use Rattle.tsc_check.specs.Verdict.{reach, verdict_of}
 use Rattle.tsc_check.specs.declared.verdict.Verdict.TheVariants.{Right}
@@ -54,3 +54,7 @@ pub record IsRunOf (trace : Trace) (lines : List Line) (h : History) : Type 0 wh
 -- The verdict on the log of a run is right.
 abbrev pub RunsAreRight : Type 0
 RunsAreRight = (trace : Trace) (lines : List Line) (h : History) → IsRunOf trace lines h → verdict_of trace lines ≡ Right
+
+-- The verdict on the log of a replay is right.
+abbrev pub ReplaysAreRight : Type 0
+ReplaysAreRight = (trace : Trace) → verdict_of trace (log_of trace) ≡ Right

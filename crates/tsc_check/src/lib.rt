@@ -1,7 +1,14 @@
 //! The check of a log against its trace: whether the log can be that of a run on threads.
 #![tactic(auto)]
 
+mod calls;
+mod checks;
 pub mod laws;
+mod order;
+mod sweep;
+#[cfg(test)]
+mod tests;
 mod verdict;
 
+pub use checks::check;
 pub use verdict::Verdict;

@@ -1,0 +1,81 @@
+-- The log of a replay is that of a run.
+use Rattle.std.proofs.Common.{cond, ◌≡◌, ◌∙◌, sym, ap, refl, ℕ, suc, ◌+◌, ◌≤◌, List, [], ◌∷◌, ◌++◌, length, length-append, append_assoc, append-nil, arith}
+use Rattle.std.proofs.lemmas.List.Sums.{sum_by-cons}
+use Rattle.tsc_cache.specs.Settings.{Settings}
+use Rattle.tsc_cache.specs.History.{History, BeginsWith, own_count}
+use Rattle.tsc_json.specs.declared.trace.Call.{Call}
+use Rattle.tsc_json.specs.declared.trace.Call.TheVariants.{Add, Get, Low}
+use Rattle.tsc_json.specs.declared.trace.Trace.{Trace}
+use Rattle.tsc_trace.specs.Log.{said_after, after_call, after_calls, lines_of_list, lines_of_lists, log_of}
+use Rattle.tsc_check.specs.declared.verdict.Verdict.TheVariants.{Right}
+use Rattle.tsc_check.specs.Verdict.{reach, verdict_of}
+use Rattle.tsc_check.specs.TrueLog.{is_add_call, adds_of_list, adds_of_lists, AreTrueLines, AreTrueLists, IsRunOf}
+use Rattle.tsc_check.proofs.TrueVerdict.{run_is_right}
+
+-- the history after lists, from the list with this number on
+abbrev pub after_lists : ℕ → History → List (List Call) → History
+after_lists thread g [] = g
+after_lists thread g (calls ∷ lists) = after_lists (suc thread) (after_calls thread g calls) lists
+
+begins_on : (h g f : History) → BeginsWith h g → BeginsWith g f → BeginsWith h f
+begins_on h g f a b = (b.0 ++ a.0, a.1 ∙ ap (λ k. k ++ a.0) b.1 ∙ append_assoc f b.0 a.0)
+
+begins_itself : (h : History) → BeginsWith h h
+begins_itself h = ([], sym (append-nil h))
+
+call_begins : (thread : ℕ) (g : History) (call : Call) → BeginsWith (after_call thread g call) g
+call_begins thread g (Add span value now) = (record { seat = thread; number = own_count thread g; span = span; value = value; now = now } ∷ [], refl)
+call_begins thread g (Get span) = begins_itself g
+call_begins thread g Low = begins_itself g
+
+calls_begin : (thread : ℕ) (g : History) (calls : List Call) → BeginsWith (after_calls thread g calls) g
+calls_begin thread g [] = begins_itself g
+calls_begin thread g (call ∷ calls) = begins_on (after_calls thread g (call ∷ calls)) (after_call thread g call) g (calls_begin thread (after_call thread g call) calls) (call_begins thread g call)
+
+lists_begin : (thread : ℕ) (g : History) (lists : List (List Call)) → BeginsWith (after_lists thread g lists) g
+lists_begin thread g [] = begins_itself g
+lists_begin thread g (calls ∷ lists) = begins_on (after_lists thread g (calls ∷ lists)) (after_calls thread g calls) g (lists_begin (suc thread) (after_calls thread g calls) lists) (calls_begin thread g calls)
+
+call_length : (thread : ℕ) (g : History) (call : Call) → length (after_call thread g call) ≡ length g + cond (is_add_call call) 1 0
+call_length thread g (Add span value now) = length-append g (record { seat = thread; number = own_count thread g; span = span; value = value; now = now } ∷ [])
+call_length thread g (Get span) = omega arith
+call_length thread g Low = omega arith
+
+reach_within : (settings : Settings) (thread : ℕ) (g : History) (call : Call) → reach (said_after settings g call) ≤ length (after_call thread g call)
+reach_within settings thread g (Add span value now) = omega (arith, call_length thread g (Add span value now))
+reach_within settings thread g (Get span) = omega arith
+reach_within settings thread g Low = omega arith
+
+list_is_true : (settings : Settings) (h : History) (thread index reached : ℕ) (g : History) (calls : List Call) → BeginsWith h (after_calls thread g calls) → reached ≤ length g → AreTrueLines settings h thread index reached calls (lines_of_list settings thread index g calls)
+list_is_true settings h thread index reached g [] b r = tt
+list_is_true settings h thread index reached g (call ∷ calls) b r = (
+  record { before = g; told = refl; part = begins_on h (after_calls thread (after_call thread g call) calls) (after_call thread g call) b (calls_begin thread (after_call thread g call) calls); later = r },
+  list_is_true settings h thread (suc index) (reach (said_after settings g call)) (after_call thread g call) calls b (reach_within settings thread g call),
+)
+
+lists_are_true : (settings : Settings) (h : History) (thread : ℕ) (g : History) (lists : List (List Call)) → BeginsWith h (after_lists thread g lists) → AreTrueLists settings h thread lists (lines_of_lists settings thread g lists)
+lists_are_true settings h thread g [] b = refl
+lists_are_true settings h thread g (calls ∷ lists) b = (
+  lines_of_list settings thread 0 g calls,
+  lines_of_lists settings (suc thread) (after_calls thread g calls) lists,
+  refl,
+  list_is_true settings h thread 0 0 g calls (begins_on h (after_lists (suc thread) (after_calls thread g calls) lists) (after_calls thread g calls) b (lists_begin (suc thread) (after_calls thread g calls) lists)) (omega arith),
+  lists_are_true settings h (suc thread) (after_calls thread g calls) lists b,
+)
+
+calls_length : (thread : ℕ) (g : History) (calls : List Call) → length (after_calls thread g calls) ≡ length g + adds_of_list calls
+calls_length thread g [] = omega arith
+calls_length thread g (call ∷ calls) = omega (arith, calls_length thread (after_call thread g call) calls, call_length thread g call, sum_by-cons (λ c. cond (is_add_call c) 1 0) call calls)
+
+lists_length : (thread : ℕ) (g : History) (lists : List (List Call)) → length (after_lists thread g lists) ≡ length g + adds_of_lists lists
+lists_length thread g [] = omega arith
+lists_length thread g (calls ∷ lists) = omega (arith, lists_length (suc thread) (after_calls thread g calls) lists, calls_length thread g calls)
+
+pub replay_is_run : (trace : Trace) → IsRunOf trace (log_of trace) (after_lists 0 [] trace.threads)
+replay_is_run trace = record {
+  size = omega (arith, lists_length 0 [] trace.threads);
+  lines_are_true = lists_are_true trace.config (after_lists 0 [] trace.threads) 0 [] trace.threads (begins_itself (after_lists 0 [] trace.threads));
+}
+
+pub replays_are_right : (trace : Trace) → verdict_of trace (log_of trace) ≡ Right
+replays_are_right trace = run_is_right trace (log_of trace) (after_lists 0 [] trace.threads) (replay_is_run trace)

@@ -1,0 +1,5 @@
+use Rattle.tsc_check.proofs.Replayed.{replays_are_right}
+use Rattle.tsc_check.proofs.laws.replays_are_right.Goals as goal
+
+pub returns : goal.returns
+returns c = replays_are_right

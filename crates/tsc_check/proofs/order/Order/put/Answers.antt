@@ -1,0 +1,26 @@
+-- One more line stands in its slot.
+use Rattle.std.proofs.Common.{◌≡◌, ◌∙◌, sym, ap, refl, length, get_or, Some}
+use Rattle.std.specs.Prelude.{slice_get}
+use Rattle.std.proofs.lemmas.Option.{slice_get_read}
+use Rattle.tsc_check.proofs.Slots.{more_add, more_lookup}
+use Rattle.tsc_check.proofs.order.Order.put.Goals as goal
+
+pub returns-then-is_add : goal.returns-then-is_add
+returns-then-is_add c =
+    let o = c.args.self.now in
+    let lines = c.args.lines.now in
+    let line = c.index-lines-i.result in
+    let at : slice_get lines c.args.i ≡ Some line = slice_get_read lines (length lines) c.args.i line refl c.requires.index c.index-lines-i.is in
+    let is = c.index-before.ensures ∙ ap (λ k. get_or o.lookups.items k c.index-before.result.now) c.front_of-front.ensures in
+    rw (c.front_of-front.ensures, c.in_ok-push.ensures.items)
+    (more_add o.adds.items o.lookups.items o.earlier.items o.reached.items lines c.args.i line c.requires.placed at c.requires.fine (sym c.if-is_add.ensures) c.index-before.result.now is)
+
+pub returns-else-is_add : goal.returns-else-is_add
+returns-else-is_add c =
+    let o = c.args.self.now in
+    let lines = c.args.lines.now in
+    let line = c.index-lines-i.result in
+    let at : slice_get lines c.args.i ≡ Some line = slice_get_read lines (length lines) c.args.i line refl c.requires.index c.index-lines-i.is in
+    let is = c.index-before.ensures ∙ ap (λ k. get_or o.lookups.items k c.index-before.result.now) c.front_of-front.ensures in
+    rw (c.front_of-front.ensures, c.in_ok-push.ensures.items)
+    (more_lookup o.adds.items o.lookups.items o.earlier.items o.reached.items lines c.args.i line c.requires.placed at c.requires.fine (sym c.if-is_add.ensures) c.index-before.result.now is)

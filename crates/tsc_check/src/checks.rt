@@ -1,0 +1,31 @@
+ghost use Rattle.std.specs.Prelude.{◌≡◌, IfOk};
+ghost use Rattle.tsc_check.specs.Verdict.{verdict_of};
+
+use crate::calls::other_line;
+use crate::order::Order;
+use crate::sweep::least_untrue;
+use crate::verdict::Verdict;
+use std::alloc::Global;
+use tsc_time::NoMemory;
+use tsc_trace::{Log, Trace};
+
+/// The verdict on a log beside the trace that it is of.
+///
+/// One pass over a cache answers each line after as many of the Adds as its place or its front tells. The
+/// memory is that of the cache's pages, and some words for each line.
+pub fn check(alloc: Global, trace: &Trace, log: &Log) -> Result<Verdict, NoMemory>
+    ensures { IfOk result (λ verdict. verdict ≡ verdict_of trace.now log.now.lines) }
+{
+    let lines = log.lines.slice();
+    if let Some(i) = other_line(trace, lines) {
+        return Ok(Verdict::WrongCall(i as u64 + 1));
+    }
+    let mut order = Order::new(alloc, lines, trace.threads.len())?;
+    if let Some(i) = order.put_all(lines)? {
+        return Ok(Verdict::WrongPlace(i as u64 + 1));
+    }
+    if let Some(i) = least_untrue(alloc, trace, lines, &order)? {
+        return Ok(Verdict::WrongAnswer(i as u64 + 1));
+    }
+    Ok(Verdict::Right)
+}

@@ -1,0 +1,177 @@
+//! One pass over a cache, in the order of the Adds.
+ghost use Rattle.std.specs.Prelude.{◌≡◌, ◌⊎◌, ◌<◌, ◌≤◌, ◌||◌, ℕ, suc, length, true, false, not, IfOk, OnOk, option_map, slice_get};
+ghost use Rattle.tsc_cache.specs.Settings.{Settings};
+ghost use Rattle.tsc_cache.specs.History.{History, state_of};
+ghost use Rattle.tsc_cache.specs.CacheView.{StandsForState};
+ghost use Rattle.tsc_trace.specs.Log.{said_after, after_call};
+ghost use Rattle.tsc_check.specs.Verdict.{adds_in, is_add, is_same_answer, is_wrong_answer, least};
+ghost use Rattle.tsc_check.specs.CheckParts.{AreInOrder, HasPlaced, Lowers, LowersAt, adds_there, call_in, looks_up_there, state_at};
+
+use crate::order::Order;
+use std::alloc::Global;
+use tsc_cache::{Added, Cache};
+use tsc_time::NoMemory;
+use tsc_trace::{Call, Line, Said, Trace};
+
+/// Whether the answer of a lookup is another than the cache gives.
+fn is_other_value(cache: &Cache, call: &Call, said: Said) -> bool
+    ensures { (settings : Settings) (h : History) → StandsForState cache.now settings (state_of settings h) → is_add said ≡ false
+        → result ≡ not (is_same_answer said (said_after settings h call.now)) }
+{
+    match (call, said) {
+        (Call::Get { span }, Said::Get { value, .. }) => cache.get_max(span) != value,
+        (Call::Low, Said::Low { time, .. }) => cache.low_water() != time,
+        _ => true,
+    }
+}
+
+/// Whether an answer is another than this one of an Add.
+fn is_other_added(said: Said, made: Added) -> bool
+    ensures { (place : ℕ) → result ≡ not (is_same_answer said (Said.Add place made)) }
+{
+    match said {
+        Said::Add { added, .. } => added != made,
+        _ => true,
+    }
+}
+
+/// Makes an Add, and tells whether its answer is another.
+fn is_other_add(cache: &mut Cache, call: &Call, said: Said) -> Result<bool, NoMemory>
+    ensures other { IfOk result (λ other. (settings : Settings) (h : History) → StandsForState cache.old settings (state_of settings h) → is_add said ≡ true
+        → other ≡ not (is_same_answer said (said_after settings h call.now))) }
+    ensures stands { OnOk result ((settings : Settings) (thread : ℕ) (h : History) → StandsForState cache.old settings (state_of settings h)
+        → StandsForState cache.new settings (state_of settings (after_call thread h call.now))) }
+{
+    match call {
+        Call::Add { span, value, now } => {
+            let made = cache.add(span, *value, *now)?;
+            Ok(is_other_added(said, made))
+        }
+        Call::Get { .. } | Call::Low => Ok(true),
+    }
+}
+
+/// The call of a line.
+fn call_of<'a>(trace: &'a Trace, line: &Line) -> Option<&'a Call>
+    ensures { option_map (λ call. call.now) result ≡ call_in (slice_get trace.now.threads line.now.thread) line.now.index }
+{
+    trace
+        .threads
+        .list(line.thread as usize)?
+        .get(line.index as usize)
+}
+
+/// The lower of two line numbers, of which the first counts where its line is wrong.
+fn lower(i: usize, wrong: bool, least: usize) -> usize
+    ensures at_most { result ≤ least }
+    ensures one { (result ≡ least) ⊎ ((result ≡ i) × (wrong ≡ true)) }
+    ensures lowest { wrong ≡ true → result ≤ i }
+{
+    if wrong && i < least { i } else { least }
+}
+
+/// Lowers a line number to that of a lookup whose answer is another than the cache gives.
+fn look_up(cache: &Cache, trace: &Trace, lines: &[Line], i: usize, least: usize) -> usize
+    requires index { i < length lines.now }
+    requires order { AreInOrder trace.now lines.now }
+    ensures { (front : ℕ) → looks_up_there lines.now front i ≡ true → StandsForState cache.now trace.now.config (state_at trace.now lines.now front)
+        → LowersAt (is_wrong_answer trace.now lines.now) i least result }
+{
+    let line = lines[i];
+    match call_of(trace, &line) {
+        Some(call) => lower(i, is_other_value(cache, call, line.said), least),
+        None => least,
+    }
+}
+
+/// Makes the Add of a line, and lowers a line number to that of this line where its answer is another.
+fn make_add(
+    cache: &mut Cache,
+    trace: &Trace,
+    lines: &[Line],
+    i: usize,
+    least: usize,
+) -> Result<usize, NoMemory>
+    requires index { i < length lines.now }
+    requires order { AreInOrder trace.now lines.now }
+    ensures lowers { IfOk result (λ new. (place : ℕ) → adds_there lines.now place i ≡ true → StandsForState cache.old trace.now.config (state_at trace.now lines.now place)
+        → LowersAt (is_wrong_answer trace.now lines.now) i least new) }
+    ensures stands { OnOk result ((place : ℕ) → adds_there lines.now place i ≡ true → StandsForState cache.old trace.now.config (state_at trace.now lines.now place)
+        → StandsForState cache.new trace.now.config (state_at trace.now lines.now (suc place))) }
+{
+    let line = lines[i];
+    match call_of(trace, &line) {
+        Some(call) => Ok(lower(i, is_other_add(cache, call, line.said)?, least)),
+        None => Ok(least),
+    }
+}
+
+/// Lowers a line number to the least of a lookup with this front whose answer is another than the cache gives.
+fn look_up_all(
+    cache: &Cache,
+    trace: &Trace,
+    lines: &[Line],
+    order: &Order,
+    front: usize,
+    least: usize,
+) -> usize
+    requires stands { StandsForState cache.now trace.now.config (state_at trace.now lines.now front) }
+    requires order { AreInOrder trace.now lines.now }
+    requires placed { HasPlaced order.now lines.now (length lines.now) }
+    requires front { front ≤ adds_in lines.now }
+    ensures { Lowers (is_wrong_answer trace.now lines.now) (looks_up_there lines.now front) least result }
+{
+    let mut lowest = least;
+    let mut next = order.lookups[front];
+    while let Some(i) = next {
+        lowest = look_up(cache, trace, lines, i, lowest);
+        next = order.earlier[i];
+    }
+    lowest
+}
+
+/// Answers all lines that tell of so many Adds before them, the Add last.
+fn pass(
+    cache: &mut Cache,
+    trace: &Trace,
+    lines: &[Line],
+    order: &Order,
+    front: usize,
+    least: usize,
+) -> Result<usize, NoMemory>
+    requires stands { StandsForState cache.old trace.now.config (state_at trace.now lines.now front) }
+    requires order { AreInOrder trace.now lines.now }
+    requires placed { HasPlaced order.now lines.now (length lines.now) }
+    requires front { front ≤ adds_in lines.now }
+    ensures lowers { IfOk result (λ new. Lowers (is_wrong_answer trace.now lines.now) (λ j. looks_up_there lines.now front j || adds_there lines.now front j) least new) }
+    ensures stands { OnOk result (StandsForState cache.new trace.now.config (state_at trace.now lines.now (suc front))) }
+{
+    let least = look_up_all(cache, trace, lines, order, front, least);
+    match order.adds[front] {
+        Some(i) => make_add(cache, trace, lines, i, least),
+        None => Ok(least),
+    }
+}
+
+/// The least line whose answer is wrong.
+pub fn least_untrue(
+    alloc: Global,
+    trace: &Trace,
+    lines: &[Line],
+    order: &Order,
+) -> Result<Option<usize>, NoMemory>
+    requires order { AreInOrder trace.now lines.now }
+    requires placed { HasPlaced order.now lines.now (length lines.now) }
+    ensures { IfOk result (λ wrong. wrong ≡ least (is_wrong_answer trace.now lines.now) (length lines.now)) }
+{
+    let mut cache = Cache::new(alloc, trace.config)?;
+    let mut lowest = lines.len();
+    for front in 0..order.adds.len() {
+        lowest = pass(&mut cache, trace, lines, order, front, lowest)?;
+    }
+    if lowest < lines.len() {
+        Ok(Some(lowest))
+    } else {
+        Ok(None)
+    }
+}
