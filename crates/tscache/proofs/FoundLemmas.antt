@@ -1,38 +1,28 @@
 -- What clap found for a subcommand, by its name.
-use Rattle.std.proofs.Common.{◌≡◌, ◌∙◌, sym, ap, List, Option, Some, None, codes, true≢false, is_some, unwrap_or, IsNone, Result, Ok, Err, subst}
+use Rattle.std.proofs.Common.{◌≡◌, ◌∙◌, sym, ap, List, Option, Some, None, codes, IsNone, Result, Ok, Err, subst}
 use Rattle.std.specs.Result.{IsErrAnd}
 use Rattle.std.specs.Prelude.{option_map}
-use Rattle.clap.specs.Words.{Row, Text, first_value, found_of, rows_of, subcommand_name_of, subcommand_rows_of}
+use Rattle.clap.specs.Walk.{first_of}
+use Rattle.clap.specs.Words.{Row, Text, first_value, found_of, rows_of}
 use Rattle.clap.specs.declared.ArgMatches.{ArgMatches}
 use Rattle.clap.proofs.WalkLemmas.{first_value-rows}
-use Rattle.tscache.specs.Words.{Answers, Explains, Request, asks, replay}
+use Rattle.tscache.specs.Words.{Answers, Explains, Request, asks}
 use Rattle.tscache.specs.declared.words.Asked.{Asked}
 use Rattle.tscache.specs.declared.words.WordsFault.{WordsFault}
 use Rattle.tscache.specs.declared.words.WordsFault.TheVariants.{Wrong, NoMemory}
-use Rattle.tscache.specs.Commands.{request_found}
+use Rattle.tscache.specs.Commands.{request_for}
 
-module _ {A B C : Type 0} (f : A → B) (g : A → C) where
-  abbrev both : A → B × C
-  both a = (f a, g a)
-
-  abbrev second : B × C → C
-  second p = p.1
-
-  both_parts : (o : Option A) (b : B) (c : C) → option_map f o ≡ Some b → option_map second (option_map both o) ≡ Some c → option_map both o ≡ Some (b, c)
-  both_parts None b c e h = absurd (true≢false (sym (ap is_some e)))
-  both_parts (Some a) b c e h = λ i. Some (unwrap_or (e i) b, unwrap_or (h i) c)
-
--- what the words of `replay` ask, by the value of its argument
-pub asks_found : (m sub : ArgMatches) → subcommand_name_of m ≡ Some (codes "replay") → option_map (λ (p : Text × List Row). p.1) (subcommand_rows_of m) ≡ Some (rows_of (found_of sub))
-    → request_found (subcommand_rows_of m) ≡ option_map replay (first_value (found_of sub) (codes "file"))
-asks_found m sub name rows =
-    ap request_found (both_parts _ _ _ _ _ name rows) ∙ ap (option_map replay) (sym (first_value-rows (found_of sub) (codes "file")))
+-- what a subcommand of one file asks, by the value of its argument
+pub asks_file : (own : Text) (request : Text → Request) → ((rows : List Row) → request_for own rows ≡ option_map request (first_of (codes "file") rows))
+    → (name : Text) (found : ArgMatches) → name ≡ own → request_for name (rows_of (found_of found)) ≡ option_map request (first_value (found_of found) (codes "file"))
+asks_file own request by name found is =
+    ap (λ (n : Text). request_for n (rows_of (found_of found))) is ∙ by (rows_of (found_of found)) ∙ ap (option_map request) (sym (first_value-rows (found_of found) (codes "file")))
 
 -- a reason why there is no value is one why it asks for nothing
-pub explains_found : (fault : WordsFault) (value : Option Text) → Explains value fault → Explains (option_map replay value) fault
-explains_found Wrong None h = h
-explains_found Wrong (Some text) h = h
-explains_found NoMemory value h = h
+pub explains_found : (request : Text → Request) (fault : WordsFault) (value : Option Text) → Explains value fault → Explains (option_map request value) fault
+explains_found request Wrong None h = h
+explains_found request Wrong (Some text) h = h
+explains_found request NoMemory value h = h
 
 -- where nothing is asked for, each reason is one
 pub nothing_explains : (fault : WordsFault) (wanted : Option Request) → IsNone wanted → Explains wanted fault

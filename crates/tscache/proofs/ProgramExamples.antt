@@ -3,11 +3,13 @@ use Rattle.std.proofs.Common.{◌≡◌, ◌==◌, ◌++◌, ◌⊎◌, ◌∙�
 use Rattle.tsc_trace.specs.LogText.{line_feed}
 use Rattle.tsc_stream.specs.Stream.{KnownWriter}
 use Rattle.tscache.specs.Place.{Opening}
-use Rattle.tscache.specs.Program.{AskFor, DoesAsked, OnlyTells, ReplaysBytes, ReplaysFile, ReplaysOpening, RunsProgram}
-use Rattle.tscache.specs.Words.{Request, Word, refusal_text, replay, request_in}
+use Rattle.tscache.specs.Replay.{EndsReplay}
+use Rattle.tscache.specs.Run.{EndsRun}
+use Rattle.tscache.specs.Program.{AskFor, DoesAsked, Ends, GoesOver, GoesOverBytes, GoesOverOpening, OnlyTells, RunsProgram}
+use Rattle.tscache.specs.Words.{Request, Word, refusal_text, replay, request_in, run}
 use Rattle.tscache.specs.declared.words.WordsFault.{WordsFault}
 use Rattle.tscache.specs.declared.words.WordsFault.TheVariants.{Wrong, NoMemory}
-use Rattle.tscache.proofs.WordExamples.{a_named_file_is_replayed, two_files_ask_for_nothing}
+use Rattle.tscache.proofs.WordExamples.{a_named_file_is_replayed, a_named_file_is_run, two_files_ask_for_nothing}
 
 -- each file is there, with these bytes
 abbrev at_hand : (Word → List ℕ) → Word → Opening → Type 0
@@ -21,21 +23,34 @@ module _ (bytes : Word → List ℕ) (words : List Word) (status : ℕ) (w w' e 
   abbrev Runs : Type 0
   Runs = RunsProgram (Ok words) (at_hand bytes) status w w' e e'
 
-  replayed : (file : Word) → ReplaysFile (at_hand bytes file) status w w' e e' → ReplaysBytes (Some (bytes file)) status w w' e e'
-  replayed file ran = subst (λ (o : Opening). ReplaysOpening o status w w' e e') ran.opened ran.ends
+  over_its_bytes : (command : Ends) (file : Word) → GoesOver command (at_hand bytes file) status w w' e e' → GoesOverBytes command (Some (bytes file)) status w w' e e'
+  over_its_bytes command file went = subst (λ (o : Opening). GoesOverOpening command o status w w' e e') went.opened went.ends
 
-  -- Where a file is asked for, its bytes are replayed, unless memory is wanting for the words.
-  pub asked_file_is_replayed : (file : Word) → request_in words ≡ Some (replay file) → Runs → ReplaysBytes (Some (bytes file)) status w w' e e' ⊎ Tells NoMemory 5
-  asked_file_is_replayed file is ran = go ran.asked ran.is_asked ran.ends
+  -- Where something is asked for, it is done, unless memory is wanting for the words.
+  what_is_asked_is_done : (request : Request) → request_in words ≡ Some request → Runs → DoesAsked (Ok request) (at_hand bytes) status w w' e e' ⊎ Tells NoMemory 5
+  what_is_asked_is_done request is ran = go ran.asked ran.is_asked ran.ends
     where
-      file_of : Option Request → Word
-      file_of (Some (replay name)) = name
-      file_of None = file
+      request_of : Option Request → Request
+      request_of (Some other) = other
+      request_of None = request
 
-      go : (asked : Result Request WordsFault) → AskFor (Ok words) asked → DoesAsked asked (at_hand bytes) status w w' e e' → ReplaysBytes (Some (bytes file)) status w w' e e' ⊎ Tells NoMemory 5
-      go (Ok (replay name)) same ends = inl (replayed file (subst (λ (n : Word). ReplaysFile (at_hand bytes n) status w w' e e') (ap file_of (sym same ∙ is)) ends))
+      go : (asked : Result Request WordsFault) → AskFor (Ok words) asked → DoesAsked asked (at_hand bytes) status w w' e e' → DoesAsked (Ok request) (at_hand bytes) status w w' e e' ⊎ Tells NoMemory 5
+      go (Ok other) same ends = inl (subst (λ (r : Request). DoesAsked (Ok r) (at_hand bytes) status w w' e e') (ap request_of (sym same ∙ is)) ends)
       go (Err Wrong) none ends = absurd (true≢false (subst IsNone is none))
       go (Err NoMemory) any ends = inr ends
+
+  -- Where a file is asked for, the command goes over its bytes.
+  pub asked_file_is_replayed : (file : Word) → request_in words ≡ Some (replay file) → Runs → GoesOverBytes EndsReplay (Some (bytes file)) status w w' e e' ⊎ Tells NoMemory 5
+  asked_file_is_replayed file is ran = elim (what_is_asked_is_done (replay file) is ran) [
+    | inl ends ↦ inl (over_its_bytes EndsReplay file ends)
+    | inr told ↦ inr told
+  ]
+
+  pub asked_file_is_run : (file : Word) → request_in words ≡ Some (run file) → Runs → GoesOverBytes EndsRun (Some (bytes file)) status w w' e e' ⊎ Tells NoMemory 5
+  asked_file_is_run file is ran = elim (what_is_asked_is_done (run file) is ran) [
+    | inl ends ↦ inl (over_its_bytes EndsRun file ends)
+    | inr told ↦ inr told
+  ]
 
   -- Where nothing is asked for, the usage is told, unless memory is wanting for the words.
   pub nothing_asked_tells_the_usage : request_in words ≡ None → Runs → Tells Wrong 2 ⊎ Tells NoMemory 5
@@ -46,13 +61,19 @@ module _ (bytes : Word → List ℕ) (words : List Word) (status : ℕ) (w w' e 
       go (Err Wrong) none ends = inl ends
       go (Err NoMemory) any ends = inr ends
 
--- ---- two calls
+-- ---- three calls
 
 pub the_named_file_is_replayed : (bytes : Word → List ℕ) (name : Word) (first : ℕ) (rest : List ℕ) (status : ℕ) (w w' e e' : KnownWriter) → (first == 45) ≡ false
     → RunsProgram (Ok (name ∷ codes "replay" ∷ (first ∷ rest) ∷ [])) (at_hand bytes) status w w' e e'
-    → ReplaysBytes (Some (bytes (first ∷ rest))) status w w' e e' ⊎ OnlyTells (codes "out of memory" ++ line_feed ∷ []) 5 status w w' e e'
+    → GoesOverBytes EndsReplay (Some (bytes (first ∷ rest))) status w w' e e' ⊎ OnlyTells (codes "out of memory" ++ line_feed ∷ []) 5 status w w' e e'
 the_named_file_is_replayed bytes name first rest status w w' e e' plain ran =
     asked_file_is_replayed bytes _ status w w' e e' (first ∷ rest) (a_named_file_is_replayed name first rest plain) ran
+
+pub the_named_file_is_run : (bytes : Word → List ℕ) (name : Word) (first : ℕ) (rest : List ℕ) (status : ℕ) (w w' e e' : KnownWriter) → (first == 45) ≡ false
+    → RunsProgram (Ok (name ∷ codes "run" ∷ (first ∷ rest) ∷ [])) (at_hand bytes) status w w' e e'
+    → GoesOverBytes EndsRun (Some (bytes (first ∷ rest))) status w w' e e' ⊎ OnlyTells (codes "out of memory" ++ line_feed ∷ []) 5 status w w' e e'
+the_named_file_is_run bytes name first rest status w w' e e' plain ran =
+    asked_file_is_run bytes _ status w w' e e' (first ∷ rest) (a_named_file_is_run name first rest plain) ran
 
 pub a_word_too_many_tells_the_usage : (bytes : Word → List ℕ) (name : Word) (first second : ℕ) (rest more : List ℕ) (status : ℕ) (w w' e e' : KnownWriter)
     → (first == 45) ≡ false → (second == 45) ≡ false

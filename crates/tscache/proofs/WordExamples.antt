@@ -1,13 +1,17 @@
 -- What words ask for: a file by its name, and nothing where the words are of another form.
 use Rattle.std.proofs.Common.{◌≡◌, ◌==◌, ℕ, List, [], ◌∷◌, Some, None, codes, false, refl}
 use Rattle.std.specs.Str.{chars}
-use Rattle.tscache.specs.Words.{Word, replay, request_in}
+use Rattle.tscache.specs.Words.{Word, replay, request_in, run}
 
 -- ---- a file that does not begin with a hyphen
 
 pub a_named_file_is_replayed : (name : Word) (first : ℕ) (rest : List ℕ) → (first == 45) ≡ false
     → request_in (name ∷ codes "replay" ∷ (first ∷ rest) ∷ []) ≡ Some (replay (first ∷ rest))
 a_named_file_is_replayed name first rest e = rw e refl
+
+pub a_named_file_is_run : (name : Word) (first : ℕ) (rest : List ℕ) → (first == 45) ≡ false
+    → request_in (name ∷ codes "run" ∷ (first ∷ rest) ∷ []) ≡ Some (run (first ∷ rest))
+a_named_file_is_run name first rest e = rw e refl
 
 pub two_files_ask_for_nothing : (name : Word) (first second : ℕ) (rest more : List ℕ) → (first == 45) ≡ false → (second == 45) ≡ false
     → request_in (name ∷ codes "replay" ∷ (first ∷ rest) ∷ (second ∷ more) ∷ []) ≡ None
@@ -24,6 +28,9 @@ a_name_asks_for_nothing name = refl
 pub a_replay_of_no_file_asks_for_nothing : (name : Word) → request_in (name ∷ codes "replay" ∷ []) ≡ None
 a_replay_of_no_file_asks_for_nothing name = refl
 
+pub a_run_of_no_file_asks_for_nothing : (name : Word) → request_in (name ∷ codes "run" ∷ []) ≡ None
+a_run_of_no_file_asks_for_nothing name = refl
+
 -- ---- hyphens
 
 pub a_hyphen_is_a_file : (name : Word) → request_in (name ∷ codes "replay" ∷ codes "-" ∷ []) ≡ Some (replay (codes "-"))
@@ -38,6 +45,9 @@ unfolding chars
 a_flag_asks_for_nothing name = refl
 
 -- ---- other subcommands
+
+pub a_check_asks_for_nothing : (name : Word) (rest : List Word) → request_in (name ∷ codes "check" ∷ rest) ≡ None
+a_check_asks_for_nothing name rest = refl
 
 pub help_asks_for_nothing : (name : Word) → request_in (name ∷ codes "help" ∷ []) ≡ None
 help_asks_for_nothing name = refl

@@ -1,11 +1,11 @@
 -- clap's walk over the program's words comes to what specs/Words.antt says of them.
-use Rattle.std.proofs.Common.{◌≡◌, ◌∙◌, ◌==◌, ◌||◌, ℕ, Bool, cond, true, false, refl, sym, ap, subst, List, [], ◌∷◌, length, drop, Option, Some, None, is_some, codes, true≢false, fold, IsNone}
-use Rattle.std.specs.Prelude.{option_map, slice_get}
+use Rattle.std.proofs.Common.{◌≡◌, ◌∙◌, ◌==◌, ◌&&◌, ◌||◌, ℕ, Bool, cond, true, false, refl, sym, ap, subst, List, [], ◌∷◌, length, drop, Option, Some, None, is_some, codes, true≢false, fold, IsNone}
+use Rattle.std.specs.Prelude.{find, map, option_map, slice_get}
 use Rattle.std.specs.Str.{bytes_eq, chars}
 use Rattle.std.specs.Option.{option_map_or}
 use Rattle.std.proofs.lemmas.Bool.{eqb-true}
 use Rattle.clap.specs.Lexer.{long_of, short_of}
-use Rattle.clap.specs.Walk.{Held, Names, Outcome, Row, Rule, Step, Text, Walk, after_flag, after_step, arg_by_long, arg_by_short, bundle_met, bundle_step, finished, first_of, idle, long_or_other, plain, settled, short_or_plain, subcommand_met, subcommand_or_other, trailing, value, walked, word_met}
+use Rattle.clap.specs.Walk.{Held, Names, Outcome, Row, Rule, Step, Text, Walk, after_flag, after_step, answers_to, arg_by_long, arg_by_short, bundle_met, bundle_step, finished, first_of, idle, long_or_other, plain, settled, short_or_plain, subcommand_met, subcommand_or_other, trailing, value, walked, word_met}
 use Rattle.clap.specs.Simple.{App, Shape, built, entered, built_leaf, inherited, marked_built, names_of, subcommand_of, with_leaf_noted}
 use Rattle.clap.specs.Kinds.{IsAmong, Kinds, or_else}
 use Rattle.clap.specs.Faults.{bundle_step_fault, check_fault, defaults_fault, entered_fault, fault_of, flag_word_fault, flags_fault, long_fault, other_fault, settle_fault, short_fault, step_fault, turn_fault, walk_fault, word_fault}
@@ -13,7 +13,7 @@ use Rattle.clap.specs.declared.error.ErrorKind.{ErrorKind}
 use Rattle.clap.specs.declared.error.ErrorKind.TheVariants.{UnknownArgument}
 use Rattle.clap.proofs.FaultLemmas.{stopped_fault}
 use Rattle.clap.proofs.WalkLemmas.{walk_stopped}
-use Rattle.tscache.specs.Words.{Request, Word, ends_flags, is_flag, lone, operands, replay, request_after, request_in}
+use Rattle.tscache.specs.Words.{Request, Subcommand, Word, ends_flags, is_flag, lone, operands, replay, request_after, request_by, request_in, run, subcommands, with_file}
 use Rattle.tscache.specs.Commands.{one_file_shape, program_app, request_found}
 
 -- ---- what a word looks like
@@ -240,34 +240,6 @@ two_are_not_one v u (Some more) = refl
 
 -- ---- the words after a subcommand that takes one file
 
-abbrev leaf : Shape
-leaf = built_leaf (inherited (with_leaf_noted (marked_built program_app.top)) (one_file_shape (codes "replay")))
-
-abbrev leaf_end_fault : Held → Kinds
-leaf_end_fault end = or_else (settle_fault leaf.rules leaf.args_override_self end)
-    (or_else (defaults_fault (settled leaf.rules end).rows leaf.rules) (check_fault leaf (finished leaf.rules end) false))
-
-abbrev leaf_fault : Walk → List Word → Kinds
-leaf_fault w words = or_else (walk_fault leaf [] w words) (or_else [] (leaf_end_fault (fold (walked leaf.rules []) w words).held))
-
-abbrev leaf_file : Walk → List Word → Option Word
-leaf_file w words = first_of (codes "file") (finished leaf.rules (fold (walked leaf.rules []) w words).held)
-
-abbrev LeafAgrees : Walk → List Word → Option Word → Type 0
-LeafAgrees w words asked = Agrees asked (leaf_fault w words) (leaf_file w words)
-
-leaf_refused : (w : Walk) (word : Word) (rest : List Word) (asked : Option Word) → asked ≡ None → Fails (turn_fault leaf [] w word) → LeafAgrees w (word ∷ rest) asked
-unfolding walk_fault
-leaf_refused w word rest asked none h = refused asked _ _ none (fails_first _ _ (fails_first _ _ h))
-
-leaf_next : (w next : Walk) (word : Word) (rest : List Word) (asked : Option Word) → turn_fault leaf [] w word ≡ [] → walked leaf.rules [] w word ≡ next
-    → LeafAgrees next rest asked → LeafAgrees w (word ∷ rest) asked
-unfolding walk_fault
-leaf_next w next word rest asked turn walk h =
-    let P : Kinds → Walk → Type 0 = λ k v. Agrees asked (or_else (or_else k (walk_fault leaf [] v rest)) (or_else [] (leaf_end_fault (fold (walked leaf.rules []) v rest).held)))
-    (leaf_file v rest) in
-    subst (λ k. P k (walked leaf.rules [] w word)) (sym turn) (subst (λ v. P [] v) (sym walk) h)
-
 -- no file yet, and one
 abbrev none_yet : Bool → Walk
 none_yet is_trailing = at [] None 1 is_trailing
@@ -275,37 +247,66 @@ none_yet is_trailing = at [] None 1 is_trailing
 abbrev one_yet : Word → Bool → Walk
 one_yet file is_trailing = at [] (Some (codes "file", file ∷ [])) 2 is_trailing
 
-one_then : (file : Word) (rest : List Word) → LeafAgrees (one_yet file true) rest (lone (Some (file ∷ rest)))
-unfolding walk_fault walked defaults_fault
-one_then file [] = accepted _ _ _ refl refl
-one_then file (u ∷ us) = leaf_refused (one_yet file true) u us _ refl tt
+module _ (name : Word) where
+  abbrev leaf : Shape
+  leaf = built_leaf (inherited (with_leaf_noted (marked_built program_app.top)) (one_file_shape name))
 
-none_then : (rest : List Word) → LeafAgrees (none_yet true) rest (lone (Some rest))
-unfolding walk_fault walked defaults_fault
-none_then [] = refused _ _ _ refl tt
-none_then (v ∷ rest) = leaf_next (none_yet true) (one_yet v true) v rest _ refl refl (one_then v rest)
+  abbrev leaf_end_fault : Held → Kinds
+  leaf_end_fault end = or_else (settle_fault leaf.rules leaf.args_override_self end)
+      (or_else (defaults_fault (settled leaf.rules end).rows leaf.rules) (check_fault leaf (finished leaf.rules end) false))
 
-one_found : (file : Word) (rest : List Word) → LeafAgrees (one_yet file false) rest (lone (option_map (λ more. file ∷ more) (operands rest)))
-unfolding walk_fault walked defaults_fault
-one_found file [] = accepted _ _ _ refl refl
-one_found file (u ∷ us) = elim (turn_of leaf [] (λ _. refl) (λ _. refl) [] (Some (codes "file", file ∷ [])) 2 u refl (sort_of u)) [
-  | ends e turn walk ↦ subst (λ o. LeafAgrees (one_yet file false) (u ∷ us) (lone (option_map (λ more. file ∷ more) o))) (sym (ends_are u us e))
-      (leaf_next (one_yet file false) (one_yet file true) u us _ turn walk (one_then file us))
-  | flag e f h ↦ leaf_refused (one_yet file false) u us _ (ap (λ o. lone (option_map (λ more. file ∷ more) o)) (flag_bars u us e f)) h
-  | other e f turn walk ↦ leaf_refused (one_yet file false) u us _
-      (ap (λ o. lone (option_map (λ more. file ∷ more) o)) (other_leads u us e f) ∙ two_are_not_one file u (operands us)) (subst Fails (sym turn) tt)
-]
+  abbrev leaf_fault : Walk → List Word → Kinds
+  leaf_fault w words = or_else (walk_fault leaf [] w words) (or_else [] (leaf_end_fault (fold (walked leaf.rules []) w words).held))
 
-none_found : (rest : List Word) → LeafAgrees (none_yet false) rest (lone (operands rest))
-unfolding walk_fault walked defaults_fault
-none_found [] = refused _ _ _ refl tt
-none_found (v ∷ rest) = elim (turn_of leaf [] (λ _. refl) (λ _. refl) [] None 1 v refl (sort_of v)) [
-  | ends e turn walk ↦ subst (λ o. LeafAgrees (none_yet false) (v ∷ rest) (lone o)) (sym (ends_are v rest e))
-      (leaf_next (none_yet false) (none_yet true) v rest _ turn walk (none_then rest))
-  | flag e f h ↦ leaf_refused (none_yet false) v rest _ (ap lone (flag_bars v rest e f)) h
-  | other e f turn walk ↦ subst (λ o. LeafAgrees (none_yet false) (v ∷ rest) (lone o)) (sym (other_leads v rest e f))
-      (leaf_next (none_yet false) (one_yet v false) v rest _ turn walk (one_found v rest))
-]
+  abbrev leaf_file : Walk → List Word → Option Word
+  leaf_file w words = first_of (codes "file") (finished leaf.rules (fold (walked leaf.rules []) w words).held)
+
+  abbrev LeafAgrees : Walk → List Word → Option Word → Type 0
+  LeafAgrees w words asked = Agrees asked (leaf_fault w words) (leaf_file w words)
+
+  leaf_refused : (w : Walk) (word : Word) (rest : List Word) (asked : Option Word) → asked ≡ None → Fails (turn_fault leaf [] w word) → LeafAgrees w (word ∷ rest) asked
+  unfolding walk_fault
+  leaf_refused w word rest asked none h = refused asked _ _ none (fails_first _ _ (fails_first _ _ h))
+
+  leaf_next : (w next : Walk) (word : Word) (rest : List Word) (asked : Option Word) → turn_fault leaf [] w word ≡ [] → walked leaf.rules [] w word ≡ next
+      → LeafAgrees next rest asked → LeafAgrees w (word ∷ rest) asked
+  unfolding walk_fault
+  leaf_next w next word rest asked turn walk h =
+      let P : Kinds → Walk → Type 0 = λ k v. Agrees asked (or_else (or_else k (walk_fault leaf [] v rest)) (or_else [] (leaf_end_fault (fold (walked leaf.rules []) v rest).held)))
+      (leaf_file v rest) in
+      subst (λ k. P k (walked leaf.rules [] w word)) (sym turn) (subst (λ v. P [] v) (sym walk) h)
+
+  one_then : (file : Word) (rest : List Word) → LeafAgrees (one_yet file true) rest (lone (Some (file ∷ rest)))
+  unfolding walk_fault walked defaults_fault
+  one_then file [] = accepted _ _ _ refl refl
+  one_then file (u ∷ us) = leaf_refused (one_yet file true) u us _ refl tt
+
+  none_then : (rest : List Word) → LeafAgrees (none_yet true) rest (lone (Some rest))
+  unfolding walk_fault walked defaults_fault
+  none_then [] = refused _ _ _ refl tt
+  none_then (v ∷ rest) = leaf_next (none_yet true) (one_yet v true) v rest _ refl refl (one_then v rest)
+
+  one_found : (file : Word) (rest : List Word) → LeafAgrees (one_yet file false) rest (lone (option_map (λ more. file ∷ more) (operands rest)))
+  unfolding walk_fault walked defaults_fault
+  one_found file [] = accepted _ _ _ refl refl
+  one_found file (u ∷ us) = elim (turn_of leaf [] (λ _. refl) (λ _. refl) [] (Some (codes "file", file ∷ [])) 2 u refl (sort_of u)) [
+    | ends e turn walk ↦ subst (λ o. LeafAgrees (one_yet file false) (u ∷ us) (lone (option_map (λ more. file ∷ more) o))) (sym (ends_are u us e))
+        (leaf_next (one_yet file false) (one_yet file true) u us _ turn walk (one_then file us))
+    | flag e f h ↦ leaf_refused (one_yet file false) u us _ (ap (λ o. lone (option_map (λ more. file ∷ more) o)) (flag_bars u us e f)) h
+    | other e f turn walk ↦ leaf_refused (one_yet file false) u us _
+        (ap (λ o. lone (option_map (λ more. file ∷ more) o)) (other_leads u us e f) ∙ two_are_not_one file u (operands us)) (subst Fails (sym turn) tt)
+  ]
+
+  none_found : (rest : List Word) → LeafAgrees (none_yet false) rest (lone (operands rest))
+  unfolding walk_fault walked defaults_fault
+  none_found [] = refused _ _ _ refl tt
+  none_found (v ∷ rest) = elim (turn_of leaf [] (λ _. refl) (λ _. refl) [] None 1 v refl (sort_of v)) [
+    | ends e turn walk ↦ subst (λ o. LeafAgrees (none_yet false) (v ∷ rest) (lone o)) (sym (ends_are v rest e))
+        (leaf_next (none_yet false) (none_yet true) v rest _ turn walk (none_then rest))
+    | flag e f h ↦ leaf_refused (none_yet false) v rest _ (ap lone (flag_bars v rest e f)) h
+    | other e f turn walk ↦ subst (λ o. LeafAgrees (none_yet false) (v ∷ rest) (lone o)) (sym (other_leads v rest e f))
+        (leaf_next (none_yet false) (one_yet v false) v rest _ turn walk (one_found v rest))
+  ]
 
 -- ---- the words after the program's name
 
@@ -342,73 +343,113 @@ top_next w next word rest asked turn walk h =
     (top_found (fold (walked whole.top.rules labels) v rest)) in
     subst (λ k. P k (walked whole.top.rules labels w word)) (sym turn) (subst (λ v. P [] v) (sym walk) h)
 
-abbrev entering : List Word → Walk
-entering seen = record (none_yet false) { stopped = Some (codes "replay", seen) }
+abbrev entering : Word → List Word → Walk
+entering name seen = record (none_yet false) { stopped = Some (name, seen) }
 
 or_nothing : (k : Kinds) → k ≡ or_else k []
 or_nothing [] = refl
 or_nothing (x ∷ xs) = refl
 
-entered_agrees : (rest : List Word) → TopAgrees (entering []) rest (option_map replay (lone (operands rest)))
-unfolding defaults_fault
-entered_agrees rest =
-    let below = agrees_by replay (lone (operands rest)) (leaf_fault (none_yet false) rest) (leaf_file (none_yet false) rest) (none_found rest) in
-    let P : Kinds → Walk → Type 0 = λ k v. Agrees (option_map replay (lone (operands rest))) (top_fault_by k v) (top_found v) in
-    let at_end : P [] (entering rest) =
-    subst (λ k. Agrees (option_map replay (lone (operands rest))) k (option_map replay (leaf_file (none_yet false) rest))) (or_nothing _) below in
-    subst (λ k. P k (fold (walked whole.top.rules labels) (entering []) rest)) (sym (stopped_fault whole.top labels (none_yet false) (codes "replay", []) rest))
-    (subst (P []) (walk_stopped whole.top.rules labels (none_yet false) (codes "replay") [] rest) at_end)
+-- what clap finds behind a subcommand's name is what the words behind it ask
+abbrev Reads : Subcommand → Type 0
+Reads s = (rest : List Word) → TopAgrees (entering s.name []) rest (s.asked rest)
 
-met_is : (name : Word) (b : Bool) → bytes_eq (codes "replay") name ≡ b → subcommand_met labels idle name ≡ cond b (Some (codes "replay")) None
-met_is name b e = ap (λ t. option_map (λ (l : Text × List Text). l.0) (cond (t || false) (Some (codes "replay", [])) None)) e ∙ go b
-  where
-    go : (t : Bool) → option_map (λ (l : Text × List Text). l.0) (cond (t || false) (Some (codes "replay", [])) None) ≡ cond t (Some (codes "replay")) None
-    go true = refl
-    go false = refl
+-- clap hands the words behind a name to a subcommand that takes one file
+abbrev GoesOn : Word → (Word → Request) → Type 0
+GoesOn name request = (rest : List Word) → (top_fault_by [] (entering name rest) ≡ or_else (leaf_fault name (none_yet false) rest) [])
+    × (top_found (entering name rest) ≡ option_map request (leaf_file name (none_yet false) rest))
+
+file_reads : (name : Word) (request : Word → Request) → GoesOn name request → Reads (with_file name request)
+file_reads name request goes rest =
+    let asked : Option Request = option_map request (lone (operands rest)) in
+    let below = agrees_by request (lone (operands rest)) (leaf_fault name (none_yet false) rest) (leaf_file name (none_yet false) rest) (none_found name rest) in
+    let P : Kinds → Walk → Type 0 = λ k v. Agrees asked (top_fault_by k v) (top_found v) in
+    let at_end : P [] (entering name rest) =
+    subst (λ f. Agrees asked (top_fault_by [] (entering name rest)) f) (sym (goes rest).1)
+    (subst (λ k. Agrees asked k (option_map request (leaf_file name (none_yet false) rest))) (or_nothing _ ∙ sym (goes rest).0) below) in
+    subst (λ k. P k (fold (walked whole.top.rules labels) (entering name []) rest)) (sym (stopped_fault whole.top labels (none_yet false) (name, []) rest))
+    (subst (P []) (walk_stopped whole.top.rules labels (none_yet false) name [] rest) at_end)
+
+replay_goes_on : GoesOn (codes "replay") replay
+unfolding defaults_fault
+replay_goes_on rest = (refl, refl)
+
+run_goes_on : GoesOn (codes "run") run
+unfolding defaults_fault
+run_goes_on rest = (refl, refl)
+
+abbrev AllRead : List Subcommand → Type 0
+AllRead [] = Unit {0}
+AllRead (s ∷ others) = Reads s × AllRead others
+
+all_read : AllRead subcommands
+all_read = (file_reads (codes "replay") replay replay_goes_on, (file_reads (codes "run") run run_goes_on, tt))
 
 none_named : (rest : List Word) → TopAgrees (none_yet true) rest None
 unfolding walk_fault walked defaults_fault
 none_named [] = refused _ _ _ refl tt
 none_named (v ∷ rest) = top_refused (none_yet true) v rest _ refl tt
 
+-- help is no subcommand
+no_help : (b : Bool) (k : Kinds) → or_else (cond (b && false) k []) [] ≡ []
+no_help true k = refl
+no_help false k = refl
+
 module _ (name : Word) (rest : List Word) where
   abbrev before_name : Held
   before_name = (none_yet false).held
 
-  abbrev request_if : Bool → Option Request
-  request_if b = cond b (option_map replay (lone (operands rest))) None
+  -- what clap meets where these subcommands are left to compare with
+  abbrev met_among : List Subcommand → Option Text
+  met_among left = option_map (λ (l : Text × List Text). l.0) (find (answers_to name) (map (λ (s : Subcommand). (s.name, [])) left))
 
-  named : bytes_eq (codes "replay") name ≡ true → TopAgrees (none_yet false) (name ∷ rest) (request_after (name ∷ rest))
+  met_first : (s : Subcommand) (left : List Subcommand) (b : Bool) → bytes_eq s.name name ≡ b → met_among (s ∷ left) ≡ cond b (Some s.name) (met_among left)
+  met_first s left b e = ap by e ∙ go b
+    where
+      by : Bool → Option Text
+      by t = option_map (λ (l : Text × List Text). l.0) (cond (t || false) (Some (s.name, [])) (find (answers_to name) (map (λ (s : Subcommand). (s.name, [])) left)))
+
+      go : (t : Bool) → by t ≡ cond t (Some s.name) (met_among left)
+      go true = refl
+      go false = refl
+
+  named : (s : Subcommand) → Reads s → subcommand_met labels idle name ≡ Some s.name → TopAgrees (none_yet false) (name ∷ rest) (s.asked rest)
   unfolding walked
-  named e =
-      let met = met_is name true e in
-      subst (TopAgrees (none_yet false) (name ∷ rest)) (sym (ap request_if e))
-      (top_next (none_yet false) (entering []) name rest _
+  named s reads met =
+      top_next (none_yet false) (entering s.name []) name rest _
       (ap (λ o. or_else (other_fault whole.top o name before_name)
       (step_fault whole.top 1 (subcommand_or_other whole.top.rules o idle 1 name before_name).0
-      (subcommand_or_other whole.top.rules o idle 1 name before_name).1)) met)
+      (subcommand_or_other whole.top.rules o idle 1 name before_name).1)) met ∙ no_help (bytes_eq s.name (codes "help")) _)
       (ap (λ o. after_step whole.top.rules name (none_yet false) (subcommand_or_other whole.top.rules o idle 1 name before_name).0
       (subcommand_or_other whole.top.rules o idle 1 name before_name).1) met)
-      (entered_agrees rest))
+      (reads rest)
 
-  unnamed : bytes_eq (codes "replay") name ≡ false → TopAgrees (none_yet false) (name ∷ rest) (request_after (name ∷ rest))
-  unnamed e =
-      let nothing : request_after (name ∷ rest) ≡ None = ap request_if e in
-      elim (turn_of whole.top labels (λ _. refl) (λ _. refl) [] None 1 name (met_is name false e) (sort_of name)) [
-        | ends d turn walk ↦ subst (TopAgrees (none_yet false) (name ∷ rest)) (sym nothing)
-            (top_next (none_yet false) (none_yet true) name rest None turn walk (none_named rest))
-        | flag d f h ↦ top_refused (none_yet false) name rest _ nothing h
-        | other d f turn walk ↦ top_refused (none_yet false) name rest _ nothing (subst Fails (sym turn) tt)
-      ]
+  unnamed : subcommand_met labels idle name ≡ None → TopAgrees (none_yet false) (name ∷ rest) None
+  unnamed met = elim (turn_of whole.top labels (λ _. refl) (λ _. refl) [] None 1 name met (sort_of name)) [
+    | ends d turn walk ↦ top_next (none_yet false) (none_yet true) name rest None turn walk (none_named rest)
+    | flag d f h ↦ top_refused (none_yet false) name rest _ refl h
+    | other d f turn walk ↦ top_refused (none_yet false) name rest _ refl (subst Fails (sym turn) tt)
+  ]
 
-  named_or_not : (b : Bool) → bytes_eq (codes "replay") name ≡ b → TopAgrees (none_yet false) (name ∷ rest) (request_after (name ∷ rest))
-  named_or_not true e = named e
-  named_or_not false e = unnamed e
+  abbrev AgreesAmong : List Subcommand → Type 0
+  AgreesAmong left = subcommand_met labels idle name ≡ met_among left → TopAgrees (none_yet false) (name ∷ rest) (request_by left name rest)
+
+  first_or_other : (s : Subcommand) (left : List Subcommand) → Reads s → AgreesAmong left → (b : Bool) → bytes_eq s.name name ≡ b → AgreesAmong (s ∷ left)
+  first_or_other s left reads others true e met =
+      subst (TopAgrees (none_yet false) (name ∷ rest)) (sym (ap (λ b. cond b (s.asked rest) (request_by left name rest)) e))
+      (named s reads (met ∙ met_first s left true e))
+  first_or_other s left reads others false e met =
+      subst (TopAgrees (none_yet false) (name ∷ rest)) (sym (ap (λ b. cond b (s.asked rest) (request_by left name rest)) e))
+      (others (met ∙ met_first s left false e))
+
+  each_agrees : (left : List Subcommand) → AllRead left → AgreesAmong left
+  each_agrees [] read met = unnamed met
+  each_agrees (s ∷ left) read met = first_or_other s left read.0 (each_agrees left read.1) _ refl met
 
 top_agrees : (rest : List Word) → TopAgrees (none_yet false) rest (request_after rest)
 unfolding walk_fault walked defaults_fault
 top_agrees [] = refused _ _ _ refl tt
-top_agrees (name ∷ rest) = named_or_not name rest _ refl
+top_agrees (name ∷ rest) = each_agrees name rest subcommands all_read refl
 
 -- ---- all the words
 

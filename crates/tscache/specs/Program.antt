@@ -8,7 +8,8 @@ use Rattle.tsc_trace.specs.declared.replays.ReplayFault.{ReplayFault}
 use Rattle.tsc_trace.specs.declared.replays.ReplayFault.TheVariants.{Read, NoMemory}
 use Rattle.tscache.specs.Place.{Opening}
 use Rattle.tscache.specs.Replay.{EndsReplay, Tells, fault_line, status_of}
-use Rattle.tscache.specs.Words.{Answers, Request, Word, refusal_status, refusal_text, replay, request_in}
+use Rattle.tscache.specs.Run.{EndsRun}
+use Rattle.tscache.specs.Words.{Answers, Request, Word, refusal_status, refusal_text, replay, request_in, run}
 use Rattle.tscache.specs.declared.place.OpenFault.{OpenFault}
 use Rattle.tscache.specs.declared.place.OpenFault.TheVariants as open_fault
 use Rattle.tscache.specs.declared.words.WordsFault.{WordsFault}
@@ -29,31 +30,36 @@ pub record OnlyTells (line : List ℕ) (wanted status : ℕ) (writer writer' err
   pub told : Tells line errors errors'
   pub silent : writer' ≡ writer
 
--- how a replay ends whose file was not opened
+-- how a command ends whose file was not opened
 abbrev pub fault_of_open : OpenFault → ReplayFault
 fault_of_open open_fault.Unopened = Read
 fault_of_open open_fault.NoMemory = NoMemory
 
--- A file with these bytes, where they are known, was replayed from its first byte on.
-pub record ReplaysBytes (bytes : Option (List ℕ)) (status : ℕ) (writer writer' errors errors' : KnownWriter) : Type 0 where
-  pub reader' : KnownReader
-  pub ends : EndsReplay status (fresh_reader bytes) reader' writer writer' errors errors'
+-- how a command ends, by its exit status and what is known before and after of its reader, its writer and its stream for faults
+abbrev pub Ends : Type 1
+Ends = ℕ → KnownReader → KnownReader → KnownWriter → KnownWriter → KnownWriter → KnownWriter → Type 0
 
--- how the replay of a file ends, by what opening the file came to
-abbrev pub ReplaysOpening : Opening → ℕ → KnownWriter → KnownWriter → KnownWriter → KnownWriter → Type 0
-ReplaysOpening (Ok bytes) status writer writer' errors errors' = ReplaysBytes bytes status writer writer' errors errors'
-ReplaysOpening (Err fault) status writer writer' errors errors' =
+-- A command went over a file with these bytes, where they are known, from its first byte on.
+pub record GoesOverBytes (command : Ends) (bytes : Option (List ℕ)) (status : ℕ) (writer writer' errors errors' : KnownWriter) : Type 0 where
+  pub reader' : KnownReader
+  pub ends : command status (fresh_reader bytes) reader' writer writer' errors errors'
+
+-- how a command over a file ends, by what opening the file came to
+abbrev pub GoesOverOpening : Ends → Opening → ℕ → KnownWriter → KnownWriter → KnownWriter → KnownWriter → Type 0
+GoesOverOpening command (Ok bytes) status writer writer' errors errors' = GoesOverBytes command bytes status writer writer' errors errors'
+GoesOverOpening command (Err fault) status writer writer' errors errors' =
     OnlyTells (fault_line (fault_of_open fault)) (status_of (fault_of_open fault)) status writer writer' errors errors'
 
--- A file was opened, or was not, and its replay ended by that. What opening it may come to is for the place.
-pub record ReplaysFile (may_be : Opening → Type 0) (status : ℕ) (writer writer' errors errors' : KnownWriter) : Type 0 where
+-- A file was opened, or was not, and a command ended by that. What opening it may come to is for the place.
+pub record GoesOver (command : Ends) (may_be : Opening → Type 0) (status : ℕ) (writer writer' errors errors' : KnownWriter) : Type 0 where
   pub opening : Opening
   pub opened : may_be opening
-  pub ends : ReplaysOpening opening status writer writer' errors errors'
+  pub ends : GoesOverOpening command opening status writer writer' errors errors'
 
--- how the program ends, by what it is asked to do: to replay the file of a name, or nothing
+-- how the program ends, by what it is asked to do: to replay or to run the file of a name, or nothing
 abbrev pub DoesAsked : Result Request WordsFault → (Word → Opening → Type 0) → ℕ → KnownWriter → KnownWriter → KnownWriter → KnownWriter → Type 0
-DoesAsked (Ok (replay file)) opens status writer writer' errors errors' = ReplaysFile (opens file) status writer writer' errors errors'
+DoesAsked (Ok (replay file)) opens status writer writer' errors errors' = GoesOver EndsReplay (opens file) status writer writer' errors errors'
+DoesAsked (Ok (run file)) opens status writer writer' errors errors' = GoesOver EndsRun (opens file) status writer writer' errors errors'
 DoesAsked (Err fault) opens status writer writer' errors errors' =
     OnlyTells (refusal_text fault ++ line_feed ∷ []) (refusal_status fault) status writer writer' errors errors'
 

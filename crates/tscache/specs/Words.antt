@@ -3,7 +3,7 @@ use Rattle.std.specs.Prelude.{◌≡◌, ◌==◌, ◌&&◌, ℕ, Bool, false, L
 use Rattle.std.specs.Prelude.{Option, Some, None, IsNone, is_some, option_map, Result, Ok, Err, if◌then◌else◌, string_bytes}
 use Rattle.std.specs.Str.{bytes_eq, chars}
 use Rattle.tscache.specs.declared.words.Asked.{Asked}
-use Rattle.tscache.specs.declared.words.Asked.TheVariants.{Replay}
+use Rattle.tscache.specs.declared.words.Asked.TheVariants.{Replay, Run}
 use Rattle.tscache.specs.declared.words.WordsFault.{WordsFault}
 use Rattle.tscache.specs.declared.words.WordsFault.TheVariants.{Wrong, NoMemory}
 
@@ -14,10 +14,12 @@ Word = List ℕ
 -- what may be asked, with the names of the files
 pub data Request : Type 0 where
   replay : Word → Request
+  run : Word → Request
 
 -- what the code's answer asks for
 abbrev pub asks : Asked → Request
 asks (Replay file) = replay (string_bytes file)
+asks (Run file) = run (string_bytes file)
 
 -- what the code's answer asks for, or why for nothing
 abbrev pub asked_as : Result Asked WordsFault → Result Request WordsFault
@@ -44,15 +46,29 @@ abbrev pub lone : Option (List Word) → Option Word
 lone (Some (word ∷ [])) = Some word
 lone _ = None
 
--- what a subcommand asks, with the words after it
-abbrev pub request_by : Word → List Word → Option Request
-request_by name rest =
-    if bytes_eq (codes "replay") name then option_map replay (lone (operands rest)) else None
+-- a subcommand: its name, and what it asks with the words after it
+pub record Subcommand : Type 0 where
+  pub name : Word
+  pub asked : List Word → Option Request
+
+-- a subcommand that takes one file
+abbrev pub with_file : Word → (Word → Request) → Subcommand
+with_file name request = record { name = name; asked = λ rest. option_map request (lone (operands rest)) }
+
+-- the program's subcommands
+abbrev pub subcommands : List Subcommand
+subcommands = with_file (codes "replay") replay ∷ with_file (codes "run") run ∷ []
+
+-- what the subcommand of this name asks, with the words after it
+abbrev pub request_by : List Subcommand → Word → List Word → Option Request
+request_by [] name rest = None
+request_by (first ∷ others) name rest =
+    if bytes_eq first.name name then first.asked rest else request_by others name rest
 
 -- what the words after the program's name ask for, by the first of them
 abbrev pub request_after : List Word → Option Request
 request_after [] = None
-request_after (name ∷ rest) = request_by name rest
+request_after (name ∷ rest) = request_by subcommands name rest
 
 -- what all the words ask for
 abbrev pub request_in : List Word → Option Request

@@ -1,8 +1,9 @@
-//! The timestamp cache's program: it replays recorded traces.
+//! The timestamp cache's program: it replays recorded traces, and runs them on threads.
 //!
-//! `tscache replay FILE` writes the log of a trace's replay to standard output. The exit status is 0
-//! for a replay, 1 for a trace that was refused, 2 for wrong words, 4 where reading or writing failed,
-//! and 5 where a growth was refused. A fault is one line on standard error.
+//! `tscache replay FILE` makes the calls of a trace on one thread, and `tscache run FILE` those of each list
+//! on a thread of its own. Both write the log to standard output. The exit status is 0 where that was done,
+//! 1 for a trace that was refused, 2 for wrong words, 4 where reading or writing failed or a thread could not
+//! be started, and 5 where a growth was refused. A fault is one line on standard error.
 #![tactic(auto)]
 
 mod place;
@@ -22,6 +23,7 @@ fn main(rt: HostRuntime) -> ExitCode {
     let mut output = Metered::new(io::writer(&rt));
     let mut errors = Metered::new(rt.stderr());
     ExitCode::from(program(
+        &rt,
         rt.alloc(),
         fetch_words(&rt),
         &SystemFiles::of(&rt),

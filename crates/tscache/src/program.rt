@@ -1,21 +1,28 @@
 //! The program, over its words, a place of files, a writer and a stream for faults.
 ghost use Rattle.std.specs.Prelude.{◌≡◌};
-ghost use Rattle.tscache.specs.Program.{AskFor, ReplaysFile, RunsProgram, fault_of_open, texts_of};
-ghost use Rattle.tscache.specs.Replay.{Tells};
+ghost use Rattle.tscache.specs.Program.{AskFor, GoesOver, RunsProgram, fault_of_open, texts_of};
+ghost use Rattle.tscache.specs.Replay.{EndsReplay, Tells, fault_line, status_of};
+ghost use Rattle.tscache.specs.Run.{EndsRun};
 ghost use Rattle.tscache.specs.Words.{asked_as};
 
 use crate::place::{OpenFault, Place};
 use crate::replay::{replay_command, status_of, tell};
+use crate::run::run_command;
 use crate::words::{Asked, WordsFault, request};
 use std::alloc::Global;
+use std::sync::Wait;
+use std::thread::Threads;
+use tsc_shared::NoGate;
 use tsc_stream::{Sink, write_output};
 use tsc_trace::ReplayFault;
 
 /// Does what the program's words ask for, and gives the exit status.
 ///
 /// `words` are the words, its own name first, or why they are not to be had. Only a log goes to the
-/// writer. A fault is told by one line on `errors`, and telling it changes no status.
-pub fn program<P: Place, W: Sink, E: Sink>(
+/// writer. A fault is told by one line on `errors`, and telling it changes no status. `rt` starts the
+/// threads of a run, for whose end the call waits.
+pub fn program<T: Threads + Wait + Sync, P: Place, W: Sink, E: Sink>(
+    rt: &T,
     alloc: Global,
     words: Result<Vec<String>, WordsFault>,
     place: &P,
@@ -27,6 +34,7 @@ pub fn program<P: Place, W: Sink, E: Sink>(
 {
     match asked(alloc, words) {
         Ok(Asked::Replay { file }) => replay_file(alloc, place, &file, writer, errors),
+        Ok(Asked::Run { file }) => run_file(rt, alloc, place, &file, writer, errors),
         Err(fault) => {
             tell_line(errors, fault.line());
             fault.status()
@@ -49,20 +57,44 @@ fn replay_file<P: Place, W: Sink, E: Sink>(
     writer: &mut W,
     errors: &mut E,
 ) -> u8
-    ensures { ReplaysFile (P.opens place.now file.now) result
+    ensures { GoesOver EndsReplay (P.opens place.now file.now) result
         (W.known writer.old) (W.known writer.new) (E.known errors.old) (E.known errors.new) }
 {
     match place.open(file) {
         Ok(mut reader) => replay_command(alloc, &mut reader, writer, errors),
-        Err(fault) => {
-            let fault = ending_of(fault);
-            tell(errors, fault);
-            status_of(fault)
-        }
+        Err(fault) => end_unopened(errors, fault),
     }
 }
 
-/// How a replay ends whose file was not opened.
+/// Runs the trace in the file of a name on threads.
+fn run_file<T: Threads + Wait + Sync, P: Place, W: Sink, E: Sink>(
+    rt: &T,
+    alloc: Global,
+    place: &P,
+    file: &str,
+    writer: &mut W,
+    errors: &mut E,
+) -> u8
+    ensures { GoesOver EndsRun (P.opens place.now file.now) result
+        (W.known writer.old) (W.known writer.new) (E.known errors.old) (E.known errors.new) }
+{
+    match place.open(file) {
+        Ok(mut reader) => run_command(rt, alloc, &mut reader, writer, errors, &NoGate),
+        Err(fault) => end_unopened(errors, fault),
+    }
+}
+
+/// Tells why a file was not opened, and gives the exit status.
+fn end_unopened<E: Sink>(errors: &mut E, fault: OpenFault) -> u8
+    ensures status { result ≡ status_of (fault_of_open fault) }
+    ensures told { Tells (fault_line (fault_of_open fault)) (E.known errors.old) (E.known errors.new) }
+{
+    let fault = ending_of(fault);
+    tell(errors, fault);
+    status_of(fault)
+}
+
+/// How a command ends whose file was not opened.
 fn ending_of(fault: OpenFault) -> ReplayFault
     ensures { result ≡ fault_of_open fault }
 {

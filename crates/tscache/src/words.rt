@@ -1,11 +1,11 @@
 //! What the program's words ask for.
 ghost use Rattle.std.specs.Prelude.{◌≡◌, ◌↔◌, ◌++◌, ◌∷◌, [], IfErr, IfOk, Some, false, map, string_bytes};
-ghost use Rattle.clap.specs.Words.{FailsBy, app_of, fault_of, first_value, found_of, shape_of, subcommand_of, subcommand_rows_of};
+ghost use Rattle.clap.specs.Words.{FailsBy, app_of, fault_of, first_value, found_of, rows_of, shape_of, subcommand_of, subcommand_rows_of};
 ghost use Rattle.clap.specs.declared.builder.Command.TheViews.{out-Command as fields_of};
 ghost use Rattle.tsc_trace.specs.LogText.{line_feed};
 ghost use Rattle.tscache.specs.Words.{Answers, Explains, asks, request_in, refusal_status, refusal_text};
 ghost use Rattle.tscache.specs.declared.words.WordsFault.TheVariants.{NoMemory};
-ghost use Rattle.tscache.specs.Commands.{one_file_shape, program_app, request_found};
+ghost use Rattle.tscache.specs.Commands.{one_file_shape, program_app, request_for, request_found};
 
 use clap::error::ErrorKind;
 use clap::{Arg, ArgMatches, Command, Error};
@@ -16,6 +16,8 @@ use std::alloc::{AllocError, Global};
 pub enum Asked {
     /// Replay the trace in a file.
     Replay { file: String },
+    /// Run the trace in a file on threads.
+    Run { file: String },
 }
 
 /// Why the program is asked to do nothing.
@@ -103,7 +105,8 @@ fn clap_command<'a>(alloc: Global) -> Result<Command<'a>, AllocError>
         .subcommand_required(true)
         .disable_help_flag(true)
         .disable_help_subcommand(true)
-        .subcommand(one_file(alloc, "replay")?)
+        .subcommand(one_file(alloc, "replay")?)?
+        .subcommand(one_file(alloc, "run")?)
 }
 
 /// A subcommand that takes one file.
@@ -119,11 +122,27 @@ fn one_file<'a>(alloc: Global, name: &'a str) -> Result<Command<'a>, AllocError>
 fn request_of(alloc: Global, matches: &ArgMatches<'_>) -> Result<Asked, WordsFault>
     ensures { Answers asks (request_found (subcommand_rows_of matches.now)) result }
 {
-    if let Some(replay) = matches.subcommand_matches("replay") {
-        let file = text(alloc, replay, "file")?;
-        return Ok(Asked::Replay { file });
+    match matches.subcommand() {
+        Some((name, found)) => request_for(alloc, name, found),
+        None => Err(WordsFault::Wrong),
     }
-    Err(WordsFault::Wrong)
+}
+
+/// What the subcommand of a name asks for, with what clap found for it.
+fn request_for(alloc: Global, name: &str, found: &ArgMatches<'_>) -> Result<Asked, WordsFault>
+    ensures { Answers asks (request_for name.now (rows_of (found_of found.now))) result }
+{
+    match name {
+        "replay" => {
+            let file = text(alloc, found, "file")?;
+            Ok(Asked::Replay { file })
+        }
+        "run" => {
+            let file = text(alloc, found, "file")?;
+            Ok(Asked::Run { file })
+        }
+        _ => Err(WordsFault::Wrong),
+    }
 }
 
 /// A copy of the value of an argument.

@@ -9,6 +9,8 @@ use crate::words::WordsFault;
 use std::alloc::Global;
 use std::env::{Env, FillError};
 use std::process::Abort;
+use std::sync::Wait;
+use std::thread::Threads;
 use tsc_stream::Metered;
 use tsc_stream::fakes::{Faulty, Mishap};
 
@@ -83,7 +85,7 @@ impl Env for Called {
 /// Words, the exit status, what is written, and what is told.
 type Row = (&'static [&'static str], u8, &'static str, &'static str);
 
-static ROWS: [Row; 14] = [
+static ROWS: [Row; 19] = [
     (
         &["tscache", "replay", "two_readers.json"],
         0,
@@ -100,10 +102,25 @@ static ROWS: [Row; 14] = [
         "",
         USAGE,
     ),
+    (
+        &["tscache", "run", "two_readers.json"],
+        0,
+        TWO_READERS_LOG,
+        "",
+    ),
+    (&["tscache", "run", "notes.txt"], 1, "", NO_JSON),
+    (&["tscache", "run", "missing.json"], 4, "", READ_FAILED),
+    (&["tscache", "run", "large.json"], 5, "", OUT_OF_MEMORY),
+    (
+        &["tscache", "run", "two_readers.json", "notes.txt"],
+        2,
+        "",
+        USAGE,
+    ),
     (&["tscache", "replay"], 2, "", USAGE),
+    (&["tscache", "run"], 2, "", USAGE),
     (&["tscache", "paint", "two_readers.json"], 2, "", USAGE),
     (&["tscache", "--help"], 2, "", USAGE),
-    (&["tscache", "run", "two_readers.json"], 2, "", USAGE),
     (
         &["tscache", "check", "two_readers.json", "notes.txt"],
         2,
@@ -116,10 +133,12 @@ static ROWS: [Row; 14] = [
 ];
 
 /// Files of the system: none, an empty one, one that cannot be read and one without end.
-static SYSTEM_ROWS: [Row; 4] = [
+static SYSTEM_ROWS: [Row; 6] = [
     (&["tscache", "replay", "/no/such/file"], 4, "", READ_FAILED),
     (&["tscache", "replay", "/dev/null"], 1, "", NO_JSON),
     (&["tscache", "replay", "/"], 4, "", READ_FAILED),
+    (&["tscache", "run", "/no/such/file"], 4, "", READ_FAILED),
+    (&["tscache", "run", "/dev/null"], 1, "", NO_JSON),
     (
         &["tscache", "replay", "/dev/zero"],
         4,
@@ -129,8 +148,8 @@ static SYSTEM_ROWS: [Row; 4] = [
 ];
 
 /// Holds what a call of the program comes to against what is wanted.
-fn check_call<P: Place>(
-    rt: &impl Abort,
+fn check_call<R: Abort + Threads + Wait + Sync, P: Place>(
+    rt: &R,
     alloc: Global,
     place: &P,
     words: Result<Vec<String>, WordsFault>,
@@ -140,7 +159,7 @@ fn check_call<P: Place>(
     let (wanted_status, log, line) = wanted;
     let mut output = Metered::new(Vec::new(alloc));
     let mut errors = Metered::new(Faulty::new(Vec::new(alloc), 9, telling));
-    let status = program(alloc, words, place, &mut output, &mut errors);
+    let status = program(rt, alloc, words, place, &mut output, &mut errors);
     assert_eq!(rt; status, wanted_status);
     assert_eq!(rt; output.into_inner().as_slice(), log.as_bytes());
     assert_eq!(rt; errors.into_inner().inner.as_slice(), line.as_bytes());
@@ -156,7 +175,12 @@ fn words_of(
 }
 
 /// Calls the program with the words of each row, also where no fault can be told.
-fn check_rows<P: Place>(rt: &impl Abort, alloc: Global, place: &P, rows: &[Row]) {
+fn check_rows<R: Abort + Threads + Wait + Sync, P: Place>(
+    rt: &R,
+    alloc: Global,
+    place: &P,
+    rows: &[Row],
+) {
     for (words, status, log, line) in rows {
         let calm = words_of(alloc, words, false);
         check_call(
@@ -180,7 +204,7 @@ fn check_rows<P: Place>(rt: &impl Abort, alloc: Global, place: &P, rows: &[Row])
 }
 
 /// Calls the program where its words are no text, and where memory is wanting for them.
-fn check_without_words(rt: &impl Abort, alloc: Global, place: &Shelf) {
+fn check_without_words<R: Abort + Threads + Wait + Sync>(rt: &R, alloc: Global, place: &Shelf) {
     let garbled = words_of(alloc, &["tscache", "replay", "two_readers.json"], true);
     check_call(rt, alloc, place, garbled, Mishap::Never, (2, "", USAGE));
     let refused = Err(WordsFault::NoMemory);

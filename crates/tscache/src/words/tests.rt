@@ -7,45 +7,61 @@ use std::test::Fail;
 /// The exit status where words ask for nothing.
 const WRONG: u8 = 2;
 
-/// Words, and the file whose replay they ask for, where they ask for one.
-type Row = (&'static [&'static str], Option<&'static str>);
+/// What words ask for, with the name of a file.
+#[derive(Clone, Copy)]
+enum Wanted {
+    Replay(&'static str),
+    Run(&'static str),
+    Nothing,
+}
 
-static ROWS: [Row; 26] = [
-    (&["tscache", "replay", "x"], Some("x")),
-    (&["another", "replay", "x"], Some("x")),
+/// Words, and what they ask for.
+type Row = (&'static [&'static str], Wanted);
+
+static ROWS: [Row; 34] = [
+    (&["tscache", "replay", "x"], Wanted::Replay("x")),
+    (&["another", "replay", "x"], Wanted::Replay("x")),
     (
         &["tscache", "replay", "a file with spaces"],
-        Some("a file with spaces"),
+        Wanted::Replay("a file with spaces"),
     ),
     (
         &["tscache", "replay", "Größe-日本.trace"],
-        Some("Größe-日本.trace"),
+        Wanted::Replay("Größe-日本.trace"),
     ),
-    (&["tscache", "replay", "replay"], Some("replay")),
-    (&["tscache", "replay", ""], Some("")),
+    (&["tscache", "replay", "replay"], Wanted::Replay("replay")),
+    (&["tscache", "replay", ""], Wanted::Replay("")),
+    (&["tscache", "run", "x"], Wanted::Run("x")),
+    (&["tscache", "run", "run"], Wanted::Run("run")),
+    (&["tscache", "run", "replay"], Wanted::Run("replay")),
+    (&["tscache", "replay", "run"], Wanted::Replay("run")),
+    (&["tscache", "run", ""], Wanted::Run("")),
     // Hyphens.
-    (&["tscache", "replay", "-"], Some("-")),
-    (&["tscache", "replay", "--", "-x"], Some("-x")),
-    (&["tscache", "replay", "--", "--"], Some("--")),
-    (&["tscache", "replay", "x", "--"], Some("x")),
-    (&["tscache", "replay", "-x"], None),
-    (&["tscache", "replay", "--x"], None),
-    (&["tscache", "replay", "--"], None),
-    (&["tscache", "--", "replay", "x"], None),
+    (&["tscache", "replay", "-"], Wanted::Replay("-")),
+    (&["tscache", "replay", "--", "-x"], Wanted::Replay("-x")),
+    (&["tscache", "replay", "--", "--"], Wanted::Replay("--")),
+    (&["tscache", "replay", "x", "--"], Wanted::Replay("x")),
+    (&["tscache", "replay", "-x"], Wanted::Nothing),
+    (&["tscache", "replay", "--x"], Wanted::Nothing),
+    (&["tscache", "replay", "--"], Wanted::Nothing),
+    (&["tscache", "--", "replay", "x"], Wanted::Nothing),
+    (&["tscache", "run", "--", "-x"], Wanted::Run("-x")),
+    (&["tscache", "run", "-x"], Wanted::Nothing),
     // Fewer words, more words and other words.
-    (&[], None),
-    (&["tscache"], None),
-    (&["tscache", "replay"], None),
-    (&["tscache", "replay", "a", "b"], None),
-    (&["tscache", "check", "x"], None),
-    (&["tscache", "run", "x"], None),
-    (&["tscache", "x"], None),
+    (&[], Wanted::Nothing),
+    (&["tscache"], Wanted::Nothing),
+    (&["tscache", "replay"], Wanted::Nothing),
+    (&["tscache", "replay", "a", "b"], Wanted::Nothing),
+    (&["tscache", "run"], Wanted::Nothing),
+    (&["tscache", "run", "a", "b"], Wanted::Nothing),
+    (&["tscache", "check", "x"], Wanted::Nothing),
+    (&["tscache", "x"], Wanted::Nothing),
     // Calls for help.
-    (&["tscache", "--help"], None),
-    (&["tscache", "-h"], None),
-    (&["tscache", "help"], None),
-    (&["tscache", "--version"], None),
-    (&["tscache", "replay", "--help"], None),
+    (&["tscache", "--help"], Wanted::Nothing),
+    (&["tscache", "-h"], Wanted::Nothing),
+    (&["tscache", "help"], Wanted::Nothing),
+    (&["tscache", "--version"], Wanted::Nothing),
+    (&["tscache", "replay", "--help"], Wanted::Nothing),
 ];
 
 /// The words of a row, as the program gets them.
@@ -58,18 +74,19 @@ fn words_of(alloc: Global, texts: &[&str]) -> Result<Vec<String>, AllocError> {
 }
 
 /// Whether reading the words comes to what the row says.
-fn answers(alloc: Global, texts: &[&str], file: Option<&str>) -> Result<bool, AllocError> {
+fn answers(alloc: Global, texts: &[&str], wanted: Wanted) -> Result<bool, AllocError> {
     let asked = words(alloc, &words_of(alloc, texts)?);
-    Ok(match (asked, file) {
-        (Ok(Asked::Replay { file: found }), Some(file)) => found.as_str() == file,
-        (Err(status), None) => status == WRONG,
+    Ok(match (asked, wanted) {
+        (Ok(Asked::Replay { file }), Wanted::Replay(name)) => file.as_str() == name,
+        (Ok(Asked::Run { file }), Wanted::Run(name)) => file.as_str() == name,
+        (Err(status), Wanted::Nothing) => status == WRONG,
         _ => false,
     })
 }
 
 fn answer_rows(rt: &impl Abort, alloc: Global, rows: &[Row]) -> Result<(), AllocError> {
-    for (texts, file) in rows {
-        assert!(rt; answers(alloc, texts, *file)?, "{texts:?}");
+    for (texts, wanted) in rows {
+        assert!(rt; answers(alloc, texts, *wanted)?, "{texts:?}");
     }
     Ok(())
 }
