@@ -10,3 +10,4 @@ pub mod Misplaced
 pub mod Sweeping
 pub mod Verdicts
 pub mod Replayed
+pub mod RightRuns

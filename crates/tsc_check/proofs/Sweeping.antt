@@ -196,7 +196,7 @@ none_put p [] ls g none = refl
 none_put p (c ∷ cs) [] g none = refl
 none_put p (c ∷ cs) (l ∷ ls) g none = rw (none 0) (none_put p cs ls g (λ j. none (suc j)))
 
-one_put : (p : ℕ) (cs : List PlacedCall) (ls : List Line) (g : History) (i : ℕ) (c : PlacedCall) → slice_get cs i ≡ Some c → adds_there ls p i ≡ true → ((j : ℕ) → adds_there ls p j ≡ true → j ≡ i) → with_adds_at p cs ls g ≡ after_call c.thread g c.call
+pub one_put : (p : ℕ) (cs : List PlacedCall) (ls : List Line) (g : History) (i : ℕ) (c : PlacedCall) → slice_get cs i ≡ Some c → adds_there ls p i ≡ true → ((j : ℕ) → adds_there ls p j ≡ true → j ≡ i) → with_adds_at p cs ls g ≡ after_call c.thread g c.call
 one_put p [] ls g i c of at only = absurd (no_call c of)
 one_put p (d ∷ cs) [] g i c of at only = absurd (true≢false (sym at))
 one_put p (d ∷ cs) (l ∷ ls) g zero c of at only =

@@ -60,6 +60,37 @@ each_line_has_a_call = refl
 pub no_lines_of_no_calls : verdict_of (record { config = usual; threads = [] ∷ [] }) [] ≡ Right
 no_lines_of_no_calls = refl
 
+-- two Adds that are right, and the third line
+abbrev pub third_line : Line → List Line
+third_line third = line 0 0 (said.Add 0 (added true false 0)) ∷ line 1 0 (said.Add 1 (added true false 0)) ∷ third ∷ []
+
+pub an_add_that_was_kept_says_so :
+    verdict_of three_lists (line 0 0 (said.Add 0 (added false false 0)) ∷ line 1 0 (said.Add 1 (added true false 0)) ∷ line 2 0 (said.Get 1 (of_first twenty)) ∷ [])
+    ≡ WrongAnswer 1
+an_add_that_was_kept_says_so = refl
+
+pub after_both_adds_the_answer_is_another : verdict_of three_lists (log_with 0 1 2) ≡ WrongAnswer 3
+after_both_adds_the_answer_is_another = refl
+
+pub an_owner_is_not_dropped : verdict_of three_lists (third_line (line 2 0 (said.Get 1 (unowned twenty)))) ≡ WrongAnswer 3
+an_owner_is_not_dropped = refl
+
+pub a_lookup_may_come_before_all_adds : verdict_of three_lists (third_line (line 2 0 (said.Get 0 (unowned (at 5 0))))) ≡ Right
+a_lookup_may_come_before_all_adds = refl
+
+pub a_line_is_of_the_kind_of_its_call : verdict_of three_lists (third_line (line 2 0 (said.Low 1 (at 5 0)))) ≡ WrongCall 3
+a_line_is_of_the_kind_of_its_call = refl
+
+pub there_is_no_fourth_call :
+    verdict_of three_lists (line 0 0 (said.Add 0 (added true false 0)) ∷ line 1 0 (said.Add 1 (added true false 0)) ∷ line 2 0 (said.Get 1 (of_first twenty)) ∷ line 2 1 (said.Low 2 (at 5 0)) ∷ [])
+    ≡ WrongCall 4
+there_is_no_fourth_call = refl
+
+pub lines_come_list_by_list :
+    verdict_of three_lists (line 1 0 (said.Add 1 (added true false 0)) ∷ line 0 0 (said.Add 0 (added true false 0)) ∷ line 2 0 (said.Get 1 (of_first twenty)) ∷ [])
+    ≡ WrongCall 1
+lines_come_list_by_list = refl
+
 -- ---- one list
 
 abbrev pub one_list : Trace

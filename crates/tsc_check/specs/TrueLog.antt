@@ -58,3 +58,7 @@ RunsAreRight = (trace : Trace) (lines : List Line) (h : History) → IsRunOf tra
 -- The verdict on the log of a replay is right.
 abbrev pub ReplaysAreRight : Type 0
 ReplaysAreRight = (trace : Trace) → verdict_of trace (log_of trace) ≡ Right
+
+-- Lines on which the verdict is right are those of a run.
+abbrev pub RightAreRuns : Type 0
+RightAreRuns = (trace : Trace) (lines : List Line) → verdict_of trace lines ≡ Right → (h : History) × IsRunOf trace lines h

@@ -15,7 +15,7 @@ const ONE_LIST: &str =
 {"op":"get","span":{"start":"61"}}]]}"#;
 
 /// What stands behind the head of a trace, a log, and the verdict.
-static CHECKS: [(&str, &str, Verdict); 16] = [
+static CHECKS: [(&str, &str, Verdict); 22] = [
     (
         THREE_LISTS,
         "0 0 add 0 1 0 0\n1 0 add 1 1 0 0\n2 0 get 1 20.0 11111111-1111-4111-8111-111111111111\n",
@@ -82,6 +82,36 @@ static CHECKS: [(&str, &str, Verdict); 16] = [
         ONE_LIST,
         "0 0 add 0 1 0 0\n0 1 get 1 5.0 none\n",
         Verdict::WrongAnswer(2),
+    ),
+    (
+        THREE_LISTS,
+        "0 0 add 0 0 0 0\n1 0 add 1 1 0 0\n2 0 get 1 20.0 11111111-1111-4111-8111-111111111111\n",
+        Verdict::WrongAnswer(1),
+    ),
+    (
+        THREE_LISTS,
+        "0 0 add 0 1 0 0\n1 0 add 1 1 0 0\n2 0 get 2 20.0 11111111-1111-4111-8111-111111111111\n",
+        Verdict::WrongAnswer(3),
+    ),
+    (
+        THREE_LISTS,
+        "0 0 add 0 1 0 0\n1 0 add 1 1 0 0\n2 0 get 1 20.0 none\n",
+        Verdict::WrongAnswer(3),
+    ),
+    (
+        THREE_LISTS,
+        "0 0 add 0 1 0 0\n1 0 add 1 1 0 0\n2 0 get 0 5.0 none\n",
+        Verdict::Right,
+    ),
+    (
+        THREE_LISTS,
+        "0 0 add 0 1 0 0\n1 0 add 1 1 0 0\n2 0 get 1 20.0 11111111-1111-4111-8111-111111111111\n2 1 low 2 5.0\n",
+        Verdict::WrongCall(4),
+    ),
+    (
+        THREE_LISTS,
+        "1 0 add 1 1 0 0\n0 0 add 0 1 0 0\n2 0 get 1 20.0 11111111-1111-4111-8111-111111111111\n",
+        Verdict::WrongCall(1),
     ),
     ("[[]]}", "", Verdict::Right),
     ("[[],[]]}", "0 0 low 0 5.0\n", Verdict::WrongCall(1)),

@@ -1,0 +1,5 @@
+use Rattle.tsc_check.proofs.RightRuns.{right_is_run}
+use Rattle.tsc_check.proofs.laws.right_logs_are_of_runs.Goals as goal
+
+pub returns : goal.returns
+returns c = right_is_run
