@@ -1,3 +1,4 @@
 pub mod Verdict
 pub mod TrueLog
 pub mod CheckParts
+pub mod Checking

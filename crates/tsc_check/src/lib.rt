@@ -5,10 +5,12 @@ mod calls;
 mod checks;
 pub mod laws;
 mod order;
+mod streams;
 mod sweep;
 #[cfg(test)]
 mod tests;
 mod verdict;
 
 pub use checks::check;
+pub use streams::{CheckFault, check_stream};
 pub use verdict::Verdict;

@@ -4,3 +4,4 @@ pub mod Program
 pub mod Replay
 pub mod Words
 pub mod Run
+pub mod Check

@@ -6,6 +6,7 @@
 //! be started, and 5 where a growth was refused. A fault is one line on standard error.
 #![tactic(auto)]
 
+mod check;
 mod place;
 mod program;
 mod replay;
