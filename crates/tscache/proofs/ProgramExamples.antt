@@ -1,15 +1,17 @@
 -- What the program comes to where it is known which bytes each file has.
 use Rattle.std.proofs.Common.{◌≡◌, ◌==◌, ◌++◌, ◌⊎◌, ◌∙◌, ℕ, List, [], ◌∷◌, Option, Result, Ok, Err, Some, None, IsNone, codes, false, true≢false, inl, inr, sym, ap, subst, refl}
 use Rattle.tsc_trace.specs.LogText.{line_feed}
-use Rattle.tsc_stream.specs.Stream.{KnownWriter}
+use Rattle.tsc_stream.specs.Stream.{KnownReader, KnownWriter, fresh_reader}
+use Rattle.tscache.specs.Check.{EndsCheck}
 use Rattle.tscache.specs.Place.{Opening}
 use Rattle.tscache.specs.Replay.{EndsReplay}
 use Rattle.tscache.specs.Run.{EndsRun}
-use Rattle.tscache.specs.Program.{AskFor, DoesAsked, Ends, GoesOver, GoesOverBytes, GoesOverOpening, OnlyTells, RunsProgram}
-use Rattle.tscache.specs.Words.{Request, Word, refusal_text, replay, request_in, run}
+use Rattle.tscache.specs.Program.{AskFor, DoesAsked, Ends, EndsCheckOf, GoesOver, GoesOverBytes, GoesOverOpening, OnlyTells, RunsProgram}
+use Rattle.tscache.specs.Words.{Request, Word, check, refusal_text, replay, request_in, run}
+use Rattle.tscache.specs.declared.place.OpenFault.TheVariants.{Unopened}
 use Rattle.tscache.specs.declared.words.WordsFault.{WordsFault}
 use Rattle.tscache.specs.declared.words.WordsFault.TheVariants.{Wrong, NoMemory}
-use Rattle.tscache.proofs.WordExamples.{a_named_file_is_replayed, a_named_file_is_run, two_files_ask_for_nothing}
+use Rattle.tscache.proofs.WordExamples.{a_named_file_is_replayed, a_named_file_is_run, a_named_log_is_checked, two_files_ask_for_nothing}
 
 -- each file is there, with these bytes
 abbrev at_hand : (Word → List ℕ) → Word → Opening → Type 0
@@ -52,6 +54,23 @@ module _ (bytes : Word → List ℕ) (words : List Word) (status : ℕ) (w w' e 
     | inr told ↦ inr told
   ]
 
+  -- A check went over the bytes of a trace and over those of a log.
+  pub record ChecksBytes (trace log : Word) : Type 0 where
+    pub trace' : KnownReader
+    pub log' : KnownReader
+    pub ends : EndsCheck status (fresh_reader (Some (bytes trace))) trace' (fresh_reader (Some (bytes log))) log' w w' e e'
+
+  pub asked_log_is_checked : (trace log : Word) → request_in words ≡ Some (check trace log) → Runs → ChecksBytes trace log ⊎ Tells NoMemory 5
+  asked_log_is_checked trace log is ran = elim (what_is_asked_is_done (check trace log) is ran) [
+    | inl ends ↦ inl (over_both (over_its_bytes (EndsCheckOf (at_hand bytes log)) trace ends))
+    | inr told ↦ inr told
+  ]
+    where
+      over_both : GoesOverBytes (EndsCheckOf (at_hand bytes log)) (Some (bytes trace)) status w w' e e' → ChecksBytes trace log
+      over_both over =
+          let over_log = over_its_bytes (λ ended read read'. EndsCheck ended (fresh_reader (Some (bytes trace))) over.reader' read read') log over.ends in
+          record { trace' = over.reader'; log' = over_log.reader'; ends = over_log.ends }
+
   -- Where nothing is asked for, the usage is told, unless memory is wanting for the words.
   pub nothing_asked_tells_the_usage : request_in words ≡ None → Runs → Tells Wrong 2 ⊎ Tells NoMemory 5
   nothing_asked_tells_the_usage is ran = go ran.asked ran.is_asked ran.ends
@@ -61,7 +80,16 @@ module _ (bytes : Word → List ℕ) (words : List Word) (status : ℕ) (w w' e 
       go (Err Wrong) none ends = inl ends
       go (Err NoMemory) any ends = inr ends
 
--- ---- three calls
+-- ---- a trace that is not opened
+
+-- It is told, whatever opening the log may come to.
+pub an_unopened_trace_is_told : (opens : Word → Opening → Type 0) (trace log : Word) (status : ℕ) (w w' e e' : KnownWriter)
+    → ((opening : Opening) → opens trace opening → opening ≡ Err Unopened) → DoesAsked (Ok (check trace log)) opens status w w' e e'
+    → OnlyTells (codes "read failed" ++ line_feed ∷ []) 4 status w w' e e'
+an_unopened_trace_is_told opens trace log status w w' e e' unopened went =
+    subst (λ (o : Opening). GoesOverOpening (EndsCheckOf (opens log)) o status w w' e e') (unopened went.opening went.opened) went.ends
+
+-- ---- four calls
 
 pub the_named_file_is_replayed : (bytes : Word → List ℕ) (name : Word) (first : ℕ) (rest : List ℕ) (status : ℕ) (w w' e e' : KnownWriter) → (first == 45) ≡ false
     → RunsProgram (Ok (name ∷ codes "replay" ∷ (first ∷ rest) ∷ [])) (at_hand bytes) status w w' e e'
@@ -74,6 +102,14 @@ pub the_named_file_is_run : (bytes : Word → List ℕ) (name : Word) (first : �
     → GoesOverBytes EndsRun (Some (bytes (first ∷ rest))) status w w' e e' ⊎ OnlyTells (codes "out of memory" ++ line_feed ∷ []) 5 status w w' e e'
 the_named_file_is_run bytes name first rest status w w' e e' plain ran =
     asked_file_is_run bytes _ status w w' e e' (first ∷ rest) (a_named_file_is_run name first rest plain) ran
+
+pub the_named_log_is_checked : (bytes : Word → List ℕ) (name : Word) (first second : ℕ) (rest more : List ℕ) (status : ℕ) (w w' e e' : KnownWriter)
+    → (first == 45) ≡ false → (second == 45) ≡ false
+    → RunsProgram (Ok (name ∷ codes "check" ∷ (first ∷ rest) ∷ (second ∷ more) ∷ [])) (at_hand bytes) status w w' e e'
+    → ChecksBytes bytes (name ∷ codes "check" ∷ (first ∷ rest) ∷ (second ∷ more) ∷ []) status w w' e e' (first ∷ rest) (second ∷ more)
+    ⊎ OnlyTells (codes "out of memory" ++ line_feed ∷ []) 5 status w w' e e'
+the_named_log_is_checked bytes name first second rest more status w w' e e' plain also ran =
+    asked_log_is_checked bytes _ status w w' e e' (first ∷ rest) (second ∷ more) (a_named_log_is_checked name first second rest more plain also) ran
 
 pub a_word_too_many_tells_the_usage : (bytes : Word → List ℕ) (name : Word) (first second : ℕ) (rest more : List ℕ) (status : ℕ) (w w' e e' : KnownWriter)
     → (first == 45) ≡ false → (second == 45) ≡ false

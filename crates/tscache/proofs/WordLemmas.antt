@@ -13,8 +13,8 @@ use Rattle.clap.specs.declared.error.ErrorKind.{ErrorKind}
 use Rattle.clap.specs.declared.error.ErrorKind.TheVariants.{UnknownArgument}
 use Rattle.clap.proofs.FaultLemmas.{stopped_fault}
 use Rattle.clap.proofs.WalkLemmas.{walk_stopped}
-use Rattle.tscache.specs.Words.{Request, Subcommand, Word, ends_flags, is_flag, lone, operands, replay, request_after, request_by, request_in, run, subcommands, with_file}
-use Rattle.tscache.specs.Commands.{one_file_shape, program_app, request_found}
+use Rattle.tscache.specs.Words.{Request, Subcommand, Word, check, ends_flags, is_flag, lone, operands, pair, replay, request_after, request_by, request_in, run, subcommands, with_file, with_two_files}
+use Rattle.tscache.specs.Commands.{one_file_shape, program_app, request_found, trace_and_log, trace_and_log_shape}
 
 -- ---- what a word looks like
 
@@ -238,19 +238,18 @@ two_are_not_one : (v u : Word) (o : Option (List Word)) → lone (option_map (λ
 two_are_not_one v u None = refl
 two_are_not_one v u (Some more) = refl
 
--- ---- the words after a subcommand that takes one file
+three_are_not_two : (v u t : Word) (o : Option (List Word))
+    → pair (option_map (λ more. v ∷ more) (option_map (λ more. u ∷ more) (option_map (λ more. t ∷ more) o))) ≡ None
+three_are_not_two v u t None = refl
+three_are_not_two v u t (Some more) = refl
 
--- no file yet, and one
-abbrev none_yet : Bool → Walk
-none_yet is_trailing = at [] None 1 is_trailing
+-- ---- the words after a subcommand, which has no options
 
-abbrev one_yet : Word → Bool → Walk
-one_yet file is_trailing = at [] (Some (codes "file", file ∷ [])) 2 is_trailing
+-- a subcommand, as it is built
+abbrev leaf_of : Shape → Shape
+leaf_of s = built_leaf (inherited (with_leaf_noted (marked_built program_app.top)) s)
 
-module _ (name : Word) where
-  abbrev leaf : Shape
-  leaf = built_leaf (inherited (with_leaf_noted (marked_built program_app.top)) (one_file_shape name))
-
+module _ (leaf : Shape) where
   abbrev leaf_end_fault : Held → Kinds
   leaf_end_fault end = or_else (settle_fault leaf.rules leaf.args_override_self end)
       (or_else (defaults_fault (settled leaf.rules end).rows leaf.rules) (check_fault leaf (finished leaf.rules end) false))
@@ -258,55 +257,136 @@ module _ (name : Word) where
   abbrev leaf_fault : Walk → List Word → Kinds
   leaf_fault w words = or_else (walk_fault leaf [] w words) (or_else [] (leaf_end_fault (fold (walked leaf.rules []) w words).held))
 
-  abbrev leaf_file : Walk → List Word → Option Word
-  leaf_file w words = first_of (codes "file") (finished leaf.rules (fold (walked leaf.rules []) w words).held)
+  abbrev leaf_rows : Walk → List Word → List Row
+  leaf_rows w words = finished leaf.rules (fold (walked leaf.rules []) w words).held
 
-  abbrev LeafAgrees : Walk → List Word → Option Word → Type 0
-  LeafAgrees w words asked = Agrees asked (leaf_fault w words) (leaf_file w words)
+-- what is found with the rows of a subcommand
+module _ {X : Type 0} (leaf : Shape) (found : List Row → Option X) where
+  abbrev LeafAgrees : Walk → List Word → Option X → Type 0
+  LeafAgrees w words asked = Agrees asked (leaf_fault leaf w words) (found (leaf_rows leaf w words))
 
-  leaf_refused : (w : Walk) (word : Word) (rest : List Word) (asked : Option Word) → asked ≡ None → Fails (turn_fault leaf [] w word) → LeafAgrees w (word ∷ rest) asked
+  leaf_refused : (w : Walk) (word : Word) (rest : List Word) (asked : Option X) → asked ≡ None → Fails (turn_fault leaf [] w word) → LeafAgrees w (word ∷ rest) asked
   unfolding walk_fault
   leaf_refused w word rest asked none h = refused asked _ _ none (fails_first _ _ (fails_first _ _ h))
 
-  leaf_next : (w next : Walk) (word : Word) (rest : List Word) (asked : Option Word) → turn_fault leaf [] w word ≡ [] → walked leaf.rules [] w word ≡ next
+  leaf_next : (w next : Walk) (word : Word) (rest : List Word) (asked : Option X) → turn_fault leaf [] w word ≡ [] → walked leaf.rules [] w word ≡ next
       → LeafAgrees next rest asked → LeafAgrees w (word ∷ rest) asked
   unfolding walk_fault
   leaf_next w next word rest asked turn walk h =
-      let P : Kinds → Walk → Type 0 = λ k v. Agrees asked (or_else (or_else k (walk_fault leaf [] v rest)) (or_else [] (leaf_end_fault (fold (walked leaf.rules []) v rest).held)))
-      (leaf_file v rest) in
+      let P : Kinds → Walk → Type 0 = λ k v. Agrees asked (or_else (or_else k (walk_fault leaf [] v rest)) (or_else [] (leaf_end_fault leaf (fold (walked leaf.rules []) v rest).held)))
+      (found (leaf_rows leaf v rest)) in
       subst (λ k. P k (walked leaf.rules [] w word)) (sym turn) (subst (λ v. P [] v) (sym walk) h)
 
-  one_then : (file : Word) (rest : List Word) → LeafAgrees (one_yet file true) rest (lone (Some (file ∷ rest)))
+  -- `--`, a flag, or one more operand
+  leaf_word : names_no_long leaf.rules → names_no_short leaf.rules → (rows : List Row) (pending : Option (Text × List Text)) (position : ℕ)
+      (word : Word) (rest : List Word) (asked : Option (List Word) → Option X) → asked None ≡ None
+      → LeafAgrees (at rows pending position true) rest (asked (Some rest))
+      → (turn_fault leaf [] (at rows pending position false) word ≡ step_fault leaf position (at rows pending position false).held value
+      → walked leaf.rules [] (at rows pending position false) word ≡ after_step leaf.rules word (at rows pending position false) (at rows pending position false).held value
+      → LeafAgrees (at rows pending position false) (word ∷ rest) (asked (option_map (λ more. word ∷ more) (operands rest))))
+      → LeafAgrees (at rows pending position false) (word ∷ rest) (asked (operands (word ∷ rest)))
+  leaf_word no_long no_short rows pending position word rest asked none after_dashes as_operand =
+      let here : Walk = at rows pending position false in
+      elim (turn_of leaf [] no_long no_short rows pending position word refl (sort_of word)) [
+        | ends e turn walk ↦ subst (λ o. LeafAgrees here (word ∷ rest) (asked o)) (sym (ends_are word rest e))
+            (leaf_next here (at rows pending position true) word rest _ turn walk after_dashes)
+        | flag e f h ↦ leaf_refused here word rest _ (ap asked (flag_bars word rest e f) ∙ none) h
+        | other e f turn walk ↦ subst (λ o. LeafAgrees here (word ∷ rest) (asked o)) (sym (other_leads word rest e f)) (as_operand turn walk)
+      ]
+
+-- before any operand
+abbrev none_yet : Bool → Walk
+none_yet is_trailing = at [] None 1 is_trailing
+
+-- ---- one file
+
+module _ (name : Word) where
+  abbrev one_leaf : Shape
+  one_leaf = leaf_of (one_file_shape name)
+
+  abbrev OneAgrees : Walk → List Word → Option Word → Type 0
+  OneAgrees = LeafAgrees one_leaf (first_of (codes "file"))
+
+  abbrev one_yet : Word → Bool → Walk
+  one_yet file is_trailing = at [] (Some (codes "file", file ∷ [])) 2 is_trailing
+
+  one_then : (file : Word) (rest : List Word) → OneAgrees (one_yet file true) rest (lone (Some (file ∷ rest)))
   unfolding walk_fault walked defaults_fault
   one_then file [] = accepted _ _ _ refl refl
-  one_then file (u ∷ us) = leaf_refused (one_yet file true) u us _ refl tt
+  one_then file (u ∷ us) = leaf_refused one_leaf (first_of (codes "file")) (one_yet file true) u us _ refl tt
 
-  none_then : (rest : List Word) → LeafAgrees (none_yet true) rest (lone (Some rest))
+  none_then : (rest : List Word) → OneAgrees (none_yet true) rest (lone (Some rest))
   unfolding walk_fault walked defaults_fault
   none_then [] = refused _ _ _ refl tt
-  none_then (v ∷ rest) = leaf_next (none_yet true) (one_yet v true) v rest _ refl refl (one_then v rest)
+  none_then (v ∷ rest) = leaf_next one_leaf (first_of (codes "file")) (none_yet true) (one_yet v true) v rest _ refl refl (one_then v rest)
 
-  one_found : (file : Word) (rest : List Word) → LeafAgrees (one_yet file false) rest (lone (option_map (λ more. file ∷ more) (operands rest)))
+  one_found : (file : Word) (rest : List Word) → OneAgrees (one_yet file false) rest (lone (option_map (λ more. file ∷ more) (operands rest)))
   unfolding walk_fault walked defaults_fault
   one_found file [] = accepted _ _ _ refl refl
-  one_found file (u ∷ us) = elim (turn_of leaf [] (λ _. refl) (λ _. refl) [] (Some (codes "file", file ∷ [])) 2 u refl (sort_of u)) [
-    | ends e turn walk ↦ subst (λ o. LeafAgrees (one_yet file false) (u ∷ us) (lone (option_map (λ more. file ∷ more) o))) (sym (ends_are u us e))
-        (leaf_next (one_yet file false) (one_yet file true) u us _ turn walk (one_then file us))
-    | flag e f h ↦ leaf_refused (one_yet file false) u us _ (ap (λ o. lone (option_map (λ more. file ∷ more) o)) (flag_bars u us e f)) h
-    | other e f turn walk ↦ leaf_refused (one_yet file false) u us _
-        (ap (λ o. lone (option_map (λ more. file ∷ more) o)) (other_leads u us e f) ∙ two_are_not_one file u (operands us)) (subst Fails (sym turn) tt)
-  ]
+  one_found file (u ∷ us) = leaf_word one_leaf (first_of (codes "file")) (λ _. refl) (λ _. refl) [] (Some (codes "file", file ∷ [])) 2 u us
+      (λ o. lone (option_map (λ more. file ∷ more) o)) refl (one_then file us)
+      (λ turn _. leaf_refused one_leaf (first_of (codes "file")) (one_yet file false) u us _ (two_are_not_one file u (operands us)) (subst Fails (sym turn) tt))
 
-  none_found : (rest : List Word) → LeafAgrees (none_yet false) rest (lone (operands rest))
+  none_found : (rest : List Word) → OneAgrees (none_yet false) rest (lone (operands rest))
   unfolding walk_fault walked defaults_fault
   none_found [] = refused _ _ _ refl tt
-  none_found (v ∷ rest) = elim (turn_of leaf [] (λ _. refl) (λ _. refl) [] None 1 v refl (sort_of v)) [
-    | ends e turn walk ↦ subst (λ o. LeafAgrees (none_yet false) (v ∷ rest) (lone o)) (sym (ends_are v rest e))
-        (leaf_next (none_yet false) (none_yet true) v rest _ turn walk (none_then rest))
-    | flag e f h ↦ leaf_refused (none_yet false) v rest _ (ap lone (flag_bars v rest e f)) h
-    | other e f turn walk ↦ subst (λ o. LeafAgrees (none_yet false) (v ∷ rest) (lone o)) (sym (other_leads v rest e f))
-        (leaf_next (none_yet false) (one_yet v false) v rest _ turn walk (one_found v rest))
-  ]
+  none_found (v ∷ rest) = leaf_word one_leaf (first_of (codes "file")) (λ _. refl) (λ _. refl) [] None 1 v rest lone refl (none_then rest)
+      (λ turn walk. leaf_next one_leaf (first_of (codes "file")) (none_yet false) (one_yet v false) v rest _ turn walk (one_found v rest))
+
+-- ---- a trace and a log
+
+module _ (name : Word) where
+  abbrev two_leaf : Shape
+  two_leaf = leaf_of (trace_and_log_shape name)
+
+  abbrev TwoAgree : Walk → List Word → Option (Word × Word) → Type 0
+  TwoAgree = LeafAgrees two_leaf trace_and_log
+
+  abbrev trace_yet : Word → Bool → Walk
+  trace_yet trace is_trailing = at [] (Some (codes "trace", trace ∷ [])) 2 is_trailing
+
+  -- the trace, as an argument that was used
+  abbrev trace_rows : Word → List Row
+  trace_rows trace = (settled two_leaf.rules (trace_yet trace false).held).rows
+
+  abbrev both_yet : Word → Word → Bool → Walk
+  both_yet trace log is_trailing = at (trace_rows trace) (Some (codes "log", log ∷ [])) 3 is_trailing
+
+  both_then : (trace log : Word) (rest : List Word) → TwoAgree (both_yet trace log true) rest (pair (Some (trace ∷ log ∷ rest)))
+  unfolding walk_fault walked defaults_fault
+  both_then trace log [] = accepted _ _ _ refl refl
+  both_then trace log (u ∷ us) = leaf_refused two_leaf trace_and_log (both_yet trace log true) u us _ refl tt
+
+  trace_then : (trace : Word) (rest : List Word) → TwoAgree (trace_yet trace true) rest (pair (Some (trace ∷ rest)))
+  unfolding walk_fault walked defaults_fault
+  trace_then trace [] = refused _ _ _ refl tt
+  trace_then trace (v ∷ rest) = leaf_next two_leaf trace_and_log (trace_yet trace true) (both_yet trace v true) v rest _ refl refl (both_then trace v rest)
+
+  neither_then : (rest : List Word) → TwoAgree (none_yet true) rest (pair (Some rest))
+  unfolding walk_fault walked defaults_fault
+  neither_then [] = refused _ _ _ refl tt
+  neither_then (v ∷ rest) = leaf_next two_leaf trace_and_log (none_yet true) (trace_yet v true) v rest _ refl refl (trace_then v rest)
+
+  both_found : (trace log : Word) (rest : List Word)
+      → TwoAgree (both_yet trace log false) rest (pair (option_map (λ more. trace ∷ more) (option_map (λ more. log ∷ more) (operands rest))))
+  unfolding walk_fault walked defaults_fault
+  both_found trace log [] = accepted _ _ _ refl refl
+  both_found trace log (u ∷ us) = leaf_word two_leaf trace_and_log (λ _. refl) (λ _. refl) (trace_rows trace) (Some (codes "log", log ∷ [])) 3 u us
+      (λ o. pair (option_map (λ more. trace ∷ more) (option_map (λ more. log ∷ more) o))) refl (both_then trace log us)
+      (λ turn _. leaf_refused two_leaf trace_and_log (both_yet trace log false) u us _ (three_are_not_two trace log u (operands us)) (subst Fails (sym turn) tt))
+
+  trace_found : (trace : Word) (rest : List Word) → TwoAgree (trace_yet trace false) rest (pair (option_map (λ more. trace ∷ more) (operands rest)))
+  unfolding walk_fault walked defaults_fault
+  trace_found trace [] = refused _ _ _ refl tt
+  trace_found trace (v ∷ rest) = leaf_word two_leaf trace_and_log (λ _. refl) (λ _. refl) [] (Some (codes "trace", trace ∷ [])) 2 v rest
+      (λ o. pair (option_map (λ more. trace ∷ more) o)) refl (trace_then trace rest)
+      (λ turn walk. leaf_next two_leaf trace_and_log (trace_yet trace false) (both_yet trace v false) v rest _ turn walk (both_found trace v rest))
+
+  neither_found : (rest : List Word) → TwoAgree (none_yet false) rest (pair (operands rest))
+  unfolding walk_fault walked defaults_fault
+  neither_found [] = refused _ _ _ refl tt
+  neither_found (v ∷ rest) = leaf_word two_leaf trace_and_log (λ _. refl) (λ _. refl) [] None 1 v rest pair refl (neither_then rest)
+      (λ turn walk. leaf_next two_leaf trace_and_log (none_yet false) (trace_yet v false) v rest _ turn walk (trace_found v rest))
 
 -- ---- the words after the program's name
 
@@ -354,36 +434,53 @@ or_nothing (x ∷ xs) = refl
 abbrev Reads : Subcommand → Type 0
 Reads s = (rest : List Word) → TopAgrees (entering s.name []) rest (s.asked rest)
 
--- clap hands the words behind a name to a subcommand that takes one file
-abbrev GoesOn : Word → (Word → Request) → Type 0
-GoesOn name request = (rest : List Word) → (top_fault_by [] (entering name rest) ≡ or_else (leaf_fault name (none_yet false) rest) [])
-    × (top_found (entering name rest) ≡ option_map request (leaf_file name (none_yet false) rest))
+-- a subcommand that is built, and what the rows of its arguments ask
+module _ {X : Type 0} (name : Word) (leaf : Shape) (found : List Row → Option X) (request : X → Request) where
+  -- clap hands the words behind the name to it
+  abbrev GoesOn : Type 0
+  GoesOn = (rest : List Word) → (top_fault_by [] (entering name rest) ≡ or_else (leaf_fault leaf (none_yet false) rest) [])
+      × (top_found (entering name rest) ≡ option_map request (found (leaf_rows leaf (none_yet false) rest)))
 
-file_reads : (name : Word) (request : Word → Request) → GoesOn name request → Reads (with_file name request)
-file_reads name request goes rest =
-    let asked : Option Request = option_map request (lone (operands rest)) in
-    let below = agrees_by request (lone (operands rest)) (leaf_fault name (none_yet false) rest) (leaf_file name (none_yet false) rest) (none_found name rest) in
-    let P : Kinds → Walk → Type 0 = λ k v. Agrees asked (top_fault_by k v) (top_found v) in
-    let at_end : P [] (entering name rest) =
-    subst (λ f. Agrees asked (top_fault_by [] (entering name rest)) f) (sym (goes rest).1)
-    (subst (λ k. Agrees asked k (option_map request (leaf_file name (none_yet false) rest))) (or_nothing _ ∙ sym (goes rest).0) below) in
-    subst (λ k. P k (fold (walked whole.top.rules labels) (entering name []) rest)) (sym (stopped_fault whole.top labels (none_yet false) (name, []) rest))
-    (subst (P []) (walk_stopped whole.top.rules labels (none_yet false) name [] rest) at_end)
+  leaf_reads : (asked : List Word → Option X) → ((rest : List Word) → LeafAgrees leaf found (none_yet false) rest (asked rest)) → GoesOn
+      → Reads (record { name = name; asked = λ rest. option_map request (asked rest) })
+  leaf_reads asked agrees goes rest =
+      let ends : Kinds = leaf_fault leaf (none_yet false) rest in
+      let value : Option X = found (leaf_rows leaf (none_yet false) rest) in
+      let below = agrees_by request (asked rest) ends value (agrees rest) in
+      let P : Kinds → Walk → Type 0 = λ k v. Agrees (option_map request (asked rest)) (top_fault_by k v) (top_found v) in
+      let at_end : P [] (entering name rest) =
+      subst (λ f. Agrees (option_map request (asked rest)) (top_fault_by [] (entering name rest)) f) (sym (goes rest).1)
+      (subst (λ k. Agrees (option_map request (asked rest)) k (option_map request value)) (or_nothing _ ∙ sym (goes rest).0) below) in
+      subst (λ k. P k (fold (walked whole.top.rules labels) (entering name []) rest)) (sym (stopped_fault whole.top labels (none_yet false) (name, []) rest))
+      (subst (P []) (walk_stopped whole.top.rules labels (none_yet false) name [] rest) at_end)
 
-replay_goes_on : GoesOn (codes "replay") replay
+replay_goes_on : GoesOn (codes "replay") (one_leaf (codes "replay")) (first_of (codes "file")) replay
 unfolding defaults_fault
 replay_goes_on rest = (refl, refl)
 
-run_goes_on : GoesOn (codes "run") run
+run_goes_on : GoesOn (codes "run") (one_leaf (codes "run")) (first_of (codes "file")) run
 unfolding defaults_fault
 run_goes_on rest = (refl, refl)
+
+abbrev checked_of : Word × Word → Request
+checked_of files = check files.0 files.1
+
+check_goes_on : GoesOn (codes "check") (two_leaf (codes "check")) trace_and_log checked_of
+unfolding defaults_fault
+check_goes_on rest = (refl, refl)
+
+file_reads : (name : Word) (request : Word → Request) → GoesOn name (one_leaf name) (first_of (codes "file")) request → Reads (with_file name request)
+file_reads name request goes = leaf_reads name (one_leaf name) (first_of (codes "file")) request (λ rest. lone (operands rest)) (none_found name) goes
+
+check_reads : Reads (with_two_files (codes "check") check)
+check_reads = leaf_reads (codes "check") (two_leaf (codes "check")) trace_and_log checked_of (λ rest. pair (operands rest)) (neither_found (codes "check")) check_goes_on
 
 abbrev AllRead : List Subcommand → Type 0
 AllRead [] = Unit {0}
 AllRead (s ∷ others) = Reads s × AllRead others
 
 all_read : AllRead subcommands
-all_read = (file_reads (codes "replay") replay replay_goes_on, (file_reads (codes "run") run run_goes_on, tt))
+all_read = (file_reads (codes "replay") replay replay_goes_on, (file_reads (codes "run") run run_goes_on, (check_reads, tt)))
 
 none_named : (rest : List Word) → TopAgrees (none_yet true) rest None
 unfolding walk_fault walked defaults_fault

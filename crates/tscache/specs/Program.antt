@@ -6,10 +6,11 @@ use Rattle.tsc_trace.specs.LogText.{line_feed}
 use Rattle.tsc_stream.specs.Stream.{KnownReader, KnownWriter, fresh_reader}
 use Rattle.tsc_trace.specs.declared.replays.ReplayFault.{ReplayFault}
 use Rattle.tsc_trace.specs.declared.replays.ReplayFault.TheVariants.{Read, NoMemory}
+use Rattle.tscache.specs.Check.{EndsCheck}
 use Rattle.tscache.specs.Place.{Opening}
 use Rattle.tscache.specs.Replay.{EndsReplay, Tells, fault_line, status_of}
 use Rattle.tscache.specs.Run.{EndsRun}
-use Rattle.tscache.specs.Words.{Answers, Request, Word, refusal_status, refusal_text, replay, request_in, run}
+use Rattle.tscache.specs.Words.{Answers, Request, Word, check, refusal_status, refusal_text, replay, request_in, run}
 use Rattle.tscache.specs.declared.place.OpenFault.{OpenFault}
 use Rattle.tscache.specs.declared.place.OpenFault.TheVariants as open_fault
 use Rattle.tscache.specs.declared.words.WordsFault.{WordsFault}
@@ -56,10 +57,18 @@ pub record GoesOver (command : Ends) (may_be : Opening → Type 0) (status : ℕ
   pub opened : may_be opening
   pub ends : GoesOverOpening command opening status writer writer' errors errors'
 
--- how the program ends, by what it is asked to do: to replay or to run the file of a name, or nothing
+-- how a check ends whose trace was opened, by what opening its log may come to
+abbrev pub EndsCheckOf : (Opening → Type 0) → Ends
+EndsCheckOf may_be status trace trace' writer writer' errors errors' =
+    GoesOver (λ ended log log'. EndsCheck ended trace trace' log log') may_be status writer writer' errors errors'
+
+-- How the program ends, by what it is asked to do: to replay or to run the file of a name, to check the log in a file against the trace in
+-- another, which is opened first, or nothing.
 abbrev pub DoesAsked : Result Request WordsFault → (Word → Opening → Type 0) → ℕ → KnownWriter → KnownWriter → KnownWriter → KnownWriter → Type 0
 DoesAsked (Ok (replay file)) opens status writer writer' errors errors' = GoesOver EndsReplay (opens file) status writer writer' errors errors'
 DoesAsked (Ok (run file)) opens status writer writer' errors errors' = GoesOver EndsRun (opens file) status writer writer' errors errors'
+DoesAsked (Ok (check trace log)) opens status writer writer' errors errors' =
+    GoesOver (EndsCheckOf (opens log)) (opens trace) status writer writer' errors errors'
 DoesAsked (Err fault) opens status writer writer' errors errors' =
     OnlyTells (refusal_text fault ++ line_feed ∷ []) (refusal_status fault) status writer writer' errors errors'
 

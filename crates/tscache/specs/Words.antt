@@ -3,7 +3,7 @@ use Rattle.std.specs.Prelude.{◌≡◌, ◌==◌, ◌&&◌, ℕ, Bool, false, L
 use Rattle.std.specs.Prelude.{Option, Some, None, IsNone, is_some, option_map, Result, Ok, Err, if◌then◌else◌, string_bytes}
 use Rattle.std.specs.Str.{bytes_eq, chars}
 use Rattle.tscache.specs.declared.words.Asked.{Asked}
-use Rattle.tscache.specs.declared.words.Asked.TheVariants.{Replay, Run}
+use Rattle.tscache.specs.declared.words.Asked.TheVariants.{Replay, Run, Check}
 use Rattle.tscache.specs.declared.words.WordsFault.{WordsFault}
 use Rattle.tscache.specs.declared.words.WordsFault.TheVariants.{Wrong, NoMemory}
 
@@ -15,11 +15,14 @@ Word = List ℕ
 pub data Request : Type 0 where
   replay : Word → Request
   run : Word → Request
+  -- of a trace and a log
+  check : Word → Word → Request
 
 -- what the code's answer asks for
 abbrev pub asks : Asked → Request
 asks (Replay file) = replay (string_bytes file)
 asks (Run file) = run (string_bytes file)
+asks (Check trace log) = check (string_bytes trace) (string_bytes log)
 
 -- what the code's answer asks for, or why for nothing
 abbrev pub asked_as : Result Asked WordsFault → Result Request WordsFault
@@ -46,6 +49,11 @@ abbrev pub lone : Option (List Word) → Option Word
 lone (Some (word ∷ [])) = Some word
 lone _ = None
 
+-- the operands, where there are two
+abbrev pub pair : Option (List Word) → Option (Word × Word)
+pair (Some (first ∷ second ∷ [])) = Some (first, second)
+pair _ = None
+
 -- a subcommand: its name, and what it asks with the words after it
 pub record Subcommand : Type 0 where
   pub name : Word
@@ -55,9 +63,14 @@ pub record Subcommand : Type 0 where
 abbrev pub with_file : Word → (Word → Request) → Subcommand
 with_file name request = record { name = name; asked = λ rest. option_map request (lone (operands rest)) }
 
+-- a subcommand that takes two files
+abbrev pub with_two_files : Word → (Word → Word → Request) → Subcommand
+with_two_files name request =
+    record { name = name; asked = λ rest. option_map (λ files. request files.0 files.1) (pair (operands rest)) }
+
 -- the program's subcommands
 abbrev pub subcommands : List Subcommand
-subcommands = with_file (codes "replay") replay ∷ with_file (codes "run") run ∷ []
+subcommands = with_file (codes "replay") replay ∷ with_file (codes "run") run ∷ with_two_files (codes "check") check ∷ []
 
 -- what the subcommand of this name asks, with the words after it
 abbrev pub request_by : List Subcommand → Word → List Word → Option Request

@@ -1,10 +1,11 @@
 //! The program, over its words, a place of files, a writer and a stream for faults.
 ghost use Rattle.std.specs.Prelude.{◌≡◌};
-ghost use Rattle.tscache.specs.Program.{AskFor, GoesOver, RunsProgram, fault_of_open, texts_of};
+ghost use Rattle.tscache.specs.Program.{AskFor, EndsCheckOf, GoesOver, RunsProgram, fault_of_open, texts_of};
 ghost use Rattle.tscache.specs.Replay.{EndsReplay, Tells, fault_line, status_of};
 ghost use Rattle.tscache.specs.Run.{EndsRun};
 ghost use Rattle.tscache.specs.Words.{asked_as};
 
+use crate::check::check_command;
 use crate::place::{OpenFault, Place};
 use crate::replay::{replay_command, status_of, tell};
 use crate::run::run_command;
@@ -13,13 +14,13 @@ use std::alloc::Global;
 use std::sync::Wait;
 use std::thread::Threads;
 use tsc_shared::NoGate;
-use tsc_stream::{Sink, write_output};
+use tsc_stream::{Sink, Source, write_output};
 use tsc_trace::ReplayFault;
 
 /// Does what the program's words ask for, and gives the exit status.
 ///
-/// `words` are the words, its own name first, or why they are not to be had. Only a log goes to the
-/// writer. A fault is told by one line on `errors`, and telling it changes no status. `rt` starts the
+/// `words` are the words, its own name first, or why they are not to be had. Only a log or a verdict goes
+/// to the writer. A fault is told by one line on `errors`, and telling it changes no status. `rt` starts the
 /// threads of a run, for whose end the call waits.
 pub fn program<T: Threads + Wait + Sync, P: Place, W: Sink, E: Sink>(
     rt: &T,
@@ -35,6 +36,9 @@ pub fn program<T: Threads + Wait + Sync, P: Place, W: Sink, E: Sink>(
     match asked(alloc, words) {
         Ok(Asked::Replay { file }) => replay_file(alloc, place, &file, writer, errors),
         Ok(Asked::Run { file }) => run_file(rt, alloc, place, &file, writer, errors),
+        Ok(Asked::Check { trace, log }) => {
+            check_files(alloc, place, &trace, &log, writer, errors)
+        }
         Err(fault) => {
             tell_line(errors, fault.line());
             fault.status()
@@ -80,6 +84,44 @@ fn run_file<T: Threads + Wait + Sync, P: Place, W: Sink, E: Sink>(
 {
     match place.open(file) {
         Ok(mut reader) => run_command(rt, alloc, &mut reader, writer, errors, &NoGate),
+        Err(fault) => end_unopened(errors, fault),
+    }
+}
+
+/// Checks the log in the file of a name against the trace in that of another, which is opened first. Neither
+/// is read before both are opened.
+fn check_files<P: Place, W: Sink, E: Sink>(
+    alloc: Global,
+    place: &P,
+    trace: &str,
+    log: &str,
+    writer: &mut W,
+    errors: &mut E,
+) -> u8
+    ensures { GoesOver (EndsCheckOf (P.opens place.now log.now)) (P.opens place.now trace.now) result
+        (W.known writer.old) (W.known writer.new) (E.known errors.old) (E.known errors.new) }
+{
+    match place.open(trace) {
+        Ok(mut reader) => check_file(alloc, &mut reader, place, log, writer, errors),
+        Err(fault) => end_unopened(errors, fault),
+    }
+}
+
+/// Checks the log in the file of a name against the trace of a reader, which is called only once that file is
+/// opened.
+fn check_file<R: Source, P: Place, W: Sink, E: Sink>(
+    alloc: Global,
+    trace: &mut R,
+    place: &P,
+    log: &str,
+    writer: &mut W,
+    errors: &mut E,
+) -> u8
+    ensures { EndsCheckOf (P.opens place.now log.now) result (R.known trace.old) (R.known trace.new)
+        (W.known writer.old) (W.known writer.new) (E.known errors.old) (E.known errors.new) }
+{
+    match place.open(log) {
+        Ok(mut reader) => check_command(alloc, trace, &mut reader, writer, errors),
         Err(fault) => end_unopened(errors, fault),
     }
 }

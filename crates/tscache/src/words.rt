@@ -5,7 +5,7 @@ ghost use Rattle.clap.specs.declared.builder.Command.TheViews.{out-Command as fi
 ghost use Rattle.tsc_trace.specs.LogText.{line_feed};
 ghost use Rattle.tscache.specs.Words.{Answers, Explains, asks, request_in, refusal_status, refusal_text};
 ghost use Rattle.tscache.specs.declared.words.WordsFault.TheVariants.{NoMemory};
-ghost use Rattle.tscache.specs.Commands.{one_file_shape, program_app, request_for, request_found};
+ghost use Rattle.tscache.specs.Commands.{bare_app, check_found, one_file_shape, program_app, request_for, request_found, trace_and_log_shape};
 
 use clap::error::ErrorKind;
 use clap::{Arg, ArgMatches, Command, Error};
@@ -18,6 +18,8 @@ pub enum Asked {
     Replay { file: String },
     /// Run the trace in a file on threads.
     Run { file: String },
+    /// Check the log in one file against the trace in another.
+    Check { trace: String, log: String },
 }
 
 /// Why the program is asked to do nothing.
@@ -97,16 +99,24 @@ fn matches_of<'a>(alloc: Global, words: &'a [String]) -> Result<ArgMatches<'a>, 
     clap_command(alloc)?.try_get_matches_from(words)
 }
 
-/// The words that clap takes. Help is no part of them: one line tells how the program is called.
+/// The words that clap takes.
 fn clap_command<'a>(alloc: Global) -> Result<Command<'a>, AllocError>
     ensures { IfOk result (λ command. app_of command ≡ program_app) }
+{
+    bare_command(alloc)
+        .subcommand(one_file(alloc, "replay")?)?
+        .subcommand(one_file(alloc, "run")?)?
+        .subcommand(trace_and_log(alloc, "check")?)
+}
+
+/// The program without its subcommands. It takes no call for help: one line tells how the program is called.
+fn bare_command<'a>(alloc: Global) -> Command<'a>
+    ensures { app_of result ≡ bare_app }
 {
     Command::new(alloc, "tscache")
         .subcommand_required(true)
         .disable_help_flag(true)
         .disable_help_subcommand(true)
-        .subcommand(one_file(alloc, "replay")?)?
-        .subcommand(one_file(alloc, "run")?)
 }
 
 /// A subcommand that takes one file.
@@ -116,6 +126,16 @@ fn one_file<'a>(alloc: Global, name: &'a str) -> Result<Command<'a>, AllocError>
 {
     let file = Arg::new(alloc, "file").required(true);
     Command::new(alloc, name).arg(file)
+}
+
+/// A subcommand that takes a trace and a log.
+fn trace_and_log<'a>(alloc: Global, name: &'a str) -> Result<Command<'a>, AllocError>
+    ensures shape { IfOk result (λ command. shape_of command ≡ trace_and_log_shape name.entry.now) }
+    ensures local { IfOk result (λ command. (fields_of command).has_globals ≡ false) }
+{
+    let trace = Arg::new(alloc, "trace").required(true);
+    let log = Arg::new(alloc, "log").required(true);
+    Command::new(alloc, name).arg(trace)?.arg(log)
 }
 
 /// What the words ask for, where clap took them.
@@ -141,8 +161,18 @@ fn request_for(alloc: Global, name: &str, found: &ArgMatches<'_>) -> Result<Aske
             let file = text(alloc, found, "file")?;
             Ok(Asked::Run { file })
         }
+        "check" => check_of(alloc, found),
         _ => Err(WordsFault::Wrong),
     }
+}
+
+/// The check of a trace and a log, with what clap found for them.
+fn check_of(alloc: Global, found: &ArgMatches<'_>) -> Result<Asked, WordsFault>
+    ensures { Answers asks (check_found (rows_of (found_of found.now))) result }
+{
+    let trace = text(alloc, found, "trace")?;
+    let log = text(alloc, found, "log")?;
+    Ok(Asked::Check { trace, log })
 }
 
 /// A copy of the value of an argument.
