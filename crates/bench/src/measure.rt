@@ -164,8 +164,8 @@ fn add(rt: &HostRuntime, page: &mut Page, spans: &[Span], turns: u32) -> Result<
 /// Adds a span at a wall time, where it can be added.
 fn add_at(page: &mut Page, span: &Span, wall: u64) -> Result<()> {
     let time = Timestamp::new(wall, 0).context("no time")?;
-    if !span.is_empty() && page.room(span) {
-        page.add(span, Value::unowned(time))?;
+    if !span.is_empty() {
+        page.try_add(span, Value::unowned(time))?;
     }
     Ok(())
 }

@@ -73,8 +73,7 @@ impl Cache {
         if !self.keeps(span, value) {
             return Ok(Added::nothing());
         }
-        if self.pages.front().room(span) {
-            self.pages.mark_front(span, value)?;
+        if self.pages.mark_front(span, value)? {
             return Ok(Added::without_rotation());
         }
         self.rotate(span, value, now)

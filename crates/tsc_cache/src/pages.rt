@@ -66,20 +66,25 @@ impl Pages {
         })
     }
 
-    /// Adds a span with its value to the front page, or to a copy of it where others hold it too.
-    pub(crate) fn mark_front(&mut self, span: &Span, value: Value) -> Result<(), NoMemory>
+    /// Adds a span with its value to the front page, or to a copy of it where others hold it too, and says
+    /// whether that page has room. Without room nothing changes.
+    pub(crate) fn mark_front(&mut self, span: &Span, value: Value) -> Result<bool, NoMemory>
         requires not_empty { is_empty_span span.now ≡ false }
-        requires room { has_room_for (front_of self.old) span.now ≡ true }
-        ensures marked { OnOk result (MarksFront (pages_of self.old) (pages_of self.new) (record { span = span.now; value = value })) }
+        ensures room { IfOk result (λ done. done ≡ has_room_for (front_of self.old) span.now) }
+        ensures marked { IfOk result (λ done. done ≡ true → MarksFront (pages_of self.old) (pages_of self.new) (record { span = span.now; value = value })) }
+        ensures full { IfOk result (λ done. done ≡ false → pages_of self.new ≡ pages_of self.old) }
         ensures unchanged { OnErr result (pages_of self.new ≡ pages_of self.old) }
     {
         match Arc::get_mut(&mut self.front) {
-            Some(front) => front.add(span, value),
+            Some(front) => front.try_add(span, value),
             None => {
+                if !self.front.room(span) {
+                    return Ok(false);
+                }
                 let mut front = self.front.try_copy()?;
                 front.add(span, value)?;
                 self.front = Arc::new(self.alloc(), front)?;
-                Ok(())
+                Ok(true)
             }
         }
     }

@@ -25,7 +25,7 @@ use Rattle.tsc_page.proofs.CutOrder.{Lt, Lt-not_Le, Le-chain, Le-from_Lt, before
 use Rattle.tsc_page.proofs.DistinctKeys.{count_distinct-same, count_distinct-push, count_distinct-no_repeats, has_no_repeats, is_in-push}
 use Rattle.tsc_page.proofs.Cuts.{HasCut, first_low, rising_nodes, cuts_of_key, raise_nodes_answers}
 use Rattle.tsc_page.proofs.Edits.{raise_nodes-keys, raise_nodes-sorted, raise_nodes-length}
-use Rattle.tsc_page.proofs.Ends.{ends_are_nodes}
+use Rattle.tsc_page.proofs.Ends.{ends_are_nodes, end_keys_once}
 use Rattle.tsc_page.proofs.Lookups.{values_on-more}
 use Rattle.tsc_page.proofs.Tops.{raised_covers}
 
@@ -123,6 +123,13 @@ same_room v p span stands = ap (λ n. nat_le n v.page_nodes) (count_distinct-sam
 
 pub same_count : (v : PageView) (p : PageMarks) → StandsFor v p → count_distinct v.keys ≡ count_distinct (marked_keys p.marks)
 same_count v p stands = count_distinct-same v.keys (marked_keys p.marks) stands.keys
+
+-- the nodes, and one for each end key that is new, are as many as the keys without repeats
+pub count_with_ends : (ns : List Node) (o p : Option KeyBytes) (s : Interval) → IsSorted ns → option_to_list o ++ option_to_list p ≡ end_keys s
+    → length ns + (one_if (is_new_among (node_keys ns) o) + one_if (is_new_among (node_keys ns) p)) ≡ count_distinct (node_keys ns ++ end_keys s)
+count_with_ends ns o p s sorted keys =
+    let count = count_with (node_keys ns) o p (subst (λ ks. has_no_repeats ks ≡ true) (sym keys) (end_keys_once s)) in
+    omega (arith, count, count_of_nodes ns sorted, ap (λ ks. count_distinct (node_keys ns ++ ks)) keys)
 
 -- the nodes after a split are as many as the page's keys with those of the span
 pub split_count : (old new : List Node) (span : Interval) → IsSplitAt old new (end_keys span) → length new ≡ count_distinct (node_keys old ++ end_keys span)

@@ -1,7 +1,8 @@
-ghost use Rattle.std.specs.Prelude.{◌≡◌, None, ◌<◌, ◌≤◌, ◌+◌, ◌^◌, [], ◌++◌, suc, length, drop, slice_set, slice_get, slice_index_or, true, false, IsOk, IfOk, IfErr, IfSome, OnOk, OnErr, option_map, option_to_list};
+ghost use Rattle.std.specs.Prelude.{◌≡◌, None, ◌<◌, ◌≤◌, ◌+◌, ◌^◌, [], ◌++◌, suc, length, drop, slice_set, slice_get, slice_index_or, true, false, IsOk, IfOk, IfErr, IfSome, OnOk, OnErr, option_map, option_to_list, if◌then◌else◌};
 ghost use Rattle.tsc_span.specs.Span.{is_below, after, between, end_keys};
 ghost use Rattle.tsc_span.specs.Cuts.{cut_of};
 ghost use Rattle.tsc_page.specs.declared.TheConstants.{MOST_NODES};
+ghost use Rattle.tsc_page.specs.Page.{count_distinct};
 ghost use Rattle.tsc_page.specs.PageView.{AreLeafSizes, is_new_among};
 ghost use Rattle.tsc_page.specs.Nodes.{IsSorted, IsSplitAt, IsInOrder, node_keys, answer_of, raise_nodes};
 ghost use Rattle.tsc_page.specs.Leaves.{LiesAt, AddsLeaves, AreLeaves, leaf_sizes, nodes_of, start_of, key_below, IsLeafAt, AddsTo};
@@ -81,7 +82,7 @@ impl Leaves {
     }
 
     /// Whether this is a key that has no node.
-    pub(crate) fn is_new(&self, key: Option<&Key>) -> bool
+    fn is_new(&self, key: Option<&Key>) -> bool
         requires counted { AreCounted self.now }
         ensures { result ≡ is_new_among (node_keys (all_nodes self.now)) (option_map (λ k. k.now) key.entry) }
     {
@@ -90,6 +91,15 @@ impl Leaves {
             Some(leaf) => leaf.place_for(key).is_some(),
             None => true,
         }
+    }
+
+    /// How many of two keys have no node.
+    pub(crate) fn new_among(&self, first: Option<&Key>, second: Option<&Key>) -> usize
+        requires counted { AreCounted self.now }
+        ensures { result ≡ (if is_new_among (node_keys (all_nodes self.now)) (option_map (λ k. k.now) first.entry) then 1 else 0)
+            + (if is_new_among (node_keys (all_nodes self.now)) (option_map (λ k. k.now) second.entry) then 1 else 0) }
+    {
+        usize::from(self.is_new(first)) + usize::from(self.is_new(second))
     }
 
     /// The joint value of the keys and gaps between two cuts.
@@ -192,38 +202,47 @@ impl Leaves {
     }
 
     /// Makes nodes of the keys that have none, of which the first is the smaller, and ratchets a value into
-    /// the keys and gaps between two cuts, which lie at these keys. Where memory is refused nothing changes.
-    pub(crate) fn add(
+    /// the keys and gaps between two cuts, which lie at these keys. Says whether it did: where there would then be
+    /// more than `most` nodes it doesn't. Nothing changes then, nor where memory is refused.
+    pub(crate) fn try_add(
         &mut self,
         first: Option<&Key>,
         second: Option<&Key>,
         from: Cut<'_>,
         to: Cut<'_>,
         value: Value,
-    ) -> Result<(), NoMemory>
+        most: usize,
+    ) -> Result<bool, NoMemory>
         requires counted { AreCounted self.old }
-        requires small { self.old.count ≤ MOST_NODES }
+        requires within { self.old.count ≤ most }
+        requires small { most ≤ MOST_NODES }
         requires order { is_below (cut_of from) (cut_of to) ≡ true }
         requires first { LiesAt (option_map (λ k. k.now) first) (cut_of from) }
         requires second { LiesAt (option_map (λ k. k.now) second) (cut_of to) }
         requires keys { option_to_list (option_map (λ k. k.now) first) ++ option_to_list (option_map (λ k. k.now) second) ≡ end_keys (between (cut_of from) (cut_of to)) }
-        ensures added { OnOk result (AddsTo (all_nodes self.old) (all_nodes self.new) (between (cut_of from.entry) (cut_of to.entry)) value) }
+        ensures added { IfOk result (λ done. done ≡ true → AddsTo (all_nodes self.old) (all_nodes self.new) (between (cut_of from.entry) (cut_of to.entry)) value) }
+        ensures within { IfOk result (λ done. done ≡ true → self.new.count ≤ most) }
+        ensures full { IfOk result (λ done. done ≡ false → most < count_distinct (node_keys (all_nodes self.old) ++ end_keys (between (cut_of from.entry) (cut_of to.entry)))) }
+        ensures left { IfOk result (λ done. done ≡ false → leaves_of self.new ≡ leaves_of self.old) }
         ensures counted { AreCounted self.new }
         ensures unchanged { OnErr result (leaves_of self.new ≡ leaves_of self.old) }
     {
-        if self.add_in_place(first, second, from, to, value)? {
-            return Ok(());
+        if self.add_in_place(first, second, from, to, value, most)? {
+            return Ok(true);
+        }
+        if self.count + self.new_among(first, second) > most {
+            return Ok(false);
         }
         let mut next = self.try_copy()?;
         next.make_node(second)?;
         next.make_node(first)?;
         next.raise_between(from, to, value)?;
         *self = next;
-        Ok(())
+        Ok(true)
     }
 
-    /// The same in place, where nobody else holds the leaves that the span meets and none of them has to be
-    /// cut. Says whether it did.
+    /// The same in place, where nobody else holds the leaves that the span meets, none of them has to be cut, and
+    /// there is room. Says whether it did.
     fn add_in_place(
         &mut self,
         first: Option<&Key>,
@@ -231,21 +250,25 @@ impl Leaves {
         from: Cut<'_>,
         to: Cut<'_>,
         value: Value,
+        most: usize,
     ) -> Result<bool, NoMemory>
         requires counted { AreCounted self.old }
-        requires small { self.old.count ≤ MOST_NODES }
+        requires within { self.old.count ≤ most }
+        requires small { most ≤ MOST_NODES }
         requires order { is_below (cut_of from) (cut_of to) ≡ true }
         requires first { LiesAt (option_map (λ k. k.now) first) (cut_of from) }
         requires second { LiesAt (option_map (λ k. k.now) second) (cut_of to) }
         requires keys { option_to_list (option_map (λ k. k.now) first) ++ option_to_list (option_map (λ k. k.now) second) ≡ end_keys (between (cut_of from) (cut_of to)) }
         ensures added { IfOk result (λ done. done ≡ true → AddsTo (all_nodes self.old) (all_nodes self.new) (between (cut_of from.entry) (cut_of to.entry)) value) }
+        ensures within { IfOk result (λ done. done ≡ true → self.new.count ≤ most) }
         ensures left { IfOk result (λ done. done ≡ false → (leaves_of self.new ≡ leaves_of self.old) × (self.new.count ≡ self.old.count)) }
         ensures counted { AreCounted self.new }
         ensures unchanged { OnErr result (leaves_of self.new ≡ leaves_of self.old) }
     {
         let place = self.leaf_at(from);
+        let room = most - self.count;
         let (_, leaves) = self.list.split_at_mut(place);
-        match add_owned(leaves, first, second, from, to, value, DEEPEST)? {
+        match add_owned(leaves, first, second, from, to, value, room, DEEPEST)? {
             Some(more) => {
                 self.count += more;
                 Ok(true)
@@ -272,8 +295,8 @@ impl Leaves {
 
 /// Makes nodes of the keys that have none, in the first leaf and in that in which a span stops, and ratchets a
 /// value into the keys and gaps between two cuts, of which the lower one falls in the first leaf. Tells how
-/// many nodes came in; or `None`, where others hold one of these leaves, where one would have to be cut, or where
-/// they are more than so many.
+/// many nodes came in; or `None`, where they would be more than `room`, where others hold one of these leaves,
+/// where one would have to be cut, or where they are more than `deep`.
 /// Nothing changes then, nor where memory is refused: a leaf is changed only once those after it are.
 fn add_owned(
     leaves: &mut [Arc<Nodes>],
@@ -282,6 +305,7 @@ fn add_owned(
     from: Cut<'_>,
     to: Cut<'_>,
     value: Value,
+    room: usize,
     deep: usize,
 ) -> Result<Option<usize>, NoMemory>
     requires leaves { AreLeaves (leaf_lists leaves.old) }
@@ -292,6 +316,7 @@ fn add_owned(
     requires second { LiesAt (option_map (λ k. k.now) second) (cut_of to) }
     ensures added { IfOk result (λ done. IfSome done (λ more. AddsLeaves (leaf_lists leaves.old) (leaf_lists leaves.new)
         (option_map (λ k. k.now) first.entry) (option_map (λ k. k.now) second.entry) (between (cut_of from.entry) (cut_of to.entry)) value more)) }
+    ensures within { IfOk result (λ done. IfSome done (λ more. more ≤ room)) }
     ensures left { IfOk result (λ done. done ≡ None → leaf_lists leaves.new ≡ leaf_lists leaves.old) }
     ensures unchanged { OnErr result (leaf_lists leaves.new ≡ leaf_lists leaves.old) }
 {
@@ -309,7 +334,7 @@ fn add_owned(
     let goes_on = end.is_below(to);
     let new = leaf.new_keys(key_below(first, end), key_below(second, end))?;
     let made = new.len();
-    if leaf.len() + made > LEAF_NODES {
+    if made > room || leaf.len() + made > LEAF_NODES {
         return Ok(None);
     }
     leaf.reserve(&new)?;
@@ -318,7 +343,7 @@ fn add_owned(
         return Ok(Some(made));
     }
     let low = Cut::Before(&[]);
-    let Some(more) = add_owned(rest, None, second, low, to, value, deep - 1)? else {
+    let Some(more) = add_owned(rest, None, second, low, to, value, room - made, deep - 1)? else {
         return Ok(None)
     };
     leaf.add(new, from, Cut::Last, value);

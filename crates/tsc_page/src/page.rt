@@ -64,8 +64,7 @@ impl Page {
         ensures stands { (p : PageMarks) → StandsFor self.now p → result ≡ has_room self.now.page_nodes p span.now }
     {
         let (first, second) = span.end_keys();
-        let new = usize::from(self.leaves.is_new(first)) + usize::from(self.leaves.is_new(second));
-        self.leaves.len() + new <= self.page_nodes as usize
+        self.leaves.len() + self.leaves.new_among(first, second) <= self.page_nodes as usize
     }
 
     /// Adds a span with its value. The span is not empty, and the page has room for it. Where memory is
@@ -89,13 +88,38 @@ impl Page {
             ≡ (if overlaps span.now s then joint (answer self.old s) (value ∷ []) else answer self.old s)) }
         ensures unchanged { OnErr result (self.new ≡ self.old) }
     {
+        self.try_add(span, value)?;
+        Ok(())
+    }
+
+    /// Adds a span with its value, where the page has room for it, and says whether it had. The span is not
+    /// empty. Without room the page stays as it is, and where memory is refused.
+    ///
+    /// It costs what [`add`](Page::add) does, and no searches beside these but where an Add is not made in place: then
+    /// one more for each end key.
+    pub fn try_add(&mut self, span: &Span, value: Value) -> Result<bool, NoMemory>
+        requires not_empty { is_empty_span span.now ≡ false }
+        ensures room { IfOk result (λ done. done ≡ has_room_for self.old span.now) }
+        ensures stands { IfOk result (λ done. done ≡ true → (p : PageMarks) → StandsFor self.old p
+            → StandsFor self.new (with_mark p (record { span = span.now; value = value }))) }
+        ensures limit { self.new.page_nodes ≡ self.old.page_nodes }
+        ensures top { IfOk result (λ done. done ≡ true → self.new.top ≡ later self.old.top value.time) }
+        ensures keys { IfOk result (λ done. done ≡ true → (k : KeyBytes) → is_in k self.new.keys ≡ (is_in k self.old.keys || is_in k (end_keys span.now))) }
+        ensures answers { IfOk result (λ done. done ≡ true → (s : Interval) → answer self.new s
+            ≡ (if overlaps span.now s then joint (answer self.old s) (value ∷ []) else answer self.old s)) }
+        ensures full { IfOk result (λ done. done ≡ false → self.new ≡ self.old) }
+        ensures unchanged { OnErr result (self.new ≡ self.old) }
+    {
         let Some((from, to)) = span.cuts() else {
-            return Ok(());
+            return Ok(true);
         };
         let (first, second) = span.end_keys();
-        self.leaves.add(first, second, from, to, value)?;
+        let most = self.page_nodes as usize;
+        if !self.leaves.try_add(first, second, from, to, value, most)? {
+            return Ok(false);
+        }
         self.top = self.top.max(value.time());
-        Ok(())
+        Ok(true)
     }
 
     /// The joint value of time zero without an owner and of all that was added and overlaps the span. It

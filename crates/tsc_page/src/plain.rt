@@ -103,6 +103,28 @@ impl PlainPage {
         Ok(())
     }
 
+    /// Adds a span with its value, where the page has room for it, and says whether it had. The span is not
+    /// empty. Without room the page stays as it is, and where memory is refused.
+    pub fn try_add(&mut self, span: &Span, value: Value) -> Result<bool, NoMemory>
+        requires not_empty { is_empty_span span.now ≡ false }
+        ensures room { IfOk result (λ done. done ≡ has_room_for self.old span.now) }
+        ensures stands { IfOk result (λ done. done ≡ true → (p : PageMarks) → StandsFor self.old p
+            → StandsFor self.new (with_mark p (record { span = span.now; value = value }))) }
+        ensures limit { self.new.page_nodes ≡ self.old.page_nodes }
+        ensures top { IfOk result (λ done. done ≡ true → self.new.top ≡ later self.old.top value.time) }
+        ensures keys { IfOk result (λ done. done ≡ true → (k : KeyBytes) → is_in k self.new.keys ≡ (is_in k self.old.keys || is_in k (end_keys span.now))) }
+        ensures answers { IfOk result (λ done. done ≡ true → (s : Interval) → answer self.new s
+            ≡ (if overlaps span.now s then joint (answer self.old s) (value ∷ []) else answer self.old s)) }
+        ensures full { IfOk result (λ done. done ≡ false → self.new ≡ self.old) }
+        ensures unchanged { OnErr result (self.new ≡ self.old) }
+    {
+        if !self.room(span) {
+            return Ok(false);
+        }
+        self.add(span, value)?;
+        Ok(true)
+    }
+
     /// The joint value of time zero without an owner and of all that was added and overlaps the span.
     pub fn lookup(&self, span: &Span) -> Value
         ensures value { result ≡ answer self.now span.now }

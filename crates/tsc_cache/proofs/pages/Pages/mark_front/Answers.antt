@@ -1,16 +1,20 @@
 -- A copy of the front page takes its place.
-use Rattle.std.proofs.Common.{◌≡◌, ◌∙◌, refl, sym, subst}
+use Rattle.std.proofs.Common.{◌≡◌, ◌∙◌, refl, sym, subst, cond, Bool, true, ◌||◌, ◌∷◌, []}
+use Rattle.std.specs.Prelude.{Result, Ok, Err, IfOk}
+use Rattle.tsc_time.specs.Time.{later}
+use Rattle.tsc_time.specs.Joint.{joint}
+use Rattle.tsc_span.specs.Span.{KeyBytes, Interval, end_keys, overlaps}
 use Rattle.tsc_page.specs.Page.{Mark}
-use Rattle.tsc_page.specs.PageView.{PageView}
+use Rattle.tsc_page.specs.PageView.{PageView, is_in, answer}
 use Rattle.tsc_cache.specs.CacheView.{IsMarked}
 use Rattle.tsc_cache.specs.CacheParts.{front_of}
 use Rattle.tsc_cache.proofs.pages.Pages.mark_front.Goals as goal
 
 pub returns-in_ok-self-in-None-clause-marked : goal.returns-in_ok-self-in-None-clause-marked
-returns-in_ok-self-in-None-clause-marked c =
+returns-in_ok-self-in-None-clause-marked c e =
     let m : Mark = record { span = c.args.span.now; value = c.args.value } in
-    let copied : c.in_ok-front-in-None.front ≡ front_of c.args.self.now = c.in_ok-front-in-None.ensures.value ∙ c.deref.ensures in
-    let marked : IsMarked c.in_ok-front-in-None.front c.add-in-None.new.self m = record {
+    let copied : c.in_ok-front-in-None.front ≡ front_of c.args.self.now = c.in_ok-front-in-None.ensures.value ∙ c.deref-in-None.ensures in
+    let marked : IsMarked c.in_ok-front-in-None.front c.add.new.self m = record {
       limit = c.in_ok-add-in-None.ensures.limit;
       top = c.in_ok-add-in-None.ensures.top;
       keys = c.in_ok-add-in-None.ensures.keys;
@@ -20,3 +24,25 @@ returns-in_ok-self-in-None-clause-marked c =
           (subst (λ (v : PageView). IsMarked c.in_ok-front-in-None.front v m) (sym c.in_ok-self-in-None.ensures.ok) marked),
       refl,
     )
+
+-- what a page tells of an Add that it had room for
+marked_by : {E : Type 0} (r : Result Bool E) (old new : PageView) (m : Mark) → new.page_nodes ≡ old.page_nodes
+    → IfOk r (λ done. done ≡ true → new.top ≡ later old.top m.value.time)
+    → IfOk r (λ done. done ≡ true → (k : KeyBytes) → is_in k new.keys ≡ (is_in k old.keys || is_in k (end_keys m.span)))
+    → IfOk r (λ done. done ≡ true → (s : Interval) → answer new s ≡ cond (overlaps m.span s) (joint (answer old s) (m.value ∷ [])) (answer old s))
+    → IfOk r (λ done. done ≡ true → IsMarked old new m)
+marked_by (Ok done) old new m limit top keys answers = λ e. record { limit = limit; top = top e; keys = keys e; answers = answers e }
+marked_by (Err e) old new m limit top keys answers = tt
+
+-- and with the pages behind it, which stay
+beside : {E : Type 0} (r : Result Bool E) (P Q : Type 0) → Q → IfOk r (λ done. done ≡ true → P) → IfOk r (λ done. done ≡ true → P × Q)
+beside (Ok done) P Q q p = λ e. (p e, q)
+beside (Err e) P Q q p = tt
+
+pub returns-in-Some-clause-marked : goal.returns-in-Some-clause-marked
+returns-in-Some-clause-marked c =
+    let m : Mark = record { span = c.args.span.now; value = c.args.value } in
+    let old : PageView = front_of c.args.self.now in
+    let is : c.in-Some.front.now ≡ old = c.in-Some.ensures.value in
+    let marked = marked_by c.try_add.result c.in-Some.front.now c.try_add.new.self m c.try_add.ensures.limit c.try_add.ensures.top c.try_add.ensures.keys c.try_add.ensures.answers in
+    beside c.try_add.result (IsMarked old c.try_add.new.self m) _ refl (subst (λ (v : PageView). IfOk c.try_add.result (λ done. done ≡ true → IsMarked v c.try_add.new.self m)) is marked)
