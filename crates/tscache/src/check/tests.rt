@@ -1,6 +1,6 @@
 //! Checks over memory: of logs whose verdicts are known, and with readers and writers whose calls go wrong.
 use super::{check_command, status_of_check_fault, tell_check_fault};
-use crate::replay::traces::{NO_JSON, OVERLAPPING_READS, OVERLAPPING_READS_LOG};
+use crate::replay::traces::{NO_JSON, OVERLAPPING_READS, OVERLAPPING_READS_LOG, RACE};
 use std::alloc::Global;
 use std::io;
 use std::io::Read;
@@ -14,12 +14,7 @@ use tsc_trace::{LogFault, ReplayFault};
 /// A trace, a log, the exit status of the check, what is written, and what is told of a fault.
 type Row = (&'static str, &'static str, u8, &'static str, &'static str);
 
-/// Two lists add the same key, and a third asks for it.
-const RACE: &str = r#"{"page_nodes":4,"min_pages":2,"retention":10,"low_water":[5,0],"threads":[
-[{"op":"add","span":{"start":"61"},"time":[20,0],"owner":"11111111-1111-4111-8111-111111111111","now":[20,0]}],
-[{"op":"add","span":{"start":"61"},"time":[30,0],"owner":"22222222-2222-4222-8222-222222222222","now":[20,0]}],
-[{"op":"get","span":{"start":"61"}}]]}"#;
-
+/// A log of `RACE`.
 const RACE_LOG: &str =
     "0 0 add 0 1 0 0\n1 0 add 1 1 0 0\n2 0 get 1 20.0 11111111-1111-4111-8111-111111111111\n";
 

@@ -20,6 +20,10 @@ const READ_FAILED: &str = "read failed\n";
 
 const OUT_OF_MEMORY: &str = "out of memory\n";
 
+const RIGHT: &str = "right\n";
+
+const NO_LOG: &str = "log refused: fault 1 at line 1\n";
+
 /// A name, and the file or why it is not opened.
 type Held = (&'static str, Result<&'static str, OpenFault>);
 
@@ -43,8 +47,10 @@ impl Place for Shelf {
     }
 }
 
-static FILES: [Held; 4] = [
+static FILES: [Held; 6] = [
     ("two_readers.json", Ok(TWO_READERS)),
+    ("two_readers.log", Ok(TWO_READERS_LOG)),
+    ("cut.log", Ok("0 0 add 0 1 0 0\n")),
     ("notes.txt", Ok("No trace at all.")),
     ("locked.json", Err(OpenFault::Unopened)),
     ("large.json", Err(OpenFault::NoMemory)),
@@ -85,7 +91,7 @@ impl Env for Called {
 /// Words, the exit status, what is written, and what is told.
 type Row = (&'static [&'static str], u8, &'static str, &'static str);
 
-static ROWS: [Row; 19] = [
+static ROWS: [Row; 32] = [
     (
         &["tscache", "replay", "two_readers.json"],
         0,
@@ -117,23 +123,98 @@ static ROWS: [Row; 19] = [
         "",
         USAGE,
     ),
-    (&["tscache", "replay"], 2, "", USAGE),
-    (&["tscache", "run"], 2, "", USAGE),
-    (&["tscache", "paint", "two_readers.json"], 2, "", USAGE),
-    (&["tscache", "--help"], 2, "", USAGE),
+    (
+        &["tscache", "check", "two_readers.json", "two_readers.log"],
+        0,
+        RIGHT,
+        "",
+    ),
+    (
+        &["tscache", "check", "two_readers.json", "cut.log"],
+        3,
+        "wrong call 2\n",
+        "",
+    ),
     (
         &["tscache", "check", "two_readers.json", "notes.txt"],
+        1,
+        "",
+        NO_LOG,
+    ),
+    (
+        &["tscache", "check", "two_readers.log", "two_readers.json"],
+        1,
+        "",
+        NO_JSON,
+    ),
+    // The trace is opened first, then the log, and only then is the trace read, and the log behind it.
+    (
+        &["tscache", "check", "missing.json", "large.json"],
+        4,
+        "",
+        READ_FAILED,
+    ),
+    (
+        &["tscache", "check", "large.json", "missing.log"],
+        5,
+        "",
+        OUT_OF_MEMORY,
+    ),
+    (
+        &["tscache", "check", "missing.json", "two_readers.log"],
+        4,
+        "",
+        READ_FAILED,
+    ),
+    (
+        &["tscache", "check", "two_readers.json", "missing.log"],
+        4,
+        "",
+        READ_FAILED,
+    ),
+    (
+        &["tscache", "check", "two_readers.json", "large.json"],
+        5,
+        "",
+        OUT_OF_MEMORY,
+    ),
+    (
+        &["tscache", "check", "notes.txt", "missing.log"],
+        4,
+        "",
+        READ_FAILED,
+    ),
+    (
+        &["tscache", "check", "notes.txt", "notes.txt"],
+        1,
+        "",
+        NO_JSON,
+    ),
+    (&["tscache", "check", "two_readers.json"], 2, "", USAGE),
+    (
+        &[
+            "tscache",
+            "check",
+            "two_readers.json",
+            "two_readers.log",
+            "notes.txt",
+        ],
         2,
         "",
         USAGE,
     ),
+    (&["tscache", "check"], 2, "", USAGE),
+    (&["tscache", "replay"], 2, "", USAGE),
+    (&["tscache", "run"], 2, "", USAGE),
+    (&["tscache", "paint", "two_readers.json"], 2, "", USAGE),
+    (&["tscache", "--help"], 2, "", USAGE),
     (&["two_readers.json"], 2, "", USAGE),
     (&["tscache"], 2, "", USAGE),
     (&[], 2, "", USAGE),
 ];
 
 /// Files of the system: none, an empty one, one that cannot be read and one without end.
-static SYSTEM_ROWS: [Row; 6] = [
+static SYSTEM_ROWS: [Row; 9] = [
     (&["tscache", "replay", "/no/such/file"], 4, "", READ_FAILED),
     (&["tscache", "replay", "/dev/null"], 1, "", NO_JSON),
     (&["tscache", "replay", "/"], 4, "", READ_FAILED),
@@ -144,6 +225,24 @@ static SYSTEM_ROWS: [Row; 6] = [
         4,
         "",
         "input too long\n",
+    ),
+    (
+        &["tscache", "check", "/no/such/file", "/dev/null"],
+        4,
+        "",
+        READ_FAILED,
+    ),
+    (
+        &["tscache", "check", "/dev/null", "/no/such/file"],
+        4,
+        "",
+        READ_FAILED,
+    ),
+    (
+        &["tscache", "check", "/dev/null", "/dev/zero"],
+        1,
+        "",
+        NO_JSON,
     ),
 ];
 

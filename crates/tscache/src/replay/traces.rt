@@ -43,6 +43,13 @@ pub(crate) const TWO_READERS_LOG: &str = "0 0 add 0 1 0 0
 0 6 get 2 20.0 none
 ";
 
+/// Two lists add the same key, and a third asks for it.
+pub(crate) const RACE: &str =
+    r#"{"page_nodes":4,"min_pages":2,"retention":10,"low_water":[5,0],"threads":[
+[{"op":"add","span":{"start":"61"},"time":[20,0],"owner":"11111111-1111-4111-8111-111111111111","now":[20,0]}],
+[{"op":"add","span":{"start":"61"},"time":[30,0],"owner":"22222222-2222-4222-8222-222222222222","now":[20,0]}],
+[{"op":"get","span":{"start":"61"}}]]}"#;
+
 pub(crate) const NO_JSON: &str = "trace refused: fault 1\n";
 
 const WRONG_CONFIG: &str = "trace refused: fault 7\n";

@@ -1,6 +1,8 @@
-//! Runs over memory, of traces whose logs are known.
+//! Runs over memory: of traces whose logs are known, and of those whose logs a check finds right.
+use crate::check::check_command;
+use crate::replay::traces;
 use crate::replay::traces::{
-    NO_JSON, OVERLAPPING_READS, OVERLAPPING_READS_LOG, Row, TWO_READERS, TWO_READERS_LOG,
+    NO_JSON, OVERLAPPING_READS, OVERLAPPING_READS_LOG, RACE, Row, TWO_READERS, TWO_READERS_LOG,
 };
 use crate::run::{run_command, tell_stop};
 use std::alloc::Global;
@@ -66,9 +68,49 @@ fn tell_each(rt: &impl Abort, alloc: Global, lines: &[(RunStop, &str)]) {
     }
 }
 
+/// Checks what a run of a trace writes.
+fn check_run<R: Abort + Threads + Wait + Sync>(rt: &R, alloc: Global, trace: &str) {
+    let mut reader = Metered::new(trace.as_bytes());
+    let mut writer = Metered::new(Vec::new(alloc));
+    let mut errors = Metered::new(Vec::new(alloc));
+    let ran = run_command(rt, alloc, &mut reader, &mut writer, &mut errors, &NoGate);
+    assert_eq!(rt; ran, 0, "{trace}");
+    let log = writer.into_inner();
+    let mut again = Metered::new(trace.as_bytes());
+    let mut lines = Metered::new(log.as_slice());
+    let mut verdict = Metered::new(Vec::new(alloc));
+    let checked = check_command(alloc, &mut again, &mut lines, &mut verdict, &mut errors);
+    assert_eq!(rt; checked, 0, "{trace}");
+    assert_eq!(rt; verdict.into_inner().as_slice(), b"right\n".as_slice());
+    assert!(rt; errors.into_inner().is_empty());
+}
+
+/// Checks a run of each trace that is not refused.
+fn check_each_run<R: Abort + Threads + Wait + Sync>(rt: &R, alloc: Global, rows: &[Row]) {
+    for (trace, status, _, _) in rows {
+        if *status == 0 {
+            check_run(rt, alloc, trace);
+        }
+    }
+}
+
+/// Checks a hundred runs of a trace.
+fn check_hundred_runs<R: Abort + Threads + Wait + Sync>(rt: &R, alloc: Global, trace: &str) {
+    for _ in 0..100 {
+        check_run(rt, alloc, trace);
+    }
+}
+
 #[test]
 fn runs_end_as_their_rows_say(rt: HostRuntime) {
     let alloc = rt.alloc();
     run_rows(&rt, alloc, &ROWS);
     tell_each(&rt, alloc, &LINES);
+}
+
+#[test]
+fn checks_find_the_logs_of_runs_right(rt: HostRuntime) {
+    let alloc = rt.alloc();
+    check_each_run(&rt, alloc, &traces::ROWS);
+    check_hundred_runs(&rt, alloc, RACE);
 }

@@ -7,18 +7,19 @@ use std::test::Fail;
 /// The exit status where words ask for nothing.
 const WRONG: u8 = 2;
 
-/// What words ask for, with the name of a file.
+/// What words ask for, with the names of files.
 #[derive(Clone, Copy)]
 enum Wanted {
     Replay(&'static str),
     Run(&'static str),
+    Check(&'static str, &'static str),
     Nothing,
 }
 
 /// Words, and what they ask for.
 type Row = (&'static [&'static str], Wanted);
 
-static ROWS: [Row; 34] = [
+static ROWS: [Row; 44] = [
     (&["tscache", "replay", "x"], Wanted::Replay("x")),
     (&["another", "replay", "x"], Wanted::Replay("x")),
     (
@@ -36,6 +37,13 @@ static ROWS: [Row; 34] = [
     (&["tscache", "run", "replay"], Wanted::Run("replay")),
     (&["tscache", "replay", "run"], Wanted::Replay("run")),
     (&["tscache", "run", ""], Wanted::Run("")),
+    (&["tscache", "check", "a", "b"], Wanted::Check("a", "b")),
+    (&["tscache", "check", "x", "x"], Wanted::Check("x", "x")),
+    (
+        &["tscache", "check", "run", "check"],
+        Wanted::Check("run", "check"),
+    ),
+    (&["tscache", "check", "", ""], Wanted::Check("", "")),
     // Hyphens.
     (&["tscache", "replay", "-"], Wanted::Replay("-")),
     (&["tscache", "replay", "--", "-x"], Wanted::Replay("-x")),
@@ -47,6 +55,16 @@ static ROWS: [Row; 34] = [
     (&["tscache", "--", "replay", "x"], Wanted::Nothing),
     (&["tscache", "run", "--", "-x"], Wanted::Run("-x")),
     (&["tscache", "run", "-x"], Wanted::Nothing),
+    (
+        &["tscache", "check", "--", "-a", "-b"],
+        Wanted::Check("-a", "-b"),
+    ),
+    (
+        &["tscache", "check", "-", "--", "-b"],
+        Wanted::Check("-", "-b"),
+    ),
+    (&["tscache", "check", "-a", "b"], Wanted::Nothing),
+    (&["tscache", "check", "a", "--b"], Wanted::Nothing),
     // Fewer words, more words and other words.
     (&[], Wanted::Nothing),
     (&["tscache"], Wanted::Nothing),
@@ -54,7 +72,9 @@ static ROWS: [Row; 34] = [
     (&["tscache", "replay", "a", "b"], Wanted::Nothing),
     (&["tscache", "run"], Wanted::Nothing),
     (&["tscache", "run", "a", "b"], Wanted::Nothing),
+    (&["tscache", "check"], Wanted::Nothing),
     (&["tscache", "check", "x"], Wanted::Nothing),
+    (&["tscache", "check", "a", "b", "c"], Wanted::Nothing),
     (&["tscache", "x"], Wanted::Nothing),
     // Calls for help.
     (&["tscache", "--help"], Wanted::Nothing),
@@ -79,6 +99,9 @@ fn answers(alloc: Global, texts: &[&str], wanted: Wanted) -> Result<bool, AllocE
     Ok(match (asked, wanted) {
         (Ok(Asked::Replay { file }), Wanted::Replay(name)) => file.as_str() == name,
         (Ok(Asked::Run { file }), Wanted::Run(name)) => file.as_str() == name,
+        (Ok(Asked::Check { trace, log }), Wanted::Check(first, second)) => {
+            trace.as_str() == first && log.as_str() == second
+        }
         (Err(status), Wanted::Nothing) => status == WRONG,
         _ => false,
     })

@@ -1,4 +1,4 @@
-use Rattle.std.proofs.Common.{◌≡◌, ◌∙◌, sym, ap, subst, codes, string_bytes, Option, Some}
+use Rattle.std.proofs.Common.{◌∙◌, sym, ap, subst, codes, string_bytes, Option, Some}
 use Rattle.std.specs.Prelude.{option_map}
 use Rattle.clap.specs.Words.{Text, first_value, found_of}
 use Rattle.tscache.specs.Commands.{both}
