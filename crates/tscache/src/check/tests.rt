@@ -1,6 +1,8 @@
 //! Checks over memory: of logs whose verdicts are known, and with readers and writers whose calls go wrong.
 use super::{check_command, status_of_check_fault, tell_check_fault};
-use crate::replay::traces::{NO_JSON, OVERLAPPING_READS, OVERLAPPING_READS_LOG, RACE};
+use crate::replay::traces::{
+    NO_JSON, OVERLAPPING_READS, OVERLAPPING_READS_LOG, RACE, TWO_THREADS, TWO_THREADS_LOG,
+};
 use std::alloc::Global;
 use std::io;
 use std::io::Read;
@@ -32,11 +34,25 @@ const NO_LISTS: &str =
 
 const WRONG_FIRST_LINE: &str = "log refused: fault 1 at line 1\n";
 
-static ROWS: [Row; 24] = [
+static ROWS: [Row; 26] = [
     (OVERLAPPING_READS, OVERLAPPING_READS_LOG, 0, "right\n", ""),
     (NO_CALLS, "", 0, "right\n", ""),
     (NO_CALLS, "0 0 low 0 5.0\n", 3, "wrong call 1\n", ""),
     (RACE, RACE_LOG, 0, "right\n", ""),
+    (TWO_THREADS, TWO_THREADS_LOG, 0, "right\n", ""),
+    // The last line says that it saw one Add, which is of another key.
+    (
+        TWO_THREADS,
+        "0 0 add 1 1 0 0
+0 1 get 2 30.0 22222222-2222-4222-8222-222222222222
+1 0 add 0 1 0 0
+1 1 get 1 30.0 22222222-2222-4222-8222-222222222222
+1 2 get 1 20.0 11111111-1111-4111-8111-111111111111
+",
+        3,
+        "wrong answer 5\n",
+        "",
+    ),
     // The places change places.
     (
         RACE,

@@ -54,10 +54,39 @@ pub(crate) const NO_JSON: &str = "trace refused: fault 1\n";
 
 const WRONG_CONFIG: &str = "trace refused: fault 7\n";
 
-pub(crate) static ROWS: [Row; 15] = [
+/// The trace of the folder `examples` that is meant for a run.
+pub(crate) const TWO_THREADS: &str =
+    r#"{"page_nodes":4,"min_pages":2,"retention":10,"low_water":[5,0],"threads":[[
+{"op":"add","span":{"start":"61","end":"63"},"time":[20,0],"owner":"11111111-1111-4111-8111-111111111111","now":[20,0]},
+{"op":"get","span":{"start":"62"}}],[
+{"op":"add","span":{"start":"62"},"time":[30,0],"owner":"22222222-2222-4222-8222-222222222222","now":[30,0]},
+{"op":"get","span":{"start":"62"}},
+{"op":"get","span":{"start":"61"}}]]}
+"#;
+
+/// A log that a run of it can have, which stands beside it.
+pub(crate) const TWO_THREADS_LOG: &str = "0 0 add 1 1 0 0
+0 1 get 2 30.0 22222222-2222-4222-8222-222222222222
+1 0 add 0 1 0 0
+1 1 get 1 30.0 22222222-2222-4222-8222-222222222222
+1 2 get 2 20.0 11111111-1111-4111-8111-111111111111
+";
+
+pub(crate) static ROWS: [Row; 16] = [
     (OVERLAPPING_READS, 0, OVERLAPPING_READS_LOG, ""),
     // The folder `examples`.
     (TWO_READERS, 0, TWO_READERS_LOG, ""),
+    (
+        TWO_THREADS,
+        0,
+        "0 0 add 0 1 0 0
+0 1 get 1 20.0 11111111-1111-4111-8111-111111111111
+1 0 add 1 1 0 0
+1 1 get 2 30.0 22222222-2222-4222-8222-222222222222
+1 2 get 2 20.0 11111111-1111-4111-8111-111111111111
+",
+        "",
+    ),
     (
         r#"{"page_nodes":8,"min_pages":1,"retention":10000000000,"low_water":[5,0],"threads":[[
 {"op":"low"},
