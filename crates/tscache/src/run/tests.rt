@@ -85,19 +85,19 @@ fn check_run<R: Abort + Threads + Wait + Sync>(rt: &R, alloc: Global, trace: &st
     assert!(rt; errors.into_inner().is_empty());
 }
 
-/// Checks a run of each trace that is not refused.
-fn check_each_run<R: Abort + Threads + Wait + Sync>(rt: &R, alloc: Global, rows: &[Row]) {
-    for (trace, status, _, _) in rows {
-        if *status == 0 {
-            check_run(rt, alloc, trace);
-        }
+/// Checks so many runs of a trace.
+fn check_runs<R: Abort + Threads + Wait + Sync>(rt: &R, alloc: Global, trace: &str, runs: u32) {
+    for _ in 0..runs {
+        check_run(rt, alloc, trace);
     }
 }
 
-/// Checks a hundred runs of a trace.
-fn check_hundred_runs<R: Abort + Threads + Wait + Sync>(rt: &R, alloc: Global, trace: &str) {
-    for _ in 0..100 {
-        check_run(rt, alloc, trace);
+/// Checks runs of each trace that is not refused.
+fn check_each_run<R: Abort + Threads + Wait + Sync>(rt: &R, alloc: Global, rows: &[Row]) {
+    for (trace, status, _, _) in rows {
+        if *status == 0 {
+            check_runs(rt, alloc, trace, 20);
+        }
     }
 }
 
@@ -112,5 +112,5 @@ fn runs_end_as_their_rows_say(rt: HostRuntime) {
 fn checks_find_the_logs_of_runs_right(rt: HostRuntime) {
     let alloc = rt.alloc();
     check_each_run(&rt, alloc, &traces::ROWS);
-    check_hundred_runs(&rt, alloc, RACE);
+    check_runs(&rt, alloc, RACE, 100);
 }
