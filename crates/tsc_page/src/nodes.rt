@@ -8,6 +8,7 @@ ghost use Rattle.tsc_page.specs.PageView.{is_new_among};
 ghost use Rattle.tsc_page.specs.Nodes.{IsSorted, FitsAt, IsPlaceFor, IsNewKey, FitsIn, with_new, IsInOrder, HasNodes, new_count, PartsKeysAt, HoldsKeysOn, HoldsGapsOn, node_keys, answer_of, raise_nodes, node_in_gap, gap_value, start_of_gap, next_cut, node_stretches};
 
 use crate::node::Node;
+use crate::number::{NumberedBytes, NumberedCut, NumberedKey};
 use std::alloc::Global;
 use std::ops::Range;
 use tsc_span::{Cut, Key};
@@ -40,7 +41,7 @@ impl Nodes {
     {
         let mut list = Vec::with_capacity(alloc, 1)?;
         let value = Value::unowned(Timestamp::ZERO);
-        let key = key.try_copy()?;
+        let key = NumberedKey::new(key.try_copy()?);
         list.push(Node {
             key,
             value,
@@ -65,9 +66,10 @@ impl Nodes {
         ensures place { IsPlaceFor key.now self.now.list.items result }
         ensures bound { IfSome result (λ i. i ≤ length self.now.list.items) }
     {
+        let key = NumberedBytes::new(key.bytes());
         self.list
             .as_slice()
-            .binary_search_by(|node| node.key.cmp(key))
+            .binary_search_by(|node| key.compare(&node.key))
             .err()
     }
 
@@ -78,14 +80,15 @@ impl Nodes {
         ensures holds { HoldsKeysOn self.now.list.items (between (cut_of from.entry) (cut_of to.entry)) result.start result.end }
         ensures parts { PartsKeysAt self.now.list.items (cut_of from.entry) (cut_of to.entry) result.start result.end }
     {
+        let (from, to) = (NumberedCut::new(from), NumberedCut::new(to));
         let start = self
             .list
             .as_slice()
-            .partition_point(|node| !from.is_below(Cut::After(node.key.bytes())));
+            .partition_point(|node| !from.is_below_after(&node.key));
         let end = self
             .list
             .as_slice()
-            .partition_point(|node| Cut::Before(node.key.bytes()).is_below(to));
+            .partition_point(|node| to.is_above_before(&node.key));
         start..end
     }
 
@@ -193,7 +196,7 @@ impl Nodes {
             None => Value::unowned(Timestamp::ZERO),
         };
         let node = Node {
-            key,
+            key: NumberedKey::new(key),
             value,
             gap: value,
         };
