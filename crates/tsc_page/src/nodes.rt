@@ -60,6 +60,16 @@ impl Nodes {
         }
     }
 
+    /// Whether a cut lies below where the nodes begin.
+    pub(crate) fn starts_above(&self, cut: &NumberedCut<'_>) -> bool
+        ensures { result ≡ is_below cut.now (next_cut (node_stretches self.now.list.items)) }
+    {
+        match self.list.first() {
+            Some(first) => cut.is_below_before(&first.key),
+            None => cut.is_below_last(),
+        }
+    }
+
     /// The place for a key that has no node, or `None` for one that has.
     pub(crate) fn place_for(&self, key: &Key) -> Option<usize>
         requires sorted { IsSorted self.now.list.items }

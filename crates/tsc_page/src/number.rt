@@ -1,5 +1,5 @@
 ghost use Rattle.std.specs.Prelude.{◌≡◌, IfOk};
-ghost use Rattle.tsc_span.specs.Span.{key_cmp, before, after, is_below};
+ghost use Rattle.tsc_span.specs.Span.{key_cmp, before, after, last, is_below};
 ghost use Rattle.tsc_span.specs.Cuts.{cut_of};
 ghost use Rattle.tsc_page.specs.Numbers.{IsNumberOf};
 
@@ -135,6 +135,24 @@ impl<'a> NumberedCut<'a> {
         } else {
             self.number < key.number
         }
+    }
+
+    /// Whether the cut lies below the place before a key.
+    pub(crate) fn is_below_before(&self, key: &NumberedKey) -> bool
+        ensures { result ≡ is_below self.now (before key.now) }
+    {
+        if self.number == key.number {
+            self.cut.is_below(Cut::Before(key.bytes()))
+        } else {
+            self.number < key.number
+        }
+    }
+
+    /// Whether the cut lies below the last one.
+    pub(crate) fn is_below_last(&self) -> bool
+        ensures { result ≡ is_below self.now last }
+    {
+        self.cut.is_below(Cut::Last)
     }
 
     /// Whether the cut lies above the place before a key.
