@@ -5,7 +5,7 @@ ghost use Rattle.tsc_time.specs.OwnedTime.{unowned};
 ghost use Rattle.tsc_span.specs.Span.{is_below, before, between};
 ghost use Rattle.tsc_span.specs.Cuts.{cut_of};
 ghost use Rattle.tsc_page.specs.PageView.{is_new_among};
-ghost use Rattle.tsc_page.specs.Nodes.{IsSorted, FitsAt, IsPlaceFor, IsNewKey, FitsIn, with_new, IsInOrder, HasNodes, new_count, PartsKeysAt, HoldsKeysOn, HoldsGapsOn, node_keys, answer_of, raise_nodes, node_in_gap, gap_value, start_of_gap, next_cut, node_stretches};
+ghost use Rattle.tsc_page.specs.Nodes.{IsSorted, FitsAt, IsPlaceFor, IsNewKey, FitsIn, with_new, IsInOrder, HasNodes, new_count, PartsKeysAt, StartsKeysAt, HasKeysBelow, StopsKeysAt, HoldsKeysOn, HoldsGapsOn, node_keys, answer_of, raise_nodes, node_in_gap, gap_value, start_of_gap, next_cut, node_stretches};
 
 use crate::node::Node;
 use crate::number::{NumberedBytes, NumberedCut, NumberedKey};
@@ -13,6 +13,9 @@ use std::alloc::Global;
 use std::ops::Range;
 use tsc_span::{Cut, Key};
 use tsc_time::{NoMemory, Timestamp, Value, ratchet};
+
+/// How many keys are looked at one by one before a search.
+const NEAR: usize = 2;
 
 /// Nodes in the order of their keys: a leaf of a page.
 #[derive(Debug, Drop)]
@@ -83,6 +86,34 @@ impl Nodes {
             .err()
     }
 
+    /// Where the keys that don't lie wholly below a cut start.
+    fn start_of_keys(&self, from: &NumberedCut<'_>) -> usize
+        requires sorted { IsSorted self.now.list.items }
+        ensures { StartsKeysAt self.now.list.items from.now result }
+    {
+        self.list
+            .as_slice()
+            .partition_point(|node| !from.is_below_after(&node.key))
+    }
+
+    /// Where the keys below a cut end, by a look at those next to a place before which all are, or else by a
+    /// search: a single key takes no second search.
+    fn end_of_keys(&self, start: usize, to: &NumberedCut<'_>) -> usize
+        requires sorted { IsSorted self.now.list.items }
+        requires low { HasKeysBelow self.now.list.items to.now start }
+        requires bound { start ≤ length self.now.list.items }
+        ensures { StopsKeysAt self.now.list.items to.now result }
+    {
+        for place in start..self.list.len().min(start + NEAR) {
+            if !to.is_above_before(&self.list[place].key) {
+                return place;
+            }
+        }
+        self.list
+            .as_slice()
+            .partition_point(|node| to.is_above_before(&node.key))
+    }
+
     /// The places of the nodes whose keys lie between two cuts.
     fn keys_between(&self, from: Cut<'_>, to: Cut<'_>) -> Range<usize>
         requires sorted { IsSorted self.now.list.items }
@@ -90,15 +121,8 @@ impl Nodes {
         ensures holds { HoldsKeysOn self.now.list.items (between (cut_of from.entry) (cut_of to.entry)) result.start result.end }
         ensures parts { PartsKeysAt self.now.list.items (cut_of from.entry) (cut_of to.entry) result.start result.end }
     {
-        let (from, to) = (NumberedCut::new(from), NumberedCut::new(to));
-        let start = self
-            .list
-            .as_slice()
-            .partition_point(|node| !from.is_below_after(&node.key));
-        let end = self
-            .list
-            .as_slice()
-            .partition_point(|node| to.is_above_before(&node.key));
+        let start = self.start_of_keys(&NumberedCut::new(from));
+        let end = self.end_of_keys(start, &NumberedCut::new(to));
         start..end
     }
 
