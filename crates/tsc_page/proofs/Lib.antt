@@ -1,4 +1,5 @@
 pub mod CutOrder
+pub mod Numbers
 pub mod Answers
 pub mod Splits
 pub mod Raises

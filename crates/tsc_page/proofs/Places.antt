@@ -5,8 +5,9 @@ use Rattle.std.specs.List.Sorted.{IsPartitionPoint, IsPartitionedBy}
 use Rattle.tsc_time.specs.Time.{zero_time}
 use Rattle.tsc_time.specs.OwnedTime.{unowned}
 use Rattle.std.proofs.lemmas.Bool.{cases_Bool}
+use Rattle.std.proofs.lemmas.List.{get_or_default}
 use Rattle.tsc_span.specs.Span.{KeyBytes, Cut, before, after, last, between, overlaps, is_below}
-use Rattle.tsc_page.specs.Nodes.{Node, next_cut, node_stretches, start_of_gap, IsSorted, PartsKeysAt, HoldsKeysOn, HoldsGapsOn}
+use Rattle.tsc_page.specs.Nodes.{Node, next_cut, node_stretches, start_of_gap, IsSorted, PartsKeysAt, StartsKeysAt, HasKeysBelow, StopsKeysAt, HoldsKeysOn, HoldsGapsOn}
 use Rattle.tsc_page.proofs.CutOrder.{Lt, Le, Meet, Lt-not_Le, Lt-chain, Le-chain, Le_Lt-chain, Le-from_Lt, Le-itself, before-after, below_last, overlaps-from, overlaps-tells}
 
 -- each way that two numbers may stand
@@ -86,19 +87,46 @@ module _ (ns : List Node) (sorted : IsSorted ns) where
   pub below_before : (to : Cut) → IsPartitionedBy (λ (n : Node). is_below (before n.key) to) ns
   below_before to i j d h g e = Le_Lt-chain (before (get_or ns i d).key) (before (get_or ns j d).key) to (rising i j d h g) e
 
+  -- where a search tells that the keys start
+  pub starts_found : (from : Cut) (start : ℕ) → start ≤ length ns → IsPartitionPoint (λ (n : Node). not (is_below from (after n.key)) ≡ true) (λ n. not (is_below from (after n.key)) ≡ false) ns start → StartsKeysAt ns from start
+  starts_found from start within at_start = record {
+    low = λ i d h. not_true (is_below from (after (get_or ns i d).key)) (at_start.0 i d (omega arith) h);
+    past_low = λ i d h g. not_false (is_below from (after (get_or ns i d).key)) (at_start.1 i d h g);
+    bound = within;
+  }
+
+  -- the keys below a cut end at a key that isn't
+  pub stops_at_key : (to : Cut) (end : ℕ) (e : Node) → end < length ns → HasKeysBelow ns to end → Le to (before (get_or ns end e).key) → StopsKeysAt ns to end
+  stops_at_key to end e inside below closed = record {
+    below_high = below;
+    high = λ i d h g. Le-chain to (before (get_or ns end d).key) (before (get_or ns i d).key) (subst (λ (n : Node). Le to (before n.key)) (get_or_default ns end e d inside) closed) (rising end i d h g);
+    bound = omega (arith, inside);
+  }
+
+  -- or where a search tells
+  pub stops_found : (to : Cut) (end : ℕ) → end ≤ length ns → IsPartitionPoint (λ (n : Node). is_below (before n.key) to ≡ true) (λ n. is_below (before n.key) to ≡ false) ns end → StopsKeysAt ns to end
+  stops_found to end within at_end = record {
+    below_high = λ i d h. at_end.0 i d (omega arith) h;
+    high = λ i d h g. at_end.1 i d h g;
+    bound = within;
+  }
+
   module _ (from to : Cut) (upright : Lt from to) where
-    -- two searches tell where the keys part
-    pub parts_found : (start end : ℕ) → start ≤ length ns → end ≤ length ns
-        → IsPartitionPoint (λ (n : Node). not (is_below from (after n.key)) ≡ true) (λ n. not (is_below from (after n.key)) ≡ false) ns start
-        → IsPartitionPoint (λ (n : Node). is_below (before n.key) to ≡ true) (λ n. is_below (before n.key) to ≡ false) ns end
-        → PartsKeysAt ns from to start end
-    parts_found start end within_start within_end at_start at_end = record {
-      low = λ i d h. not_true (is_below from (after (get_or ns i d).key)) (at_start.0 i d (omega arith) h);
-      past_low = λ i d h g. not_false (is_below from (after (get_or ns i d).key)) (at_start.1 i d h g);
-      below_high = λ i d h. at_end.0 i d (omega arith) h;
-      high = λ i d h g. at_end.1 i d h g;
-      start_bound = within_start;
-      end_bound = within_end;
+    -- a key wholly below the one cut lies below the other
+    pub low_below_high : (start : ℕ) → StartsKeysAt ns from start → HasKeysBelow ns to start
+    low_below_high start starts i d h =
+        let k : KeyBytes = (get_or ns i d).key in
+        Lt-chain (before k) (after k) to (before-after k) (Le_Lt-chain (after k) from to (starts.low i d h) upright)
+
+    -- where the keys part
+    pub parts_found : (start end : ℕ) → StartsKeysAt ns from start → StopsKeysAt ns to end → PartsKeysAt ns from to start end
+    parts_found start end starts stops = record {
+      low = starts.low;
+      past_low = starts.past_low;
+      below_high = stops.below_high;
+      high = stops.high;
+      start_bound = starts.bound;
+      end_bound = stops.bound;
     }
 
     -- where the gap of a node ends

@@ -1,6 +1,7 @@
 pub mod Page
 pub mod PageView
 pub mod Nodes
+pub mod Numbers
 pub mod Leaves
 pub mod LeafParts
 pub use Rattle.tsc_time.specs.Time

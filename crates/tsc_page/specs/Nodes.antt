@@ -115,6 +115,22 @@ pub record PartsKeysAt (nodes : List Node) (from to : Cut) (start end : ℕ) : T
   pub start_bound : start ≤ length nodes
   pub end_bound : end ≤ length nodes
 
+-- A place before which just those keys stand that lie wholly below a cut.
+pub record StartsKeysAt (nodes : List Node) (from : Cut) (start : ℕ) : Type 0 where
+  pub low : (i : ℕ) (d : Node) → i < start → is_below from (after (slice_index_or nodes i d).key) ≡ false
+  pub past_low : (i : ℕ) (d : Node) → start ≤ i → i < length nodes → is_below from (after (slice_index_or nodes i d).key) ≡ true
+  pub bound : start ≤ length nodes
+
+-- the keys before a place lie below a cut
+abbrev pub HasKeysBelow : List Node → Cut → ℕ → Type 0
+HasKeysBelow nodes to place = (i : ℕ) (d : Node) → i < place → is_below (before (slice_index_or nodes i d).key) to ≡ true
+
+-- A place before which just those keys stand that lie below a cut.
+pub record StopsKeysAt (nodes : List Node) (to : Cut) (end : ℕ) : Type 0 where
+  pub below_high : HasKeysBelow nodes to end
+  pub high : (i : ℕ) (d : Node) → end ≤ i → i < length nodes → is_below (before (slice_index_or nodes i d).key) to ≡ false
+  pub bound : end ≤ length nodes
+
 -- A range of places that holds just those of the nodes whose key overlaps a span.
 pub record HoldsKeysOn (nodes : List Node) (span : Interval) (start end : ℕ) : Type 0 where
   pub order : start ≤ end

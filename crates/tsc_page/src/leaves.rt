@@ -9,6 +9,7 @@ ghost use Rattle.tsc_page.specs.Leaves.{LiesAt, AddsLeaves, AreLeaves, leaf_size
 ghost use Rattle.tsc_page.specs.LeafParts.{leaf_lists, leaves_of, all_nodes, AreCounted};
 
 use crate::nodes::Nodes;
+use crate::number::NumberedCut;
 use std::alloc::Global;
 use std::sync::Arc;
 use tsc_span::{Cut, Key};
@@ -64,7 +65,10 @@ impl Leaves {
         ensures { IsLeafAt (leaves_of self.now) (cut_of cut.entry) result }
     {
         match self.list.split_first() {
-            Some((_, rest)) => rest.partition_point(|leaf| !cut.is_below(leaf.start())),
+            Some((_, rest)) => {
+                let cut = NumberedCut::new(cut);
+                rest.partition_point(|leaf| !leaf.starts_above(&cut))
+            }
             None => 0,
         }
     }

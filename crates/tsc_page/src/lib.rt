@@ -20,6 +20,7 @@
 mod leaves;
 mod node;
 mod nodes;
+mod number;
 mod page;
 mod plain;
 

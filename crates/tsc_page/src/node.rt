@@ -1,11 +1,11 @@
+use crate::number::NumberedKey;
 use std::marker::Model;
-use tsc_span::Key;
 use tsc_time::{NoMemory, Value};
 
 /// A key with its value, and the value of the open gap up to the next node.
 #[derive(Debug, Drop)]
 pub(crate) struct Node {
-    pub(crate) key: Key,
+    pub(crate) key: NumberedKey,
     pub(crate) value: Value,
     pub(crate) gap: Value,
 }

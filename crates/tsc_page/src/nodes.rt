@@ -5,13 +5,17 @@ ghost use Rattle.tsc_time.specs.OwnedTime.{unowned};
 ghost use Rattle.tsc_span.specs.Span.{is_below, before, between};
 ghost use Rattle.tsc_span.specs.Cuts.{cut_of};
 ghost use Rattle.tsc_page.specs.PageView.{is_new_among};
-ghost use Rattle.tsc_page.specs.Nodes.{IsSorted, FitsAt, IsPlaceFor, IsNewKey, FitsIn, with_new, IsInOrder, HasNodes, new_count, PartsKeysAt, HoldsKeysOn, HoldsGapsOn, node_keys, answer_of, raise_nodes, node_in_gap, gap_value, start_of_gap, next_cut, node_stretches};
+ghost use Rattle.tsc_page.specs.Nodes.{IsSorted, FitsAt, IsPlaceFor, IsNewKey, FitsIn, with_new, IsInOrder, HasNodes, new_count, PartsKeysAt, StartsKeysAt, HasKeysBelow, StopsKeysAt, HoldsKeysOn, HoldsGapsOn, node_keys, answer_of, raise_nodes, node_in_gap, gap_value, start_of_gap, next_cut, node_stretches};
 
 use crate::node::Node;
+use crate::number::{NumberedBytes, NumberedCut, NumberedKey};
 use std::alloc::Global;
 use std::ops::Range;
 use tsc_span::{Cut, Key};
 use tsc_time::{NoMemory, Timestamp, Value, ratchet};
+
+/// How many keys are looked at one by one before a search.
+const NEAR: usize = 2;
 
 /// Nodes in the order of their keys: a leaf of a page.
 #[derive(Debug, Drop)]
@@ -40,7 +44,7 @@ impl Nodes {
     {
         let mut list = Vec::with_capacity(alloc, 1)?;
         let value = Value::unowned(Timestamp::ZERO);
-        let key = key.try_copy()?;
+        let key = NumberedKey::new(key.try_copy()?);
         list.push(Node {
             key,
             value,
@@ -59,16 +63,55 @@ impl Nodes {
         }
     }
 
+    /// Whether a cut lies below where the nodes begin.
+    pub(crate) fn starts_above(&self, cut: &NumberedCut<'_>) -> bool
+        ensures { result ≡ is_below cut.now (next_cut (node_stretches self.now.list.items)) }
+    {
+        match self.list.first() {
+            Some(first) => cut.is_below_before(&first.key),
+            None => cut.is_below_last(),
+        }
+    }
+
     /// The place for a key that has no node, or `None` for one that has.
     pub(crate) fn place_for(&self, key: &Key) -> Option<usize>
         requires sorted { IsSorted self.now.list.items }
         ensures place { IsPlaceFor key.now self.now.list.items result }
         ensures bound { IfSome result (λ i. i ≤ length self.now.list.items) }
     {
+        let key = NumberedBytes::new(key.bytes());
         self.list
             .as_slice()
-            .binary_search_by(|node| node.key.cmp(key))
+            .binary_search_by(|node| key.compare(&node.key))
             .err()
+    }
+
+    /// Where the keys that don't lie wholly below a cut start.
+    fn start_of_keys(&self, from: &NumberedCut<'_>) -> usize
+        requires sorted { IsSorted self.now.list.items }
+        ensures { StartsKeysAt self.now.list.items from.now result }
+    {
+        self.list
+            .as_slice()
+            .partition_point(|node| !from.is_below_after(&node.key))
+    }
+
+    /// Where the keys below a cut end, by a look at those next to a place before which all are, or else by a
+    /// search: a single key takes no second search.
+    fn end_of_keys(&self, start: usize, to: &NumberedCut<'_>) -> usize
+        requires sorted { IsSorted self.now.list.items }
+        requires low { HasKeysBelow self.now.list.items to.now start }
+        requires bound { start ≤ length self.now.list.items }
+        ensures { StopsKeysAt self.now.list.items to.now result }
+    {
+        for place in start..self.list.len().min(start + NEAR) {
+            if !to.is_above_before(&self.list[place].key) {
+                return place;
+            }
+        }
+        self.list
+            .as_slice()
+            .partition_point(|node| to.is_above_before(&node.key))
     }
 
     /// The places of the nodes whose keys lie between two cuts.
@@ -78,14 +121,8 @@ impl Nodes {
         ensures holds { HoldsKeysOn self.now.list.items (between (cut_of from.entry) (cut_of to.entry)) result.start result.end }
         ensures parts { PartsKeysAt self.now.list.items (cut_of from.entry) (cut_of to.entry) result.start result.end }
     {
-        let start = self
-            .list
-            .as_slice()
-            .partition_point(|node| !from.is_below(Cut::After(node.key.bytes())));
-        let end = self
-            .list
-            .as_slice()
-            .partition_point(|node| Cut::Before(node.key.bytes()).is_below(to));
+        let start = self.start_of_keys(&NumberedCut::new(from));
+        let end = self.end_of_keys(start, &NumberedCut::new(to));
         start..end
     }
 
@@ -193,7 +230,7 @@ impl Nodes {
             None => Value::unowned(Timestamp::ZERO),
         };
         let node = Node {
-            key,
+            key: NumberedKey::new(key),
             value,
             gap: value,
         };

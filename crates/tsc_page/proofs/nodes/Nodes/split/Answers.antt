@@ -3,6 +3,7 @@ use Rattle.std.proofs.Common.{◌≡◌, ◌∙◌, ap, subst, sym, ◌-◌, ℕ
 use Rattle.std.specs.List.{insert}
 use Rattle.tsc_time.specs.Time.{zero_time}
 use Rattle.tsc_time.specs.OwnedTime.{OwnedTime, unowned}
+use Rattle.tsc_span.specs.Span.{KeyBytes}
 use Rattle.tsc_page.specs.Nodes.{Node, FitsIn, with_new, node_in_gap, gap_value}
 use Rattle.tsc_page.proofs.Edits.{gap_value-at, first_number}
 use Rattle.tsc_page.proofs.nodes.Nodes.split.Goals as goal
@@ -13,7 +14,8 @@ returns-clause-inserted c =
     let nodes : List Node = c.args.self.now.list.items in
     let place : ℕ = c.in-Some.place in
     let fits = subst (FitsIn nodes) c.in-Some.is c.requires.fits in
-    let inserted = rw (c.insert.ensures.succeeds (search rules)) at c.insert.ensures.items in
+    let value : OwnedTime = c.match-checked_sub.value in
+    let inserted = rw (c.insert.ensures.succeeds (search rules)) at c.insert.ensures.items ∙ ap (λ (k : KeyBytes). insert nodes place (node_in_gap k value)) c.new.ensures in
     let with_value = λ (v : OwnedTime). insert nodes place (node_in_gap c.in-Some.key v) in
     let told = ap (with_new nodes) c.in-Some.is in
     elim c.match-checked_sub.branch [

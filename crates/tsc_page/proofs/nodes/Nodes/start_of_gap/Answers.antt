@@ -15,4 +15,4 @@ returns-in-Some c =
     let inside : place - 1 < length nodes = omega (arith, below.0, c.requires.bound) in
     let is : node ≡ get_or nodes (place - 1) node = c.index.ensures ∙ ap (λ (i : ℕ). get_or nodes i node) below.1 in
     let starts = subst (λ (i : ℕ). start_of_gap (before []) nodes i ≡ after (get_or nodes (place - 1) node).key) next (start_of_gap-past (before []) nodes (place - 1) node inside) in
-    ap after (c.bytes.ensures.value ∙ ap (λ (n : Node). n.key) (c.behind-self.view_is ∙ is)) ∙ sym starts
+    ap after (c.bytes.ensures ∙ ap (λ (n : Node). n.key) (c.behind-self.view_is ∙ is)) ∙ sym starts

@@ -1,0 +1,25 @@
+-- Numbers that stand for the first bytes of keys, so that most keys are compared by them alone.
+use Rattle.std.specs.Prelude.{◌≡◌, ℕ, zero, suc, ◌+◌, ◌*◌, ◌-◌, ◌<◌, ◌^◌, [], ◌∷◌}
+use Rattle.std.specs.List.{All}
+use Rattle.tsc_span.specs.Span.{KeyBytes, Cut, before, after, last}
+
+-- The number that so many bytes of a key spell behind a number, the greatest first. Zeros stand for bytes that a key doesn't have.
+abbrev pub spelled : ℕ → ℕ → KeyBytes → ℕ
+spelled zero n k = n
+spelled (suc more) n [] = spelled more (n * 256) []
+spelled (suc more) n (b ∷ k) = spelled more (n * 256 + b) k
+
+-- the number of a key: that of its first sixteen bytes
+abbrev pub number_of : KeyBytes → ℕ
+number_of k = spelled 16 0 k
+
+-- A number is that of a key, which is a text of bytes.
+pub record IsNumberOf (n : ℕ) (k : KeyBytes) : Type 0 where
+  pub number : n ≡ number_of k
+  pub small : All (λ b. b < 256) k
+
+-- the greatest number stands for the last cut
+abbrev pub IsCutNumber : ℕ → Cut → Type 0
+IsCutNumber n (before k) = IsNumberOf n k
+IsCutNumber n (after k) = IsNumberOf n k
+IsCutNumber n last = n ≡ 2 ^ 128 - 1

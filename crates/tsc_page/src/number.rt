@@ -1,0 +1,178 @@
+ghost use Rattle.std.specs.Prelude.{◌≡◌, IfOk};
+ghost use Rattle.tsc_span.specs.Span.{key_cmp, before, after, last, is_below};
+ghost use Rattle.tsc_span.specs.Cuts.{cut_of};
+ghost use Rattle.tsc_page.specs.Numbers.{IsNumberOf};
+
+use std::cmp::Ordering;
+use std::marker::Model;
+use tsc_span::{Cut, Key};
+use tsc_time::NoMemory;
+
+/// How many bytes of a key make its number.
+const NUMBER_BYTES: usize = 16;
+
+/// A key with its number, which lies beside it where the bytes of the key lie elsewhere.
+#[derive(Debug, Drop)]
+pub(crate) struct NumberedKey {
+    number: u128,
+    key: Key,
+}
+
+impl Model for NumberedKey {
+    ghost use Rattle.tsc_span.specs.Span.{KeyBytes};
+    ghost use Rattle.tsc_page.specs.Numbers.{IsNumberOf};
+
+    ghost Value = { KeyBytes };
+
+    ghost view = { λ k. k.key };
+
+    ghost invariant = { λ k. IsNumberOf k.number k.key };
+}
+
+impl NumberedKey {
+    pub(crate) fn new(key: Key) -> NumberedKey
+        ensures { result ≡ key }
+    {
+        NumberedKey {
+            number: number_of(key.bytes()),
+            key,
+        }
+    }
+
+    /// The bytes of the key.
+    pub(crate) fn bytes(&self) -> &[u8]
+        ensures { result.now ≡ self.now }
+    {
+        self.key.bytes()
+    }
+
+    /// A copy of the key.
+    pub(crate) fn try_copy(&self) -> Result<NumberedKey, NoMemory>
+        ensures { IfOk result (λ copy. copy ≡ self.now) }
+    {
+        Ok(NumberedKey {
+            number: self.number,
+            key: self.key.try_copy()?,
+        })
+    }
+}
+
+/// The bytes of a key with their number.
+#[derive(Drop)]
+pub(crate) struct NumberedBytes<'a> {
+    number: u128,
+    bytes: &'a [u8],
+}
+
+impl<'a> Model for NumberedBytes<'a> {
+    ghost use Rattle.tsc_span.specs.Span.{KeyBytes};
+    ghost use Rattle.tsc_page.specs.Numbers.{IsNumberOf};
+
+    ghost Value = { KeyBytes };
+
+    ghost view = { λ b. b.bytes.now };
+
+    ghost invariant = { λ b. IsNumberOf b.number b.bytes.now };
+}
+
+impl<'a> NumberedBytes<'a> {
+    pub(crate) fn new(bytes: &'a [u8]) -> NumberedBytes<'a>
+        ensures { result ≡ bytes.now }
+    {
+        NumberedBytes {
+            number: number_of(bytes),
+            bytes,
+        }
+    }
+
+    /// How a key stands to these bytes.
+    pub(crate) fn compare(&self, key: &NumberedKey) -> Ordering
+        ensures { result ≡ key_cmp key.now self.now }
+    {
+        match key.number.cmp(&self.number) {
+            Ordering::Equal => key.bytes().cmp(self.bytes),
+            other => other,
+        }
+    }
+}
+
+/// A cut with the number of its key.
+#[derive(Drop)]
+pub(crate) struct NumberedCut<'a> {
+    number: u128,
+    cut: Cut<'a>,
+}
+
+impl<'a> Model for NumberedCut<'a> {
+    ghost use Rattle.tsc_span.specs.Span.{Cut};
+    ghost use Rattle.tsc_span.specs.Cuts.{cut_of};
+    ghost use Rattle.tsc_page.specs.Numbers.{IsCutNumber};
+
+    ghost Value = { Cut };
+
+    ghost view = { λ c. cut_of c.cut };
+
+    ghost invariant = { λ c. IsCutNumber c.number (cut_of c.cut) };
+}
+
+impl<'a> NumberedCut<'a> {
+    pub(crate) fn new(cut: Cut<'a>) -> NumberedCut<'a>
+        ensures { result ≡ cut_of cut.entry }
+    {
+        let number = match cut {
+            Cut::Before(key) | Cut::After(key) => number_of(key),
+            Cut::Last => u128::MAX,
+        };
+        NumberedCut { number, cut }
+    }
+
+    /// Whether the cut lies below the place after a key.
+    pub(crate) fn is_below_after(&self, key: &NumberedKey) -> bool
+        ensures { result ≡ is_below self.now (after key.now) }
+    {
+        if self.number == key.number {
+            self.cut.is_below(Cut::After(key.bytes()))
+        } else {
+            self.number < key.number
+        }
+    }
+
+    /// Whether the cut lies below the place before a key.
+    pub(crate) fn is_below_before(&self, key: &NumberedKey) -> bool
+        ensures { result ≡ is_below self.now (before key.now) }
+    {
+        if self.number == key.number {
+            self.cut.is_below(Cut::Before(key.bytes()))
+        } else {
+            self.number < key.number
+        }
+    }
+
+    /// Whether the cut lies below the last one.
+    pub(crate) fn is_below_last(&self) -> bool
+        ensures { result ≡ is_below self.now last }
+    {
+        self.cut.is_below(Cut::Last)
+    }
+
+    /// Whether the cut lies above the place before a key.
+    pub(crate) fn is_above_before(&self, key: &NumberedKey) -> bool
+        ensures { result ≡ is_below (before key.now) self.now }
+    {
+        if self.number == key.number {
+            Cut::Before(key.bytes()).is_below(self.cut)
+        } else {
+            key.number < self.number
+        }
+    }
+}
+
+/// The number of a key.
+fn number_of(key: &[u8]) -> u128
+    ensures { IsNumberOf result key.now }
+{
+    let mut first = [0; NUMBER_BYTES];
+    let len = key.len().min(NUMBER_BYTES);
+    first[..len].copy_from_slice(&key[..len]);
+    u128::from_be_bytes(first)
+}
