@@ -1,7 +1,7 @@
 ghost use Rattle.std.specs.Prelude.{◌≡◌, IfOk};
 ghost use Rattle.tsc_span.specs.Span.{key_cmp, before, after, last, is_below};
 ghost use Rattle.tsc_span.specs.Cuts.{cut_of};
-ghost use Rattle.tsc_page.specs.Numbers.{IsNumberOf};
+ghost use Rattle.tsc_page.specs.Numbers.{IsNumberOf, AreTied};
 
 use std::cmp::Ordering;
 use std::marker::Model;
@@ -89,9 +89,10 @@ impl<'a> NumberedBytes<'a> {
     pub(crate) fn compare(&self, key: &NumberedKey) -> Ordering
         ensures { result ≡ key_cmp key.now self.now }
     {
-        match key.number.cmp(&self.number) {
-            Ordering::Equal => key.bytes().cmp(self.bytes),
-            other => other,
+        if key.number == self.number {
+            compare_tied(key.bytes(), self.bytes)
+        } else {
+            key.number.cmp(&self.number)
         }
     }
 }
@@ -131,7 +132,11 @@ impl<'a> NumberedCut<'a> {
         ensures { result ≡ is_below self.now (after key.now) }
     {
         if self.number == key.number {
-            self.cut.is_below(Cut::After(key.bytes()))
+            match self.cut {
+                Cut::Before(cut) => compare_tied(cut, key.bytes()).is_le(),
+                Cut::After(cut) => compare_tied(cut, key.bytes()).is_lt(),
+                Cut::Last => false,
+            }
         } else {
             self.number < key.number
         }
@@ -142,7 +147,10 @@ impl<'a> NumberedCut<'a> {
         ensures { result ≡ is_below self.now (before key.now) }
     {
         if self.number == key.number {
-            self.cut.is_below(Cut::Before(key.bytes()))
+            match self.cut {
+                Cut::Before(cut) | Cut::After(cut) => compare_tied(cut, key.bytes()).is_lt(),
+                Cut::Last => false,
+            }
         } else {
             self.number < key.number
         }
@@ -160,7 +168,11 @@ impl<'a> NumberedCut<'a> {
         ensures { result ≡ is_below (before key.now) self.now }
     {
         if self.number == key.number {
-            Cut::Before(key.bytes()).is_below(self.cut)
+            match self.cut {
+                Cut::Before(cut) => compare_tied(key.bytes(), cut).is_lt(),
+                Cut::After(cut) => compare_tied(key.bytes(), cut).is_le(),
+                Cut::Last => true,
+            }
         } else {
             key.number < self.number
         }
@@ -175,4 +187,17 @@ fn number_of(key: &[u8]) -> u128
     let len = key.len().min(NUMBER_BYTES);
     first[..len].copy_from_slice(&key[..len]);
     u128::from_be_bytes(first)
+}
+
+/// How two keys with one number stand to one another. Where neither has bytes that the number leaves out, the
+/// shorter one is the smaller, and no bytes are read.
+fn compare_tied(key: &[u8], other: &[u8]) -> Ordering
+    requires { AreTied key.now other.now }
+    ensures { result ≡ key_cmp key.now other.now }
+{
+    if key.len().max(other.len()) <= NUMBER_BYTES {
+        key.len().cmp(&other.len())
+    } else {
+        key.cmp(other)
+    }
 }
