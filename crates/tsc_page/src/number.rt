@@ -210,15 +210,15 @@ fn number_of(key: &[u8]) -> u128
     u128::from_be_bytes(first)
 }
 
-/// How two keys with one number stand to one another. Where neither has bytes that the number leaves out, the
-/// shorter one is the smaller, and no bytes are read.
+/// How two keys with one number stand to one another. Where one of them has fewer bytes than a number it is a
+/// beginning of the other, and their lengths tell; else what comes behind the bytes of the number does.
 fn compare_tied(key: &[u8], other: &[u8]) -> Ordering
     requires { AreTied key.now other.now }
     ensures { result ≡ key_cmp key.now other.now }
 {
-    if key.len().max(other.len()) <= NUMBER_BYTES {
+    if key.len().min(other.len()) < NUMBER_BYTES {
         key.len().cmp(&other.len())
     } else {
-        key.cmp(other)
+        key[NUMBER_BYTES..].cmp(&other[NUMBER_BYTES..])
     }
 }
