@@ -1,5 +1,5 @@
 -- Numbers stand to one another as the keys do, where they differ.
-use Rattle.std.proofs.Common.{◌≡◌, ◌⊎◌, inl, inr, ◌∙◌, refl, sym, ap, subst, ℕ, zero, suc, ◌+◌, ◌*◌, ◌-◌, ◌<◌, ◌^◌, nat_lt, List, [], ◌∷◌, ◌++◌, length, take, drop, min, length-append, length-take, length-drop, arith}
+use Rattle.std.proofs.Common.{◌≡◌, ◌⊎◌, inl, inr, ◌∙◌, refl, sym, ap, subst, ℕ, zero, suc, ◌+◌, ◌*◌, ◌-◌, ◌<◌, ◌≤◌, ◌^◌, nat_lt, List, [], ◌∷◌, ◌++◌, length, take, drop, min, length-append, length-take, length-drop, arith}
 use Rattle.std.specs.Int.{w128, from_be_bytes}
 use Rattle.std.specs.declared.cmp.Ordering.{Ordering}
 use Rattle.std.specs.declared.cmp.Ordering.TheVariants.{Less, Equal, Greater}
@@ -7,6 +7,7 @@ use Rattle.std.specs.Ordering.{nat_cmp, is_lt, ordering_then, ordering_reverse}
 use Rattle.std.specs.Cmp.{nat_cmp_is}
 use Rattle.std.specs.List.{All}
 use Rattle.std.proofs.lemmas.Bool.{lt-ltb, le-ltb}
+use Rattle.std.proofs.lemmas.List.{take_all}
 use Rattle.tsc_span.specs.Span.{KeyBytes, key_cmp, Cut, before, after, last, is_below}
 use Rattle.tsc_page.specs.Numbers.{spelled, number_of, IsNumberOf, IsCutNumber}
 use Rattle.tsc_span.proofs.CutOrder.{key_cmp_back}
@@ -61,6 +62,56 @@ spelled_order (suc more) n (b ∷ j) (c ∷ k) sj sk h = elim (which b c) [
   ]
 ]
 
+-- keys that spell the same begin with the same byte
+same_byte : (more n b c : ℕ) (j k : KeyBytes) → Small (b ∷ j) → Small (c ∷ k) → spelled (suc more) n (b ∷ j) ≡ spelled (suc more) n (c ∷ k) → b ≡ c
+same_byte more n b c j k sj sk h = elim (which b c) [
+  | inl l ↦ absurd (let up = rises more (n * 256 + b) (n * 256 + c) j k (tail_small b j sj) (omega arith) in omega (arith, h))
+  | inr r ↦ elim r [
+    | inl e ↦ e
+    | inr l ↦ absurd (let up = rises more (n * 256 + c) (n * 256 + b) k j (tail_small c k sk) (omega arith) in omega (arith, h))
+  ]
+]
+
+-- what they spell behind it is the same too
+same_behind : (more n b c : ℕ) (j k : KeyBytes) → b ≡ c → spelled (suc more) n (b ∷ j) ≡ spelled (suc more) n (c ∷ k) → spelled more (n * 256 + b) j ≡ spelled more (n * 256 + b) k
+same_behind more n b c j k e h = subst (λ (x : ℕ). spelled more (n * 256 + b) j ≡ spelled more (n * 256 + x) k) (sym e) h
+
+-- and their order is that of what stands behind it
+behind_same : (b c : ℕ) (j k : KeyBytes) → b ≡ c → key_cmp (b ∷ j) (c ∷ k) ≡ key_cmp j k
+behind_same b c j k e = ap (λ o. ordering_then o (key_cmp j k)) (sym (nat_cmp_is b c Equal e))
+
+-- of keys that spell the same a shorter one is a beginning of the other, where it has no more bytes than are spelled
+pub tied_by_length : (more n : ℕ) (j k : KeyBytes) → Small j → Small k → min (length j) (length k) ≤ more → spelled more n j ≡ spelled more n k → nat_cmp (length j) (length k) ≡ key_cmp j k
+tied_by_length more n [] [] sj sk short h = sym (nat_cmp_is 0 0 Equal refl)
+tied_by_length more n [] (c ∷ k) sj sk short h = sym (nat_cmp_is 0 (length (c ∷ k)) Less (omega arith))
+tied_by_length more n (b ∷ j) [] sj sk short h = sym (nat_cmp_is (length (b ∷ j)) 0 Greater (omega arith))
+tied_by_length zero n (b ∷ j) (c ∷ k) sj sk short h = absurd (omega (arith, short))
+tied_by_length (suc more) n (b ∷ j) (c ∷ k) sj sk short h =
+    let e : b ≡ c = same_byte more n b c j k sj sk h in
+    longer (length j) (length k) ∙ tied_by_length more (n * 256 + b) j k (tail_small b j sj) (tail_small c k sk) (omega (arith, short)) (same_behind more n b c j k e h) ∙ sym (behind_same b c j k e)
+  where
+    longer : (x y : ℕ) → nat_cmp (suc x) (suc y) ≡ nat_cmp x y
+    longer x y = elim (which x y) [
+      | inl l ↦ sym (nat_cmp_is (suc x) (suc y) Less (omega arith)) ∙ nat_cmp_is x y Less l
+      | inr r ↦ elim r [
+        | inl e ↦ sym (nat_cmp_is (suc x) (suc y) Equal (ap suc e)) ∙ nat_cmp_is x y Equal e
+        | inr l ↦ sym (nat_cmp_is (suc x) (suc y) Greater (omega arith)) ∙ nat_cmp_is x y Greater l
+      ]
+    ]
+
+-- and where they have as many bytes, what comes behind these tells
+pub tied_by_rest : (more n : ℕ) (j k : KeyBytes) → Small j → Small k → more ≤ length j → more ≤ length k → spelled more n j ≡ spelled more n k → key_cmp (drop more j) (drop more k) ≡ key_cmp j k
+tied_by_rest zero n j k sj sk lj lk h = refl
+tied_by_rest (suc more) n [] k sj sk lj lk h = absurd (omega (arith, lj))
+tied_by_rest (suc more) n (b ∷ j) [] sj sk lj lk h = absurd (omega (arith, lk))
+tied_by_rest (suc more) n (b ∷ j) (c ∷ k) sj sk lj lk h =
+    let e : b ≡ c = same_byte more n b c j k sj sk h in
+    tied_by_rest more (n * 256 + b) j k (tail_small b j sj) (tail_small c k sk) (omega (arith, lj)) (omega (arith, lk)) (same_behind more n b c j k e h) ∙ sym (behind_same b c j k e)
+
+-- what comes behind sixteen bytes, as a slice of a key has it
+pub rest_of : (k : KeyBytes) → take (length k - 16) (drop 16 k) ≡ drop 16 k
+rest_of k = take_all (length k - 16) (drop 16 k) (omega (arith, length-drop 16 k))
+
 -- and so of the keys of two numbers
 pub number_order : (m n : ℕ) (j k : KeyBytes) → IsNumberOf m j → IsNumberOf n k → m < n → key_cmp j k ≡ Less
 number_order m n j k at_j at_k h = spelled_order 16 0 j k at_j.small at_k.small (subst (λ (x : ℕ). x < number_of k) at_j.number (subst (λ (x : ℕ). m < x) at_k.number h))
@@ -70,11 +121,11 @@ past : (m n : ℕ) (k : KeyBytes) → m ≡ 2 ^ 128 - 1 → IsNumberOf n k → m
 past m n k at_m at_n h = let up : number_of k < 2 ^ 128 = rises 16 0 1 k [] at_n.small (omega arith) in omega (arith, at_m, at_n.number)
 
 -- the other way round too
-pub comparison_told : (m n : ℕ) (j k : KeyBytes) (o : Ordering) → IsNumberOf m j → IsNumberOf n k → o ≡ nat_cmp m n → (o ≡ Equal → ⊥) → o ≡ key_cmp j k
+pub comparison_told : (m n : ℕ) (j k : KeyBytes) (o : Ordering) → IsNumberOf m j → IsNumberOf n k → o ≡ nat_cmp m n → (m ≡ n → ⊥) → o ≡ key_cmp j k
 comparison_told m n j k o at_j at_k e apart = elim (which m n) [
   | inl l ↦ e ∙ sym (nat_cmp_is m n Less l) ∙ sym (number_order m n j k at_j at_k l)
   | inr r ↦ elim r [
-    | inl q ↦ absurd (apart (e ∙ sym (nat_cmp_is m n Equal q)))
+    | inl q ↦ absurd (apart q)
     | inr l ↦ e ∙ sym (nat_cmp_is m n Greater l) ∙ sym (key_cmp_back k j ∙ ap ordering_reverse (number_order n m k j at_k at_j l))
   ]
 ]

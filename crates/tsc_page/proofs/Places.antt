@@ -1,5 +1,5 @@
 -- Which places a search among sorted nodes finds.
-use Rattle.std.proofs.Common.{◌≡◌, ◌⊎◌, inl, inr, refl, sym, subst, Bool, ℕ, zero, suc, ◌-◌, ◌<◌, ◌≤◌, true, false, List, [], ◌∷◌, length, drop, get_or, arith}
+use Rattle.std.proofs.Common.{◌≡◌, ◌⊎◌, inl, inr, ◌∙◌, refl, sym, ap, subst, Bool, ℕ, zero, suc, ◌-◌, ◌<◌, ◌≤◌, true, false, List, [], ◌∷◌, length, drop, get_or, arith}
 use Rattle.std.specs.Prelude.{not}
 use Rattle.std.specs.List.Sorted.{IsPartitionPoint, IsPartitionedBy}
 use Rattle.tsc_time.specs.Time.{zero_time}
@@ -53,6 +53,10 @@ pub start_of_gap-past : (low : Cut) (ns : List Node) (i : ℕ) (d : Node) → i 
 start_of_gap-past low [] i d h = absurd (omega arith)
 start_of_gap-past low (n ∷ ns) zero d h = refl
 start_of_gap-past low (n ∷ ns) (suc i) d h = start_of_gap-past (after n.key) ns i d (omega arith)
+
+-- between the same cuts lies the same span
+pub same_span : {a b c d : Cut} → a ≡ b → c ≡ d → between a c ≡ between b d
+same_span {a} {b} {c} {d} e f = ap (λ x. between x c) e ∙ ap (between b) f
 
 not_true : (b : Bool) → not b ≡ true → b ≡ false
 not_true true h = sym h

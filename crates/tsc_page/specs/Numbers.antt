@@ -18,6 +18,12 @@ pub record IsNumberOf (n : ℕ) (k : KeyBytes) : Type 0 where
   pub number : n ≡ number_of k
   pub small : All (λ b. b < 256) k
 
+-- Two keys with one number.
+pub record AreTied (k m : KeyBytes) : Type 0 where
+  pub number : number_of k ≡ number_of m
+  pub first : All (λ b. b < 256) k
+  pub second : All (λ b. b < 256) m
+
 -- the greatest number stands for the last cut
 abbrev pub IsCutNumber : ℕ → Cut → Type 0
 IsCutNumber n (before k) = IsNumberOf n k

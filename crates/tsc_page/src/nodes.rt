@@ -115,52 +115,57 @@ impl Nodes {
     }
 
     /// The places of the nodes whose keys lie between two cuts.
-    fn keys_between(&self, from: Cut<'_>, to: Cut<'_>) -> Range<usize>
+    fn keys_between(&self, from: &NumberedCut<'_>, to: &NumberedCut<'_>) -> Range<usize>
         requires sorted { IsSorted self.now.list.items }
-        requires order { is_below (cut_of from) (cut_of to) ≡ true }
-        ensures holds { HoldsKeysOn self.now.list.items (between (cut_of from.entry) (cut_of to.entry)) result.start result.end }
-        ensures parts { PartsKeysAt self.now.list.items (cut_of from.entry) (cut_of to.entry) result.start result.end }
+        requires order { is_below from.now to.now ≡ true }
+        ensures holds { HoldsKeysOn self.now.list.items (between from.now to.now) result.start result.end }
+        ensures parts { PartsKeysAt self.now.list.items from.now to.now result.start result.end }
     {
-        let start = self.start_of_keys(&NumberedCut::new(from));
-        let end = self.end_of_keys(start, &NumberedCut::new(to));
+        let start = self.start_of_keys(from);
+        let end = self.end_of_keys(start, to);
         start..end
     }
 
-    /// Where the gap before a place starts.
-    fn start_of_gap(&self, place: usize) -> Cut<'_>
+    /// Whether the gap before a place starts below a cut.
+    fn gap_starts_below(&self, place: usize, to: &NumberedCut<'_>) -> bool
         requires bound { place ≤ length self.now.list.items }
-        ensures { cut_of result ≡ start_of_gap (before []) self.now.list.items place }
+        ensures { result ≡ is_below (start_of_gap (before []) self.now.list.items place) to.now }
     {
         match place.checked_sub(1) {
-            Some(below) => Cut::After(self.list[below].key.bytes()),
-            None => Cut::Before(&[]),
+            Some(below) => to.is_above_after(&self.list[below].key),
+            None => to.is_above_least(),
         }
     }
 
-    /// Where the gap before a place stops.
-    fn end_of_gap(&self, place: usize) -> Cut<'_>
-        ensures { cut_of result ≡ next_cut (node_stretches (drop place self.now.list.items)) }
+    /// Whether the gap before a place stops above a cut.
+    fn gap_stops_above(&self, place: usize, from: &NumberedCut<'_>) -> bool
+        ensures { result ≡ is_below from.now (next_cut (node_stretches (drop place self.now.list.items))) }
     {
         match self.list.get(place) {
-            Some(above) => Cut::Before(above.key.bytes()),
-            None => Cut::Last,
+            Some(above) => from.is_below_before(&above.key),
+            None => from.is_below_last(),
         }
     }
 
     /// The places of the nodes whose gaps overlap what lies between two cuts, from those of the nodes whose
     /// keys do. They are the same, but for the gap before the first key and that after the last one.
-    fn gaps_between(&self, from: Cut<'_>, to: Cut<'_>, keys: &Range<usize>) -> Range<usize>
+    fn gaps_between(
+        &self,
+        from: &NumberedCut<'_>,
+        to: &NumberedCut<'_>,
+        keys: &Range<usize>,
+    ) -> Range<usize>
         requires sorted { IsSorted self.now.list.items }
-        requires order { is_below (cut_of from) (cut_of to) ≡ true }
-        requires parts { PartsKeysAt self.now.list.items (cut_of from) (cut_of to) keys.now.start keys.now.end }
-        ensures { HoldsGapsOn self.now.list.items (between (cut_of from.entry) (cut_of to.entry)) result.start result.end }
+        requires order { is_below from.now to.now ≡ true }
+        requires parts { PartsKeysAt self.now.list.items from.now to.now keys.now.start keys.now.end }
+        ensures { HoldsGapsOn self.now.list.items (between from.now to.now) result.start result.end }
     {
-        let start = if from.is_below(self.end_of_gap(keys.start)) {
+        let start = if self.gap_stops_above(keys.start, from) {
             keys.start.saturating_sub(1)
         } else {
             keys.start
         };
-        let end = if self.start_of_gap(keys.end).is_below(to) {
+        let end = if self.gap_starts_below(keys.end, to) {
             keys.end
         } else {
             keys.end.saturating_sub(1)
@@ -175,8 +180,9 @@ impl Nodes {
         ensures { result ≡ answer_of self.now.list.items (between (cut_of from.entry) (cut_of to.entry)) }
     {
         let mut best = Value::unowned(Timestamp::ZERO);
-        let keys = self.keys_between(from, to);
-        let gaps = self.gaps_between(from, to, &keys);
+        let (low, high) = (NumberedCut::new(from), NumberedCut::new(to));
+        let keys = self.keys_between(&low, &high);
+        let gaps = self.gaps_between(&low, &high, &keys);
         for place in keys {
             best = ratchet(best, self.list[place].value).0;
         }
@@ -192,8 +198,9 @@ impl Nodes {
         requires order { is_below (cut_of from) (cut_of to) ≡ true }
         ensures { self.new.list.items ≡ raise_nodes (between (cut_of from.entry) (cut_of to.entry)) value self.old.list.items }
     {
-        let keys = self.keys_between(from, to);
-        let gaps = self.gaps_between(from, to, &keys);
+        let (low, high) = (NumberedCut::new(from), NumberedCut::new(to));
+        let keys = self.keys_between(&low, &high);
+        let gaps = self.gaps_between(&low, &high, &keys);
         for place in keys {
             self.list[place].value = ratchet(self.list[place].value, value).0;
         }

@@ -1,7 +1,7 @@
-ghost use Rattle.std.specs.Prelude.{◌≡◌, IfOk};
+ghost use Rattle.std.specs.Prelude.{◌≡◌, [], IfOk};
 ghost use Rattle.tsc_span.specs.Span.{key_cmp, before, after, last, is_below};
 ghost use Rattle.tsc_span.specs.Cuts.{cut_of};
-ghost use Rattle.tsc_page.specs.Numbers.{IsNumberOf};
+ghost use Rattle.tsc_page.specs.Numbers.{IsNumberOf, AreTied};
 
 use std::cmp::Ordering;
 use std::marker::Model;
@@ -89,9 +89,10 @@ impl<'a> NumberedBytes<'a> {
     pub(crate) fn compare(&self, key: &NumberedKey) -> Ordering
         ensures { result ≡ key_cmp key.now self.now }
     {
-        match key.number.cmp(&self.number) {
-            Ordering::Equal => key.bytes().cmp(self.bytes),
-            other => other,
+        if key.number == self.number {
+            compare_tied(key.bytes(), self.bytes)
+        } else {
+            key.number.cmp(&self.number)
         }
     }
 }
@@ -131,7 +132,11 @@ impl<'a> NumberedCut<'a> {
         ensures { result ≡ is_below self.now (after key.now) }
     {
         if self.number == key.number {
-            self.cut.is_below(Cut::After(key.bytes()))
+            match self.cut {
+                Cut::Before(cut) => compare_tied(cut, key.bytes()).is_le(),
+                Cut::After(cut) => compare_tied(cut, key.bytes()).is_lt(),
+                Cut::Last => false,
+            }
         } else {
             self.number < key.number
         }
@@ -142,7 +147,10 @@ impl<'a> NumberedCut<'a> {
         ensures { result ≡ is_below self.now (before key.now) }
     {
         if self.number == key.number {
-            self.cut.is_below(Cut::Before(key.bytes()))
+            match self.cut {
+                Cut::Before(cut) | Cut::After(cut) => compare_tied(cut, key.bytes()).is_lt(),
+                Cut::Last => false,
+            }
         } else {
             self.number < key.number
         }
@@ -155,12 +163,37 @@ impl<'a> NumberedCut<'a> {
         self.cut.is_below(Cut::Last)
     }
 
+    /// Whether the cut lies above the least one.
+    pub(crate) fn is_above_least(&self) -> bool
+        ensures { result ≡ is_below (before []) self.now }
+    {
+        Cut::Before(&[]).is_below(self.cut)
+    }
+
+    /// Whether the cut lies above the place after a key.
+    pub(crate) fn is_above_after(&self, key: &NumberedKey) -> bool
+        ensures { result ≡ is_below (after key.now) self.now }
+    {
+        if self.number == key.number {
+            match self.cut {
+                Cut::Before(cut) | Cut::After(cut) => compare_tied(key.bytes(), cut).is_lt(),
+                Cut::Last => true,
+            }
+        } else {
+            key.number < self.number
+        }
+    }
+
     /// Whether the cut lies above the place before a key.
     pub(crate) fn is_above_before(&self, key: &NumberedKey) -> bool
         ensures { result ≡ is_below (before key.now) self.now }
     {
         if self.number == key.number {
-            Cut::Before(key.bytes()).is_below(self.cut)
+            match self.cut {
+                Cut::Before(cut) => compare_tied(key.bytes(), cut).is_lt(),
+                Cut::After(cut) => compare_tied(key.bytes(), cut).is_le(),
+                Cut::Last => true,
+            }
         } else {
             key.number < self.number
         }
@@ -175,4 +208,17 @@ fn number_of(key: &[u8]) -> u128
     let len = key.len().min(NUMBER_BYTES);
     first[..len].copy_from_slice(&key[..len]);
     u128::from_be_bytes(first)
+}
+
+/// How two keys with one number stand to one another. Where one of them has fewer bytes than a number it is a
+/// beginning of the other, and their lengths tell; else what comes behind the bytes of the number does.
+fn compare_tied(key: &[u8], other: &[u8]) -> Ordering
+    requires { AreTied key.now other.now }
+    ensures { result ≡ key_cmp key.now other.now }
+{
+    if key.len().min(other.len()) < NUMBER_BYTES {
+        key.len().cmp(&other.len())
+    } else {
+        key[NUMBER_BYTES..].cmp(&other[NUMBER_BYTES..])
+    }
 }
