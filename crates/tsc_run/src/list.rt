@@ -2,7 +2,7 @@
 ghost use Rattle.std.specs.Prelude.{◌≡◌, ◌≤◌, IfOk, IfErr, length};
 ghost use Rattle.tsc_json.specs.Lists.{most_calls};
 ghost use Rattle.tsc_shared.specs.Answers.{GoesOn};
-ghost use Rattle.tsc_run.specs.Runs.{Says, Runs};
+ghost use Rattle.tsc_run.specs.Runs.{Says, IsRefusedAs, Runs};
 ghost use Rattle.tsc_run.specs.Ending.{CanEndRun};
 
 use crate::fault::RunFault;
@@ -28,6 +28,7 @@ fn answer<R: Wait>(
     requires cache { seat.old.cache ≡ cache.now }
     ensures seat { GoesOn seat.old seat.new }
     ensures said { IfOk result (λ said. Says seat.old seat.new call.now said) }
+    ensures refused { IfErr result (λ fault. IsRefusedAs fault seat.old seat.new) }
     ensures why { IfErr result CanEndRun }
 {
     match call {

@@ -154,3 +154,36 @@ fn lists_run_at_the_same_time(rt: HostRuntime) -> Result<(), Fail> {
     }
     Ok(())
 }
+
+/// Holds the first call of each list up until as many calls are done as there are lists before it.
+#[derive(Drop)]
+struct InTurn {
+    done: AtomicU64,
+}
+
+impl Gate for InTurn {
+    fn start(&self, thread: u32, _call: u32) {
+        for _ in 0..TURNS {
+            if self.done.load(Ordering::SeqCst) >= thread as u64 {
+                return;
+            }
+            thread::yield_now();
+        }
+    }
+
+    fn done(&self, _thread: u32, _call: u32) {
+        self.done.fetch_add(1, Ordering::SeqCst);
+    }
+
+    fn publish(&self, _seat: u32) {}
+}
+
+#[test]
+fn calls_are_made_between_what_the_gate_is_told(rt: HostRuntime) -> Result<(), Fail> {
+    let gate = InTurn {
+        done: AtomicU64::new(0),
+    };
+    let log = run(&rt, rt.alloc(), RACE, &gate)?;
+    assert_eq!(rt; log_text(rt.alloc(), &log)?.as_slice(), RACES[0].as_bytes());
+    Ok(())
+}
