@@ -1,12 +1,12 @@
 //! Runs whose logs are known, and a run that is held up until all its lists run.
-use crate::run_trace;
+use crate::{RunFault, run_trace};
 use std::alloc::Global;
 use std::sync::Wait;
 use std::sync::atomic::{AtomicBool, AtomicU64, Ordering};
 use std::test::Fail;
 use std::thread;
 use std::thread::Threads;
-use tsc_shared::{Gate, NoGate};
+use tsc_shared::{Gate, NoGate, OpenFault};
 use tsc_trace::{Log, Said, log_text, read_trace};
 
 /// The head of each trace, up to its lists.
@@ -185,5 +185,22 @@ fn calls_are_made_between_what_the_gate_is_told(rt: HostRuntime) -> Result<(), F
     };
     let log = run(&rt, rt.alloc(), RACE, &gate)?;
     assert_eq!(rt; log_text(rt.alloc(), &log)?.as_slice(), RACES[0].as_bytes());
+    Ok(())
+}
+
+static TEXTS: [(RunFault, &str); 6] = [
+    (RunFault::Open(OpenFault::Seats), "seats are 1 to 64"),
+    (RunFault::Open(OpenFault::NoMemory), "out of memory"),
+    (RunFault::NoMemory, "out of memory"),
+    (RunFault::Gone, "no view"),
+    (RunFault::HistoryFull, "history full"),
+    (RunFault::NoThread, "no thread"),
+];
+
+#[test]
+fn texts_of_faults(rt: HostRuntime) -> Result<(), Fail> {
+    for (fault, text) in &TEXTS {
+        assert_eq!(rt; format!(in rt.alloc(); "{fault}")?.as_str(), *text);
+    }
     Ok(())
 }
