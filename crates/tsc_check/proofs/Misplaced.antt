@@ -75,41 +75,39 @@ at_it : (lines : List Line) (i : ℕ) (line : Line) → slice_get lines i ≡ So
 at_it lines i line at = ap (is_misplaced_line (adds_in lines) (take i lines)) at
 
 pub known_above : (adds lookups earlier : List (Option ℕ)) (reached : List ℕ) (lines : List Line) (i : ℕ) (line : Line) → ArePlaced adds lookups earlier reached lines i → slice_get lines i ≡ Some line
-    → (r : ℕ) → r ≡ get_or reached line.thread r → front_of line.said < r → true ≡ is_wrong_place lines i
-known_above adds lookups earlier reached lines i line a at r is more =
-    sym (at_it lines i line at ∙ above_wrong (adds_in lines) (take i lines) line.thread line.said
-    (a.reached_at line.thread (front_of line.said) r (a.of_lists i line at) ∙ ap (nat_lt (front_of line.said)) (sym is) ∙ below (front_of line.said) r more))
+    → nat_lt (front_of line.said) (get_or reached line.thread 0) ≡ true → true ≡ is_wrong_place lines i
+known_above adds lookups earlier reached lines i line a at more =
+    sym (at_it lines i line at ∙ above_wrong (adds_in lines) (take i lines) line.thread line.said (a.reached_at line.thread (front_of line.said) 0 (a.of_lists i line at) ∙ more))
 
 known_not : (adds lookups earlier : List (Option ℕ)) (reached : List ℕ) (lines : List Line) (i : ℕ) (line : Line) → ArePlaced adds lookups earlier reached lines i → slice_get lines i ≡ Some line
-    → (r : ℕ) → r ≡ get_or reached line.thread r → r ≤ front_of line.said → reaches_above line.thread (front_of line.said) (take i lines) ≡ false
-known_not adds lookups earlier reached lines i line a at r is less =
-    a.reached_at line.thread (front_of line.said) r (a.of_lists i line at) ∙ ap (nat_lt (front_of line.said)) (sym is) ∙ at_most (front_of line.said) r less
+    → nat_lt (front_of line.said) (get_or reached line.thread 0) ≡ false → reaches_above line.thread (front_of line.said) (take i lines) ≡ false
+known_not adds lookups earlier reached lines i line a at less = a.reached_at line.thread (front_of line.said) 0 (a.of_lists i line at) ∙ less
 
 pub place_wrong : (adds lookups earlier : List (Option ℕ)) (reached : List ℕ) (lines : List Line) (i : ℕ) (line : Line) → ArePlaced adds lookups earlier reached lines i → slice_get lines i ≡ Some line
-    → (r : ℕ) → r ≡ get_or reached line.thread r → r ≤ front_of line.said → is_add line.said ≡ true → is_wrong_place lines i ≡ (nat_le (adds_in lines) (front_of line.said) || has_add_at (front_of line.said) (take i lines))
-place_wrong adds lookups earlier reached lines i line a at r is less add =
-    at_it lines i line at ∙ add_wrong (adds_in lines) (take i lines) line.thread line.said add (known_not adds lookups earlier reached lines i line a at r is less)
+    → nat_lt (front_of line.said) (get_or reached line.thread 0) ≡ false → is_add line.said ≡ true → is_wrong_place lines i ≡ (nat_le (adds_in lines) (front_of line.said) || has_add_at (front_of line.said) (take i lines))
+place_wrong adds lookups earlier reached lines i line a at less add =
+    at_it lines i line at ∙ add_wrong (adds_in lines) (take i lines) line.thread line.said add (known_not adds lookups earlier reached lines i line a at less)
 
 pub past_last : (adds lookups earlier : List (Option ℕ)) (reached : List ℕ) (lines : List Line) (i : ℕ) (line : Line) → ArePlaced adds lookups earlier reached lines i → slice_get lines i ≡ Some line
-    → (r : ℕ) → r ≡ get_or reached line.thread r → r ≤ front_of line.said → is_add line.said ≡ true → nat_le (adds_in lines) (front_of line.said) ≡ true → true ≡ is_wrong_place lines i
-past_last adds lookups earlier reached lines i line a at r is less add past =
-    sym (place_wrong adds lookups earlier reached lines i line a at r is less add ∙ rw past refl)
+    → nat_lt (front_of line.said) (get_or reached line.thread 0) ≡ false → is_add line.said ≡ true → nat_le (adds_in lines) (front_of line.said) ≡ true → true ≡ is_wrong_place lines i
+past_last adds lookups earlier reached lines i line a at less add past =
+    sym (place_wrong adds lookups earlier reached lines i line a at less add ∙ rw past refl)
 
 pub taken : (adds lookups earlier : List (Option ℕ)) (reached : List ℕ) (lines : List Line) (i : ℕ) (line : Line) → ArePlaced adds lookups earlier reached lines i → slice_get lines i ≡ Some line → i < length lines
-    → (r : ℕ) → r ≡ get_or reached line.thread r → r ≤ front_of line.said → is_add line.said ≡ true → nat_le (adds_in lines) (front_of line.said) ≡ false
-    → (o : Option ℕ) → o ≡ get_or adds (front_of line.said) o → is_some o ≡ is_wrong_place lines i
-taken adds lookups earlier reached lines i line a at within r is less add low o slot =
+    → nat_lt (front_of line.said) (get_or reached line.thread 0) ≡ false → is_add line.said ≡ true → nat_le (adds_in lines) (front_of line.said) ≡ false
+    → is_some (get_or adds (front_of line.said) None) ≡ is_wrong_place lines i
+taken adds lookups earlier reached lines i line a at within less add low =
     let front = front_of line.said in
     let lower : front ≤ adds_in lines = under front (adds_in lines) low in
-    sym (place_wrong adds lookups earlier reached lines i line a at r is less add ∙ rw low (has_last lines front i (omega (arith, within)) ∙ ap is_some (sym (slot ∙ a.adds_at front o lower))))
+    sym (place_wrong adds lookups earlier reached lines i line a at less add ∙ rw low (has_last lines front i (omega (arith, within)) ∙ ap is_some (sym (a.adds_at front None lower))))
   where
     under : (x n : ℕ) → nat_le n x ≡ false → x ≤ n
     under x n e = grind (arith, nat_tests)
 
 pub front_wrong : (adds lookups earlier : List (Option ℕ)) (reached : List ℕ) (lines : List Line) (i : ℕ) (line : Line) → ArePlaced adds lookups earlier reached lines i → slice_get lines i ≡ Some line
-    → (r : ℕ) → r ≡ get_or reached line.thread r → r ≤ front_of line.said → is_add line.said ≡ false → nat_lt (adds_in lines) (front_of line.said) ≡ is_wrong_place lines i
-front_wrong adds lookups earlier reached lines i line a at r is less look =
-    sym (at_it lines i line at ∙ lookup_wrong (adds_in lines) (take i lines) line.thread line.said look (known_not adds lookups earlier reached lines i line a at r is less))
+    → nat_lt (front_of line.said) (get_or reached line.thread 0) ≡ false → is_add line.said ≡ false → nat_lt (adds_in lines) (front_of line.said) ≡ is_wrong_place lines i
+front_wrong adds lookups earlier reached lines i line a at less look =
+    sym (at_it lines i line at ∙ lookup_wrong (adds_in lines) (take i lines) line.thread line.said look (known_not adds lookups earlier reached lines i line a at less))
 
 -- ---- one more line
 

@@ -1,5 +1,5 @@
 -- One more line in the order.
-use Rattle.std.proofs.Common.{◌≡◌, ◌⊎◌, inl, inr, ◌∙◌, sym, ap, subst, refl, ℕ, zero, suc, ◌+◌, ◌<◌, ◌≤◌, List, [], ◌∷◌, ◌++◌, length, take, set, get_or, Bool, true, false, ◌||◌, ◌&&◌, ◌==◌, nat_lt, nat_le, Option, Some, None, true≢false, length-append, length-set, get_or-set_other, get_or-set_same, add-one, arith}
+use Rattle.std.proofs.Common.{◌≡◌, ◌⊎◌, inl, inr, ◌∙◌, sym, ap, refl, ℕ, zero, suc, ◌<◌, ◌≤◌, List, [], ◌∷◌, ◌++◌, length, take, set, get_or, Bool, true, false, ◌||◌, ◌&&◌, ◌==◌, nat_lt, nat_le, Option, Some, None, true≢false, length-append, length-set, get_or-set_other, get_or-set_same, add-one, arith}
 use Rattle.std.specs.Prelude.{slice_get, if◌then◌else◌}
 use Rattle.std.proofs.lemmas.Bool.Decides.{nat_tests}
 use Rattle.std.proofs.lemmas.List.Folds.{list_any_more}
@@ -172,38 +172,38 @@ reached_more reached lines i line at thread known up old t n d low = elim (teste
 
 pub more_add : (adds lookups earlier : List (Option ℕ)) (reached : List ℕ) (lines : List Line) (i : ℕ) (line : Line) → ArePlaced adds lookups earlier reached lines i → slice_get lines i ≡ Some line → is_wrong_place lines i ≡ false → is_add line.said ≡ true
     → (before : Option ℕ) → before ≡ get_or lookups (front_of line.said) before
-    → ArePlaced (set adds (front_of line.said) (Some i)) lookups (earlier ++ before ∷ []) (set reached line.thread (front_of line.said + 1)) lines (suc i)
+    → ArePlaced (set adds (front_of line.said) (Some i)) lookups (earlier ++ before ∷ []) (set reached line.thread (reach line.said)) lines (suc i)
 more_add adds lookups earlier reached lines i line a at fine add before is =
     let f = fine_line lines i line at fine in
     let front = front_of line.said in
     let thread = a.of_lists i line at in
-    let up : front + 1 ≡ reach line.said = omega (arith, reach_of_add line.said add) in
+    let up : front ≤ reach line.said = omega (arith, reach_of_add line.said add) in
     record {
       add_slots = length-set adds front (Some i) ∙ a.add_slots;
       lookup_slots = a.lookup_slots;
       count = omega (arith, length-append earlier (before ∷ []), a.count);
-      of_lists = λ j l there. omega (arith, a.of_lists j l there, length-set reached line.thread (front + 1));
+      of_lists = λ j l there. omega (arith, a.of_lists j l there, length-set reached line.thread (reach line.said));
       adds_at = λ p d low. set_read adds front p (Some i) d (omega (arith, a.add_slots, f.within)) ∙ rw (a.adds_at p d low, ← (place_of_add line.said p add)) (sym (adds_more lines i p line at));
       lookups_at = λ g d low. a.lookups_at g d low ∙ sym (lookups_more lines i g line at ∙ rw (no_lookup line.said g add) refl);
       earlier_at = earlier_more lookups earlier lines i line at a.count before (is ∙ a.lookups_at front before f.within) a.earlier_at;
-      reached_at = λ t n d low. subst (λ r. reaches_above t n (take (suc i) lines) ≡ nat_lt n (get_or (set reached line.thread r) t d)) (sym up) (reached_more reached lines i line at thread f.known (omega (arith, up)) a.reached_at t n d (omega (arith, low, length-set reached line.thread (front + 1))));
+      reached_at = λ t n d low. reached_more reached lines i line at thread f.known up a.reached_at t n d (omega (arith, low, length-set reached line.thread (reach line.said)));
     }
 
 pub more_lookup : (adds lookups earlier : List (Option ℕ)) (reached : List ℕ) (lines : List Line) (i : ℕ) (line : Line) → ArePlaced adds lookups earlier reached lines i → slice_get lines i ≡ Some line → is_wrong_place lines i ≡ false → is_add line.said ≡ false
     → (before : Option ℕ) → before ≡ get_or lookups (front_of line.said) before
-    → ArePlaced adds (set lookups (front_of line.said) (Some i)) (earlier ++ before ∷ []) (set reached line.thread (front_of line.said)) lines (suc i)
+    → ArePlaced adds (set lookups (front_of line.said) (Some i)) (earlier ++ before ∷ []) (set reached line.thread (reach line.said)) lines (suc i)
 more_lookup adds lookups earlier reached lines i line a at fine look before is =
     let f = fine_line lines i line at fine in
     let front = front_of line.said in
     let thread = a.of_lists i line at in
-    let up : front ≡ reach line.said = omega (arith, reach_of_lookup line.said look) in
+    let up : front ≤ reach line.said = omega (arith, reach_of_lookup line.said look) in
     record {
       add_slots = a.add_slots;
       lookup_slots = length-set lookups front (Some i) ∙ a.lookup_slots;
       count = omega (arith, length-append earlier (before ∷ []), a.count);
-      of_lists = λ j l there. omega (arith, a.of_lists j l there, length-set reached line.thread front);
+      of_lists = λ j l there. omega (arith, a.of_lists j l there, length-set reached line.thread (reach line.said));
       adds_at = λ p d low. a.adds_at p d low ∙ sym (adds_more lines i p line at ∙ rw (no_add line.said p look) refl);
       lookups_at = λ g d low. set_read lookups front g (Some i) d (omega (arith, a.lookup_slots, f.within)) ∙ rw (a.lookups_at g d low, ← (front_of_lookup line.said g look)) (sym (lookups_more lines i g line at));
       earlier_at = earlier_more lookups earlier lines i line at a.count before (is ∙ a.lookups_at front before f.within) a.earlier_at;
-      reached_at = λ t n d low. subst (λ r. reaches_above t n (take (suc i) lines) ≡ nat_lt n (get_or (set reached line.thread r) t d)) (sym up) (reached_more reached lines i line at thread f.known (omega (arith, up)) a.reached_at t n d (omega (arith, low, length-set reached line.thread front)));
+      reached_at = λ t n d low. reached_more reached lines i line at thread f.known up a.reached_at t n d (omega (arith, low, length-set reached line.thread (reach line.said)));
     }

@@ -1,12 +1,13 @@
 -- The verdict, by the first test that a line fails.
-use Rattle.std.proofs.Common.{◌≡◌, ◌∙◌, sym, ap, refl, ℕ, zero, suc, Bool, true, false, ◌+◌, max, ◌<◌, List, length, Option, Some, None, add-one, arith}
-use Rattle.std.specs.Prelude.{slice_get, if◌then◌else◌}
+use Rattle.std.proofs.Common.{◌≡◌, ◌∙◌, sym, ap, refl, ℕ, zero, suc, Bool, true, false, ◌+◌, ◌^◌, max, ◌<◌, ◌≤◌, List, length, Option, Some, None, add-one, arith}
+use Rattle.std.specs.Prelude.{slice_get, if◌then◌else◌, IfSome}
+use Rattle.tsc_json.specs.Lists.{most_calls}
 use Rattle.std.proofs.lemmas.Option.{slice_get_within}
 use Rattle.tsc_json.specs.declared.trace.Call.{Call}
 use Rattle.tsc_json.specs.declared.trace.Trace.{Trace}
 use Rattle.tsc_trace.specs.declared.log.Line.{Line}
 use Rattle.tsc_check.specs.declared.verdict.Verdict.TheVariants.{Right, WrongCall, WrongPlace, WrongAnswer}
-use Rattle.tsc_check.specs.Verdict.{calls_of, is_wrong_call, is_wrong_place, is_wrong_answer, or_this, least, verdict_of}
+use Rattle.tsc_check.specs.Verdict.{calls_of, is_wrong_call, is_wrong_place, is_wrong_answer, or_this, least, named_or, verdict_of}
 use Rattle.tsc_check.specs.CheckParts.{first_other, call_in}
 use Rattle.tsc_check.proofs.FirstOther.{first_is_least}
 use Rattle.tsc_check.proofs.Sweeping.{has_call}
@@ -20,11 +21,8 @@ wrong_call trace lines i e = ap WrongCall (add-one i) ∙ sym (rw (least_call tr
 pub wrong_place : (trace : Trace) (lines : List Line) (i : ℕ) → None ≡ first_other 0 (calls_of trace) lines → Some i ≡ least (is_wrong_place lines) (length lines) → WrongPlace (i + 1) ≡ verdict_of trace lines
 wrong_place trace lines i e f = ap WrongPlace (add-one i) ∙ sym (rw (least_call trace lines None e, sym f) refl)
 
-pub wrong_answer : (trace : Trace) (lines : List Line) (i : ℕ) → None ≡ first_other 0 (calls_of trace) lines → None ≡ least (is_wrong_place lines) (length lines) → Some i ≡ least (is_wrong_answer trace lines) (length lines) → WrongAnswer (i + 1) ≡ verdict_of trace lines
-wrong_answer trace lines i e f g = ap WrongAnswer (add-one i) ∙ sym (rw (least_call trace lines None e, sym f, sym g) refl)
-
-pub all_right : (trace : Trace) (lines : List Line) → None ≡ first_other 0 (calls_of trace) lines → None ≡ least (is_wrong_place lines) (length lines) → None ≡ least (is_wrong_answer trace lines) (length lines) → Right ≡ verdict_of trace lines
-all_right trace lines e f g = sym (rw (least_call trace lines None e, sym f, sym g) refl)
+pub by_answers : (trace : Trace) (lines : List Line) (o : Option ℕ) → None ≡ first_other 0 (calls_of trace) lines → None ≡ least (is_wrong_place lines) (length lines) → o ≡ least (is_wrong_answer trace lines) (length lines) → named_or WrongAnswer o Right ≡ verdict_of trace lines
+by_answers trace lines o e f g = ap (λ w. named_or WrongAnswer w Right) g ∙ sym (rw (least_call trace lines None e, sym f) refl)
 
 -- ---- what is left of a result
 
@@ -52,6 +50,11 @@ least_below test (suc n) i e = by_least (least test n) (λ f. least_below test n
     by_least : (o : Option ℕ) → (o ≡ Some i → i < n) → or_this test n o ≡ Some i → i < suc n
     by_least None f g = by_test (test n) g
     by_least (Some j) f g = omega (arith, f g)
+
+-- the number of a line, from 1, fits
+pub few_answers : (trace : Trace) (lines : List Line) (o : Option ℕ) → length lines ≤ most_calls → o ≡ least (is_wrong_answer trace lines) (length lines) → IfSome o (λ i. i + 1 < 2 ^ 64)
+few_answers trace lines None few e = tt
+few_answers trace lines (Some i) few e = omega (arith, few, least_below (is_wrong_answer trace lines) (length lines) i (sym e))
 
 -- the lists that lines name are there
 pub in_lists_bound : (trace : Trace) (lines : List Line) → first_other 0 (calls_of trace) lines ≡ None → (j : ℕ) (line : Line) → slice_get lines j ≡ Some line → line.thread < length trace.threads

@@ -1,5 +1,6 @@
-ghost use Rattle.std.specs.Prelude.{◌≡◌, IfOk};
-ghost use Rattle.tsc_check.specs.Verdict.{verdict_of};
+ghost use Rattle.std.specs.Prelude.{◌≡◌, ◌<◌, ◌+◌, ◌^◌, IfOk, IfSome};
+ghost use Rattle.tsc_check.specs.Verdict.{named_or, verdict_of};
+ghost use Rattle.tsc_check.specs.declared.verdict.Verdict.TheVariants.{Right, WrongAnswer};
 
 use crate::calls::other_line;
 use crate::order::Order;
@@ -8,6 +9,17 @@ use crate::verdict::Verdict;
 use std::alloc::Global;
 use tsc_time::NoMemory;
 use tsc_trace::{Log, Trace};
+
+/// The verdict on answers, by the least line whose answer is wrong.
+fn verdict_on_answers(wrong: Option<usize>) -> Verdict
+    requires { IfSome wrong (λ i. i + 1 < 2 ^ 64) }
+    ensures { result ≡ named_or WrongAnswer wrong Right }
+{
+    match wrong {
+        Some(i) => Verdict::WrongAnswer(i as u64 + 1),
+        None => Verdict::Right,
+    }
+}
 
 /// The verdict on a log beside the trace that it is of.
 ///
@@ -24,8 +36,5 @@ pub fn check(alloc: Global, trace: &Trace, log: &Log) -> Result<Verdict, NoMemor
     if let Some(i) = order.put_all(lines)? {
         return Ok(Verdict::WrongPlace(i as u64 + 1));
     }
-    if let Some(i) = least_untrue(alloc, trace, lines, &order)? {
-        return Ok(Verdict::WrongAnswer(i as u64 + 1));
-    }
-    Ok(Verdict::Right)
+    Ok(verdict_on_answers(least_untrue(alloc, trace, lines, &order)?))
 }

@@ -1,7 +1,7 @@
 //! The lines of a log in the order of the Adds.
-ghost use Rattle.std.specs.Prelude.{◌≡◌, ◌<◌, ◌≤◌, ◌+◌, suc, length, false, IfOk, OnOk, IfNone};
+ghost use Rattle.std.specs.Prelude.{◌≡◌, ◌<◌, ◌≤◌, ◌+◌, ◌^◌, ℕ, nat_lt, suc, length, get_or, is_some, false, None, IfOk, OnOk, IfNone};
 ghost use Rattle.tsc_json.specs.Lists.{most_calls};
-ghost use Rattle.tsc_check.specs.Verdict.{adds_in, front_of, is_add, is_wrong_place, least};
+ghost use Rattle.tsc_check.specs.Verdict.{adds_in, front_of, is_add, is_wrong_place, least, reach};
 ghost use Rattle.tsc_check.specs.CheckParts.{AreOfLists, HasPlaced};
 
 use std::alloc::Global;
@@ -41,6 +41,17 @@ pub fn is_add(said: Said) -> bool
     }
 }
 
+/// How many Adds a caller knows of who has had an answer: those before it, and its own.
+fn reach(said: Said) -> u64
+    requires { front_of said + 1 < 2 ^ 64 }
+    ensures { result ≡ reach said }
+{
+    match said {
+        Said::Add { place, .. } => place + 1,
+        Said::Get { front, .. } | Said::Low { front, .. } => front,
+    }
+}
+
 /// How many lines are those of Adds.
 pub fn count_adds(lines: &[Line]) -> usize
     ensures value { result ≡ adds_in lines.now }
@@ -71,6 +82,22 @@ impl Order {
         })
     }
 
+    /// Whether a list has come to know of more Adds than so many.
+    fn knows_more(&self, list: usize, front: u64) -> bool
+        requires { list < length self.now.reached.items }
+        ensures { (d : ℕ) → result ≡ nat_lt front (get_or self.now.reached.items list d) }
+    {
+        front < self.reached[list]
+    }
+
+    /// Whether an Add with this place is there.
+    fn has_add(&self, place: usize) -> bool
+        requires { place < length self.now.adds.items }
+        ensures { result ≡ is_some (get_or self.now.adds.items place None) }
+    {
+        self.adds[place].is_some()
+    }
+
     /// Whether the place or the front of the line with this number is wrong after the lines that are there.
     fn misplaces(&self, lines: &[Line], i: usize) -> bool
         requires index { i < length lines.now }
@@ -79,12 +106,12 @@ impl Order {
     {
         let line = lines[i];
         let front = front_of(line.said);
-        if front < self.reached[line.thread as usize] {
+        if self.knows_more(line.thread as usize, front) {
             return true;
         }
         let last = self.adds.len() - 1;
         if is_add(line.said) {
-            front >= last as u64 || self.adds[front as usize].is_some()
+            front >= last as u64 || self.has_add(front as usize)
         } else {
             front > last as u64
         }
@@ -98,16 +125,14 @@ impl Order {
         ensures { OnOk result (HasPlaced self.new lines.now (suc i)) }
     {
         let line = lines[i];
-        let front = front_of(line.said);
-        let slot = front as usize;
+        let slot = front_of(line.said) as usize;
         let before = self.lookups[slot];
         self.earlier.push(before)?;
+        self.reached[line.thread as usize] = reach(line.said);
         if is_add(line.said) {
             self.adds[slot] = Some(i);
-            self.reached[line.thread as usize] = front + 1;
         } else {
             self.lookups[slot] = Some(i);
-            self.reached[line.thread as usize] = front;
         }
         Ok(())
     }

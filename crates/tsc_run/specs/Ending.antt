@@ -1,5 +1,6 @@
 -- What a run from a reader to a writer reads and writes, and why it may end early.
 use Rattle.std.specs.Prelude.{◌≡◌, List, ℕ, codes}
+use Rattle.tsc_shared.specs.declared.answers.OpenFault.TheVariants as open_fault
 use Rattle.tsc_trace.specs.LogText.{log_text}
 use Rattle.tsc_trace.specs.Replay.{HasReadTrace, RefusedAs, NotRead, TooMuchRead, OutOfMemory, fault_text as stream_text}
 use Rattle.tsc_stream.specs.Stream.{KnownReader, KnownWriter, HasWritten, CouldNotWrite}
@@ -22,7 +23,7 @@ pub record Ran (reader reader' : KnownReader) (writer writer' : KnownWriter) : T
   pub wrote : HasWritten writer writer' (log_text lines)
 
 -- All of a trace was read, and a write failed, where a part of the text of such a log was written.
-pub record NotWritten (reader reader' : KnownReader) (writer writer' : KnownWriter) : Type 0 where
+pub record LogNotWritten (reader reader' : KnownReader) (writer writer' : KnownWriter) : Type 0 where
   pub trace : Trace
   pub read : HasReadTrace reader reader' trace
   pub lines : List Line
@@ -35,14 +36,22 @@ pub record NotRun (reader reader' : KnownReader) (writer writer' : KnownWriter) 
   pub read : HasReadTrace reader reader' trace
   pub silent : writer' ≡ writer
 
+-- What a run can end with in place of a log: a growth was refused, there are as many Adds as there may be, or a thread was not started. It has seats enough for all lists, and each lookup is answered.
+abbrev pub CanEndRun : RunFault → Type 0
+CanEndRun (run_fault.Open why) = why ≡ open_fault.NoMemory
+CanEndRun run_fault.NoMemory = Unit {0}
+CanEndRun run_fault.Gone = ⊥
+CanEndRun run_fault.HistoryFull = Unit {0}
+CanEndRun run_fault.NoThread = Unit {0}
+
 -- how a run that stopped so ended
 abbrev pub StopsRun : RunStop → KnownReader → KnownReader → KnownWriter → KnownWriter → Type 0
 StopsRun (Stream Read) reader reader' writer writer' = NotRead reader reader' writer writer'
 StopsRun (Stream TooLong) reader reader' writer writer' = TooMuchRead reader reader' writer writer'
 StopsRun (Stream (Refused fault)) reader reader' writer writer' = RefusedAs fault reader reader' writer writer'
-StopsRun (Stream Write) reader reader' writer writer' = NotWritten reader reader' writer writer'
+StopsRun (Stream Write) reader reader' writer writer' = LogNotWritten reader reader' writer writer'
 StopsRun (Stream NoMemory) reader reader' writer writer' = OutOfMemory reader reader' writer writer'
-StopsRun NoView reader reader' writer writer' = NotRun reader reader' writer writer'
+StopsRun NoView reader reader' writer writer' = ⊥
 StopsRun HistoryFull reader reader' writer writer' = NotRun reader reader' writer writer'
 StopsRun NoThread reader reader' writer writer' = NotRun reader reader' writer writer'
 

@@ -1,5 +1,5 @@
 -- What the thread of a list is answered, call after call.
-use Rattle.std.specs.Prelude.{◌≡◌, ℕ, suc, List, [], ◌∷◌, ◌++◌}
+use Rattle.std.specs.Prelude.{◌≡◌, ◌<◌, ℕ, suc, List, [], ◌∷◌, ◌++◌, length}
 use Rattle.tsc_shared.specs.Seats.{SharedView, SeatView, FrontView, new_seat}
 use Rattle.tsc_shared.specs.Answers.{GoesOn, Accepts, Looks, ReadsFloor}
 use Rattle.tsc_json.specs.declared.trace.Call.{Call}
@@ -7,6 +7,8 @@ use Rattle.tsc_json.specs.declared.trace.Call.TheVariants.{Add, Get, Low}
 use Rattle.tsc_trace.specs.declared.log.Line.{Line}
 use Rattle.tsc_trace.specs.declared.log.Said.{Said}
 use Rattle.tsc_trace.specs.declared.log.Said.TheVariants as said
+use Rattle.tsc_run.specs.declared.fault.RunFault.{RunFault}
+use Rattle.tsc_run.specs.declared.fault.RunFault.TheVariants as fault
 
 -- What is said of a call is what the shared cache answered, where the seat was as the first before and is as the second then.
 abbrev pub Says : SeatView → SeatView → Call → Said → Type 0
@@ -14,6 +16,12 @@ Says old new (Add span value now) (said.Add place added) = (front : FrontView) �
 Says old new (Get span) (said.Get front value) = Looks old new span (record { value = value; front = front })
 Says old new Low (said.Low front time) = ReadsFloor old new (record { time = time; front = front })
 Says old new call said = ⊥
+
+-- Why a call was not answered, where the seat was as the first before and is as the second then: it has seen as many Adds as there may be; or it is said that memory was refused, and it has seen fewer.
+abbrev pub IsRefusedAs : RunFault → SeatView → SeatView → Type 0
+IsRefusedAs fault.HistoryFull old new = length new.seen ≡ old.cache.limit
+IsRefusedAs fault.NoMemory old new = length new.seen < old.cache.limit
+IsRefusedAs other old new = ⊥
 
 -- A list's run: its calls were made at one seat, one after another, and each line says what was answered. The lines have the seat's number, and are numbered from a place in the list on.
 abbrev pub Runs : SeatView → ℕ → List Call → List Line → SeatView → Type 0

@@ -1,8 +1,9 @@
 //! One list of a trace, at a seat of the shared cache.
-ghost use Rattle.std.specs.Prelude.{◌≡◌, ◌≤◌, IfOk, length};
+ghost use Rattle.std.specs.Prelude.{◌≡◌, ◌≤◌, IfOk, IfErr, length};
 ghost use Rattle.tsc_json.specs.Lists.{most_calls};
 ghost use Rattle.tsc_shared.specs.Answers.{GoesOn};
-ghost use Rattle.tsc_run.specs.Runs.{Says, Runs};
+ghost use Rattle.tsc_run.specs.Runs.{Says, IsRefusedAs, Runs};
+ghost use Rattle.tsc_run.specs.Ending.{CanEndRun};
 
 use crate::fault::RunFault;
 use std::alloc::Global;
@@ -27,6 +28,8 @@ fn answer<R: Wait>(
     requires cache { seat.old.cache ≡ cache.now }
     ensures seat { GoesOn seat.old seat.new }
     ensures said { IfOk result (λ said. Says seat.old seat.new call.now said) }
+    ensures refused { IfErr result (λ fault. IsRefusedAs fault seat.old seat.new) }
+    ensures why { IfErr result CanEndRun }
 {
     match call {
         Call::Add { span, value, now } => match cache.add(rt, seat, span, *value, *now) {
@@ -66,7 +69,8 @@ pub(crate) fn run_list<R: Wait, G: Gate>(
 ) -> Result<ListRun, RunFault>
     requires cache { seat.cache ≡ cache.now }
     requires calls { length calls.now ≤ most_calls }
-    ensures { IfOk result (λ ran. Runs seat 0 calls.now ran.lines.items ran.seat) }
+    ensures ran { IfOk result (λ ran. Runs seat 0 calls.now ran.lines.items ran.seat) }
+    ensures why { IfErr result CanEndRun }
 {
     let thread = seat.number();
     let mut lines = Vec::with_capacity(alloc, calls.len())?;

@@ -1,10 +1,11 @@
-ghost use Rattle.std.specs.Prelude.{◌≡◌, ◌≤◌, IfOk, length, map};
+ghost use Rattle.std.specs.Prelude.{◌≡◌, ◌≤◌, IfOk, IfErr, length, map};
 ghost use Rattle.std.specs.List.{sum_by};
 ghost use Rattle.tsc_json.specs.Lists.{most_calls};
 ghost use Rattle.tsc_cache.specs.History.{History};
 ghost use Rattle.tsc_check.specs.Verdict.{verdict_of};
 ghost use Rattle.tsc_check.specs.declared.verdict.Verdict.TheVariants.{Right};
 ghost use Rattle.tsc_check.specs.TrueLog.{adds_of_list, adds_of_lists, IsRunOf};
+ghost use Rattle.tsc_run.specs.Ending.{CanEndRun};
 
 use crate::fault::RunFault;
 use crate::threads::run_lists;
@@ -54,6 +55,7 @@ pub fn run_trace<R: Threads + Wait + Sync, G: Gate + Sync>(
 ) -> Result<Log, RunFault>
     ensures right { IfOk result (λ log. verdict_of trace.now log.lines ≡ Right) }
     ensures run { IfOk result (λ log. (h : History) × IsRunOf trace.now log.lines h) }
+    ensures why { IfErr result CanEndRun }
 {
     let lists = trace.threads.slice();
     let adds = count_all_adds(lists);

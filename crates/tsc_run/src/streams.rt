@@ -19,7 +19,7 @@ use tsc_trace::{OutFault, ReplayFault, TraceFault, read_trace, write_log};
 pub enum RunStop {
     /// Reading, the trace, writing, or want of memory, as a replay ends.
     Stream(ReplayFault),
-    /// A lookup found no version of the cache.
+    /// A lookup found no version of the cache. It never comes yet.
     NoView,
     /// An Add found as many Adds in the history as the trace has.
     HistoryFull,

@@ -1,12 +1,12 @@
 //! Runs whose logs are known, and a run that is held up until all its lists run.
-use crate::run_trace;
+use crate::{RunFault, run_trace};
 use std::alloc::Global;
 use std::sync::Wait;
 use std::sync::atomic::{AtomicBool, AtomicU64, Ordering};
 use std::test::Fail;
 use std::thread;
 use std::thread::Threads;
-use tsc_shared::{Gate, NoGate};
+use tsc_shared::{Gate, NoGate, OpenFault};
 use tsc_trace::{Log, Said, log_text, read_trace};
 
 /// The head of each trace, up to its lists.
@@ -151,6 +151,56 @@ fn lists_run_at_the_same_time(rt: HostRuntime) -> Result<(), Fail> {
     assert_eq!(rt; gate.done.load(Ordering::SeqCst), 2);
     for line in log.lines.slice() {
         assert!(rt; matches!(line.said, Said::Get { front: 0, .. }));
+    }
+    Ok(())
+}
+
+/// Holds the first call of each list up until as many calls are done as there are lists before it.
+#[derive(Drop)]
+struct InTurn {
+    done: AtomicU64,
+}
+
+impl Gate for InTurn {
+    fn start(&self, thread: u32, _call: u32) {
+        for _ in 0..TURNS {
+            if self.done.load(Ordering::SeqCst) >= thread as u64 {
+                return;
+            }
+            thread::yield_now();
+        }
+    }
+
+    fn done(&self, _thread: u32, _call: u32) {
+        self.done.fetch_add(1, Ordering::SeqCst);
+    }
+
+    fn publish(&self, _seat: u32) {}
+}
+
+#[test]
+fn calls_are_made_between_what_the_gate_is_told(rt: HostRuntime) -> Result<(), Fail> {
+    let gate = InTurn {
+        done: AtomicU64::new(0),
+    };
+    let log = run(&rt, rt.alloc(), RACE, &gate)?;
+    assert_eq!(rt; log_text(rt.alloc(), &log)?.as_slice(), RACES[0].as_bytes());
+    Ok(())
+}
+
+static TEXTS: [(RunFault, &str); 6] = [
+    (RunFault::Open(OpenFault::Seats), "seats are 1 to 64"),
+    (RunFault::Open(OpenFault::NoMemory), "out of memory"),
+    (RunFault::NoMemory, "out of memory"),
+    (RunFault::Gone, "no view"),
+    (RunFault::HistoryFull, "history full"),
+    (RunFault::NoThread, "no thread"),
+];
+
+#[test]
+fn texts_of_faults(rt: HostRuntime) -> Result<(), Fail> {
+    for (fault, text) in &TEXTS {
+        assert_eq!(rt; format!(in rt.alloc(); "{fault}")?.as_str(), *text);
     }
     Ok(())
 }

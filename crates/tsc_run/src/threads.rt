@@ -1,9 +1,10 @@
 //! A thread for each list.
-ghost use Rattle.std.specs.Prelude.{◌≡◌, ◌≤◌, ◌++◌, ◌∷◌, [], IfOk, IfSome, IfNone, length, map};
+ghost use Rattle.std.specs.Prelude.{◌≡◌, ◌≤◌, ◌++◌, ◌∷◌, [], IfOk, IfErr, IfSome, IfNone, length, map};
 ghost use Rattle.std.specs.List.{sum_by};
 ghost use Rattle.tsc_json.specs.Lists.{most_calls};
 ghost use Rattle.tsc_shared.specs.Seats.{new_seats};
 ghost use Rattle.tsc_run.specs.Runs.{Runs, RunsAll};
+ghost use Rattle.tsc_run.specs.Ending.{CanEndRun};
 
 use crate::fault::RunFault;
 use crate::list::{ListRun, run_list};
@@ -22,7 +23,8 @@ pub(crate) struct AllRuns {
     pub lines: Vec<Line>,
 }
 
-/// A thread's promise: what it answers is a run of this list, from this seat on.
+/// A thread's promise: what it answers is a run of this list, from this seat on, or a fault that a run can
+/// end with.
 #[derive(Drop)]
 struct ListOf<'a> {
     seat: Snapshot<Seat>,
@@ -30,10 +32,11 @@ struct ListOf<'a> {
 }
 
 impl<'a> Promise<Result<ListRun, RunFault>> for ListOf<'a> {
-    ghost use Rattle.std.specs.Prelude.{IfOk};
+    ghost use Rattle.std.specs.Prelude.{IfOk, IfErr};
     ghost use Rattle.tsc_run.specs.Runs.{Runs};
+    ghost use Rattle.tsc_run.specs.Ending.{CanEndRun};
 
-    ghost kept_by = { λ p r. IfOk r (λ ran. Runs p.seat.value 0 p.calls.now ran.lines.items ran.seat) };
+    ghost kept_by = { λ p r. IfOk r (λ ran. Runs p.seat.value 0 p.calls.now ran.lines.items ran.seat) × IfErr r CanEndRun };
 }
 
 /// The last of some lists, and those before it.
@@ -57,7 +60,8 @@ fn run_in<'s, E, R: Threads + Wait + Sync, G: Gate + Sync>(
 ) -> Result<AllRuns, RunFault>
     requires seats { seats.items ≡ new_seats cache.now 0 (length lists.now) }
     requires calls { sum_by length (map (λ calls. calls.items) lists.now) ≤ most_calls }
-    ensures { IfOk result (λ runs. RunsAll cache.now 0 (map (λ calls. calls.items) lists.now) runs.lines.items runs.seats.items) }
+    ensures runs { IfOk result (λ runs. RunsAll cache.now 0 (map (λ calls. calls.items) lists.now) runs.lines.items runs.seats.items) }
+    ensures why { IfErr result CanEndRun }
 {
     let Some(seat) = seats.pop() else {
         return Ok(AllRuns {
@@ -76,7 +80,7 @@ fn run_in<'s, E, R: Threads + Wait + Sync, G: Gate + Sync>(
         promise,
         move || -> Result<ListRun, RunFault>
             requires { (seat.cache ≡ cache.now) × (length calls.now ≤ most_calls) }
-            ensures { IfOk result (λ ran. Runs seat 0 calls.entry.now ran.lines.items ran.seat) }
+            ensures { IfOk result (λ ran. Runs seat 0 calls.entry.now ran.lines.items ran.seat) × IfErr result CanEndRun }
         { run_list(rt, alloc, cache, seat, calls, gate) },
     ) else {
         return Err(RunFault::NoThread);
@@ -107,14 +111,15 @@ pub(crate) fn run_lists<R: Threads + Wait + Sync, G: Gate + Sync>(
 ) -> Result<AllRuns, RunFault>
     requires seats { seats.items ≡ new_seats cache.now 0 (length lists.now) }
     requires calls { sum_by length (map (λ calls. calls.items) lists.now) ≤ most_calls }
-    ensures { IfOk result (λ runs. RunsAll cache.now 0 (map (λ calls. calls.items) lists.now) runs.lines.items runs.seats.items) }
+    ensures runs { IfOk result (λ runs. RunsAll cache.now 0 (map (λ calls. calls.items) lists.now) runs.lines.items runs.seats.items) }
+    ensures why { IfErr result CanEndRun }
 {
     thread::scope(
         thread::scope_env(),
         rt,
         |scope| -> Result<AllRuns, RunFault>
             requires { (seats.items ≡ new_seats cache.now 0 (length lists.now)) × (sum_by length (map (λ calls. calls.items) lists.now) ≤ most_calls) }
-            ensures { IfOk result (λ runs. RunsAll cache.entry.now 0 (map (λ calls. calls.items) lists.entry.now) runs.lines.items runs.seats.items) }
+            ensures { IfOk result (λ runs. RunsAll cache.entry.now 0 (map (λ calls. calls.items) lists.entry.now) runs.lines.items runs.seats.items) × IfErr result CanEndRun }
         { run_in(scope, rt, alloc, cache, seats, lists, gate) },
     )
 }

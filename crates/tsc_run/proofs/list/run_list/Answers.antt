@@ -13,5 +13,5 @@ loop-index-preserved g c =
           (omega arith) c.index-calls-index.is c.loop-index.invariant.thread refl goes c.in_ok-said.ensures.said c.in_ok-push.ensures.items c.loop-index.invariant.runs;
     }
 
-pub returns : goal.returns
-returns g c = all_made c.args.seat c.loop-index.seat c.args.calls.now c.loop-index.lines.items c.loop-index.index (omega arith) c.loop-index.invariant.runs
+pub returns-clause-ran : goal.returns-clause-ran
+returns-clause-ran g c = all_made c.args.seat c.loop-index.seat c.args.calls.now c.loop-index.lines.items c.loop-index.index (omega arith) c.loop-index.invariant.runs

@@ -25,13 +25,13 @@ run_in-runs-requires-clause-seats g t c κs within =
     (seat_taken c.args.cache.now c.args.seats.items c.pop.new.self.items c.in-Some.seat c.args.lists.now c.in-Some-split_last.others.now c.in-Some-split_last.calls.now c.requires.seats c.in-Some.ensures.items
     c.in-Some-split_last.ensures.some).0
 
-pub returns : goal.returns
-returns g t c =
+pub returns-clause-runs : goal.returns-clause-runs
+returns-clause-runs g t c =
     let others = c.in-Some-split_last.others.now in let calls = c.in-Some-split_last.calls.now in let parted = c.in-Some-split_last.ensures.some in
     let taken = seat_taken c.args.cache.now c.args.seats.items c.pop.new.self.items c.in-Some.seat c.args.lists.now others calls c.requires.seats c.in-Some.ensures.items parted in
     let promised = c.in-Ok.ensures.ok in let runs = c.in_ok-seats.field-0 in let run = c.in_ok-seat.field-0 in
     let added : c.append.new.self.items ≡ runs.lines.items ++ run.lines.items = let a = c.in_ok-append.ensures.items in let b = c.in_ok-seats.lines-is in let d = c.in_ok-seat.more-is in cc in
     let pushed : c.push.new.self.items ≡ runs.seats.items ++ run.seat ∷ [] = let a = c.in_ok-push.ensures.items in let b = c.in_ok-seats.seats-is in let d = c.in_ok-seat.seat-is in cc in
-    let ran = subst (λ calls. Runs c.in-Ok.child.promise.seat.value 0 calls run.lines.items run.seat) (ap (λ p. p.calls.now) promised) c.in_ok-seat.ensures in
+    let ran = subst (λ calls. Runs c.in-Ok.child.promise.seat.value 0 calls run.lines.items run.seat) (ap (λ p. p.calls.now) promised) c.in_ok-seat.ensures.0 in
     run_added c.args.cache.now c.args.lists.now others calls runs.lines.items run.lines.items c.append.new.self.items runs.seats.items c.push.new.self.items c.in-Ok.child.promise.seat.value run.seat
-    parted (ap (λ p. p.seat.value) promised ∙ c.of.ensures ∙ taken.1) c.in_ok-seats.ensures ran added pushed
+    parted (ap (λ p. p.seat.value) promised ∙ c.of.ensures ∙ taken.1) c.in_ok-seats.ensures.runs ran added pushed

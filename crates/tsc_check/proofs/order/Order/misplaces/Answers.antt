@@ -1,5 +1,5 @@
 -- The slots tell what the lines before tell.
-use Rattle.std.proofs.Common.{◌≡◌, ◌∙◌, sym, ap, refl, ◌-◌, ◌≤◌, ◌<◌, ℕ, length, get_or, Some, nat_le, nat_lt, true, false, arith}
+use Rattle.std.proofs.Common.{◌≡◌, ◌∙◌, sym, ap, refl, ◌-◌, ◌≤◌, ◌<◌, ℕ, length, get_or, is_some, Some, None, nat_le, nat_lt, true, false, arith}
 use Rattle.std.specs.Prelude.{slice_get}
 use Rattle.std.proofs.lemmas.Bool.Decides.{nat_tests}
 use Rattle.std.proofs.lemmas.Option.{slice_get_read}
@@ -13,13 +13,13 @@ past_test n x e = grind (arith, nat_tests)
 before_test : (n x : ℕ) → x < n → nat_le n x ≡ false
 before_test n x e = grind (arith, nat_tests)
 
-pub returns-then-front-index : goal.returns-then-front-index
-returns-then-front-index c =
+pub returns-then-knows_more : goal.returns-then-knows_more
+returns-then-knows_more c =
     let o = c.args.self.now in
     let lines = c.args.lines.now in
     let line = c.index-lines-i.result in
     let at : slice_get lines c.args.i ≡ Some line = slice_get_read lines (length lines) c.args.i line refl c.requires.index c.index-lines-i.is in
-    known_above o.adds.items o.lookups.items o.earlier.items o.reached.items lines c.args.i line c.requires.placed at c.index.result.now c.index.ensures (omega (arith, c.front_of-front.ensures, c.if-front-index.true))
+    known_above o.adds.items o.lookups.items o.earlier.items o.reached.items lines c.args.i line c.requires.placed at (ap (λ f. nat_lt f (get_or o.reached.items line.thread 0)) (sym c.front_of-front.ensures) ∙ sym (c.if-knows_more.ensures 0))
 
 pub returns-then-front-last : goal.returns-then-front-last
 returns-then-front-last c =
@@ -29,9 +29,9 @@ returns-then-front-last c =
     let at : slice_get lines c.args.i ≡ Some line = slice_get_read lines (length lines) c.args.i line refl c.requires.index c.index-lines-i.is in
     let last : c.len-last.result - 1 ≡ adds_in lines = omega (arith, c.len-last.ensures, c.requires.placed.add_slots, o.adds.ok.0) in
     let front : c.front_of-front.result ≡ front_of line.said = c.front_of-front.ensures in
-    let less : c.index.result.now ≤ front_of line.said = omega (arith, front, c.if-front-index.false) in
+    let less : nat_lt (front_of line.said) (get_or o.reached.items line.thread 0) ≡ false = ap (λ f. nat_lt f (get_or o.reached.items line.thread 0)) (sym front) ∙ sym (c.if-knows_more.ensures 0) in
     past_test (c.len-last.result - 1) c.front_of-front.result c.if-front-last.true
-    ∙ past_last o.adds.items o.lookups.items o.earlier.items o.reached.items lines c.args.i line c.requires.placed at c.index.result.now c.index.ensures less (sym c.if-is_add.ensures)
+    ∙ past_last o.adds.items o.lookups.items o.earlier.items o.reached.items lines c.args.i line c.requires.placed at less (sym c.if-is_add.ensures)
     (past_test (adds_in lines) (front_of line.said) (omega (arith, last, front, c.if-front-last.true)))
 
 pub returns-else-front-last : goal.returns-else-front-last
@@ -42,11 +42,10 @@ returns-else-front-last c =
     let at : slice_get lines c.args.i ≡ Some line = slice_get_read lines (length lines) c.args.i line refl c.requires.index c.index-lines-i.is in
     let last : c.len-last.result - 1 ≡ adds_in lines = omega (arith, c.len-last.ensures, c.requires.placed.add_slots, o.adds.ok.0) in
     let front : c.front_of-front.result ≡ front_of line.said = c.front_of-front.ensures in
-    let less : c.index.result.now ≤ front_of line.said = omega (arith, front, c.if-front-index.false) in
-    c.is_some.ensures
-    ∙ taken o.adds.items o.lookups.items o.earlier.items o.reached.items lines c.args.i line c.requires.placed at c.requires.index c.index.result.now c.index.ensures less (sym c.if-is_add.ensures)
+    let less : nat_lt (front_of line.said) (get_or o.reached.items line.thread 0) ≡ false = ap (λ f. nat_lt f (get_or o.reached.items line.thread 0)) (sym front) ∙ sym (c.if-knows_more.ensures 0) in
+    c.has_add.ensures ∙ ap (λ k. is_some (get_or o.adds.items k None)) front
+    ∙ taken o.adds.items o.lookups.items o.earlier.items o.reached.items lines c.args.i line c.requires.placed at c.requires.index less (sym c.if-is_add.ensures)
     (before_test (adds_in lines) (front_of line.said) (omega (arith, last, front, c.if-front-last.false)))
-    c.index-else-front-last.result.now (c.index-else-front-last.ensures ∙ ap (λ k. get_or o.adds.items k c.index-else-front-last.result.now) front)
 
 pub returns-else-is_add : goal.returns-else-is_add
 returns-else-is_add c =
@@ -56,6 +55,6 @@ returns-else-is_add c =
     let at : slice_get lines c.args.i ≡ Some line = slice_get_read lines (length lines) c.args.i line refl c.requires.index c.index-lines-i.is in
     let last : c.len-last.result - 1 ≡ adds_in lines = omega (arith, c.len-last.ensures, c.requires.placed.add_slots, o.adds.ok.0) in
     let front : c.front_of-front.result ≡ front_of line.said = c.front_of-front.ensures in
-    let less : c.index.result.now ≤ front_of line.said = omega (arith, front, c.if-front-index.false) in
+    let less : nat_lt (front_of line.said) (get_or o.reached.items line.thread 0) ≡ false = ap (λ f. nat_lt f (get_or o.reached.items line.thread 0)) (sym front) ∙ sym (c.if-knows_more.ensures 0) in
     ap (λ n. nat_lt n c.front_of-front.result) last ∙ ap (nat_lt (adds_in lines)) front
-    ∙ front_wrong o.adds.items o.lookups.items o.earlier.items o.reached.items lines c.args.i line c.requires.placed at c.index.result.now c.index.ensures less (sym c.if-is_add.ensures)
+    ∙ front_wrong o.adds.items o.lookups.items o.earlier.items o.reached.items lines c.args.i line c.requires.placed at less (sym c.if-is_add.ensures)
