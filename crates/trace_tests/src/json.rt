@@ -27,7 +27,16 @@ const SPAN: Told = Err(TraceFault::Span(1));
 const HEAD: &str = r#""page_nodes":4,"min_pages":2,"retention":10,"low_water":[5,0]"#;
 
 /// `page_nodes`, `min_pages`, `retention`, `low_water` and `threads`, and what is told of them.
-static HEADS: [(&str, &str, &str, &str, &str, Told); 22] = [
+type Head = (
+    &'static str,
+    &'static str,
+    &'static str,
+    &'static str,
+    &'static str,
+    Told,
+);
+
+static HEADS: [Head; 22] = [
     ("4", "2", "10", "[5]", "[[]]", HEAD_SHAPE),
     ("4", "2", "10", "[5,0,0]", "[[]]", HEAD_SHAPE),
     ("4", "2", "10", "[5,null]", "[[]]", HEAD_SHAPE),
@@ -233,7 +242,9 @@ static THREADS: [(&str, Told); 10] = [
 ];
 
 /// The text of `threads` as a front, a piece with how often it comes, and a tail; and what is told of it.
-static LONG_TRACES: [(&str, &str, usize, &str, Told); 11] = [
+type Long = (&'static str, &'static str, usize, &'static str, Told);
+
+static LONG_TRACES: [Long; 11] = [
     ("[", "[],", 63, "[]]", Ok(0)),
     ("[", "[],", 64, "[]]", CONFIG),
     ("[", "[],", 64, r#"[{"op":"x"}]]"#, CONFIG),
@@ -310,39 +321,92 @@ fn told(alloc: Global, text: &str) -> Told {
     Ok(calls)
 }
 
-#[test]
-fn tells_what_decides(rt: HostRuntime) -> Result<(), Fail> {
-    for (page_nodes, min_pages, retention, low_water, threads, want) in HEADS.as_slice() {
-        let text = format!(in rt.alloc();
+/// The first of the heads, from 0, of which something else is told.
+fn wrong_head(alloc: Global, rows: &[Head]) -> Result<Option<usize>, Fail> {
+    for (i, (page_nodes, min_pages, retention, low_water, threads, want)) in rows
+        .iter()
+        .enumerate()
+    {
+        let text = format!(in alloc;
             "{{\"page_nodes\":{page_nodes},\"min_pages\":{min_pages},\"retention\":{retention},\"low_water\":{low_water},\"threads\":{threads}}}"
         )?;
-        assert_eq!(rt; told(rt.alloc(), &text), *want, "at {text}");
-    }
-    for (head, want) in MEMBERS.as_slice() {
-        let text = format!(in rt.alloc(); "{{{head},\"threads\":[[]]}}")?;
-        assert_eq!(rt; told(rt.alloc(), &text), *want, "at {text}");
-    }
-    for (call, want) in CALLS.as_slice() {
-        let text = format!(in rt.alloc(); "{{{HEAD},\"threads\":[[{call}]]}}")?;
-        assert_eq!(rt; told(rt.alloc(), &text), *want, "at {text}");
-    }
-    for (threads, want) in THREADS.as_slice() {
-        let text = format!(in rt.alloc(); "{{{HEAD},\"threads\":{threads}}}")?;
-        assert_eq!(rt; told(rt.alloc(), &text), *want, "at {text}");
-    }
-    for (front, piece, times, tail, want) in LONG_TRACES.as_slice() {
-        let mut text = format!(in rt.alloc(); "{{{HEAD},\"threads\":{front}")?;
-        for _ in 0..*times {
-            text.push_str(piece)?;
+        if told(alloc, &text) != *want {
+            return Ok(Some(i));
         }
-        text.push_str(tail)?;
-        text.push_str("}")?;
-        assert_eq!(rt; told(rt.alloc(), &text), *want, "at {times} times {piece}");
     }
-    for bytes in NO_JSON.as_slice() {
-        let fault = read_trace(rt.alloc(), bytes).err();
-        assert_eq!(rt; fault, Some(TraceFault::NotJson));
+    Ok(None)
+}
+
+/// The first of the texts, from 0, of which something else is told between these two.
+fn wrong_text(
+    alloc: Global,
+    before: &str,
+    rows: &[(&str, Told)],
+    behind: &str,
+) -> Result<Option<usize>, Fail> {
+    for (i, (row, want)) in rows.iter().enumerate() {
+        let text = format!(in alloc; "{before}{row}{behind}")?;
+        if told(alloc, &text) != *want {
+            return Ok(Some(i));
+        }
     }
+    Ok(None)
+}
+
+/// A trace with `threads` of a front, a piece as often as this, and a tail.
+fn long_trace(
+    alloc: Global,
+    front: &str,
+    piece: &str,
+    times: usize,
+    tail: &str,
+) -> Result<String, Fail> {
+    let mut text = format!(in alloc; "{{{HEAD},\"threads\":{front}")?;
+    for _ in 0..times {
+        text.push_str(piece)?;
+    }
+    text.push_str(tail)?;
+    text.push_str("}")?;
+    Ok(text)
+}
+
+/// The first of the long traces, from 0, of which something else is told.
+fn wrong_long_trace(alloc: Global, rows: &[Long]) -> Result<Option<usize>, Fail> {
+    for (i, (front, piece, times, tail, want)) in rows.iter().enumerate() {
+        let text = long_trace(alloc, front, piece, *times, tail)?;
+        if told(alloc, &text) != *want {
+            return Ok(Some(i));
+        }
+    }
+    Ok(None)
+}
+
+/// The first of the texts, from 0, that is not told as no JSON.
+fn first_json(alloc: Global, texts: &[&[u8]]) -> Option<usize> {
+    for (i, text) in texts.iter().enumerate() {
+        if read_trace(alloc, text).err() != Some(TraceFault::NotJson) {
+            return Some(i);
+        }
+    }
+    None
+}
+
+#[test]
+fn tells_what_decides_in_the_head(rt: HostRuntime) -> Result<(), Fail> {
+    assert_eq!(rt; wrong_head(rt.alloc(), &HEADS)?, None);
+    let behind = ",\"threads\":[[]]}";
+    assert_eq!(rt; wrong_text(rt.alloc(), "{", &MEMBERS, behind)?, None);
+    assert_eq!(rt; first_json(rt.alloc(), &NO_JSON), None);
+    Ok(())
+}
+
+#[test]
+fn tells_what_decides_in_calls(rt: HostRuntime) -> Result<(), Fail> {
+    let before = format!(in rt.alloc(); "{{{HEAD},\"threads\":")?;
+    assert_eq!(rt; wrong_text(rt.alloc(), &before, &THREADS, "}")?, None);
+    let before = format!(in rt.alloc(); "{before}[[")?;
+    assert_eq!(rt; wrong_text(rt.alloc(), &before, &CALLS, "]]}")?, None);
+    assert_eq!(rt; wrong_long_trace(rt.alloc(), &LONG_TRACES)?, None);
     Ok(())
 }
 
@@ -385,25 +449,36 @@ static SPANS: [(&str, [bool; 4]); 14] = [
     (r#"{"start":"","onward":"["}"#, [true, true, true, true]),
 ];
 
-/// Which of the keys `a`, `b`, `c` and `d` the span of a trace's only call covers.
-fn covered(alloc: Global, span: &str) -> Result<[bool; 4], Fail> {
+static KEYS: [&[u8]; 4] = [b"a", b"b", b"c", b"d"];
+
+/// Whether the span of a trace's only call covers those of the keys that it has to.
+fn covers(alloc: Global, span: &str, want: &[bool]) -> Result<bool, Fail> {
     let text = format!(in alloc; "{{{HEAD},\"threads\":[[{{\"op\":\"get\",\"span\":{span}}}]]}}")?;
     let trace = read_trace(alloc, text.as_bytes())?;
     let calls = trace.threads.list(0).ok_or("no list")?;
-    let mut covered = [false; 4];
-    for (i, key) in [b"a", b"b", b"c", b"d"].into_iter().enumerate() {
-        if let Some(Call::Get { span }) = calls.first() {
-            covered[i] = span.covers(key);
+    let Some(Call::Get { span }) = calls.first() else {
+        return Err(Fail::from("no lookup"));
+    };
+    let mut alike = want.len() == KEYS.len();
+    for (key, want) in KEYS.iter().zip(want) {
+        alike &= span.covers(key) == *want;
+    }
+    Ok(alike)
+}
+
+/// The first of the spans, from 0, that covers other keys.
+fn wrong_span(alloc: Global, rows: &[(&str, [bool; 4])]) -> Result<Option<usize>, Fail> {
+    for (i, (span, want)) in rows.iter().enumerate() {
+        if !covers(alloc, span, want)? {
+            return Ok(Some(i));
         }
     }
-    Ok(covered)
+    Ok(None)
 }
 
 #[test]
 fn reads_spans(rt: HostRuntime) -> Result<(), Fail> {
-    for (span, want) in SPANS.as_slice() {
-        assert_eq!(rt; covered(rt.alloc(), span)?, *want, "at {span}");
-    }
+    assert_eq!(rt; wrong_span(rt.alloc(), &SPANS)?, None);
     Ok(())
 }
 
@@ -432,26 +507,32 @@ static OWNERS: [(&str, Option<u128>); 7] = [
     ),
 ];
 
-/// The wall times and the owner of the Add that is a trace's only call: of its value, and of its moment.
-fn added(alloc: Global, owner: &str) -> Result<(u64, u64, Option<u128>), Fail> {
+/// Whether the Add that is a trace's only call has its times, and this owner.
+fn is_added(alloc: Global, owner: &str, want: Option<u128>) -> Result<bool, Fail> {
     let text = format!(in alloc;
         "{{{HEAD},\"threads\":[[{{\"op\":\"add\",\"span\":{{\"start\":\"61\"}},\"time\":[20,1],\"now\":[30,2]{owner}}}]]}}"
     )?;
     let trace = read_trace(alloc, text.as_bytes())?;
     let calls = trace.threads.list(0).ok_or("no list")?;
-    match calls.first() {
-        Some(Call::Add { value, now, .. }) => {
-            let owner = value.owner().map(|owner| owner.as_u128());
-            Ok((value.time().wall(), now.wall(), owner))
+    let Some(Call::Add { value, now, .. }) = calls.first() else {
+        return Err(Fail::from("no Add"));
+    };
+    let owner = value.owner().map(|owner| owner.as_u128());
+    Ok(value.time().wall() == 20 && now.wall() == 30 && owner == want)
+}
+
+/// The first of the owners, from 0, that is read otherwise.
+fn wrong_owner(alloc: Global, rows: &[(&str, Option<u128>)]) -> Result<Option<usize>, Fail> {
+    for (i, (owner, want)) in rows.iter().enumerate() {
+        if !is_added(alloc, owner, *want)? {
+            return Ok(Some(i));
         }
-        _ => Err(Fail::from("no Add")),
     }
+    Ok(None)
 }
 
 #[test]
 fn reads_owners(rt: HostRuntime) -> Result<(), Fail> {
-    for (owner, want) in OWNERS.as_slice() {
-        assert_eq!(rt; added(rt.alloc(), owner)?, (20, 30, *want), "at {owner}");
-    }
+    assert_eq!(rt; wrong_owner(rt.alloc(), &OWNERS)?, None);
     Ok(())
 }

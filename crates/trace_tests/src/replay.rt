@@ -116,29 +116,51 @@ fn holds(writer: Metered<Faulty<Vec<u8>>>, text: &str) -> bool {
     writer.into_inner().inner.as_slice() == text.as_bytes()
 }
 
+/// Whether a log is written as this text.
+fn is_written(alloc: Global, played: &Log, log: &str) -> Result<bool, Fail> {
+    let mut writer = slow_writer(alloc);
+    write_log(alloc, played, &mut writer)?;
+    Ok(holds(writer, log))
+}
+
+/// Whether this is the text of a log, from which it is read again.
+fn is_read_again(alloc: Global, played: &Log, log: &str) -> Result<bool, Fail> {
+    let made = log_text(alloc, played)?;
+    let back = read_log(alloc, made.as_slice())?;
+    Ok(made.as_slice() == log.as_bytes() && back.lines.slice() == played.lines.slice())
+}
+
+/// Whether a log is what its own text reads as.
+fn is_its_own_reading(alloc: Global, played: &Log) -> Result<bool, Fail> {
+    let again = reads_again(alloc, played)?;
+    Ok(again.lines.slice() == played.lines.slice())
+}
+
+/// Whether the replay of a trace writes this log.
+fn is_replayed(alloc: Global, trace: &Trace, log: &str) -> Result<bool, Fail> {
+    let mut writer = slow_writer(alloc);
+    replay(alloc, trace, &mut writer)?;
+    Ok(holds(writer, log))
+}
+
+/// Whether the replay of a trace's text, of which each read gives a byte, writes this log.
+fn is_streamed(alloc: Global, text: &str, log: &str) -> Result<bool, Fail> {
+    let slow = Faulty::new(text.as_bytes(), 1, Mishap::InterruptedNowAndThen);
+    let mut writer = slow_writer(alloc);
+    replay_stream(alloc, &mut Metered::new(slow), &mut writer)?;
+    Ok(holds(writer, log))
+}
+
 /// Whether each call gives this log of a trace.
 fn gives(alloc: Global, text: &str, log: &str) -> Result<bool, Fail> {
     let trace = read_trace(alloc, text.as_bytes())?;
     let played = play(alloc, &trace)?;
-    let (mut first, mut second, mut third) = (
-        slow_writer(alloc),
-        slow_writer(alloc),
-        slow_writer(alloc),
-    );
-    write_log(alloc, &played, &mut first)?;
-    replay(alloc, &trace, &mut second)?;
-    let slow = Faulty::new(text.as_bytes(), 1, Mishap::InterruptedNowAndThen);
-    replay_stream(alloc, &mut Metered::new(slow), &mut third)?;
-    let made = log_text(alloc, &played)?;
-    let back = read_log(alloc, made.as_slice())?;
-    let again = reads_again(alloc, &played)?;
     Ok(
-        made.as_slice() == log.as_bytes()
-            && back.lines.slice() == played.lines.slice()
-            && again.lines.slice() == played.lines.slice()
-            && holds(first, log)
-            && holds(second, log)
-            && holds(third, log),
+        is_written(alloc, &played, log)?
+            && is_read_again(alloc, &played, log)?
+            && is_its_own_reading(alloc, &played)?
+            && is_replayed(alloc, &trace, log)?
+            && is_streamed(alloc, text, log)?,
     )
 }
 
@@ -166,24 +188,51 @@ fn ends(
     Ok((ended.err(), writer.into_inner().inner.len()))
 }
 
+/// How a reader and a writer go wrong, how the replay ends, and how much is written.
+type End = (Mishap, Mishap, Option<ReplayFault>, usize);
+
+static ENDS: [End; 4] = [
+    (
+        Mishap::Never,
+        Mishap::Never,
+        None,
+        OVERLAPPING_READS_LOG.len(),
+    ),
+    (
+        Mishap::FailsAt(1),
+        Mishap::Never,
+        Some(ReplayFault::Read),
+        0,
+    ),
+    (
+        Mishap::Never,
+        Mishap::FailsAt(0),
+        Some(ReplayFault::Write),
+        0,
+    ),
+    (
+        Mishap::Never,
+        Mishap::FailsAt(1),
+        Some(ReplayFault::Write),
+        100,
+    ),
+];
+
+/// The first of the replays, from 0, that ends otherwise.
+fn wrong_end(alloc: Global, rows: &[End]) -> Result<Option<usize>, Fail> {
+    for (i, (reading, writing, fault, length)) in rows.iter().enumerate() {
+        let (ended, written) = ends(alloc, *reading, *writing)?;
+        if ended != *fault || written != *length {
+            return Ok(Some(i));
+        }
+    }
+    Ok(None)
+}
+
 #[test]
 fn replays(rt: HostRuntime) -> Result<(), Fail> {
     assert_eq!(rt; wrong_replay(rt.alloc(), &REPLAYS)?, None);
-    let (never, second) = (Mishap::Never, Mishap::FailsAt(1));
-    assert_eq!(rt;
-        ends(rt.alloc(), never, never)?,
-        (None, OVERLAPPING_READS_LOG.len())
-    );
-    assert_eq!(rt;
-        ends(rt.alloc(), second, never)?,
-        (Some(ReplayFault::Read), 0)
-    );
-    let first_write = ends(rt.alloc(), never, Mishap::FailsAt(0))?;
-    assert_eq!(rt; first_write, (Some(ReplayFault::Write), 0));
-    assert_eq!(rt;
-        ends(rt.alloc(), never, second)?,
-        (Some(ReplayFault::Write), 100)
-    );
+    assert_eq!(rt; wrong_end(rt.alloc(), &ENDS)?, None);
     Ok(())
 }
 

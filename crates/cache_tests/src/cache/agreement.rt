@@ -11,10 +11,10 @@ use tsc_time::{NoMemory, Timestamp, Value};
 const LOOKS_EVERY: u64 = 10;
 
 /// The keys of the spans: the least one, and two with no key between them among others.
-const KEYS: [&[u8]; 6] = [b"", b"a", b"a\x00", b"b", b"c", b"\xff"];
+static KEYS: [&[u8]; 6] = [b"", b"a", b"a\x00", b"b", b"c", b"\xff"];
 
 /// All choices of ends.
-const CHOICES: [Ends; 4] = [
+static CHOICES: [Ends; 4] = [
     Ends {
         exclude_from: false,
         exclude_to: false,
@@ -130,9 +130,9 @@ fn stand_of(cache: &Cache) -> (usize, u64, Timestamp) {
 
 /// Adds the spans from one key to another, with all choices of ends.
 fn push_ranges(alloc: Global, spans: &mut Vec<Span>, from: &[u8], to: &[u8]) -> Result<(), Fail> {
-    for ends in CHOICES {
+    for ends in &CHOICES {
         let (from, to) = (Key::new(alloc, from)?, Key::new(alloc, to)?);
-        spans.push(Span::for_lookup(from, to, ends))?;
+        spans.push(Span::for_lookup(from, to, *ends))?;
     }
     Ok(())
 }
@@ -140,10 +140,10 @@ fn push_ranges(alloc: Global, spans: &mut Vec<Span>, from: &[u8], to: &[u8]) -> 
 /// Each span over the keys.
 fn spans(alloc: Global) -> Result<Vec<Span>, Fail> {
     let mut spans = Vec::new(alloc);
-    for from in KEYS {
+    for from in &KEYS {
         spans.push(Span::onward(Key::new(alloc, from)?, false))?;
         spans.push(Span::onward(Key::new(alloc, from)?, true))?;
-        for to in KEYS {
+        for to in &KEYS {
             push_ranges(alloc, &mut spans, from, to)?;
         }
     }

@@ -13,7 +13,6 @@ pub type Told = (bool, bool, u64);
 /// A name, and the steps that a new cache goes through.
 pub type Row = (&'static str, &'static [Step]);
 
-#[derive(Clone, Copy)]
 pub enum Step {
     /// An Add of a span with a time and an owner, at a moment, and what it tells.
     Add(Text, Time, u128, Time, Told),
@@ -70,7 +69,7 @@ const AT_80: Time = (80, 0);
 const LATEST: Time = (9_223_372_036_854_775_807, 2_147_483_647);
 
 /// On pages of four nodes, of which two are kept at the least.
-pub const USUAL: [Row; 21] = [
+pub static USUAL: [Row; 21] = [
     (
         "a new cache",
         &[Get(b"a", FLOOR, NOBODY), State(1, 0, FLOOR)],
@@ -261,8 +260,11 @@ pub const USUAL: [Row; 21] = [
     ROTATIONS,
 ];
 
+/// Those rows alone in which the pages rotate twice.
+pub static ROTATING: [Row; 1] = [ROTATIONS];
+
 /// Two rotations, of which the second drops a page.
-pub const ROTATIONS: Row = (
+const ROTATIONS: Row = (
     "two rotations",
     &[
         Points(b"abcd", AT_20, FIRST, AT_20),
@@ -281,7 +283,7 @@ pub const ROTATIONS: Row = (
 );
 
 /// On pages of two nodes, of which one is kept at the least.
-pub const TIGHT: [Row; 2] = [
+pub static TIGHT: [Row; 2] = [
     (
         "the only page is dropped",
         &[
@@ -304,7 +306,7 @@ pub const TIGHT: [Row; 2] = [
 ];
 
 /// On pages of two nodes, of which two are kept at the least.
-pub const COUNTED: Row = (
+pub static COUNTED: [Row; 1] = [(
     "how far a lookup looks",
     &[
         Add(b"[a,z)", AT_20, FIRST, AT_20, KEPT),
@@ -315,4 +317,4 @@ pub const COUNTED: Row = (
         State(3, 2, FLOOR),
         Counted(b"c", AT_30, SECOND, 1),
     ],
-);
+)];

@@ -16,7 +16,7 @@ pub enum Way {
     ByNext,
 }
 
-pub const WAYS: [Way; 3] = [Way::InPlace, Way::Plain, Way::ByNext];
+pub static WAYS: [Way; 3] = [Way::InPlace, Way::Plain, Way::ByNext];
 
 /// A cache to which Adds are made in one of the ways.
 #[derive(Drop)]
@@ -169,47 +169,84 @@ impl Player {
         }
     }
 
+    /// Whether an Add tells this.
+    fn add_tells(
+        &mut self,
+        text: &[u8],
+        time: Time,
+        owner: u128,
+        now: Time,
+        told: Told,
+    ) -> Result<bool, Fail> {
+        let span = span(self.alloc, text)?;
+        Ok(self.add(&span, value(time, owner)?, at(now)?)? == told)
+    }
+
     /// Whether Adds of single keys are each kept in place.
-    fn points_are_kept(&mut self, keys: &[u8], value: Value, now: Timestamp) -> Result<bool, Fail> {
+    fn points_are_kept(
+        &mut self,
+        keys: &[u8],
+        time: Time,
+        owner: u128,
+        now: Time,
+    ) -> Result<bool, Fail> {
         let mut all = true;
         for key in keys.windows(1) {
-            all &= self.add(&span(self.alloc, key)?, value, now)? == KEPT;
+            all &= self.add_tells(key, time, owner, now, KEPT)?;
         }
         Ok(all)
     }
 
+    /// Whether a lookup answers this.
+    fn answers(&self, text: &[u8], time: Time, owner: u128) -> Result<bool, Fail> {
+        let span = span(self.alloc, text)?;
+        Ok(self.tried.get_max(&span) == value(time, owner)?)
+    }
+
+    /// Whether a lookup answers this and looks into so many pages, where the cache tells that.
+    fn looks(&self, text: &[u8], time: Time, owner: u128, pages: u64) -> Result<bool, Fail> {
+        let span = span(self.alloc, text)?;
+        let value = value(time, owner)?;
+        match self.tried.get_max_counted(&span) {
+            Some((answer, counted)) => Ok(answer == value && counted == pages),
+            None => Ok(true),
+        }
+    }
+
+    /// Whether the cache has so many pages, rotated so often, and has its floor here.
+    fn stands(&self, pages: usize, rotations: u64, floor: Time) -> Result<bool, Fail> {
+        let (has_pages, has_rotations, has_floor) = self.tried.stand();
+        Ok(has_pages == pages && has_rotations == rotations && has_floor == at(floor)?)
+    }
+
+    /// Whether the version after so many Adds, where versions are kept, has so many pages and its floor here.
+    fn stood(&self, adds: usize, pages: usize, floor: Time) -> Result<bool, Fail> {
+        match self.tried.version(adds) {
+            Some(version) => Ok(version.pages() == pages && version.low_water() == at(floor)?),
+            None => Ok(true),
+        }
+    }
+
+    /// Whether that version answers this.
+    fn answered(&self, adds: usize, text: &[u8], time: Time, owner: u128) -> Result<bool, Fail> {
+        let span = span(self.alloc, text)?;
+        let value = value(time, owner)?;
+        match self.tried.version(adds) {
+            Some(version) => Ok(version.get_max(&span) == value),
+            None => Ok(true),
+        }
+    }
+
     /// Makes a step, and says whether what has to come of it does.
-    fn step(&mut self, step: Step) -> Result<bool, Fail> {
-        match step {
-            Step::Add(text, time, owner, now, told) => {
-                let span = span(self.alloc, text)?;
-                Ok(self.add(&span, value(time, owner)?, at(now)?)? == told)
-            }
-            Step::Points(keys, time, owner, now) => {
-                self.points_are_kept(keys, value(time, owner)?, at(now)?)
-            }
-            Step::Get(text, time, owner) => {
-                let answer = self.tried.get_max(&span(self.alloc, text)?);
-                Ok(answer == value(time, owner)?)
-            }
-            Step::Counted(text, time, owner, pages) => {
-                let wanted = (value(time, owner)?, pages);
-                let counted = self.tried.get_max_counted(&span(self.alloc, text)?);
-                Ok(counted.unwrap_or(wanted) == wanted)
-            }
-            Step::State(pages, rotations, floor) => {
-                Ok(self.tried.stand() == (pages, rotations, at(floor)?))
-            }
+    fn step(&mut self, step: &Step) -> Result<bool, Fail> {
+        match *step {
+            Step::Add(text, time, owner, now, told) => self.add_tells(text, time, owner, now, told),
+            Step::Points(keys, time, owner, now) => self.points_are_kept(keys, time, owner, now),
+            Step::Get(text, time, owner) => self.answers(text, time, owner),
+            Step::Counted(text, time, owner, pages) => self.looks(text, time, owner, pages),
+            Step::State(pages, rotations, floor) => self.stands(pages, rotations, floor),
             Step::Version(adds, pages, floor, text, time, owner) => {
-                let Some(version) = self.tried.version(adds) else {
-                    return Ok(true);
-                };
-                let seen = (
-                    version.pages(),
-                    version.low_water(),
-                    version.get_max(&span(self.alloc, text)?),
-                );
-                Ok(seen == (pages, at(floor)?, value(time, owner)?))
+                Ok(self.stood(adds, pages, floor)? && self.answered(adds, text, time, owner)?)
             }
         }
     }
@@ -237,25 +274,41 @@ pub fn first_failure(
         looks,
     };
     for (i, step) in row.1.iter().enumerate() {
-        if !player.step(*step)? {
+        if !player.step(step)? {
             return Ok(Some(i));
         }
     }
     Ok(None)
 }
 
+/// Adds a value to the key `a` in place.
+fn add_to_a(alloc: Global, cache: &mut Cache, time: Time, owner: u128) -> Result<(), Fail> {
+    cache.add(&span(alloc, b"a")?, value(time, owner)?, at((20, 0))?)?;
+    Ok(())
+}
+
+/// Whether this is what the key `a` is answered.
+fn answers_at_a(alloc: Global, cache: &Cache, time: Time, owner: u128) -> Result<bool, Fail> {
+    Ok(cache.get_max(&span(alloc, b"a")?) == value(time, owner)?)
+}
+
+/// The next version after an Add of nothing, which is not kept.
+fn next_of(alloc: Global, cache: &Cache) -> Result<Cache, Fail> {
+    let (next, added) = cache.next(&span(alloc, b"(a,a)")?, value((30, 0), 2)?, at((20, 0))?)?;
+    if added.kept {
+        return Err(Fail::new("an Add of nothing is kept"));
+    }
+    Ok(next)
+}
+
 /// Whether two versions that share their front page go their own ways from there on: each is added to in
 /// place, and answers what was added to it alone.
 pub fn a_shared_front_is_left(alloc: Global) -> Result<bool, Fail> {
-    let config = Config::new(2, 1, RETENTION, at(FLOOR)?)?;
-    let (key, nothing) = (span(alloc, b"a")?, span(alloc, b"(a,a)")?);
-    let (first, second, third) = (value((20, 0), 1)?, value((30, 0), 2)?, value((40, 0), 3)?);
-    let now = at((20, 0))?;
-    let mut older = Cache::new(alloc, config)?;
-    older.add(&key, first, now)?;
-    let (mut newer, added) = older.next(&nothing, second, now)?;
-    newer.add(&key, second, now)?;
-    let left = (older.get_max(&key), newer.get_max(&key)) == (first, second);
-    older.add(&key, third, now)?;
-    Ok(left && !added.kept && (older.get_max(&key), newer.get_max(&key)) == (third, second))
+    let mut older = Cache::new(alloc, Config::new(2, 1, RETENTION, at(FLOOR)?)?)?;
+    add_to_a(alloc, &mut older, (20, 0), 1)?;
+    let mut newer = next_of(alloc, &older)?;
+    add_to_a(alloc, &mut newer, (30, 0), 2)?;
+    let left = answers_at_a(alloc, &older, (20, 0), 1)? && answers_at_a(alloc, &newer, (30, 0), 2)?;
+    add_to_a(alloc, &mut older, (40, 0), 3)?;
+    Ok(left && answers_at_a(alloc, &older, (40, 0), 3)? && answers_at_a(alloc, &newer, (30, 0), 2)?)
 }
