@@ -266,6 +266,19 @@ impl Pages {
         })
     }
 
+    /// Whether there is room for a span, or there is not, as both pages tell and as Adds to copies of them find.
+    fn tell_room(&self, span: &Span, room: bool) -> Result<bool, Fail> {
+        let told = self.page.room(span) == room && self.plain.room(span) == room;
+        if span.is_empty() {
+            return Ok(told);
+        }
+        let mut copy = self.copy()?;
+        let value = value(99, 0, FIRST)?;
+        let found = copy.page.try_add(span, value)? == room;
+        let found_plain = copy.plain.try_add(span, value)? == room;
+        Ok(told && found && found_plain && copy.answer(span, value) == room)
+    }
+
     fn answer(&self, span: &Span, value: Value) -> bool {
         self.page.lookup(span) == value && self.plain.lookup(span) == value
     }
@@ -295,10 +308,7 @@ impl Pages {
             Step::Look(text, wall, logical, owner) => {
                 Ok(self.answer(&span(alloc, text)?, value(wall, logical, owner)?))
             }
-            Step::Room(text, room) => {
-                let span = span(alloc, text)?;
-                Ok(self.page.room(&span) == room && self.plain.room(&span) == room)
-            }
+            Step::Room(text, room) => { self.tell_room(&span(alloc, text)?, room) }
             Step::Shows(nodes, wall, logical) => {
                 let top = value(wall, logical, NOBODY)?.time();
                 Ok(self.have(nodes) && self.page.top() == top && self.plain.top() == top)
