@@ -1,7 +1,7 @@
 ghost use Rattle.std.specs.Prelude.{◌≡◌, [], IfOk};
 ghost use Rattle.tsc_span.specs.Span.{key_cmp, before, after, last, is_below};
 ghost use Rattle.tsc_span.specs.Cuts.{cut_of};
-ghost use Rattle.tsc_page.specs.Numbers.{IsNumberOf, AreTied};
+ghost use Rattle.tsc_page.specs.Numbers.{IsNumberOf, AreTied, TellsBelow, TellsAbove};
 
 use std::cmp::Ordering;
 use std::marker::Model;
@@ -44,6 +44,13 @@ impl NumberedKey {
         ensures { result.now ≡ self.now }
     {
         self.key.bytes()
+    }
+
+    /// The number of the key.
+    pub(crate) fn number(&self) -> u128
+        ensures { IsNumberOf result self.now }
+    {
+        self.number
     }
 
     /// A copy of the key.
@@ -125,6 +132,35 @@ impl<'a> NumberedCut<'a> {
             Cut::Last => u128::MAX,
         };
         NumberedCut { number, cut }
+    }
+
+    /// The cut itself.
+    pub(crate) fn cut(&self) -> Cut<'a>
+        ensures { cut_of result ≡ self.now }
+    {
+        self.cut
+    }
+
+    /// Whether the cut lies below those of a number; `None` where that is its own number.
+    pub(crate) fn is_below_number(&self, number: u128) -> Option<bool>
+        ensures { TellsBelow self.now number result }
+    {
+        if self.number == number {
+            None
+        } else {
+            Some(self.number < number)
+        }
+    }
+
+    /// Whether the cut lies above those of a number; `None` where that is its own number.
+    pub(crate) fn is_above_number(&self, number: u128) -> Option<bool>
+        ensures { TellsAbove self.now number result }
+    {
+        if self.number == number {
+            None
+        } else {
+            Some(number < self.number)
+        }
     }
 
     /// Whether the cut lies below the place after a key.
