@@ -456,7 +456,7 @@ leaves_whole [] sizes i d h = absurd (omega (arith, h))
 leaves_whole (l ∷ ls) sizes zero d h = (sizes.0, sizes.1)
 leaves_whole (l ∷ ls) sizes (suc i) d h = leaves_whole ls sizes.2 i d (omega arith)
 
-whole_leaves : (ls : List (List Node)) → All IsLeaf ls → AreLeafSizes (leaf_sizes ls)
+pub whole_leaves : (ls : List (List Node)) → All IsLeaf ls → AreLeafSizes (leaf_sizes ls)
 whole_leaves [] all = tt
 whole_leaves (l ∷ ls) all = let first = all 0 l (omega arith) in (first.0, first.1, whole_leaves ls (λ i d h. all (suc i) d (omega arith)))
 
@@ -474,7 +474,7 @@ leaf_parts_of ls xs is leaves = leaf_parts xs (subst AreLeaves (sym is) leaves)
 pub part_leaves : (ls : List (List Node)) → All IsLeaf ls → IsSorted (nodes_of ls) → AreLeaves ls
 part_leaves ls all sorted = record { sizes = whole_leaves ls all; sorted = sorted }
 
-some_leaves : (ls : List (List Node)) → AreLeafSizes (leaf_sizes ls) → AreSome ls
+pub some_leaves : (ls : List (List Node)) → AreLeafSizes (leaf_sizes ls) → AreSome ls
 some_leaves [] sizes = tt
 some_leaves (l ∷ ls) sizes = (sizes.0, some_leaves ls sizes.2)
 

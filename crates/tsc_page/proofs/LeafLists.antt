@@ -143,6 +143,19 @@ starts_part f xs c sizes sorted i j d h g e =
     not_true true q = sym q
     not_true false q = refl
 
+-- the same by where each of them is said to begin
+pub said_part : {X : Type 0} (f : X → List Node) (s : X → Cut) (Q : X → Type 0) (xs : List X) (c : Cut) → ((x : X) → Q x → s x ≡ start_of (f x)) → All Q xs → AreSome (map f xs) → IsSorted (nodes_of (map f xs)) → IsPartitionedBy (λ (x : X). not (is_below c (s x))) xs
+said_part f s Q xs c law all sizes sorted i j d h g e =
+    ap (λ (x : Cut). not (is_below c x)) (law (get_or xs i d) (all i d (omega arith)))
+    ∙ starts_part f xs c sizes sorted i j d h g (ap (λ (x : Cut). not (is_below c x)) (sym (law (get_or xs j d) (all j d g))) ∙ e)
+
+pub said_point : {X : Type 0} (f : X → List Node) (s : X → Cut) (Q : X → Type 0) (xs : List X) (c : Cut) (r : ℕ) → ((x : X) → Q x → s x ≡ start_of (f x)) → All Q xs → r ≤ length xs
+    → IsPartitionPoint (λ (y : X). not (is_below c (s y)) ≡ true) (λ y. not (is_below c (s y)) ≡ false) xs r → IsPartitionPoint (λ (y : X). not (is_below c (start_of (f y))) ≡ true) (λ y. not (is_below c (start_of (f y))) ≡ false) xs r
+said_point f s Q xs c r law all within parts = (
+  λ i d h g. ap (λ (x : Cut). not (is_below c x)) (sym (law (get_or xs i d) (all i d (omega (arith, g, within))))) ∙ parts.0 i d h g,
+  λ i d h g. ap (λ (x : Cut). not (is_below c x)) (sym (law (get_or xs i d) (all i d g))) ∙ parts.1 i d h g,
+)
+
 -- where a search for a cut among the leaves behind the first one ends
 pub leaf_found : {X : Type 0} (f : X → List Node) (x : X) (xs : List X) (c : Cut) (r : ℕ) → r ≤ length xs
     → IsPartitionPoint (λ (y : X). not (is_below c (start_of (f y))) ≡ true) (λ y. not (is_below c (start_of (f y))) ≡ false) xs r → IsLeafAt (f x ∷ map f xs) c r

@@ -8,7 +8,7 @@ use Rattle.tsc_page.specs.Leaves.{nodes_of, AreSome, IsLeafAt, HasNode}
 use Rattle.tsc_page.proofs.LeafLists.{StandsAround, stands_around, leaf_set, part_read}
 use Rattle.tsc_page.proofs.LeafKeys.{wholly_below, made_in_part}
 
-append_nil : (ns : List Node) → ns ++ [] ≡ ns
+pub append_nil : (ns : List Node) → ns ++ [] ≡ ns
 append_nil [] = refl
 append_nil (n ∷ ns) = ap (λ (ms : List Node). n ∷ ms) (append_nil ns)
 

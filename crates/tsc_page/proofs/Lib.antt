@@ -24,4 +24,5 @@ pub mod LeafKeys
 pub mod LeafRaises
 pub mod LeafMakes
 pub mod LeafAdds
+pub mod Blocks
 pub mod Refusals

@@ -1,8 +1,8 @@
 -- How the nodes of a page stand in leaves, one after another.
 use Rattle.std.specs.List.{All}
-use Rattle.std.specs.Prelude.{◌≡◌, ℕ, suc, ◌<◌, ◌≤◌, ◌+◌, ◌-◌, ◌⊎◌, List, [], ◌∷◌, ◌++◌, length, map, slice_index_or, true, false, Option, Some, None, if◌then◌else◌}
+use Rattle.std.specs.Prelude.{◌≡◌, ℕ, suc, ◌<◌, ◌≤◌, ◌+◌, ◌-◌, ◌⊎◌, List, [], ◌∷◌, ◌++◌, length, map, drop, slice_index_or, true, false, Option, Some, None, if◌then◌else◌}
 use Rattle.tsc_time.specs.OwnedTime.{OwnedTime}
-use Rattle.tsc_span.specs.Span.{KeyBytes, Cut, before, after, Interval, is_below, end_keys}
+use Rattle.tsc_span.specs.Span.{KeyBytes, Cut, before, after, last, Interval, is_below, end_keys}
 use Rattle.tsc_page.specs.PageView.{AreLeafSizes}
 use Rattle.tsc_page.specs.Nodes.{Node, next_cut, node_stretches, IsSorted, IsNewKey, IsSplitAt, AddsNodes, with_new, raise_nodes}
 
@@ -29,6 +29,39 @@ pub record AreParts {X : Type 0} (nodes : X → List Node) (IsWhole : X → Type
 abbrev pub IsLeaf : List Node → Type 0
 IsLeaf l = (1 ≤ length l) × (length l ≤ 64)
 
+-- where nodes begin
+abbrev pub start_of : List Node → Cut
+start_of ns = next_cut (node_stretches ns)
+
+-- the leaves of all blocks, in their order
+abbrev pub rows_of : List (List (List Node)) → List (List Node)
+rows_of [] = []
+rows_of (b ∷ bs) = b ++ rows_of bs
+
+-- where the first of leaves begins
+abbrev pub first_start : List (List Node) → Cut
+first_start [] = last
+first_start (l ∷ ls) = start_of l
+
+-- 1 to 64 leaves, and what follows for their nodes.
+pub record IsBlock (b : List (List Node)) : Type 0 where
+  pub leaves : All IsLeaf b
+  pub some : 1 ≤ length b
+  pub few : length b ≤ 64
+  pub nodes : 1 ≤ length (nodes_of b)
+  pub begins : first_start b ≡ start_of (nodes_of b)
+
+-- Blocks of leaves in order.
+pub record AreBlocks (bs : List (List (List Node))) : Type 0 where
+  pub each : All IsBlock bs
+  pub sizes : AreLeafSizes (leaf_sizes (rows_of bs))
+  pub sorted : IsSorted (nodes_of (rows_of bs))
+
+-- what stands behind the first of leaves that stand before blocks, or else behind the first block
+abbrev pub rows_behind : List (List Node) → List (List (List Node)) → List (List Node)
+rows_behind [] bs = rows_of (drop 1 bs)
+rows_behind (l ∷ ls) bs = ls ++ rows_of bs
+
 -- Nodes with that of a key, which they have already or which is new.
 pub record HasNode (old new : List Node) (k : KeyBytes) : Type 0 where
   pub found : Option (ℕ × KeyBytes)
@@ -39,10 +72,6 @@ pub record HasNode (old new : List Node) (k : KeyBytes) : Type 0 where
 pub record AreLeaves (ls : List (List Node)) : Type 0 where
   pub sizes : AreLeafSizes (leaf_sizes ls)
   pub sorted : IsSorted (nodes_of ls)
-
--- where nodes begin
-abbrev pub start_of : List Node → Cut
-start_of ns = next_cut (node_stretches ns)
 
 -- The place of the leaf in which a cut falls: the last one that does not begin above it, or the first one.
 pub record IsLeafAt (ls : List (List Node)) (c : Cut) (p : ℕ) : Type 0 where

@@ -1,12 +1,12 @@
-ghost use Rattle.std.specs.Prelude.{◌≡◌, ◌++◌, OnOk, IfOk, IfSome};
+ghost use Rattle.std.specs.Prelude.{◌≡◌, ◌++◌, refl, OnOk, IfOk, IfSome};
 ghost use Rattle.tsc_page.specs.Nodes.{IsSorted};
-ghost use Rattle.tsc_page.specs.Leaves.{IsLeaf, HasNode};
+ghost use Rattle.tsc_page.specs.Leaves.{IsLeaf, HasNode, start_of};
 ghost use Rattle.tsc_page.specs.LeafParts.{nodes_in};
 
 use crate::nodes::Nodes;
 use crate::number::NumberedCut;
 use crate::parts::Part;
-use std::alloc::Global;
+use std::alloc::{AllocError, Global};
 use std::marker::Model;
 use std::sync::Arc;
 use tsc_span::{Cut, Key};
@@ -52,11 +52,13 @@ impl Leaf {
     {
         &self.nodes
     }
+}
 
-    /// The same leaf once more.
-    pub(crate) fn try_share(&self) -> Result<Leaf, NoMemory>
-        ensures { IfOk result (λ leaf. leaf ≡ self.now) }
-    {
+/// A clone shares the nodes.
+impl Clone for Leaf {
+    ghost is_clone = { λ leaf copy. copy ≡ leaf };
+
+    fn clone(&self) -> Result<Leaf, AllocError> {
         Ok(Leaf {
             start: self.start,
             nodes: Arc::try_clone(&self.nodes)?,
@@ -66,6 +68,8 @@ impl Leaf {
 
 impl Part for Leaf {
     ghost nodes = { λ l. l };
+
+    ghost start = { start_of };
 
     ghost IsWhole = { IsLeaf };
 
@@ -110,6 +114,8 @@ impl Part for Leaf {
     }
 
     ghost some = { λ l is. is.0 };
+
+    ghost begins = { λ l is. refl };
 }
 
 /// Makes a node of a key, where it has none. Where there are then more than a leaf has, those behind the first 32 come off.

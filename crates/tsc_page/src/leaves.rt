@@ -1,13 +1,15 @@
-ghost use Rattle.std.specs.Prelude.{◌≡◌, None, ◌<◌, ◌≤◌, ◌+◌, [], ◌++◌, drop, slice_get, true, false, IfOk, IfSome, OnOk, OnErr, option_map, option_to_list, if◌then◌else◌};
+ghost use Rattle.std.specs.Prelude.{◌≡◌, None, ◌<◌, ◌≤◌, ◌+◌, [], ◌++◌, slice_get, true, false, IfOk, IfSome, OnOk, OnErr, option_map, option_to_list, if◌then◌else◌};
+ghost use Rattle.std.specs.List.{All};
 ghost use Rattle.tsc_span.specs.Span.{is_below, after, between, end_keys};
 ghost use Rattle.tsc_span.specs.Cuts.{cut_of};
 ghost use Rattle.tsc_page.specs.declared.TheConstants.{MOST_NODES};
 ghost use Rattle.tsc_page.specs.Page.{count_distinct};
 ghost use Rattle.tsc_page.specs.PageView.{is_new_among};
 ghost use Rattle.tsc_page.specs.Nodes.{IsSplitAt, IsInOrder, node_keys, answer_of};
-ghost use Rattle.tsc_page.specs.Leaves.{LiesAt, AddsLeaves, AreLeaves, leaf_sizes, nodes_of, start_of, AddsTo};
+ghost use Rattle.tsc_page.specs.Leaves.{LiesAt, AddsLeaves, AreLeaves, AreBlocks, IsBlock, leaf_sizes, nodes_of, rows_of, rows_behind, start_of, AddsTo};
 ghost use Rattle.tsc_page.specs.LeafParts.{leaves_of, all_nodes, AreCounted};
 
+use crate::block::{Block, start_number};
 use crate::leaf::{LEAF_NODES, Leaf};
 use crate::nodes::Nodes;
 use crate::number::NumberedCut;
@@ -24,7 +26,7 @@ const DEEPEST: usize = 512;
 /// never changed.
 #[derive(Debug, Drop)]
 pub(crate) struct Leaves {
-    list: Vec<Leaf>,
+    list: Vec<Block>,
     count: usize,
 }
 
@@ -52,10 +54,15 @@ impl Leaves {
         ensures value { result ≡ slice_get (leaf_sizes (leaves_of self.now)) place }
         ensures few { IfSome result (λ len. len ≤ 64) }
     {
-        match self.list.get(place) {
-            Some(leaf) => Some(leaf.nodes().len()),
-            None => None,
+        let mut place = place;
+        for block in &self.list {
+            let leaves = block.leaves();
+            if place < leaves.len() {
+                return Some(leaves[place].nodes().len());
+            }
+            place -= leaves.len();
         }
+        None
     }
 
     /// Whether this is a key that has no node.
@@ -87,24 +94,13 @@ impl Leaves {
         parts::joint_between(&self.list, from, to)
     }
 
-    /// The list of leaves once more.
-    fn copy_list(&self) -> Result<Vec<Leaf>, NoMemory>
-        ensures { IfOk result (λ list. list.items ≡ leaves_of self.now) }
-    {
-        let mut list = Vec::with_capacity(*self.list.allocator(), self.list.len())?;
-        for leaf in &self.list {
-            list.push(leaf.try_share()?)?;
-        }
-        Ok(list)
-    }
-
     /// The same leaves once more.
     pub(crate) fn try_copy(&self) -> Result<Leaves, NoMemory>
         ensures leaves { IfOk result (λ copy. leaves_of copy ≡ leaves_of self.now) }
         ensures count { IfOk result (λ copy. copy.count ≡ self.now.count) }
     {
         Ok(Leaves {
-            list: self.copy_list()?,
+            list: self.list.clone()?,
             count: self.count,
         })
     }
@@ -142,7 +138,7 @@ impl Leaves {
         if count > most {
             return Ok(false);
         }
-        let mut list = self.copy_list()?;
+        let mut list = self.list.clone()?;
         make_node(&mut list, second)?;
         make_node(&mut list, first)?;
         parts::raise_between(&mut list, from, to, value)?;
@@ -177,8 +173,8 @@ impl Leaves {
         let place = parts::part_at(&self.list, &NumberedCut::new(from));
         let room = most - self.count;
         let to = NumberedCut::new(to);
-        let (_, leaves) = self.list.split_at_mut(place);
-        match add_owned(leaves, first, second, from, &to, value, room, DEEPEST)? {
+        let (_, blocks) = self.list.split_at_mut(place);
+        match add_owned(&mut [], blocks, first, second, from, &to, value, room, DEEPEST)? {
             Some(more) => {
                 self.count += more;
                 Ok(true)
@@ -189,29 +185,32 @@ impl Leaves {
 }
 
 /// Makes a node of a key, where it has none.
-fn make_node(list: &mut Vec<Leaf>, key: Option<&Key>) -> Result<(), NoMemory>
-    requires leaves { AreLeaves list.old.items }
-    ensures split { OnOk result (IsSplitAt (nodes_of list.old.items) (nodes_of list.new.items) (option_to_list (option_map (λ k. k.now) key.entry))) }
-    ensures leaves { OnOk result (AreLeaves list.new.items) }
+fn make_node(list: &mut Vec<Block>, key: Option<&Key>) -> Result<(), NoMemory>
+    requires blocks { AreBlocks list.old.items }
+    ensures split { OnOk result (IsSplitAt (nodes_of (rows_of list.old.items)) (nodes_of (rows_of list.new.items)) (option_to_list (option_map (λ k. k.now) key.entry))) }
+    ensures blocks { OnOk result (AreBlocks list.new.items) }
 {
     let Some(key) = key else { return Ok(()) };
     let alloc = *list.allocator();
     if list.len() == 0 {
-        let nodes = Nodes::of_key(alloc, key)?;
-        list.push(Leaf::new(alloc, nodes)?)?;
+        let mut leaves = Vec::with_capacity(alloc, 1)?;
+        leaves.push(Leaf::new(alloc, Nodes::of_key(alloc, key)?)?)?;
+        list.push(Block::new(alloc, leaves)?)?;
         return Ok(());
     }
     parts::make_node(list, alloc, key)?;
     Ok(())
 }
 
-/// Makes nodes of the keys that have none, in the first leaf and in that in which a span stops, and ratchets a
-/// value into the keys and gaps between two cuts, of which the lower one falls in the first leaf. Tells how
-/// many nodes came in; or `None`, where they would be more than `room`, where others hold one of these leaves,
-/// where one would have to be cut, or where they are more than `deep`.
+/// Makes nodes of the keys that have none, in the leaf in which a span starts and in that in which it stops, and ratchets
+/// a value into the keys and gaps between two cuts, of which the lower one falls in the first of these leaves, or, where
+/// there is none, in the first of the blocks behind them. Tells how many nodes came in; or `None`, where they would be
+/// more than `room`, where others hold one of these leaves or its block, where one would have to be cut, or where they
+/// are more than `deep`.
 /// Nothing changes then, nor where memory is refused: a leaf is changed only once those after it are.
 fn add_owned(
     leaves: &mut [Leaf],
+    blocks: &mut [Block],
     first: Option<&Key>,
     second: Option<&Key>,
     from: Cut<'_>,
@@ -220,20 +219,34 @@ fn add_owned(
     room: usize,
     deep: usize,
 ) -> Result<Option<usize>, NoMemory>
-    requires leaves { AreLeaves leaves.old }
+    requires leaves { AreLeaves (leaves.old ++ rows_of blocks.old) }
+    requires blocks { All IsBlock blocks.old }
     requires order { is_below (cut_of from) to.now ≡ true }
-    requires low { is_below (cut_of from) (start_of (nodes_of (drop 1 leaves.old))) ≡ true }
+    requires low { is_below (cut_of from) (start_of (nodes_of (rows_behind leaves.old blocks.old))) ≡ true }
     requires in_order { IsInOrder (option_map (λ k. k.now) first) (option_map (λ k. k.now) second) }
     requires first { LiesAt (option_map (λ k. k.now) first) (cut_of from) }
     requires second { LiesAt (option_map (λ k. k.now) second) to.now }
-    ensures added { IfOk result (λ done. IfSome done (λ more. AddsLeaves leaves.old leaves.new
+    ensures added { IfOk result (λ done. IfSome done (λ more. AddsLeaves (leaves.old ++ rows_of blocks.old) (leaves.new ++ rows_of blocks.new)
         (option_map (λ k. k.now) first.entry) (option_map (λ k. k.now) second.entry) (between (cut_of from.entry) to.now) value more)) }
     ensures within { IfOk result (λ done. IfSome done (λ more. more ≤ room)) }
-    ensures left { IfOk result (λ done. done ≡ None → leaves.new ≡ leaves.old) }
-    ensures unchanged { OnErr result (leaves.new ≡ leaves.old) }
+    ensures blocks { IfOk result (λ done. IfSome done (λ more. All IsBlock blocks.new)) }
+    ensures left { IfOk result (λ done. done ≡ None → (leaves.new ≡ leaves.old) × (blocks.new ≡ blocks.old)) }
+    ensures unchanged { OnErr result ((leaves.new ≡ leaves.old) × (blocks.new ≡ blocks.old)) }
 {
     if leaves.len() == 0 {
-        return Ok(None);
+        if blocks.len() == 0 {
+            return Ok(None);
+        }
+        let (head, rest) = blocks.split_at_mut(1);
+        let block = &mut head[0];
+        let Some(owned) = Arc::get_mut(&mut block.leaves) else {
+            return Ok(None)
+        };
+        let place = parts::part_at(owned, &NumberedCut::new(from));
+        let (_, leaves) = owned.split_at_mut(place);
+        let done = add_owned(leaves, rest, first, second, from, to, value, room, deep);
+        block.start = start_number(owned);
+        return done;
     }
     if deep == 0 {
         return Ok(None);
@@ -243,12 +256,8 @@ fn add_owned(
     let Some(nodes) = Arc::get_mut(&mut leaf.nodes) else {
         return Ok(None)
     };
-    let goes_on = parts::start_below(rest, to);
-    let last = if parts::start_above(rest, to) {
-        second
-    } else {
-        None
-    };
+    let goes_on = starts_below(rest, blocks, to);
+    let last = if starts_above(rest, blocks, to) { second } else { None };
     let new = nodes.new_keys(first, last)?;
     let made = new.len();
     if made > room || nodes.len() + made > LEAF_NODES {
@@ -261,10 +270,37 @@ fn add_owned(
         return Ok(Some(made));
     }
     let low = Cut::Before(&[]);
-    let Some(more) = add_owned(rest, None, second, low, to, value, room - made, deep - 1)? else {
+    let Some(more) = add_owned(rest, blocks, None, second, low, to, value, room - made, deep - 1)?
+    else {
         return Ok(None)
     };
     nodes.add(new, from, Cut::Last, value);
     leaf.start = nodes.start_number();
     Ok(Some(made + more))
+}
+
+/// Whether a cut lies above where leaves begin, and the blocks behind them.
+fn starts_below(leaves: &[Leaf], blocks: &[Block], cut: &NumberedCut<'_>) -> bool
+    requires leaves { AreLeaves (leaves.now ++ rows_of blocks.now) }
+    requires blocks { All IsBlock blocks.now }
+    ensures { result ≡ is_below (start_of (nodes_of (leaves.now ++ rows_of blocks.now))) cut.now }
+{
+    if leaves.len() == 0 {
+        parts::start_below(blocks, cut)
+    } else {
+        parts::start_below(leaves, cut)
+    }
+}
+
+/// Whether a cut lies below where leaves begin, and the blocks behind them.
+fn starts_above(leaves: &[Leaf], blocks: &[Block], cut: &NumberedCut<'_>) -> bool
+    requires leaves { AreLeaves (leaves.now ++ rows_of blocks.now) }
+    requires blocks { All IsBlock blocks.now }
+    ensures { result ≡ is_below cut.now (start_of (nodes_of (leaves.now ++ rows_of blocks.now))) }
+{
+    if leaves.len() == 0 {
+        parts::start_above(blocks, cut)
+    } else {
+        parts::start_above(leaves, cut)
+    }
 }

@@ -17,6 +17,7 @@
 //! A [`PlainPage`] is the same thing as the list of what was added: slow, and easy to believe.
 #![tactic(auto)]
 
+mod block;
 mod leaf;
 mod leaves;
 mod node;

@@ -1,6 +1,6 @@
 ghost use Rattle.std.specs.Prelude.{◌≡◌, List, ◌≤◌, ◌<◌, ◌+◌, ◌++◌, suc, map, length, drop, option_to_list, OnOk, IfOk, IfSome, not, true};
 ghost use Rattle.std.specs.List.{All};
-ghost use Rattle.tsc_span.specs.Span.{is_below, between};
+ghost use Rattle.tsc_span.specs.Span.{Cut as CutPlace, is_below, between};
 ghost use Rattle.tsc_span.specs.Cuts.{cut_of};
 ghost use Rattle.tsc_page.specs.PageView.{is_in};
 ghost use Rattle.tsc_page.specs.Nodes.{Node, IsSorted, node_keys, answer_of, raise_nodes};
@@ -15,15 +15,17 @@ use tsc_time::{NoMemory, Timestamp, Value, ratchet};
 pub(crate) trait Part: Drop {
     ghost nodes: { Self → List Node };
 
+    ghost start: { Self → CutPlace };
+
     ghost IsWhole: { Self → Type 0 };
 
     /// Whether a cut lies below where the part begins.
     fn starts_above(&self, cut: &NumberedCut<'_>) -> bool
-        ensures { result ≡ is_below cut.now (start_of (nodes self.now)) };
+        ensures { result ≡ is_below cut.now (start self.now) };
 
     /// Whether a cut lies above where the part begins.
     fn starts_below(&self, cut: &NumberedCut<'_>) -> bool
-        ensures { result ≡ is_below (start_of (nodes self.now)) cut.now };
+        ensures { result ≡ is_below (start self.now) cut.now };
 
     /// The joint value of the keys and gaps between two cuts.
     fn joint_between(&self, from: Cut<'_>, to: Cut<'_>) -> Value
@@ -57,6 +59,8 @@ pub(crate) trait Part: Drop {
         ensures upper { IfOk result (λ upper. IfSome upper IsWhole) };
 
     ghost some: { (p : Self) → IsWhole p → 1 ≤ length (nodes p) };
+
+    ghost begins: { (p : Self) → IsWhole p → start p ≡ start_of (nodes p) };
 }
 
 /// The place of the part in which a cut falls.

@@ -1,12 +1,13 @@
 -- A search by where the parts behind the first one begin ends right after the part of the cut.
-use Rattle.std.proofs.Common.{◌≡◌, sym, subst, List, ◌∷◌, map, rules}
+use Rattle.std.proofs.Common.{◌≡◌, sym, subst, suc, List, ◌∷◌, map, rules, arith}
 use Rattle.std.specs.Prelude.{not}
+use Rattle.std.specs.List.{All}
 use Rattle.std.proofs.lemmas.List.Sorted.{IsPartitionPoint-from_clause}
 use Rattle.tsc_span.specs.Span.{Cut, is_below}
 use Rattle.tsc_page.specs.Nodes.{IsSorted}
-use Rattle.tsc_page.specs.Leaves.{start_of, nodes_of, AreSome, IsLeafAt}
+use Rattle.tsc_page.specs.Leaves.{nodes_of, AreSome, IsLeafAt}
 use Rattle.tsc_page.proofs.Joins.{sorted_right}
-use Rattle.tsc_page.proofs.LeafLists.{starts_part, leaf_found, all_some}
+use Rattle.tsc_page.proofs.LeafLists.{said_part, said_point, leaf_found, all_some}
 use Rattle.tsc_page.proofs.parts.part_at.Goals as goal
 
 pub returns-in-Some : goal.returns-in-Some
@@ -18,6 +19,8 @@ returns-in-Some g c =
     let is : c.args.parts.now ≡ x ∷ rest = c.in-Some.ensures.cases.0 in
     let some = subst (λ (xs : List g.row.P.Denot). AreSome (map read xs)) is (all_some read g.P.Part.IsWhole c.args.parts.now g.met.P.Part.some c.requires.parts.whole) in
     let sorted = subst (λ (xs : List g.row.P.Denot). IsSorted (nodes_of (map read xs))) is c.requires.parts.sorted in
-    let up_to = λ (a : g.row.P.Denot). not (is_below cut (start_of (read a))) in
-    let point = IsPartitionPoint-from_clause up_to _ _ c.partition_point.ensures.partitioned (starts_part read rest cut some.1 (sorted_right (read x) (nodes_of (map read rest)) sorted)) (λ a r q k. search rules) in
-    subst (λ (xs : List g.row.P.Denot). IsLeafAt (map read xs) cut c.partition_point.result) (sym is) (leaf_found read x rest cut c.partition_point.result c.partition_point.ensures.bound point)
+    let all = subst (All g.P.Part.IsWhole) is c.requires.parts.whole in
+    let behind : All g.P.Part.IsWhole rest = λ i d h. all (suc i) d (omega (arith, h)) in
+    let up_to = λ (a : g.row.P.Denot). not (is_below cut (g.P.Part.start a)) in
+    let point = IsPartitionPoint-from_clause up_to _ _ c.partition_point.ensures.partitioned (said_part read g.P.Part.start g.P.Part.IsWhole rest cut g.met.P.Part.begins behind some.1 (sorted_right (read x) (nodes_of (map read rest)) sorted)) (λ a r q k. search rules) in
+    subst (λ (xs : List g.row.P.Denot). IsLeafAt (map read xs) cut c.partition_point.result) (sym is) (leaf_found read x rest cut c.partition_point.result c.partition_point.ensures.bound (said_point read g.P.Part.start g.P.Part.IsWhole rest cut c.partition_point.result g.met.P.Part.begins behind c.partition_point.ensures.bound point))

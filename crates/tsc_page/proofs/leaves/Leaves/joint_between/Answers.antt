@@ -1,7 +1,13 @@
--- The leaves are parts of all nodes.
-use Rattle.tsc_page.specs.LeafParts.{leaves_of}
-use Rattle.tsc_page.proofs.LeafAdds.{leaf_parts_of}
+-- The blocks are parts of all nodes.
+use Rattle.std.proofs.Common.{◌∙◌, ap, List}
+use Rattle.tsc_span.specs.Span.{between}
+use Rattle.tsc_span.specs.Cuts.{cut_of}
+use Rattle.tsc_page.specs.Nodes.{Node, answer_of}
+use Rattle.tsc_page.proofs.Blocks.{block_parts_of, seen_nodes}
 use Rattle.tsc_page.proofs.leaves.Leaves.joint_between.Goals as goal
 
 pub joint_between-requires-clause-parts : goal.joint_between-requires-clause-parts
-joint_between-requires-clause-parts c = leaf_parts_of (leaves_of c.args.self.now) c.deref.result.now c.deref.ensures.value c.requires.counted.leaves
+joint_between-requires-clause-parts c = block_parts_of c.args.self.now.list.items c.deref.result.now c.deref.ensures.value c.requires.counted.each c.requires.counted.leaves.sorted
+
+pub returns : goal.returns
+returns c = c.joint_between.ensures ∙ ap (λ (ns : List Node). answer_of ns (between (cut_of c.args.from) (cut_of c.args.to))) (seen_nodes c.args.self.now.list.items c.deref.result.now c.deref.ensures.value)
