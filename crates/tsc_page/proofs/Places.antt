@@ -88,9 +88,6 @@ module _ (ns : List Node) (sorted : IsSorted ns) where
   pub up_to_after : (from : Cut) → IsPartitionedBy (λ (n : Node). not (is_below from (after n.key))) ns
   up_to_after from i j d h g e = true_not (is_below from (after (get_or ns i d).key)) (Le-chain (after (get_or ns i d).key) (after (get_or ns j d).key) from (rising_after i j d h g) (not_true (is_below from (after (get_or ns j d).key)) e))
 
-  pub below_before : (to : Cut) → IsPartitionedBy (λ (n : Node). is_below (before n.key) to) ns
-  below_before to i j d h g e = Le_Lt-chain (before (get_or ns i d).key) (before (get_or ns j d).key) to (rising i j d h g) e
-
   -- where a search tells that the keys start
   pub starts_found : (from : Cut) (start : ℕ) → start ≤ length ns → IsPartitionPoint (λ (n : Node). not (is_below from (after n.key)) ≡ true) (λ n. not (is_below from (after n.key)) ≡ false) ns start → StartsKeysAt ns from start
   starts_found from start within at_start = record {
@@ -105,14 +102,6 @@ module _ (ns : List Node) (sorted : IsSorted ns) where
     below_high = below;
     high = λ i d h g. Le-chain to (before (get_or ns end d).key) (before (get_or ns i d).key) (subst (λ (n : Node). Le to (before n.key)) (get_or_default ns end e d inside) closed) (rising end i d h g);
     bound = omega (arith, inside);
-  }
-
-  -- or where a search tells
-  pub stops_found : (to : Cut) (end : ℕ) → end ≤ length ns → IsPartitionPoint (λ (n : Node). is_below (before n.key) to ≡ true) (λ n. is_below (before n.key) to ≡ false) ns end → StopsKeysAt ns to end
-  stops_found to end within at_end = record {
-    below_high = λ i d h. at_end.0 i d (omega arith) h;
-    high = λ i d h g. at_end.1 i d h g;
-    bound = within;
   }
 
   module _ (from to : Cut) (upright : Lt from to) where

@@ -2,6 +2,7 @@ ghost use Rattle.std.specs.Prelude.{◌≡◌, ◌<◌, ◌≤◌, [], ◌∷◌
 ghost use Rattle.std.specs.Vec.{vec_len, vec_capacity};
 ghost use Rattle.tsc_time.specs.Time.{zero_time};
 ghost use Rattle.tsc_time.specs.OwnedTime.{unowned};
+ghost use Rattle.tsc_time.specs.Joint.{joint};
 ghost use Rattle.tsc_span.specs.Span.{is_below, before, between};
 ghost use Rattle.tsc_span.specs.Cuts.{cut_of};
 ghost use Rattle.tsc_page.specs.PageView.{is_new_among};
@@ -13,9 +14,6 @@ use std::alloc::Global;
 use std::ops::Range;
 use tsc_span::{Cut, Key};
 use tsc_time::{NoMemory, Timestamp, Value, ratchet};
-
-/// How many keys are looked at one by one before a search.
-const NEAR: usize = 2;
 
 /// Nodes in the order of their keys: a leaf of a page.
 #[derive(Debug, Drop)]
@@ -96,22 +94,23 @@ impl Nodes {
             .partition_point(|node| !from.is_below_after(&node.key))
     }
 
-    /// Where the keys below a cut end, by a look at those next to a place before which all are, or else by a
-    /// search: a single key takes no second search.
+    /// Where the keys below a cut end, by a look at one after another from a place before which all are. Where
+    /// all keys lie below the cut none is looked at.
     fn end_of_keys(&self, start: usize, to: &NumberedCut<'_>) -> usize
         requires sorted { IsSorted self.now.list.items }
         requires low { HasKeysBelow self.now.list.items to.now start }
         requires bound { start ≤ length self.now.list.items }
         ensures { StopsKeysAt self.now.list.items to.now result }
     {
-        for place in start..self.list.len().min(start + NEAR) {
+        if !to.is_below_last() {
+            return self.list.len();
+        }
+        for place in start..self.list.len() {
             if !to.is_above_before(&self.list[place].key) {
                 return place;
             }
         }
-        self.list
-            .as_slice()
-            .partition_point(|node| to.is_above_before(&node.key))
+        self.list.len()
     }
 
     /// The places of the nodes whose keys lie between two cuts.
@@ -184,10 +183,10 @@ impl Nodes {
         let keys = self.keys_between(&low, &high);
         let gaps = self.gaps_between(&low, &high, &keys);
         for place in keys {
-            best = ratchet(best, self.list[place].value).0;
+            join(&mut best, &self.list[place].value);
         }
         for place in gaps {
-            best = ratchet(best, self.list[place].gap).0;
+            join(&mut best, &self.list[place].gap);
         }
         best
     }
@@ -320,6 +319,24 @@ impl Nodes {
         list.reserve(more)?;
         Ok(Nodes { list })
     }
+}
+
+/// Joins a value into the best so far, of which it mostly is the earlier one.
+#[inline]
+fn join(best: &mut Value, value: &Value)
+    ensures { best.new ≡ joint best.old (value.now ∷ []) }
+{
+    if value.time() >= best.time() {
+        *best = joint_of(best, value);
+    }
+}
+
+/// The joint value of two. It stays out of the loops, which else move the bytes of an owner at each step.
+#[inline(never)]
+fn joint_of(best: &Value, value: &Value) -> Value
+    ensures { result ≡ joint best.now (value.now ∷ []) }
+{
+    ratchet(*best, *value).0
 }
 
 /// Copies of up to two keys that have no node, of which the first is the smaller, with the places for them.

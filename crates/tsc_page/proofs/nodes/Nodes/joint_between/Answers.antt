@@ -19,10 +19,10 @@ loop-place-preserved c =
     let d : Node = c.index.result.now in
     let within : i < length nodes = omega (arith, steps, so_far.0.bound) in
     let value : c.behind-self.inside.value ≡ (get_or nodes i d).value = ap (λ (n : Node). n.value) (c.behind-self.view_is ∙ c.index.ensures) ∙ ap (λ (j : ℕ). (get_or nodes j d).value) steps.1.1 in
-    let best = c.ratchet-best.ensures.joint ∙ ap (λ (w : OwnedTime). joint c.loop-place.best (w ∷ [])) value in (
+    let best = c.join.ensures ∙ ap (λ (w : OwnedTime). joint c.loop-place.best (w ∷ [])) value in (
       record { low = omega (arith, steps, so_far.0.low); order = omega (arith, steps); bound = omega (arith, steps, so_far.0.bound) },
       steps.0 ∙ so_far.1,
-      subst (λ (j : ℕ). IsJointOf (KeySeen nodes first j) c.ratchet-best.result.0) (sym steps.1.2)
+      subst (λ (j : ℕ). IsJointOf (KeySeen nodes first j) c.join.new.best) (sym steps.1.2)
           (subst (IsJointOf (KeySeen nodes first (i + 1))) (sym best) (key_seen nodes first i d c.loop-place.best so_far.0.low within so_far.2)),
     )
 
@@ -52,10 +52,10 @@ loop-place-2-preserved c =
     let d : Node = c.index-in-loop-place-2.result.now in
     let within : i < length nodes = omega (arith, steps, so_far.0.bound) in
     let value : c.behind-self-in-loop-place-2.inside.gap ≡ (get_or nodes i d).gap = ap (λ (n : Node). n.gap) (c.behind-self-in-loop-place-2.view_is ∙ c.index-in-loop-place-2.ensures) ∙ ap (λ (j : ℕ). (get_or nodes j d).gap) steps.1.1 in
-    let best = c.ratchet-best-in-loop-place-2.ensures.joint ∙ ap (λ (w : OwnedTime). joint c.loop-place-2.best (w ∷ [])) value in (
+    let best = c.join-in-loop-place-2.ensures ∙ ap (λ (w : OwnedTime). joint c.loop-place-2.best (w ∷ [])) value in (
       record { low = omega (arith, steps, so_far.0.low); order = omega (arith, steps); bound = omega (arith, steps, so_far.0.bound) },
       steps.0 ∙ so_far.1,
-      subst (λ (j : ℕ). IsJointOf (λ w. KeyMet nodes span w ⊎ GapSeen nodes first j w) c.ratchet-best-in-loop-place-2.result.0) (sym steps.1.2)
+      subst (λ (j : ℕ). IsJointOf (λ w. KeyMet nodes span w ⊎ GapSeen nodes first j w) c.join-in-loop-place-2.new.best) (sym steps.1.2)
           (subst (IsJointOf (λ w. KeyMet nodes span w ⊎ GapSeen nodes first (i + 1) w)) (sym best) (gap_seen nodes (KeyMet nodes span) first i d c.loop-place-2.best so_far.0.low within so_far.2)),
     )
 
