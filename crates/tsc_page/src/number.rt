@@ -1,5 +1,5 @@
-ghost use Rattle.std.specs.Prelude.{◌≡◌, [], IfOk};
-ghost use Rattle.tsc_span.specs.Span.{key_cmp, before, after, last, is_below};
+ghost use Rattle.std.specs.Prelude.{◌≡◌, IfOk};
+ghost use Rattle.tsc_span.specs.Span.{key_cmp, before, last, is_below};
 ghost use Rattle.tsc_span.specs.Cuts.{cut_of};
 ghost use Rattle.tsc_page.specs.Numbers.{IsNumberOf, AreTied};
 
@@ -127,21 +127,6 @@ impl<'a> NumberedCut<'a> {
         NumberedCut { number, cut }
     }
 
-    /// Whether the cut lies below the place after a key.
-    pub(crate) fn is_below_after(&self, key: &NumberedKey) -> bool
-        ensures { result ≡ is_below self.now (after key.now) }
-    {
-        if self.number == key.number {
-            match self.cut {
-                Cut::Before(cut) => compare_tied(cut, key.bytes()).is_le(),
-                Cut::After(cut) => compare_tied(cut, key.bytes()).is_lt(),
-                Cut::Last => false,
-            }
-        } else {
-            self.number < key.number
-        }
-    }
-
     /// Whether the cut lies below the place before a key.
     pub(crate) fn is_below_before(&self, key: &NumberedKey) -> bool
         ensures { result ≡ is_below self.now (before key.now) }
@@ -161,42 +146,6 @@ impl<'a> NumberedCut<'a> {
         ensures { result ≡ is_below self.now last }
     {
         self.cut.is_below(Cut::Last)
-    }
-
-    /// Whether the cut lies above the least one.
-    pub(crate) fn is_above_least(&self) -> bool
-        ensures { result ≡ is_below (before []) self.now }
-    {
-        Cut::Before(&[]).is_below(self.cut)
-    }
-
-    /// Whether the cut lies above the place after a key.
-    pub(crate) fn is_above_after(&self, key: &NumberedKey) -> bool
-        ensures { result ≡ is_below (after key.now) self.now }
-    {
-        if self.number == key.number {
-            match self.cut {
-                Cut::Before(cut) | Cut::After(cut) => compare_tied(key.bytes(), cut).is_lt(),
-                Cut::Last => true,
-            }
-        } else {
-            key.number < self.number
-        }
-    }
-
-    /// Whether the cut lies above the place before a key.
-    pub(crate) fn is_above_before(&self, key: &NumberedKey) -> bool
-        ensures { result ≡ is_below (before key.now) self.now }
-    {
-        if self.number == key.number {
-            match self.cut {
-                Cut::Before(cut) => compare_tied(key.bytes(), cut).is_lt(),
-                Cut::After(cut) => compare_tied(key.bytes(), cut).is_le(),
-                Cut::Last => true,
-            }
-        } else {
-            key.number < self.number
-        }
     }
 }
 
