@@ -16,6 +16,9 @@ use std::ops::Range;
 use tsc_span::{Cut, Key};
 use tsc_time::{NoMemory, Timestamp, Value, ratchet};
 
+/// How many nodes of a leaf that is cut stay in it.
+const LOWER_HALF: usize = 32;
+
 /// Nodes in the order of their keys: a leaf of a page.
 #[derive(Debug, Drop)]
 pub(crate) struct Nodes {
@@ -320,7 +323,7 @@ impl Nodes {
         ensures rest { IfOk result (λ upper. upper.list.items ≡ drop 32 self.old.list.items) }
     {
         Ok(Nodes {
-            list: self.list.split_off(32)?,
+            list: self.list.split_off(LOWER_HALF)?,
         })
     }
 
