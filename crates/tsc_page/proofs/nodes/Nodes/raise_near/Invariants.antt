@@ -1,7 +1,7 @@
 use Rattle.std.proofs.Common.{◌≡◌, length}
 use Rattle.tsc_page.proofs.Seen.{IsAt}
 use Rattle.tsc_page.proofs.RaisedNodes.{ChangesPlaces, key_raised, gap_raised}
-use Rattle.tsc_page.proofs.nodes.Nodes.raise_between.Given as goal
+use Rattle.tsc_page.proofs.nodes.Nodes.raise_near.Given as goal
 
 -- the keys so far are raised
 abbrev pub invariant-loop-place : goal.invariant-loop-place

@@ -8,8 +8,7 @@ use Rattle.tsc_span.specs.Cuts.{cut_of}
 use Rattle.tsc_page.specs.Nodes.{Node, HoldsKeysOn, HoldsGapsOn}
 use Rattle.tsc_page.specs.contracts.node.Node.{the_view}
 use Rattle.tsc_page.proofs.RaisedNodes.{ChangesPlaces, key_raised, gap_raised, with_both, one_changed, both_changed}
-use Rattle.tsc_page.proofs.Places.{same_span}
-use Rattle.tsc_page.proofs.nodes.Nodes.raise_between.Goals as goal
+use Rattle.tsc_page.proofs.nodes.Nodes.raise_near.Goals as goal
 
 pub loop-place-preserved : goal.loop-place-preserved
 loop-place-preserved c =
@@ -63,8 +62,8 @@ pub returns : goal.returns
 returns c =
     let old : List Node = c.args.self.now.list.items in
     let span : Interval = between (cut_of c.args.from) (cut_of c.args.to) in
-    let keys = subst (λ r. HoldsKeysOn old span r.start r.end) (sym c.into_iter-place-iterator.ensures.into_iter_gives) (subst (λ (s : Interval). HoldsKeysOn old s c.keys_between-keys.result.start c.keys_between-keys.result.end) (same_span c.new-low.ensures c.new-high.ensures) c.keys_between-keys.ensures.holds) in
-    let gaps = subst (λ r. HoldsGapsOn old span r.start r.end) (sym c.into_iter-place-iterator-2.ensures.into_iter_gives) (subst (λ (s : Interval). HoldsGapsOn old s c.gaps_between-gaps.result.start c.gaps_between-gaps.result.end) (same_span c.new-low.ensures c.new-high.ensures) c.gaps_between-gaps.ensures) in
+    let keys = subst (λ r. HoldsKeysOn old span r.start r.end) (sym c.into_iter-place-iterator.ensures.into_iter_gives) c.places_between.ensures.keys in
+    let gaps = subst (λ r. HoldsGapsOn old span r.start r.end) (sym c.into_iter-place-iterator-2.ensures.into_iter_gives) c.places_between.ensures.gaps in
     let first = c.loop-place.invariant in
     let then = c.loop-place-2.invariant in
     let keys_done : c.loop-place.place-iterator.start ≡ c.into_iter-place-iterator.result.end = omega (arith, c.in-None.ensures.steps, first.0.order, first.1) in
