@@ -3,7 +3,7 @@ use Rattle.std.proofs.Common.{◌≡◌, ◌⊎◌, inl, inr, ◌∙◌, refl, s
 use mathlib.Core.Bool.{true≢false}
 use Rattle.std.specs.Prelude.{Option, Some, None, is_some, slice_get}
 use Rattle.std.specs.Option.{option_to_list}
-use Rattle.std.specs.List.{insert}
+use Rattle.std.specs.List.{All, insert}
 use Rattle.std.specs.Str.{bytes_eq}
 use Rattle.std.specs.declared.cmp.Ordering.{Ordering}
 use Rattle.std.specs.declared.cmp.Ordering.TheVariants.{Less, Equal, Greater}
@@ -20,7 +20,7 @@ use Rattle.tsc_span.specs.Span.{KeyBytes, key_cmp, Cut, before, after, last, Int
 use Rattle.tsc_span.proofs.CutOrder.{key_cmp_back}
 use Rattle.tsc_page.specs.PageView.{AreLeafSizes, is_in}
 use Rattle.tsc_page.specs.Nodes.{Node, node_keys, IsSorted, FitsAt, FitsIn, IsNewKey, IsInOrder, IsSplitAt, MakesNodes, AddsNodes, new_count, with_new, node_in_gap, gap_value, raise_nodes}
-use Rattle.tsc_page.specs.Leaves.{nodes_of, leaf_sizes, AreLeaves, start_of, AddsTo, AddsLeaves, LiesAt, IsLeafAt, key_below}
+use Rattle.tsc_page.specs.Leaves.{nodes_of, leaf_sizes, AreLeaves, AreSome, AreParts, IsLeaf, start_of, AddsTo, AddsLeaves, LiesAt, IsLeafAt, key_below}
 use Rattle.tsc_page.proofs.CutOrder.{Lt, Le, Lt-or_Le, Lt-not_Le, Le-chain, Le-from_Lt, Lt-chain, Lt-from_Le_sides, none_above_last, before-after}
 use Rattle.tsc_page.proofs.Edits.{raise_nodes-length, raise_nodes-sorted}
 use Rattle.tsc_page.proofs.NewKeys.{with_new_splits, new_fits, still_new, splits_chain, makes_sorted}
@@ -327,16 +327,32 @@ ends_lie (after k) (before m) up = elim (cases_Bool (bytes_eq k m)) [ inl h ↦ 
 ends_lie (after k) (after m) up = elim (cases_Bool (bytes_eq k m)) [ inl h ↦ rw h (inr refl, tt) | inr h ↦ rw h (inr refl, inr refl) ]
 ends_lie last t up = absurd (Lt-not_Le last t up (none_above_last t))
 
--- the first of leaves, of which a list in two parts is read
-pub first_leaf : {X : Type 0} (f : X → List Node) (xs a b : List X) (d : X) → xs ≡ a ++ b → length a ≡ 1 → map f xs ≡ f (get_or a 0 d) ∷ map f b
-first_leaf f xs [] b d is one = absurd (omega (arith, one))
-first_leaf f xs (x ∷ []) b d is one = ap (map f) is
-first_leaf f xs (x ∷ y ∷ zs) b d is one = absurd (omega (arith, one))
+-- the first of leaves, in two parts
+pub first_leaf : (xs a b : List (List Node)) (d : List Node) → xs ≡ a ++ b → length a ≡ 1 → xs ≡ get_or a 0 d ∷ b
+first_leaf xs [] b d is one = absurd (omega (arith, one))
+first_leaf xs (x ∷ []) b d is one = is
+first_leaf xs (x ∷ y ∷ zs) b d is one = absurd (omega (arith, one))
 
-pub first_set : {X : Type 0} (f : X → List Node) (a b : List X) (y : X) → length a ≡ 1 → map f (set a 0 y ++ b) ≡ f y ∷ map f b
-first_set f [] b y one = absurd (omega (arith, one))
-first_set f (x ∷ []) b y one = refl
-first_set f (x ∷ z ∷ zs) b y one = absurd (omega (arith, one))
+pub first_set : (a b : List (List Node)) (y : List Node) → length a ≡ 1 → set a 0 y ++ b ≡ y ∷ b
+first_set [] b y one = absurd (omega (arith, one))
+first_set (x ∷ []) b y one = refl
+first_set (x ∷ z ∷ zs) b y one = absurd (omega (arith, one))
+
+no_key : (b : Bool) (q : Option KeyBytes) → q ≡ None → q ≡ cond b q None
+no_key true q none = refl
+no_key false q none = none
+
+-- a key at a cut is wholly below nodes where the cut is
+pub told_below : (ys : List Node) (t : Cut) (q : Option KeyBytes) → LiesAt q t → key_below (start_of ys) q ≡ cond (is_below t (start_of ys)) q None
+told_below ys t None lies = no_key (is_below t (start_of ys)) None refl
+told_below ys t (Some k) (inl at) = ap (λ (b : Bool). cond b (Some k) None) (same ∙ ap (λ (c : Cut). is_below c (start_of ys)) (sym at))
+  where
+    same : is_below (after k) (start_of ys) ≡ is_below (before k) (start_of ys)
+    same = elim (cases_Bool (is_below (before k) (start_of ys))) [
+      | inl h ↦ wholly_below k ys h ∙ sym h
+      | inr h ↦ Le-chain (start_of ys) (before k) (after k) h (Le-from_Lt (before k) (after k) (before-after k)) ∙ sym h
+    ]
+told_below ys t (Some k) (inr at) = ap (λ (c : Cut). cond (is_below c (start_of ys)) (Some k) None) (sym at)
 
 -- A first leaf with new keys for it, before an Add.
 pub record IsReady (ls : List (List Node)) (leaf : List Node) (ms : List (List Node)) (from : Cut) (o q : Option KeyBytes) (h g : Option (ℕ × KeyBytes)) : Type 0 where
@@ -349,26 +365,33 @@ pub record IsReady (ls : List (List Node)) (leaf : List Node) (ms : List (List N
   pub fits_upper : FitsIn leaf g
   pub fits_lower : FitsIn (with_new leaf g) h
 
-pub is_ready : (ls : List (List Node)) (leaf : List Node) (ms : List (List Node)) (from e : Cut) (o q o' q' : Option KeyBytes) (h g : Option (ℕ × KeyBytes)) → ls ≡ leaf ∷ ms → AreLeaves ls → Lt from (start_of (nodes_of (drop 1 ls)))
-    → e ≡ start_of (nodes_of ms) → o' ≡ key_below e o → q' ≡ key_below e q → IsInOrder o q → IsNewKey leaf o' h → IsNewKey leaf q' g → IsReady ls leaf ms from o q h g
-is_ready ls leaf ms from e o q o' q' h g is leaves low end lower upper order has_lower has_upper =
+pub is_ready : (ls : List (List Node)) (leaf : List Node) (ms : List (List Node)) (from to : Cut) (o q q' : Option KeyBytes) (h g : Option (ℕ × KeyBytes)) → ls ≡ leaf ∷ ms → AreLeaves ls → Lt from (start_of (nodes_of (drop 1 ls)))
+    → LiesAt o from → LiesAt q to → q' ≡ cond (is_below to (start_of (nodes_of ms))) q None → IsInOrder o q → IsNewKey leaf o h → IsNewKey leaf q' g → IsReady ls leaf ms from o q h g
+is_ready ls leaf ms from to o q q' h g is leaves low first second upper order has_lower has_upper =
     let all : AreLeaves (leaf ∷ ms) = subst AreLeaves is leaves in
     let start = start_of (nodes_of ms) in
-    let one : IsNewKey leaf (key_below start o) h = subst (λ (x : Option KeyBytes). IsNewKey leaf x h) (lower ∙ ap (λ (c : Cut). key_below c o) end) has_lower in
-    let two : IsNewKey leaf (key_below start q) g = subst (λ (x : Option KeyBytes). IsNewKey leaf x g) (upper ∙ ap (λ (c : Cut). key_below c q) end) has_upper in
+    let below : Lt from start = subst (λ (ks : List (List Node)). Lt from (start_of (nodes_of (drop 1 ks)))) is low in
+    let one : IsNewKey leaf (key_below start o) h = subst (λ (x : Option KeyBytes). IsNewKey leaf x h) (sym (all_below (nodes_of ms) from o below first)) has_lower in
+    let two : IsNewKey leaf (key_below start q) g = subst (λ (x : Option KeyBytes). IsNewKey leaf x g) (upper ∙ sym (told_below (nodes_of ms) to q second)) has_upper in
     let sorted = sorted_left leaf (nodes_of ms) all.sorted in
     let still = still_new leaf (key_below start o) (key_below start q) h g sorted (order_below start o q order) one two in
     let once = with_new_splits leaf (key_below start q) g sorted two in
     record {
       shape = is;
       leaves = all;
-      low = subst (λ (ks : List (List Node)). Lt from (start_of (nodes_of (drop 1 ks)))) is low;
+      low = below;
       lower = one;
       upper = two;
       sorted = (with_new_splits (with_new leaf g) (key_below start o) h once.sorted still).sorted;
       fits_upper = new_fits leaf (key_below start q) g two;
       fits_lower = new_fits (with_new leaf g) (key_below start o) h still;
     }
+
+-- the same over the values that a call has
+pub ready_at : (xs a b : List (List Node)) (d leaf : List Node) (from to : Cut) (o q q' : Option KeyBytes) (stops : Bool) (h g : Option (ℕ × KeyBytes)) → xs ≡ a ++ b → length a ≡ 1 → leaf ≡ get_or a 0 d → AreLeaves xs → Lt from (start_of (nodes_of (drop 1 xs)))
+    → LiesAt o from → LiesAt q to → stops ≡ is_below to (start_of (nodes_of b)) → q' ≡ cond stops q None → IsInOrder o q → IsNewKey leaf o h → IsNewKey leaf q' g → IsReady xs leaf b from o q h g
+ready_at xs a b d leaf from to o q q' stops h g parts one is leaves low first second told upper order has_lower has_upper =
+    is_ready xs leaf b from to o q q' h g (first_leaf xs a b d parts one ∙ ap (λ (l : List Node). l ∷ b) (sym is)) leaves low first second (upper ∙ ap (λ (x : Bool). cond x q None) told) order has_lower has_upper
 
 module _ (ls : List (List Node)) (leaf : List Node) (ms : List (List Node)) (f t : Cut) (v : OwnedTime) (o q : Option KeyBytes) (h g : Option (ℕ × KeyBytes)) (up : Lt f t) (first : LiesAt o f) (second : LiesAt q t) (order : IsInOrder o q) (ready : IsReady ls leaf ms f o q h g) (few : length leaf + new_count h g ≤ 64) where
   made_length : (c : Cut) → length (raise_nodes (between f c) v (with_new (with_new leaf g) h)) ≡ length leaf + new_count h g
@@ -427,35 +450,53 @@ module _ (ls : List (List Node)) (leaf : List Node) (ms : List (List Node)) (f t
         few = few_made new_ls adds (n + m) count;
       }
 
+-- leaves are parts, each of 1 to 64 nodes
+pub leaves_whole : (ls : List (List Node)) → AreLeafSizes (leaf_sizes ls) → All IsLeaf ls
+leaves_whole [] sizes i d h = absurd (omega (arith, h))
+leaves_whole (l ∷ ls) sizes zero d h = (sizes.0, sizes.1)
+leaves_whole (l ∷ ls) sizes (suc i) d h = leaves_whole ls sizes.2 i d (omega arith)
+
+whole_leaves : (ls : List (List Node)) → All IsLeaf ls → AreLeafSizes (leaf_sizes ls)
+whole_leaves [] all = tt
+whole_leaves (l ∷ ls) all = let first = all 0 l (omega arith) in (first.0, first.1, whole_leaves ls (λ i d h. all (suc i) d (omega arith)))
+
+-- each leaf stands for itself
+pub as_they_are : (ls : List (List Node)) → map (λ (l : List Node). l) ls ≡ ls
+as_they_are [] = refl
+as_they_are (l ∷ ls) = ap (λ (ms : List (List Node)). l ∷ ms) (as_they_are ls)
+
+pub leaf_parts : (ls : List (List Node)) → AreLeaves ls → AreParts (λ (l : List Node). l) IsLeaf ls
+leaf_parts ls leaves = record { whole = leaves_whole ls leaves.sizes; sorted = subst (λ (ms : List (List Node)). IsSorted (nodes_of ms)) (sym (as_they_are ls)) leaves.sorted }
+
+pub leaf_parts_of : (ls xs : List (List Node)) → xs ≡ ls → AreLeaves ls → AreParts (λ (l : List Node). l) IsLeaf xs
+leaf_parts_of ls xs is leaves = leaf_parts xs (subst AreLeaves (sym is) leaves)
+
+pub part_leaves : (ls : List (List Node)) → All IsLeaf ls → IsSorted (nodes_of ls) → AreLeaves ls
+part_leaves ls all sorted = record { sizes = whole_leaves ls all; sorted = sorted }
+
+some_leaves : (ls : List (List Node)) → AreLeafSizes (leaf_sizes ls) → AreSome ls
+some_leaves [] sizes = tt
+some_leaves (l ∷ ls) sizes = (sizes.0, some_leaves ls sizes.2)
+
 -- the leaves behind the first one, where a span goes on to them
 pub behind : (leaf : List Node) (ms : List (List Node)) → AreLeaves (leaf ∷ ms) → AreLeaves ms × Lt (before []) (start_of (nodes_of (drop 1 ms)))
 behind leaf ms leaves = (
   record { sizes = leaves.sizes.2; sorted = sorted_right leaf (nodes_of ms) leaves.sorted },
-  lowest_below (leaf ∷ ms) leaves.sizes leaves.sorted 1,
+  lowest_below (leaf ∷ ms) (some_leaves (leaf ∷ ms) leaves.sizes) leaves.sorted 1,
 )
 
--- the same over the values that a call has
-pub ready_at : {X : Type 0} (f : X → List Node) (xs a b : List X) (d : X) (leaf : List Node) (from e : Cut) (o q o' q' : Option KeyBytes) (h g : Option (ℕ × KeyBytes)) → xs ≡ a ++ b → length a ≡ 1 → leaf ≡ f (get_or a 0 d) → AreLeaves (map f xs)
-    → Lt from (start_of (nodes_of (drop 1 (map f xs)))) → e ≡ start_of (nodes_of (map f b)) → o' ≡ key_below e o → q' ≡ key_below e q → IsInOrder o q → IsNewKey leaf o' h → IsNewKey leaf q' g → IsReady (map f xs) leaf (map f b) from o q h g
-ready_at f xs a b d leaf from e o q o' q' h g parts one is leaves low end lower upper order has_lower has_upper =
-    is_ready (map f xs) leaf (map f b) from e o q o' q' h g (first_leaf f xs a b d parts one ∙ ap (λ (l : List Node). l ∷ map f b) (sym is)) leaves low end lower upper order has_lower has_upper
-
 -- lists of leaves in two parts
-map_parts : {X : Type 0} (f : X → List Node) (a b : List X) → map f (a ++ b) ≡ map f a ++ map f b
-map_parts f [] b = refl
-map_parts f (x ∷ a) b = ap (λ (ls : List (List Node)). f x ∷ ls) (map_parts f a b)
+take_part : (a b : List (List Node)) → take (length a) (a ++ b) ≡ a
+take_part [] b = refl
+take_part (x ∷ a) b = ap (λ (ls : List (List Node)). x ∷ ls) (take_part a b)
 
-take_part : {X : Type 0} (f : X → List Node) (a b : List X) → take (length a) (map f (a ++ b)) ≡ map f a
-take_part f [] b = refl
-take_part f (x ∷ a) b = ap (λ (ls : List (List Node)). f x ∷ ls) (take_part f a b)
+drop_part : (a b : List (List Node)) → drop (length a) (a ++ b) ≡ b
+drop_part [] b = refl
+drop_part (x ∷ a) b = drop_part a b
 
-drop_part : {X : Type 0} (f : X → List Node) (a b : List X) → drop (length a) (map f (a ++ b)) ≡ map f b
-drop_part f [] b = refl
-drop_part f (x ∷ a) b = drop_part f a b
-
-drop_more : {X : Type 0} (f : X → List Node) (a b : List X) → drop (suc (length a)) (map f (a ++ b)) ≡ drop 1 (map f b)
-drop_more f [] b = refl
-drop_more f (x ∷ a) b = drop_more f a b
+drop_more : (a b : List (List Node)) → drop (suc (length a)) (a ++ b) ≡ drop 1 b
+drop_more [] b = refl
+drop_more (x ∷ a) b = drop_more a b
 
 -- What an Add makes of all leaves, where it starts at a place among them.
 pub record IsAdded (old new : List (List Node)) (s : Interval) (v : OwnedTime) (n : ℕ) : Type 0 where
@@ -463,56 +504,48 @@ pub record IsAdded (old new : List (List Node)) (s : Interval) (v : OwnedTime) (
   pub leaves : AreLeaves new
   pub count : length (nodes_of new) ≡ length (nodes_of old) + n
 
-module _ {X : Type 0} (r : X → List Node) (xs a b : List X) (p : ℕ) (f t : Cut) (parts : xs ≡ a ++ b) (long : length a ≡ p) (leaves : AreLeaves (map r xs)) (up : Lt f t) (at : IsLeafAt (map r xs) f p) where
-  whole : map r xs ≡ map r (a ++ b)
-  whole = ap (map r) parts
+-- the leaves before the one of a cut, and those from there on
+pub record FallsAt (a b : List (List Node)) (f : Cut) : Type 0 where
+  pub start : (nodes_of a ≡ []) ⊎ Le (start_of (nodes_of b)) f
+  pub low : Lt f (start_of (nodes_of (drop 1 b)))
 
-  in_parts : (ys : List X) → nodes_of (map r (a ++ ys)) ≡ nodes_of (map r a) ++ nodes_of (map r ys)
-  in_parts ys = ap (λ (ls : List (List Node)). nodes_of ls) (map_parts r a ys) ∙ nodes_append (map r a) (map r ys)
+pub falls_at : (a b : List (List Node)) (f t : Cut) (p : ℕ) → length a ≡ p → AreLeafSizes (leaf_sizes (a ++ b)) → Lt f t → IsLeafAt (a ++ b) f p → FallsAt a b f
+falls_at a b f t p long sizes up at = record {
+  start = elim (starts_low (a ++ b) f (length a) some here) [
+    | inl none ↦ inl (ap (λ (ls : List (List Node)). nodes_of ls) (sym (take_part a b)) ∙ none)
+    | inr low ↦ inr (subst (λ (ls : List (List Node)). Le (start_of (nodes_of ls)) f) (drop_part a b) low)
+  ];
+  low = subst (λ (ls : List (List Node)). Lt f (start_of (nodes_of ls))) (drop_more a b) (ends_high (a ++ b) f (length a) some (up_to_last f t up) here);
+}
+  where
+    some : AreSome (a ++ b)
+    some = some_leaves (a ++ b) sizes
 
-  parts_sorted : IsSorted (nodes_of (map r a) ++ nodes_of (map r b))
-  parts_sorted = subst IsSorted (in_parts b) (subst (λ (ls : List (List Node)). IsSorted (nodes_of ls)) whole leaves.sorted)
+    here : IsLeafAt (a ++ b) f (length a)
+    here = subst (λ (i : ℕ). IsLeafAt (a ++ b) f i) (sym long) at
 
-  parts_sizes : AreLeafSizes (leaf_sizes (map r a)) × AreLeafSizes (leaf_sizes (map r b))
-  parts_sizes = sizes_parts (map r a) (map r b) (subst (λ (ls : List (List Node)). AreLeafSizes (leaf_sizes ls)) (map_parts r a b) (subst (λ (ls : List (List Node)). AreLeafSizes (leaf_sizes ls)) whole leaves.sizes))
+module _ (a b : List (List Node)) (f t : Cut) (leaves : AreLeaves (a ++ b)) (up : Lt f t) (at : FallsAt a b f) where
+  parts_sorted : IsSorted (nodes_of a ++ nodes_of b)
+  parts_sorted = subst IsSorted (nodes_append a b) leaves.sorted
 
-  pub second_leaves : AreLeaves (map r b)
-  second_leaves = record { sizes = parts_sizes.1; sorted = sorted_right (nodes_of (map r a)) (nodes_of (map r b)) parts_sorted }
+  pub second_leaves : AreLeaves b
+  second_leaves = record { sizes = (sizes_parts a b leaves.sizes).1; sorted = sorted_right (nodes_of a) (nodes_of b) parts_sorted }
 
-  second_at : IsLeafAt (map r (a ++ b)) f (length a)
-  second_at = subst (λ (i : ℕ). IsLeafAt (map r (a ++ b)) f i) (sym long) (subst (λ (ls : List (List Node)). IsLeafAt ls f p) whole at)
-
-  all_sizes : AreLeafSizes (leaf_sizes (map r (a ++ b)))
-  all_sizes = subst (λ (ls : List (List Node)). AreLeafSizes (leaf_sizes ls)) whole leaves.sizes
-
-  pub second_low : Lt f (start_of (nodes_of (drop 1 (map r b))))
-  second_low = subst (λ (ls : List (List Node)). Lt f (start_of (nodes_of ls))) (drop_more r a b) (ends_high (map r (a ++ b)) f (length a) all_sizes (up_to_last f t up) second_at)
-
-  second_start : (nodes_of (map r a) ≡ []) ⊎ Le (start_of (nodes_of (map r b))) f
-  second_start = elim (starts_low (map r (a ++ b)) f (length a) all_sizes second_at) [
-    | inl none ↦ inl (ap (λ (ls : List (List Node)). nodes_of ls) (sym (take_part r a b)) ∙ none)
-    | inr low ↦ inr (subst (λ (ls : List (List Node)). Le (start_of (nodes_of ls)) f) (drop_part r a b) low)
-  ]
-
-  pub added_at : (b' : List X) (v : OwnedTime) (o q : Option KeyBytes) (n : ℕ) → LiesAt o f → LiesAt q t → option_to_list o ++ option_to_list q ≡ end_keys (between f t) → AddsLeaves (map r b) (map r b') o q (between f t) v n → IsAdded (map r xs) (map r (a ++ b')) (between f t) v n
+  pub added_at : (b' : List (List Node)) (v : OwnedTime) (o q : Option KeyBytes) (n : ℕ) → LiesAt o f → LiesAt q t → option_to_list o ++ option_to_list q ≡ end_keys (between f t) → AddsLeaves b b' o q (between f t) v n → IsAdded (a ++ b) (a ++ b') (between f t) v n
   added_at b' v o q n first second keys adds =
       let order = ends_in_order f t o q up keys in
-      let all = adds_right (nodes_of (map r a)) (nodes_of (map r b)) (nodes_of (map r b')) f t v o q parts_sorted up second_start first second order adds.adds in
-      let to = adds_to (nodes_of (map r a) ++ nodes_of (map r b)) (nodes_of (map r a) ++ nodes_of (map r b')) o q (between f t) v parts_sorted order keys all in
-      let was = ap (λ (ls : List (List Node)). nodes_of ls) whole ∙ in_parts b in
-      let now = in_parts b' in
-      let one = length-append (nodes_of (map r a)) (nodes_of (map r b)) in
-      let two = length-append (nodes_of (map r a)) (nodes_of (map r b')) in
+      let all = adds_right (nodes_of a) (nodes_of b) (nodes_of b') f t v o q parts_sorted up at.start first second order adds.adds in
+      let to = adds_to (nodes_of a ++ nodes_of b) (nodes_of a ++ nodes_of b') o q (between f t) v parts_sorted order keys all in
+      let was = nodes_append a b in
+      let now = nodes_append a b' in
+      let one = length-append (nodes_of a) (nodes_of b) in
+      let two = length-append (nodes_of a) (nodes_of b') in
       let more = adds.count in
       record {
-        adds = subst (λ (ns : List Node). AddsTo ns (nodes_of (map r (a ++ b'))) (between f t) v) (sym was) (subst (λ (ns : List Node). AddsTo (nodes_of (map r a) ++ nodes_of (map r b)) ns (between f t) v) (sym now) to.0);
+        adds = subst (λ (ns : List Node). AddsTo ns (nodes_of (a ++ b')) (between f t) v) (sym was) (subst (λ (ns : List Node). AddsTo (nodes_of a ++ nodes_of b) ns (between f t) v) (sym now) to.0);
         leaves = record {
-          sizes = subst (λ (ls : List (List Node)). AreLeafSizes (leaf_sizes ls)) (sym (map_parts r a b')) (sizes_append (map r a) (map r b') parts_sizes.0 adds.sizes);
+          sizes = sizes_append a b' (sizes_parts a b leaves.sizes).0 adds.sizes;
           sorted = subst IsSorted (sym now) to.1;
         };
         count = omega (arith, ap length was, ap length now, one, two, more);
       }
-
-  -- where the second part is as before
-  pub same_leaves : (b' : List X) → map r b' ≡ map r b → map r (a ++ b') ≡ map r xs
-  same_leaves b' same = map_parts r a b' ∙ ap (λ (ls : List (List Node)). map r a ++ ls) same ∙ sym (map_parts r a b) ∙ sym whole

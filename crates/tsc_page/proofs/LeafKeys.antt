@@ -1,25 +1,28 @@
 -- A new key in a leaf, among the nodes of all leaves.
-use Rattle.std.proofs.Common.{◌≡◌, ◌⊎◌, inl, inr, ◌∙◌, refl, sym, ap, subst, Bool, true, false, ◌||◌, ℕ, zero, suc, ◌≤◌, List, [], ◌∷◌, ◌++◌, length, arith}
+use Rattle.std.proofs.Common.{◌≡◌, ◌⊎◌, inl, inr, ◌∙◌, refl, sym, ap, subst, Bool, true, false, ◌||◌, ℕ, zero, suc, ◌≤◌, ◌+◌, List, [], ◌∷◌, ◌++◌, length, arith}
 use mathlib.Core.Bool.{true≢false}
 use Rattle.std.specs.declared.cmp.Ordering.{Ordering}
 use Rattle.std.specs.declared.cmp.Ordering.TheVariants.{Less, Equal, Greater}
 use Rattle.std.specs.Ordering.{is_lt}
-use Rattle.std.specs.Prelude.{Option, Some, None, IfSome, not}
-use Rattle.std.specs.Option.{is_some}
+use Rattle.std.specs.Prelude.{Option, Some, None}
 use Rattle.std.specs.List.{insert}
 use Rattle.std.specs.Str.{bytes_eq}
 use Rattle.std.proofs.Math.Bool.{or-true}
 use Rattle.std.proofs.lemmas.List.{length-append}
+use Rattle.std.proofs.lemmas.List.Edits.{length-insert}
 use Rattle.tsc_time.specs.Time.{zero_time}
 use Rattle.tsc_time.specs.OwnedTime.{OwnedTime, unowned}
 use Rattle.tsc_span.specs.Span.{KeyBytes, key_cmp, Cut, before, after}
 use Rattle.tsc_page.specs.PageView.{is_in}
-use Rattle.tsc_page.specs.Nodes.{Node, node_keys, IsSorted, FitsAt, IsPlaceFor, IsSplitAt, with_new, node_in_gap, gap_value}
-use Rattle.tsc_page.specs.Leaves.{start_of}
+use Rattle.tsc_page.specs.Nodes.{Node, node_keys, IsSorted, FitsAt, IsNewKey, IsSplitAt, with_new, node_in_gap, gap_value}
+use Rattle.tsc_page.specs.Leaves.{start_of, HasNode}
 use Rattle.tsc_page.proofs.CutOrder.{Lt, Le, Lt-not_Le, Le-chain, Le-from_Lt, after-before, below_last, before-after}
 use Rattle.tsc_page.proofs.Cuts.{lowest}
 use Rattle.tsc_page.proofs.Edits.{FitsAt-absent}
 use Rattle.tsc_page.proofs.NewKeys.{with_new_splits}
+use Rattle.tsc_page.proofs.Joins.{sorted_right, below_next}
+use Rattle.std.proofs.lemmas.Bool.{cases_Bool}
+use Rattle.std.proofs.lemmas.Slice.Eq.{bytes_eq-Decides}
 
 -- a key below where nodes begin is wholly below it
 pub wholly_below : (k : KeyBytes) (ys : List Node) → Lt (before k) (start_of ys) → Lt (after k) (start_of ys)
@@ -112,21 +115,74 @@ is_in-append k (x ∷ xs) ys = ap (λ b. bytes_eq k x.key || b) (is_in-append k 
 pub known_within : (k : KeyBytes) (xs leaf ys : List Node) → is_in k (node_keys leaf) ≡ true → is_in k (node_keys (xs ++ (leaf ++ ys))) ≡ true
 known_within k xs leaf ys h = is_in-append k xs (leaf ++ ys) ∙ ap (λ b. is_in k (node_keys xs) || b) (is_in-append k leaf ys ∙ rw h refl) ∙ or-true (is_in k (node_keys xs))
 
--- a leaf's place for a key tells whether it is new among all nodes
-pub told_by_leaf : (k : KeyBytes) (xs leaf ys : List Node) (r : Option ℕ) → IsSorted (xs ++ (leaf ++ ys)) → 1 ≤ length leaf → (xs ≡ []) ⊎ Le (start_of leaf) (before k) → Lt (after k) (start_of ys)
-    → IsPlaceFor k leaf r → IfSome r (λ i. i ≤ length leaf) → is_some r ≡ not (is_in k (node_keys (xs ++ (leaf ++ ys))))
-told_by_leaf k xs leaf ys None sorted some low high at bound = rw (known_within k xs leaf ys at) refl
-told_by_leaf k xs leaf ys (Some i) sorted some low high at bound = let there = placed k xs leaf ys i some low high bound at in rw (FitsAt-absent k (xs ++ (leaf ++ ys)) (shift xs i) (before []) sorted there.fits) refl
+-- a key that is not below where nodes begin is none of those before them
+absent_before : (k : KeyBytes) (xs zs : List Node) → IsSorted (xs ++ zs) → Le (start_of zs) (before k) → is_in k (node_keys xs) ≡ false
+absent_before k [] zs sorted low = refl
+absent_before k (x ∷ xs) zs sorted low = elim (cases_Bool (bytes_eq k x.key)) [
+  | inl e ↦ absurd (Lt-not_Le (after x.key) (start_of zs) (below_next x xs zs sorted)
+      (Le-chain (start_of zs) (before x.key) (after x.key) (subst (λ (q : KeyBytes). Le (start_of zs) (before q)) ((bytes_eq-Decides k x.key).0 e) low) (Le-from_Lt (before x.key) (after x.key) (before-after x.key))))
+  | inr e ↦ rw e (absent_before k xs zs sorted.1 low)
+]
 
--- a node made in a leaf splits a gap of all nodes
-pub made_in_leaf : (k : KeyBytes) (xs leaf ys : List Node) (i : ℕ) → IsSorted (xs ++ (leaf ++ ys)) → 1 ≤ length leaf → (xs ≡ []) ⊎ Le (start_of leaf) (before k) → Lt (after k) (start_of ys) → i ≤ length leaf → FitsAt k (before []) leaf i
-    → IsSplitAt (xs ++ (leaf ++ ys)) (xs ++ (with_new leaf (Some (i, k)) ++ ys)) (k ∷ [])
-made_in_leaf k xs leaf ys i sorted some low high h fits =
-    let there = placed k xs leaf ys i some low high h fits in
-    subst (λ (ns : List Node). IsSplitAt (xs ++ (leaf ++ ys)) ns (k ∷ [])) there.nodes (with_new_splits (xs ++ (leaf ++ ys)) (Some k) (Some (shift xs i, k)) sorted (refl, there.fits, there.bound))
+-- and one that lies below where nodes begin is none of theirs
+absent_behind : (k : KeyBytes) (ys : List Node) → IsSorted ys → Lt (after k) (start_of ys) → is_in k (node_keys ys) ≡ false
+absent_behind k ys sorted high = FitsAt-absent k ys 0 (before []) sorted (lowest (before k), high)
 
-pub known_in_leaf : (k : KeyBytes) (xs leaf ys : List Node) → IsSorted (xs ++ (leaf ++ ys)) → is_in k (node_keys leaf) ≡ true → IsSplitAt (xs ++ (leaf ++ ys)) (xs ++ (leaf ++ ys)) (k ∷ [])
-known_in_leaf k xs leaf ys sorted h = with_new_splits (xs ++ (leaf ++ ys)) (Some k) None sorted (known_within k xs leaf ys h)
+-- whether a key has a node is told by the part in which it falls
+pub known_in_part : (k : KeyBytes) (xs part ys : List Node) → IsSorted (xs ++ (part ++ ys)) → 1 ≤ length part → (xs ≡ []) ⊎ Le (start_of part) (before k) → Lt (after k) (start_of ys)
+    → is_in k (node_keys (xs ++ (part ++ ys))) ≡ is_in k (node_keys part)
+known_in_part k xs part ys sorted some low high =
+    is_in-append k xs (part ++ ys)
+    ∙ ap (λ b. b || is_in k (node_keys (part ++ ys))) none
+    ∙ is_in-append k part ys
+    ∙ ap (λ b. is_in k (node_keys part) || b) (absent_behind k ys (sorted_right part ys (sorted_right xs (part ++ ys) sorted)) high)
+    ∙ or_false (is_in k (node_keys part))
+  where
+    or_false : (b : Bool) → (b || false) ≡ b
+    or_false true = refl
+    or_false false = refl
+
+    start : (part : List Node) → 1 ≤ length part → start_of (part ++ ys) ≡ start_of part
+    start [] h = absurd (omega arith)
+    start (n ∷ ns) h = refl
+
+    none : is_in k (node_keys xs) ≡ false
+    none = elim low [
+      | inl e ↦ ap (λ (ns : List Node). is_in k (node_keys ns)) e
+      | inr l ↦ absent_before k xs (part ++ ys) sorted (subst (λ (c : Cut). Le c (before k)) (sym (start part some)) l)
+    ]
+
+-- a node made in a part is one among all nodes
+pub made_in_part : (k : KeyBytes) (xs part new ys : List Node) → 1 ≤ length part → (xs ≡ []) ⊎ Le (start_of part) (before k) → Lt (after k) (start_of ys)
+    → HasNode part new k → HasNode (xs ++ (part ++ ys)) (xs ++ (new ++ ys)) k
+made_in_part k xs part new ys some low high made = by made.found made.at made.nodes
+  where
+    by : (f : Option (ℕ × KeyBytes)) → IsNewKey part (Some k) f → new ≡ with_new part f → HasNode (xs ++ (part ++ ys)) (xs ++ (new ++ ys)) k
+    by None at is = record { found = None; at = known_within k xs part ys at; nodes = ap (λ (ns : List Node). xs ++ (ns ++ ys)) is }
+    by (Some f) at is =
+        let there = placed k xs part ys f.0 some low high at.2 at.1 in
+        let same : with_new part (Some f) ≡ with_new part (Some (f.0, k)) = ap (λ (q : KeyBytes). with_new part (Some (f.0, q))) at.0 in
+        record {
+          found = Some (shift xs f.0, k);
+          at = (refl, there.fits, there.bound);
+          nodes = ap (λ (ns : List Node). xs ++ (ns ++ ys)) (is ∙ same) ∙ sym there.nodes;
+        }
+
+-- nodes with that of a key answer as before, and are one more at the most
+pub has_node_splits : (old new : List Node) (k : KeyBytes) → IsSorted old → HasNode old new k → IsSplitAt old new (k ∷ [])
+has_node_splits old new k sorted made = subst (λ (ns : List Node). IsSplitAt old ns (k ∷ [])) (sym made.nodes) (with_new_splits old (Some k) made.found sorted made.at)
+
+pub has_node-length : (old new : List Node) (k : KeyBytes) → HasNode old new k → (length old ≤ length new) × (length new ≤ length old + 1)
+has_node-length old new k made = by made.found made.at made.nodes
+  where
+    by : (f : Option (ℕ × KeyBytes)) → IsNewKey old (Some k) f → new ≡ with_new old f → (length old ≤ length new) × (length new ≤ length old + 1)
+    by None at is = (omega (arith, ap length is), omega (arith, ap length is))
+    by (Some f) at is = let one = length-insert old f.0 (node_in_gap f.1 (gap_value (unowned zero_time) old f.0)) at.2 in (omega (arith, ap length is, one), omega (arith, ap length is, one))
+
+-- where only one of two keys was there
+pub has_one : (old new : List Node) (k : KeyBytes) (h g : Option (ℕ × KeyBytes)) → IsNewKey old (Some k) h → IsNewKey old None g → new ≡ with_new (with_new old g) h → HasNode old new k
+has_one old new k h None at none is = record { found = h; at = at; nodes = is }
+has_one old new k h (Some f) at none is = absurd none
 
 pub made_first : (k : KeyBytes) → IsSplitAt [] (node_in_gap k (unowned zero_time) ∷ []) (k ∷ [])
 made_first k = with_new_splits [] (Some k) (Some (0, k)) tt (refl, (lowest (before k), below_last k), omega arith)

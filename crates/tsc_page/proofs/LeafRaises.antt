@@ -1,16 +1,15 @@
 -- A value raised in one leaf after another.
-use Rattle.std.proofs.Common.{◌≡◌, inl, inr, ◌∙◌, refl, sym, ap, subst, ℕ, zero, suc, ◌<◌, ◌≤◌, List, [], ◌∷◌, ◌++◌, length, take, drop, get_or, set, arith}
-use Rattle.std.proofs.lemmas.List.{append_assoc, length-map}
+use Rattle.std.proofs.Common.{◌≡◌, inl, inr, ◌∙◌, refl, sym, ap, subst, ℕ, zero, suc, ◌<◌, ◌≤◌, List, [], ◌∷◌, ◌++◌, length, map, take, drop, get_or, set, arith}
+use Rattle.std.proofs.lemmas.List.{append_assoc, length-map, map-set}
 use Rattle.tsc_time.specs.OwnedTime.{OwnedTime}
 use Rattle.tsc_span.specs.Span.{Cut, before, last, Interval, between}
-use Rattle.tsc_page.specs.PageView.{AreLeafSizes}
 use Rattle.tsc_page.specs.Nodes.{Node, IsSorted, raise_nodes}
-use Rattle.tsc_page.specs.Leaves.{nodes_of, leaf_sizes, AreLeaves, start_of, IsLeafAt}
+use Rattle.tsc_page.specs.Leaves.{nodes_of, leaf_sizes, AreSome, start_of, IsLeafAt}
 use Rattle.tsc_page.proofs.CutOrder.{Lt, Le, Le_Lt-chain}
 use Rattle.tsc_page.proofs.Cuts.{lowest}
-use Rattle.tsc_page.proofs.Edits.{raise_nodes-length, raise_nodes-sorted}
+use Rattle.tsc_page.proofs.Edits.{raise_nodes-length}
 use Rattle.tsc_page.proofs.Joins.{raises_left, raises_right, raises_both, up_to_last}
-use Rattle.tsc_page.proofs.LeafLists.{parted_at, leaf_first, leaf_set, sorted_from, starts_low, ends_high, lowest_below}
+use Rattle.tsc_page.proofs.LeafLists.{parted_at, leaf_first, leaf_set, sorted_from, starts_low, ends_high, lowest_below, part_read}
 
 -- The leaves before a place are raised, and those from there on are as before.
 pub record RaisesSoFar (old now : List (List Node)) (from to low : Cut) (v : OwnedTime) (p : ℕ) : Type 0 where
@@ -20,16 +19,16 @@ pub record RaisesSoFar (old now : List (List Node)) (from to low : Cut) (v : Own
   pub up : Lt low to
   pub below : Lt low (start_of (nodes_of (drop (suc p) old)))
 
-pub raises_start : (old : List (List Node)) (from to : Cut) (v : OwnedTime) (p : ℕ) → AreLeaves old → Lt from to → IsLeafAt old from p → RaisesSoFar old old from to from v p
-raises_start old from to v p leaves up at = record {
+pub raises_start : (old : List (List Node)) (from to : Cut) (v : OwnedTime) (p : ℕ) → AreSome old → IsSorted (nodes_of old) → Lt from to → IsLeafAt old from p → RaisesSoFar old old from to from v p
+raises_start old from to v p some sorted up at = record {
   sizes = refl;
   rest = refl;
-  raised = ap (raise_nodes (between from to) v) (parted_at old p) ∙ elim (starts_low old from p leaves.sizes at) [
+  raised = ap (raise_nodes (between from to) v) (parted_at old p) ∙ elim (starts_low old from p some at) [
     | inl h ↦ ap (λ (ns : List Node). raise_nodes (between from to) v (ns ++ nodes_of (drop p old))) h ∙ ap (λ (ns : List Node). ns ++ raise_nodes (between from to) v (nodes_of (drop p old))) (sym h)
-    | inr h ↦ raises_right from to (nodes_of (drop p old)) h v (nodes_of (take p old)) (subst IsSorted (parted_at old p) leaves.sorted)
+    | inr h ↦ raises_right from to (nodes_of (drop p old)) h v (nodes_of (take p old)) (subst IsSorted (parted_at old p) sorted)
   ];
   up = up;
-  below = ends_high old from p leaves.sizes (up_to_last from to up) at;
+  below = ends_high old from p some (up_to_last from to up) at;
 }
 
 -- another leaf of the same size
@@ -63,7 +62,7 @@ set_take (m ∷ ls) (suc p) l h = ap (λ (ns : List Node). m ++ ns) (set_take ls
 pub as_many : (old now : List (List Node)) → leaf_sizes now ≡ leaf_sizes old → length now ≡ length old
 as_many old now h = omega (arith, ap length h, length-map now (λ l. length l), length-map old (λ l. length l))
 
-module _ (old now : List (List Node)) (from to low : Cut) (v : OwnedTime) (p : ℕ) (leaves : AreLeaves old) (inside : p < length now) (so_far : RaisesSoFar old now from to low v p) where
+module _ (old now : List (List Node)) (from to low : Cut) (v : OwnedTime) (p : ℕ) (some : AreSome old) (sorted : IsSorted (nodes_of old)) (inside : p < length now) (so_far : RaisesSoFar old now from to low v p) where
   abbrev pub leaf : List Node
   leaf = get_or now p []
 
@@ -77,7 +76,7 @@ module _ (old now : List (List Node)) (from to low : Cut) (v : OwnedTime) (p : �
   rest_is = ap nodes_of (same_drop p now old so_far.rest)
 
   pub left_sorted : IsSorted (leaf ++ rest)
-  left_sorted = subst IsSorted left (sorted_from old p leaves.sorted)
+  left_sorted = subst IsSorted left (sorted_from old p sorted)
 
   below_rest : Lt low (start_of rest)
   below_rest = subst (λ (ns : List Node). Lt low (start_of ns)) (sym rest_is) so_far.below
@@ -105,7 +104,7 @@ module _ (old now : List (List Node)) (from to low : Cut) (v : OwnedTime) (p : �
         ∙ ap (λ (ns : List Node). ns ++ raise_nodes (between (before []) to) v rest) (sym (set_take now p (raise_nodes (between low last) v leaf) inside))
         ∙ ap (λ (ns : List Node). nodes_of (take (suc p) (set now p (raise_nodes (between low last) v leaf))) ++ raise_nodes (between (before []) to) v ns) rest_is;
     up = Le_Lt-chain (before []) low to (lowest low) so_far.up;
-    below = lowest_below old leaves.sizes leaves.sorted (suc p);
+    below = lowest_below old some sorted (suc p);
   }
 
 -- no leaf is left
@@ -132,12 +131,6 @@ raises_end old now from to low v p h so_far =
     none_left zero (l ∷ ls) g = absurd (omega arith)
     none_left (suc q) (l ∷ ls) g = none_left q ls (omega arith)
 
--- where the nodes are raised, the leaves are as before
-pub raised_leaves : (old now : List (List Node)) (s : Interval) (v : OwnedTime) → AreLeaves old → leaf_sizes now ≡ leaf_sizes old → nodes_of now ≡ raise_nodes s v (nodes_of old) → AreLeaves now × (length (nodes_of now) ≡ length (nodes_of old))
-raised_leaves old now s v leaves sizes is = (
-  record {
-    sizes = subst AreLeafSizes (sym sizes) leaves.sizes;
-    sorted = subst IsSorted (sym is) (raise_nodes-sorted s v (nodes_of old) leaves.sorted);
-  },
-  ap length is ∙ raise_nodes-length s v (nodes_of old),
-)
+-- another part in a place, which is the one there raised
+pub raised_part : {X : Type 0} (f : X → List Node) (xs : List X) (p : ℕ) (d y : X) (s : Interval) (v : OwnedTime) → p < length xs → f y ≡ raise_nodes s v (f (get_or xs p d)) → map f (set xs p y) ≡ set (map f xs) p (raise_nodes s v (get_or (map f xs) p []))
+raised_part f xs p d y s v inside is = map-set f xs p y ∙ ap (λ (l : List Node). set (map f xs) p l) (is ∙ ap (raise_nodes s v) (part_read f xs p d inside))

@@ -1,9 +1,10 @@
 -- How the nodes of a page stand in leaves, one after another.
+use Rattle.std.specs.List.{All}
 use Rattle.std.specs.Prelude.{◌≡◌, ℕ, suc, ◌<◌, ◌≤◌, ◌+◌, ◌-◌, ◌⊎◌, List, [], ◌∷◌, ◌++◌, length, map, slice_index_or, true, false, Option, Some, None, if◌then◌else◌}
 use Rattle.tsc_time.specs.OwnedTime.{OwnedTime}
 use Rattle.tsc_span.specs.Span.{KeyBytes, Cut, before, after, Interval, is_below, end_keys}
 use Rattle.tsc_page.specs.PageView.{AreLeafSizes}
-use Rattle.tsc_page.specs.Nodes.{Node, next_cut, node_stretches, IsSorted, IsSplitAt, AddsNodes, raise_nodes}
+use Rattle.tsc_page.specs.Nodes.{Node, next_cut, node_stretches, IsSorted, IsNewKey, IsSplitAt, AddsNodes, with_new, raise_nodes}
 
 -- the nodes of all leaves, in their order
 abbrev pub nodes_of : List (List Node) → List Node
@@ -13,6 +14,26 @@ nodes_of (l ∷ ls) = l ++ nodes_of ls
 -- how many nodes each leaf has
 abbrev pub leaf_sizes : List (List Node) → List ℕ
 leaf_sizes ls = map (λ l. length l) ls
+
+-- no list is empty
+abbrev pub AreSome : List (List Node) → Type 0
+AreSome [] = Unit {0}
+AreSome (l ∷ ls) = (1 ≤ length l) × AreSome ls
+
+-- Parts that are as they have to be, one by one and in the order of their keys.
+pub record AreParts {X : Type 0} (nodes : X → List Node) (IsWhole : X → Type 0) (xs : List X) : Type 0 where
+  pub whole : All IsWhole xs
+  pub sorted : IsSorted (nodes_of (map nodes xs))
+
+-- how many nodes a leaf has
+abbrev pub IsLeaf : List Node → Type 0
+IsLeaf l = (1 ≤ length l) × (length l ≤ 64)
+
+-- Nodes with that of a key, which they have already or which is new.
+pub record HasNode (old new : List Node) (k : KeyBytes) : Type 0 where
+  pub found : Option (ℕ × KeyBytes)
+  pub at : IsNewKey old (Some k) found
+  pub nodes : new ≡ with_new old found
 
 -- Leaves of 1 to 64 nodes, in the order of their keys.
 pub record AreLeaves (ls : List (List Node)) : Type 0 where

@@ -1,7 +1,7 @@
 -- Numbers that stand for the first bytes of keys, so that most keys are compared by them alone.
-use Rattle.std.specs.Prelude.{◌≡◌, ℕ, zero, suc, ◌+◌, ◌*◌, ◌-◌, ◌<◌, ◌^◌, [], ◌∷◌}
+use Rattle.std.specs.Prelude.{◌≡◌, ℕ, zero, suc, ◌+◌, ◌*◌, ◌-◌, ◌<◌, ◌^◌, [], ◌∷◌, Bool, Option, IfSome}
 use Rattle.std.specs.List.{All}
-use Rattle.tsc_span.specs.Span.{KeyBytes, Cut, before, after, last}
+use Rattle.tsc_span.specs.Span.{KeyBytes, Cut, before, after, last, is_below}
 
 -- The number that so many bytes of a key spell behind a number, the greatest first. Zeros stand for bytes that a key doesn't have.
 abbrev pub spelled : ℕ → ℕ → KeyBytes → ℕ
@@ -29,3 +29,11 @@ abbrev pub IsCutNumber : ℕ → Cut → Type 0
 IsCutNumber n (before k) = IsNumberOf n k
 IsCutNumber n (after k) = IsNumberOf n k
 IsCutNumber n last = n ≡ 2 ^ 128 - 1
+
+-- whether a cut lies below one of a number, where the numbers tell
+abbrev pub TellsBelow : Cut → ℕ → Option Bool → Type 0
+TellsBelow c n told = (d : Cut) → IsCutNumber n d → IfSome told (λ below. below ≡ is_below c d)
+
+-- and whether above
+abbrev pub TellsAbove : Cut → ℕ → Option Bool → Type 0
+TellsAbove c n told = (d : Cut) → IsCutNumber n d → IfSome told (λ above. above ≡ is_below d c)

@@ -17,11 +17,13 @@
 //! A [`PlainPage`] is the same thing as the list of what was added: slow, and easy to believe.
 #![tactic(auto)]
 
+mod leaf;
 mod leaves;
 mod node;
 mod nodes;
 mod number;
 mod page;
+mod parts;
 mod plain;
 
 pub use page::Page;

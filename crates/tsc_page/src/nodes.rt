@@ -5,12 +5,13 @@ ghost use Rattle.tsc_time.specs.OwnedTime.{unowned};
 ghost use Rattle.tsc_time.specs.Joint.{joint};
 ghost use Rattle.tsc_span.specs.Span.{is_below, between};
 ghost use Rattle.tsc_span.specs.Cuts.{cut_of};
+ghost use Rattle.tsc_page.specs.Numbers.{IsCutNumber};
 ghost use Rattle.tsc_page.specs.PageView.{is_new_among};
 ghost use Rattle.tsc_page.specs.Nodes.{IsSorted, FitsAt, IsPlaceFor, IsFoundAt, IsPlaceOf, HasKeysBelow, StandsAt, LiesFrom, index_of, key_above, first_gap, IsNewKey, FitsIn, with_new, IsInOrder, HasNodes, new_count, HoldsKeysOn, HoldsGapsOn, node_keys, answer_of, raise_nodes, node_in_gap, gap_value, next_cut, node_stretches};
 
 use crate::node::Node;
 use crate::number::{NumberedBytes, NumberedCut, NumberedKey};
-use std::alloc::Global;
+use std::alloc::{AllocError, Global};
 use std::cmp::Ordering;
 use std::ops::Range;
 use tsc_span::{Cut, Key};
@@ -68,6 +69,26 @@ impl Nodes {
         match self.list.first() {
             Some(first) => cut.is_below_before(&first.key),
             None => cut.is_below_last(),
+        }
+    }
+
+    /// Whether a cut lies above where the nodes begin.
+    pub(crate) fn starts_below(&self, cut: &NumberedCut<'_>) -> bool
+        ensures { result ≡ is_below (next_cut (node_stretches self.now.list.items)) cut.now }
+    {
+        match self.list.first() {
+            Some(first) => cut.is_above_before(&first.key),
+            None => false,
+        }
+    }
+
+    /// The number of where the nodes begin.
+    pub(crate) fn start_number(&self) -> u128
+        ensures { IsCutNumber result (next_cut (node_stretches self.now.list.items)) }
+    {
+        match self.list.first() {
+            Some(first) => first.key.number(),
+            None => u128::MAX,
         }
     }
 
@@ -316,6 +337,17 @@ impl Nodes {
         self.raise_near(from, to, new.near, value);
     }
 
+    /// Makes nodes of new keys, of which the first is the smaller. It takes no memory.
+    pub(crate) fn make(&mut self, new: NewKeys)
+        requires second { FitsIn self.old.list.items new.second }
+        requires first { FitsIn (with_new self.old.list.items new.second) new.first }
+        requires room { vec_len self.old.list + (new_count new.first new.second) ≤ vec_capacity self.old.list }
+        ensures { self.new.list.items ≡ with_new (with_new self.old.list.items new.second) new.first }
+    {
+        self.split(new.second);
+        self.split(new.first);
+    }
+
     /// Takes off the nodes behind the first 32.
     pub(crate) fn cut(&mut self) -> Result<Nodes, NoMemory>
         requires long { 32 ≤ length self.old.list.items }
@@ -382,6 +414,15 @@ fn joint_of(best: &Value, value: &Value) -> Value
     ensures { result ≡ joint best.now (value.now ∷ []) }
 {
     ratchet(*best, *value).0
+}
+
+/// A clone has room for two nodes more.
+impl Clone for Nodes {
+    ghost is_clone = { λ nodes copy. copy.list.items ≡ nodes.list.items };
+
+    fn clone(&self) -> Result<Nodes, AllocError> {
+        self.try_copy(2).map_err(|_| AllocError)
+    }
 }
 
 /// Copies of up to two keys that have no node, of which the first is the smaller, with the places for them; and

@@ -1,7 +1,7 @@
 ghost use Rattle.std.specs.Prelude.{◌≡◌, ◌≤◌, length, drop, IfOk};
 ghost use Rattle.tsc_span.specs.Span.{key_cmp, before, last, is_below};
 ghost use Rattle.tsc_span.specs.Cuts.{cut_of};
-ghost use Rattle.tsc_page.specs.Numbers.{spelled, IsNumberOf, AreTied};
+ghost use Rattle.tsc_page.specs.Numbers.{spelled, IsNumberOf, AreTied, TellsBelow, TellsAbove};
 
 use std::cmp::Ordering;
 use std::marker::Model;
@@ -47,6 +47,13 @@ impl NumberedKey {
         ensures { result.now ≡ self.now }
     {
         self.key.bytes()
+    }
+
+    /// The number of the key.
+    pub(crate) fn number(&self) -> u128
+        ensures { IsNumberOf result self.now }
+    {
+        self.number
     }
 
     /// A copy of the key.
@@ -130,6 +137,35 @@ impl<'a> NumberedCut<'a> {
         NumberedCut { number, cut }
     }
 
+    /// The cut itself.
+    pub(crate) fn cut(&self) -> Cut<'a>
+        ensures { cut_of result ≡ self.now }
+    {
+        self.cut
+    }
+
+    /// Whether the cut lies below those of a number; `None` where that is its own number.
+    pub(crate) fn is_below_number(&self, number: u128) -> Option<bool>
+        ensures { TellsBelow self.now number result }
+    {
+        if self.number == number {
+            None
+        } else {
+            Some(self.number < number)
+        }
+    }
+
+    /// Whether the cut lies above those of a number; `None` where that is its own number.
+    pub(crate) fn is_above_number(&self, number: u128) -> Option<bool>
+        ensures { TellsAbove self.now number result }
+    {
+        if self.number == number {
+            None
+        } else {
+            Some(number < self.number)
+        }
+    }
+
     /// Whether the cut lies below the place before a key.
     pub(crate) fn is_below_before(&self, key: &NumberedKey) -> bool
         ensures { result ≡ is_below self.now (before key.now) }
@@ -149,6 +185,21 @@ impl<'a> NumberedCut<'a> {
         ensures { result ≡ is_below self.now last }
     {
         self.cut.is_below(Cut::Last)
+    }
+
+    /// Whether the cut lies above the place before a key.
+    pub(crate) fn is_above_before(&self, key: &NumberedKey) -> bool
+        ensures { result ≡ is_below (before key.now) self.now }
+    {
+        if self.number == key.number {
+            match self.cut {
+                Cut::Before(cut) => compare_tied(key.bytes(), cut).is_lt(),
+                Cut::After(cut) => compare_tied(key.bytes(), cut).is_le(),
+                Cut::Last => true,
+            }
+        } else {
+            key.number < self.number
+        }
     }
 }
 

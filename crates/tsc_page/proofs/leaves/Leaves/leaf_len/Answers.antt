@@ -1,26 +1,23 @@
 -- A leaf's size is that of its list.
-use Rattle.std.proofs.Common.{◌∙◌, ◌<◌, ◌≤◌, ap, List, get_or, length, arith, Global}
-use Rattle.std.specs.Prelude.{Some}
-use Rattle.std.specs.declared.sync.Arc.{Arc}
+use Rattle.std.proofs.Common.{◌≡◌, ◌∙◌, ◌<◌, ap, subst, List, get_or, length, arith}
+use Rattle.std.specs.Prelude.{None, slice_get}
 use Rattle.tsc_page.specs.Nodes.{Node}
 use Rattle.tsc_page.specs.Leaves.{leaf_sizes}
-use Rattle.tsc_page.specs.LeafParts.{leaf_of, leaf_in, leaves_of}
-use Rattle.tsc_page.specs.declared.nodes.Nodes.{Nodes}
-use Rattle.tsc_page.proofs.LeafLists.{size_at, no_size, size_small}
+use Rattle.tsc_page.specs.LeafParts.{leaves_of}
+use Rattle.tsc_page.proofs.LeafLists.{no_size}
+use Rattle.tsc_page.proofs.LeafAdds.{leaves_whole, as_they_are}
 use Rattle.tsc_page.proofs.leaves.Leaves.leaf_len.Goals as goal
 
-pub returns-in-Some : goal.returns-in-Some
-returns-in-Some c =
+pub returns-in-Some-clause-few : goal.returns-in-Some-clause-few
+returns-in-Some-clause-few c =
     let ls : List (List Node) = leaves_of c.args.self.now in
-    let items : List (Arc Nodes Global) = c.args.self.now.list.items in
-    let read = λ (a : Arc Nodes Global). leaf_in a in
-    let here : c.args.place < length items = omega (arith, c.in-Some.ensures.lookup.3.0, ap length c.deref.ensures.value) in
-    let size = size_at read items c.args.place c.in-Some.leaf.now here (c.in-Some.ensures.lookup.1 ∙ ap (λ (xs : List (Arc Nodes Global)). get_or xs c.args.place c.in-Some.leaf.now) c.deref.ensures.value) in
-    let value = ap Some (c.len.ensures ∙ ap (λ (n : Nodes). length (leaf_of n)) c.deref-in-Some.ensures) ∙ size in
-    record { value = value; few = size_small (leaf_sizes ls) c.args.place c.len.result c.requires.counted.leaves.sizes value }
+    let here : c.args.place < length ls = omega (arith, c.in-Some.ensures.lookup.3.0, ap length c.deref.ensures.value) in
+    let few = leaves_whole ls c.requires.counted.leaves.sizes c.args.place c.in-Some.leaf.now here in
+    let is = c.in-Some.ensures.lookup.1 ∙ ap (λ (xs : List (List Node)). get_or xs c.args.place c.in-Some.leaf.now) c.deref.ensures.value in
+    omega (arith, c.len.ensures, ap length c.nodes.ensures, ap length is, few.1)
 
 pub returns-in-None-clause-value : goal.returns-in-None-clause-value
 returns-in-None-clause-value c =
-    let items : List (Arc Nodes Global) = c.args.self.now.list.items in
-    let past : length items ≤ c.args.place = omega (arith, c.in-None.ensures.lookup.3, ap length c.deref.ensures.value) in
-    no_size (λ (a : Arc Nodes Global). leaf_in a) items c.args.place past
+    let ls : List (List Node) = leaves_of c.args.self.now in
+    subst (λ (ms : List (List Node)). None ≡ slice_get (leaf_sizes ms) c.args.place) (as_they_are ls)
+    (no_size (λ (l : List Node). l) ls c.args.place (omega (arith, c.in-None.ensures.lookup.3, ap length c.deref.ensures.value)))

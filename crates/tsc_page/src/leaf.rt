@@ -1,0 +1,131 @@
+ghost use Rattle.std.specs.Prelude.{◌≡◌, ◌++◌, OnOk, IfOk, IfSome};
+ghost use Rattle.tsc_page.specs.Nodes.{IsSorted};
+ghost use Rattle.tsc_page.specs.Leaves.{IsLeaf, HasNode};
+ghost use Rattle.tsc_page.specs.LeafParts.{nodes_in};
+
+use crate::nodes::Nodes;
+use crate::number::NumberedCut;
+use crate::parts::Part;
+use std::alloc::Global;
+use std::marker::Model;
+use std::sync::Arc;
+use tsc_span::{Cut, Key};
+use tsc_time::{NoMemory, Value};
+
+/// How many nodes a leaf has at the most.
+pub(crate) const LEAF_NODES: usize = 64;
+
+/// Nodes that others may hold too, with the number of where they begin. They don't change while others hold them.
+#[derive(Debug, Drop)]
+pub(crate) struct Leaf {
+    pub(crate) start: u128,
+    pub(crate) nodes: Arc<Nodes>,
+}
+
+impl Model for Leaf {
+    ghost use Rattle.std.specs.Prelude.{List};
+    ghost use Rattle.std.specs.Arc.{arc_value};
+    ghost use Rattle.tsc_page.specs.Nodes.{Node};
+    ghost use Rattle.tsc_page.specs.Numbers.{IsCutNumber};
+    ghost use Rattle.tsc_page.specs.Leaves.{start_of};
+
+    ghost Value = { List Node };
+
+    ghost view = { λ l. (arc_value l.nodes).list.items };
+
+    ghost invariant = { λ l. IsCutNumber l.start (start_of (arc_value l.nodes).list.items) };
+}
+
+impl Leaf {
+    pub(crate) fn new(alloc: Global, nodes: Nodes) -> Result<Leaf, NoMemory>
+        ensures { IfOk result (λ leaf. leaf ≡ nodes.list.items) }
+    {
+        Ok(Leaf {
+            start: nodes.start_number(),
+            nodes: Arc::new(alloc, nodes)?,
+        })
+    }
+
+    /// The nodes of the leaf.
+    pub(crate) fn nodes(&self) -> &Nodes
+        ensures { result.now.list.items ≡ self.now }
+    {
+        &self.nodes
+    }
+
+    /// The same leaf once more.
+    pub(crate) fn try_share(&self) -> Result<Leaf, NoMemory>
+        ensures { IfOk result (λ leaf. leaf ≡ self.now) }
+    {
+        Ok(Leaf {
+            start: self.start,
+            nodes: Arc::try_clone(&self.nodes)?,
+        })
+    }
+}
+
+impl Part for Leaf {
+    ghost nodes = { λ l. l };
+
+    ghost IsWhole = { IsLeaf };
+
+    fn starts_above(&self, cut: &NumberedCut<'_>) -> bool {
+        match cut.is_below_number(self.start) {
+            Some(below) => below,
+            None => self.nodes.starts_above(cut),
+        }
+    }
+
+    fn starts_below(&self, cut: &NumberedCut<'_>) -> bool {
+        match cut.is_above_number(self.start) {
+            Some(above) => above,
+            None => self.nodes.starts_below(cut),
+        }
+    }
+
+    fn joint_between(&self, from: Cut<'_>, to: Cut<'_>) -> Value {
+        self.nodes.joint_between(from, to)
+    }
+
+    fn is_new(&self, key: &Key) -> bool {
+        self.nodes.place_for(key).is_some()
+    }
+
+    fn raise_between(&mut self, from: Cut<'_>, to: Cut<'_>, value: Value) -> Result<(), NoMemory> {
+        Arc::make_mut(&mut self.nodes)?.raise_between(from, to, value);
+        Ok(())
+    }
+
+    fn make_node(&mut self, alloc: Global, key: &Key) -> Result<Option<Leaf>, NoMemory> {
+        if self.nodes.place_for(key).is_none() {
+            return Ok(None);
+        }
+        let nodes = Arc::make_mut(&mut self.nodes)?;
+        let made = grow(nodes, key);
+        self.start = nodes.start_number();
+        match made? {
+            Some(upper) => Ok(Some(Leaf::new(alloc, upper)?)),
+            None => Ok(None),
+        }
+    }
+
+    ghost some = { λ l is. is.0 };
+}
+
+/// Makes a node of a key, where it has none. Where there are then more than a leaf has, those behind the first 32 come off.
+fn grow(nodes: &mut Nodes, key: &Key) -> Result<Option<Nodes>, NoMemory>
+    requires leaf { IsLeaf nodes.old.list.items }
+    requires sorted { IsSorted nodes.old.list.items }
+    ensures made { IfOk result (λ upper. HasNode nodes.old.list.items (nodes.new.list.items ++ nodes_in upper) key.now) }
+    ensures leaf { OnOk result (IsLeaf nodes.new.list.items) }
+    ensures upper { IfOk result (λ upper. IfSome upper (λ u. IsLeaf u.list.items)) }
+{
+    let new = nodes.new_keys(Some(key), None)?;
+    nodes.reserve(&new)?;
+    nodes.make(new);
+    if nodes.len() > LEAF_NODES {
+        Ok(Some(nodes.cut()?))
+    } else {
+        Ok(None)
+    }
+}
