@@ -2,12 +2,12 @@
 ghost use Rattle.std.specs.Prelude.{◌≡◌, IfOk};
 ghost use Rattle.tsc_shared.specs.Answers.{Opens};
 
-use crate::{AddFault, Answer, LowWater, OpenFault, Seat, SharedCache};
 use std::alloc::Global;
 use std::process::Abort;
 use std::sync::Wait;
 use std::test::Fail;
 use tsc_cache::Config;
+use tsc_shared::{AddFault, Answer, LowWater, OpenFault, Seat, SharedCache};
 use tsc_span::{Ends, Key, Span};
 use tsc_time::{NoMemory, Timestamp, Value};
 use uuid::Uuid;

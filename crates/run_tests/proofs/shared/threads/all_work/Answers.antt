@@ -6,10 +6,10 @@ use mir.Syntax.{Lifetime}
 use base.Fml.{Lft}
 use Rattle.std.proofs.Crossing.{crosses}
 use Rattle.tsc_shared.proofs.Crossing.{seat_sends, shared_cache_syncs}
-use Rattle.tsc_shared.specs.contracts.tests.threads.Made.{the_row as made}
-use Rattle.tsc_shared.specs.contracts.tests.threads.Plan.{the_row as plan}
-use Rattle.tsc_shared.specs.contracts.tests.threads.Worker.{the_row as worker}
-use Rattle.tsc_shared.proofs.tests.threads.all_work.Goals as goal
+use Rattle.run_tests.specs.contracts.shared.threads.Made.{the_row as made}
+use Rattle.run_tests.specs.contracts.shared.threads.Plan.{the_row as plan}
+use Rattle.run_tests.specs.contracts.shared.threads.Worker.{the_row as worker}
+use Rattle.run_tests.proofs.shared.threads.all_work.Goals as goal
 
 plan_syncs : IsSync plan
 plan_syncs = search (sendable, crosses) depth 20

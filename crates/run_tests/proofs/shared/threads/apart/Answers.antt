@@ -1,5 +1,5 @@
 use Rattle.std.proofs.Common.{◌≡◌, ℕ, suc, ◌<◌, List, ◌∷◌, length, slice_index_or, IfSome, refl, subst, rules, arith}
-use Rattle.tsc_shared.proofs.tests.threads.apart.Goals as goal
+use Rattle.run_tests.proofs.shared.threads.apart.Goals as goal
 
 -- what holds of each element holds of each but the first
 others_too : {A : Type 0} (P : A → Type 0) (xs ys : List A) (x : A) → xs ≡ x ∷ ys → ((k : ℕ) (d : A) → k < length xs → P (slice_index_or xs k d)) → (k : ℕ) (d : A) → k < length ys → P (slice_index_or ys k d)

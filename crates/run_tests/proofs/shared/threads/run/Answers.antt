@@ -1,6 +1,6 @@
 use Rattle.std.proofs.Common.{◌≡◌, ℕ, zero, suc, ◌<◌, List, length, slice_index_or, refl, sym, subst, arith}
 use Rattle.tsc_shared.specs.Seats.{SharedView, SeatView, new_seats}
-use Rattle.tsc_shared.proofs.tests.threads.run.Goals as goal
+use Rattle.run_tests.proofs.shared.threads.run.Goals as goal
 
 new_one : (name : SharedView) (from count k : ℕ) (d : SeatView) → k < length (new_seats name from count) → (slice_index_or (new_seats name from count) k d).cache ≡ name
 new_one name from zero k d below = absurd (omega (arith, below))

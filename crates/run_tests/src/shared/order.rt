@@ -1,5 +1,5 @@
 //! What came of threads, beside the same Adds in the order of their places.
-use crate::tests::threads::{Adds, Made, Plan};
+use crate::shared::threads::{Adds, Made, Plan};
 use std::alloc::Global;
 use std::collections::VecDeque;
 use std::test::Fail;

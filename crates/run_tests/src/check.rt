@@ -1,6 +1,6 @@
-use crate::*;
 use std::alloc::Global;
 use std::test::Fail;
+use tsc_check::{Verdict, check};
 use tsc_trace::{read_log, read_trace};
 
 const HEAD: &str = r#"{"page_nodes":4,"min_pages":2,"retention":10,"low_water":[5,0],"threads":"#;

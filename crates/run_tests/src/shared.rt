@@ -5,12 +5,12 @@ mod threads;
 use self::order::{are_alike, first_four, in_order};
 use self::pair::{Pair, Row, Step, Told};
 use self::threads::{Plan, run};
-use crate::{OpenFault, SharedCache};
 use std::alloc::Global;
 use std::process::Abort;
 use std::sync::Wait;
 use std::test::Fail;
 use tsc_cache::Config;
+use tsc_shared::{OpenFault, SharedCache};
 use tsc_time::Timestamp;
 
 /// A floor at 5.0, and pages of so many nodes, of which so many are kept at the least.

@@ -1,11 +1,11 @@
 //! Runs whose logs are known, and a run that is held up until all its lists run.
-use crate::{RunFault, run_trace};
 use std::alloc::Global;
 use std::sync::Wait;
 use std::sync::atomic::{AtomicBool, AtomicU64, Ordering};
 use std::test::Fail;
 use std::thread;
 use std::thread::Threads;
+use tsc_run::{RunFault, run_trace};
 use tsc_shared::{Gate, NoGate, OpenFault};
 use tsc_trace::{Log, Said, log_text, read_trace};
 

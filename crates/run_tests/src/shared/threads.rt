@@ -1,7 +1,6 @@
 //! Seats on threads of their own.
 ghost use Rattle.std.specs.Prelude.{◌≡◌, All, IfOk, IfSome};
 
-use crate::{Closed, Seat, SharedCache, StillOut};
 use std::alloc::{AllocError, Global};
 use std::collections::VecDeque;
 use std::sync::Wait;
@@ -9,6 +8,7 @@ use std::test::Fail;
 use std::thread;
 use std::thread::Threads;
 use tsc_cache::Config;
+use tsc_shared::{Closed, Seat, SharedCache, StillOut};
 use tsc_span::{Key, Span};
 use tsc_time::{Timestamp, Value};
 use uuid::Uuid;
