@@ -1,6 +1,6 @@
 ghost use Rattle.std.specs.Prelude.{◌≤◌};
 
-use crate::measure::{Figure, PLACES, WIDTH, figure_of, key, spans};
+use crate::measure::{COPIES, Figure, Keys, PLACES, ROUNDS, WIDTH, figure_of, keep_least};
 use anyhow::{Context, Result, ensure};
 use std::alloc::Global;
 use std::time::Instant;
@@ -8,14 +8,14 @@ use tsc_cache::{Cache, Config};
 use tsc_span::Span;
 use tsc_time::{Timestamp, Value, ratchet};
 
-/// What is measured on a cache, in the order of [`CacheFigures::all`], each beside the operation of a page
-/// whose place in [`OPERATIONS`](crate::measure::OPERATIONS) stands with it.
+/// What is measured on a cache, each beside the operation of a page whose place in
+/// [`OPERATIONS`](crate::measure::OPERATIONS) stands with it.
 pub const CACHE_OPERATIONS: [(&str, usize); 8] = [
     ("lookup of a key in all pages", 1),
     ("lookup of 16 nodes in all pages", 2),
     ("add of a key", 3),
     ("add of 16 nodes", 4),
-    ("next with a key", 3),
+    ("next with a key", 5),
     ("lookup of a key later than all older pages", 1),
     ("lookup of 16 nodes later than all older pages", 2),
     ("add of a new key, with rotations", 0),
@@ -24,34 +24,34 @@ pub const CACHE_OPERATIONS: [(&str, usize); 8] = [
 /// How many pages the caches have that are measured.
 pub const PAGES: [u32; 3] = [1, 4, 17];
 
-/// At how many places versions are made: each copies a page.
-const VERSIONS: usize = 64;
-
 /// How many pages are filled while the oldest ones are dropped.
 const ROTATIONS: u32 = 2;
 
-/// What a cache of one size took.
-#[derive(Drop)]
-pub struct CacheFigures {
-    /// How many pages it had.
-    pub pages: u32,
-    /// What each operation took.
-    pub all: [Figure; 8],
+/// Measures caches of so many pages in [`ROUNDS`] rounds.
+pub fn measure_caches(rt: &HostRuntime, nodes: u32, pages: u32, turns: u32) -> Result<[Figure; 8]>
+    requires at_least { 64 ≤ nodes }
+    requires at_most { nodes ≤ 65536 }
+{
+    let mut all = [Figure::NONE; 8];
+    for _ in 0..ROUNDS {
+        keep_least(&mut all, &measure_round(rt, nodes, pages, turns)?);
+    }
+    Ok(all)
 }
 
 /// Fills the pages of two caches with nodes, and makes each operation on one of them: on the first at
 /// [`PLACES`] places, `turns` times.
-pub fn measure_caches(rt: &HostRuntime, nodes: u32, pages: u32, turns: u32) -> Result<CacheFigures>
+fn measure_round(rt: &HostRuntime, nodes: u32, pages: u32, turns: u32) -> Result<[Figure; 8]>
     requires at_least { 64 ≤ nodes }
     requires at_most { nodes ≤ 65536 }
 {
-    let front = pages.saturating_sub(1);
-    let keys = spans(rt.alloc(), nodes, PLACES, 0, front)?;
-    let ranges = spans(rt.alloc(), nodes, PLACES, WIDTH, front)?;
-    let some = keys.get(..VERSIONS).context("too few keys")?;
+    let front = Keys::new(nodes, pages.saturating_sub(1), &[]);
+    let keys = front.spans(rt.alloc(), PLACES, 0)?;
+    let ranges = front.spans(rt.alloc(), PLACES, WIDTH)?;
+    let some = keys.get(..COPIES as usize).context("too few keys")?;
     let mut level = filled(rt, nodes, pages, false)?;
     let mut rising = filled(rt, nodes, pages, true)?;
-    let all = [
+    Ok([
         look_up(rt, &level, &keys, turns)?,
         look_up(rt, &level, &ranges, turns)?,
         add(rt, &mut level, &keys, turns)?,
@@ -60,8 +60,7 @@ pub fn measure_caches(rt: &HostRuntime, nodes: u32, pages: u32, turns: u32) -> R
         look_up(rt, &rising, &keys, turns)?,
         look_up(rt, &rising, &ranges, turns)?,
         rotate(rt, &mut rising, nodes, pages)?,
-    ];
-    Ok(CacheFigures { pages, all })
+    ])
 }
 
 /// A cache of so many full pages, each with keys of its own. All that is on them has one time, or that of a
@@ -81,7 +80,7 @@ pub fn filled(rt: &HostRuntime, nodes: u32, pages: u32, rising: bool) -> Result<
 fn fill_front(alloc: Global, cache: &mut Cache, nodes: u32, page: u32, wall: u64) -> Result<()> {
     let time = Timestamp::new(wall, 0).context("no time")?;
     for place in 0..u64::from(nodes) {
-        let span = Span::point(key(alloc, place, page)?);
+        let span = Span::point(Keys::new(nodes, page, &[]).key(alloc, place)?);
         cache.add(&span, Value::unowned(time), Timestamp::ZERO)?;
     }
     Ok(())
@@ -146,7 +145,7 @@ fn rotate(rt: &HostRuntime, cache: &mut Cache, nodes: u32, pages: u32) -> Result
 {
     let mut took: u128 = 0;
     for page in pages..pages.saturating_add(ROTATIONS) {
-        let keys = spans(rt.alloc(), nodes, nodes, 0, page)?;
+        let keys = Keys::new(nodes, page, &[]).spans(rt.alloc(), nodes, 0)?;
         let start = Instant::now(rt)?;
         add_late(cache, &keys, u64::from(page) + 1)?;
         took = took.saturating_add(start.elapsed(rt)?.as_nanos());

@@ -1,4 +1,4 @@
-ghost use Rattle.std.specs.Prelude.{◌≤◌};
+ghost use Rattle.std.specs.Prelude.{◌≡◌, ◌≤◌};
 
 use anyhow::{Context, Result, ensure};
 use std::alloc::Global;
@@ -7,14 +7,23 @@ use tsc_page::Page;
 use tsc_span::{Ends, Key, Span};
 use tsc_time::{Timestamp, Value, ratchet};
 
-/// What is measured, in the order of [`Figures::all`].
-pub const OPERATIONS: [&str; 5] = [
+/// What is measured on a page.
+pub const OPERATIONS: [&str; 7] = [
     "add of a new key",
     "lookup of a key",
     "lookup of 16 nodes",
     "add of a key",
     "add of 16 nodes",
+    "next with a key",
+    "next with a new key",
 ];
+
+/// With which keys, and what all of these begin with.
+const KINDS: [(&str, &[u8]); 2] = [("keys of 8 bytes", &[]), ("keys of 24 bytes", &[7; 16])];
+
+/// In how many rounds each operation is measured. Its figure is the least of them, since what else the machine
+/// has to do only adds to a round.
+pub const ROUNDS: u32 = 9;
 
 /// How many nodes a page has at the least.
 pub const SMALLEST: u32 = 64;
@@ -24,6 +33,9 @@ pub const LARGEST: u32 = 65536;
 
 /// At how many places of a full page each operation is made.
 pub const PLACES: u32 = 1024;
+
+/// At how many places an Add is made to a copy.
+pub const COPIES: u32 = 16;
 
 /// How many nodes a range has.
 pub const WIDTH: u32 = 16;
@@ -35,13 +47,15 @@ const APART: u64 = 64;
 /// number of places.
 const STRIDE: u64 = 119_533;
 
-/// What a page of one size took.
-#[derive(Drop)]
-pub struct Figures {
-    /// How many nodes the page had.
-    pub nodes: u32,
-    /// What each operation took.
-    pub all: [Figure; 5],
+/// What an operation on a page took with keys of one kind.
+#[derive(Clone, Copy)]
+pub struct Row {
+    /// The kind of keys.
+    pub keys: &'static str,
+    /// The operation.
+    pub name: &'static str,
+    /// What it took.
+    pub figure: Figure,
 }
 
 /// What an operation took.
@@ -85,61 +99,121 @@ impl Figure {
     }
 }
 
-/// Fills a page with nodes, and then makes each operation at [`PLACES`] places, `turns` times.
-pub fn measure(rt: &HostRuntime, nodes: u32, turns: u32) -> Result<Figures>
+/// The keys of a page of so many nodes.
+#[derive(Clone, Copy)]
+pub struct Keys {
+    nodes: u32,
+    page: u32,
+    front: &'static [u8],
+}
+
+impl Keys {
+    /// Keys of a front and 8 bytes. Those of the first 64 pages of a cache are different ones.
+    pub fn new(nodes: u32, page: u32, front: &'static [u8]) -> Keys
+        ensures { result.nodes ≡ nodes }
+    {
+        Keys { nodes, page, front }
+    }
+
+    /// The key of a place among the nodes.
+    pub fn key(self, alloc: Global, place: u64) -> Result<Key> {
+        let number = place.wrapping_mul(APART).wrapping_add(u64::from(self.page));
+        let mut bytes = Vec::new(alloc);
+        bytes.extend_from_slice(self.front)?;
+        bytes.extend_from_slice(&number.to_be_bytes())?;
+        Ok(Key::new(alloc, &bytes)?)
+    }
+
+    /// So many spans all over the page: single keys, or ranges of `width` nodes.
+    pub fn spans(self, alloc: Global, count: u32, width: u32) -> Result<Vec<Span>>
+        requires at_least { 64 ≤ self.nodes }
+        requires width { width ≤ 16 }
+    {
+        let mut spans = Vec::with_capacity(alloc, count as usize)?;
+        for i in 0..u64::from(count) {
+            let from = i * STRIDE % u64::from(self.nodes - width);
+            let ends = Ends {
+                exclude_from: false,
+                exclude_to: width != 0,
+            };
+            let to = from + u64::from(width);
+            spans.push(Span::range(self.key(alloc, from)?, self.key(alloc, to)?, ends)?)?;
+        }
+        Ok(spans)
+    }
+}
+
+/// Measures pages in [`ROUNDS`] rounds: all operations with keys of 8 bytes, and then with longer ones.
+pub fn measure(rt: &HostRuntime, nodes: u32, turns: u32) -> Result<Vec<Row>>
     requires at_least { 64 ≤ nodes }
     requires at_most { nodes ≤ 65536 }
 {
-    let places = spans(rt.alloc(), nodes, nodes, 0, 0)?;
-    let keys = spans(rt.alloc(), nodes, PLACES, 0, 0)?;
-    let ranges = spans(rt.alloc(), nodes, PLACES, WIDTH, 0)?;
-    let mut page = Page::new(rt.alloc(), nodes, Timestamp::ZERO)?;
-    let all = [
-        add(rt, &mut page, &places, 1)?,
-        look_up(rt, &page, &keys, turns)?,
-        look_up(rt, &page, &ranges, turns)?,
-        add(rt, &mut page, &keys, turns)?,
-        add(rt, &mut page, &ranges, turns)?,
-    ];
-    Ok(Figures {
-        nodes: page.nodes(),
-        all,
-    })
-}
-
-/// The key of a place among the nodes of a page.
-pub fn key(alloc: Global, place: u64, page: u32) -> Result<Key> {
-    let number = place.wrapping_mul(APART).wrapping_add(u64::from(page));
-    Ok(Key::new(alloc, &number.to_be_bytes())?)
-}
-
-/// So many spans all over a page of that many nodes: single keys, or ranges of `width` nodes. The keys of
-/// the first 64 pages are different ones.
-pub fn spans(alloc: Global, nodes: u32, count: u32, width: u32, page: u32) -> Result<Vec<Span>>
-    requires at_least { 64 ≤ nodes }
-    requires width { width ≤ 16 }
-{
-    let mut spans = Vec::with_capacity(alloc, count as usize)?;
-    for i in 0..u64::from(count) {
-        let from = i * STRIDE % u64::from(nodes - width);
-        let ends = Ends {
-            exclude_from: false,
-            exclude_to: width != 0,
-        };
-        let to = from + u64::from(width);
-        spans.push(Span::range(key(alloc, from, page)?, key(alloc, to, page)?, ends)?)?;
+    let mut rows = Vec::new(rt.alloc());
+    for (keys, front) in KINDS {
+        let mut all = [Figure::NONE; 7];
+        for _ in 0..ROUNDS {
+            let round = measure_page(rt, Keys::new(nodes, 0, front), turns)?;
+            keep_least(&mut all, &round);
+        }
+        for (name, figure) in OPERATIONS.into_iter().zip(all) {
+            rows.push(Row { keys, name, figure })?;
+        }
     }
-    Ok(spans)
+    Ok(rows)
 }
 
-/// Looks up each of the spans `turns` times.
-fn look_up(rt: &HostRuntime, page: &Page, spans: &[Span], turns: u32) -> Result<Figure> {
+/// Puts in the place of each figure that of a further round of the same operations, where these took less, or where
+/// it is [`Figure::NONE`].
+pub fn keep_least(all: &mut [Figure], round: &[Figure]) {
+    for (least, figure) in all.iter_mut().zip(round) {
+        if least.operations == 0 || figure.nanoseconds < least.nanoseconds {
+            *least = *figure;
+        }
+    }
+}
+
+/// Fills a page with nodes, and then makes each operation at [`PLACES`] places in each of so many turns, of which that
+/// counts in which it took least: in a short time others seldom come in between. New keys are added to copies before
+/// the page has its last node, when there is room for one.
+fn measure_page(rt: &HostRuntime, here: Keys, turns: u32) -> Result<[Figure; 7]>
+    requires at_least { 64 ≤ here.nodes }
+    requires at_most { here.nodes ≤ 65536 }
+{
+    let nodes = here.nodes;
+    let between = Keys { page: 1, ..here }.spans(rt.alloc(), COPIES, 0)?;
+    let all = here.spans(rt.alloc(), nodes, 0)?;
+    let keys = here.spans(rt.alloc(), PLACES, 0)?;
+    let ranges = here.spans(rt.alloc(), PLACES, WIDTH)?;
+    let some = keys.get(..COPIES as usize).context("too few keys")?;
+    let (most, last) = all.split_at(all.len().saturating_sub(1));
+    let mut page = Page::new(rt.alloc(), nodes, Timestamp::ZERO)?;
+    let filled = add(rt, &mut page, most, 0)?;
+    let next_new = add_to_copies(rt, &page, &between)?;
+    let filled = filled.and(add(rt, &mut page, last, 0)?);
+    ensure!(page.nodes() == nodes, "not as many nodes");
+    let next = add_to_copies(rt, &page, some)?;
+    let mut least = [Figure::NONE; 7];
+    for turn in 0..turns {
+        let turn = [
+            filled,
+            look_up(rt, &page, &keys)?,
+            look_up(rt, &page, &ranges)?,
+            add(rt, &mut page, &keys, turn)?,
+            add(rt, &mut page, &ranges, turn)?,
+            next,
+            next_new,
+        ];
+        keep_least(&mut least, &turn);
+    }
+    Ok(least)
+}
+
+/// Looks up each of the spans.
+fn look_up(rt: &HostRuntime, page: &Page, spans: &[Span]) -> Result<Figure> {
     let mut latest = Value::unowned(Timestamp::ZERO);
     let start = Instant::now(rt)?;
-    for _ in 0..turns {
-        for span in spans {
-            latest = ratchet(latest, page.lookup(span)).0;
-        }
+    for span in spans {
+        latest = ratchet(latest, page.lookup(span)).0;
     }
     let took = start.elapsed(rt)?.as_nanos();
     // what was looked up is used, so that no compiler leaves the lookups out
@@ -147,26 +221,33 @@ fn look_up(rt: &HostRuntime, page: &Page, spans: &[Span], turns: u32) -> Result<
         latest.time() <= page.top(),
         "a lookup answered more than the top"
     );
-    figure_of(spans, turns, took)
+    figure_of(spans, 1, took)
 }
 
-/// Adds each of the spans `turns` times, where it can be added, and each time a nanosecond later.
-fn add(rt: &HostRuntime, page: &mut Page, spans: &[Span], turns: u32) -> Result<Figure> {
+/// Adds each of the spans, in each turn a nanosecond later.
+fn add(rt: &HostRuntime, page: &mut Page, spans: &[Span], turn: u32) -> Result<Figure> {
     let start = Instant::now(rt)?;
-    for turn in 0..turns {
-        for (i, span) in spans.iter().enumerate() {
-            add_at(page, span, u64::from(turn).saturating_add(i as u64))?;
-        }
+    for (i, span) in spans.iter().enumerate() {
+        add_at(page, span, u64::from(turn).saturating_add(i as u64))?;
     }
-    figure_of(spans, turns, start.elapsed(rt)?.as_nanos())
+    figure_of(spans, 1, start.elapsed(rt)?.as_nanos())
 }
 
-/// Adds a span at a wall time, where it can be added.
+/// Adds each of the spans to a copy of the page, which is then dropped.
+fn add_to_copies(rt: &HostRuntime, page: &Page, spans: &[Span]) -> Result<Figure> {
+    let start = Instant::now(rt)?;
+    for span in spans {
+        let mut copy = page.try_copy()?;
+        add_at(&mut copy, span, u64::from(u32::MAX))?;
+    }
+    figure_of(spans, 1, start.elapsed(rt)?.as_nanos())
+}
+
+/// Adds a span at a wall time.
 fn add_at(page: &mut Page, span: &Span, wall: u64) -> Result<()> {
     let time = Timestamp::new(wall, 0).context("no time")?;
-    if !span.is_empty() {
-        page.try_add(span, Value::unowned(time))?;
-    }
+    let is_added = !span.is_empty() && page.try_add(span, Value::unowned(time))?;
+    ensure!(is_added, "an Add of an empty span, or without room");
     Ok(())
 }
 

@@ -1,7 +1,7 @@
 ghost use Rattle.std.specs.Prelude.{◌≤◌};
 
 use crate::caches::{filled, look_up};
-use crate::measure::{Figure, PLACES, WIDTH, spans};
+use crate::measure::{Figure, Keys, PLACES, WIDTH};
 use anyhow::{Context, Result};
 use tsc_cache::Cache;
 use tsc_span::Span;
@@ -63,8 +63,8 @@ fn make_pair(rt: &HostRuntime, nodes: u32, width: u32, single_first: bool) -> Re
     requires at_least { 64 ≤ nodes }
     requires width { width ≤ 16 }
 {
-    let in_single = spans(rt.alloc(), nodes, PLACES, width, 0)?;
-    let in_many = spans(rt.alloc(), nodes, PLACES, width, MANY - 1)?;
+    let in_single = Keys::new(nodes, 0, &[]).spans(rt.alloc(), PLACES, width)?;
+    let in_many = Keys::new(nodes, MANY - 1, &[]).spans(rt.alloc(), PLACES, width)?;
     let (single, many) = if single_first {
         let single = filled(rt, nodes, 1, true)?;
         (single, filled(rt, nodes, MANY, true)?)

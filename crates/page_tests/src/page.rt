@@ -210,13 +210,13 @@ fn span(alloc: Global, text: &[u8]) -> Result<Span, Fail> {
 }
 
 /// Each span between two of the named keys, and from one on.
-fn all_spans(alloc: Global) -> Result<Vec<Span>, Fail> {
+fn all_spans(alloc: Global, names: &[u8]) -> Result<Vec<Span>, Fail> {
     let mut spans = Vec::new(alloc);
-    for from in NAMES {
+    for from in names {
         for exclude_from in [false, true] {
             let onward = Span::onward(key(alloc, *from)?, exclude_from);
             spans.push(onward).map_err(|_| NoMemory)?;
-            for to in NAMES {
+            for to in names {
                 for exclude_to in [false, true] {
                     let ends = Ends {
                         exclude_from,
@@ -329,7 +329,7 @@ fn alike_on(page: &Page, plain: &PlainPage, spans: &[Span]) -> bool {
 /// Memory is ample here: no call is made again.
 #[test]
 fn rows_of_calls(rt: HostRuntime) -> Result<(), Fail> {
-    let all = all_spans(rt.alloc())?;
+    let all = all_spans(rt.alloc(), NAMES)?;
     let mut pages = Pages::new(rt.alloc(), LEAST_NODES, 0)?;
     for (i, step) in STEPS.into_iter().enumerate() {
         assert!(rt; pages.take(rt.alloc(), step, &all)?, "step {i}: {step:?}");
@@ -375,7 +375,7 @@ const MARKS: [(&[u8], u64, u128); 5] = [
 
 #[test]
 fn a_refused_call_changes_nothing(rt: HostRuntime) -> Result<(), Fail> {
-    let all = all_spans(rt.alloc())?;
+    let all = all_spans(rt.alloc(), NAMES)?;
     let mut pages = Pages::new(rt.alloc(), 5, 7)?;
     for (text, wall, owner) in MARKS {
         let (span, value) = (span(rt.alloc(), text)?, value(wall, 0, owner)?);
@@ -510,6 +510,94 @@ fn an_add_over_shared_leaves(rt: HostRuntime) -> Result<(), Fail> {
     assert!(rt; page.lookup(&inner) == value(201, 0, FIRST)? && page.nodes() == 131);
     assert!(rt; copy.lookup(&inner) == value(41, 0, FIRST)? && copy.nodes() == 130);
     assert!(rt; copy.top() == value(130, 0, NOBODY)?.time());
+    Ok(())
+}
+
+/// What is added to pages of three leaves whose copies share them: first to the copies or to the pages, so that one leaf of
+/// the pages is theirs alone, or each; and then over all leaves of the pages, which have these sizes then.
+static OVER_LEAVES: [(bool, [u8; 2], [u8; 2], [u32; 3]); 5] = [
+    (false, [6, 6], [10, 180], [32, 32, 33]),
+    (true, [6, 6], [11, 181], [33, 32, 34]),
+    (true, [64, 64], [10, 181], [32, 32, 34]),
+    (false, [128, 128], [11, 180], [33, 32, 33]),
+    (true, [6, 180], [11, 181], [33, 32, 34]),
+];
+
+/// The sizes of the leaves before.
+const THREE_LEAVES: [u32; 3] = [32, 32, 33];
+
+/// The bytes of some keys, at the ends of leaves and of ranges.
+const SOME_BYTES: &[u8] = &[6, 10, 11, 62, 64, 128, 180, 181];
+
+/// A range up to an excluded key, or the single key where both are the same.
+fn bytes_up_to(alloc: Global, [from, to]: [u8; 2]) -> Result<Span, Fail> {
+    let ends = Ends {
+        exclude_from: false,
+        exclude_to: true,
+    };
+    byte_range(alloc, from, to, ends)
+}
+
+/// Two pages with 97 keys of one byte, each with a time of its own.
+fn pages_of_bytes(alloc: Global) -> Result<Pages, Fail> {
+    let mut pages = Pages::new(alloc, 200, 0)?;
+    for byte in (0..194).step_by(2) {
+        let span = Span::point(byte_key(alloc, byte)?);
+        pages.add(&span, value(u64::from(byte) + 1, 0, FIRST)?)?;
+    }
+    Ok(pages)
+}
+
+/// Whether two pages are alike, the one in leaves of these sizes.
+fn alike_in_leaves(pages: &Pages, sizes: &[u32], all: &[Span]) -> bool {
+    has_leaves(&pages.page, sizes) && alike_on(&pages.page, &pages.plain, all)
+}
+
+/// Adds a value to a span of both pages, of which there are copies. An Add to the page that is refused memory changes neither
+/// it nor the copy, and the same Add then succeeds.
+fn add_beside(
+    pages: &mut Pages,
+    copies: &Pages,
+    span: &Span,
+    value: Value,
+    all: &[Span],
+) -> Result<bool, Fail> {
+    let mut alike = true;
+    if span.is_empty() || !pages.page.room(span) || !pages.plain.room(span) {
+        return Ok(false);
+    }
+    if let Err(NoMemory) = pages.page.add(span, value) {
+        alike = alike_in_leaves(pages, &THREE_LEAVES, all)
+            && alike_in_leaves(copies, &THREE_LEAVES, all);
+        pages.page.add(span, value)?;
+    }
+    pages.plain.add(span, value)?;
+    Ok(alike)
+}
+
+/// Adds over leaves that copies hold too, all but one, and over leaves that they did.
+#[test]
+fn an_add_over_leaves_of_a_copy(rt: HostRuntime) -> Result<(), Fail> {
+    let alloc = rt.alloc();
+    let all = all_spans(alloc, SOME_BYTES)?;
+    for (in_copies, first, second, sizes) in &OVER_LEAVES {
+        let mut pages = pages_of_bytes(alloc)?;
+        let mut copies = pages.copy()?;
+        let (inner, over) = (bytes_up_to(alloc, *first)?, bytes_up_to(alloc, *second)?);
+        let (later, last) = (value(250, 0, SECOND)?, value(220, 0, SECOND)?);
+        let single = if *in_copies {
+            add_beside(&mut copies, &pages, &inner, later, &all)?
+        } else {
+            add_beside(&mut pages, &copies, &inner, later, &all)?
+        };
+        let alike = add_beside(&mut pages, &copies, &over, last, &all)?;
+        assert!(rt; single && alike, "a refused Add: {first:?} {second:?}");
+        let copied = alike_in_leaves(&copies, &THREE_LEAVES, &all);
+        assert!(rt;
+            copied && alike_in_leaves(&pages, sizes, &all),
+            "{first:?} {second:?}"
+        );
+    }
     Ok(())
 }
 

@@ -7,8 +7,6 @@ pub mod laws;
 mod order;
 mod streams;
 mod sweep;
-#[cfg(test)]
-mod tests;
 mod verdict;
 
 pub use checks::check;

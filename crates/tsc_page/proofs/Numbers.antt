@@ -9,7 +9,7 @@ use Rattle.std.specs.List.{All}
 use Rattle.std.proofs.lemmas.Bool.{lt-ltb, le-ltb}
 use Rattle.std.proofs.lemmas.List.{take_all}
 use Rattle.tsc_span.specs.Span.{KeyBytes, key_cmp, Cut, before, after, last, is_below}
-use Rattle.tsc_page.specs.Numbers.{spelled, number_of, IsNumberOf, IsCutNumber}
+use Rattle.tsc_page.specs.Numbers.{spelled, number_of, IsNumberOf, AreTied, IsCutNumber}
 use Rattle.tsc_span.proofs.CutOrder.{key_cmp_back}
 use Rattle.tsc_page.proofs.CutOrder.{Lt, Le-from_Lt}
 
@@ -193,3 +193,22 @@ number_filled k len e = sixteen (take len k ++ drop len (zeros 16)) long ∙ fil
   where
     long : length (take len k ++ drop len (zeros 16)) ≡ 16
     long = length-append (take len k) (drop len (zeros 16)) ∙ omega (arith, length-take len k, length-drop len (zeros 16), e)
+
+rest_small : (n : ℕ) (k : KeyBytes) → Small k → Small (drop n k)
+rest_small zero k small = small
+rest_small (suc n) [] small = none_small
+rest_small (suc n) (b ∷ k) small = rest_small n k (tail_small b k small)
+
+-- of tied keys the next bytes tell, where they differ
+pub next_told : (k m : KeyBytes) (a b : ℕ) (o : Ordering) → AreTied k m → 16 ≤ length k → 16 ≤ length m → a ≡ spelled 8 0 (drop 16 k) → b ≡ spelled 8 0 (drop 16 m) → o ≡ nat_cmp a b → (a ≡ b → ⊥) → o ≡ key_cmp k m
+next_told k m a b o tied lk lm is_a is_b e apart =
+    let rest = tied_by_rest 16 0 k m tied.first tied.second lk lm tied.number in
+    let sk = rest_small 16 k tied.first in
+    let sm = rest_small 16 m tied.second in
+    elim (which a b) [
+      | inl l ↦ e ∙ sym (nat_cmp_is a b Less l) ∙ sym (spelled_order 8 0 (drop 16 k) (drop 16 m) sk sm (omega (arith, is_a, is_b, l))) ∙ rest
+      | inr r ↦ elim r [
+        | inl q ↦ absurd (apart q)
+        | inr l ↦ e ∙ sym (nat_cmp_is a b Greater l) ∙ sym (key_cmp_back (drop 16 m) (drop 16 k) ∙ ap ordering_reverse (spelled_order 8 0 (drop 16 m) (drop 16 k) sm sk (omega (arith, is_a, is_b, l)))) ∙ rest
+      ]
+    ]

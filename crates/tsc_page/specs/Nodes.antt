@@ -1,5 +1,5 @@
 -- How the code keeps a page: nodes in the order of their keys, each with the value of its key and that of the gap up to the next node.
-use Rattle.std.specs.Prelude.{◌≡◌, ℕ, zero, suc, ◌<◌, ◌≤◌, List, [], ◌∷◌, length, map, drop, slice_index_or, true, false, ◌+◌, Option, Some, None, is_some, Result, Ok, Err, ◌||◌, if◌then◌else◌}
+use Rattle.std.specs.Prelude.{◌≡◌, ℕ, zero, suc, ◌<◌, ◌≤◌, List, [], ◌∷◌, length, map, drop, slice_index_or, true, false, ◌+◌, ◌-◌, Option, Some, None, is_some, Result, Ok, Err, ◌||◌, if◌then◌else◌}
 use Rattle.std.specs.List.{insert}
 use Rattle.tsc_time.specs.Time.{Time, zero_time}
 use Rattle.tsc_time.specs.OwnedTime.{OwnedTime, unowned}
@@ -83,12 +83,6 @@ gap_value v nodes zero = v
 gap_value v [] (suc i) = v
 gap_value v (n ∷ ns) (suc i) = gap_value n.gap ns i
 
--- where the gap at a place among nodes that come after a cut starts
-abbrev pub start_of_gap : Cut → List Node → ℕ → Cut
-start_of_gap low nodes zero = low
-start_of_gap low [] (suc i) = low
-start_of_gap low (n ∷ ns) (suc i) = start_of_gap (after n.key) ns i
-
 -- a key fits at a place: it is above the nodes before it, and below those from there on
 abbrev pub FitsAt : KeyBytes → Cut → List Node → ℕ → Type 0
 FitsAt k low nodes zero = (is_below (before k) low ≡ false) × (is_below (after k) (next_cut (node_stretches nodes)) ≡ true)
@@ -106,30 +100,54 @@ key_span n = between (before n.key) (after n.key)
 abbrev pub gap_span : List Node → ℕ → Node → Interval
 gap_span nodes i n = between (after n.key) (next_cut (node_stretches (drop (suc i) nodes)))
 
--- A range of places that starts with the first key not wholly below one cut, and stops before the first one at or above another.
-pub record PartsKeysAt (nodes : List Node) (from to : Cut) (start end : ℕ) : Type 0 where
-  pub low : (i : ℕ) (d : Node) → i < start → is_below from (after (slice_index_or nodes i d).key) ≡ false
-  pub past_low : (i : ℕ) (d : Node) → start ≤ i → i < length nodes → is_below from (after (slice_index_or nodes i d).key) ≡ true
-  pub below_high : (i : ℕ) (d : Node) → i < end → is_below (before (slice_index_or nodes i d).key) to ≡ true
-  pub high : (i : ℕ) (d : Node) → end ≤ i → i < length nodes → is_below (before (slice_index_or nodes i d).key) to ≡ false
-  pub start_bound : start ≤ length nodes
-  pub end_bound : end ≤ length nodes
+-- The keys before a place are below another one.
+pub record HasKeysBelow (nodes : List Node) (k : KeyBytes) (place : ℕ) : Type 0 where
+  pub bound : place ≤ length nodes
+  pub below : (i : ℕ) (d : Node) → i < place → is_below (after (slice_index_or nodes i d).key) (before k) ≡ true
 
--- A place before which just those keys stand that lie wholly below a cut.
-pub record StartsKeysAt (nodes : List Node) (from : Cut) (start : ℕ) : Type 0 where
-  pub low : (i : ℕ) (d : Node) → i < start → is_below from (after (slice_index_or nodes i d).key) ≡ false
-  pub past_low : (i : ℕ) (d : Node) → start ≤ i → i < length nodes → is_below from (after (slice_index_or nodes i d).key) ≡ true
-  pub bound : start ≤ length nodes
+-- A key stands at a place.
+pub record StandsAt (nodes : List Node) (k : KeyBytes) (place : ℕ) : Type 0 where
+  pub bound : place < length nodes
+  pub key : (d : Node) → (slice_index_or nodes place d).key ≡ k
 
--- the keys before a place lie below a cut
-abbrev pub HasKeysBelow : List Node → Cut → ℕ → Type 0
-HasKeysBelow nodes to place = (i : ℕ) (d : Node) → i < place → is_below (before (slice_index_or nodes i d).key) to ≡ true
+-- A key falls between those before a place and those from there on.
+pub record FallsAt (nodes : List Node) (k : KeyBytes) (place : ℕ) : Type 0 where
+  pub low : HasKeysBelow nodes k place
+  pub high : (i : ℕ) (d : Node) → place ≤ i → i < length nodes → is_below (after k) (before (slice_index_or nodes i d).key) ≡ true
 
--- A place before which just those keys stand that lie below a cut.
-pub record StopsKeysAt (nodes : List Node) (to : Cut) (end : ℕ) : Type 0 where
-  pub below_high : HasKeysBelow nodes to end
-  pub high : (i : ℕ) (d : Node) → end ≤ i → i < length nodes → is_below (before (slice_index_or nodes i d).key) to ≡ false
-  pub bound : end ≤ length nodes
+-- where a key stands, or else falls
+abbrev pub IsFoundAt : List Node → KeyBytes → Result ℕ ℕ → Type 0
+IsFoundAt nodes k (Ok i) = StandsAt nodes k i
+IsFoundAt nodes k (Err i) = FallsAt nodes k i
+
+-- where a cut lies: where its key does, or behind all
+abbrev pub IsPlaceOf : List Node → Cut → Result ℕ ℕ → Type 0
+IsPlaceOf nodes (before k) place = IsFoundAt nodes k place
+IsPlaceOf nodes (after k) place = IsFoundAt nodes k place
+IsPlaceOf nodes last place = place ≡ Err (length nodes)
+
+-- the keys before a place are below that of a cut
+abbrev pub LiesFrom : List Node → Cut → ℕ → Type 0
+LiesFrom nodes (before k) place = HasKeysBelow nodes k place
+LiesFrom nodes (after k) place = HasKeysBelow nodes k place
+LiesFrom nodes last place = Unit {0}
+
+-- the place of a node at which a cut lies, or before which it does
+abbrev pub index_of : Result ℕ ℕ → ℕ
+index_of (Ok i) = i
+index_of (Err i) = i
+
+-- that of the first key above a cut
+abbrev pub key_above : Result ℕ ℕ → Cut → ℕ
+key_above (Ok i) (before k) = i
+key_above (Ok i) (after k) = suc i
+key_above (Ok i) last = i
+key_above (Err i) c = i
+
+-- that of the first gap that stops above a cut
+abbrev pub first_gap : Result ℕ ℕ → ℕ
+first_gap (Ok i) = i
+first_gap (Err i) = i - 1
 
 -- A range of places that holds just those of the nodes whose key overlaps a span.
 pub record HoldsKeysOn (nodes : List Node) (span : Interval) (start end : ℕ) : Type 0 where

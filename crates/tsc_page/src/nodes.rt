@@ -2,21 +2,23 @@ ghost use Rattle.std.specs.Prelude.{◌≡◌, ◌<◌, ◌≤◌, [], ◌∷◌
 ghost use Rattle.std.specs.Vec.{vec_len, vec_capacity};
 ghost use Rattle.tsc_time.specs.Time.{zero_time};
 ghost use Rattle.tsc_time.specs.OwnedTime.{unowned};
-ghost use Rattle.tsc_span.specs.Span.{is_below, before, between};
+ghost use Rattle.tsc_time.specs.Joint.{joint};
+ghost use Rattle.tsc_span.specs.Span.{is_below, between};
 ghost use Rattle.tsc_span.specs.Cuts.{cut_of};
 ghost use Rattle.tsc_page.specs.Numbers.{IsCutNumber};
 ghost use Rattle.tsc_page.specs.PageView.{is_new_among};
-ghost use Rattle.tsc_page.specs.Nodes.{IsSorted, FitsAt, IsPlaceFor, IsNewKey, FitsIn, with_new, IsInOrder, HasNodes, new_count, PartsKeysAt, StartsKeysAt, HasKeysBelow, StopsKeysAt, HoldsKeysOn, HoldsGapsOn, node_keys, answer_of, raise_nodes, node_in_gap, gap_value, start_of_gap, next_cut, node_stretches};
+ghost use Rattle.tsc_page.specs.Nodes.{IsSorted, FitsAt, IsPlaceFor, IsFoundAt, IsPlaceOf, HasKeysBelow, StandsAt, LiesFrom, index_of, key_above, first_gap, IsNewKey, FitsIn, with_new, IsInOrder, HasNodes, new_count, HoldsKeysOn, HoldsGapsOn, node_keys, answer_of, raise_nodes, node_in_gap, gap_value, next_cut, node_stretches};
 
 use crate::node::Node;
 use crate::number::{NumberedBytes, NumberedCut, NumberedKey};
 use std::alloc::{AllocError, Global};
+use std::cmp::Ordering;
 use std::ops::Range;
 use tsc_span::{Cut, Key};
 use tsc_time::{NoMemory, Timestamp, Value, ratchet};
 
-/// How many keys are looked at one by one before a search.
-const NEAR: usize = 2;
+/// How many nodes of a leaf that is cut stay in it.
+const LOWER_HALF: usize = 32;
 
 /// Nodes in the order of their keys: a leaf of a page.
 #[derive(Debug, Drop)]
@@ -43,15 +45,11 @@ impl Nodes {
     pub(crate) fn of_key(alloc: Global, key: &Key) -> Result<Nodes, NoMemory>
         ensures { IfOk result (λ nodes. nodes.list.items ≡ node_in_gap key.now (unowned zero_time) ∷ []) }
     {
-        let mut list = Vec::with_capacity(alloc, 1)?;
-        let value = Value::unowned(Timestamp::ZERO);
-        let key = NumberedKey::new(key.try_copy()?);
-        list.push(Node {
-            key,
-            value,
-            gap: value,
-        })?;
-        Ok(Nodes { list })
+        let mut nodes = Nodes {
+            list: Vec::with_capacity(alloc, 1)?,
+        };
+        nodes.split(Some((0, key.try_copy()?)));
+        Ok(nodes)
     }
 
     /// Where the nodes begin.
@@ -94,104 +92,109 @@ impl Nodes {
         }
     }
 
+    /// Where a key stands, or else the place for it.
+    fn find(&self, key: &NumberedBytes<'_>) -> Result<usize, usize>
+        requires sorted { IsSorted self.now.list.items }
+        ensures { IsFoundAt self.now.list.items key.now result }
+    {
+        self.list
+            .as_slice()
+            .binary_search_by(|node| key.compare(&node.key))
+    }
+
     /// The place for a key that has no node, or `None` for one that has.
     pub(crate) fn place_for(&self, key: &Key) -> Option<usize>
         requires sorted { IsSorted self.now.list.items }
         ensures place { IsPlaceFor key.now self.now.list.items result }
         ensures bound { IfSome result (λ i. i ≤ length self.now.list.items) }
     {
-        let key = NumberedBytes::new(key.bytes());
-        self.list
-            .as_slice()
-            .binary_search_by(|node| key.compare(&node.key))
-            .err()
+        self.find(&NumberedBytes::new(key.bytes())).err()
     }
 
-    /// Where the keys that don't lie wholly below a cut start.
-    fn start_of_keys(&self, from: &NumberedCut<'_>) -> usize
+    /// The same as `find`, by a look at one key after another from a place on, before which all are below.
+    fn find_from(&self, place: usize, key: &NumberedBytes<'_>) -> Result<usize, usize>
         requires sorted { IsSorted self.now.list.items }
-        ensures { StartsKeysAt self.now.list.items from.now result }
+        requires low { HasKeysBelow self.now.list.items key.now place }
+        ensures { IsFoundAt self.now.list.items key.now result }
     {
-        self.list
-            .as_slice()
-            .partition_point(|node| !from.is_below_after(&node.key))
-    }
-
-    /// Where the keys below a cut end, by a look at those next to a place before which all are, or else by a
-    /// search: a single key takes no second search.
-    fn end_of_keys(&self, start: usize, to: &NumberedCut<'_>) -> usize
-        requires sorted { IsSorted self.now.list.items }
-        requires low { HasKeysBelow self.now.list.items to.now start }
-        requires bound { start ≤ length self.now.list.items }
-        ensures { StopsKeysAt self.now.list.items to.now result }
-    {
-        for place in start..self.list.len().min(start + NEAR) {
-            if !to.is_above_before(&self.list[place].key) {
-                return place;
+        for i in place..self.list.len() {
+            match key.compare(&self.list[i].key) {
+                Ordering::Less => {}
+                Ordering::Equal => return Ok(i),
+                Ordering::Greater => return Err(i),
             }
         }
-        self.list
-            .as_slice()
-            .partition_point(|node| to.is_above_before(&node.key))
+        Err(self.list.len())
     }
 
-    /// The places of the nodes whose keys lie between two cuts.
-    fn keys_between(&self, from: &NumberedCut<'_>, to: &NumberedCut<'_>) -> Range<usize>
-        requires sorted { IsSorted self.now.list.items }
-        requires order { is_below from.now to.now ≡ true }
-        ensures holds { HoldsKeysOn self.now.list.items (between from.now to.now) result.start result.end }
-        ensures parts { PartsKeysAt self.now.list.items from.now to.now result.start result.end }
-    {
-        let start = self.start_of_keys(from);
-        let end = self.end_of_keys(start, to);
-        start..end
-    }
-
-    /// Whether the gap before a place starts below a cut.
-    fn gap_starts_below(&self, place: usize, to: &NumberedCut<'_>) -> bool
-        requires bound { place ≤ length self.now.list.items }
-        ensures { result ≡ is_below (start_of_gap (before []) self.now.list.items place) to.now }
-    {
-        match place.checked_sub(1) {
-            Some(below) => to.is_above_after(&self.list[below].key),
-            None => to.is_above_least(),
-        }
-    }
-
-    /// Whether the gap before a place stops above a cut.
-    fn gap_stops_above(&self, place: usize, from: &NumberedCut<'_>) -> bool
-        ensures { result ≡ is_below from.now (next_cut (node_stretches (drop place self.now.list.items))) }
+    /// Whether a key stands at a place.
+    fn stands_at(&self, place: usize, key: &NumberedBytes<'_>) -> bool
+        ensures { result ≡ true → StandsAt self.now.list.items key.now place }
     {
         match self.list.get(place) {
-            Some(above) => from.is_below_before(&above.key),
-            None => from.is_below_last(),
+            Some(node) => key.compare(&node.key).is_eq(),
+            None => false,
         }
     }
 
-    /// The places of the nodes whose gaps overlap what lies between two cuts, from those of the nodes whose
-    /// keys do. They are the same, but for the gap before the first key and that after the last one.
-    fn gaps_between(
-        &self,
-        from: &NumberedCut<'_>,
-        to: &NumberedCut<'_>,
-        keys: &Range<usize>,
-    ) -> Range<usize>
+    /// Where a cut lies: where its key does, or behind all. The key may stand at a place that is told.
+    fn place_of(&self, cut: Cut<'_>, near: Option<usize>) -> Result<usize, usize>
         requires sorted { IsSorted self.now.list.items }
-        requires order { is_below from.now to.now ≡ true }
-        requires parts { PartsKeysAt self.now.list.items from.now to.now keys.now.start keys.now.end }
-        ensures { HoldsGapsOn self.now.list.items (between from.now to.now) result.start result.end }
+        ensures { IsPlaceOf self.now.list.items (cut_of cut.entry) result }
     {
-        let start = if self.gap_stops_above(keys.start, from) {
-            keys.start.saturating_sub(1)
-        } else {
-            keys.start
+        let key = match cut {
+            Cut::Before(key) | Cut::After(key) => NumberedBytes::new(key),
+            Cut::Last => return Err(self.list.len()),
         };
-        let end = if self.gap_starts_below(keys.end, to) {
-            keys.end
-        } else {
-            keys.end.saturating_sub(1)
-        };
-        start..end
+        match near {
+            Some(place) if self.stands_at(place, &key) => Ok(place),
+            _ => self.find(&key),
+        }
+    }
+
+    /// The same, where no place is told by a look from a place on before which all keys are below the cut's.
+    fn place_from(&self, cut: Cut<'_>, place: usize, near: Option<usize>) -> Result<usize, usize>
+        requires sorted { IsSorted self.now.list.items }
+        requires low { LiesFrom self.now.list.items (cut_of cut) place }
+        ensures { IsPlaceOf self.now.list.items (cut_of cut.entry) result }
+    {
+        match cut {
+            Cut::Before(key) | Cut::After(key) if near.is_none() => {
+                self.find_from(place, &NumberedBytes::new(key))
+            }
+            _ => self.place_of(cut, near),
+        }
+    }
+
+    /// The place of the first key above a cut, by where the cut lies.
+    fn key_above(&self, place: Result<usize, usize>, cut: Cut<'_>) -> usize
+        requires { IsPlaceOf self.now.list.items (cut_of cut) place }
+        ensures { result ≡ key_above place (cut_of cut.entry) }
+    {
+        match (place, cut) {
+            (Ok(at), Cut::After(_)) => at + 1,
+            _ => index_of(place),
+        }
+    }
+
+    /// The places of the nodes whose keys lie between two cuts, and of those whose gaps overlap what does. The
+    /// keys of the cuts may stand at places that are told; else the first is searched for, and the second looked for
+    /// from there on.
+    fn places_between(
+        &self,
+        from: Cut<'_>,
+        to: Cut<'_>,
+        near: (Option<usize>, Option<usize>),
+    ) -> (Range<usize>, Range<usize>)
+        requires sorted { IsSorted self.now.list.items }
+        requires order { is_below (cut_of from) (cut_of to) ≡ true }
+        ensures keys { HoldsKeysOn self.now.list.items (between (cut_of from.entry) (cut_of to.entry)) result.0.start result.0.end }
+        ensures gaps { HoldsGapsOn self.now.list.items (between (cut_of from.entry) (cut_of to.entry)) result.1.start result.1.end }
+    {
+        let low = self.place_of(from, near.0);
+        let high = self.place_from(to, index_of(low), near.1);
+        let keys = self.key_above(low, from)..self.key_above(high, to);
+        (keys, first_gap(low)..index_of(high))
     }
 
     /// The joint value of the keys and gaps between two cuts.
@@ -201,14 +204,12 @@ impl Nodes {
         ensures { result ≡ answer_of self.now.list.items (between (cut_of from.entry) (cut_of to.entry)) }
     {
         let mut best = Value::unowned(Timestamp::ZERO);
-        let (low, high) = (NumberedCut::new(from), NumberedCut::new(to));
-        let keys = self.keys_between(&low, &high);
-        let gaps = self.gaps_between(&low, &high, &keys);
+        let (keys, gaps) = self.places_between(from, to, (None, None));
         for place in keys {
-            best = ratchet(best, self.list[place].value).0;
+            join(&mut best, &self.list[place].value);
         }
         for place in gaps {
-            best = ratchet(best, self.list[place].gap).0;
+            join(&mut best, &self.list[place].gap);
         }
         best
     }
@@ -219,9 +220,22 @@ impl Nodes {
         requires order { is_below (cut_of from) (cut_of to) ≡ true }
         ensures { self.new.list.items ≡ raise_nodes (between (cut_of from.entry) (cut_of to.entry)) value self.old.list.items }
     {
-        let (low, high) = (NumberedCut::new(from), NumberedCut::new(to));
-        let keys = self.keys_between(&low, &high);
-        let gaps = self.gaps_between(&low, &high, &keys);
+        self.raise_near(from, to, (None, None), value);
+    }
+
+    /// The same, where the cuts are looked for near places.
+    fn raise_near(
+        &mut self,
+        from: Cut<'_>,
+        to: Cut<'_>,
+        near: (Option<usize>, Option<usize>),
+        value: Value,
+    )
+        requires sorted { IsSorted self.old.list.items }
+        requires order { is_below (cut_of from) (cut_of to) ≡ true }
+        ensures { self.new.list.items ≡ raise_nodes (between (cut_of from.entry) (cut_of to.entry)) value self.old.list.items }
+    {
+        let (keys, gaps) = self.places_between(from, to, near);
         for place in keys {
             self.list[place].value = ratchet(self.list[place].value, value).0;
         }
@@ -230,16 +244,19 @@ impl Nodes {
         }
     }
 
-    /// A copy of a key that has no node, with the place for it. For any other key it takes no memory.
-    fn new_key(&self, key: Option<&Key>) -> Result<Option<(usize, Key)>, NoMemory>
+    /// The place of a key or for it, and where it has no node a copy with that place. For any other key it takes
+    /// no memory.
+    fn new_key(&self, key: Option<&Key>) -> Result<(Option<usize>, Option<(usize, Key)>), NoMemory>
         requires sorted { IsSorted self.now.list.items }
-        ensures value { IfOk result (λ found. IsNewKey self.now.list.items (option_map (λ k. k.now) key.entry) found) }
+        ensures value { IfOk result (λ found. IsNewKey self.now.list.items (option_map (λ k. k.now) key.entry) found.1) }
         ensures memory { is_new_among (node_keys self.now.list.items) (option_map (λ k. k.now) key.entry) ≡ false → IsOk result }
     {
-        let Some(key) = key else { return Ok(None) };
-        match self.place_for(key) {
-            Some(place) => Ok(Some((place, key.try_copy()?))),
-            None => Ok(None),
+        let Some(key) = key else {
+            return Ok((None, None))
+        };
+        match self.find(&NumberedBytes::new(key.bytes())) {
+            Ok(place) => Ok((Some(place), None)),
+            Err(place) => Ok((Some(place), Some((place, key.try_copy()?)))),
         }
     }
 
@@ -279,9 +296,13 @@ impl Nodes {
         ensures known { IfOk result (λ new. HasNodes self.now.list.items (option_map (λ k. k.now) first.entry) (option_map (λ k. k.now) second.entry)
             → new_count new.first new.second ≡ 0) }
     {
+        let (low, first) = self.new_key(first)?;
+        let (high, second) = self.new_key(second)?;
+        let near = (low, moved(high, first.is_some()));
         Ok(NewKeys {
-            first: self.new_key(first)?,
-            second: self.new_key(second)?,
+            first,
+            second,
+            near,
         })
     }
 
@@ -311,10 +332,9 @@ impl Nodes {
         ensures { self.new.list.items ≡ raise_nodes (between (cut_of from.entry) (cut_of to.entry)) value
             (with_new (with_new self.old.list.items new.second) new.first) }
     {
-        let NewKeys { first, second } = new;
-        self.split(second);
-        self.split(first);
-        self.raise_between(from, to, value);
+        self.split(new.second);
+        self.split(new.first);
+        self.raise_near(from, to, new.near, value);
     }
 
     /// Makes nodes of new keys, of which the first is the smaller. It takes no memory.
@@ -324,9 +344,8 @@ impl Nodes {
         requires room { vec_len self.old.list + (new_count new.first new.second) ≤ vec_capacity self.old.list }
         ensures { self.new.list.items ≡ with_new (with_new self.old.list.items new.second) new.first }
     {
-        let NewKeys { first, second } = new;
-        self.split(second);
-        self.split(first);
+        self.split(new.second);
+        self.split(new.first);
     }
 
     /// Takes off the nodes behind the first 32.
@@ -336,7 +355,7 @@ impl Nodes {
         ensures rest { IfOk result (λ upper. upper.list.items ≡ drop 32 self.old.list.items) }
     {
         Ok(Nodes {
-            list: self.list.split_off(32)?,
+            list: self.list.split_off(LOWER_HALF)?,
         })
     }
 
@@ -355,6 +374,48 @@ impl Nodes {
     }
 }
 
+/// A place, and where a node came in before it the next one.
+fn moved(place: Option<usize>, more: bool) -> Option<usize> {
+    Some(place?.saturating_add(usize::from(more)))
+}
+
+/// The place of a node at which a cut lies, or before which it does.
+fn index_of(place: Result<usize, usize>) -> usize
+    ensures { result ≡ index_of place }
+{
+    match place {
+        Ok(at) | Err(at) => at,
+    }
+}
+
+/// The place of the first gap that stops above a cut: a gap in which it lies is that of the node before.
+fn first_gap(place: Result<usize, usize>) -> usize
+    ensures { result ≡ first_gap place }
+{
+    match place {
+        Ok(at) => at,
+        Err(at) => at.saturating_sub(1),
+    }
+}
+
+/// Joins a value into the best so far, of which it mostly is the earlier one.
+#[inline]
+fn join(best: &mut Value, value: &Value)
+    ensures { best.new ≡ joint best.old (value.now ∷ []) }
+{
+    if value.time() >= best.time() {
+        *best = joint_of(best, value);
+    }
+}
+
+/// The joint value of two. It stays out of the loops, which else move the bytes of an owner at each step.
+#[inline(never)]
+fn joint_of(best: &Value, value: &Value) -> Value
+    ensures { result ≡ joint best.now (value.now ∷ []) }
+{
+    ratchet(*best, *value).0
+}
+
 /// A clone has room for two nodes more.
 impl Clone for Nodes {
     ghost is_clone = { λ nodes copy. copy.list.items ≡ nodes.list.items };
@@ -364,11 +425,13 @@ impl Clone for Nodes {
     }
 }
 
-/// Copies of up to two keys that have no node, of which the first is the smaller, with the places for them.
+/// Copies of up to two keys that have no node, of which the first is the smaller, with the places for them; and
+/// where both keys stand once they have nodes, as far as they are here.
 #[derive(Debug, Drop)]
 pub(crate) struct NewKeys {
     first: Option<(usize, Key)>,
     second: Option<(usize, Key)>,
+    near: (Option<usize>, Option<usize>),
 }
 
 impl NewKeys {

@@ -1,7 +1,7 @@
-ghost use Rattle.std.specs.Prelude.{◌≡◌, [], IfOk};
-ghost use Rattle.tsc_span.specs.Span.{key_cmp, before, after, last, is_below};
+ghost use Rattle.std.specs.Prelude.{◌≡◌, ◌≤◌, length, drop, IfOk};
+ghost use Rattle.tsc_span.specs.Span.{key_cmp, before, last, is_below};
 ghost use Rattle.tsc_span.specs.Cuts.{cut_of};
-ghost use Rattle.tsc_page.specs.Numbers.{IsNumberOf, AreTied, TellsBelow, TellsAbove};
+ghost use Rattle.tsc_page.specs.Numbers.{spelled, IsNumberOf, AreTied, TellsBelow, TellsAbove};
 
 use std::cmp::Ordering;
 use std::marker::Model;
@@ -10,6 +10,9 @@ use tsc_time::NoMemory;
 
 /// How many bytes of a key make its number.
 const NUMBER_BYTES: usize = 16;
+
+/// How many bytes behind these are compared at once where the numbers are the same.
+const NEXT_BYTES: usize = 8;
 
 /// A key with its number, which lies beside it where the bytes of the key lie elsewhere.
 #[derive(Debug, Drop)]
@@ -163,21 +166,6 @@ impl<'a> NumberedCut<'a> {
         }
     }
 
-    /// Whether the cut lies below the place after a key.
-    pub(crate) fn is_below_after(&self, key: &NumberedKey) -> bool
-        ensures { result ≡ is_below self.now (after key.now) }
-    {
-        if self.number == key.number {
-            match self.cut {
-                Cut::Before(cut) => compare_tied(cut, key.bytes()).is_le(),
-                Cut::After(cut) => compare_tied(cut, key.bytes()).is_lt(),
-                Cut::Last => false,
-            }
-        } else {
-            self.number < key.number
-        }
-    }
-
     /// Whether the cut lies below the place before a key.
     pub(crate) fn is_below_before(&self, key: &NumberedKey) -> bool
         ensures { result ≡ is_below self.now (before key.now) }
@@ -197,27 +185,6 @@ impl<'a> NumberedCut<'a> {
         ensures { result ≡ is_below self.now last }
     {
         self.cut.is_below(Cut::Last)
-    }
-
-    /// Whether the cut lies above the least one.
-    pub(crate) fn is_above_least(&self) -> bool
-        ensures { result ≡ is_below (before []) self.now }
-    {
-        Cut::Before(&[]).is_below(self.cut)
-    }
-
-    /// Whether the cut lies above the place after a key.
-    pub(crate) fn is_above_after(&self, key: &NumberedKey) -> bool
-        ensures { result ≡ is_below (after key.now) self.now }
-    {
-        if self.number == key.number {
-            match self.cut {
-                Cut::Before(cut) | Cut::After(cut) => compare_tied(key.bytes(), cut).is_lt(),
-                Cut::Last => true,
-            }
-        } else {
-            key.number < self.number
-        }
     }
 
     /// Whether the cut lies above the place before a key.
@@ -246,15 +213,32 @@ fn number_of(key: &[u8]) -> u128
     u128::from_be_bytes(first)
 }
 
+/// The bytes of a key behind those of its number, as another number.
+fn next_number(key: &[u8]) -> u64
+    requires { 24 ≤ length key.now }
+    ensures { result ≡ spelled 8 0 (drop 16 key.now) }
+{
+    let mut next = [0; NEXT_BYTES];
+    next.copy_from_slice(&key[NUMBER_BYTES..NUMBER_BYTES + NEXT_BYTES]);
+    u64::from_be_bytes(next)
+}
+
 /// How two keys with one number stand to one another. Where one of them has fewer bytes than a number it is a
-/// beginning of the other, and their lengths tell; else what comes behind the bytes of the number does.
+/// beginning of the other, and their lengths tell; else what comes behind the bytes of the number does, mostly by
+/// the next eight.
 fn compare_tied(key: &[u8], other: &[u8]) -> Ordering
     requires { AreTied key.now other.now }
     ensures { result ≡ key_cmp key.now other.now }
 {
-    if key.len().min(other.len()) < NUMBER_BYTES {
-        key.len().cmp(&other.len())
-    } else {
-        key[NUMBER_BYTES..].cmp(&other[NUMBER_BYTES..])
+    let short = key.len().min(other.len());
+    if short < NUMBER_BYTES {
+        return key.len().cmp(&other.len());
     }
+    if short >= NUMBER_BYTES + NEXT_BYTES {
+        let (one, two) = (next_number(key), next_number(other));
+        if one != two {
+            return one.cmp(&two);
+        }
+    }
+    key[NUMBER_BYTES..].cmp(&other[NUMBER_BYTES..])
 }

@@ -71,11 +71,11 @@ impl Page {
     /// refused the page is as before, and so are its leaves.
     ///
     /// Where no copy of the page shares the leaves that the span meets, and none of them would come to have 65 nodes,
-    /// they are changed in place. That costs a few searches, a copy of each end key that is new to the page, a move
-    /// of a leaf's nodes above a new one, and a step for each node within the span; a span whose end keys the page
-    /// holds already takes no memory then. So it is for 512 leaves at the most. Any other Add
-    /// copies the list of leaves, and of the leaves themselves those that it changes; a leaf that comes to have 65
-    /// nodes is cut into its first 32 and its last 33.
+    /// they are changed in place. That costs a search among the leaves and one for each end key in its leaf, a copy
+    /// of each end key that is new to the page, a move of a leaf's nodes above a new one, and a step for each node
+    /// within the span; a span whose end keys the page holds already takes no memory then. So it is for 512 leaves at
+    /// the most. Any other Add copies the list of leaves, and of the leaves themselves those that it changes; a leaf
+    /// that comes to have 65 nodes is cut into its first 32 and its last 33.
     pub fn add(&mut self, span: &Span, value: Value) -> Result<(), NoMemory>
         requires not_empty { is_empty_span span.now ≡ false }
         requires room { has_room_for self.old span.now ≡ true }
@@ -123,9 +123,9 @@ impl Page {
     }
 
     /// The joint value of time zero without an owner and of all that was added and overlaps the span. It
-    /// costs a search among the leaves, one in each leaf that the span meets, or two where more than one of the leaf's keys lies
-    /// within the span, and a step for each node within the span. A search compares keys by their first sixteen bytes,
-    /// and reads what is behind these only where they are the same.
+    /// costs a search among the leaves, one in each leaf that the span meets, and a step for each node within
+    /// the span. A search compares keys by their first sixteen bytes, and reads what is behind these only where
+    /// they are the same.
     pub fn lookup(&self, span: &Span) -> Value
         ensures value { result ≡ answer self.now span.now }
         ensures below_top { is_before self.now.top result.time ≡ false }

@@ -9,8 +9,6 @@ mod fault;
 mod list;
 mod run;
 mod streams;
-#[cfg(test)]
-mod tests;
 mod threads;
 
 pub use fault::RunFault;

@@ -17,8 +17,6 @@ mod opening;
 mod seat;
 mod shared;
 mod steps;
-#[cfg(test)]
-mod tests;
 
 pub use answers::{AddFault, Answer, Closed, Gone, LowWater, OpenFault, Receipt, StillOut};
 pub use gate::{Gate, NoGate};

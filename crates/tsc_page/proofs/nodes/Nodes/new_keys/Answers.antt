@@ -11,6 +11,6 @@ returns-clause-known c known =
     let nodes : List Node = c.args.self.now.list.items in
     let first : Option KeyBytes = option_map (λ k. k.now) c.args.first in
     let second : Option KeyBytes = option_map (λ k. k.now) c.args.second in
-    let one = known_not_new nodes first c.in_ok-new_key.field-0 c.requires.sorted c.in_ok-new_key.ensures.value known.0 in
-    let two = known_not_new nodes second c.in_ok-new_key-2.field-0 c.requires.sorted c.in_ok-new_key-2.ensures.value known.1 in
+    let one = known_not_new nodes first c.in_ok-low.first c.requires.sorted c.in_ok-low.ensures.value known.0 in
+    let two = known_not_new nodes second c.in_ok-high.second c.requires.sorted c.in_ok-high.ensures.value known.1 in
     rw (one, two) refl

@@ -1,15 +1,11 @@
--- A search for a key ends at its node, or at the place for it.
-use Rattle.std.proofs.Common.{◌≡◌, ◌∙◌, sym, subst, List, length, rules}
-use Rattle.std.specs.List.Sorted.{IsSearchInRange, IsBinarySearchResult}
-use Rattle.std.proofs.lemmas.Fn.{always_returns_same}
-use Rattle.tsc_span.specs.Span.{key_cmp}
-use Rattle.tsc_page.specs.Nodes.{Node, IsPlaceFor}
-use Rattle.tsc_page.proofs.Searches.{searched, err_place}
+-- A key that is found nowhere has a place.
+use Rattle.std.proofs.Common.{◌∙◌, sym, subst, List}
+use Rattle.tsc_span.specs.Span.{KeyBytes}
+use Rattle.tsc_page.specs.Nodes.{Node, IsPlaceFor, IsFoundAt}
+use Rattle.tsc_page.proofs.Searches.{placed, err_place}
 use Rattle.tsc_page.proofs.nodes.Nodes.place_for.Goals as goal
 
 pub returns-clause-place : goal.returns-clause-place
 returns-clause-place c =
     let nodes : List Node = c.args.self.now.list.items in
-    let bound = subst (λ (l : List Node). IsSearchInRange c.binary_search_by.result (length l)) c.as_slice.ensures.value c.binary_search_by.ensures.bound in
-    let at = subst (λ (l : List Node). IsBinarySearchResult (λ (n : Node). key_cmp n.key c.args.key.now) l c.binary_search_by.result) c.as_slice.ensures.value (c.binary_search_by.ensures.position (λ (n : Node). key_cmp n.key c.args.key.now) (always_returns_same _ (λ a r. r ≡ key_cmp a.0.now.key c.args.key.now) _ (λ a r q k. search rules))) in
-    subst (λ r. IsPlaceFor c.args.key.now nodes r) (sym (c.err.ensures.value ∙ err_place c.binary_search_by.result)) (searched nodes c.requires.sorted c.args.key.now c.binary_search_by.result bound at)
+    subst (λ r. IsPlaceFor c.args.key.now nodes r) (sym (c.err.ensures.value ∙ err_place c.find.result)) (placed nodes c.args.key.now c.find.result (subst (λ (k : KeyBytes). IsFoundAt nodes k c.find.result) (c.new.ensures ∙ c.bytes.ensures.value) c.find.ensures))

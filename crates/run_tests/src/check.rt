@@ -1,0 +1,137 @@
+use std::alloc::Global;
+use std::test::Fail;
+use tsc_check::{Verdict, check};
+use tsc_trace::{read_log, read_trace};
+
+const HEAD: &str = r#"{"page_nodes":4,"min_pages":2,"retention":10,"low_water":[5,0],"threads":"#;
+
+const THREE_LISTS: &str =
+    r#"[[{"op":"add","span":{"start":"61"},"time":[20,0],"owner":"11111111-1111-4111-8111-111111111111","now":[20,0]}],
+[{"op":"add","span":{"start":"61"},"time":[30,0],"owner":"22222222-2222-4222-8222-222222222222","now":[20,0]}],
+[{"op":"get","span":{"start":"61"}}]]}"#;
+
+const ONE_LIST: &str =
+    r#"[[{"op":"add","span":{"start":"61"},"time":[20,0],"owner":"11111111-1111-4111-8111-111111111111","now":[20,0]},
+{"op":"get","span":{"start":"61"}}]]}"#;
+
+/// What stands behind the head of a trace, a log, and the verdict.
+static CHECKS: [(&str, &str, Verdict); 22] = [
+    (
+        THREE_LISTS,
+        "0 0 add 0 1 0 0\n1 0 add 1 1 0 0\n2 0 get 1 20.0 11111111-1111-4111-8111-111111111111\n",
+        Verdict::Right,
+    ),
+    (
+        THREE_LISTS,
+        "0 0 add 1 1 0 0\n1 0 add 0 1 0 0\n2 0 get 1 20.0 11111111-1111-4111-8111-111111111111\n",
+        Verdict::WrongAnswer(3),
+    ),
+    (
+        THREE_LISTS,
+        "0 0 add 0 1 0 0\n1 0 add 0 1 0 0\n2 0 get 1 20.0 11111111-1111-4111-8111-111111111111\n",
+        Verdict::WrongPlace(2),
+    ),
+    (
+        THREE_LISTS,
+        "0 0 add 0 1 0 0\n1 0 add 1 1 0 0\n",
+        Verdict::WrongCall(3),
+    ),
+    (
+        THREE_LISTS,
+        "0 0 add 0 1 0 0\n1 0 add 1 1 0 0\n2 0 get 3 20.0 11111111-1111-4111-8111-111111111111\n",
+        Verdict::WrongPlace(3),
+    ),
+    (
+        THREE_LISTS,
+        "0 0 add 0 1 0 0\n1 0 add 2 1 0 0\n2 0 get 1 20.0 11111111-1111-4111-8111-111111111111\n",
+        Verdict::WrongPlace(2),
+    ),
+    // the answers of two lines are wrong, and the later one is of the earlier front
+    (
+        THREE_LISTS,
+        "0 0 add 1 1 0 0\n1 0 add 0 1 1 0\n2 0 get 0 20.0 none\n",
+        Verdict::WrongAnswer(2),
+    ),
+    (
+        THREE_LISTS,
+        "0 0 add 1 1 1 0\n1 0 add 0 1 1 0\n2 0 get 0 20.0 none\n",
+        Verdict::WrongAnswer(1),
+    ),
+    (
+        THREE_LISTS,
+        "0 0 add 0 1 0 0\n1 0 add 1 1 0 0\n2 0 get 2 30.0 22222222-2222-4222-8222-222222222222\n",
+        Verdict::Right,
+    ),
+    (THREE_LISTS, "", Verdict::WrongCall(1)),
+    (
+        THREE_LISTS,
+        "0 0 add 0 1 0 0\n1 0 add 1 1 0 0\n2 0 low 1 5.0\n",
+        Verdict::WrongCall(3),
+    ),
+    (
+        ONE_LIST,
+        "0 0 add 0 1 0 0\n0 1 get 0 5.0 none\n",
+        Verdict::WrongPlace(2),
+    ),
+    (
+        ONE_LIST,
+        "0 0 add 0 1 0 0\n0 1 get 1 20.0 11111111-1111-4111-8111-111111111111\n",
+        Verdict::Right,
+    ),
+    (
+        ONE_LIST,
+        "0 0 add 0 1 0 0\n0 1 get 1 5.0 none\n",
+        Verdict::WrongAnswer(2),
+    ),
+    (
+        THREE_LISTS,
+        "0 0 add 0 0 0 0\n1 0 add 1 1 0 0\n2 0 get 1 20.0 11111111-1111-4111-8111-111111111111\n",
+        Verdict::WrongAnswer(1),
+    ),
+    (
+        THREE_LISTS,
+        "0 0 add 0 1 0 0\n1 0 add 1 1 0 0\n2 0 get 2 20.0 11111111-1111-4111-8111-111111111111\n",
+        Verdict::WrongAnswer(3),
+    ),
+    (
+        THREE_LISTS,
+        "0 0 add 0 1 0 0\n1 0 add 1 1 0 0\n2 0 get 1 20.0 none\n",
+        Verdict::WrongAnswer(3),
+    ),
+    (
+        THREE_LISTS,
+        "0 0 add 0 1 0 0\n1 0 add 1 1 0 0\n2 0 get 0 5.0 none\n",
+        Verdict::Right,
+    ),
+    (
+        THREE_LISTS,
+        "0 0 add 0 1 0 0\n1 0 add 1 1 0 0\n2 0 get 1 20.0 11111111-1111-4111-8111-111111111111\n2 1 low 2 5.0\n",
+        Verdict::WrongCall(4),
+    ),
+    (
+        THREE_LISTS,
+        "1 0 add 1 1 0 0\n0 0 add 0 1 0 0\n2 0 get 1 20.0 11111111-1111-4111-8111-111111111111\n",
+        Verdict::WrongCall(1),
+    ),
+    ("[[]]}", "", Verdict::Right),
+    ("[[],[]]}", "0 0 low 0 5.0\n", Verdict::WrongCall(1)),
+];
+
+/// The first row of a table of checks that doesn't hold.
+fn wrong_check(alloc: Global, rows: &[(&str, &str, Verdict)]) -> Result<Option<usize>, Fail> {
+    for (i, (lists, lines, want)) in rows.iter().enumerate() {
+        let text = format!(in alloc; "{HEAD}{lists}")?;
+        let trace = read_trace(alloc, text.as_bytes())?;
+        let log = read_log(alloc, lines.as_bytes())?;
+        if check(alloc, &trace, &log)? != *want {
+            return Ok(Some(i));
+        }
+    }
+    Ok(None)
+}
+
+#[test]
+fn checks(rt: HostRuntime) -> Result<(), Fail> {
+    assert_eq!(rt; wrong_check(rt.alloc(), &CHECKS)?, None);
+    Ok(())
+}

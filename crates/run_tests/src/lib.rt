@@ -1,0 +1,11 @@
+//! Tests of the shared cache, of checks and of runs, through their public calls.
+//!
+//! They stand apart because a crate that has tests is proved once with them and once without.
+#![tactic(auto)]
+
+#[cfg(test)]
+mod check;
+#[cfg(test)]
+mod run;
+#[cfg(test)]
+mod shared;

@@ -1,0 +1,206 @@
+//! Runs whose logs are known, and a run that is held up until all its lists run.
+use std::alloc::Global;
+use std::sync::Wait;
+use std::sync::atomic::{AtomicBool, AtomicU64, Ordering};
+use std::test::Fail;
+use std::thread;
+use std::thread::Threads;
+use tsc_run::{RunFault, run_trace};
+use tsc_shared::{Gate, NoGate, OpenFault};
+use tsc_trace::{Log, Said, log_text, read_trace};
+
+/// The head of each trace, up to its lists.
+const HEAD: &str = r#"{"page_nodes":4,"min_pages":2,"retention":10,"low_water":[5,0],"threads":"#;
+
+const OVERLAPPING_READS: &str = r#"[[
+{"op":"add","span":{"start":"61","end":"63"},"time":[20,0],"owner":"11111111-1111-4111-8111-111111111111","now":[20,0]},
+{"op":"get","span":{"start":"62"}},
+{"op":"get","span":{"start":"63"}},
+{"op":"add","span":{"start":"62"},"time":[20,0],"owner":"22222222-2222-4222-8222-222222222222","now":[20,0]},
+{"op":"get","span":{"start":"62"}},
+{"op":"low"}]]}"#;
+
+const OVERLAPPING_READS_LOG: &str = "0 0 add 0 1 0 0
+0 1 get 1 20.0 11111111-1111-4111-8111-111111111111
+0 2 get 1 5.0 none
+0 3 add 1 1 0 0
+0 4 get 2 20.0 none
+0 5 low 2 5.0
+";
+
+/// Lists of calls that cannot be answered in another way, and their log.
+static RUNS: [(&str, &str); 4] = [
+    (OVERLAPPING_READS, OVERLAPPING_READS_LOG),
+    ("[[]]}", ""),
+    (r#"[[],[{"op":"low"}],[]]}"#, "1 0 low 0 5.0\n"),
+    (
+        r#"[[{"op":"low"},{"op":"low"}],[{"op":"get","span":{"start":"61"}}]]}"#,
+        "0 0 low 0 5.0\n0 1 low 0 5.0\n1 0 get 0 5.0 none\n",
+    ),
+];
+
+/// The log of a run of these lists.
+fn run<R: Threads + Wait + Sync, G: Gate + Sync>(
+    rt: &R,
+    alloc: Global,
+    lists: &str,
+    gate: &G,
+) -> Result<Log, Fail> {
+    let text = format!(in alloc; "{HEAD}{lists}")?;
+    let trace = read_trace(alloc, text.as_bytes())?;
+    Ok(run_trace(rt, alloc, &trace, gate)?)
+}
+
+#[test]
+fn logs_of_runs(rt: HostRuntime) -> Result<(), Fail> {
+    for (lists, wanted) in &RUNS {
+        let log = run(&rt, rt.alloc(), lists, &NoGate)?;
+        assert_eq!(rt; log_text(rt.alloc(), &log)?.as_slice(), wanted.as_bytes());
+    }
+    Ok(())
+}
+
+/// Two lists add the same key, and a third asks for it.
+const RACE: &str = r#"[
+[{"op":"add","span":{"start":"61"},"time":[20,0],"owner":"11111111-1111-4111-8111-111111111111","now":[20,0]}],
+[{"op":"add","span":{"start":"61"},"time":[30,0],"owner":"22222222-2222-4222-8222-222222222222","now":[20,0]}],
+[{"op":"get","span":{"start":"61"}}]]}"#;
+
+/// The logs of all orders of these three calls.
+static RACES: [&str; 6] = [
+    "0 0 add 0 1 0 0\n1 0 add 1 1 0 0\n2 0 get 2 30.0 22222222-2222-4222-8222-222222222222\n",
+    "0 0 add 1 1 0 0\n1 0 add 0 1 0 0\n2 0 get 2 30.0 22222222-2222-4222-8222-222222222222\n",
+    "0 0 add 0 1 0 0\n1 0 add 1 1 0 0\n2 0 get 1 20.0 11111111-1111-4111-8111-111111111111\n",
+    "0 0 add 1 1 0 0\n1 0 add 0 1 0 0\n2 0 get 1 30.0 22222222-2222-4222-8222-222222222222\n",
+    "0 0 add 0 1 0 0\n1 0 add 1 1 0 0\n2 0 get 0 5.0 none\n",
+    "0 0 add 1 1 0 0\n1 0 add 0 1 0 0\n2 0 get 0 5.0 none\n",
+];
+
+#[test]
+fn a_race_has_the_log_of_an_order(rt: HostRuntime) -> Result<(), Fail> {
+    for _ in 0..100 {
+        let log = run(&rt, rt.alloc(), RACE, &NoGate)?;
+        let text = log_text(rt.alloc(), &log)?;
+        assert!(rt; RACES.iter().any(|race| race.as_bytes() == text.as_slice()));
+    }
+    Ok(())
+}
+
+/// How often a thread looks whether the other has come.
+const TURNS: u32 = 10_000_000;
+
+/// Holds two threads up before their first calls, until both are there. It counts those that saw the other,
+/// and all that it is told.
+#[derive(Drop)]
+struct Meeting {
+    first: AtomicBool,
+    second: AtomicBool,
+    met: AtomicU64,
+    started: AtomicU64,
+    done: AtomicU64,
+}
+
+impl Meeting {
+    fn new() -> Meeting {
+        Meeting {
+            first: AtomicBool::new(false),
+            second: AtomicBool::new(false),
+            met: AtomicU64::new(0),
+            started: AtomicU64::new(0),
+            done: AtomicU64::new(0),
+        }
+    }
+
+    /// Comes to one side, and waits for the other.
+    fn come(&self, mine: &AtomicBool, other: &AtomicBool) {
+        mine.store(true, Ordering::SeqCst);
+        for _ in 0..TURNS {
+            if other.load(Ordering::SeqCst) {
+                self.met.fetch_add(1, Ordering::SeqCst);
+                return;
+            }
+            thread::yield_now();
+        }
+    }
+}
+
+impl Gate for Meeting {
+    fn start(&self, thread: u32, call: u32) {
+        self.started.fetch_add(1, Ordering::SeqCst);
+        match (thread, call) {
+            (0, 0) => self.come(&self.first, &self.second),
+            (1, 0) => self.come(&self.second, &self.first),
+            _ => {}
+        }
+    }
+
+    fn done(&self, _thread: u32, _call: u32) {
+        self.done.fetch_add(1, Ordering::SeqCst);
+    }
+
+    fn publish(&self, _seat: u32) {}
+}
+
+#[test]
+fn lists_run_at_the_same_time(rt: HostRuntime) -> Result<(), Fail> {
+    let gate = Meeting::new();
+    let lists = r#"[[{"op":"get","span":{"start":"61"}}],[{"op":"get","span":{"start":"61"}}]]}"#;
+    let log = run(&rt, rt.alloc(), lists, &gate)?;
+    assert_eq!(rt; gate.met.load(Ordering::SeqCst), 2);
+    assert_eq!(rt; gate.started.load(Ordering::SeqCst), 2);
+    assert_eq!(rt; gate.done.load(Ordering::SeqCst), 2);
+    for line in log.lines.slice() {
+        assert!(rt; matches!(line.said, Said::Get { front: 0, .. }));
+    }
+    Ok(())
+}
+
+/// Holds the first call of each list up until as many calls are done as there are lists before it.
+#[derive(Drop)]
+struct InTurn {
+    done: AtomicU64,
+}
+
+impl Gate for InTurn {
+    fn start(&self, thread: u32, _call: u32) {
+        for _ in 0..TURNS {
+            if self.done.load(Ordering::SeqCst) >= thread as u64 {
+                return;
+            }
+            thread::yield_now();
+        }
+    }
+
+    fn done(&self, _thread: u32, _call: u32) {
+        self.done.fetch_add(1, Ordering::SeqCst);
+    }
+
+    fn publish(&self, _seat: u32) {}
+}
+
+#[test]
+fn calls_are_made_between_what_the_gate_is_told(rt: HostRuntime) -> Result<(), Fail> {
+    let gate = InTurn {
+        done: AtomicU64::new(0),
+    };
+    let log = run(&rt, rt.alloc(), RACE, &gate)?;
+    assert_eq!(rt; log_text(rt.alloc(), &log)?.as_slice(), RACES[0].as_bytes());
+    Ok(())
+}
+
+static TEXTS: [(RunFault, &str); 6] = [
+    (RunFault::Open(OpenFault::Seats), "seats are 1 to 64"),
+    (RunFault::Open(OpenFault::NoMemory), "out of memory"),
+    (RunFault::NoMemory, "out of memory"),
+    (RunFault::Gone, "no view"),
+    (RunFault::HistoryFull, "history full"),
+    (RunFault::NoThread, "no thread"),
+];
+
+#[test]
+fn texts_of_faults(rt: HostRuntime) -> Result<(), Fail> {
+    for (fault, text) in &TEXTS {
+        assert_eq!(rt; format!(in rt.alloc(); "{fault}")?.as_str(), *text);
+    }
+    Ok(())
+}

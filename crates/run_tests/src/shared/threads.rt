@@ -1,0 +1,177 @@
+//! Seats on threads of their own.
+ghost use Rattle.std.specs.Prelude.{◌≡◌, All, IfOk, IfSome};
+
+use std::alloc::{AllocError, Global};
+use std::collections::VecDeque;
+use std::sync::Wait;
+use std::test::Fail;
+use std::thread;
+use std::thread::Threads;
+use tsc_cache::Config;
+use tsc_shared::{Closed, Seat, SharedCache, StillOut};
+use tsc_span::{Key, Span};
+use tsc_time::{Timestamp, Value};
+use uuid::Uuid;
+
+/// What each seat does: in each of so many turns it adds a key, and looks it up.
+#[derive(Clone, Copy, Debug)]
+pub struct Plan {
+    pub turns: u32,
+    /// Whether the times rise with the turns, and each seat has an owner of its own. Else all times are 20.0,
+    /// and there is one owner.
+    pub differ: bool,
+}
+
+/// An Add: its place, and which seat made it in which turn.
+#[derive(Clone, Copy, Debug)]
+pub struct Made {
+    pub place: u64,
+    pub number: u32,
+    pub turn: u32,
+}
+
+/// A seat, and its Adds in their order.
+#[derive(Drop)]
+pub struct Worker {
+    seat: Seat,
+    adds: VecDeque<Made>,
+}
+
+/// The Adds of each seat.
+pub type Adds = Vec<VecDeque<Made>>;
+
+impl Plan {
+    /// The key of an Add: one of 26.
+    pub fn span(&self, alloc: Global, number: u32, turn: u32) -> Option<Span> {
+        let letter = (u64::from(number) * u64::from(self.turns) + u64::from(turn)) % 26;
+        Some(Span::point(Key::new(alloc, &[b'a' + letter as u8]).ok()?))
+    }
+
+    /// Its value. Its moment is the same time.
+    pub fn value(&self, number: u32, turn: u32) -> Option<Value> {
+        let (time, owner) = if self.differ {
+            (20 + u64::from(turn), (number % 255) as u8 + 1)
+        } else {
+            (20, 1)
+        };
+        Some(Value::of(Timestamp::new(time, 0)?, Uuid::from_bytes([owner; 16])))
+    }
+}
+
+/// One turn of a seat. The lookup in it has to come after the Add.
+fn take_turn<R: Wait>(
+    rt: &R,
+    alloc: Global,
+    cache: &SharedCache,
+    seat: &mut Seat,
+    plan: Plan,
+    turn: u32,
+) -> Option<Made>
+    requires { seat.old.cache ≡ cache.now }
+    ensures { seat.new.cache ≡ seat.old.cache }
+{
+    let number = seat.number();
+    let span = plan.span(alloc, number, turn)?;
+    let value = plan.value(number, turn)?;
+    let place = cache.add(rt, seat, &span, value, value.time()).ok()?.place;
+    let answer = cache.get_max(rt, seat, &span).ok()?;
+    let is_after = place < answer.front && value.time() <= answer.value.time();
+    is_after.then_some(Made {
+        place,
+        number,
+        turn,
+    })
+}
+
+/// All turns of a seat. `None` where one of them fails.
+fn work<R: Wait>(
+    rt: &R,
+    alloc: Global,
+    cache: &SharedCache,
+    mut seat: Seat,
+    plan: Plan,
+) -> Option<Worker>
+    requires { seat.cache ≡ cache.now }
+    ensures { IfSome result (λ worker. worker.seat.cache ≡ cache.now) }
+{
+    let mut adds = VecDeque::new(alloc);
+    for turn in 0..plan.turns {
+        adds.push_back(take_turn(rt, alloc, cache, &mut seat, plan, turn)?)
+            .ok()?;
+    }
+    Some(Worker { seat, adds })
+}
+
+/// Each seat works on a thread of its own.
+fn all_work<R: Threads + Wait + Sync>(
+    rt: &R,
+    alloc: Global,
+    cache: &SharedCache,
+    seats: Vec<Seat>,
+    plan: Plan,
+) -> Result<Vec<Option<Worker>>, AllocError>
+    requires { All (λ seat. seat.cache ≡ cache.now) seats.items }
+    ensures { IfOk result (λ done. All (λ one. IfSome one (λ worker. worker.seat.cache ≡ cache.now)) done.items) }
+{
+    thread::map_vec(
+        rt,
+        seats,
+        &|seat: Seat| -> Option<Worker>
+            requires { seat.cache ≡ cache.now }
+            ensures { IfSome result (λ worker. worker.seat.cache ≡ cache.entry.now) }
+        { work(rt, alloc, cache, seat, plan) },
+    )
+}
+
+/// The seats, and apart from them their Adds.
+fn apart(
+    alloc: Global,
+    cache: &SharedCache,
+    done: Vec<Option<Worker>>,
+) -> Result<(Vec<Seat>, Adds), Fail>
+    requires { All (λ one. IfSome one (λ worker. worker.seat.cache ≡ cache.now)) done.items }
+    ensures { IfOk result (λ both. All (λ seat. seat.cache ≡ cache.now) both.0.items) }
+{
+    let mut seats = Vec::new(alloc);
+    let mut all = Vec::new(alloc);
+    for one in done {
+        let Some(Worker { seat, adds }) = one else {
+            return Err("an Add or a lookup was refused, or came too early".into());
+        };
+        seats.push(seat)?;
+        all.push(adds)?;
+    }
+    Ok((seats, all))
+}
+
+/// Closes the cache. Without its last seat it stays open.
+fn close<R: Wait>(rt: &R, cache: SharedCache, mut seats: Vec<Seat>) -> Result<Closed, Fail>
+    requires { All (λ seat. seat.cache ≡ cache) seats.items }
+{
+    let last = seats.pop().ok_or("a seat")?;
+    let others = seats.len();
+    let Err(out) = cache.close(rt, seats) else {
+        return Err("closed without a seat".into());
+    };
+    let StillOut { cache, mut seats } = out;
+    if seats.len() != others {
+        return Err("the seats are handed back".into());
+    }
+    seats.push(last)?;
+    Ok(cache.close(rt, seats).ok().ok_or("still out")?)
+}
+
+/// Opens a cache, has each of its seats work on a thread of its own, and closes it.
+pub fn run<R: Threads + Wait + Sync>(
+    rt: &R,
+    alloc: Global,
+    config: Config,
+    seats: u32,
+    plan: Plan,
+) -> Result<(Closed, Adds), Fail> {
+    let limit = u64::from(seats) * u64::from(plan.turns);
+    let (cache, seats) = SharedCache::open(alloc, config, seats, limit)?;
+    let done = all_work(rt, alloc, &cache, seats, plan)?;
+    let (seats, adds) = apart(alloc, &cache, done)?;
+    Ok((close(rt, cache, seats)?, adds))
+}
