@@ -6,10 +6,10 @@ use Rattle.std.specs.Vec.{with_items}
 use Rattle.std.proofs.lemmas.List.{length-append, with_items_is}
 use Rattle.std.proofs.lemmas.Result.{IfOk-weaker}
 use Rattle.std.proofs.lemmas.Option.{IfSome_then}
-use Rattle.tsc_span.specs.Span.{KeyBytes, Cut, before, last, between, is_below}
+use Rattle.tsc_span.specs.Span.{KeyBytes, Cut, before, last, between}
 use Rattle.tsc_span.specs.Cuts.{cut_of}
 use Rattle.tsc_page.specs.Nodes.{Node, IsSorted, FitsIn, with_new, new_count, raise_nodes}
-use Rattle.tsc_page.specs.Leaves.{IsBlock, IsLeafAt, AreLeaves, AddsLeaves, nodes_of, rows_of, start_of}
+use Rattle.tsc_page.specs.Leaves.{IsBlock, IsLeafAt, AddsLeaves, nodes_of, rows_of, start_of}
 use Rattle.tsc_page.specs.declared.nodes.Nodes.{Nodes}
 use Rattle.tsc_page.proofs.CutOrder.{Lt, Le, Le_Lt-chain}
 use Rattle.tsc_page.proofs.Cuts.{lowest}
