@@ -25,4 +25,5 @@ pub mod LeafRaises
 pub mod LeafMakes
 pub mod LeafAdds
 pub mod Blocks
+pub mod BlockPlaces
 pub mod Refusals
