@@ -174,7 +174,17 @@ impl Leaves {
         let room = most - self.count;
         let to = NumberedCut::new(to);
         let (_, blocks) = self.list.split_at_mut(place);
-        match add_owned(&mut [], blocks, first, second, from, &to, value, room, DEEPEST)? {
+        match add_owned(
+            &mut [],
+            blocks,
+            first,
+            second,
+            from,
+            &to,
+            value,
+            room,
+            DEEPEST,
+        )? {
             Some(more) => {
                 self.count += more;
                 Ok(true)
@@ -186,9 +196,9 @@ impl Leaves {
 
 /// Makes a node of a key, where it has none.
 fn make_node(list: &mut Vec<Block>, key: Option<&Key>) -> Result<(), NoMemory>
-    requires blocks { AreBlocks list.old.items }
+    requires whole { AreBlocks list.old.items }
     ensures split { OnOk result (IsSplitAt (nodes_of (rows_of list.old.items)) (nodes_of (rows_of list.new.items)) (option_to_list (option_map (λ k. k.now) key.entry))) }
-    ensures blocks { OnOk result (AreBlocks list.new.items) }
+    ensures whole { OnOk result (AreBlocks list.new.items) }
 {
     let Some(key) = key else { return Ok(()) };
     let alloc = *list.allocator();
@@ -257,7 +267,11 @@ fn add_owned(
         return Ok(None)
     };
     let goes_on = starts_below(rest, blocks, to);
-    let last = if starts_above(rest, blocks, to) { second } else { None };
+    let last = if starts_above(rest, blocks, to) {
+        second
+    } else {
+        None
+    };
     let new = nodes.new_keys(first, last)?;
     let made = new.len();
     if made > room || nodes.len() + made > LEAF_NODES {
@@ -270,7 +284,17 @@ fn add_owned(
         return Ok(Some(made));
     }
     let low = Cut::Before(&[]);
-    let Some(more) = add_owned(rest, blocks, None, second, low, to, value, room - made, deep - 1)?
+    let Some(more) = add_owned(
+        rest,
+        blocks,
+        None,
+        second,
+        low,
+        to,
+        value,
+        room - made,
+        deep - 1,
+    )?
     else {
         return Ok(None)
     };

@@ -29,12 +29,12 @@ returns-then-count-most-clause-full c e =
 
 pub make_node-requires : goal.make_node-requires
 make_node-requires c =
-    let is = copied c.add_in_place.new.self.list.items c.in_ok-list.list.items c.in_ok-list.ensures.cases in
-    record { blocks = subst AreBlocks (sym is) (counted_blocks c.add_in_place.new.self c.add_in_place.ensures.counted) }
+    let is = copied c.add_in_place.new.self.list.items c.in_ok-list.list.items c.in_ok-list.ensures.cases.0 in
+    record { whole = subst AreBlocks (sym is) (counted_blocks c.add_in_place.new.self c.add_in_place.ensures.counted) }
 
 pub raise_between-requires-clause-parts : goal.raise_between-requires-clause-parts
 raise_between-requires-clause-parts c =
-    let blocks : AreBlocks c.make_node-2.new.list.items = c.in_ok-make_node-2.ensures.blocks in
+    let blocks : AreBlocks c.make_node-2.new.list.items = c.in_ok-make_node-2.ensures.whole in
     block_parts_of c.make_node-2.new.list.items c.deref_mut.result.now c.deref_mut.ensures.value blocks.each blocks.sorted
 
 pub returns-clause-added : goal.returns-clause-added
@@ -45,7 +45,7 @@ returns-clause-added c =
     let o : Option KeyBytes = option_map (λ k. k.now) c.args.first in
     let q : Option KeyBytes = option_map (λ k. k.now) c.args.second in
     let same = c.in_ok-add_in_place.ensures.left c.if-branch.false in
-    let is = copied c.add_in_place.new.self.list.items c.in_ok-list.list.items c.in_ok-list.ensures.cases in
+    let is = copied c.add_in_place.new.self.list.items c.in_ok-list.list.items c.in_ok-list.ensures.cases.0 in
     let mid = rows_of c.make_node-2.new.list.items in
     let made = splits_chain _ _ (nodes_of mid) (option_to_list q) (option_to_list o) c.in_ok-make_node.ensures.split c.in_ok-make_node-2.ensures.split in
     let from_old : IsSplitAt old (nodes_of mid) (option_to_list o ++ option_to_list q) =
@@ -65,7 +65,7 @@ returns-clause-counted c =
     let o : Option KeyBytes = option_map (λ k. k.now) c.args.first in
     let q : Option KeyBytes = option_map (λ k. k.now) c.args.second in
     let same = c.in_ok-add_in_place.ensures.left c.if-branch.false in
-    let is = copied c.add_in_place.new.self.list.items c.in_ok-list.list.items c.in_ok-list.ensures.cases in
+    let is = copied c.add_in_place.new.self.list.items c.in_ok-list.list.items c.in_ok-list.ensures.cases.0 in
     let mid = rows_of c.make_node-2.new.list.items in
     let made = splits_chain _ _ (nodes_of mid) (option_to_list q) (option_to_list o) c.in_ok-make_node.ensures.split c.in_ok-make_node-2.ensures.split in
     let from_old : IsSplitAt old (nodes_of mid) (option_to_list o ++ option_to_list q) =
