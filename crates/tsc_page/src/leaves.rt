@@ -196,9 +196,9 @@ impl Leaves {
 
 /// Makes a node of a key, where it has none.
 fn make_node(list: &mut Vec<Block>, key: Option<&Key>) -> Result<(), NoMemory>
-    requires blocks { AreBlocks list.old.items }
+    requires whole { AreBlocks list.old.items }
     ensures split { OnOk result (IsSplitAt (nodes_of (rows_of list.old.items)) (nodes_of (rows_of list.new.items)) (option_to_list (option_map (λ k. k.now) key.entry))) }
-    ensures blocks { OnOk result (AreBlocks list.new.items) }
+    ensures whole { OnOk result (AreBlocks list.new.items) }
 {
     let Some(key) = key else { return Ok(()) };
     let alloc = *list.allocator();
