@@ -1,4 +1,4 @@
-ghost use Rattle.std.specs.Prelude.{◌≡◌, ◌++◌, OnOk, IfOk, IfSome};
+ghost use Rattle.std.specs.Prelude.{◌≡◌, ◌≤◌, ◌++◌, length, take, drop, OnOk, IfOk, IfSome};
 ghost use Rattle.tsc_page.specs.Nodes.{IsSorted};
 ghost use Rattle.tsc_page.specs.Numbers.{IsCutNumber};
 ghost use Rattle.tsc_page.specs.Leaves.{IsBlock, HasNode, nodes_of, first_start};
@@ -148,8 +148,17 @@ fn grow(leaves: &mut Vec<Leaf>, alloc: Global, key: &Key) -> Result<Option<Vec<L
 {
     parts::make_node(leaves, alloc, key)?;
     if leaves.len() > BLOCK_LEAVES {
-        Ok(Some(leaves.split_off(32)?))
+        Ok(Some(cut(leaves)?))
     } else {
         Ok(None)
     }
+}
+
+/// Takes off the leaves behind the first 32.
+fn cut(leaves: &mut Vec<Leaf>) -> Result<Vec<Leaf>, NoMemory>
+    requires long { 32 ≤ length leaves.old.items }
+    ensures kept { OnOk result (leaves.new.items ≡ take 32 leaves.old.items) }
+    ensures rest { IfOk result (λ upper. upper.items ≡ drop 32 leaves.old.items) }
+{
+    Ok(leaves.split_off(32)?)
 }

@@ -96,7 +96,7 @@ impl Leaves {
 
     /// The same leaves once more.
     pub(crate) fn try_copy(&self) -> Result<Leaves, NoMemory>
-        ensures leaves { IfOk result (λ copy. leaves_of copy ≡ leaves_of self.now) }
+        ensures list { IfOk result (λ copy. copy.list.items ≡ self.now.list.items) }
         ensures count { IfOk result (λ copy. copy.count ≡ self.now.count) }
     {
         Ok(Leaves {

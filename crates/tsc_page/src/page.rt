@@ -168,7 +168,7 @@ impl Page {
         }
     }
 
-    /// A copy of the page, which shares its leaves. It takes the memory of the list of leaves.
+    /// A copy of the page, which shares its leaves. It takes the memory of the list of their blocks.
     pub fn try_copy(&self) -> Result<Page, NoMemory>
         ensures value { IfOk result (λ copy. copy ≡ self.now) }
         ensures stands { IfOk result (λ copy. (p : PageMarks) → StandsFor self.now p → StandsFor copy p) }
