@@ -29,7 +29,7 @@ add_owned-requires-clause-low c =
     let behind = c.split_at_mut-blocks.result.1.now in
     let parts : c.args.self.now.list.items ≡ before ++ behind = sym c.deref_mut.ensures.value ∙ c.split_at_mut-blocks.ensures.value in
     let falls : FallsInBlock before behind (cut_of c.args.from) =
-    falls_told c.args.self.now.list.items c.deref.result.now before behind (cut_of c.args.from) c.new.result (cut_of c.args.to) c.part_at-place.result c.deref.ensures.value parts c.split_at_mut-blocks.ensures.front_len c.requires.counted.each c.requires.order c.new.ensures c.part_at-place.ensures in
+    falls_told c.args.self.now.list.items c.deref.result.now before behind (cut_of c.args.from) c.new.result (cut_of c.args.to) c.part_at-place.result c.deref.ensures.value parts (omega arith) c.requires.counted.each c.requires.order c.new.ensures c.part_at-place.ensures in
     falls.low
 
 pub add_owned-requires-clause-in_order : goal.add_owned-requires-clause-in_order
@@ -52,7 +52,7 @@ returns-in-Some-clause-added c =
     let parts : c.args.self.now.list.items ≡ before ++ behind = sym c.deref_mut.ensures.value ∙ c.split_at_mut-blocks.ensures.value in
     let leaves : AreLeaves (rows_of (before ++ behind)) = subst (λ (bs : List (List (List Node))). AreLeaves (rows_of bs)) parts c.requires.counted.leaves in
     let falls : FallsInBlock before behind from =
-    falls_told c.args.self.now.list.items c.deref.result.now before behind from c.new.result to c.part_at-place.result c.deref.ensures.value parts c.split_at_mut-blocks.ensures.front_len c.requires.counted.each c.requires.order c.new.ensures c.part_at-place.ensures in
+    falls_told c.args.self.now.list.items c.deref.result.now before behind from c.new.result to c.part_at-place.result c.deref.ensures.value parts (omega arith) c.requires.counted.each c.requires.order c.new.ensures c.part_at-place.ensures in
     let ls = c.add_owned.new.leaves in
     let now = c.add_owned.new.blocks in
     let told : AddsLeaves (rows_of behind) (ls ++ rows_of now) o q (between from c.new-to.result) c.args.value c.in-Some.more =
@@ -74,7 +74,7 @@ returns-in-Some-clause-counted c =
     let parts : c.args.self.now.list.items ≡ before ++ behind = sym c.deref_mut.ensures.value ∙ c.split_at_mut-blocks.ensures.value in
     let leaves : AreLeaves (rows_of (before ++ behind)) = subst (λ (bs : List (List (List Node))). AreLeaves (rows_of bs)) parts c.requires.counted.leaves in
     let falls : FallsInBlock before behind from =
-    falls_told c.args.self.now.list.items c.deref.result.now before behind from c.new.result to c.part_at-place.result c.deref.ensures.value parts c.split_at_mut-blocks.ensures.front_len c.requires.counted.each c.requires.order c.new.ensures c.part_at-place.ensures in
+    falls_told c.args.self.now.list.items c.deref.result.now before behind from c.new.result to c.part_at-place.result c.deref.ensures.value parts (omega arith) c.requires.counted.each c.requires.order c.new.ensures c.part_at-place.ensures in
     let ls = c.add_owned.new.leaves in
     let now = c.add_owned.new.blocks in
     let told : AddsLeaves (rows_of behind) (ls ++ rows_of now) o q (between from c.new-to.result) c.args.value c.in-Some.more =
