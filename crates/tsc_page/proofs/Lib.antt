@@ -26,4 +26,5 @@ pub mod LeafMakes
 pub mod LeafAdds
 pub mod Blocks
 pub mod BlockPlaces
+pub mod BlockAdds
 pub mod Refusals
