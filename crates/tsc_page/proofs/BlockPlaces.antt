@@ -41,10 +41,6 @@ all_left Q [] ys all i d h = absurd (omega (arith, h))
 all_left Q (x ∷ xs) ys all zero d h = all 0 d (omega arith)
 all_left Q (x ∷ xs) ys all (suc i) d h = all_left Q xs ys (λ j e g. all (suc j) e (omega (arith, g))) i d (omega (arith, h))
 
-pub all_right : {X : Type 0} (Q : X → Type 0) (xs ys : List X) → All Q (xs ++ ys) → All Q ys
-all_right Q [] ys all = all
-all_right Q (x ∷ xs) ys all = all_right Q xs ys (λ j e g. all (suc j) e (omega (arith, g)))
-
 pub all_both : {X : Type 0} (Q : X → Type 0) (xs ys : List X) → All Q xs → All Q ys → All Q (xs ++ ys)
 all_both Q [] ys first second i d h = second i d h
 all_both Q (x ∷ xs) ys first second zero d h = first 0 d (omega arith)

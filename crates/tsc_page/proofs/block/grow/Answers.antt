@@ -1,6 +1,5 @@
 -- Of 65 leaves the first 32 stay, and 33 come off.
-use Rattle.std.proofs.Common.{◌≡◌, ◌∙◌, ◌+◌, ◌-◌, ◌≤◌, ◌<◌, ap, sym, subst, List, ◌++◌, length, map, take, drop, arith}
-use Rattle.std.specs.List.{All}
+use Rattle.std.proofs.Common.{◌∙◌, ap, sym, subst, List, ◌++◌, map, take, drop, arith}
 use Rattle.std.proofs.lemmas.List.{length-take-le, length-drop, take-append-drop}
 use Rattle.tsc_span.specs.Span.{KeyBytes}
 use Rattle.tsc_page.specs.Nodes.{Node}

@@ -1,10 +1,9 @@
 -- The leaves of the block are raised as parts of it.
-use Rattle.std.proofs.Common.{◌≡◌, ◌∙◌, inl, inr, sym, ap, subst, List, length, map, arith, rules}
+use Rattle.std.proofs.Common.{◌≡◌, ◌∙◌, inl, inr, sym, ap, subst, List, length, arith, rules}
 use Rattle.std.specs.List.{All}
 use Rattle.std.specs.Vec.{with_items}
 use Rattle.std.proofs.lemmas.List.{with_items_is}
 use Rattle.std.proofs.lemmas.Result.{IfOk-weaker}
-use Rattle.std.specs.Arc.{arc_value}
 use Rattle.tsc_span.specs.Cuts.{cut_of}
 use Rattle.tsc_span.specs.Span.{Interval, between}
 use Rattle.tsc_page.specs.Nodes.{Node, IsSorted, raise_nodes}

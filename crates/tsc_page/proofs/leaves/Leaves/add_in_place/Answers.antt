@@ -10,7 +10,7 @@ use Rattle.tsc_page.specs.Nodes.{Node}
 use Rattle.tsc_page.specs.Leaves.{nodes_of, rows_of, AreLeaves, IsBlock, AddsTo, AddsLeaves}
 use Rattle.tsc_page.proofs.Ends.{ends_in_order}
 use Rattle.tsc_page.proofs.Blocks.{block_parts_of}
-use Rattle.tsc_page.proofs.BlockPlaces.{FallsInBlock, falls_told, later_leaves, added_told, all_left, all_right, all_both, counted_with, counted_still}
+use Rattle.tsc_page.proofs.BlockPlaces.{FallsInBlock, falls_told, later_leaves, added_told, all_left, all_both, counted_with, counted_still}
 use Rattle.tsc_page.proofs.leaves.Leaves.add_in_place.Goals as goal
 
 pub part_at-place-requires : goal.part_at-place-requires
