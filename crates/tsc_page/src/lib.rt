@@ -20,7 +20,6 @@
 mod block;
 mod leaf;
 mod leaves;
-mod node;
 mod nodes;
 mod number;
 mod page;

@@ -10,7 +10,7 @@ use Rattle.tsc_page.proofs.nodes.Nodes.joint_between.Goals as goal
 
 pub loop-place-preserved : goal.loop-place-preserved
 loop-place-preserved c =
-    let nodes : List Node = c.args.self.now.list.items in
+    let nodes : List Node = c.args.self.now in
     let first : ℕ = c.into_iter-place-iterator.result.start in
     let i : ℕ = c.loop-place.place-iterator.start in
     let steps = c.in-Some.ensures.steps in
@@ -27,7 +27,7 @@ loop-place-preserved c =
 
 pub loop-place-2-init : goal.loop-place-2-init
 loop-place-2-init c =
-    let nodes : List Node = c.args.self.now.list.items in
+    let nodes : List Node = c.args.self.now in
     let span : Interval = between (cut_of c.args.from) (cut_of c.args.to) in
     let steps = c.in-None.ensures.steps in
     let so_far = c.loop-place.invariant in
@@ -42,7 +42,7 @@ loop-place-2-init c =
 
 pub loop-place-2-preserved : goal.loop-place-2-preserved
 loop-place-2-preserved c =
-    let nodes : List Node = c.args.self.now.list.items in
+    let nodes : List Node = c.args.self.now in
     let span : Interval = between (cut_of c.args.from) (cut_of c.args.to) in
     let first : ℕ = c.into_iter-place-iterator-2.result.start in
     let i : ℕ = c.loop-place-2.place-iterator.start in
@@ -60,7 +60,7 @@ loop-place-2-preserved c =
 
 pub returns : goal.returns
 returns c =
-    let nodes : List Node = c.args.self.now.list.items in
+    let nodes : List Node = c.args.self.now in
     let span : Interval = between (cut_of c.args.from) (cut_of c.args.to) in
     let steps = c.in-None-place.ensures.steps in
     let so_far = c.loop-place-2.invariant in

@@ -8,7 +8,7 @@ use Rattle.tsc_page.proofs.nodes.Nodes.new_keys.Goals as goal
 
 pub returns-clause-known : goal.returns-clause-known
 returns-clause-known c known =
-    let nodes : List Node = c.args.self.now.list.items in
+    let nodes : List Node = c.args.self.now in
     let first : Option KeyBytes = option_map (λ k. k.now) c.args.first in
     let second : Option KeyBytes = option_map (λ k. k.now) c.args.second in
     let one = known_not_new nodes first c.in_ok-low.first c.requires.sorted c.in_ok-low.ensures.value known.0 in
