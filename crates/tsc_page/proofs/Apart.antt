@@ -4,11 +4,13 @@ use Rattle.std.specs.List.{insert, AllZip}
 use Rattle.std.specs.List.Sorted.{IsSearchInRange, IsBinarySearchResult}
 use Rattle.std.specs.Ordering.{ordering_index}
 use Rattle.tsc_time.specs.OwnedTime.{OwnedTime}
+use Rattle.tsc_time.specs.Joint.{joint}
 use Rattle.tsc_span.specs.Span.{KeyBytes, Cut, before, last, key_cmp}
 use Rattle.tsc_page.specs.declared.nodes.Values.{Values}
 use Rattle.tsc_page.specs.Nodes.{Node, paired, node_keys, node_in_gap, next_cut, node_stretches, IsSorted, IsFoundAt}
 use Rattle.tsc_page.proofs.Places.{some_node}
 use Rattle.tsc_page.proofs.Searches.{searched}
+use Rattle.tsc_page.proofs.RaisedNodes.{ChangesPlaces, key_raised, gap_raised, one_changed}
 
 -- a node of a key with its values
 abbrev pub with_values : KeyBytes → Values → Node
@@ -98,3 +100,26 @@ searched_keys ks vs ns same is sorted q (Err i) bound at =
       λ j d h g. ap (λ (k : KeyBytes). key_cmp k q) (key_at ks vs ns same is j d d.key (omega (arith, bound, g))) ∙ parted.0 j d.key h g,
       λ j d h g. ap (λ (k : KeyBytes). key_cmp k q) (key_at ks vs ns same is j d d.key (omega (arith, long, g))) ∙ parted.1 j d.key h (omega (arith, long, g)),
     ))
+
+-- clones of keys are the keys
+pub cloned_keys : (ks ms : List KeyBytes) → AllZip (λ (k m : KeyBytes). m ≡ k) ks ms → ms ≡ ks
+cloned_keys [] [] each = refl
+cloned_keys [] (m ∷ ms) each = absurd each
+cloned_keys (k ∷ ks) [] each = absurd each
+cloned_keys (k ∷ ks) (m ∷ ms) each = ap (λ (q : KeyBytes). q ∷ ms) each.0 ∙ ap (λ (qs : List KeyBytes). k ∷ qs) (cloned_keys ks ms each.1)
+
+-- the value of one more key is raised
+pub key_changed : (v : OwnedTime) (old : List Node) (ks : List KeyBytes) (vs : List Values) (first i : ℕ) (n w : Values) → length ks ≡ length vs → first ≤ i → i < length vs → n ≡ record { value = joint (get_or vs i w).value (v ∷ []); gap = (get_or vs i w).gap }
+    → ChangesPlaces (key_raised v) old (paired ks vs) first i → ChangesPlaces (key_raised v) old (paired ks (set vs i n)) first (i + 1)
+key_changed v old ks vs first i n w same low within is so_far =
+    subst (λ (ns : List Node). ChangesPlaces (key_raised v) old ns first (i + 1)) (sym (paired-set ks vs same i [] n))
+    (one_changed (key_raised v) old (paired ks vs) first i (with_values (get_or ks i []) n) some_node low (omega (arith, within, so_far.as_long, paired-length ks vs same))
+    (ap (with_values (get_or ks i [])) is ∙ ap (key_raised v) (sym (paired-at ks vs same i some_node [] w within))) so_far)
+
+-- and that of one more gap
+pub gap_changed : (v : OwnedTime) (old : List Node) (ks : List KeyBytes) (vs : List Values) (first i : ℕ) (n w : Values) → length ks ≡ length vs → first ≤ i → i < length vs → n ≡ record { value = (get_or vs i w).value; gap = joint (get_or vs i w).gap (v ∷ []) }
+    → ChangesPlaces (gap_raised v) old (paired ks vs) first i → ChangesPlaces (gap_raised v) old (paired ks (set vs i n)) first (i + 1)
+gap_changed v old ks vs first i n w same low within is so_far =
+    subst (λ (ns : List Node). ChangesPlaces (gap_raised v) old ns first (i + 1)) (sym (paired-set ks vs same i [] n))
+    (one_changed (gap_raised v) old (paired ks vs) first i (with_values (get_or ks i []) n) some_node low (omega (arith, within, so_far.as_long, paired-length ks vs same))
+    (ap (with_values (get_or ks i [])) is ∙ ap (gap_raised v) (sym (paired-at ks vs same i some_node [] w within))) so_far)

@@ -205,7 +205,8 @@ impl Nodes {
         ensures rest { IfOk result (λ upper. upper ≡ drop 32 self.old) }
     {
         let alloc = *self.values.allocator();
-        let values = Vec::from_slice(alloc, &self.values[LOWER_HALF..])?;
+        let (_, upper) = self.values.as_slice().split_at(LOWER_HALF);
+        let values = Vec::from_slice(alloc, upper)?;
         let keys = Arc::make_mut(&mut self.keys)?.split_off(LOWER_HALF)?;
         self.values.truncate(LOWER_HALF);
         Ok(Nodes {
@@ -425,11 +426,11 @@ fn raise_values(
         keys,
         values: values.as_slice(),
     };
-    let (keys, gaps) = lists.places_between(from, to, near);
-    for place in keys {
+    let (raised_keys, raised_gaps) = lists.places_between(from, to, near);
+    for place in raised_keys {
         values[place].value = ratchet(values[place].value, value).0;
     }
-    for place in gaps {
+    for place in raised_gaps {
         values[place].gap = ratchet(values[place].gap, value).0;
     }
 }
