@@ -75,8 +75,7 @@ made_blocks old new k sorted all made =
 pub first_block : (old new : List (List (List Node))) (b : List (List Node)) (l : List Node) (k : KeyBytes) → old ≡ [] → new ≡ old ++ b ∷ [] → b ≡ l ∷ [] → l ≡ node_in_gap k (unowned zero_time) ∷ [] → IsSplitAt (nodes_of (rows_of old)) (nodes_of (rows_of new)) (k ∷ []) × AreBlocks new
 first_block old new b l k none is one leaf =
     let all : new ≡ ((node_in_gap k (unowned zero_time) ∷ []) ∷ []) ∷ [] = is ∙ ap (λ (bs : List (List (List Node))). bs ++ b ∷ []) none ∙ ap (λ (c : List (List Node)). c ∷ []) (one ∙ ap (λ (m : List Node). m ∷ []) leaf) in
-    let made = made_first k in
-    (
+    let made = made_first k in (
       subst (λ (bs : List (List (List Node))). IsSplitAt (nodes_of (rows_of bs)) (nodes_of (rows_of new)) (k ∷ [])) (sym none) (subst (λ (bs : List (List (List Node))). IsSplitAt [] (nodes_of (rows_of bs)) (k ∷ [])) (sym all) made),
       subst AreBlocks (sym all) (record { each = whole; sizes = (omega arith, omega arith, tt); sorted = made.sorted }),
     )

@@ -118,9 +118,7 @@ impl Part for Block {
         let leaves = Arc::make_mut(&mut self.leaves)?;
         let made = grow(leaves, alloc, key);
         self.start = start_number(leaves);
-        let Some(upper) = made? else {
-            return Ok(None)
-        };
+        let Some(upper) = made? else { return Ok(None) };
         Ok(Some(Block::new(alloc, upper)?))
     }
 

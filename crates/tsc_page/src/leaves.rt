@@ -174,7 +174,17 @@ impl Leaves {
         let room = most - self.count;
         let to = NumberedCut::new(to);
         let (_, blocks) = self.list.split_at_mut(place);
-        match add_owned(&mut [], blocks, first, second, from, &to, value, room, DEEPEST)? {
+        match add_owned(
+            &mut [],
+            blocks,
+            first,
+            second,
+            from,
+            &to,
+            value,
+            room,
+            DEEPEST,
+        )? {
             Some(more) => {
                 self.count += more;
                 Ok(true)
@@ -257,7 +267,11 @@ fn add_owned(
         return Ok(None)
     };
     let goes_on = starts_below(rest, blocks, to);
-    let last = if starts_above(rest, blocks, to) { second } else { None };
+    let last = if starts_above(rest, blocks, to) {
+        second
+    } else {
+        None
+    };
     let new = nodes.new_keys(first, last)?;
     let made = new.len();
     if made > room || nodes.len() + made > LEAF_NODES {
@@ -288,7 +302,17 @@ fn add_owned(
         leaf.start = nodes.start_number();
         return Ok(Some(made));
     }
-    let Some(more) = add_owned(rest, blocks, None, second, low, to, value, room - made, deep - 1)?
+    let Some(more) = add_owned(
+        rest,
+        blocks,
+        None,
+        second,
+        low,
+        to,
+        value,
+        room - made,
+        deep - 1,
+    )?
     else {
         return Ok(None)
     };

@@ -157,7 +157,14 @@ impl Nodes {
         requires order { is_below (cut_of from) (cut_of to) ≡ true }
         ensures { self.new ≡ raise_nodes (between (cut_of from.entry) (cut_of to.entry)) value self.old }
     {
-        raise_values(self.keys.as_slice(), &mut self.values, from, to, near, value);
+        raise_values(
+            self.keys.as_slice(),
+            &mut self.values,
+            from,
+            to,
+            near,
+            value,
+        );
     }
 
     /// Copies of the keys that have no node, with the places for them. Where both have nodes no memory is
