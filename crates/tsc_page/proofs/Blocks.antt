@@ -13,7 +13,7 @@ use Rattle.tsc_page.specs.Leaves.{nodes_of, rows_of, rows_behind, leaf_sizes, Ar
 use Rattle.tsc_page.proofs.CutOrder.{Lt}
 use Rattle.tsc_page.proofs.LeafLists.{lowest_below}
 use Rattle.tsc_page.proofs.LeafKeys.{made_first, has_node_splits}
-use Rattle.tsc_page.proofs.LeafAdds.{nodes_append, sizes_append, as_they_are, whole_leaves, some_leaves, first_leaf, is_ready, IsReady}
+use Rattle.tsc_page.proofs.LeafAdds.{nodes_append, sizes_append, as_they_are, whole_leaves, some_leaves, first_of, is_ready, IsReady}
 
 pub is_block : (b : List (List Node)) → All IsLeaf b → 1 ≤ length b → length b ≤ 64 → IsBlock b
 is_block [] all some few = absurd (omega (arith, some))
@@ -111,7 +111,7 @@ behind_low leaf (l ∷ ls) bs leaves = lowest_below (leaf ∷ l ∷ (ls ++ rows_
 pub ready_in : (xs a b : List (List Node)) (bs : List (List (List Node))) (d leaf : List Node) (from to : Cut) (o q q' : Option KeyBytes) (stops : Bool) (h g : Option (ℕ × KeyBytes)) → xs ≡ a ++ b → length a ≡ 1 → leaf ≡ get_or a 0 d → AreLeaves (xs ++ rows_of bs) → Lt from (start_of (nodes_of (rows_behind xs bs)))
     → LiesAt o from → LiesAt q to → stops ≡ is_below to (start_of (nodes_of (b ++ rows_of bs))) → q' ≡ cond stops q None → IsInOrder o q → IsNewKey leaf o h → IsNewKey leaf q' g → IsReady (xs ++ rows_of bs) leaf (b ++ rows_of bs) from o q h g
 ready_in xs a b bs d leaf from to o q q' stops h g parts one is leaves low first second told upper order has_lower has_upper =
-    let shape : xs ≡ leaf ∷ b = first_leaf xs a b d parts one ∙ ap (λ (l : List Node). l ∷ b) (sym is) in
+    let shape : xs ≡ leaf ∷ b = first_of xs a b d parts one ∙ ap (λ (l : List Node). l ∷ b) (sym is) in
     let below = subst (λ (ys : List (List Node)). Lt from (start_of (nodes_of (rows_behind ys bs)))) shape low in
     is_ready (xs ++ rows_of bs) leaf (b ++ rows_of bs) from to o q q' h g (ap (λ (ys : List (List Node)). ys ++ rows_of bs) shape) leaves
     (subst (λ (ys : List (List Node)). Lt from (start_of (nodes_of (drop 1 (ys ++ rows_of bs))))) (sym shape) below) first second (upper ∙ ap (λ (x : Bool). cond x q None) told) order has_lower has_upper

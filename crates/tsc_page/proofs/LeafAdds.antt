@@ -327,13 +327,13 @@ ends_lie (after k) (before m) up = elim (cases_Bool (bytes_eq k m)) [ inl h ↦ 
 ends_lie (after k) (after m) up = elim (cases_Bool (bytes_eq k m)) [ inl h ↦ rw h (inr refl, tt) | inr h ↦ rw h (inr refl, inr refl) ]
 ends_lie last t up = absurd (Lt-not_Le last t up (none_above_last t))
 
--- the first of leaves, in two parts
-pub first_leaf : (xs a b : List (List Node)) (d : List Node) → xs ≡ a ++ b → length a ≡ 1 → xs ≡ get_or a 0 d ∷ b
-first_leaf xs [] b d is one = absurd (omega (arith, one))
-first_leaf xs (x ∷ []) b d is one = is
-first_leaf xs (x ∷ y ∷ zs) b d is one = absurd (omega (arith, one))
+-- the first of a list in two parts
+pub first_of : {X : Type 0} (xs a b : List X) (d : X) → xs ≡ a ++ b → length a ≡ 1 → xs ≡ get_or a 0 d ∷ b
+first_of xs [] b d is one = absurd (omega (arith, one))
+first_of xs (x ∷ []) b d is one = is
+first_of xs (x ∷ y ∷ zs) b d is one = absurd (omega (arith, one))
 
-pub first_set : (a b : List (List Node)) (y : List Node) → length a ≡ 1 → set a 0 y ++ b ≡ y ∷ b
+pub first_set : {X : Type 0} (a b : List X) (y : X) → length a ≡ 1 → set a 0 y ++ b ≡ y ∷ b
 first_set [] b y one = absurd (omega (arith, one))
 first_set (x ∷ []) b y one = refl
 first_set (x ∷ z ∷ zs) b y one = absurd (omega (arith, one))
@@ -386,12 +386,6 @@ is_ready ls leaf ms from to o q q' h g is leaves low first second upper order ha
       fits_upper = new_fits leaf (key_below start q) g two;
       fits_lower = new_fits (with_new leaf g) (key_below start o) h still;
     }
-
--- the same over the values that a call has
-pub ready_at : (xs a b : List (List Node)) (d leaf : List Node) (from to : Cut) (o q q' : Option KeyBytes) (stops : Bool) (h g : Option (ℕ × KeyBytes)) → xs ≡ a ++ b → length a ≡ 1 → leaf ≡ get_or a 0 d → AreLeaves xs → Lt from (start_of (nodes_of (drop 1 xs)))
-    → LiesAt o from → LiesAt q to → stops ≡ is_below to (start_of (nodes_of b)) → q' ≡ cond stops q None → IsInOrder o q → IsNewKey leaf o h → IsNewKey leaf q' g → IsReady xs leaf b from o q h g
-ready_at xs a b d leaf from to o q q' stops h g parts one is leaves low first second told upper order has_lower has_upper =
-    is_ready xs leaf b from to o q q' h g (first_leaf xs a b d parts one ∙ ap (λ (l : List Node). l ∷ b) (sym is)) leaves low first second (upper ∙ ap (λ (x : Bool). cond x q None) told) order has_lower has_upper
 
 module _ (ls : List (List Node)) (leaf : List Node) (ms : List (List Node)) (f t : Cut) (v : OwnedTime) (o q : Option KeyBytes) (h g : Option (ℕ × KeyBytes)) (up : Lt f t) (first : LiesAt o f) (second : LiesAt q t) (order : IsInOrder o q) (ready : IsReady ls leaf ms f o q h g) (few : length leaf + new_count h g ≤ 64) where
   made_length : (c : Cut) → length (raise_nodes (between f c) v (with_new (with_new leaf g) h)) ≡ length leaf + new_count h g

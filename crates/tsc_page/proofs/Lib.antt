@@ -26,4 +26,5 @@ pub mod LeafRaises
 pub mod LeafMakes
 pub mod LeafAdds
 pub mod Blocks
+pub mod BlockAdds
 pub mod Refusals

@@ -1,5 +1,5 @@
 -- They begin where the first leaf does, or else the first block.
-use Rattle.std.proofs.Common.{◌≡◌, ◌∙◌, ◌≤◌, sym, ap, List, [], ◌++◌, length, map, arith}
+use Rattle.std.proofs.Common.{◌≡◌, ◌∙◌, sym, ap, List, [], ◌++◌, arith}
 use Rattle.std.proofs.lemmas.List.{nil_from_length}
 use Rattle.tsc_span.specs.Span.{Cut, is_below}
 use Rattle.tsc_page.specs.Nodes.{Node}
