@@ -9,6 +9,7 @@ pub mod DistinctKeys
 pub mod Cuts
 pub mod Edits
 pub mod Searches
+pub mod Apart
 pub mod Seen
 pub mod RaisedNodes
 pub mod NewKeys

@@ -5,13 +5,12 @@ use Rattle.tsc_page.specs.Nodes.{Node}
 use Rattle.tsc_page.specs.Leaves.{nodes_of, rows_of, AreLeaves, IsBlock}
 use Rattle.std.specs.declared.vec.Vec.{Vec}
 use Rattle.tsc_page.specs.declared.leaf.Leaf.{Leaf}
-use Rattle.tsc_page.specs.declared.nodes.Nodes.{Nodes}
 use Rattle.tsc_page.specs.declared.leaves.Leaves.{Leaves}
 
 -- nodes, where there are some
-abbrev pub nodes_in : Option Nodes → List Node
+abbrev pub nodes_in : Option (List Node) → List Node
 nodes_in None = []
-nodes_in (Some n) = n.list.items
+nodes_in (Some n) = n
 
 -- and leaves
 abbrev pub rows_in : {Z : Type 0} → Option (Vec Leaf Z) → List (List Node)

@@ -6,6 +6,7 @@ use Rattle.tsc_time.specs.OwnedTime.{OwnedTime, unowned}
 use Rattle.tsc_time.specs.Joint.{joint, joint_above}
 use Rattle.tsc_span.specs.Span.{KeyBytes, Cut, before, after, last, Interval, between, overlaps, is_below}
 use Rattle.tsc_page.specs.Page.{Mark, values_on}
+use Rattle.tsc_page.specs.declared.nodes.Values.{Values}
 use Rattle.tsc_page.specs.PageView.{PageView, is_in, is_new_among}
 
 -- a key with its value, and the value of the open gap up to the next node
@@ -13,6 +14,12 @@ pub record Node : Type 0 where
   pub key : KeyBytes
   pub value : OwnedTime
   pub gap : OwnedTime
+
+-- the nodes of keys and of their values, which stand in two lists
+abbrev pub paired : List KeyBytes → List Values → List Node
+paired [] vs = []
+paired (k ∷ ks) [] = []
+paired (k ∷ ks) (v ∷ vs) = record { key = k; value = v.value; gap = v.gap } ∷ paired ks vs
 
 -- A value, and the cut from which it holds, up to the cut of the stretch after it.
 pub record Stretch : Type 0 where

@@ -31,14 +31,14 @@ impl Model for Leaf {
 
     ghost Value = { List Node };
 
-    ghost view = { λ l. (arc_value l.nodes).list.items };
+    ghost view = { λ l. arc_value l.nodes };
 
-    ghost invariant = { λ l. IsCutNumber l.start (start_of (arc_value l.nodes).list.items) };
+    ghost invariant = { λ l. IsCutNumber l.start (start_of (arc_value l.nodes)) };
 }
 
 impl Leaf {
     pub(crate) fn new(alloc: Global, nodes: Nodes) -> Result<Leaf, NoMemory>
-        ensures { IfOk result (λ leaf. leaf ≡ nodes.list.items) }
+        ensures { IfOk result (λ leaf. leaf ≡ nodes) }
     {
         Ok(Leaf {
             start: nodes.start_number(),
@@ -48,7 +48,7 @@ impl Leaf {
 
     /// The nodes of the leaf.
     pub(crate) fn nodes(&self) -> &Nodes
-        ensures { result.now.list.items ≡ self.now }
+        ensures { result.now ≡ self.now }
     {
         &self.nodes
     }
@@ -120,15 +120,14 @@ impl Part for Leaf {
 
 /// Makes a node of a key, where it has none. Where there are then more than a leaf has, those behind the first 32 come off.
 fn grow(nodes: &mut Nodes, key: &Key) -> Result<Option<Nodes>, NoMemory>
-    requires leaf { IsLeaf nodes.old.list.items }
-    requires sorted { IsSorted nodes.old.list.items }
-    ensures made { IfOk result (λ upper. HasNode nodes.old.list.items (nodes.new.list.items ++ nodes_in upper) key.now) }
-    ensures leaf { OnOk result (IsLeaf nodes.new.list.items) }
-    ensures upper { IfOk result (λ upper. IfSome upper (λ u. IsLeaf u.list.items)) }
+    requires leaf { IsLeaf nodes.old }
+    requires sorted { IsSorted nodes.old }
+    ensures made { IfOk result (λ upper. HasNode nodes.old (nodes.new ++ nodes_in upper) key.now) }
+    ensures leaf { OnOk result (IsLeaf nodes.new) }
+    ensures upper { IfOk result (λ upper. IfSome upper (λ u. IsLeaf u)) }
 {
     let new = nodes.new_keys(Some(key), None)?;
-    nodes.reserve(&new)?;
-    nodes.make(new);
+    nodes.make(new)?;
     if nodes.len() > LEAF_NODES {
         Ok(Some(nodes.cut()?))
     } else {

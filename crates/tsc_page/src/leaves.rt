@@ -11,7 +11,7 @@ ghost use Rattle.tsc_page.specs.LeafParts.{leaves_of, all_nodes, AreCounted};
 
 use crate::block::{Block, start_number};
 use crate::leaf::{LEAF_NODES, Leaf};
-use crate::nodes::Nodes;
+use crate::nodes::{Nodes, add, reserve};
 use crate::number::NumberedCut;
 use crate::parts;
 use std::alloc::Global;
@@ -215,7 +215,7 @@ fn make_node(list: &mut Vec<Block>, key: Option<&Key>) -> Result<(), NoMemory>
 /// Makes nodes of the keys that have none, in the leaf in which a span starts and in that in which it stops, and ratchets
 /// a value into the keys and gaps between two cuts, of which the lower one falls in the first of these leaves, or, where
 /// there is none, in the first of the blocks behind them. Tells how many nodes came in; or `None`, where they would be
-/// more than `room`, where others hold one of these leaves or its block, where one would have to be cut, or where they
+/// more than `room`, where others hold one of these leaves or its block, or the keys of a leaf that gets a new one, where one would have to be cut, or where they
 /// are more than `deep`.
 /// Nothing changes then, nor where memory is refused: a leaf is changed only once those after it are.
 fn add_owned(
@@ -277,13 +277,31 @@ fn add_owned(
     if made > room || nodes.len() + made > LEAF_NODES {
         return Ok(None);
     }
-    nodes.reserve(&new)?;
+    let low = Cut::Before(&[]);
+    if made == 0 {
+        if !goes_on {
+            nodes.raise_near(from, to.cut(), new.near, value);
+            leaf.start = nodes.start_number();
+            return Ok(Some(0));
+        }
+        let Some(more) = add_owned(rest, blocks, None, second, low, to, value, room, deep - 1)?
+        else {
+            return Ok(None)
+        };
+        nodes.raise_near(from, Cut::Last, new.near, value);
+        leaf.start = nodes.start_number();
+        return Ok(Some(more));
+    }
+    let Some(keys) = Arc::get_mut(&mut nodes.keys) else {
+        return Ok(None)
+    };
+    let values = &mut nodes.values;
+    reserve(keys, values, &new)?;
     if !goes_on {
-        nodes.add(new, from, to.cut(), value);
+        add(keys, values, new, from, to.cut(), value);
         leaf.start = nodes.start_number();
         return Ok(Some(made));
     }
-    let low = Cut::Before(&[]);
     let Some(more) = add_owned(
         rest,
         blocks,
@@ -298,7 +316,7 @@ fn add_owned(
     else {
         return Ok(None)
     };
-    nodes.add(new, from, Cut::Last, value);
+    add(keys, values, new, from, Cut::Last, value);
     leaf.start = nodes.start_number();
     Ok(Some(made + more))
 }

@@ -21,7 +21,6 @@
 mod block;
 mod leaf;
 mod leaves;
-mod node;
 mod nodes;
 mod number;
 mod page;

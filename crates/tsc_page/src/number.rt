@@ -3,6 +3,7 @@ ghost use Rattle.tsc_span.specs.Span.{key_cmp, before, last, is_below};
 ghost use Rattle.tsc_span.specs.Cuts.{cut_of};
 ghost use Rattle.tsc_page.specs.Numbers.{spelled, IsNumberOf, AreTied, TellsBelow, TellsAbove};
 
+use std::alloc::AllocError;
 use std::cmp::Ordering;
 use std::marker::Model;
 use tsc_span::{Cut, Key};
@@ -64,6 +65,14 @@ impl NumberedKey {
             number: self.number,
             key: self.key.try_copy()?,
         })
+    }
+}
+
+impl Clone for NumberedKey {
+    ghost is_clone = { λ key copy. copy ≡ key };
+
+    fn clone(&self) -> Result<NumberedKey, AllocError> {
+        self.try_copy().map_err(|_| AllocError)
     }
 }
 

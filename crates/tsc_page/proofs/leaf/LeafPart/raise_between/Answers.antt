@@ -6,22 +6,21 @@ use Rattle.tsc_span.specs.Span.{Interval, between}
 use Rattle.tsc_page.specs.Numbers.{IsCutNumber}
 use Rattle.tsc_page.specs.Nodes.{Node, raise_nodes}
 use Rattle.tsc_page.specs.Leaves.{start_of, IsLeaf}
-use Rattle.tsc_page.specs.declared.nodes.Nodes.{Nodes}
 use Rattle.tsc_page.proofs.Edits.{raise_nodes-start, raise_nodes-length}
 use Rattle.tsc_page.proofs.leaf.LeafPart.raise_between.Goals as goal
 
 pub invariant_of-self-2 : goal.invariant_of-self-2
 invariant_of-self-2 c =
     let span : Interval = between (cut_of c.args.from) (cut_of c.args.to) in
-    let was : c.in_ok-make_mut.field-0.now.list.items ≡ (arc_value c.self.inside.nodes).list.items = elim c.in_ok-make_mut.ensures.value [ inl h ↦ ap (λ (n : Nodes). n.list.items) h | inr h ↦ h ] in
-    let new = ap (λ (n : Nodes). n.list.items) (c.make_mut.follows.holds c.raise_between.new.self (search rules)) ∙ c.raise_between.ensures ∙ ap (raise_nodes span c.args.value) was in
-    subst (IsCutNumber c.self.inside.start) (sym (ap (λ (ns : List Node). start_of ns) new ∙ raise_nodes-start span c.args.value (arc_value c.self.inside.nodes).list.items)) c.self.invariant
+    let was : c.in_ok-make_mut.field-0.now ≡ arc_value c.self.inside.nodes = elim c.in_ok-make_mut.ensures.value [ inl h ↦ h | inr h ↦ h ] in
+    let new = (c.make_mut.follows.holds c.raise_between.new.self (search rules)) ∙ c.raise_between.ensures ∙ ap (raise_nodes span c.args.value) was in
+    subst (IsCutNumber c.self.inside.start) (sym (ap (λ (ns : List Node). start_of ns) new ∙ raise_nodes-start span c.args.value (arc_value c.self.inside.nodes))) c.self.invariant
 
 pub returns-clause-whole : goal.returns-clause-whole
 returns-clause-whole c =
     let span : Interval = between (cut_of c.args.from) (cut_of c.args.to) in
-    let was : c.in_ok-make_mut.field-0.now.list.items ≡ (arc_value c.self.inside.nodes).list.items = elim c.in_ok-make_mut.ensures.value [ inl h ↦ ap (λ (n : Nodes). n.list.items) h | inr h ↦ h ] in
-    let new = ap (λ (n : Nodes). n.list.items) (c.make_mut.follows.holds c.raise_between.new.self (search rules)) ∙ c.raise_between.ensures ∙ ap (raise_nodes span c.args.value) (was ∙ c.self.view_is) in
+    let was : c.in_ok-make_mut.field-0.now ≡ arc_value c.self.inside.nodes = elim c.in_ok-make_mut.ensures.value [ inl h ↦ h | inr h ↦ h ] in
+    let new = (c.make_mut.follows.holds c.raise_between.new.self (search rules)) ∙ c.raise_between.ensures ∙ ap (raise_nodes span c.args.value) (was ∙ c.self.view_is) in
     let long = ap length new ∙ raise_nodes-length span c.args.value c.args.self.now in
     let whole : IsLeaf c.args.self.now = c.requires.whole in
     (omega (arith, long, whole.0), omega (arith, long, whole.1))

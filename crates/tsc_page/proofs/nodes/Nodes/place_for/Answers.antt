@@ -7,5 +7,6 @@ use Rattle.tsc_page.proofs.nodes.Nodes.place_for.Goals as goal
 
 pub returns-clause-place : goal.returns-clause-place
 returns-clause-place c =
-    let nodes : List Node = c.args.self.now.list.items in
-    subst (λ r. IsPlaceFor c.args.key.now nodes r) (sym (c.err.ensures.value ∙ err_place c.find.result)) (placed nodes c.args.key.now c.find.result (subst (λ (k : KeyBytes). IsFoundAt nodes k c.find.result) (c.new.ensures ∙ c.bytes.ensures.value) c.find.ensures))
+    let nodes : List Node = c.args.self.now in
+    let found = subst (λ (ns : List Node). IsFoundAt ns c.new.result c.find.result) c.lists.ensures c.find.ensures in
+    subst (λ r. IsPlaceFor c.args.key.now nodes r) (sym (c.err.ensures.value ∙ err_place c.find.result)) (placed nodes c.args.key.now c.find.result (subst (λ (k : KeyBytes). IsFoundAt nodes k c.find.result) (c.new.ensures ∙ c.bytes.ensures.value) found))

@@ -4,18 +4,18 @@ use Rattle.tsc_span.specs.Span.{Cut, between}
 use Rattle.tsc_span.specs.Cuts.{cut_of}
 use Rattle.tsc_page.specs.Nodes.{Node, LiesFrom, key_above, first_gap, HoldsKeysOn, HoldsGapsOn}
 use Rattle.tsc_page.proofs.Places.{places_found, goes_from}
-use Rattle.tsc_page.proofs.nodes.Nodes.places_between.Goals as goal
+use Rattle.tsc_page.proofs.nodes.Lists.places_between.Goals as goal
 
 pub place_from-high-requires-clause-low : goal.place_from-high-requires-clause-low
 place_from-high-requires-clause-low c =
-    let nodes : List Node = c.args.self.now.list.items in
+    let nodes : List Node = c.args.self.now in
     let from : Cut = cut_of c.args.from in
     let to : Cut = cut_of c.args.to in
     subst (LiesFrom nodes to) (sym c.index_of.ensures) (goes_from nodes c.requires.sorted from to c.requires.order c.place_of-low.result c.place_of-low.ensures)
 
 pub returns-clause-keys : goal.returns-clause-keys
 returns-clause-keys c =
-    let nodes : List Node = c.args.self.now.list.items in
+    let nodes : List Node = c.args.self.now in
     let from : Cut = cut_of c.args.from in
     let to : Cut = cut_of c.args.to in
     let low : Result ℕ ℕ = c.place_of-low.result in
@@ -26,7 +26,7 @@ returns-clause-keys c =
 
 pub returns-clause-gaps : goal.returns-clause-gaps
 returns-clause-gaps c =
-    let nodes : List Node = c.args.self.now.list.items in
+    let nodes : List Node = c.args.self.now in
     let from : Cut = cut_of c.args.from in
     let to : Cut = cut_of c.args.to in
     let low : Result ℕ ℕ = c.place_of-low.result in

@@ -7,11 +7,11 @@ use Rattle.tsc_page.specs.PageView.{is_new_among}
 use Rattle.tsc_page.specs.Nodes.{Node, node_keys, IsFoundAt, IsNewKey}
 use Rattle.tsc_page.proofs.Edits.{FitsAt-absent}
 use Rattle.tsc_page.proofs.Searches.{placed, new_at}
-use Rattle.tsc_page.proofs.nodes.Nodes.new_key.Goals as goal
+use Rattle.tsc_page.proofs.nodes.Lists.new_key.Goals as goal
 
 pub returns-in_err-try_copy-in-Err-clause-memory : goal.returns-in_err-try_copy-in-Err-clause-memory
 returns-in_err-try_copy-in-Err-clause-memory c known =
-    let nodes : List Node = c.args.self.now.list.items in
+    let nodes : List Node = c.args.self.now in
     let k : KeyBytes = c.in-Some.key.now in
     let place : ℕ = c.in-Err.place in
     let found : IsFoundAt nodes k (Err place) = subst (λ (m : KeyBytes). IsFoundAt nodes m (Err place)) (c.new.ensures ∙ c.bytes.ensures.value) (subst (IsFoundAt nodes c.new.result) c.in-Err.is c.find.ensures) in
@@ -21,7 +21,7 @@ returns-in_err-try_copy-in-Err-clause-memory c known =
 
 pub returns-in-Ok-clause-value : goal.returns-in-Ok-clause-value
 returns-in-Ok-clause-value c =
-    let nodes : List Node = c.args.self.now.list.items in
+    let nodes : List Node = c.args.self.now in
     let k : KeyBytes = c.in-Some.key.now in
     let place : ℕ = c.in-Ok.place in
     let found : IsFoundAt nodes k (Ok place) = subst (λ (m : KeyBytes). IsFoundAt nodes m (Ok place)) (c.new.ensures ∙ c.bytes.ensures.value) (subst (IsFoundAt nodes c.new.result) c.in-Ok.is c.find.ensures) in
@@ -29,7 +29,7 @@ returns-in-Ok-clause-value c =
 
 pub returns-in_ok-try_copy-in-Err-clause-value : goal.returns-in_ok-try_copy-in-Err-clause-value
 returns-in_ok-try_copy-in-Err-clause-value c =
-    let nodes : List Node = c.args.self.now.list.items in
+    let nodes : List Node = c.args.self.now in
     let k : KeyBytes = c.in-Some.key.now in
     let copy : KeyBytes = c.in_ok-try_copy-in-Err.field-0 in
     let place : ℕ = c.in-Err.place in
