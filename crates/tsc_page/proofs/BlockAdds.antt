@@ -8,10 +8,10 @@ use Rattle.std.proofs.Math.Dec.{eqb-suc-zero}
 use Rattle.std.proofs.lemmas.List.{append_assoc, length-append, nil_from_length}
 use Rattle.tsc_time.specs.OwnedTime.{OwnedTime}
 use Rattle.tsc_span.specs.Span.{KeyBytes, Cut, between}
-use Rattle.tsc_page.specs.PageView.{AreLeafSizes}
-use Rattle.tsc_page.specs.Nodes.{Node, IsSorted, IsInOrder, AddsNodes}
+use Rattle.tsc_nodes.specs.PageView.{AreLeafSizes}
+use Rattle.tsc_nodes.specs.Nodes.{Node, IsSorted, IsInOrder, AddsNodes}
 use Rattle.tsc_page.specs.Leaves.{nodes_of, rows_of, rows_behind, leaf_sizes, AreLeaves, AreParts, IsLeaf, IsBlock, IsLeafAt, LiesAt, AddsLeaves, start_of}
-use Rattle.tsc_page.proofs.CutOrder.{Lt, Le}
+use Rattle.tsc_nodes.proofs.CutOrder.{Lt, Le}
 use Rattle.tsc_page.proofs.Joins.{sorted_left, sorted_right}
 use Rattle.tsc_page.proofs.LeafAdds.{adds_right, nodes_append, sizes_append, sizes_parts, whole_leaves, leaves_whole, first_of, first_set, behind, FallsAt, falls_at}
 use Rattle.tsc_page.proofs.Blocks.{is_block, parts_of_block, begins_rows}

@@ -7,13 +7,13 @@ use Rattle.std.specs.Vec.{with_items}
 use Rattle.std.proofs.lemmas.List.{append_assoc, length-append, nil_from_length, with_items_is}
 use Rattle.tsc_time.specs.OwnedTime.{OwnedTime}
 use Rattle.tsc_span.specs.Span.{KeyBytes, Cut, between, end_keys}
-use Rattle.tsc_page.specs.PageView.{AreLeafSizes}
-use Rattle.tsc_page.specs.Nodes.{Node, IsSorted}
+use Rattle.tsc_nodes.specs.PageView.{AreLeafSizes}
+use Rattle.tsc_nodes.specs.Nodes.{Node, IsSorted}
 use Rattle.tsc_page.specs.Leaves.{nodes_of, rows_of, leaf_sizes, AreLeaves, AreSome, AreBlocks, IsBlock, IsLeafAt, AddsTo, AddsLeaves, LiesAt, start_of}
 use Rattle.tsc_page.specs.LeafParts.{AreCounted}
 use Rattle.tsc_page.specs.declared.leaves.Leaves.{Leaves}
-use Rattle.tsc_page.proofs.CutOrder.{Lt, Le}
-use Rattle.tsc_page.proofs.Ends.{ends_in_order}
+use Rattle.tsc_nodes.proofs.CutOrder.{Lt, Le}
+use Rattle.tsc_nodes.proofs.Ends.{ends_in_order}
 use Rattle.tsc_page.proofs.Joins.{sorted_right, up_to_last}
 use Rattle.tsc_page.proofs.LeafLists.{all_some, no_size, starts_low, ends_high}
 use Rattle.tsc_page.proofs.LeafAdds.{IsAdded, nodes_append, sizes_append, sizes_parts, adds_right, adds_to}

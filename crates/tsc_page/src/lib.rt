@@ -1,8 +1,7 @@
 //! One page of a timestamp cache.
 //!
 //! A [`Page`] keeps what the spans that were added to it come to, as one sorted list of nodes, in leaves of
-//! 1 to 64, which stand in blocks of 1 to 64. Copies of a page share their blocks and leaves, and one that is shared
-//! is copied before it changes: of a block the list of its leaves, and of a leaf its nodes.
+//! 1 to 64. Copies of a page share their leaves, and a leaf that is shared is copied before it changes.
 //! A node is an end key of such a span. It has the value that holds at its key, and the value that holds
 //! in the open gap between its key and that of the next node. Below the first node nothing was added.
 //!
@@ -21,17 +20,8 @@
 mod block;
 mod leaf;
 mod leaves;
-mod nodes;
-mod number;
 mod page;
 mod parts;
-mod plain;
 
 pub use page::Page;
-pub use plain::PlainPage;
-
-/// How many different end keys a page may hold at the least: those of one range.
-pub const LEAST_NODES: u32 = 2;
-
-/// How many different end keys a page may hold at the most.
-pub const MOST_NODES: u32 = 65_536;
+pub use tsc_nodes::{LEAST_NODES, MOST_NODES, PlainPage};

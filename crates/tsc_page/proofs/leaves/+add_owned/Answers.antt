@@ -8,11 +8,11 @@ use Rattle.std.proofs.lemmas.Result.{IfOk-weaker}
 use Rattle.std.proofs.lemmas.Option.{IfSome_then}
 use Rattle.tsc_span.specs.Span.{KeyBytes, Cut, before, last, between}
 use Rattle.tsc_span.specs.Cuts.{cut_of}
-use Rattle.tsc_page.specs.Nodes.{Node, IsSorted, FitsIn, with_new, new_count, raise_nodes}
+use Rattle.tsc_nodes.specs.Nodes.{Node, IsSorted, FitsIn, with_new, new_count, raise_nodes}
 use Rattle.tsc_page.specs.Leaves.{IsBlock, IsLeafAt, AddsLeaves, nodes_of, rows_of, start_of}
-use Rattle.tsc_page.specs.declared.nodes.Nodes.{Nodes}
-use Rattle.tsc_page.proofs.CutOrder.{Lt, Le, Le_Lt-chain}
-use Rattle.tsc_page.proofs.Cuts.{lowest}
+use Rattle.tsc_nodes.specs.declared.nodes.Nodes.{Nodes}
+use Rattle.tsc_nodes.proofs.CutOrder.{Lt, Le, Le_Lt-chain}
+use Rattle.tsc_nodes.proofs.Cuts.{lowest}
 use Rattle.tsc_page.proofs.Joins.{sorted_left}
 use Rattle.tsc_page.proofs.LeafAdds.{first_set, IsReady, stops_here, goes_beyond, behind, as_they_are}
 use Rattle.tsc_page.proofs.Blocks.{behind_low, ready_in}

@@ -6,9 +6,9 @@ use Rattle.std.specs.Vec.{with_items}
 use Rattle.std.proofs.lemmas.List.{length-append, with_items_is}
 use Rattle.tsc_span.specs.Span.{KeyBytes, Cut, between}
 use Rattle.tsc_span.specs.Cuts.{cut_of}
-use Rattle.tsc_page.specs.Nodes.{Node}
+use Rattle.tsc_nodes.specs.Nodes.{Node}
 use Rattle.tsc_page.specs.Leaves.{nodes_of, rows_of, AreLeaves, IsBlock, AddsTo, AddsLeaves}
-use Rattle.tsc_page.proofs.Ends.{ends_in_order}
+use Rattle.tsc_nodes.proofs.Ends.{ends_in_order}
 use Rattle.tsc_page.proofs.Blocks.{block_parts_of}
 use Rattle.tsc_page.proofs.BlockPlaces.{FallsInBlock, falls_told, later_leaves, added_told, all_left, all_both, counted_with, counted_still}
 use Rattle.tsc_page.proofs.leaves.Leaves.add_in_place.Goals as goal

@@ -1,7 +1,7 @@
 -- A leaf's size is that of its list.
 use Rattle.std.proofs.Common.{◌∙◌, ap, List, get_or, length, arith}
 use Rattle.std.specs.Prelude.{Some, slice_get}
-use Rattle.tsc_page.specs.Nodes.{Node}
+use Rattle.tsc_nodes.specs.Nodes.{Node}
 use Rattle.tsc_page.specs.Leaves.{leaf_sizes, rows_of}
 use Rattle.tsc_page.specs.LeafParts.{leaves_of}
 use Rattle.tsc_page.proofs.LeafLists.{size_small}

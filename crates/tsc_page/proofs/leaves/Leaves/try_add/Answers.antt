@@ -5,13 +5,13 @@ use Rattle.std.specs.Option.{option_to_list}
 use Rattle.std.proofs.lemmas.List.{with_items_is}
 use Rattle.tsc_span.specs.Span.{KeyBytes, Cut, between, end_keys}
 use Rattle.tsc_span.specs.Cuts.{cut_of}
-use Rattle.tsc_page.specs.PageView.{is_new_among}
-use Rattle.tsc_page.specs.Nodes.{Node, IsSorted, IsSplitAt, node_keys, raise_nodes}
+use Rattle.tsc_nodes.specs.PageView.{is_new_among}
+use Rattle.tsc_nodes.specs.Nodes.{Node, IsSorted, IsSplitAt, node_keys, raise_nodes}
 use Rattle.tsc_page.specs.Leaves.{nodes_of, rows_of, AreBlocks}
 use Rattle.tsc_page.specs.LeafParts.{all_nodes}
-use Rattle.tsc_page.proofs.NewKeys.{splits_chain}
-use Rattle.tsc_page.proofs.Standing.{one_if, count_with_ends, added_length}
-use Rattle.tsc_page.proofs.Edits.{raise_nodes-sorted, raise_nodes-length}
+use Rattle.tsc_nodes.proofs.NewKeys.{splits_chain}
+use Rattle.tsc_nodes.proofs.Standing.{one_if, count_with_ends, added_length}
+use Rattle.tsc_nodes.proofs.Edits.{raise_nodes-sorted, raise_nodes-length}
 use Rattle.tsc_page.proofs.Blocks.{copied, block_parts_of, raised_blocks, rows_sizes}
 use Rattle.tsc_page.proofs.BlockPlaces.{counted_with, counted_blocks}
 use Rattle.tsc_page.proofs.leaves.Leaves.try_add.Goals as goal
