@@ -123,3 +123,7 @@ gap_changed v old ks vs first i n w same low within is so_far =
     subst (λ (ns : List Node). ChangesPlaces (gap_raised v) old ns first (i + 1)) (sym (paired-set ks vs same i [] n))
     (one_changed (gap_raised v) old (paired ks vs) first i (with_values (get_or ks i []) n) some_node low (omega (arith, within, so_far.as_long, paired-length ks vs same))
     (ap (with_values (get_or ks i [])) is ∙ ap (gap_raised v) (sym (paired-at ks vs same i some_node [] w within))) so_far)
+
+-- the same lists are the same nodes
+pub kept_pair : (ks ms : List KeyBytes) (vs ws : List Values) (ns : List Node) → ms ≡ ks → ws ≡ vs → paired ks vs ≡ ns → paired ms ws ≡ ns
+kept_pair ks ms vs ws ns keys values is = ap (λ (x : List KeyBytes). paired x ws) keys ∙ ap (λ (x : List Values). paired ks x) values ∙ is

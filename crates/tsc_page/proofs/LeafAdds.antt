@@ -387,6 +387,12 @@ is_ready ls leaf ms from to o q q' h g is leaves low first second upper order ha
       fits_lower = new_fits (with_new leaf g) (key_below start o) h still;
     }
 
+-- no new keys make no nodes
+none_new : (ns : List Node) (h g : Option (ℕ × KeyBytes)) → new_count h g ≡ 0 → with_new (with_new ns g) h ≡ ns
+none_new ns None None none = refl
+none_new ns None (Some y) none = absurd (omega (arith, none))
+none_new ns (Some x) g none = absurd (omega (arith, none))
+
 module _ (ls : List (List Node)) (leaf : List Node) (ms : List (List Node)) (f t : Cut) (v : OwnedTime) (o q : Option KeyBytes) (h g : Option (ℕ × KeyBytes)) (up : Lt f t) (first : LiesAt o f) (second : LiesAt q t) (order : IsInOrder o q) (ready : IsReady ls leaf ms f o q h g) (few : length leaf + new_count h g ≤ 64) where
   made_length : (c : Cut) → length (raise_nodes (between f c) v (with_new (with_new leaf g) h)) ≡ length leaf + new_count h g
   made_length c =
@@ -443,6 +449,16 @@ module _ (ls : List (List Node)) (leaf : List Node) (ms : List (List Node)) (f t
         count = count;
         few = few_made new_ls adds (n + m) count;
       }
+
+  -- and both where no key is new
+  pub stops_known : (new : List Node) (new_ls : List (List Node)) → new ≡ raise_nodes (between f t) v leaf → new_ls ≡ new ∷ ms → new_count h g ≡ 0 → Le t (start_of (nodes_of ms)) → AddsLeaves ls new_ls o q (between f t) v 0
+  stops_known new new_ls is is_all none high = stops_here new new_ls 0 (is ∙ ap (raise_nodes (between f t) v) (sym (none_new leaf h g none))) is_all (sym none) high
+
+  pub goes_known : (new : List Node) (ms' new_ls : List (List Node)) (m : ℕ) → new ≡ raise_nodes (between f last) v leaf → new_ls ≡ new ∷ ms' → new_count h g ≡ 0 → Lt (start_of (nodes_of ms)) t
+      → AddsLeaves ms ms' None q (between (before []) t) v m → AddsLeaves ls new_ls o q (between f t) v m
+  goes_known new ms' new_ls m is is_all none goes rest =
+      let same : 0 + m ≡ m = omega arith in
+      subst (λ (k : ℕ). AddsLeaves ls new_ls o q (between f t) v k) same (goes_beyond new ms' new_ls 0 m (is ∙ ap (raise_nodes (between f last) v) (sym (none_new leaf h g none))) is_all (sym none) goes rest)
 
 -- leaves are parts, each of 1 to 64 nodes
 pub leaves_whole : (ls : List (List Node)) → AreLeafSizes (leaf_sizes ls) → All IsLeaf ls
