@@ -422,6 +422,66 @@ fn the_largest_page(rt: HostRuntime) -> Result<(), Fail> {
     Ok(())
 }
 
+/// How many keys a page of more leaves than one block has is filled with.
+const MANY: u32 = 4096;
+
+/// Whether a page tells of each of so many places the time of its own.
+fn tells_places(alloc: Global, page: &Page) -> Result<bool, Fail> {
+    let mut alike = page.nodes() == MANY;
+    for at in 0..MANY {
+        alike &= page.lookup(&place(alloc, at)?) == value(u64::from(at) + 1, 0, FIRST)?;
+    }
+    Ok(alike)
+}
+
+/// Whether a page tells the same of each of them.
+fn tells_one(alloc: Global, page: &Page, told: Value) -> Result<bool, Fail> {
+    let mut alike = page.nodes() == MANY;
+    for at in 0..MANY {
+        alike &= page.lookup(&place(alloc, at)?) == told;
+    }
+    Ok(alike)
+}
+
+/// Adds a value to all of them.
+fn add_over_all(alloc: Global, page: &mut Page, told: Value) -> Result<(), Fail> {
+    let (first, last) = (0_u32, MANY - 1);
+    let from = Key::new(alloc, &first.to_be_bytes())?;
+    let to = Key::new(alloc, &last.to_be_bytes())?;
+    let ends = Ends {
+        exclude_from: false,
+        exclude_to: false,
+    };
+    let span = Span::for_lookup(from, to, ends);
+    if span.is_empty() || !page.room(&span) {
+        return Err(Fail::new("no room"));
+    }
+    page.add(&span, told)?;
+    Ok(())
+}
+
+/// A page with more leaves than one block has, whose keys came in mixed order.
+fn page_of_blocks(alloc: Global) -> Result<Page, Fail> {
+    let mut page = Page::new(alloc, MANY, Timestamp::ZERO)?;
+    for step in 0..MANY {
+        add_place(alloc, &mut page, number(Order::Mixed, step, MANY))?;
+    }
+    Ok(page)
+}
+
+#[test]
+fn a_page_of_several_blocks(rt: HostRuntime) -> Result<(), Fail> {
+    let mut page = page_of_blocks(rt.alloc())?;
+    assert!(rt; page.leaf_nodes(64).is_some() && tells_places(rt.alloc(), &page)?);
+    let (later, latest) = (value(5000, 0, FIRST)?, value(6000, 0, FIRST)?);
+    add_over_all(rt.alloc(), &mut page, later)?;
+    assert!(rt; tells_one(rt.alloc(), &page, later)?);
+    let copy = page.try_copy()?;
+    add_over_all(rt.alloc(), &mut page, latest)?;
+    assert!(rt; tells_one(rt.alloc(), &copy, later)? && tells_one(rt.alloc(), &page, latest)?);
+    Ok(())
+}
+
 /// A key of one byte.
 fn byte_key(alloc: Global, byte: u8) -> Result<Key, Fail> {
     Ok(Key::new(alloc, &[byte])?)

@@ -1,15 +1,13 @@
 -- Leaves in blocks.
-use Rattle.std.proofs.Common.{◌≡◌, ◌∙◌, refl, sym, ap, subst, Bool, cond, ℕ, zero, suc, ◌+◌, ◌<◌, ◌≤◌, List, [], ◌∷◌, ◌++◌, length, map, take, drop, get_or, arith}
-use Rattle.std.specs.Prelude.{slice_get}
+use Rattle.std.proofs.Common.{◌≡◌, ◌∙◌, refl, sym, ap, subst, Bool, cond, ℕ, zero, suc, ◌≤◌, List, [], ◌∷◌, ◌++◌, length, map, take, drop, get_or, arith}
 use Rattle.std.specs.List.{All, AllZip}
-use Rattle.std.proofs.lemmas.List.{length-append}
-use Rattle.std.specs.Prelude.{Option, Some, None}
+use Rattle.std.specs.Prelude.{Option, None}
 use Rattle.tsc_time.specs.Time.{zero_time}
 use Rattle.tsc_time.specs.OwnedTime.{OwnedTime, unowned}
-use Rattle.tsc_span.specs.Span.{KeyBytes, Cut, before, last, Interval, is_below}
+use Rattle.tsc_span.specs.Span.{KeyBytes, Cut, before, Interval, is_below}
 use Rattle.tsc_nodes.specs.PageView.{AreLeafSizes}
 use Rattle.tsc_nodes.specs.Nodes.{Node, IsSorted, IsSplitAt, IsNewKey, IsInOrder, node_in_gap, raise_nodes}
-use Rattle.tsc_page.specs.Leaves.{nodes_of, rows_of, rows_behind, leaf_sizes, AreLeaves, AreBlocks, AreParts, IsLeaf, IsBlock, HasNode, LiesAt, first_start, start_of}
+use Rattle.tsc_page.specs.Leaves.{nodes_of, rows_of, rows_behind, leaf_sizes, AreLeaves, AreBlocks, AreParts, IsLeaf, IsBlock, HasNode, LiesAt, start_of}
 use Rattle.tsc_nodes.proofs.CutOrder.{Lt}
 use Rattle.tsc_page.proofs.LeafLists.{lowest_below}
 use Rattle.tsc_page.proofs.LeafKeys.{made_first, has_node_splits}
@@ -31,9 +29,6 @@ rows_sizes (b ∷ bs) all = sizes_append b (rows_of bs) (whole_leaves b (all 0 b
 
 pub block_parts : (bs : List (List (List Node))) → All IsBlock bs → IsSorted (nodes_of (rows_of bs)) → AreParts (λ (b : List (List Node)). nodes_of b) IsBlock bs
 block_parts bs all sorted = record { whole = all; sorted = subst IsSorted (rows_nodes bs) sorted }
-
-pub block_leaves : (bs : List (List (List Node))) → All IsBlock bs → IsSorted (nodes_of (map (λ (b : List (List Node)). nodes_of b) bs)) → AreLeaves (rows_of bs)
-block_leaves bs all sorted = record { sizes = rows_sizes bs all; sorted = subst IsSorted (sym (rows_nodes bs)) sorted }
 
 -- the leaves of one block
 pub parts_of_block : (ls : List (List Node)) → All IsLeaf ls → IsSorted (nodes_of ls) → AreParts (λ (l : List Node). l) IsLeaf ls

@@ -20,11 +20,10 @@ use Rattle.tsc_span.specs.Span.{KeyBytes, key_cmp, Cut, before, after, last, Int
 use Rattle.tsc_span.proofs.CutOrder.{key_cmp_back}
 use Rattle.tsc_nodes.specs.PageView.{AreLeafSizes, is_in}
 use Rattle.tsc_nodes.specs.Nodes.{Node, node_keys, IsSorted, FitsAt, FitsIn, IsNewKey, IsInOrder, IsSplitAt, MakesNodes, AddsNodes, new_count, with_new, node_in_gap, gap_value, raise_nodes}
-use Rattle.tsc_page.specs.Leaves.{nodes_of, leaf_sizes, AreLeaves, AreSome, AreParts, IsLeaf, start_of, AddsTo, AddsLeaves, LiesAt, IsLeafAt, key_below}
+use Rattle.tsc_page.specs.Leaves.{nodes_of, leaf_sizes, AreLeaves, AreSome, IsLeaf, start_of, AddsTo, AddsLeaves, LiesAt, IsLeafAt, key_below}
 use Rattle.tsc_nodes.proofs.CutOrder.{Lt, Le, Lt-or_Le, Lt-not_Le, Le-chain, Le-from_Lt, Lt-chain, Lt-from_Le_sides, none_above_last, before-after}
 use Rattle.tsc_nodes.proofs.Edits.{raise_nodes-length, raise_nodes-sorted}
 use Rattle.tsc_nodes.proofs.NewKeys.{with_new_splits, new_fits, still_new, splits_chain, makes_sorted}
-use Rattle.tsc_nodes.proofs.Ends.{ends_in_order}
 use Rattle.tsc_page.proofs.Joins.{sorted_left, sorted_right, raises_left, raises_right, raises_both, up_to_last}
 use Rattle.tsc_page.proofs.LeafLists.{lowest_below, starts_low, ends_high}
 use Rattle.tsc_page.proofs.LeafKeys.{wholly_below, is_in-append, shift, shift_bound, insert_left, insert_right, gap_value_left, gap_value_right, fits_left, fits_right}
@@ -475,15 +474,6 @@ pub as_they_are : (ls : List (List Node)) → map (λ (l : List Node). l) ls ≡
 as_they_are [] = refl
 as_they_are (l ∷ ls) = ap (λ (ms : List (List Node)). l ∷ ms) (as_they_are ls)
 
-pub leaf_parts : (ls : List (List Node)) → AreLeaves ls → AreParts (λ (l : List Node). l) IsLeaf ls
-leaf_parts ls leaves = record { whole = leaves_whole ls leaves.sizes; sorted = subst (λ (ms : List (List Node)). IsSorted (nodes_of ms)) (sym (as_they_are ls)) leaves.sorted }
-
-pub leaf_parts_of : (ls xs : List (List Node)) → xs ≡ ls → AreLeaves ls → AreParts (λ (l : List Node). l) IsLeaf xs
-leaf_parts_of ls xs is leaves = leaf_parts xs (subst AreLeaves (sym is) leaves)
-
-pub part_leaves : (ls : List (List Node)) → All IsLeaf ls → IsSorted (nodes_of ls) → AreLeaves ls
-part_leaves ls all sorted = record { sizes = whole_leaves ls all; sorted = sorted }
-
 pub some_leaves : (ls : List (List Node)) → AreLeafSizes (leaf_sizes ls) → AreSome ls
 some_leaves [] sizes = tt
 some_leaves (l ∷ ls) sizes = (sizes.0, some_leaves ls sizes.2)
@@ -533,29 +523,3 @@ falls_at a b f t p long sizes up at = record {
 
     here : IsLeafAt (a ++ b) f (length a)
     here = subst (λ (i : ℕ). IsLeafAt (a ++ b) f i) (sym long) at
-
-module _ (a b : List (List Node)) (f t : Cut) (leaves : AreLeaves (a ++ b)) (up : Lt f t) (at : FallsAt a b f) where
-  parts_sorted : IsSorted (nodes_of a ++ nodes_of b)
-  parts_sorted = subst IsSorted (nodes_append a b) leaves.sorted
-
-  pub second_leaves : AreLeaves b
-  second_leaves = record { sizes = (sizes_parts a b leaves.sizes).1; sorted = sorted_right (nodes_of a) (nodes_of b) parts_sorted }
-
-  pub added_at : (b' : List (List Node)) (v : OwnedTime) (o q : Option KeyBytes) (n : ℕ) → LiesAt o f → LiesAt q t → option_to_list o ++ option_to_list q ≡ end_keys (between f t) → AddsLeaves b b' o q (between f t) v n → IsAdded (a ++ b) (a ++ b') (between f t) v n
-  added_at b' v o q n first second keys adds =
-      let order = ends_in_order f t o q up keys in
-      let all = adds_right (nodes_of a) (nodes_of b) (nodes_of b') f t v o q parts_sorted up at.start first second order adds.adds in
-      let to = adds_to (nodes_of a ++ nodes_of b) (nodes_of a ++ nodes_of b') o q (between f t) v parts_sorted order keys all in
-      let was = nodes_append a b in
-      let now = nodes_append a b' in
-      let one = length-append (nodes_of a) (nodes_of b) in
-      let two = length-append (nodes_of a) (nodes_of b') in
-      let more = adds.count in
-      record {
-        adds = subst (λ (ns : List Node). AddsTo ns (nodes_of (a ++ b')) (between f t) v) (sym was) (subst (λ (ns : List Node). AddsTo (nodes_of a ++ nodes_of b) ns (between f t) v) (sym now) to.0);
-        leaves = record {
-          sizes = sizes_append a b' (sizes_parts a b leaves.sizes).0 adds.sizes;
-          sorted = subst IsSorted (sym now) to.1;
-        };
-        count = omega (arith, ap length was, ap length now, one, two, more);
-      }
