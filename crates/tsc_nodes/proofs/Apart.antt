@@ -1,13 +1,13 @@
 -- Nodes whose keys and values stand in two lists.
-use Rattle.std.proofs.Common.{◌≡◌, ◌∙◌, inl, inr, refl, sym, ap, subst, ℕ, zero, suc, ◌+◌, ◌-◌, ◌<◌, ◌≤◌, List, [], ◌∷◌, ◌++◌, length, take, drop, get_or, set, Result, Ok, Err, arith}
+use Rattle.std.proofs.Common.{◌≡◌, ◌∙◌, refl, sym, ap, subst, ℕ, zero, suc, ◌+◌, ◌<◌, ◌≤◌, List, [], ◌∷◌, length, take, drop, get_or, set, Result, Ok, Err, arith}
 use Rattle.std.specs.List.{insert, AllZip}
 use Rattle.std.specs.List.Sorted.{IsSearchInRange, IsBinarySearchResult}
 use Rattle.std.specs.Ordering.{ordering_index}
 use Rattle.tsc_time.specs.OwnedTime.{OwnedTime}
 use Rattle.tsc_time.specs.Joint.{joint}
-use Rattle.tsc_span.specs.Span.{KeyBytes, Cut, before, last, key_cmp}
+use Rattle.tsc_span.specs.Span.{KeyBytes, key_cmp}
 use Rattle.tsc_nodes.specs.declared.nodes.Values.{Values}
-use Rattle.tsc_nodes.specs.Nodes.{Node, paired, node_keys, node_in_gap, next_cut, node_stretches, IsSorted, IsFoundAt}
+use Rattle.tsc_nodes.specs.Nodes.{Node, paired, node_keys, IsSorted, IsFoundAt}
 use Rattle.tsc_nodes.proofs.Places.{some_node}
 use Rattle.tsc_nodes.proofs.Searches.{searched}
 use Rattle.tsc_nodes.proofs.RaisedNodes.{ChangesPlaces, key_raised, gap_raised, one_changed}

@@ -1,5 +1,5 @@
 -- The value of the gap before a place is that of the node before it, or none.
-use Rattle.std.proofs.Common.{◌≡◌, ◌∙◌, refl, ap, subst, sym, ◌-◌, ◌<◌, ◌≤◌, ℕ, List, length, get_or, arith, rules}
+use Rattle.std.proofs.Common.{◌≡◌, ◌∙◌, refl, ap, subst, sym, ◌-◌, ℕ, List, get_or, arith, rules}
 use Rattle.std.specs.List.{insert}
 use Rattle.tsc_time.specs.Time.{zero_time}
 use Rattle.tsc_time.specs.OwnedTime.{OwnedTime, unowned}

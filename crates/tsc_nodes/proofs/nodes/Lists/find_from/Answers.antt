@@ -1,5 +1,5 @@
 -- The keys looked at are below, so the first other one is the key, or stands above it.
-use Rattle.std.proofs.Common.{◌≡◌, ◌∙◌, ◌<◌, ℕ, sym, ap, subst, List, length, get_or, arith}
+use Rattle.std.proofs.Common.{◌≡◌, ◌∙◌, ℕ, sym, ap, subst, List, length, arith}
 use Rattle.tsc_span.specs.Span.{KeyBytes, key_cmp}
 use Rattle.tsc_nodes.specs.Nodes.{Node, FallsAt}
 use Rattle.tsc_nodes.proofs.Places.{some_node, falls_last}

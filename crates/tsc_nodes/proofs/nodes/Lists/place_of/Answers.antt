@@ -1,5 +1,5 @@
 -- The last cut lies behind all keys, which are as many as the nodes.
-use Rattle.std.proofs.Common.{◌≡◌, sym, ap, subst, length, Err}
+use Rattle.std.proofs.Common.{sym, ap, subst, length, Err}
 use Rattle.tsc_span.specs.Cuts.{cut_of}
 use Rattle.tsc_nodes.specs.Nodes.{IsPlaceOf}
 use Rattle.tsc_nodes.proofs.Apart.{long_as}

@@ -1,5 +1,5 @@
 -- A key that compares as the same is the same.
-use Rattle.std.proofs.Common.{◌≡◌, ◌∙◌, ◌<◌, ℕ, sym, ap, List, length, arith}
+use Rattle.std.proofs.Common.{◌∙◌, ◌<◌, ℕ, sym, ap, List, length, arith}
 use Rattle.tsc_span.specs.Span.{KeyBytes, key_cmp}
 use Rattle.tsc_nodes.specs.Nodes.{Node}
 use Rattle.tsc_nodes.proofs.Places.{some_node}

@@ -1,5 +1,5 @@
 -- Of both lists the first 32 stay, and the others come off.
-use Rattle.std.proofs.Common.{◌≡◌, ◌∙◌, inl, inr, sym, ap, List, length, take, drop, arith, rules}
+use Rattle.std.proofs.Common.{◌≡◌, ◌∙◌, inl, inr, ap, List, length, take, drop, arith, rules}
 use Rattle.std.specs.Arc.{arc_value}
 use Rattle.tsc_span.specs.Span.{KeyBytes}
 use Rattle.tsc_nodes.specs.declared.nodes.Values.{Values}
