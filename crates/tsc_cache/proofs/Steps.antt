@@ -4,7 +4,7 @@ use Rattle.std.proofs.lemmas.Bool.{cases_Bool}
 use Rattle.std.proofs.lemmas.List.Elements.{All-contains}
 use Rattle.tsc_time.specs.Time.{Time, is_before}
 use Rattle.tsc_time.proofs.TimeOrder.{is_before-itself}
-use Rattle.tsc_page.specs.Page.{Mark, PageMarks, empty_page, top}
+use Rattle.tsc_nodes.specs.Page.{Mark, PageMarks, empty_page, top}
 use Rattle.tsc_cache.specs.Settings.{Settings}
 use Rattle.tsc_cache.specs.State.{CacheState, is_past_retention, is_kept, front_has_room, front_top, marked, counted_on, evict, rotate, step}
 use Rattle.tsc_cache.specs.Eviction.{highest}

@@ -1,7 +1,7 @@
 -- How a cache is set up.
 use Rattle.std.specs.Prelude.{◌≡◌, ℕ, ◌&&◌, nat_le, not, Bool, true, Result, Ok, Err, if◌then◌else◌}
 use Rattle.tsc_time.specs.Time.{Time}
-use Rattle.tsc_page.specs.declared.TheConstants.{LEAST_NODES, MOST_NODES}
+use Rattle.tsc_nodes.specs.declared.TheConstants.{LEAST_NODES, MOST_NODES}
 use Rattle.tsc_cache.specs.declared.config.TheConstants.{LEAST_MIN_PAGES, MOST_MIN_PAGES, LONGEST_RETENTION}
 use Rattle.tsc_cache.specs.declared.config.ConfigFault.{ConfigFault}
 use Rattle.tsc_cache.specs.declared.config.ConfigFault.TheVariants.{PageSize, MinPages, Retention}

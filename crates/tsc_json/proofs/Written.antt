@@ -19,7 +19,7 @@ use Rattle.tsc_span.specs.Span.{KeyBytes, key_cmp, before, after, last, Interval
 use Rattle.tsc_span.specs.MadeSpan.{IsKey, IsMadeSpan}
 use Rattle.tsc_span.proofs.CutOrder.{key_cmp-same}
 use Rattle.tsc_span.proofs.Ranges.{range_of_less, range_of_equal}
-use Rattle.tsc_page.specs.declared.TheConstants.{LEAST_NODES, MOST_NODES}
+use Rattle.tsc_nodes.specs.declared.TheConstants.{LEAST_NODES, MOST_NODES}
 use Rattle.tsc_cache.specs.declared.config.TheConstants.{LEAST_MIN_PAGES, MOST_MIN_PAGES, LONGEST_RETENTION}
 use Rattle.tsc_cache.specs.Settings.{Settings, IsWithinLimits}
 use Rattle.tsc_json.specs.Lists.{fits_trace}

@@ -7,10 +7,10 @@ use Rattle.std.specs.Prelude.{Option, Some, None}
 use Rattle.tsc_time.specs.Time.{zero_time}
 use Rattle.tsc_time.specs.OwnedTime.{OwnedTime, unowned}
 use Rattle.tsc_span.specs.Span.{KeyBytes, Cut, before, last, Interval, is_below}
-use Rattle.tsc_page.specs.PageView.{AreLeafSizes}
-use Rattle.tsc_page.specs.Nodes.{Node, IsSorted, IsSplitAt, IsNewKey, IsInOrder, node_in_gap, raise_nodes}
+use Rattle.tsc_nodes.specs.PageView.{AreLeafSizes}
+use Rattle.tsc_nodes.specs.Nodes.{Node, IsSorted, IsSplitAt, IsNewKey, IsInOrder, node_in_gap, raise_nodes}
 use Rattle.tsc_page.specs.Leaves.{nodes_of, rows_of, rows_behind, leaf_sizes, AreLeaves, AreBlocks, AreParts, IsLeaf, IsBlock, HasNode, LiesAt, first_start, start_of}
-use Rattle.tsc_page.proofs.CutOrder.{Lt}
+use Rattle.tsc_nodes.proofs.CutOrder.{Lt}
 use Rattle.tsc_page.proofs.LeafLists.{lowest_below}
 use Rattle.tsc_page.proofs.LeafKeys.{made_first, has_node_splits}
 use Rattle.tsc_page.proofs.LeafAdds.{nodes_append, sizes_append, as_they_are, whole_leaves, some_leaves, first_leaf, is_ready, IsReady}

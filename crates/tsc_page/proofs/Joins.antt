@@ -5,11 +5,11 @@ use Rattle.std.proofs.lemmas.Bool.{cases_Bool}
 use Rattle.tsc_time.specs.OwnedTime.{OwnedTime}
 use Rattle.tsc_time.specs.Joint.{joint}
 use Rattle.tsc_span.specs.Span.{Cut, before, after, last, between, overlaps}
-use Rattle.tsc_page.specs.Nodes.{Node, node_stretches, IsSorted, raise_nodes}
+use Rattle.tsc_nodes.specs.Nodes.{Node, node_stretches, IsSorted, raise_nodes}
 use Rattle.tsc_page.specs.Leaves.{start_of}
-use Rattle.tsc_page.proofs.CutOrder.{Lt, Le, Meet, Lt-not_Le, Le-from_Lt, Le-itself, Lt-chain, Le-chain, Le_Lt-chain, Lt_Le-chain, before-after, below_last, none_above_last, overlaps-from, overlaps-tells}
-use Rattle.tsc_page.proofs.Cuts.{lowest}
-use Rattle.tsc_page.proofs.Answers.{Meets}
+use Rattle.tsc_nodes.proofs.CutOrder.{Lt, Le, Meet, Lt-not_Le, Le-from_Lt, Le-itself, Lt-chain, Le-chain, Le_Lt-chain, Lt_Le-chain, before-after, below_last, none_above_last, overlaps-from, overlaps-tells}
+use Rattle.tsc_nodes.proofs.Cuts.{lowest}
+use Rattle.tsc_nodes.proofs.Answers.{Meets}
 
 pub sorted_left : (xs ys : List Node) → IsSorted (xs ++ ys) → IsSorted xs
 sorted_left [] ys sorted = tt

@@ -18,13 +18,13 @@ use Rattle.tsc_time.specs.Time.{zero_time}
 use Rattle.tsc_time.specs.OwnedTime.{OwnedTime, unowned}
 use Rattle.tsc_span.specs.Span.{KeyBytes, key_cmp, Cut, before, after, last, Interval, between, end_keys, is_below}
 use Rattle.tsc_span.proofs.CutOrder.{key_cmp_back}
-use Rattle.tsc_page.specs.PageView.{AreLeafSizes, is_in}
-use Rattle.tsc_page.specs.Nodes.{Node, node_keys, IsSorted, FitsAt, FitsIn, IsNewKey, IsInOrder, IsSplitAt, MakesNodes, AddsNodes, new_count, with_new, node_in_gap, gap_value, raise_nodes}
+use Rattle.tsc_nodes.specs.PageView.{AreLeafSizes, is_in}
+use Rattle.tsc_nodes.specs.Nodes.{Node, node_keys, IsSorted, FitsAt, FitsIn, IsNewKey, IsInOrder, IsSplitAt, MakesNodes, AddsNodes, new_count, with_new, node_in_gap, gap_value, raise_nodes}
 use Rattle.tsc_page.specs.Leaves.{nodes_of, leaf_sizes, AreLeaves, AreSome, AreParts, IsLeaf, start_of, AddsTo, AddsLeaves, LiesAt, IsLeafAt, key_below}
-use Rattle.tsc_page.proofs.CutOrder.{Lt, Le, Lt-or_Le, Lt-not_Le, Le-chain, Le-from_Lt, Lt-chain, Lt-from_Le_sides, none_above_last, before-after}
-use Rattle.tsc_page.proofs.Edits.{raise_nodes-length, raise_nodes-sorted}
-use Rattle.tsc_page.proofs.NewKeys.{with_new_splits, new_fits, still_new, splits_chain, makes_sorted}
-use Rattle.tsc_page.proofs.Ends.{ends_in_order}
+use Rattle.tsc_nodes.proofs.CutOrder.{Lt, Le, Lt-or_Le, Lt-not_Le, Le-chain, Le-from_Lt, Lt-chain, Lt-from_Le_sides, none_above_last, before-after}
+use Rattle.tsc_nodes.proofs.Edits.{raise_nodes-length, raise_nodes-sorted}
+use Rattle.tsc_nodes.proofs.NewKeys.{with_new_splits, new_fits, still_new, splits_chain, makes_sorted}
+use Rattle.tsc_nodes.proofs.Ends.{ends_in_order}
 use Rattle.tsc_page.proofs.Joins.{sorted_left, sorted_right, raises_left, raises_right, raises_both, up_to_last}
 use Rattle.tsc_page.proofs.LeafLists.{lowest_below, starts_low, ends_high}
 use Rattle.tsc_page.proofs.LeafKeys.{wholly_below, is_in-append, shift, shift_bound, insert_left, insert_right, gap_value_left, gap_value_right, fits_left, fits_right}

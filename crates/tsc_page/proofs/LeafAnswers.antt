@@ -5,12 +5,12 @@ use Rattle.tsc_time.specs.OwnedTime.{OwnedTime, unowned}
 use Rattle.tsc_time.specs.Joint.{joint, joint_above, IsAtMost}
 use Rattle.tsc_time.proofs.RatchetOrder.{IsAtMost-itself, IsAtMost-antisymmetric, IsAtMost-transitive}
 use Rattle.tsc_span.specs.Span.{Cut, before, last, Interval, between}
-use Rattle.tsc_page.specs.Nodes.{Node, Stretch, node_stretches, stretches, IsSorted, answer_of}
+use Rattle.tsc_nodes.specs.Nodes.{Node, Stretch, node_stretches, stretches, IsSorted, answer_of}
 use Rattle.tsc_page.specs.Leaves.{start_of}
-use Rattle.tsc_page.proofs.Answers.{values_over-is, Meets, answer-above, answer-above_zero, answer-least}
-use Rattle.tsc_page.proofs.CutOrder.{Lt, Le}
-use Rattle.tsc_page.proofs.Raises.{first_below, second_below, both_below}
-use Rattle.tsc_page.proofs.Seen.{IsJointOf, none_seen}
+use Rattle.tsc_nodes.proofs.Answers.{values_over-is, Meets, answer-above, answer-above_zero, answer-least}
+use Rattle.tsc_nodes.proofs.CutOrder.{Lt, Le}
+use Rattle.tsc_nodes.proofs.Raises.{first_below, second_below, both_below}
+use Rattle.tsc_nodes.proofs.Seen.{IsJointOf, none_seen}
 use Rattle.tsc_page.proofs.Joins.{meets_left, meets_right, meets_both}
 
 -- an answer is the joint value of what is met

@@ -13,13 +13,13 @@ use Rattle.std.proofs.lemmas.List.Edits.{length-insert}
 use Rattle.tsc_time.specs.Time.{zero_time}
 use Rattle.tsc_time.specs.OwnedTime.{OwnedTime, unowned}
 use Rattle.tsc_span.specs.Span.{KeyBytes, key_cmp, Cut, before, after}
-use Rattle.tsc_page.specs.PageView.{is_in}
-use Rattle.tsc_page.specs.Nodes.{Node, node_keys, IsSorted, FitsAt, IsNewKey, IsSplitAt, with_new, node_in_gap, gap_value}
+use Rattle.tsc_nodes.specs.PageView.{is_in}
+use Rattle.tsc_nodes.specs.Nodes.{Node, node_keys, IsSorted, FitsAt, IsNewKey, IsSplitAt, with_new, node_in_gap, gap_value}
 use Rattle.tsc_page.specs.Leaves.{start_of, HasNode}
-use Rattle.tsc_page.proofs.CutOrder.{Lt, Le, Lt-not_Le, Le-chain, Le-from_Lt, after-before, below_last, before-after}
-use Rattle.tsc_page.proofs.Cuts.{lowest}
-use Rattle.tsc_page.proofs.Edits.{FitsAt-absent}
-use Rattle.tsc_page.proofs.NewKeys.{with_new_splits}
+use Rattle.tsc_nodes.proofs.CutOrder.{Lt, Le, Lt-not_Le, Le-chain, Le-from_Lt, after-before, below_last, before-after}
+use Rattle.tsc_nodes.proofs.Cuts.{lowest}
+use Rattle.tsc_nodes.proofs.Edits.{FitsAt-absent}
+use Rattle.tsc_nodes.proofs.NewKeys.{with_new_splits}
 use Rattle.tsc_page.proofs.Joins.{sorted_right, below_next}
 use Rattle.std.proofs.lemmas.Bool.{cases_Bool}
 use Rattle.std.proofs.lemmas.Slice.Eq.{bytes_eq-Decides}

@@ -6,12 +6,12 @@ use Rattle.std.specs.List.Sorted.{IsPartitionPoint, IsPartitionedBy}
 use Rattle.std.proofs.lemmas.List.{append_assoc, length-map, length-append}
 use Rattle.std.proofs.lemmas.List.Sums.{sum-map, sum_by-cons}
 use Rattle.tsc_span.specs.Span.{Cut, before, after, last, is_below}
-use Rattle.tsc_page.specs.PageView.{AreLeafSizes}
-use Rattle.tsc_page.specs.Nodes.{Node, IsSorted}
+use Rattle.tsc_nodes.specs.PageView.{AreLeafSizes}
+use Rattle.tsc_nodes.specs.Nodes.{Node, IsSorted}
 use Rattle.tsc_page.specs.Leaves.{nodes_of, leaf_sizes, AreSome, start_of, IsLeafAt}
-use Rattle.tsc_page.proofs.CutOrder.{Lt, Le, Le-from_Lt, Le-itself, Lt-chain, Le-chain, Le_Lt-chain, before-after}
-use Rattle.tsc_page.proofs.Cuts.{lowest}
-use Rattle.tsc_page.proofs.Places.{before_or_past}
+use Rattle.tsc_nodes.proofs.CutOrder.{Lt, Le, Le-from_Lt, Le-itself, Lt-chain, Le-chain, Le_Lt-chain, before-after}
+use Rattle.tsc_nodes.proofs.Cuts.{lowest}
+use Rattle.tsc_nodes.proofs.Places.{before_or_past}
 use Rattle.tsc_page.proofs.Joins.{sorted_left, sorted_right, below_next}
 
 -- the nodes before a place and from there on

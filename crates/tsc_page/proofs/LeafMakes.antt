@@ -3,7 +3,7 @@ use Rattle.std.proofs.Common.{◌≡◌, ◌∙◌, refl, sym, ap, subst, ℕ, z
 use Rattle.std.specs.List.{insert}
 use Rattle.std.proofs.lemmas.List.{append_assoc, length-map, map-set}
 use Rattle.tsc_span.specs.Span.{KeyBytes, before}
-use Rattle.tsc_page.specs.Nodes.{Node, IsSorted}
+use Rattle.tsc_nodes.specs.Nodes.{Node, IsSorted}
 use Rattle.tsc_page.specs.Leaves.{nodes_of, AreSome, IsLeafAt, HasNode}
 use Rattle.tsc_page.proofs.LeafLists.{StandsAround, stands_around, leaf_set, part_read}
 use Rattle.tsc_page.proofs.LeafKeys.{wholly_below, made_in_part}

@@ -3,11 +3,11 @@ use Rattle.std.proofs.Common.{◌≡◌, inl, inr, ◌∙◌, refl, sym, ap, sub
 use Rattle.std.proofs.lemmas.List.{append_assoc, length-map, map-set}
 use Rattle.tsc_time.specs.OwnedTime.{OwnedTime}
 use Rattle.tsc_span.specs.Span.{Cut, before, last, Interval, between}
-use Rattle.tsc_page.specs.Nodes.{Node, IsSorted, raise_nodes}
+use Rattle.tsc_nodes.specs.Nodes.{Node, IsSorted, raise_nodes}
 use Rattle.tsc_page.specs.Leaves.{nodes_of, leaf_sizes, AreSome, start_of, IsLeafAt}
-use Rattle.tsc_page.proofs.CutOrder.{Lt, Le, Le_Lt-chain}
-use Rattle.tsc_page.proofs.Cuts.{lowest}
-use Rattle.tsc_page.proofs.Edits.{raise_nodes-length}
+use Rattle.tsc_nodes.proofs.CutOrder.{Lt, Le, Le_Lt-chain}
+use Rattle.tsc_nodes.proofs.Cuts.{lowest}
+use Rattle.tsc_nodes.proofs.Edits.{raise_nodes-length}
 use Rattle.tsc_page.proofs.Joins.{raises_left, raises_right, raises_both, up_to_last}
 use Rattle.tsc_page.proofs.LeafLists.{parted_at, leaf_first, leaf_set, sorted_from, starts_low, ends_high, lowest_below, part_read}
 

@@ -1,11 +1,11 @@
 -- What the code's leaves stand for.
 use Rattle.std.specs.Prelude.{◌≡◌, List, [], length, Option, Some, None}
 use Rattle.std.specs.List.{All}
-use Rattle.tsc_page.specs.Nodes.{Node}
+use Rattle.tsc_nodes.specs.Nodes.{Node}
 use Rattle.tsc_page.specs.Leaves.{nodes_of, rows_of, AreLeaves, IsBlock}
 use Rattle.std.specs.declared.vec.Vec.{Vec}
 use Rattle.tsc_page.specs.declared.leaf.Leaf.{Leaf}
-use Rattle.tsc_page.specs.declared.nodes.Nodes.{Nodes}
+use Rattle.tsc_nodes.specs.declared.nodes.Nodes.{Nodes}
 use Rattle.tsc_page.specs.declared.leaves.Leaves.{Leaves}
 
 -- nodes, where there are some

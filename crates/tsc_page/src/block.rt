@@ -1,16 +1,16 @@
 ghost use Rattle.std.specs.Prelude.{◌≡◌, ◌++◌, OnOk, IfOk, IfSome};
-ghost use Rattle.tsc_page.specs.Nodes.{IsSorted};
-ghost use Rattle.tsc_page.specs.Numbers.{IsCutNumber};
+ghost use Rattle.tsc_nodes.specs.Nodes.{IsSorted};
+ghost use Rattle.tsc_nodes.specs.Numbers.{IsCutNumber};
 ghost use Rattle.tsc_page.specs.Leaves.{IsBlock, HasNode, nodes_of, first_start};
 ghost use Rattle.tsc_page.specs.LeafParts.{rows_in};
 
 use crate::leaf::Leaf;
-use crate::number::NumberedCut;
 use crate::parts;
 use crate::parts::Part;
 use std::alloc::{AllocError, Global};
 use std::marker::Model;
 use std::sync::Arc;
+use tsc_nodes::NumberedCut;
 use tsc_span::{Cut, Key};
 use tsc_time::{NoMemory, Value};
 
@@ -28,8 +28,8 @@ pub(crate) struct Block {
 impl Model for Block {
     ghost use Rattle.std.specs.Prelude.{List};
     ghost use Rattle.std.specs.Arc.{arc_value};
-    ghost use Rattle.tsc_page.specs.Nodes.{Node};
-    ghost use Rattle.tsc_page.specs.Numbers.{IsCutNumber};
+    ghost use Rattle.tsc_nodes.specs.Nodes.{Node};
+    ghost use Rattle.tsc_nodes.specs.Numbers.{IsCutNumber};
     ghost use Rattle.tsc_page.specs.Leaves.{first_start};
 
     ghost Value = { List (List Node) };

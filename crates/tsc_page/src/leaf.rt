@@ -1,14 +1,13 @@
 ghost use Rattle.std.specs.Prelude.{◌≡◌, ◌++◌, refl, OnOk, IfOk, IfSome};
-ghost use Rattle.tsc_page.specs.Nodes.{IsSorted};
+ghost use Rattle.tsc_nodes.specs.Nodes.{IsSorted};
 ghost use Rattle.tsc_page.specs.Leaves.{IsLeaf, HasNode, start_of};
 ghost use Rattle.tsc_page.specs.LeafParts.{nodes_in};
 
-use crate::nodes::Nodes;
-use crate::number::NumberedCut;
 use crate::parts::Part;
 use std::alloc::{AllocError, Global};
 use std::marker::Model;
 use std::sync::Arc;
+use tsc_nodes::{Nodes, NumberedCut};
 use tsc_span::{Cut, Key};
 use tsc_time::{NoMemory, Value};
 
@@ -25,8 +24,8 @@ pub(crate) struct Leaf {
 impl Model for Leaf {
     ghost use Rattle.std.specs.Prelude.{List};
     ghost use Rattle.std.specs.Arc.{arc_value};
-    ghost use Rattle.tsc_page.specs.Nodes.{Node};
-    ghost use Rattle.tsc_page.specs.Numbers.{IsCutNumber};
+    ghost use Rattle.tsc_nodes.specs.Nodes.{Node};
+    ghost use Rattle.tsc_nodes.specs.Numbers.{IsCutNumber};
     ghost use Rattle.tsc_page.specs.Leaves.{start_of};
 
     ghost Value = { List Node };

@@ -2,20 +2,19 @@ ghost use Rattle.std.specs.Prelude.{◌≡◌, None, ◌<◌, ◌≤◌, ◌+◌
 ghost use Rattle.std.specs.List.{All};
 ghost use Rattle.tsc_span.specs.Span.{is_below, after, between, end_keys};
 ghost use Rattle.tsc_span.specs.Cuts.{cut_of};
-ghost use Rattle.tsc_page.specs.declared.TheConstants.{MOST_NODES};
-ghost use Rattle.tsc_page.specs.Page.{count_distinct};
-ghost use Rattle.tsc_page.specs.PageView.{is_new_among};
-ghost use Rattle.tsc_page.specs.Nodes.{IsSplitAt, IsInOrder, node_keys, answer_of};
+ghost use Rattle.tsc_nodes.specs.declared.TheConstants.{MOST_NODES};
+ghost use Rattle.tsc_nodes.specs.Page.{count_distinct};
+ghost use Rattle.tsc_nodes.specs.PageView.{is_new_among};
+ghost use Rattle.tsc_nodes.specs.Nodes.{IsSplitAt, IsInOrder, node_keys, answer_of};
 ghost use Rattle.tsc_page.specs.Leaves.{LiesAt, AddsLeaves, AreLeaves, AreBlocks, IsBlock, leaf_sizes, nodes_of, rows_of, rows_behind, start_of, AddsTo};
 ghost use Rattle.tsc_page.specs.LeafParts.{leaves_of, all_nodes, AreCounted};
 
 use crate::block::{Block, start_number};
 use crate::leaf::{LEAF_NODES, Leaf};
-use crate::nodes::Nodes;
-use crate::number::NumberedCut;
 use crate::parts;
 use std::alloc::Global;
 use std::sync::Arc;
+use tsc_nodes::{Nodes, NumberedCut};
 use tsc_span::{Cut, Key};
 use tsc_time::{NoMemory, Value};
 

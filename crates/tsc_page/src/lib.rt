@@ -20,18 +20,8 @@
 mod block;
 mod leaf;
 mod leaves;
-mod node;
-mod nodes;
-mod number;
 mod page;
 mod parts;
-mod plain;
 
 pub use page::Page;
-pub use plain::PlainPage;
-
-/// How many different end keys a page may hold at the least: those of one range.
-pub const LEAST_NODES: u32 = 2;
-
-/// How many different end keys a page may hold at the most.
-pub const MOST_NODES: u32 = 65_536;
+pub use tsc_nodes::{LEAST_NODES, MOST_NODES, PlainPage};

@@ -2,9 +2,9 @@ ghost use Rattle.std.specs.Prelude.{sum, slice_get, ◌≡◌, ◌≤◌, ◌||�
 ghost use Rattle.tsc_time.specs.Joint.{joint, joint_above};
 ghost use Rattle.tsc_time.specs.Time.{zero_time, is_before, later};
 ghost use Rattle.tsc_span.specs.Span.{KeyBytes, Interval, is_empty_span, overlaps, end_keys};
-ghost use Rattle.tsc_page.specs.declared.TheConstants.{LEAST_NODES, MOST_NODES};
-ghost use Rattle.tsc_page.specs.Page.{PageMarks, Mark, empty_page, with_mark, top, values_on, marked_keys, count_distinct, has_room};
-ghost use Rattle.tsc_page.specs.PageView.{AreLeafSizes, StandsFor, NoAnswerAboveTop, answer, is_in, has_room_for};
+ghost use Rattle.tsc_nodes.specs.declared.TheConstants.{LEAST_NODES, MOST_NODES};
+ghost use Rattle.tsc_nodes.specs.Page.{PageMarks, Mark, empty_page, with_mark, top, values_on, marked_keys, count_distinct, has_room};
+ghost use Rattle.tsc_nodes.specs.PageView.{AreLeafSizes, StandsFor, NoAnswerAboveTop, answer, is_in, has_room_for};
 
 use crate::leaves::Leaves;
 use std::alloc::Global;
@@ -25,9 +25,9 @@ pub struct Page {
 
 impl Model for Page {
     ghost use Rattle.std.specs.Prelude.{length, ◌≤◌};
-    ghost use Rattle.tsc_page.specs.declared.TheConstants.{MOST_NODES};
-    ghost use Rattle.tsc_page.specs.PageView.{PageView, NoAnswerAboveTop};
-    ghost use Rattle.tsc_page.specs.Nodes.{page_of};
+    ghost use Rattle.tsc_nodes.specs.declared.TheConstants.{MOST_NODES};
+    ghost use Rattle.tsc_nodes.specs.PageView.{PageView, NoAnswerAboveTop};
+    ghost use Rattle.tsc_nodes.specs.Nodes.{page_of};
     ghost use Rattle.tsc_page.specs.Leaves.{leaf_sizes};
     ghost use Rattle.tsc_page.specs.LeafParts.{leaves_of, all_nodes, AreCounted};
 

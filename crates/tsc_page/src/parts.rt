@@ -2,12 +2,12 @@ ghost use Rattle.std.specs.Prelude.{◌≡◌, List, ◌≤◌, ◌<◌, ◌+◌
 ghost use Rattle.std.specs.List.{All};
 ghost use Rattle.tsc_span.specs.Span.{Cut as CutPlace, is_below, between};
 ghost use Rattle.tsc_span.specs.Cuts.{cut_of};
-ghost use Rattle.tsc_page.specs.PageView.{is_in};
-ghost use Rattle.tsc_page.specs.Nodes.{Node, IsSorted, node_keys, answer_of, raise_nodes};
+ghost use Rattle.tsc_nodes.specs.PageView.{is_in};
+ghost use Rattle.tsc_nodes.specs.Nodes.{Node, IsSorted, node_keys, answer_of, raise_nodes};
 ghost use Rattle.tsc_page.specs.Leaves.{AreParts, HasNode, IsLeafAt, nodes_of, start_of};
 
-use crate::number::NumberedCut;
 use std::alloc::Global;
+use tsc_nodes::NumberedCut;
 use tsc_span::{Cut, Key};
 use tsc_time::{NoMemory, Timestamp, Value, ratchet};
 

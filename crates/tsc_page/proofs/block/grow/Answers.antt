@@ -3,7 +3,7 @@ use Rattle.std.proofs.Common.{◌≡◌, ◌∙◌, ◌+◌, ◌-◌, ◌≤◌,
 use Rattle.std.specs.List.{All}
 use Rattle.std.proofs.lemmas.List.{length-take-le, length-drop, take-append-drop}
 use Rattle.tsc_span.specs.Span.{KeyBytes}
-use Rattle.tsc_page.specs.Nodes.{Node}
+use Rattle.tsc_nodes.specs.Nodes.{Node}
 use Rattle.tsc_page.specs.Leaves.{nodes_of, HasNode, IsLeaf, IsBlock}
 use Rattle.tsc_page.proofs.LeafAdds.{nodes_append, as_they_are}
 use Rattle.tsc_page.proofs.Blocks.{is_block, all_take, all_drop}

@@ -2,7 +2,7 @@
 use Rattle.std.proofs.Common.{◌≡◌, ◌∙◌, ◌-◌, ap, sym, subst, List, ◌++◌, length, take, arith}
 use Rattle.std.proofs.lemmas.List.{length-take-le, length-drop, take-append-drop}
 use Rattle.tsc_span.specs.Span.{KeyBytes}
-use Rattle.tsc_page.specs.Nodes.{Node, with_new}
+use Rattle.tsc_nodes.specs.Nodes.{Node, with_new}
 use Rattle.tsc_page.specs.Leaves.{HasNode, IsLeaf}
 use Rattle.tsc_page.proofs.LeafKeys.{has_one, has_node-length}
 use Rattle.tsc_page.proofs.leaf.grow.Goals as goal

@@ -3,7 +3,7 @@ use Rattle.std.proofs.Common.{◌≡◌, ◌∙◌, ◌≤◌, ap, sym, subst, L
 use Rattle.std.specs.Prelude.{option_map}
 use Rattle.std.specs.Option.{option_to_list}
 use Rattle.std.proofs.lemmas.List.{nil_from_length}
-use Rattle.tsc_page.specs.Nodes.{Node, IsSplitAt}
+use Rattle.tsc_nodes.specs.Nodes.{Node, IsSplitAt}
 use Rattle.tsc_page.specs.Leaves.{nodes_of, rows_of}
 use Rattle.tsc_page.proofs.Blocks.{block_parts, made_blocks, first_block}
 use Rattle.tsc_page.proofs.leaves.make_node.Goals as goal

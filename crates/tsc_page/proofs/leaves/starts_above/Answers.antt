@@ -2,7 +2,7 @@
 use Rattle.std.proofs.Common.{◌≡◌, ◌∙◌, ◌≤◌, sym, ap, List, [], ◌++◌, length, map, arith}
 use Rattle.std.proofs.lemmas.List.{nil_from_length}
 use Rattle.tsc_span.specs.Span.{Cut, is_below}
-use Rattle.tsc_page.specs.Nodes.{Node}
+use Rattle.tsc_nodes.specs.Nodes.{Node}
 use Rattle.tsc_page.specs.Leaves.{nodes_of, rows_of, start_of}
 use Rattle.tsc_page.proofs.LeafAdds.{as_they_are, leaves_whole, sizes_parts}
 use Rattle.tsc_page.proofs.Blocks.{rows_nodes, begins_rows}

@@ -3,8 +3,8 @@ use Rattle.std.proofs.Common.{◌∙◌, ◌<◌, ap, sym, subst, refl, ℕ, Lis
 use Rattle.std.specs.Prelude.{not}
 use Rattle.std.proofs.lemmas.List.{length-map}
 use Rattle.tsc_span.specs.Span.{KeyBytes, Cut, before}
-use Rattle.tsc_page.specs.PageView.{is_in}
-use Rattle.tsc_page.specs.Nodes.{Node, IsSorted, node_keys}
+use Rattle.tsc_nodes.specs.PageView.{is_in}
+use Rattle.tsc_nodes.specs.Nodes.{Node, IsSorted, node_keys}
 use Rattle.tsc_page.specs.Leaves.{nodes_of, IsLeafAt}
 use Rattle.tsc_page.proofs.LeafLists.{read_leaf, leaf_sorted, StandsAround, stands_around, all_some}
 use Rattle.tsc_page.proofs.LeafKeys.{known_in_part, wholly_below}

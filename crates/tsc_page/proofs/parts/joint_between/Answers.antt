@@ -6,10 +6,10 @@ use Rattle.tsc_time.specs.OwnedTime.{OwnedTime, unowned}
 use Rattle.tsc_time.specs.Joint.{joint}
 use Rattle.tsc_span.specs.Span.{Cut, before, last, between, is_below}
 use Rattle.tsc_span.specs.Cuts.{cut_of}
-use Rattle.tsc_page.specs.Nodes.{Node, IsSorted, answer_of}
+use Rattle.tsc_nodes.specs.Nodes.{Node, IsSorted, answer_of}
 use Rattle.tsc_page.specs.Leaves.{nodes_of, start_of, IsLeafAt}
-use Rattle.tsc_page.proofs.CutOrder.{Lt, Le, Le_Lt-chain}
-use Rattle.tsc_page.proofs.Cuts.{lowest}
+use Rattle.tsc_nodes.proofs.CutOrder.{Lt, Le, Le_Lt-chain}
+use Rattle.tsc_nodes.proofs.Cuts.{lowest}
 use Rattle.tsc_page.proofs.Joins.{up_to_last}
 use Rattle.tsc_page.proofs.LeafLists.{read_leaf, leaf_sorted, leaf_first, parted_at, sorted_from, starts_low, ends_high, lowest_below, all_some}
 use Rattle.tsc_page.proofs.LeafAnswers.{AnswersSoFar, answers_at_first, answers_of_last, answers_go_on, answers_at_end}

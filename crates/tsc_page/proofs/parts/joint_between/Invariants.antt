@@ -1,7 +1,7 @@
 use Rattle.std.proofs.Common.{suc, map, drop}
 use Rattle.tsc_span.specs.Cuts.{cut_of}
 use Rattle.tsc_page.specs.Leaves.{nodes_of, start_of}
-use Rattle.tsc_page.proofs.CutOrder.{Lt}
+use Rattle.tsc_nodes.proofs.CutOrder.{Lt}
 use Rattle.tsc_page.proofs.LeafAnswers.{AnswersSoFar}
 use Rattle.tsc_page.proofs.parts.joint_between.Given as goal
 

@@ -5,7 +5,7 @@ use Rattle.std.specs.Option.{option_to_list}
 use Rattle.std.specs.List.{All, insert}
 use Rattle.std.proofs.lemmas.List.{length-map, length-set}
 use Rattle.tsc_span.specs.Span.{KeyBytes, Cut, before}
-use Rattle.tsc_page.specs.Nodes.{IsSorted}
+use Rattle.tsc_nodes.specs.Nodes.{IsSorted}
 use Rattle.tsc_page.specs.Leaves.{nodes_of, IsLeafAt, HasNode}
 use Rattle.tsc_page.proofs.LeafLists.{part_read, leaf_sorted, all_some, all_set, all_insert}
 use Rattle.tsc_page.proofs.LeafMakes.{made_whole, made_cut}

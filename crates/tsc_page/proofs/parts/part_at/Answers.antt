@@ -4,7 +4,7 @@ use Rattle.std.specs.Prelude.{not}
 use Rattle.std.specs.List.{All}
 use Rattle.std.proofs.lemmas.List.Sorted.{IsPartitionPoint-from_clause}
 use Rattle.tsc_span.specs.Span.{Cut, is_below}
-use Rattle.tsc_page.specs.Nodes.{IsSorted}
+use Rattle.tsc_nodes.specs.Nodes.{IsSorted}
 use Rattle.tsc_page.specs.Leaves.{nodes_of, AreSome, IsLeafAt}
 use Rattle.tsc_page.proofs.Joins.{sorted_right}
 use Rattle.tsc_page.proofs.LeafLists.{said_part, said_point, leaf_found, all_some}

@@ -4,9 +4,9 @@ use mathlib.Core.Bool.{true≢false}
 use Rattle.std.proofs.lemmas.List.{length-map}
 use Rattle.tsc_span.specs.Span.{Cut, before, last, between, is_below}
 use Rattle.tsc_span.specs.Cuts.{cut_of}
-use Rattle.tsc_page.specs.Nodes.{Node, IsSorted, raise_nodes}
+use Rattle.tsc_nodes.specs.Nodes.{Node, IsSorted, raise_nodes}
 use Rattle.tsc_page.specs.Leaves.{nodes_of, start_of, IsLeafAt}
-use Rattle.tsc_page.proofs.CutOrder.{Lt, Le}
+use Rattle.tsc_nodes.proofs.CutOrder.{Lt, Le}
 use Rattle.tsc_page.proofs.Joins.{sorted_left}
 use Rattle.tsc_page.proofs.LeafLists.{part_read, all_some, all_set}
 use Rattle.tsc_page.proofs.LeafRaises.{RaisesSoFar, raises_start, as_many, left_sorted, raises_last, raises_go_on, raises_end, raised_part}

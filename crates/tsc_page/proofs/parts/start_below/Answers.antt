@@ -2,7 +2,7 @@
 use Rattle.std.proofs.Common.{◌∙◌, ◌<◌, sym, ap, subst, List, [], map, length, arith}
 use Rattle.std.proofs.lemmas.List.{length-map}
 use Rattle.tsc_span.specs.Span.{Cut, is_below}
-use Rattle.tsc_page.specs.Nodes.{Node}
+use Rattle.tsc_nodes.specs.Nodes.{Node}
 use Rattle.tsc_page.specs.Leaves.{start_of}
 use Rattle.tsc_page.proofs.LeafLists.{read_leaf, start_at, all_some}
 use Rattle.tsc_page.proofs.parts.start_below.Goals as goal

@@ -1,8 +1,8 @@
 -- A new page in front, and the pages behind it that stay.
 use Rattle.std.proofs.Common.{◌≡◌, ◌∙◌, refl, sym, ap, subst}
 use Rattle.tsc_time.specs.Time.{Time}
-use Rattle.tsc_page.specs.Page.{Mark, empty_page, with_mark}
-use Rattle.tsc_page.specs.PageView.{PageView, StandsFor}
+use Rattle.tsc_nodes.specs.Page.{Mark, empty_page, with_mark}
+use Rattle.tsc_nodes.specs.PageView.{PageView, StandsFor}
 use Rattle.tsc_cache.specs.declared.added.Added.{Added}
 use Rattle.tsc_cache.specs.contracts.plain.PlainCache.{the_view}
 use Rattle.tsc_cache.specs.State.{counted_on, kept_after_rotation}

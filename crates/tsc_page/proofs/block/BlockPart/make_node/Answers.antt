@@ -1,7 +1,7 @@
 -- What the leaves of the block have made, and what comes off of them.
 use Rattle.std.proofs.Common.{◌≡◌, ◌∙◌, inl, inr, sym, ap, subst, List, [], ◌++◌, rules}
 use Rattle.tsc_span.specs.Span.{KeyBytes}
-use Rattle.tsc_page.specs.Nodes.{Node}
+use Rattle.tsc_nodes.specs.Nodes.{Node}
 use Rattle.tsc_page.specs.Leaves.{nodes_of, HasNode}
 use Rattle.tsc_page.specs.LeafParts.{rows_in}
 use Rattle.tsc_page.proofs.LeafMakes.{append_nil}

@@ -7,7 +7,7 @@ use Rattle.std.proofs.lemmas.Result.{IfOk-weaker}
 use Rattle.std.specs.Arc.{arc_value}
 use Rattle.tsc_span.specs.Cuts.{cut_of}
 use Rattle.tsc_span.specs.Span.{Interval, between}
-use Rattle.tsc_page.specs.Nodes.{Node, IsSorted, raise_nodes}
+use Rattle.tsc_nodes.specs.Nodes.{Node, IsSorted, raise_nodes}
 use Rattle.tsc_page.specs.Leaves.{nodes_of, IsLeaf, IsBlock}
 use Rattle.tsc_page.proofs.LeafAdds.{as_they_are}
 use Rattle.tsc_page.proofs.Blocks.{parts_of_block, is_block, cloned}

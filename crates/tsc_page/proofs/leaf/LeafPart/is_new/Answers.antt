@@ -1,10 +1,10 @@
 -- A key is new where the nodes have a place for it.
 use Rattle.std.proofs.Common.{◌≡◌, ◌∙◌, ap, sym, subst, List}
 use Rattle.std.specs.Prelude.{not}
-use Rattle.tsc_page.specs.PageView.{is_in}
-use Rattle.tsc_page.specs.Nodes.{Node, IsSorted, node_keys}
-use Rattle.tsc_page.specs.declared.nodes.Nodes.{Nodes}
-use Rattle.tsc_page.proofs.Edits.{place_told}
+use Rattle.tsc_nodes.specs.PageView.{is_in}
+use Rattle.tsc_nodes.specs.Nodes.{Node, IsSorted, node_keys}
+use Rattle.tsc_nodes.specs.declared.nodes.Nodes.{Nodes}
+use Rattle.tsc_nodes.proofs.Edits.{place_told}
 use Rattle.tsc_page.proofs.leaf.LeafPart.is_new.Goals as goal
 
 pub returns : goal.returns

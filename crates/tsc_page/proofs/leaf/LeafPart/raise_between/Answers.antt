@@ -3,11 +3,11 @@ use Rattle.std.proofs.Common.{◌≡◌, ◌∙◌, inl, inr, sym, ap, subst, Li
 use Rattle.std.specs.Arc.{arc_value}
 use Rattle.tsc_span.specs.Cuts.{cut_of}
 use Rattle.tsc_span.specs.Span.{Interval, between}
-use Rattle.tsc_page.specs.Numbers.{IsCutNumber}
-use Rattle.tsc_page.specs.Nodes.{Node, raise_nodes}
+use Rattle.tsc_nodes.specs.Numbers.{IsCutNumber}
+use Rattle.tsc_nodes.specs.Nodes.{Node, raise_nodes}
 use Rattle.tsc_page.specs.Leaves.{start_of, IsLeaf}
-use Rattle.tsc_page.specs.declared.nodes.Nodes.{Nodes}
-use Rattle.tsc_page.proofs.Edits.{raise_nodes-start, raise_nodes-length}
+use Rattle.tsc_nodes.specs.declared.nodes.Nodes.{Nodes}
+use Rattle.tsc_nodes.proofs.Edits.{raise_nodes-start, raise_nodes-length}
 use Rattle.tsc_page.proofs.leaf.LeafPart.raise_between.Goals as goal
 
 pub invariant_of-self-2 : goal.invariant_of-self-2

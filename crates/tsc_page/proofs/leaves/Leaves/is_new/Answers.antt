@@ -1,8 +1,8 @@
 -- The blocks are parts of all nodes.
 use Rattle.std.proofs.Common.{◌∙◌, ap, sym, List}
 use Rattle.std.specs.Prelude.{not, option_map}
-use Rattle.tsc_page.specs.PageView.{is_in, is_new_among}
-use Rattle.tsc_page.specs.Nodes.{Node, node_keys}
+use Rattle.tsc_nodes.specs.PageView.{is_in, is_new_among}
+use Rattle.tsc_nodes.specs.Nodes.{Node, node_keys}
 use Rattle.tsc_page.specs.LeafParts.{all_nodes}
 use Rattle.tsc_page.proofs.Blocks.{block_parts_of, seen_nodes}
 use Rattle.tsc_page.proofs.leaves.Leaves.is_new.Goals as goal

@@ -2,7 +2,7 @@
 use Rattle.std.proofs.Common.{◌∙◌, ap, List}
 use Rattle.tsc_span.specs.Span.{between}
 use Rattle.tsc_span.specs.Cuts.{cut_of}
-use Rattle.tsc_page.specs.Nodes.{Node, answer_of}
+use Rattle.tsc_nodes.specs.Nodes.{Node, answer_of}
 use Rattle.tsc_page.proofs.Blocks.{block_parts_of, seen_nodes}
 use Rattle.tsc_page.proofs.leaves.Leaves.joint_between.Goals as goal
 

@@ -1,11 +1,11 @@
 -- The sizes of a page's leaves.
 use Rattle.std.proofs.Common.{◌∙◌, sym, ap, subst}
 use Rattle.std.specs.Prelude.{sum, slice_get}
-use Rattle.tsc_page.specs.Page.{count_distinct}
-use Rattle.tsc_page.specs.PageView.{PageView, AreLeafSizes}
+use Rattle.tsc_nodes.specs.Page.{count_distinct}
+use Rattle.tsc_nodes.specs.PageView.{PageView, AreLeafSizes}
 use Rattle.tsc_page.specs.LeafParts.{leaves_of, all_nodes}
 use Rattle.tsc_page.proofs.LeafLists.{sizes_sum}
-use Rattle.tsc_page.proofs.Standing.{count_of_nodes}
+use Rattle.tsc_nodes.proofs.Standing.{count_of_nodes}
 use Rattle.tsc_page.proofs.page.Page.leaf_nodes.Goals as goal
 
 pub returns-in-Some : goal.returns-in-Some

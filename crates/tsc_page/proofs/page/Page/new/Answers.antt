@@ -1,7 +1,7 @@
 -- Nothing is later than time zero on a page without nodes.
 use Rattle.std.proofs.Common.{ap, length, arith}
 use Rattle.tsc_page.specs.Leaves.{nodes_of}
-use Rattle.tsc_page.proofs.Tops.{none_covers}
+use Rattle.tsc_nodes.proofs.Tops.{none_covers}
 use Rattle.tsc_page.proofs.page.Page.new.Goals as goal
 
 pub invariant_of-result : goal.invariant_of-result

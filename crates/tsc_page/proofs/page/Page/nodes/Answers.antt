@@ -1,9 +1,9 @@
 -- Sorted nodes have as many different keys as there are nodes.
 use Rattle.std.proofs.Common.{◌∙◌, sym, ap}
-use Rattle.tsc_page.specs.Page.{count_distinct}
-use Rattle.tsc_page.specs.PageView.{PageView}
+use Rattle.tsc_nodes.specs.Page.{count_distinct}
+use Rattle.tsc_nodes.specs.PageView.{PageView}
 use Rattle.tsc_page.specs.LeafParts.{all_nodes}
-use Rattle.tsc_page.proofs.Standing.{count_of_nodes, same_count}
+use Rattle.tsc_nodes.proofs.Standing.{count_of_nodes, same_count}
 use Rattle.tsc_page.proofs.page.Page.nodes.Goals as goal
 
 pub returns-clause-value : goal.returns-clause-value

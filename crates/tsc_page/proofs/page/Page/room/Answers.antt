@@ -2,11 +2,11 @@
 use Rattle.std.proofs.Common.{◌≡◌, ◌∙◌, ap, nat_le, ◌++◌, ◌+◌, ℕ, List, arith}
 use Rattle.std.specs.Prelude.{option_map}
 use Rattle.tsc_span.specs.Span.{end_keys}
-use Rattle.tsc_page.specs.Page.{count_distinct}
-use Rattle.tsc_page.specs.PageView.{PageView, has_room_for}
-use Rattle.tsc_page.specs.Nodes.{Node, node_keys}
+use Rattle.tsc_nodes.specs.Page.{count_distinct}
+use Rattle.tsc_nodes.specs.PageView.{PageView, has_room_for}
+use Rattle.tsc_nodes.specs.Nodes.{Node, node_keys}
 use Rattle.tsc_page.specs.LeafParts.{all_nodes}
-use Rattle.tsc_page.proofs.Standing.{count_with_ends, same_room}
+use Rattle.tsc_nodes.proofs.Standing.{count_with_ends, same_room}
 use Rattle.tsc_page.proofs.page.Page.room.Goals as goal
 
 value : goal.returns-clause-value

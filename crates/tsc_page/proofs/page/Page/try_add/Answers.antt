@@ -7,14 +7,14 @@ use Rattle.tsc_time.specs.Time.{Time, time_cmp, later}
 use Rattle.tsc_time.specs.Joint.{joint}
 use Rattle.tsc_span.specs.Span.{KeyBytes, Cut, Interval, between, overlaps, end_keys}
 use Rattle.tsc_span.specs.Cuts.{cut_of}
-use Rattle.tsc_page.specs.Page.{with_mark, count_distinct}
-use Rattle.tsc_page.specs.PageView.{PageView, StandsFor, NoAnswerAboveTop, answer, is_in, has_room_for}
-use Rattle.tsc_page.specs.Nodes.{Node, answer_of, node_keys, page_of}
+use Rattle.tsc_nodes.specs.Page.{with_mark, count_distinct}
+use Rattle.tsc_nodes.specs.PageView.{PageView, StandsFor, NoAnswerAboveTop, answer, is_in, has_room_for}
+use Rattle.tsc_nodes.specs.Nodes.{Node, answer_of, node_keys, page_of}
 use Rattle.tsc_page.specs.Leaves.{nodes_of, leaf_sizes, LiesAt}
 use Rattle.tsc_page.specs.LeafParts.{leaves_of, all_nodes}
 use Rattle.tsc_page.proofs.LeafAdds.{ends_lie}
 use Rattle.tsc_page.proofs.Refusals.{on_refusal}
-use Rattle.tsc_page.proofs.Standing.{later-max, added_length, added_keys, added_answers, added_covers, added_stands}
+use Rattle.tsc_nodes.proofs.Standing.{later-max, added_length, added_keys, added_answers, added_covers, added_stands}
 use Rattle.tsc_page.proofs.page.Page.try_add.Goals as goal
 
 pub try_add-requires-clause-keys : goal.try_add-requires-clause-keys

@@ -1,0 +1,36 @@
+-- Where the two cuts lie tells which keys and gaps are between them.
+use Rattle.std.proofs.Common.{sym, subst, ℕ, List, Result}
+use Rattle.tsc_span.specs.Span.{Cut, between}
+use Rattle.tsc_span.specs.Cuts.{cut_of}
+use Rattle.tsc_nodes.specs.Nodes.{Node, LiesFrom, key_above, first_gap, HoldsKeysOn, HoldsGapsOn}
+use Rattle.tsc_nodes.proofs.Places.{places_found, goes_from}
+use Rattle.tsc_nodes.proofs.nodes.Nodes.places_between.Goals as goal
+
+pub place_from-high-requires-clause-low : goal.place_from-high-requires-clause-low
+place_from-high-requires-clause-low c =
+    let nodes : List Node = c.args.self.now.list.items in
+    let from : Cut = cut_of c.args.from in
+    let to : Cut = cut_of c.args.to in
+    subst (LiesFrom nodes to) (sym c.index_of.ensures) (goes_from nodes c.requires.sorted from to c.requires.order c.place_of-low.result c.place_of-low.ensures)
+
+pub returns-clause-keys : goal.returns-clause-keys
+returns-clause-keys c =
+    let nodes : List Node = c.args.self.now.list.items in
+    let from : Cut = cut_of c.args.from in
+    let to : Cut = cut_of c.args.to in
+    let low : Result ℕ ℕ = c.place_of-low.result in
+    let high : Result ℕ ℕ = c.place_from-high.result in
+    let found = places_found nodes c.requires.sorted from to c.requires.order low high c.place_of-low.ensures c.place_from-high.ensures in
+    subst (λ (i : ℕ). HoldsKeysOn nodes (between from to) i c.key_above-2.result) (sym c.key_above.ensures)
+    (subst (HoldsKeysOn nodes (between from to) (key_above low from)) (sym c.key_above-2.ensures) found.0)
+
+pub returns-clause-gaps : goal.returns-clause-gaps
+returns-clause-gaps c =
+    let nodes : List Node = c.args.self.now.list.items in
+    let from : Cut = cut_of c.args.from in
+    let to : Cut = cut_of c.args.to in
+    let low : Result ℕ ℕ = c.place_of-low.result in
+    let high : Result ℕ ℕ = c.place_from-high.result in
+    let found = places_found nodes c.requires.sorted from to c.requires.order low high c.place_of-low.ensures c.place_from-high.ensures in
+    subst (λ (i : ℕ). HoldsGapsOn nodes (between from to) i c.index_of-2.result) (sym c.first_gap.ensures)
+    (subst (HoldsGapsOn nodes (between from to) (first_gap low)) (sym c.index_of-2.ensures) found.1)

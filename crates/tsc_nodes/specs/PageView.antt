@@ -1,0 +1,53 @@
+-- What can be seen of a page, and which list of marks it stands for.
+use Rattle.std.specs.Prelude.{◌≡◌, ℕ, ◌≤◌, List, [], ◌∷◌, ◌++◌, nat_le, Bool, false, not, Option, Some, None}
+use Rattle.std.specs.List.{list_any}
+use Rattle.std.specs.Str.{bytes_eq}
+use Rattle.tsc_time.specs.Time.{Time, zero_time, is_before}
+use Rattle.tsc_time.specs.OwnedTime.{OwnedTime}
+use Rattle.tsc_time.specs.Joint.{joint_above}
+use Rattle.tsc_span.specs.Span.{KeyBytes, Interval, end_keys}
+use Rattle.tsc_nodes.specs.Page.{Mark, PageMarks, top, values_on, marked_keys, count_distinct}
+
+-- How many different end keys a page may hold, its top, its end keys, spans with values that tell its answers, and the sizes of its leaves.
+pub record PageView : Type 0 where
+  pub page_nodes : ℕ
+  pub top : Time
+  pub keys : List KeyBytes
+  pub spans : List Mark
+  pub leaves : List ℕ
+
+-- each leaf has 1 to 64 nodes
+abbrev pub AreLeafSizes : List ℕ → Type 0
+AreLeafSizes [] = Unit {0}
+AreLeafSizes (n ∷ ns) = (1 ≤ n) × (n ≤ 64) × AreLeafSizes ns
+
+-- what a page answers to a span: the joint value of those that overlap it, above time zero
+abbrev pub answer : PageView → Interval → OwnedTime
+answer v span = joint_above zero_time (values_on span v.spans)
+
+-- no answer is later than the top
+abbrev pub NoAnswerAboveTop : PageView → Type 0
+NoAnswerAboveTop v = (span : Interval) → is_before v.top (answer v span).time ≡ false
+
+-- whether a key is in a list
+abbrev pub is_in : KeyBytes → List KeyBytes → Bool
+is_in k ks = list_any (bytes_eq k) ks
+
+-- A page stands for a base and a list of marks where whoever asks finds no difference: neither in the top, nor in which keys are end keys, nor in what any span is answered. The limit belongs to no list: contracts name it apart.
+pub record StandsFor (v : PageView) (p : PageMarks) : Type 0 where
+  pub top : v.top ≡ top p
+  pub keys : (k : KeyBytes) → is_in k v.keys ≡ is_in k (marked_keys p.marks)
+  pub answers : (span : Interval) → answer v span ≡ joint_above zero_time (values_on span p.marks)
+
+-- whether the end keys of a page and of one more span, counted without repeats, are no more than it may hold
+abbrev pub has_room_for : PageView → Interval → Bool
+has_room_for v span = nat_le (count_distinct (v.keys ++ end_keys span)) v.page_nodes
+
+-- what can be seen of a page that keeps the list itself, without leaves
+abbrev pub view_of : ℕ → PageMarks → PageView
+view_of page_nodes p = record { page_nodes = page_nodes; top = top p; keys = marked_keys p.marks; spans = p.marks; leaves = [] }
+
+-- whether this is a key, and not in a list
+abbrev pub is_new_among : List KeyBytes → Option KeyBytes → Bool
+is_new_among ks None = false
+is_new_among ks (Some k) = not (is_in k ks)

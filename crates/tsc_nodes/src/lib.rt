@@ -1,0 +1,31 @@
+//! The nodes of a page of a timestamp cache, and such a page as a plain list.
+//!
+//! A node is an end key of a span that was added to a page. It has the value that holds at its key, and the
+//! value that holds in the open gap between its key and that of the next node. [`Nodes`] keeps nodes in the
+//! order of their keys: it makes nodes of keys, ratchets a value into the keys and gaps between two cuts, and
+//! joins the values of those that lie there. A [`NumberedCut`] is a cut beside the number that the first bytes
+//! of its key make, so that most keys are compared by numbers.
+//!
+//! It restates, of CockroachDB's `pkg/kv/kvserver/tscache/interval_skl.go`, what a `sklPage` does with the nodes
+//! of its skiplist: `addNode` makes a node, with the value of the gap in which it falls, `ratchetValueSet` raises
+//! its two values, and `visitRange` goes over those that a span meets. The page itself is `Page` of `tsc_page`,
+//! which keeps such nodes in leaves.
+//!
+//! A [`PlainPage`] is the same thing as the list of what was added: slow, and easy to believe.
+#![tactic(auto)]
+
+mod node;
+pub mod nodes;
+mod number;
+mod plain;
+
+pub use node::Node;
+pub use nodes::Nodes;
+pub use number::NumberedCut;
+pub use plain::PlainPage;
+
+/// How many different end keys a page may hold at the least: those of one range.
+pub const LEAST_NODES: u32 = 2;
+
+/// How many different end keys a page may hold at the most.
+pub const MOST_NODES: u32 = 65_536;
