@@ -20,7 +20,7 @@ use tsc_time::{NoMemory, Timestamp, Value, ratchet};
 /// How many nodes of a leaf that is cut stay in it.
 const LOWER_HALF: usize = 32;
 
-/// Nodes in the order of their keys: a leaf of a page.
+/// Nodes in the order of their keys: a leaf of a page. The type itself keeps no order: calls that need it ask for it.
 #[derive(Debug, Drop)]
 pub struct Nodes {
     pub list: Vec<Node>,
@@ -35,13 +35,14 @@ impl Nodes {
         }
     }
 
+    /// How many nodes there are.
     pub fn len(&self) -> usize
         ensures { result ≡ length self.now.list.items }
     {
         self.list.len()
     }
 
-    /// A node of a key, with time zero without an owner.
+    /// A node of a key, with time zero without an owner. It takes the memory of a list of one, and of a copy of the key.
     pub fn of_key(alloc: Global, key: &Key) -> Result<Nodes, NoMemory>
         ensures { IfOk result (λ nodes. nodes.list.items ≡ node_in_gap key.now (unowned zero_time) ∷ []) }
     {
@@ -62,7 +63,8 @@ impl Nodes {
         }
     }
 
-    /// Whether a cut lies below where the nodes begin.
+    /// Whether a cut lies below where the nodes begin, which where there are none is the last cut. It compares
+    /// numbers, and bytes only where these are the same.
     pub fn starts_above(&self, cut: &NumberedCut<'_>) -> bool
         ensures { result ≡ is_below cut.now (next_cut (node_stretches self.now.list.items)) }
     {
@@ -72,7 +74,7 @@ impl Nodes {
         }
     }
 
-    /// Whether a cut lies above where the nodes begin.
+    /// Whether a cut lies above where the nodes begin. It costs what `starts_above` does.
     pub fn starts_below(&self, cut: &NumberedCut<'_>) -> bool
         ensures { result ≡ is_below (next_cut (node_stretches self.now.list.items)) cut.now }
     {
@@ -82,7 +84,8 @@ impl Nodes {
         }
     }
 
-    /// The number of where the nodes begin.
+    /// The number of where the nodes begin: that of the first sixteen bytes of their first key, or the greatest one
+    /// where there are no nodes. It lies beside the key, and is only read.
     pub fn start_number(&self) -> u128
         ensures { IsCutNumber result (next_cut (node_stretches self.now.list.items)) }
     {
@@ -102,7 +105,7 @@ impl Nodes {
             .binary_search_by(|node| key.compare(&node.key))
     }
 
-    /// The place for a key that has no node, or `None` for one that has.
+    /// The place for a key that has no node, or `None` for one that has. It costs a binary search.
     pub fn place_for(&self, key: &Key) -> Option<usize>
         requires sorted { IsSorted self.now.list.items }
         ensures place { IsPlaceFor key.now self.now.list.items result }
@@ -197,7 +200,8 @@ impl Nodes {
         (keys, first_gap(low)..index_of(high))
     }
 
-    /// The joint value of the keys and gaps between two cuts.
+    /// The joint value of the keys and gaps between two cuts. It costs a binary search for the first cut, a look at
+    /// one key after another from there to the second, and a step for each node between them.
     pub fn joint_between(&self, from: Cut<'_>, to: Cut<'_>) -> Value
         requires sorted { IsSorted self.now.list.items }
         requires order { is_below (cut_of from) (cut_of to) ≡ true }
@@ -214,7 +218,7 @@ impl Nodes {
         best
     }
 
-    /// Ratchets a value into the keys and gaps between two cuts.
+    /// Ratchets a value into the keys and gaps between two cuts. It costs what `joint_between` does, and takes no memory.
     pub fn raise_between(&mut self, from: Cut<'_>, to: Cut<'_>, value: Value)
         requires sorted { IsSorted self.old.list.items }
         requires order { is_below (cut_of from) (cut_of to) ≡ true }
@@ -283,12 +287,8 @@ impl Nodes {
     }
 
     /// Copies of the keys that have no node, with the places for them. Where both have nodes no memory is
-    /// asked for.
-    pub fn new_keys(
-        &self,
-        first: Option<&Key>,
-        second: Option<&Key>,
-    ) -> Result<NewKeys, NoMemory>
+    /// asked for. It costs a binary search for each key.
+    pub fn new_keys(&self, first: Option<&Key>, second: Option<&Key>) -> Result<NewKeys, NoMemory>
         requires sorted { IsSorted self.now.list.items }
         ensures first { IfOk result (λ new. IsNewKey self.now.list.items (option_map (λ k. k.now) first.entry) new.first) }
         ensures second { IfOk result (λ new. IsNewKey self.now.list.items (option_map (λ k. k.now) second.entry) new.second) }
@@ -322,7 +322,8 @@ impl Nodes {
     }
 
     /// Makes nodes of new keys, of which the first is the smaller, and ratchets a value into the keys and gaps
-    /// between two cuts. It takes no memory.
+    /// between two cuts. It takes no memory. It costs a move of the nodes above each new one, and a step for each node
+    /// between the cuts. A cut is searched for only where its key doesn't stand at the place that `new_keys` found.
     pub fn add(&mut self, new: NewKeys, from: Cut<'_>, to: Cut<'_>, value: Value)
         requires sorted { IsSorted (with_new (with_new self.old.list.items new.second) new.first) }
         requires second { FitsIn self.old.list.items new.second }
@@ -332,12 +333,13 @@ impl Nodes {
         ensures { self.new.list.items ≡ raise_nodes (between (cut_of from.entry) (cut_of to.entry)) value
             (with_new (with_new self.old.list.items new.second) new.first) }
     {
-        self.split(new.second);
-        self.split(new.first);
-        self.raise_near(from, to, new.near, value);
+        let near = new.near;
+        self.make(new);
+        self.raise_near(from, to, near, value);
     }
 
-    /// Makes nodes of new keys, of which the first is the smaller. It takes no memory.
+    /// Makes nodes of new keys, of which the first is the smaller. It takes no memory, and costs a move of the nodes
+    /// above each new one.
     pub fn make(&mut self, new: NewKeys)
         requires second { FitsIn self.old.list.items new.second }
         requires first { FitsIn (with_new self.old.list.items new.second) new.first }
@@ -348,7 +350,7 @@ impl Nodes {
         self.split(new.first);
     }
 
-    /// Takes off the nodes behind the first 32.
+    /// Takes off the nodes behind the first 32. It takes the memory of a list for them.
     pub fn cut(&mut self) -> Result<Nodes, NoMemory>
         requires long { 32 ≤ length self.old.list.items }
         ensures kept { OnOk result (self.new.list.items ≡ take 32 self.old.list.items) }
@@ -416,7 +418,7 @@ fn joint_of(best: &Value, value: &Value) -> Value
     ratchet(*best, *value).0
 }
 
-/// A clone has room for two nodes more.
+/// A clone has room for two nodes more. It takes the memory of its list and of a copy of each key.
 impl Clone for Nodes {
     ghost is_clone = { λ nodes copy. copy.list.items ≡ nodes.list.items };
 
@@ -435,7 +437,7 @@ pub struct NewKeys {
 }
 
 impl NewKeys {
-    /// How many there are.
+    /// How many there are: up to two.
     pub fn len(&self) -> usize
         ensures { result ≡ new_count self.now.first self.now.second }
     {

@@ -107,7 +107,7 @@ impl<'a> NumberedBytes<'a> {
     }
 }
 
-/// A cut with the number of its key.
+/// A cut with the number of its key, which is that of the key's first sixteen bytes. The last cut has the greatest one.
 #[derive(Drop)]
 pub struct NumberedCut<'a> {
     number: u128,
@@ -127,6 +127,7 @@ impl<'a> Model for NumberedCut<'a> {
 }
 
 impl<'a> NumberedCut<'a> {
+    /// A cut with its number, for which the first bytes of its key are read.
     pub fn new(cut: Cut<'a>) -> NumberedCut<'a>
         ensures { result ≡ cut_of cut.entry }
     {

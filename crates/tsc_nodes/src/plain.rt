@@ -13,7 +13,7 @@ use tsc_time::{NoMemory, Timestamp, Value, ratchet};
 
 /// A page as the plain list of what was added to it.
 ///
-/// It makes the same promises as [`Page`](crate::Page), word for word, but that each Add takes memory, and is
+/// It makes the same promises as `Page` of `tsc_page`, word for word, but that each Add takes memory, and is
 /// slow: `lookup`, `top` and `try_copy` look at all that was added, and `room` and `nodes` compare each end
 /// key with all later ones, so their cost grows with the square of what was added. `new` and `add` alone
 /// look at none of it.
