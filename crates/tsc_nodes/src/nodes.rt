@@ -1,4 +1,4 @@
-ghost use Rattle.std.specs.Prelude.{◌≡◌, ◌<◌, ◌≤◌, [], ◌∷◌, length, take, drop, true, false, IsOk, IfOk, OnOk, IfSome, is_some, ◌+◌, option_map, if◌then◌else◌};
+ghost use Rattle.std.specs.Prelude.{◌≡◌, ◌<◌, ◌≤◌, [], ◌∷◌, length, take, drop, true, false, IsOk, IfOk, OnOk, OnErr, IfSome, is_some, ◌+◌, option_map, if◌then◌else◌};
 ghost use Rattle.std.specs.Vec.{vec_len, vec_capacity};
 ghost use Rattle.tsc_time.specs.Time.{zero_time};
 ghost use Rattle.tsc_time.specs.OwnedTime.{unowned};
@@ -374,8 +374,8 @@ impl<'a> Lists<'a> {
     }
 }
 
-/// Makes room for nodes of new keys. Where memory is refused there are as many as before. Where there are no new keys no
-/// memory is asked for.
+/// Makes room for nodes of new keys. Where memory is refused there are as many as before, and the list of values has
+/// not grown. Where there are no new keys no memory is asked for.
 pub fn reserve(
     keys: &mut Vec<NumberedKey>,
     values: &mut Vec<Values>,
@@ -385,6 +385,7 @@ pub fn reserve(
     ensures values { values.new.items ≡ values.old.items }
     ensures key_room { OnOk result (vec_len keys.new + (new_count new.now.first new.now.second) ≤ vec_capacity keys.new) }
     ensures value_room { OnOk result (vec_len values.new + (new_count new.now.first new.now.second) ≤ vec_capacity values.new) }
+    ensures capacity { OnErr result (vec_capacity values.new ≡ vec_capacity values.old) }
     ensures memory { new_count new.now.first new.now.second ≡ 0 → IsOk result }
 {
     let new = new.len();
