@@ -5,8 +5,11 @@ use Rattle.std.proofs.Crossing.{crosses}
 use Rattle.tsc_time.specs.contracts.timestamp.Timestamp.{the_row as timestamp}
 use Rattle.tsc_time.specs.contracts.value.Value.{the_row as value}
 use Rattle.tsc_span.specs.contracts.key.Key.{the_row as key}
-use Rattle.tsc_nodes.specs.contracts.node.Node.{the_row as node}
+use Rattle.tsc_nodes.specs.contracts.number.NumberedKey.{the_row as numbered_key}
+use Rattle.tsc_nodes.specs.contracts.nodes.Values.{the_row as values}
 use Rattle.tsc_nodes.specs.contracts.nodes.Nodes.{the_row as nodes}
+use Rattle.tsc_page.specs.contracts.leaf.Leaf.{the_row as leaf}
+use Rattle.tsc_page.specs.contracts.block.Block.{the_row as block}
 use Rattle.tsc_page.specs.contracts.leaves.Leaves.{the_row as leaves}
 use Rattle.tsc_page.specs.contracts.page.Page.{the_row as page}
 use Rattle.tsc_span.specs.contracts.span.Shape.{the_row as shape}
@@ -38,23 +41,41 @@ key_sends = search (sendable, crosses) depth 20
 key_syncs : IsSync key
 key_syncs = search (sendable, crosses) depth 20
 
-node_sends : IsSend node
-node_sends = search (sendable, crosses, key_sends, value_sends) depth 20
+numbered_key_sends : IsSend numbered_key
+numbered_key_sends = search (sendable, crosses, key_sends) depth 20
 
-node_syncs : IsSync node
-node_syncs = search (sendable, crosses, key_syncs, value_syncs) depth 20
+numbered_key_syncs : IsSync numbered_key
+numbered_key_syncs = search (sendable, crosses, key_syncs) depth 20
+
+values_send : IsSend values
+values_send = search (sendable, crosses, value_sends) depth 20
+
+values_sync : IsSync values
+values_sync = search (sendable, crosses, value_syncs) depth 20
 
 nodes_send : IsSend nodes
-nodes_send = search (sendable, crosses, node_sends) depth 20
+nodes_send = search (sendable, crosses, numbered_key_sends, numbered_key_syncs, values_send) depth 20
 
 nodes_sync : IsSync nodes
-nodes_sync = search (sendable, crosses, node_syncs) depth 20
+nodes_sync = search (sendable, crosses, numbered_key_sends, numbered_key_syncs, values_sync) depth 20
+
+leaf_sends : IsSend leaf
+leaf_sends = search (sendable, crosses, nodes_send, nodes_sync) depth 20
+
+leaf_syncs : IsSync leaf
+leaf_syncs = search (sendable, crosses, nodes_send, nodes_sync) depth 20
+
+block_sends : IsSend block
+block_sends = search (sendable, crosses, leaf_sends, leaf_syncs) depth 20
+
+block_syncs : IsSync block
+block_syncs = search (sendable, crosses, leaf_sends, leaf_syncs) depth 20
 
 leaves_send : IsSend leaves
-leaves_send = search (sendable, crosses, nodes_send, nodes_sync) depth 20
+leaves_send = search (sendable, crosses, block_sends, block_syncs) depth 20
 
 leaves_sync : IsSync leaves
-leaves_sync = search (sendable, crosses, nodes_send, nodes_sync) depth 20
+leaves_sync = search (sendable, crosses, block_sends, block_syncs) depth 20
 
 page_sends : IsSend page
 page_sends = search (sendable, declared_send, as_row_send, timestamp_sends, leaves_send) depth 20
