@@ -73,7 +73,7 @@ impl Page {
     /// Where no copy of the page shares the leaves that the span meets, nor the keys of one that gets a new one, and none
     /// of them would come to have 65 nodes, they are changed in place. That costs a search among the leaves and one for each end key in its leaf, a copy
     /// of each end key that is new to the page, a move of a leaf's nodes above a new one, and a step for each node
-    /// within the span; a span whose end keys the page holds already takes no memory then. So it is for 512 leaves at
+    /// within the span; a span whose end keys the page holds already takes no memory then. So it is for 256 leaves at
     /// the most. Any other Add copies the list of leaves, and of the leaves themselves those that it changes; a leaf
     /// that comes to have 65 nodes is cut into its first 32 and its last 33.
     pub fn add(&mut self, span: &Span, value: Value) -> Result<(), NoMemory>
