@@ -1,10 +1,10 @@
 -- What a binary search for a key finds: its node, or the place for it.
-use Rattle.std.proofs.Common.{◌≡◌, inl, inr, ◌∙◌, refl, sym, ap, true, ℕ, zero, suc, ◌+◌, ◌<◌, ◌≤◌, List, [], ◌∷◌, length, get_or, Result, Ok, Err, arith}
+use Rattle.std.proofs.Common.{◌≡◌, inl, inr, ◌∙◌, refl, sym, ap, subst, true, ℕ, zero, suc, ◌+◌, ◌<◌, ◌≤◌, List, [], ◌∷◌, length, get_or, Result, Ok, Err, arith}
 use mathlib.Core.Bool.{true≢false}
 use Rattle.std.specs.declared.cmp.Ordering.{Ordering}
 use Rattle.std.specs.declared.cmp.Ordering.TheVariants.{Less, Equal, Greater}
 use Rattle.std.specs.Ordering.{is_lt, is_eq, ordering_index, ordering_reverse, ordering_then}
-use Rattle.std.specs.Prelude.{Some}
+use Rattle.std.specs.Prelude.{Option, Some, None}
 use Rattle.std.specs.Result.{result_err}
 use Rattle.std.specs.Str.{bytes_eq}
 use Rattle.std.specs.List.Sorted.{IsSearchInRange, IsBinarySearchResult, IsNonDecreasingBy}
@@ -13,9 +13,10 @@ use Rattle.std.proofs.lemmas.List.{get_or_default}
 use Rattle.std.proofs.lemmas.Map.Text.{is_eq-slice_cmp}
 use Rattle.std.proofs.lemmas.Slice.Eq.{bytes_eq-Decides}
 use Rattle.std.proofs.Math.Bool.{or-true}
-use Rattle.tsc_span.specs.Span.{KeyBytes, key_cmp, Cut, before, after}
+use Rattle.tsc_span.specs.Span.{KeyBytes, key_cmp, Cut, before, after, last}
 use Rattle.tsc_nodes.specs.PageView.{is_in}
-use Rattle.tsc_nodes.specs.Nodes.{Node, node_keys, IsSorted, FitsAt, HasKeysBelow, StandsAt, FallsAt, place_of, IsPlaceFor, IsFoundAt, IsNewKey}
+use Rattle.tsc_nodes.specs.Numbers.{IsKeyAt}
+use Rattle.tsc_nodes.specs.Nodes.{Node, node_keys, IsSorted, FitsAt, HasKeysBelow, StandsAt, FallsAt, place_of, IsPlaceFor, IsPlaceOf, IsFoundAt, IsNewKey}
 use Rattle.tsc_nodes.proofs.CutOrder.{Lt, Le, Le-from_Lt, after-before, below_last}
 use Rattle.tsc_nodes.proofs.Cuts.{lowest}
 use Rattle.tsc_nodes.proofs.Places.{sorted_at, before_or_past, some_node, all_smaller, falls_before}
@@ -111,6 +112,31 @@ smaller_here ns sorted k i e inside less = all_smaller ns sorted k i e inside (a
 -- and a greater one above, with all behind it
 pub greater_here : (ns : List Node) → IsSorted ns → (k : KeyBytes) (i : ℕ) (e : Node) → HasKeysBelow ns k i → i < length ns → key_cmp (get_or ns i e).key k ≡ Greater → FallsAt ns k i
 greater_here ns sorted k i e low inside greater = falls_before ns sorted k i e low inside (after-before k (get_or ns i e).key (turned (get_or ns i e).key k greater))
+
+-- one key in two options
+same : (j k : KeyBytes) → Some k ≡ Some j → k ≡ j
+same j k h = cc
+
+-- a cut lies where its key is found
+pub lies_at_key : (ns : List Node) (c : Cut) (k : KeyBytes) (r : Result ℕ ℕ) → IsKeyAt c (Some k) → IsFoundAt ns k r → IsPlaceOf ns c r
+lies_at_key ns (before j) k r h at = subst (λ (m : KeyBytes). IsFoundAt ns m r) (same j k h) at
+lies_at_key ns (after j) k r h at = subst (λ (m : KeyBytes). IsFoundAt ns m r) (same j k h) at
+lies_at_key ns last k r h at = absurd (clash h)
+  where
+    clash : Some k ≡ None → ⊥
+    clash e = cc
+
+-- and behind all nodes without one
+pub lies_behind : (ns : List Node) (c : Cut) (n : ℕ) → IsKeyAt c None → n ≡ length ns → IsPlaceOf ns c (Err n)
+lies_behind ns (before k) n h e = absurd (clash h)
+  where
+    clash : None ≡ Some k → ⊥
+    clash g = cc
+lies_behind ns (after k) n h e = absurd (clash h)
+  where
+    clash : None ≡ Some k → ⊥
+    clash g = cc
+lies_behind ns last n h e = ap Err e
 
 pub is_equal : (o : Ordering) → is_eq o ≡ true → o ≡ Equal
 is_equal Less h = absurd (true≢false (sym h))

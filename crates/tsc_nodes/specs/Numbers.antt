@@ -1,5 +1,5 @@
 -- Numbers that stand for the first bytes of keys, so that most keys are compared by them alone.
-use Rattle.std.specs.Prelude.{◌≡◌, ℕ, zero, suc, ◌+◌, ◌*◌, ◌-◌, ◌<◌, ◌^◌, [], ◌∷◌, Bool, Option, IfSome}
+use Rattle.std.specs.Prelude.{◌≡◌, ℕ, zero, suc, ◌+◌, ◌*◌, ◌-◌, ◌<◌, ◌^◌, [], ◌∷◌, Bool, Option, Some, None, IfSome}
 use Rattle.std.specs.List.{All}
 use Rattle.tsc_span.specs.Span.{KeyBytes, Cut, before, after, last, is_below}
 
@@ -29,6 +29,12 @@ abbrev pub IsCutNumber : ℕ → Cut → Type 0
 IsCutNumber n (before k) = IsNumberOf n k
 IsCutNumber n (after k) = IsNumberOf n k
 IsCutNumber n last = n ≡ 2 ^ 128 - 1
+
+-- the key at which a cut lies, and none for the last one
+abbrev pub IsKeyAt : Cut → Option KeyBytes → Type 0
+IsKeyAt (before k) key = key ≡ Some k
+IsKeyAt (after k) key = key ≡ Some k
+IsKeyAt last key = key ≡ None
 
 -- whether a cut lies below one of a number, where the numbers tell
 abbrev pub TellsBelow : Cut → ℕ → Option Bool → Type 0

@@ -126,10 +126,10 @@ impl Nodes {
 
     /// The joint value of the keys and gaps between two cuts. It costs a binary search for the first cut, a look at
     /// one key after another from there to the second, and a step for each node between them.
-    pub fn joint_between(&self, from: Cut<'_>, to: Cut<'_>) -> Value
+    pub fn joint_between(&self, from: &NumberedCut<'_>, to: &NumberedCut<'_>) -> Value
         requires sorted { IsSorted self.now }
-        requires order { is_below (cut_of from) (cut_of to) ≡ true }
-        ensures { result ≡ answer_of self.now (between (cut_of from.entry) (cut_of to.entry)) }
+        requires order { is_below from.now to.now ≡ true }
+        ensures { result ≡ answer_of self.now (between from.now to.now) }
     {
         let mut best = Value::unowned(Timestamp::ZERO);
         let (keys, gaps) = self.lists().places_between(from, to, (None, None));
@@ -143,10 +143,10 @@ impl Nodes {
     }
 
     /// Ratchets a value into the keys and gaps between two cuts. It costs what `joint_between` does, and takes no memory.
-    pub fn raise_between(&mut self, from: Cut<'_>, to: Cut<'_>, value: Value)
+    pub fn raise_between(&mut self, from: &NumberedCut<'_>, to: &NumberedCut<'_>, value: Value)
         requires sorted { IsSorted self.old }
-        requires order { is_below (cut_of from) (cut_of to) ≡ true }
-        ensures { self.new ≡ raise_nodes (between (cut_of from.entry) (cut_of to.entry)) value self.old }
+        requires order { is_below from.now to.now ≡ true }
+        ensures { self.new ≡ raise_nodes (between from.now to.now) value self.old }
     {
         self.raise_near(from, to, (None, None), value);
     }
@@ -154,14 +154,14 @@ impl Nodes {
     /// The same, where the keys of the cuts may stand at places that are told.
     pub fn raise_near(
         &mut self,
-        from: Cut<'_>,
-        to: Cut<'_>,
+        from: &NumberedCut<'_>,
+        to: &NumberedCut<'_>,
         near: (Option<usize>, Option<usize>),
         value: Value,
     )
         requires sorted { IsSorted self.old }
-        requires order { is_below (cut_of from) (cut_of to) ≡ true }
-        ensures { self.new ≡ raise_nodes (between (cut_of from.entry) (cut_of to.entry)) value self.old }
+        requires order { is_below from.now to.now ≡ true }
+        ensures { self.new ≡ raise_nodes (between from.now to.now) value self.old }
     {
         raise_values(
             self.keys.as_slice(),
@@ -295,13 +295,12 @@ impl<'a> Lists<'a> {
     }
 
     /// Where a cut lies: where its key does, or behind all. The key may stand at a place that is told.
-    fn place_of(&self, cut: Cut<'_>, near: Option<usize>) -> Result<usize, usize>
+    fn place_of(&self, cut: &NumberedCut<'_>, near: Option<usize>) -> Result<usize, usize>
         requires sorted { IsSorted self.now }
-        ensures { IsPlaceOf self.now (cut_of cut.entry) result }
+        ensures { IsPlaceOf self.now cut.now result }
     {
-        let key = match cut {
-            Cut::Before(key) | Cut::After(key) => NumberedBytes::new(key),
-            Cut::Last => return Err(self.keys.len()),
+        let Some(key) = cut.key() else {
+            return Err(self.keys.len())
         };
         match near {
             Some(place) if self.stands_at(place, &key) => Ok(place),
@@ -310,15 +309,18 @@ impl<'a> Lists<'a> {
     }
 
     /// The same, where no place is told by a look from a place on before which all keys are below the cut's.
-    fn place_from(&self, cut: Cut<'_>, place: usize, near: Option<usize>) -> Result<usize, usize>
+    fn place_from(
+        &self,
+        cut: &NumberedCut<'_>,
+        place: usize,
+        near: Option<usize>,
+    ) -> Result<usize, usize>
         requires sorted { IsSorted self.now }
-        requires low { LiesFrom self.now (cut_of cut) place }
-        ensures { IsPlaceOf self.now (cut_of cut.entry) result }
+        requires low { LiesFrom self.now cut.now place }
+        ensures { IsPlaceOf self.now cut.now result }
     {
-        match cut {
-            Cut::Before(key) | Cut::After(key) if near.is_none() => {
-                self.find_from(place, &NumberedBytes::new(key))
-            }
+        match cut.key() {
+            Some(key) if near.is_none() => self.find_from(place, &key),
             _ => self.place_of(cut, near),
         }
     }
@@ -342,18 +344,18 @@ impl<'a> Lists<'a> {
     /// from there on.
     fn places_between(
         &self,
-        from: Cut<'_>,
-        to: Cut<'_>,
+        from: &NumberedCut<'_>,
+        to: &NumberedCut<'_>,
         near: (Option<usize>, Option<usize>),
     ) -> (Range<usize>, Range<usize>)
         requires sorted { IsSorted self.now }
-        requires order { is_below (cut_of from) (cut_of to) ≡ true }
-        ensures keys { HoldsKeysOn self.now (between (cut_of from.entry) (cut_of to.entry)) result.0.start result.0.end }
-        ensures gaps { HoldsGapsOn self.now (between (cut_of from.entry) (cut_of to.entry)) result.1.start result.1.end }
+        requires order { is_below from.now to.now ≡ true }
+        ensures keys { HoldsKeysOn self.now (between from.now to.now) result.0.start result.0.end }
+        ensures gaps { HoldsGapsOn self.now (between from.now to.now) result.1.start result.1.end }
     {
         let low = self.place_of(from, near.0);
         let high = self.place_from(to, index_of(low), near.1);
-        let keys = self.key_above(low, from)..self.key_above(high, to);
+        let keys = self.key_above(low, from.cut())..self.key_above(high, to.cut());
         (keys, first_gap(low)..index_of(high))
     }
 
@@ -423,16 +425,16 @@ fn split(keys: &mut Vec<NumberedKey>, values: &mut Vec<Values>, new: Option<(usi
 fn raise_values(
     keys: &[NumberedKey],
     values: &mut Vec<Values>,
-    from: Cut<'_>,
-    to: Cut<'_>,
+    from: &NumberedCut<'_>,
+    to: &NumberedCut<'_>,
     near: (Option<usize>, Option<usize>),
     value: Value,
 )
     requires same { length keys.now ≡ length values.old.items }
     requires sorted { IsSorted (paired keys.now values.old.items) }
-    requires order { is_below (cut_of from) (cut_of to) ≡ true }
+    requires order { is_below from.now to.now ≡ true }
     ensures same { length keys.now ≡ length values.new.items }
-    ensures raised { paired keys.now values.new.items ≡ raise_nodes (between (cut_of from.entry) (cut_of to.entry)) value (paired keys.now values.old.items) }
+    ensures raised { paired keys.now values.new.items ≡ raise_nodes (between from.now to.now) value (paired keys.now values.old.items) }
 {
     let lists = Lists {
         keys,
@@ -454,8 +456,8 @@ pub fn add(
     keys: &mut Vec<NumberedKey>,
     values: &mut Vec<Values>,
     new: NewKeys,
-    from: Cut<'_>,
-    to: Cut<'_>,
+    from: &NumberedCut<'_>,
+    to: &NumberedCut<'_>,
     value: Value,
 )
     requires same { length keys.old.items ≡ length values.old.items }
@@ -464,9 +466,9 @@ pub fn add(
     requires first { FitsIn (with_new (paired keys.old.items values.old.items) new.second) new.first }
     requires key_room { vec_len keys.old + (new_count new.first new.second) ≤ vec_capacity keys.old }
     requires value_room { vec_len values.old + (new_count new.first new.second) ≤ vec_capacity values.old }
-    requires order { is_below (cut_of from) (cut_of to) ≡ true }
+    requires order { is_below from.now to.now ≡ true }
     ensures same { length keys.new.items ≡ length values.new.items }
-    ensures added { paired keys.new.items values.new.items ≡ raise_nodes (between (cut_of from.entry) (cut_of to.entry)) value
+    ensures added { paired keys.new.items values.new.items ≡ raise_nodes (between from.now to.now) value
         (with_new (with_new (paired keys.old.items values.old.items) new.second) new.first) }
 {
     split(keys, values, new.second);

@@ -1,7 +1,7 @@
 ghost use Rattle.std.specs.Prelude.{◌≡◌, ◌≤◌, length, drop, IfOk};
 ghost use Rattle.tsc_span.specs.Span.{key_cmp, before, last, is_below};
 ghost use Rattle.tsc_span.specs.Cuts.{cut_of};
-ghost use Rattle.tsc_nodes.specs.Numbers.{spelled, IsNumberOf, AreTied, TellsBelow, TellsAbove};
+ghost use Rattle.tsc_nodes.specs.Numbers.{spelled, IsNumberOf, IsKeyAt, AreTied, TellsBelow, TellsAbove};
 
 use std::alloc::AllocError;
 use std::cmp::Ordering;
@@ -152,6 +152,19 @@ impl<'a> NumberedCut<'a> {
         ensures { cut_of result ≡ self.now }
     {
         self.cut
+    }
+
+    /// The key at which the cut lies, with its number; `None` for the last one.
+    pub(crate) fn key(&self) -> Option<NumberedBytes<'a>>
+        ensures { IsKeyAt self.now result }
+    {
+        match self.cut {
+            Cut::Before(bytes) | Cut::After(bytes) => Some(NumberedBytes {
+                number: self.number,
+                bytes,
+            }),
+            Cut::Last => None,
+        }
     }
 
     /// Whether the cut lies below those of a number; `None` where that is its own number.

@@ -96,7 +96,7 @@ impl Part for Block {
         }
     }
 
-    fn joint_between(&self, from: Cut<'_>, to: Cut<'_>) -> Value {
+    fn joint_between(&self, from: &NumberedCut<'_>, to: &NumberedCut<'_>) -> Value {
         parts::joint_between(&self.leaves, from, to)
     }
 

@@ -86,7 +86,7 @@ impl Part for Leaf {
         }
     }
 
-    fn joint_between(&self, from: Cut<'_>, to: Cut<'_>) -> Value {
+    fn joint_between(&self, from: &NumberedCut<'_>, to: &NumberedCut<'_>) -> Value {
         self.nodes.joint_between(from, to)
     }
 
@@ -95,7 +95,8 @@ impl Part for Leaf {
     }
 
     fn raise_between(&mut self, from: Cut<'_>, to: Cut<'_>, value: Value) -> Result<(), NoMemory> {
-        Arc::make_mut(&mut self.nodes)?.raise_between(from, to, value);
+        let (from, to) = (NumberedCut::new(from), NumberedCut::new(to));
+        Arc::make_mut(&mut self.nodes)?.raise_between(&from, &to, value);
         Ok(())
     }
 

@@ -91,7 +91,8 @@ impl Leaves {
         requires order { is_below (cut_of from) (cut_of to) ≡ true }
         ensures { result ≡ answer_of (all_nodes self.now) (between (cut_of from.entry) (cut_of to.entry)) }
     {
-        parts::joint_between(&self.list, from, to)
+        let (from, to) = (NumberedCut::new(from), NumberedCut::new(to));
+        parts::joint_between(&self.list, &from, &to)
     }
 
     /// The same leaves once more.
@@ -131,7 +132,8 @@ impl Leaves {
         ensures counted { AreCounted self.new }
         ensures unchanged { OnErr result (leaves_of self.new ≡ leaves_of self.old) }
     {
-        if self.add_in_place(first, second, from, to, value, most)? {
+        let (low, high) = (NumberedCut::new(from), NumberedCut::new(to));
+        if self.add_in_place(first, second, &low, &high, value, most)? {
             return Ok(true);
         }
         let count = self.count + self.new_among(first, second);
@@ -152,27 +154,26 @@ impl Leaves {
         &mut self,
         first: Option<&Key>,
         second: Option<&Key>,
-        from: Cut<'_>,
-        to: Cut<'_>,
+        from: &NumberedCut<'_>,
+        to: &NumberedCut<'_>,
         value: Value,
         most: usize,
     ) -> Result<bool, NoMemory>
         requires counted { AreCounted self.old }
         requires within { self.old.count ≤ most }
         requires small { most ≤ MOST_NODES }
-        requires order { is_below (cut_of from) (cut_of to) ≡ true }
-        requires first { LiesAt (option_map (λ k. k.now) first) (cut_of from) }
-        requires second { LiesAt (option_map (λ k. k.now) second) (cut_of to) }
-        requires keys { option_to_list (option_map (λ k. k.now) first) ++ option_to_list (option_map (λ k. k.now) second) ≡ end_keys (between (cut_of from) (cut_of to)) }
-        ensures added { IfOk result (λ done. done ≡ true → AddsTo (all_nodes self.old) (all_nodes self.new) (between (cut_of from.entry) (cut_of to.entry)) value) }
+        requires order { is_below from.now to.now ≡ true }
+        requires first { LiesAt (option_map (λ k. k.now) first) from.now }
+        requires second { LiesAt (option_map (λ k. k.now) second) to.now }
+        requires keys { option_to_list (option_map (λ k. k.now) first) ++ option_to_list (option_map (λ k. k.now) second) ≡ end_keys (between from.now to.now) }
+        ensures added { IfOk result (λ done. done ≡ true → AddsTo (all_nodes self.old) (all_nodes self.new) (between from.now to.now) value) }
         ensures within { IfOk result (λ done. done ≡ true → self.new.count ≤ most) }
         ensures left { IfOk result (λ done. done ≡ false → (leaves_of self.new ≡ leaves_of self.old) × (self.new.count ≡ self.old.count)) }
         ensures counted { AreCounted self.new }
         ensures unchanged { OnErr result (leaves_of self.new ≡ leaves_of self.old) }
     {
-        let place = parts::part_at(&self.list, &NumberedCut::new(from));
+        let place = parts::part_at(&self.list, from);
         let room = most - self.count;
-        let to = NumberedCut::new(to);
         let (_, blocks) = self.list.split_at_mut(place);
         match add_owned(
             &mut [],
@@ -180,7 +181,7 @@ impl Leaves {
             first,
             second,
             from,
-            &to,
+            to,
             value,
             room,
             DEEPEST,
@@ -223,7 +224,7 @@ fn add_owned(
     blocks: &mut [Block],
     first: Option<&Key>,
     second: Option<&Key>,
-    from: Cut<'_>,
+    from: &NumberedCut<'_>,
     to: &NumberedCut<'_>,
     value: Value,
     room: usize,
@@ -231,13 +232,13 @@ fn add_owned(
 ) -> Result<Option<usize>, NoMemory>
     requires leaves { AreLeaves (leaves.old ++ rows_of blocks.old) }
     requires blocks { All IsBlock blocks.old }
-    requires order { is_below (cut_of from) to.now ≡ true }
-    requires low { is_below (cut_of from) (start_of (nodes_of (rows_behind leaves.old blocks.old))) ≡ true }
+    requires order { is_below from.now to.now ≡ true }
+    requires low { is_below from.now (start_of (nodes_of (rows_behind leaves.old blocks.old))) ≡ true }
     requires in_order { IsInOrder (option_map (λ k. k.now) first) (option_map (λ k. k.now) second) }
-    requires first { LiesAt (option_map (λ k. k.now) first) (cut_of from) }
+    requires first { LiesAt (option_map (λ k. k.now) first) from.now }
     requires second { LiesAt (option_map (λ k. k.now) second) to.now }
     ensures added { IfOk result (λ done. IfSome done (λ more. AddsLeaves (leaves.old ++ rows_of blocks.old) (leaves.new ++ rows_of blocks.new)
-        (option_map (λ k. k.now) first.entry) (option_map (λ k. k.now) second.entry) (between (cut_of from.entry) to.now) value more)) }
+        (option_map (λ k. k.now) first.entry) (option_map (λ k. k.now) second.entry) (between from.now to.now) value more)) }
     ensures within { IfOk result (λ done. IfSome done (λ more. more ≤ room)) }
     ensures blocks { IfOk result (λ done. IfSome done (λ more. All IsBlock blocks.new)) }
     ensures left { IfOk result (λ done. done ≡ None → (leaves.new ≡ leaves.old) × (blocks.new ≡ blocks.old)) }
@@ -252,7 +253,7 @@ fn add_owned(
         let Some(owned) = Arc::get_mut(&mut block.leaves) else {
             return Ok(None)
         };
-        let place = parts::part_at(owned, &NumberedCut::new(from));
+        let place = parts::part_at(owned, from);
         let (_, leaves) = owned.split_at_mut(place);
         let done = add_owned(leaves, rest, first, second, from, to, value, room, deep);
         block.start = start_number(owned);
@@ -277,18 +278,27 @@ fn add_owned(
     if made > room || nodes.len() + made > LEAF_NODES {
         return Ok(None);
     }
-    let low = Cut::Before(&[]);
     if made == 0 {
         if !goes_on {
-            nodes.raise_near(from, to.cut(), new.near, value);
+            nodes.raise_near(from, to, new.near, value);
             leaf.start = nodes.start_number();
             return Ok(Some(0));
         }
-        let Some(more) = add_owned(rest, blocks, None, second, low, to, value, room, deep - 1)?
+        let Some(more) = add_owned(
+            rest,
+            blocks,
+            None,
+            second,
+            &NumberedCut::new(Cut::Before(&[])),
+            to,
+            value,
+            room,
+            deep - 1,
+        )?
         else {
             return Ok(None)
         };
-        nodes.raise_near(from, Cut::Last, new.near, value);
+        nodes.raise_near(from, &NumberedCut::new(Cut::Last), new.near, value);
         leaf.start = nodes.start_number();
         return Ok(Some(more));
     }
@@ -298,7 +308,7 @@ fn add_owned(
     let values = &mut nodes.values;
     reserve(keys, values, &new)?;
     if !goes_on {
-        add(keys, values, new, from, to.cut(), value);
+        add(keys, values, new, from, to, value);
         leaf.start = nodes.start_number();
         return Ok(Some(made));
     }
@@ -307,7 +317,7 @@ fn add_owned(
         blocks,
         None,
         second,
-        low,
+        &NumberedCut::new(Cut::Before(&[])),
         to,
         value,
         room - made,
@@ -316,7 +326,7 @@ fn add_owned(
     else {
         return Ok(None)
     };
-    add(keys, values, new, from, Cut::Last, value);
+    add(keys, values, new, from, &NumberedCut::new(Cut::Last), value);
     leaf.start = nodes.start_number();
     Ok(Some(made + more))
 }

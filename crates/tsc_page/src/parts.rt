@@ -28,11 +28,11 @@ pub(crate) trait Part: Drop {
         ensures { result ≡ is_below (start self.now) cut.now };
 
     /// The joint value of the keys and gaps between two cuts.
-    fn joint_between(&self, from: Cut<'_>, to: Cut<'_>) -> Value
+    fn joint_between(&self, from: &NumberedCut<'_>, to: &NumberedCut<'_>) -> Value
         requires whole { IsWhole self.now }
         requires sorted { IsSorted (nodes self.now) }
-        requires order { is_below (cut_of from) (cut_of to) ≡ true }
-        ensures { result ≡ answer_of (nodes self.now) (between (cut_of from.entry) (cut_of to.entry)) };
+        requires order { is_below from.now to.now ≡ true }
+        ensures { result ≡ answer_of (nodes self.now) (between from.now to.now) };
 
     /// Whether this is a key that has no node.
     fn is_new(&self, key: &Key) -> bool
@@ -108,21 +108,49 @@ fn goes_on<P: Part>(parts: &[P], place: usize, to: &NumberedCut<'_>) -> bool
     }
 }
 
-/// The joint value of the keys and gaps of parts between two cuts.
-pub(crate) fn joint_between<P: Part>(parts: &[P], from: Cut<'_>, to: Cut<'_>) -> Value
+/// The joint value of the keys and gaps of parts between two cuts, which mostly is that of one part.
+pub(crate) fn joint_between<P: Part>(
+    parts: &[P],
+    from: &NumberedCut<'_>,
+    to: &NumberedCut<'_>,
+) -> Value
     requires parts { AreParts P.nodes P.IsWhole parts.now }
-    requires order { is_below (cut_of from) (cut_of to) ≡ true }
-    ensures { result ≡ answer_of (nodes_of (map P.nodes parts.now)) (between (cut_of from.entry) (cut_of to.entry)) }
+    requires order { is_below from.now to.now ≡ true }
+    ensures { result ≡ answer_of (nodes_of (map P.nodes parts.now)) (between from.now to.now) }
 {
-    let mut best = Value::unowned(Timestamp::ZERO);
-    let mut low = from;
-    let end = NumberedCut::new(to);
-    for place in part_at(parts, &NumberedCut::new(from))..parts.len() {
-        if !goes_on(parts, place, &end) {
-            return ratchet(best, parts[place].joint_between(low, to)).0;
+    let place = part_at(parts, from);
+    if place >= parts.len() {
+        return Value::unowned(Timestamp::ZERO);
+    }
+    if goes_on(parts, place, to) {
+        joint_beyond(parts, place, from, to)
+    } else {
+        parts[place].joint_between(from, to)
+    }
+}
+
+/// The same, where the span goes on beyond the part in which it starts.
+fn joint_beyond<P: Part>(
+    parts: &[P],
+    first: usize,
+    from: &NumberedCut<'_>,
+    to: &NumberedCut<'_>,
+) -> Value
+    requires parts { AreParts P.nodes P.IsWhole parts.now }
+    requires order { is_below from.now to.now ≡ true }
+    requires bound { first < length parts.now }
+    requires first { IsLeafAt (map P.nodes parts.now) from.now first }
+    requires beyond { is_below (start_of (nodes_of (drop (suc first) (map P.nodes parts.now)))) to.now ≡ true }
+    ensures { result ≡ answer_of (nodes_of (map P.nodes parts.now)) (between from.now to.now) }
+{
+    let least = NumberedCut::new(Cut::Before(&[]));
+    let last = NumberedCut::new(Cut::Last);
+    let mut best = parts[first].joint_between(from, &last);
+    for place in first + 1..parts.len() {
+        if !goes_on(parts, place, to) {
+            return ratchet(best, parts[place].joint_between(&least, to)).0;
         }
-        best = ratchet(best, parts[place].joint_between(low, Cut::Last)).0;
-        low = Cut::Before(&[]);
+        best = ratchet(best, parts[place].joint_between(&least, &last)).0;
     }
     best
 }

@@ -4,7 +4,6 @@ use Rattle.std.proofs.lemmas.List.{get_or_default, length-set}
 use Rattle.tsc_time.specs.OwnedTime.{OwnedTime}
 use Rattle.tsc_time.specs.Joint.{joint}
 use Rattle.tsc_span.specs.Span.{KeyBytes, Interval, between}
-use Rattle.tsc_span.specs.Cuts.{cut_of}
 use Rattle.tsc_nodes.specs.declared.nodes.Values.{Values}
 use Rattle.tsc_nodes.specs.Nodes.{Node, paired, HoldsKeysOn, HoldsGapsOn}
 use Rattle.tsc_nodes.proofs.RaisedNodes.{ChangesPlaces, key_raised, gap_raised, none_changed, with_both, both_changed}
@@ -15,7 +14,7 @@ pub loop-place-init : goal.loop-place-init
 loop-place-init c =
     let keys : List KeyBytes = c.args.keys.now in
     let values : List Values = c.args.values.now.items in
-    let span : Interval = between (cut_of c.args.from) (cut_of c.args.to) in
+    let span : Interval = between c.args.from.now c.args.to.now in
     let found = subst (λ (vs : List Values). HoldsKeysOn (paired keys vs) span c.places_between.result.0.start c.places_between.result.0.end) c.as_slice.ensures.value c.places_between.ensures.keys in
     let on = subst (λ r. HoldsKeysOn (paired keys values) span r.start r.end) (sym c.into_iter-place-iterator.ensures.into_iter_gives) found in (
       record { low = omega arith; order = on.order; bound = omega (arith, on.bound, paired-length keys values c.requires.same) },
@@ -55,7 +54,7 @@ loop-place-2-init c =
     let values : List Values = c.args.values.now.items in
     let mid : List Values = c.loop-place.values.items in
     let so_far = c.loop-place.invariant in
-    let span : Interval = between (cut_of c.args.from) (cut_of c.args.to) in
+    let span : Interval = between c.args.from.now c.args.to.now in
     let found = subst (λ (vs : List Values). HoldsGapsOn (paired keys vs) span c.places_between.result.1.start c.places_between.result.1.end) c.as_slice.ensures.value c.places_between.ensures.gaps in
     let on = subst (λ r. HoldsGapsOn (paired keys values) span r.start r.end) (sym c.into_iter-place-iterator-2.ensures.into_iter_gives) found in (
       record { low = omega arith; order = on.order; bound = omega (arith, on.bound, paired-length keys values c.requires.same, c.requires.same, so_far.2) },
@@ -96,7 +95,7 @@ returns-clause-raised c =
     let old : List Node = paired keys values in
     let mid : List Node = paired keys c.loop-place.values.items in
     let new : List Node = paired keys c.loop-place-2.values.items in
-    let span : Interval = between (cut_of c.args.from) (cut_of c.args.to) in
+    let span : Interval = between c.args.from.now c.args.to.now in
     let found_keys = subst (λ (vs : List Values). HoldsKeysOn (paired keys vs) span c.places_between.result.0.start c.places_between.result.0.end) c.as_slice.ensures.value c.places_between.ensures.keys in
     let found_gaps = subst (λ (vs : List Values). HoldsGapsOn (paired keys vs) span c.places_between.result.1.start c.places_between.result.1.end) c.as_slice.ensures.value c.places_between.ensures.gaps in
     let on_keys = subst (λ r. HoldsKeysOn old span r.start r.end) (sym c.into_iter-place-iterator.ensures.into_iter_gives) found_keys in

@@ -1,5 +1,5 @@
 -- The first leaf takes its keys, and what those behind it became stays; or a block lends its leaves.
-use Rattle.std.proofs.Common.{◌≡◌, ◌∙◌, ◌+◌, ◌≤◌, ap, sym, subst, Bool, cond, ℕ, List, [], ◌++◌, length, map, get_or, arith}
+use Rattle.std.proofs.Common.{◌≡◌, ◌∙◌, ◌+◌, ◌≤◌, ap, sym, subst, Bool, cond, ℕ, List, [], ◌++◌, length, get_or, arith}
 use Rattle.std.specs.Prelude.{Option, None, IfSome, option_map}
 use Rattle.std.specs.List.{All}
 use Rattle.std.specs.Vec.{with_items}
@@ -7,9 +7,8 @@ use Rattle.std.proofs.lemmas.List.{length-append, with_items_is}
 use Rattle.std.proofs.lemmas.Result.{IfOk-weaker}
 use Rattle.std.proofs.lemmas.Option.{IfSome_then}
 use Rattle.tsc_span.specs.Span.{KeyBytes, Cut, before, last, between}
-use Rattle.tsc_span.specs.Cuts.{cut_of}
 use Rattle.tsc_nodes.specs.Nodes.{Node, paired, IsSorted, FitsIn, with_new, new_count, raise_nodes}
-use Rattle.tsc_page.specs.Leaves.{IsBlock, IsLeafAt, AddsLeaves, nodes_of, rows_of, start_of}
+use Rattle.tsc_page.specs.Leaves.{IsBlock, IsLeafAt, AddsLeaves, nodes_of, rows_of, rows_behind, start_of}
 use Rattle.tsc_nodes.proofs.CutOrder.{Lt, Le, Le_Lt-chain}
 use Rattle.tsc_nodes.proofs.Cuts.{lowest}
 use Rattle.tsc_page.proofs.Joins.{sorted_left}
@@ -29,12 +28,12 @@ pub add_owned-done-requires : goal.add_owned-done-requires
 add_owned-done-requires t c =
     let a = c.split_at_mut-leaves.result.0.now in
     let b = c.split_at_mut-leaves.result.1.now in
-    let from : Cut = cut_of c.args.from in
+    let from : Cut = c.args.from.now in
     let to : Cut = c.args.to.now in
     let p : ℕ = c.part_at-place.result in
     let cs = c.split_at_mut-head.result.1.now in
     let parts : a ++ b ≡ c.in-Some.owned.now.items = sym c.split_at_mut-leaves.ensures.value ∙ c.deref_mut.ensures.value in
-    let at : IsLeafAt (a ++ b) from p = subst (λ (ls : List (List Node)). IsLeafAt ls from p) (as_they_are c.deref.result.now ∙ c.deref.ensures.value ∙ sym parts) (subst (λ (x : Cut). IsLeafAt (map (λ (l : List Node). l) c.deref.result.now) x p) c.new.ensures c.part_at-place.ensures) in
+    let at : IsLeafAt (a ++ b) from p = subst (λ (ls : List (List Node)). IsLeafAt ls from p) (as_they_are c.deref.result.now ∙ c.deref.ensures.value ∙ sym parts) c.part_at-place.ensures in
     let entered : IsEntered c.args.leaves.now c.args.blocks.now a b cs from =
     enters c.args.leaves.now c.args.blocks.now c.split_at_mut-head.result.0.now cs c.index-head-0.result a b from to p c.if-leaves-eq0.true c.split_at_mut-head.ensures.value c.split_at_mut-head.ensures.front_len
     (parts ∙ ap (λ v. v.items) c.in-Some.ensures.value ∙ c.block.view_is) c.split_at_mut-leaves.ensures.front_len c.requires.blocks c.requires.leaves c.requires.low c.requires.order at in (
@@ -46,12 +45,12 @@ pub returns-then-leaves-eq0-clause-added : goal.returns-then-leaves-eq0-clause-a
 returns-then-leaves-eq0-clause-added t c =
     let a = c.split_at_mut-leaves.result.0.now in
     let b = c.split_at_mut-leaves.result.1.now in
-    let from : Cut = cut_of c.args.from in
+    let from : Cut = c.args.from.now in
     let to : Cut = c.args.to.now in
     let p : ℕ = c.part_at-place.result in
     let cs = c.split_at_mut-head.result.1.now in
     let parts : a ++ b ≡ c.in-Some.owned.now.items = sym c.split_at_mut-leaves.ensures.value ∙ c.deref_mut.ensures.value in
-    let at : IsLeafAt (a ++ b) from p = subst (λ (ls : List (List Node)). IsLeafAt ls from p) (as_they_are c.deref.result.now ∙ c.deref.ensures.value ∙ sym parts) (subst (λ (x : Cut). IsLeafAt (map (λ (l : List Node). l) c.deref.result.now) x p) c.new.ensures c.part_at-place.ensures) in
+    let at : IsLeafAt (a ++ b) from p = subst (λ (ls : List (List Node)). IsLeafAt ls from p) (as_they_are c.deref.result.now ∙ c.deref.ensures.value ∙ sym parts) c.part_at-place.ensures in
     let entered : IsEntered c.args.leaves.now c.args.blocks.now a b cs from =
     enters c.args.leaves.now c.args.blocks.now c.split_at_mut-head.result.0.now cs c.index-head-0.result a b from to p c.if-leaves-eq0.true c.split_at_mut-head.ensures.value c.split_at_mut-head.ensures.front_len
     (parts ∙ ap (λ v. v.items) c.in-Some.ensures.value ∙ c.block.view_is) c.split_at_mut-leaves.ensures.front_len c.requires.blocks c.requires.leaves c.requires.low c.requires.order at in
@@ -68,12 +67,12 @@ pub returns-then-leaves-eq0-clause-blocks : goal.returns-then-leaves-eq0-clause-
 returns-then-leaves-eq0-clause-blocks t c =
     let a = c.split_at_mut-leaves.result.0.now in
     let b = c.split_at_mut-leaves.result.1.now in
-    let from : Cut = cut_of c.args.from in
+    let from : Cut = c.args.from.now in
     let to : Cut = c.args.to.now in
     let p : ℕ = c.part_at-place.result in
     let cs = c.split_at_mut-head.result.1.now in
     let parts : a ++ b ≡ c.in-Some.owned.now.items = sym c.split_at_mut-leaves.ensures.value ∙ c.deref_mut.ensures.value in
-    let at : IsLeafAt (a ++ b) from p = subst (λ (ls : List (List Node)). IsLeafAt ls from p) (as_they_are c.deref.result.now ∙ c.deref.ensures.value ∙ sym parts) (subst (λ (x : Cut). IsLeafAt (map (λ (l : List Node). l) c.deref.result.now) x p) c.new.ensures c.part_at-place.ensures) in
+    let at : IsLeafAt (a ++ b) from p = subst (λ (ls : List (List Node)). IsLeafAt ls from p) (as_they_are c.deref.result.now ∙ c.deref.ensures.value ∙ sym parts) c.part_at-place.ensures in
     let entered : IsEntered c.args.leaves.now c.args.blocks.now a b cs from =
     enters c.args.leaves.now c.args.blocks.now c.split_at_mut-head.result.0.now cs c.index-head-0.result a b from to p c.if-leaves-eq0.true c.split_at_mut-head.ensures.value c.split_at_mut-head.ensures.front_len
     (parts ∙ ap (λ v. v.items) c.in-Some.ensures.value ∙ c.block.view_is) c.split_at_mut-leaves.ensures.front_len c.requires.blocks c.requires.leaves c.requires.low c.requires.order at in
@@ -124,7 +123,7 @@ returns-then-not-goes_on-clause-added t c =
     let bs = c.args.blocks.now in
     let o : Option KeyBytes = option_map (λ k. k.now) c.args.first in
     let q : Option KeyBytes = option_map (λ k. k.now) c.args.second in
-    let from : Cut = cut_of c.args.from in
+    let from : Cut = c.args.from.now in
     let to : Cut = c.args.to.now in
     let h = c.in_ok-new.new.first in
     let g = c.in_ok-new.new.second in
@@ -138,7 +137,7 @@ returns-then-not-goes_on-clause-added t c =
     (c.in-Some-get_mut.ensures.value ∙ c.leaf.view_is) c.requires.leaves c.requires.low c.requires.first c.requires.second c.starts_above.ensures here c.requires.in_order c.in_ok-new.ensures.first c.in_ok-new.ensures.second in
     let few : length leaf + new_count h g ≤ 64 = omega (arith, c.if-len-made-gt-LEAF_NODES.false, c.len.ensures, c.len-made.ensures) in
     let none : new_count h g ≡ 0 = sym c.len-made.ensures ∙ c.if-made-eq0.true in
-    let new : c.raise_near.new.self ≡ raise_nodes (between from to) c.args.value leaf = c.raise_near.ensures ∙ ap (λ (x : Cut). raise_nodes (between from x) c.args.value leaf) c.cut.ensures in
+    let new : c.raise_near.new.self ≡ raise_nodes (between from to) c.args.value leaf = c.raise_near.ensures in
     let high : Le to (start_of (nodes_of (b ++ rows_of bs))) = sym c.starts_below-goes_on.ensures ∙ c.if-not-goes_on.true in
     stops_known (c.args.leaves.now ++ rows_of bs) leaf (b ++ rows_of bs) from to c.args.value o q h g c.requires.order c.requires.first c.requires.second c.requires.in_order ready few c.raise_near.new.self _ new
     (ap (λ (ls : List (List Node)). ls ++ rows_of bs) (first_set a b _ c.split_at_mut-head-2.ensures.front_len)) none high
@@ -154,8 +153,11 @@ add_owned-requires t c =
         (
           c.requires.blocks,
           (
-            Le_Lt-chain (before []) (cut_of c.args.from) c.args.to.now (lowest (cut_of c.args.from)) c.requires.order,
-            (behind_low (get_or a 0 c.index-head-0-2.result) b c.args.blocks.now all, (tt, (tt, c.requires.second))),
+            subst (λ (x : Cut). Lt x c.args.to.now) (sym c.new.ensures) (Le_Lt-chain (before []) c.args.from.now c.args.to.now (lowest c.args.from.now) c.requires.order),
+            (
+              subst (λ (x : Cut). Lt x (start_of (nodes_of (rows_behind b c.args.blocks.now)))) (sym c.new.ensures) (behind_low (get_or a 0 c.index-head-0-2.result) b c.args.blocks.now all),
+              (tt, (tt, c.requires.second)),
+            ),
           ),
         ),
       ),
@@ -176,7 +178,7 @@ returns-then-made-eq0-clause-added t c =
     let bs = c.args.blocks.now in
     let o : Option KeyBytes = option_map (λ k. k.now) c.args.first in
     let q : Option KeyBytes = option_map (λ k. k.now) c.args.second in
-    let from : Cut = cut_of c.args.from in
+    let from : Cut = c.args.from.now in
     let to : Cut = c.args.to.now in
     let h = c.in_ok-new.new.first in
     let g = c.in_ok-new.new.second in
@@ -190,12 +192,13 @@ returns-then-made-eq0-clause-added t c =
     (c.in-Some-get_mut.ensures.value ∙ c.leaf.view_is) c.requires.leaves c.requires.low c.requires.first c.requires.second c.starts_above.ensures here c.requires.in_order c.in_ok-new.ensures.first c.in_ok-new.ensures.second in
     let few : length leaf + new_count h g ≤ 64 = omega (arith, c.if-len-made-gt-LEAF_NODES.false, c.len.ensures, c.len-made.ensures) in
     let none : new_count h g ≡ 0 = sym c.len-made.ensures ∙ c.if-made-eq0.true in
-    let new : c.raise_near-then-made-eq0.new.self ≡ raise_nodes (between from last) c.args.value leaf = c.raise_near-then-made-eq0.ensures in
+    let new : c.raise_near-then-made-eq0.new.self ≡ raise_nodes (between from last) c.args.value leaf = c.raise_near-then-made-eq0.ensures ∙ ap (λ (x : Cut). raise_nodes (between from x) c.args.value leaf) c.new-then-made-eq0.ensures in
     let goes : Lt (start_of (nodes_of (b ++ rows_of bs))) to = sym c.starts_below-goes_on.ensures ∙ c.if-not-goes_on.false in
     let b' = c.add_owned.new.leaves in
     let bs' = c.add_owned.new.blocks in
     let rest : AddsLeaves (b ++ rows_of bs) (b' ++ rows_of bs') None q (between (before []) to) c.args.value c.in-Some-2.more =
-    subst (λ r. IfSome r (λ n. AddsLeaves (b ++ rows_of bs) (b' ++ rows_of bs') None q (between (before []) to) c.args.value n)) c.in-Some-2.is c.in_ok-more.ensures.added in
+    subst (λ (x : Cut). AddsLeaves (b ++ rows_of bs) (b' ++ rows_of bs') None q (between x to) c.args.value c.in-Some-2.more) c.new.ensures
+    (subst (λ r. IfSome r (λ n. AddsLeaves (b ++ rows_of bs) (b' ++ rows_of bs') None q (between c.new.result to) c.args.value n)) c.in-Some-2.is c.in_ok-more.ensures.added) in
     goes_known (c.args.leaves.now ++ rows_of bs) leaf (b ++ rows_of bs) from to c.args.value o q h g c.requires.order c.requires.first c.requires.second c.requires.in_order ready few c.raise_near-then-made-eq0.new.self (b' ++ rows_of bs') _ c.in-Some-2.more new
     (ap (λ (ls : List (List Node)). ls ++ rows_of bs') (first_set a b' _ c.split_at_mut-head-2.ensures.front_len)) none goes rest
 
@@ -206,7 +209,7 @@ add-requires-clause-sorted t c =
     let bs = c.args.blocks.now in
     let o : Option KeyBytes = option_map (λ k. k.now) c.args.first in
     let q : Option KeyBytes = option_map (λ k. k.now) c.args.second in
-    let from : Cut = cut_of c.args.from in
+    let from : Cut = c.args.from.now in
     let to : Cut = c.args.to.now in
     let h = c.in_ok-new.new.first in
     let g = c.in_ok-new.new.second in
@@ -228,7 +231,7 @@ add-requires-clause-first t c =
     let bs = c.args.blocks.now in
     let o : Option KeyBytes = option_map (λ k. k.now) c.args.first in
     let q : Option KeyBytes = option_map (λ k. k.now) c.args.second in
-    let from : Cut = cut_of c.args.from in
+    let from : Cut = c.args.from.now in
     let to : Cut = c.args.to.now in
     let h = c.in_ok-new.new.first in
     let g = c.in_ok-new.new.second in
@@ -250,7 +253,7 @@ returns-then-not-goes_on-2-clause-added t c =
     let bs = c.args.blocks.now in
     let o : Option KeyBytes = option_map (λ k. k.now) c.args.first in
     let q : Option KeyBytes = option_map (λ k. k.now) c.args.second in
-    let from : Cut = cut_of c.args.from in
+    let from : Cut = c.args.from.now in
     let to : Cut = c.args.to.now in
     let h = c.in_ok-new.new.first in
     let g = c.in_ok-new.new.second in
@@ -265,8 +268,7 @@ returns-then-not-goes_on-2-clause-added t c =
     let few : length leaf + new_count h g ≤ 64 = omega (arith, c.if-len-made-gt-LEAF_NODES.false, c.len.ensures, c.len-made.ensures) in
     let kept = kept_pair _ c.reserve.new.keys.items _ c.reserve.new.values.items leaf (c.in_ok-reserve.ensures.keys ∙ ap (λ v. v.items) c.in-Some-get_mut-2.ensures.value) c.in_ok-reserve.ensures.values c.nodes.view_is in
     let new : paired c.add.new.keys.items c.add.new.values.items ≡ raise_nodes (between from to) c.args.value (with_new (with_new leaf g) h) =
-    c.add.ensures.added ∙ ap (λ (x : Cut). raise_nodes (between from x) c.args.value (with_new (with_new (paired c.reserve.new.keys.items c.reserve.new.values.items) g) h)) c.cut-then-not-goes_on-2.ensures
-    ∙ ap (λ (ns : List Node). raise_nodes (between from to) c.args.value (with_new (with_new ns g) h)) kept in
+    c.add.ensures.added ∙ ap (λ (ns : List Node). raise_nodes (between from to) c.args.value (with_new (with_new ns g) h)) kept in
     let high : Le to (start_of (nodes_of (b ++ rows_of bs))) = sym c.starts_below-goes_on.ensures ∙ c.if-not-goes_on-2.true in
     stops_here (c.args.leaves.now ++ rows_of bs) leaf (b ++ rows_of bs) from to c.args.value o q h g c.requires.order c.requires.first c.requires.second c.requires.in_order ready few (paired c.add.new.keys.items c.add.new.values.items) _ c.len-made.result new
     (ap (λ (ls : List (List Node)). ls ++ rows_of bs) (first_set a b _ c.split_at_mut-head-2.ensures.front_len)) c.len-made.ensures high
@@ -282,8 +284,11 @@ add_owned-requires-2 t c =
         (
           c.requires.blocks,
           (
-            Le_Lt-chain (before []) (cut_of c.args.from) c.args.to.now (lowest (cut_of c.args.from)) c.requires.order,
-            (behind_low (get_or a 0 c.index-head-0-2.result) b c.args.blocks.now all, (tt, (tt, c.requires.second))),
+            subst (λ (x : Cut). Lt x c.args.to.now) (sym c.new-2.ensures) (Le_Lt-chain (before []) c.args.from.now c.args.to.now (lowest c.args.from.now) c.requires.order),
+            (
+              subst (λ (x : Cut). Lt x (start_of (nodes_of (rows_behind b c.args.blocks.now)))) (sym c.new-2.ensures) (behind_low (get_or a 0 c.index-head-0-2.result) b c.args.blocks.now all),
+              (tt, (tt, c.requires.second)),
+            ),
           ),
         ),
       ),
@@ -296,7 +301,7 @@ add-requires-2-clause-sorted t c =
     let bs = c.args.blocks.now in
     let o : Option KeyBytes = option_map (λ k. k.now) c.args.first in
     let q : Option KeyBytes = option_map (λ k. k.now) c.args.second in
-    let from : Cut = cut_of c.args.from in
+    let from : Cut = c.args.from.now in
     let to : Cut = c.args.to.now in
     let h = c.in_ok-new.new.first in
     let g = c.in_ok-new.new.second in
@@ -318,7 +323,7 @@ add-requires-2-clause-first t c =
     let bs = c.args.blocks.now in
     let o : Option KeyBytes = option_map (λ k. k.now) c.args.first in
     let q : Option KeyBytes = option_map (λ k. k.now) c.args.second in
-    let from : Cut = cut_of c.args.from in
+    let from : Cut = c.args.from.now in
     let to : Cut = c.args.to.now in
     let h = c.in_ok-new.new.first in
     let g = c.in_ok-new.new.second in
@@ -340,7 +345,7 @@ returns-clause-added t c =
     let bs = c.args.blocks.now in
     let o : Option KeyBytes = option_map (λ k. k.now) c.args.first in
     let q : Option KeyBytes = option_map (λ k. k.now) c.args.second in
-    let from : Cut = cut_of c.args.from in
+    let from : Cut = c.args.from.now in
     let to : Cut = c.args.to.now in
     let h = c.in_ok-new.new.first in
     let g = c.in_ok-new.new.second in
@@ -355,11 +360,12 @@ returns-clause-added t c =
     let few : length leaf + new_count h g ≤ 64 = omega (arith, c.if-len-made-gt-LEAF_NODES.false, c.len.ensures, c.len-made.ensures) in
     let kept = kept_pair _ c.reserve.new.keys.items _ c.reserve.new.values.items leaf (c.in_ok-reserve.ensures.keys ∙ ap (λ v. v.items) c.in-Some-get_mut-2.ensures.value) c.in_ok-reserve.ensures.values c.nodes.view_is in
     let new : paired c.add-2.new.keys.items c.add-2.new.values.items ≡ raise_nodes (between from last) c.args.value (with_new (with_new leaf g) h) =
-    c.add-2.ensures.added ∙ ap (λ (ns : List Node). raise_nodes (between from last) c.args.value (with_new (with_new ns g) h)) kept in
+    c.add-2.ensures.added ∙ ap (λ (x : Cut). raise_nodes (between from x) c.args.value (with_new (with_new (paired c.reserve.new.keys.items c.reserve.new.values.items) g) h)) c.new-3.ensures ∙ ap (λ (ns : List Node). raise_nodes (between from last) c.args.value (with_new (with_new ns g) h)) kept in
     let goes : Lt (start_of (nodes_of (b ++ rows_of bs))) to = sym c.starts_below-goes_on.ensures ∙ c.if-not-goes_on-2.false in
     let b' = c.add_owned-2.new.leaves in
     let bs' = c.add_owned-2.new.blocks in
     let rest : AddsLeaves (b ++ rows_of bs) (b' ++ rows_of bs') None q (between (before []) to) c.args.value c.in-Some-3.more =
-    subst (λ r. IfSome r (λ n. AddsLeaves (b ++ rows_of bs) (b' ++ rows_of bs') None q (between (before []) to) c.args.value n)) c.in-Some-3.is c.in_ok-more-2.ensures.added in
+    subst (λ (x : Cut). AddsLeaves (b ++ rows_of bs) (b' ++ rows_of bs') None q (between x to) c.args.value c.in-Some-3.more) c.new-2.ensures
+    (subst (λ r. IfSome r (λ n. AddsLeaves (b ++ rows_of bs) (b' ++ rows_of bs') None q (between c.new-2.result to) c.args.value n)) c.in-Some-3.is c.in_ok-more-2.ensures.added) in
     goes_beyond (c.args.leaves.now ++ rows_of bs) leaf (b ++ rows_of bs) from to c.args.value o q h g c.requires.order c.requires.first c.requires.second c.requires.in_order ready few (paired c.add-2.new.keys.items c.add-2.new.values.items) (b' ++ rows_of bs') _ c.len-made.result c.in-Some-3.more new
     (ap (λ (ls : List (List Node)). ls ++ rows_of bs') (first_set a b' _ c.split_at_mut-head-2.ensures.front_len)) c.len-made.ensures goes rest

@@ -4,7 +4,6 @@ use Rattle.std.specs.Arc.{arc_value}
 use Rattle.tsc_time.specs.OwnedTime.{OwnedTime}
 use Rattle.tsc_time.specs.Joint.{joint}
 use Rattle.tsc_span.specs.Span.{KeyBytes, Interval, between}
-use Rattle.tsc_span.specs.Cuts.{cut_of}
 use Rattle.tsc_nodes.specs.declared.nodes.Values.{Values}
 use Rattle.tsc_nodes.specs.Nodes.{Node, HoldsKeysOn, HoldsGapsOn}
 use Rattle.tsc_nodes.proofs.Places.{some_node}
@@ -45,7 +44,7 @@ loop-place-preserved c =
 pub loop-place-2-init : goal.loop-place-2-init
 loop-place-2-init c =
     let nodes : List Node = c.args.self.now in
-    let span : Interval = between (cut_of c.args.from) (cut_of c.args.to) in
+    let span : Interval = between c.args.from.now c.args.to.now in
     let steps = c.in-None.ensures.steps in
     let so_far = c.loop-place.invariant in
     let of_gaps = subst (λ (ns : List Node). HoldsGapsOn ns span c.places_between.result.1.start c.places_between.result.1.end) c.lists.ensures c.places_between.ensures.gaps in
@@ -64,7 +63,7 @@ loop-place-2-preserved c =
     let nodes : List Node = c.args.self.now in
     let keys : List KeyBytes = (arc_value c.self.inside.keys).items in
     let values : List Values = c.self.inside.values.items in
-    let span : Interval = between (cut_of c.args.from) (cut_of c.args.to) in
+    let span : Interval = between c.args.from.now c.args.to.now in
     let first : ℕ = c.into_iter-place-iterator-2.result.start in
     let i : ℕ = c.loop-place-2.place-iterator.start in
     let steps = c.in-Some-place.ensures.steps in
@@ -83,7 +82,7 @@ loop-place-2-preserved c =
 pub returns : goal.returns
 returns c =
     let nodes : List Node = c.args.self.now in
-    let span : Interval = between (cut_of c.args.from) (cut_of c.args.to) in
+    let span : Interval = between c.args.from.now c.args.to.now in
     let steps = c.in-None-place.ensures.steps in
     let so_far = c.loop-place-2.invariant in
     let of_gaps = subst (λ (ns : List Node). HoldsGapsOn ns span c.places_between.result.1.start c.places_between.result.1.end) c.lists.ensures c.places_between.ensures.gaps in

@@ -1,6 +1,5 @@
 use Rattle.std.proofs.Common.{◌≡◌, ◌⊎◌, length}
 use Rattle.tsc_span.specs.Span.{between}
-use Rattle.tsc_span.specs.Cuts.{cut_of}
 use Rattle.tsc_nodes.proofs.Seen.{IsAt, IsJointOf, KeySeen, KeyMet, GapSeen}
 use Rattle.tsc_nodes.proofs.nodes.Nodes.joint_between.Given as goal
 
@@ -16,4 +15,4 @@ abbrev pub invariant-loop-place-2 : goal.invariant-loop-place-2
 invariant-loop-place-2 l =
     IsAt l.initial.place-iterator.start l.place-iterator.start l.place-iterator.end (length l.self)
     × (l.place-iterator.end ≡ l.initial.place-iterator.end)
-    × IsJointOf (λ w. KeyMet l.self (between (cut_of l.from) (cut_of l.to)) w ⊎ GapSeen l.self l.initial.place-iterator.start l.place-iterator.start w) l.best
+    × IsJointOf (λ w. KeyMet l.self (between l.from l.to) w ⊎ GapSeen l.self l.initial.place-iterator.start l.place-iterator.start w) l.best

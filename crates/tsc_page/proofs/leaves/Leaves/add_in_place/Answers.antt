@@ -1,11 +1,10 @@
 -- The blocks from that of the span's start on take the Add, and those before it stay.
-use Rattle.std.proofs.Common.{◌≡◌, ◌∙◌, ap, sym, subst, ◌+◌, List, ◌++◌, length, arith}
+use Rattle.std.proofs.Common.{◌≡◌, ◌∙◌, refl, ap, sym, subst, ◌+◌, List, ◌++◌, length, arith}
 use Rattle.std.specs.Prelude.{Option, IfSome, option_map}
 use Rattle.std.specs.List.{All}
 use Rattle.std.specs.Vec.{with_items}
 use Rattle.std.proofs.lemmas.List.{length-append, with_items_is}
 use Rattle.tsc_span.specs.Span.{KeyBytes, Cut, between}
-use Rattle.tsc_span.specs.Cuts.{cut_of}
 use Rattle.tsc_nodes.specs.Nodes.{Node}
 use Rattle.tsc_page.specs.Leaves.{nodes_of, rows_of, AreLeaves, IsBlock, AddsTo, AddsLeaves}
 use Rattle.tsc_nodes.proofs.Ends.{ends_in_order}
@@ -21,19 +20,19 @@ add_owned-requires-clause-leaves c =
     let before = c.split_at_mut-blocks.result.0.now in
     let behind = c.split_at_mut-blocks.result.1.now in
     let parts : c.args.self.now.list.items ≡ before ++ behind = sym c.deref_mut.ensures.value ∙ c.split_at_mut-blocks.ensures.value in
-    later_leaves before behind (cut_of c.args.from) (cut_of c.args.to) (subst (λ (bs : List (List (List Node))). AreLeaves (rows_of bs)) parts c.requires.counted.leaves) c.requires.order
+    later_leaves before behind c.args.from.now c.args.to.now (subst (λ (bs : List (List (List Node))). AreLeaves (rows_of bs)) parts c.requires.counted.leaves) c.requires.order
 
 pub add_owned-requires-clause-low : goal.add_owned-requires-clause-low
 add_owned-requires-clause-low c =
     let before = c.split_at_mut-blocks.result.0.now in
     let behind = c.split_at_mut-blocks.result.1.now in
     let parts : c.args.self.now.list.items ≡ before ++ behind = sym c.deref_mut.ensures.value ∙ c.split_at_mut-blocks.ensures.value in
-    let falls : FallsInBlock before behind (cut_of c.args.from) =
-    falls_told c.args.self.now.list.items c.deref.result.now before behind (cut_of c.args.from) c.new.result (cut_of c.args.to) c.part_at-place.result c.deref.ensures.value parts (omega arith) c.requires.counted.each c.requires.order c.new.ensures c.part_at-place.ensures in
+    let falls : FallsInBlock before behind c.args.from.now =
+    falls_told c.args.self.now.list.items c.deref.result.now before behind c.args.from.now c.args.from.now c.args.to.now c.part_at-place.result c.deref.ensures.value parts (omega arith) c.requires.counted.each c.requires.order refl c.part_at-place.ensures in
     falls.low
 
 pub add_owned-requires-clause-in_order : goal.add_owned-requires-clause-in_order
-add_owned-requires-clause-in_order c = ends_in_order (cut_of c.args.from) (cut_of c.args.to) (option_map (λ k. k.now) c.args.first) (option_map (λ k. k.now) c.args.second) c.requires.order c.requires.keys
+add_owned-requires-clause-in_order c = ends_in_order c.args.from.now c.args.to.now (option_map (λ k. k.now) c.args.first) (option_map (λ k. k.now) c.args.second) c.requires.order c.requires.keys
 
 pub returns-in_err-more-clause-counted : goal.returns-in_err-more-clause-counted
 returns-in_err-more-clause-counted c =
@@ -45,19 +44,19 @@ pub returns-in-Some-clause-added : goal.returns-in-Some-clause-added
 returns-in-Some-clause-added c =
     let before = c.split_at_mut-blocks.result.0.now in
     let behind = c.split_at_mut-blocks.result.1.now in
-    let from : Cut = cut_of c.args.from in
-    let to : Cut = cut_of c.args.to in
+    let from : Cut = c.args.from.now in
+    let to : Cut = c.args.to.now in
     let o : Option KeyBytes = option_map (λ k. k.now) c.args.first in
     let q : Option KeyBytes = option_map (λ k. k.now) c.args.second in
     let parts : c.args.self.now.list.items ≡ before ++ behind = sym c.deref_mut.ensures.value ∙ c.split_at_mut-blocks.ensures.value in
     let leaves : AreLeaves (rows_of (before ++ behind)) = subst (λ (bs : List (List (List Node))). AreLeaves (rows_of bs)) parts c.requires.counted.leaves in
     let falls : FallsInBlock before behind from =
-    falls_told c.args.self.now.list.items c.deref.result.now before behind from c.new.result to c.part_at-place.result c.deref.ensures.value parts (omega arith) c.requires.counted.each c.requires.order c.new.ensures c.part_at-place.ensures in
+    falls_told c.args.self.now.list.items c.deref.result.now before behind from from to c.part_at-place.result c.deref.ensures.value parts (omega arith) c.requires.counted.each c.requires.order refl c.part_at-place.ensures in
     let ls = c.add_owned.new.leaves in
     let now = c.add_owned.new.blocks in
-    let told : AddsLeaves (rows_of behind) (ls ++ rows_of now) o q (between from c.new-to.result) c.args.value c.in-Some.more =
-    subst (λ r. IfSome r (λ n. AddsLeaves (rows_of behind) (ls ++ rows_of now) o q (between from c.new-to.result) c.args.value n)) c.in-Some.is c.in_ok-more.ensures.added in
-    let done = added_told before behind from to leaves c.requires.order now ls c.new-to.result c.args.value o q c.in-Some.more falls.start c.requires.first c.requires.second c.requires.keys c.add_owned.auto.leaves c.new-to.ensures told in
+    let told : AddsLeaves (rows_of behind) (ls ++ rows_of now) o q (between from to) c.args.value c.in-Some.more =
+    subst (λ r. IfSome r (λ n. AddsLeaves (rows_of behind) (ls ++ rows_of now) o q (between from to) c.args.value n)) c.in-Some.is c.in_ok-more.ensures.added in
+    let done = added_told before behind from to leaves c.requires.order now ls to c.args.value o q c.in-Some.more falls.start c.requires.first c.requires.second c.requires.keys c.add_owned.auto.leaves refl told in
     let kept = with_items_is c.args.self.now.list (before ++ now) (omega (arith, c.add_owned.auto.blocks, length-append before now, length-append before behind, ap length parts, c.args.self.now.list.ok.0)) in
     λ e.
     subst (λ (bs : List (List (List Node))). AddsTo (nodes_of (rows_of bs)) (nodes_of (rows_of (with_items c.args.self.now.list (before ++ now)).items)) (between from to) c.args.value) (sym parts)
@@ -67,19 +66,19 @@ pub returns-in-Some-clause-counted : goal.returns-in-Some-clause-counted
 returns-in-Some-clause-counted c =
     let before = c.split_at_mut-blocks.result.0.now in
     let behind = c.split_at_mut-blocks.result.1.now in
-    let from : Cut = cut_of c.args.from in
-    let to : Cut = cut_of c.args.to in
+    let from : Cut = c.args.from.now in
+    let to : Cut = c.args.to.now in
     let o : Option KeyBytes = option_map (λ k. k.now) c.args.first in
     let q : Option KeyBytes = option_map (λ k. k.now) c.args.second in
     let parts : c.args.self.now.list.items ≡ before ++ behind = sym c.deref_mut.ensures.value ∙ c.split_at_mut-blocks.ensures.value in
     let leaves : AreLeaves (rows_of (before ++ behind)) = subst (λ (bs : List (List (List Node))). AreLeaves (rows_of bs)) parts c.requires.counted.leaves in
     let falls : FallsInBlock before behind from =
-    falls_told c.args.self.now.list.items c.deref.result.now before behind from c.new.result to c.part_at-place.result c.deref.ensures.value parts (omega arith) c.requires.counted.each c.requires.order c.new.ensures c.part_at-place.ensures in
+    falls_told c.args.self.now.list.items c.deref.result.now before behind from from to c.part_at-place.result c.deref.ensures.value parts (omega arith) c.requires.counted.each c.requires.order refl c.part_at-place.ensures in
     let ls = c.add_owned.new.leaves in
     let now = c.add_owned.new.blocks in
-    let told : AddsLeaves (rows_of behind) (ls ++ rows_of now) o q (between from c.new-to.result) c.args.value c.in-Some.more =
-    subst (λ r. IfSome r (λ n. AddsLeaves (rows_of behind) (ls ++ rows_of now) o q (between from c.new-to.result) c.args.value n)) c.in-Some.is c.in_ok-more.ensures.added in
-    let done = added_told before behind from to leaves c.requires.order now ls c.new-to.result c.args.value o q c.in-Some.more falls.start c.requires.first c.requires.second c.requires.keys c.add_owned.auto.leaves c.new-to.ensures told in
+    let told : AddsLeaves (rows_of behind) (ls ++ rows_of now) o q (between from to) c.args.value c.in-Some.more =
+    subst (λ r. IfSome r (λ n. AddsLeaves (rows_of behind) (ls ++ rows_of now) o q (between from to) c.args.value n)) c.in-Some.is c.in_ok-more.ensures.added in
+    let done = added_told before behind from to leaves c.requires.order now ls to c.args.value o q c.in-Some.more falls.start c.requires.first c.requires.second c.requires.keys c.add_owned.auto.leaves refl told in
     let each : All IsBlock now = subst (λ r. IfSome r (λ n. All IsBlock now)) c.in-Some.is c.in_ok-more.ensures.blocks in
     counted_with c.args.self.now.list (before ++ now) _ (omega (arith, c.add_owned.auto.blocks, length-append before now, length-append before behind, ap length parts))
     (all_both IsBlock before now (all_left IsBlock before behind (subst (All IsBlock) parts c.requires.counted.each)) each) done.leaves
