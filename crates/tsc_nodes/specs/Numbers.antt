@@ -9,9 +9,9 @@ spelled zero n k = n
 spelled (suc more) n [] = spelled more (n * 256) []
 spelled (suc more) n (b ∷ k) = spelled more (n * 256 + b) k
 
--- the number of a key: that of its first sixteen bytes
+-- the number of a key: that of its first twenty-four bytes
 abbrev pub number_of : KeyBytes → ℕ
-number_of k = spelled 16 0 k
+number_of k = spelled 24 0 k
 
 -- A number is that of a key, which is a text of bytes.
 pub record IsNumberOf (n : ℕ) (k : KeyBytes) : Type 0 where
@@ -28,7 +28,7 @@ pub record AreTied (k m : KeyBytes) : Type 0 where
 abbrev pub IsCutNumber : ℕ → Cut → Type 0
 IsCutNumber n (before k) = IsNumberOf n k
 IsCutNumber n (after k) = IsNumberOf n k
-IsCutNumber n last = n ≡ 2 ^ 128 - 1
+IsCutNumber n last = n ≡ 2 ^ 192 - 1
 
 -- the key at which a cut lies, and none for the last one
 abbrev pub IsKeyAt : Cut → Option KeyBytes → Type 0

@@ -19,7 +19,7 @@ mod number;
 mod plain;
 
 pub use nodes::Nodes;
-pub use number::{NumberedCut, NumberedKey};
+pub use number::{KeyNumber, NumberedCut, NumberedKey};
 pub use plain::PlainPage;
 
 /// How many different end keys a page may hold at the least: those of one range.

@@ -9,7 +9,7 @@ ghost use Rattle.tsc_nodes.specs.Numbers.{IsCutNumber};
 ghost use Rattle.tsc_nodes.specs.PageView.{is_new_among};
 ghost use Rattle.tsc_nodes.specs.Nodes.{paired, IsSorted, FitsAt, IsPlaceFor, IsFoundAt, IsPlaceOf, HasKeysBelow, StandsAt, LiesFrom, index_of, key_above, first_gap, IsNewKey, FitsIn, with_new, IsInOrder, HasNodes, new_count, HoldsKeysOn, HoldsGapsOn, node_keys, answer_of, raise_nodes, node_in_gap, gap_value, next_cut, node_stretches};
 
-use crate::number::{NumberedBytes, NumberedCut, NumberedKey};
+use crate::number::{KeyNumber, NumberedBytes, NumberedCut, NumberedKey};
 use std::alloc::{AllocError, Global};
 use std::cmp::Ordering;
 use std::marker::Model;
@@ -104,14 +104,14 @@ impl Nodes {
         }
     }
 
-    /// The number of where the nodes begin: that of the first sixteen bytes of their first key, or the greatest one
+    /// The number of where the nodes begin: that of the first twenty-four bytes of their first key, or the greatest one
     /// where there are no nodes. It lies beside the key, and is only read.
-    pub fn start_number(&self) -> u128
+    pub fn start_number(&self) -> KeyNumber
         ensures { IsCutNumber result (next_cut (node_stretches self.now)) }
     {
         match self.keys.first() {
             Some(first) => first.number(),
-            None => u128::MAX,
+            None => KeyNumber::greatest(),
         }
     }
 

@@ -1,4 +1,5 @@
-ghost use Rattle.std.specs.Prelude.{◌≡◌, ◌≤◌, length, drop, IfOk};
+ghost use Rattle.std.specs.Prelude.{◌≡◌, ◌≤◌, ◌+◌, ◌-◌, ◌^◌, length, drop, IfOk};
+ghost use Rattle.std.specs.Ordering.{nat_cmp};
 ghost use Rattle.tsc_span.specs.Span.{key_cmp, before, last, is_below};
 ghost use Rattle.tsc_span.specs.Cuts.{cut_of};
 ghost use Rattle.tsc_nodes.specs.Numbers.{spelled, IsNumberOf, IsKeyAt, AreTied, TellsBelow, TellsAbove};
@@ -10,15 +11,69 @@ use tsc_span::{Cut, Key};
 use tsc_time::NoMemory;
 
 /// How many bytes of a key make its number.
-const NUMBER_BYTES: usize = 16;
+const NUMBER_BYTES: usize = 24;
 
-/// How many bytes behind these are compared at once where the numbers are the same.
-const NEXT_BYTES: usize = 8;
+/// How many bytes make a word of a number.
+const WORD_BYTES: usize = 8;
+
+/// The number of a key: that of its first twenty-four bytes, as three words, of which the first weighs most.
+#[derive(Clone, Copy, Debug)]
+pub struct KeyNumber {
+    first: u64,
+    second: u64,
+    third: u64,
+}
+
+impl Model for KeyNumber {
+    ghost use Rattle.std.specs.Prelude.{ℕ, ◌<◌, ◌+◌, ◌*◌, ◌/◌, ◌%◌, ◌^◌};
+    ghost use Rattle.tsc_nodes.specs.Words.{first_word, second_word, third_word};
+
+    ghost Value = { ℕ };
+
+    ghost view = { λ n. (n.first * 2 ^ 64 + n.second) * 2 ^ 64 + n.third };
+
+    ghost invariant = { λ n. (n.second < 2 ^ 64) × (n.third < 2 ^ 64) };
+
+    ghost inverse = { λ n. record { first = n / 2 ^ 64 / 2 ^ 64; second = n / 2 ^ 64 % 2 ^ 64; third = n % 2 ^ 64 } };
+
+    ghost inverse_ok = { λ n fits i. record {
+      first = first_word n.first n.second n.third fits.0 fits.1 i;
+      second = second_word n.first n.second n.third fits.0 fits.1 i;
+      third = third_word n.first n.second n.third fits.1 i;
+    } };
+}
+
+impl KeyNumber {
+    /// The greatest number, which stands for the last cut.
+    pub fn greatest() -> KeyNumber
+        ensures { result ≡ 2 ^ 192 - 1 }
+    {
+        KeyNumber {
+            first: u64::MAX,
+            second: u64::MAX,
+            third: u64::MAX,
+        }
+    }
+
+    /// How a number stands to another one.
+    #[inline]
+    pub fn compare(&self, other: &KeyNumber) -> Ordering
+        ensures { result ≡ nat_cmp self.now other.now }
+    {
+        if self.first != other.first {
+            self.first.cmp(&other.first)
+        } else if self.second != other.second {
+            self.second.cmp(&other.second)
+        } else {
+            self.third.cmp(&other.third)
+        }
+    }
+}
 
 /// A key with its number, which lies beside it where the bytes of the key lie elsewhere.
 #[derive(Debug, Drop)]
 pub struct NumberedKey {
-    number: u128,
+    number: KeyNumber,
     key: Key,
 }
 
@@ -51,7 +106,7 @@ impl NumberedKey {
     }
 
     /// The number of the key.
-    pub(crate) fn number(&self) -> u128
+    pub(crate) fn number(&self) -> KeyNumber
         ensures { IsNumberOf result self.now }
     {
         self.number
@@ -79,7 +134,7 @@ impl Clone for NumberedKey {
 /// The bytes of a key with their number.
 #[derive(Drop)]
 pub(crate) struct NumberedBytes<'a> {
-    number: u128,
+    number: KeyNumber,
     bytes: &'a [u8],
 }
 
@@ -108,18 +163,17 @@ impl<'a> NumberedBytes<'a> {
     pub(crate) fn compare(&self, key: &NumberedKey) -> Ordering
         ensures { result ≡ key_cmp key.now self.now }
     {
-        if key.number == self.number {
-            compare_tied(key.bytes(), self.bytes)
-        } else {
-            key.number.cmp(&self.number)
+        match key.number.compare(&self.number) {
+            Ordering::Equal => compare_tied(key.bytes(), self.bytes),
+            told => told,
         }
     }
 }
 
-/// A cut with the number of its key, which is that of the key's first sixteen bytes. The last cut has the greatest one.
+/// A cut with the number of its key, which is that of the key's first twenty-four bytes. The last cut has the greatest one.
 #[derive(Drop)]
 pub struct NumberedCut<'a> {
-    number: u128,
+    number: KeyNumber,
     cut: Cut<'a>,
 }
 
@@ -142,7 +196,7 @@ impl<'a> NumberedCut<'a> {
     {
         let number = match cut {
             Cut::Before(key) | Cut::After(key) => number_of(key),
-            Cut::Last => u128::MAX,
+            Cut::Last => KeyNumber::greatest(),
         };
         NumberedCut { number, cut }
     }
@@ -168,24 +222,26 @@ impl<'a> NumberedCut<'a> {
     }
 
     /// Whether the cut lies below those of a number; `None` where that is its own number.
-    pub fn is_below_number(&self, number: u128) -> Option<bool>
-        ensures { TellsBelow self.now number result }
+    #[inline]
+    pub fn is_below_number(&self, number: &KeyNumber) -> Option<bool>
+        ensures { TellsBelow self.now number.now result }
     {
-        if self.number == number {
-            None
-        } else {
-            Some(self.number < number)
+        match self.number.compare(number) {
+            Ordering::Less => Some(true),
+            Ordering::Equal => None,
+            Ordering::Greater => Some(false),
         }
     }
 
     /// Whether the cut lies above those of a number; `None` where that is its own number.
-    pub fn is_above_number(&self, number: u128) -> Option<bool>
-        ensures { TellsAbove self.now number result }
+    #[inline]
+    pub fn is_above_number(&self, number: &KeyNumber) -> Option<bool>
+        ensures { TellsAbove self.now number.now result }
     {
-        if self.number == number {
-            None
-        } else {
-            Some(number < self.number)
+        match self.number.compare(number) {
+            Ordering::Less => Some(false),
+            Ordering::Equal => None,
+            Ordering::Greater => Some(true),
         }
     }
 
@@ -193,13 +249,13 @@ impl<'a> NumberedCut<'a> {
     pub(crate) fn is_below_before(&self, key: &NumberedKey) -> bool
         ensures { result ≡ is_below self.now (before key.now) }
     {
-        if self.number == key.number {
-            match self.cut {
+        match self.number.compare(&key.number) {
+            Ordering::Less => true,
+            Ordering::Equal => match self.cut {
                 Cut::Before(cut) | Cut::After(cut) => compare_tied(cut, key.bytes()).is_lt(),
                 Cut::Last => false,
-            }
-        } else {
-            self.number < key.number
+            },
+            Ordering::Greater => false,
         }
     }
 
@@ -214,41 +270,56 @@ impl<'a> NumberedCut<'a> {
     pub(crate) fn is_above_before(&self, key: &NumberedKey) -> bool
         ensures { result ≡ is_below (before key.now) self.now }
     {
-        if self.number == key.number {
-            match self.cut {
+        match self.number.compare(&key.number) {
+            Ordering::Less => false,
+            Ordering::Equal => match self.cut {
                 Cut::Before(cut) => compare_tied(key.bytes(), cut).is_lt(),
                 Cut::After(cut) => compare_tied(key.bytes(), cut).is_le(),
                 Cut::Last => true,
-            }
-        } else {
-            key.number < self.number
+            },
+            Ordering::Greater => true,
         }
     }
 }
 
-/// The number of a key.
-fn number_of(key: &[u8]) -> u128
+/// The number of a key. Zeros stand for bytes that it doesn't have.
+fn number_of(key: &[u8]) -> KeyNumber
     ensures { IsNumberOf result key.now }
 {
-    let mut first = [0; NUMBER_BYTES];
-    let len = key.len().min(NUMBER_BYTES);
-    first[..len].copy_from_slice(&key[..len]);
-    u128::from_be_bytes(first)
+    let len = key.len();
+    if len < NUMBER_BYTES {
+        let mut filled = [0; NUMBER_BYTES];
+        filled[..len].copy_from_slice(key);
+        first_number(&filled)
+    } else {
+        first_number(key)
+    }
 }
 
-/// The bytes of a key behind those of its number, as another number.
-fn next_number(key: &[u8]) -> u64
-    requires { 24 ≤ length key.now }
-    ensures { result ≡ spelled 8 0 (drop 16 key.now) }
+/// The number that the first bytes make.
+fn first_number(bytes: &[u8]) -> KeyNumber
+    requires { 24 ≤ length bytes.now }
+    ensures { result ≡ spelled 24 0 bytes.now }
 {
-    let mut next = [0; NEXT_BYTES];
-    next.copy_from_slice(&key[NUMBER_BYTES..NUMBER_BYTES + NEXT_BYTES]);
-    u64::from_be_bytes(next)
+    KeyNumber {
+        first: word_at(bytes, 0),
+        second: word_at(bytes, WORD_BYTES),
+        third: word_at(bytes, 2 * WORD_BYTES),
+    }
+}
+
+/// The word that the bytes from a place on make.
+fn word_at(bytes: &[u8], place: usize) -> u64
+    requires { place + 8 ≤ length bytes.now }
+    ensures { result ≡ spelled 8 0 (drop place bytes.now) }
+{
+    let mut word = [0; WORD_BYTES];
+    word.copy_from_slice(&bytes[place..place + WORD_BYTES]);
+    u64::from_be_bytes(word)
 }
 
 /// How two keys with one number stand to one another. Where one of them has fewer bytes than a number it is a
-/// beginning of the other, and their lengths tell; else what comes behind the bytes of the number does, mostly by
-/// the next eight.
+/// beginning of the other, and their lengths tell; else what comes behind the bytes of the number does.
 fn compare_tied(key: &[u8], other: &[u8]) -> Ordering
     requires { AreTied key.now other.now }
     ensures { result ≡ key_cmp key.now other.now }
@@ -256,12 +327,6 @@ fn compare_tied(key: &[u8], other: &[u8]) -> Ordering
     let short = key.len().min(other.len());
     if short < NUMBER_BYTES {
         return key.len().cmp(&other.len());
-    }
-    if short >= NUMBER_BYTES + NEXT_BYTES {
-        let (one, two) = (next_number(key), next_number(other));
-        if one != two {
-            return one.cmp(&two);
-        }
     }
     key[NUMBER_BYTES..].cmp(&other[NUMBER_BYTES..])
 }

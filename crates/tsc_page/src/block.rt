@@ -10,7 +10,7 @@ use crate::parts::Part;
 use std::alloc::{AllocError, Global};
 use std::marker::Model;
 use std::sync::Arc;
-use tsc_nodes::NumberedCut;
+use tsc_nodes::{KeyNumber, NumberedCut};
 use tsc_span::{Cut, Key};
 use tsc_time::{NoMemory, Value};
 
@@ -21,7 +21,7 @@ const BLOCK_LEAVES: usize = 64;
 /// doesn't change while others hold it.
 #[derive(Debug, Drop)]
 pub(crate) struct Block {
-    pub(crate) start: u128,
+    pub(crate) start: KeyNumber,
     pub(crate) leaves: Arc<Vec<Leaf>>,
 }
 
@@ -77,7 +77,7 @@ impl Part for Block {
     ghost IsWhole = { IsBlock };
 
     fn starts_above(&self, cut: &NumberedCut<'_>) -> bool {
-        match cut.is_below_number(self.start) {
+        match cut.is_below_number(&self.start) {
             Some(below) => below,
             None => match self.leaves.first() {
                 Some(leaf) => leaf.starts_above(cut),
@@ -87,7 +87,7 @@ impl Part for Block {
     }
 
     fn starts_below(&self, cut: &NumberedCut<'_>) -> bool {
-        match cut.is_above_number(self.start) {
+        match cut.is_above_number(&self.start) {
             Some(above) => above,
             None => match self.leaves.first() {
                 Some(leaf) => leaf.starts_below(cut),
@@ -128,12 +128,12 @@ impl Part for Block {
 }
 
 /// The number of where leaves begin.
-pub(crate) fn start_number(leaves: &[Leaf]) -> u128
+pub(crate) fn start_number(leaves: &[Leaf]) -> KeyNumber
     ensures { IsCutNumber result (first_start leaves.now) }
 {
     match leaves.first() {
         Some(leaf) => leaf.start,
-        None => u128::MAX,
+        None => KeyNumber::greatest(),
     }
 }
 

@@ -7,7 +7,7 @@ use crate::parts::Part;
 use std::alloc::{AllocError, Global};
 use std::marker::Model;
 use std::sync::Arc;
-use tsc_nodes::{Nodes, NumberedCut};
+use tsc_nodes::{KeyNumber, Nodes, NumberedCut};
 use tsc_span::{Cut, Key};
 use tsc_time::{NoMemory, Value};
 
@@ -17,7 +17,7 @@ pub(crate) const LEAF_NODES: usize = 64;
 /// Nodes that others may hold too, with the number of where they begin. They don't change while others hold them.
 #[derive(Debug, Drop)]
 pub(crate) struct Leaf {
-    pub(crate) start: u128,
+    pub(crate) start: KeyNumber,
     pub(crate) nodes: Arc<Nodes>,
 }
 
@@ -73,14 +73,14 @@ impl Part for Leaf {
     ghost IsWhole = { IsLeaf };
 
     fn starts_above(&self, cut: &NumberedCut<'_>) -> bool {
-        match cut.is_below_number(self.start) {
+        match cut.is_below_number(&self.start) {
             Some(below) => below,
             None => self.nodes.starts_above(cut),
         }
     }
 
     fn starts_below(&self, cut: &NumberedCut<'_>) -> bool {
-        match cut.is_above_number(self.start) {
+        match cut.is_above_number(&self.start) {
             Some(above) => above,
             None => self.nodes.starts_below(cut),
         }

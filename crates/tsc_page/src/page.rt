@@ -124,8 +124,8 @@ impl Page {
 
     /// The joint value of time zero without an owner and of all that was added and overlaps the span. It
     /// costs a search among the leaves, one in each leaf that the span meets, and a step for each node within
-    /// the span. A search compares keys by their first sixteen bytes, and reads what is behind these only where
-    /// they are the same.
+    /// the span. A search compares keys by their first twenty-four bytes, and reads what is behind these only
+    /// where they are the same.
     pub fn lookup(&self, span: &Span) -> Value
         ensures value { result ≡ answer self.now span.now }
         ensures below_top { is_before self.now.top result.time ≡ false }

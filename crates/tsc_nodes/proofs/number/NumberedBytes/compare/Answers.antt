@@ -4,7 +4,7 @@ use Rattle.tsc_nodes.specs.Numbers.{IsNumberOf}
 use Rattle.tsc_nodes.proofs.Numbers.{comparison_told}
 use Rattle.tsc_nodes.proofs.number.NumberedBytes.compare.Goals as goal
 
-pub returns-else-key-self : goal.returns-else-key-self
-returns-else-key-self c = comparison_told c.key.inside.number c.self.inside.number c.args.key.now c.args.self.now c.cmp.result
+pub returns-in_default : goal.returns-in_default
+returns-in_default c = comparison_told c.key.inside.number c.self.inside.number c.args.key.now c.args.self.now c.compare.result
     (subst (IsNumberOf c.key.inside.number) c.key.view_is c.key.invariant)
-    (subst (IsNumberOf c.self.inside.number) c.self.view_is c.self.invariant) c.cmp.ensures c.if-key-self.false
+    (subst (IsNumberOf c.self.inside.number) c.self.view_is c.self.invariant) c.compare.ensures c.in_default.not-Equal
