@@ -5,6 +5,7 @@ use Rattle.std.proofs.Crossing.{crosses}
 use Rattle.tsc_time.specs.contracts.timestamp.Timestamp.{the_row as timestamp}
 use Rattle.tsc_time.specs.contracts.value.Value.{the_row as value}
 use Rattle.tsc_span.specs.contracts.key.Key.{the_row as key}
+use Rattle.tsc_nodes.specs.contracts.number.KeyNumber.{the_row as key_number}
 use Rattle.tsc_nodes.specs.contracts.number.NumberedKey.{the_row as numbered_key}
 use Rattle.tsc_nodes.specs.contracts.nodes.Values.{the_row as values}
 use Rattle.tsc_nodes.specs.contracts.nodes.Nodes.{the_row as nodes}
@@ -41,11 +42,17 @@ key_sends = search (sendable, crosses) depth 20
 key_syncs : IsSync key
 key_syncs = search (sendable, crosses) depth 20
 
+key_number_sends : IsSend key_number
+key_number_sends = search (sendable, crosses) depth 20
+
+key_number_syncs : IsSync key_number
+key_number_syncs = search (sendable, crosses) depth 20
+
 numbered_key_sends : IsSend numbered_key
-numbered_key_sends = search (sendable, crosses, key_sends) depth 20
+numbered_key_sends = search (sendable, crosses, key_number_sends, key_sends, key_syncs) depth 20
 
 numbered_key_syncs : IsSync numbered_key
-numbered_key_syncs = search (sendable, crosses, key_syncs) depth 20
+numbered_key_syncs = search (sendable, crosses, key_number_syncs, key_sends, key_syncs) depth 20
 
 values_send : IsSend values
 values_send = search (sendable, crosses, value_sends) depth 20
@@ -60,16 +67,16 @@ nodes_sync : IsSync nodes
 nodes_sync = search (sendable, crosses, numbered_key_sends, numbered_key_syncs, values_sync) depth 20
 
 leaf_sends : IsSend leaf
-leaf_sends = search (sendable, crosses, nodes_send, nodes_sync) depth 20
+leaf_sends = search (sendable, crosses, key_number_sends, nodes_send, nodes_sync) depth 20
 
 leaf_syncs : IsSync leaf
-leaf_syncs = search (sendable, crosses, nodes_send, nodes_sync) depth 20
+leaf_syncs = search (sendable, crosses, key_number_syncs, nodes_send, nodes_sync) depth 20
 
 block_sends : IsSend block
-block_sends = search (sendable, crosses, leaf_sends, leaf_syncs) depth 20
+block_sends = search (sendable, crosses, key_number_sends, leaf_sends, leaf_syncs) depth 20
 
 block_syncs : IsSync block
-block_syncs = search (sendable, crosses, leaf_sends, leaf_syncs) depth 20
+block_syncs = search (sendable, crosses, key_number_syncs, leaf_sends, leaf_syncs) depth 20
 
 leaves_send : IsSend leaves
 leaves_send = search (sendable, crosses, block_sends, block_syncs) depth 20

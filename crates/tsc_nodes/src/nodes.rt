@@ -1,5 +1,6 @@
 ghost use Rattle.std.specs.Prelude.{◌≡◌, ◌<◌, ◌≤◌, [], ◌∷◌, length, take, drop, true, false, IsOk, IfOk, OnOk, OnErr, IfSome, is_some, ◌+◌, option_map, if◌then◌else◌};
 ghost use Rattle.std.specs.Vec.{vec_len, vec_capacity};
+ghost use Rattle.std.specs.Arc.{arc_value};
 ghost use Rattle.tsc_time.specs.Time.{zero_time};
 ghost use Rattle.tsc_time.specs.OwnedTime.{unowned};
 ghost use Rattle.tsc_time.specs.Joint.{joint};
@@ -51,12 +52,12 @@ impl Model for Nodes {
 }
 
 impl Nodes {
-    /// A node of a key, with time zero without an owner. It takes the memory of two lists of one, and of a copy of the key.
+    /// A node of a key, with time zero without an owner. It takes the memory of two lists of one, and of a key.
     pub fn of_key(alloc: Global, key: &Key) -> Result<Nodes, NoMemory>
         ensures { IfOk result (λ nodes. nodes ≡ node_in_gap key.now (unowned zero_time) ∷ []) }
     {
         let mut keys = Vec::with_capacity(alloc, 1)?;
-        keys.push(NumberedKey::new(key.try_copy()?))?;
+        keys.push(NumberedKey::copy_of(alloc, key)?)?;
         let mut values = Vec::with_capacity(alloc, 1)?;
         let value = Value::unowned(Timestamp::ZERO);
         values.push(Values { value, gap: value })?;
@@ -106,6 +107,7 @@ impl Nodes {
 
     /// The number of where the nodes begin: that of the first twenty-four bytes of their first key, or the greatest one
     /// where there are no nodes. It lies beside the key, and is only read.
+    #[inline]
     pub fn start_number(&self) -> KeyNumber
         ensures { IsCutNumber result (next_cut (node_stretches self.now)) }
     {
@@ -183,9 +185,10 @@ impl Nodes {
         ensures known { IfOk result (λ new. HasNodes self.now (option_map (λ k. k.now) first.entry) (option_map (λ k. k.now) second.entry)
             → new_count new.first new.second ≡ 0) }
     {
+        let alloc = *self.values.allocator();
         let lists = self.lists();
-        let (low, first) = lists.new_key(first)?;
-        let (high, second) = lists.new_key(second)?;
+        let (low, first) = lists.new_key(alloc, first)?;
+        let (high, second) = lists.new_key(alloc, second)?;
         let near = (low, moved(high, first.is_some()));
         Ok(NewKeys {
             first,
@@ -194,13 +197,14 @@ impl Nodes {
         })
     }
 
-    /// Makes nodes of new keys, of which the first is the smaller. Keys that others hold too are copied; then, and where
-    /// a list has no room, it takes memory. It costs a move of what stands above each new node.
+    /// Makes nodes of new keys, of which the first is the smaller. A list of keys that others hold too is copied; then, and
+    /// where a list has no room, it takes memory. It costs a move of what stands above each new node.
     pub fn make(&mut self, new: NewKeys) -> Result<(), NoMemory>
         requires second { FitsIn self.old new.second }
         requires first { FitsIn (with_new self.old new.second) new.first }
         ensures { OnOk result (self.new ≡ with_new (with_new self.old new.second) new.first) }
     {
+        own_keys(&mut self.keys)?;
         let keys = Arc::make_mut(&mut self.keys)?;
         reserve(keys, &mut self.values, &new)?;
         split(keys, &mut self.values, new.second);
@@ -208,8 +212,8 @@ impl Nodes {
         Ok(())
     }
 
-    /// Takes off the nodes behind the first 32. It takes the memory of two lists for them, and that of a copy of the keys
-    /// where others hold them too.
+    /// Takes off the nodes behind the first 32. It takes the memory of two lists for them, and that of a copy of the list of
+    /// keys where others hold it too.
     pub fn cut(&mut self) -> Result<Nodes, NoMemory>
         requires long { 32 ≤ length self.old }
         ensures kept { OnOk result (self.new ≡ take 32 self.old) }
@@ -361,7 +365,11 @@ impl<'a> Lists<'a> {
 
     /// The place of a key or for it, and where it has no node a copy with that place. For any other key it takes
     /// no memory.
-    fn new_key(&self, key: Option<&Key>) -> Result<(Option<usize>, Option<(usize, Key)>), NoMemory>
+    fn new_key(
+        &self,
+        alloc: Global,
+        key: Option<&Key>,
+    ) -> Result<(Option<usize>, Option<(usize, NumberedKey)>), NoMemory>
         requires sorted { IsSorted self.now }
         ensures value { IfOk result (λ found. IsNewKey self.now (option_map (λ k. k.now) key.entry) found.1) }
         ensures memory { is_new_among (node_keys self.now) (option_map (λ k. k.now) key.entry) ≡ false → IsOk result }
@@ -371,9 +379,34 @@ impl<'a> Lists<'a> {
         };
         match self.find(&NumberedBytes::new(key.bytes())) {
             Ok(place) => Ok((Some(place), None)),
-            Err(place) => Ok((Some(place), Some((place, key.try_copy()?)))),
+            Err(place) => {
+                let copy = NumberedKey::copy_of(alloc, key)?;
+                Ok((Some(place), Some((place, copy))))
+            }
         }
     }
+}
+
+/// Puts a copy in the place of a list of keys that others hold too.
+fn own_keys(keys: &mut Arc<Vec<NumberedKey>>) -> Result<(), NoMemory>
+    ensures { (arc_value keys.new).items ≡ (arc_value keys.old).items }
+{
+    if Arc::strong_count(keys) > 1 {
+        let alloc = *keys.allocator();
+        *keys = Arc::new(alloc, copy_of_keys(keys)?)?;
+    }
+    Ok(())
+}
+
+/// A copy of a list of keys, with room for two more. It shares the keys themselves.
+fn copy_of_keys(keys: &Vec<NumberedKey>) -> Result<Vec<NumberedKey>, NoMemory>
+    ensures { IfOk result (λ copy. copy.items ≡ keys.now.items) }
+{
+    let mut copy = Vec::with_capacity(*keys.allocator(), keys.len() + 2)?;
+    for key in keys {
+        copy.push(key.clone()?)?;
+    }
+    Ok(copy)
 }
 
 /// Makes room for nodes of new keys. Where memory is refused there are as many as before, and the list of values has
@@ -400,7 +433,7 @@ pub fn reserve(
 
 /// Makes a node of a new key, with the value of the gap in which it falls, or time zero without an
 /// owner below the first node. It takes no memory.
-fn split(keys: &mut Vec<NumberedKey>, values: &mut Vec<Values>, new: Option<(usize, Key)>)
+fn split(keys: &mut Vec<NumberedKey>, values: &mut Vec<Values>, new: Option<(usize, NumberedKey)>)
     requires same { length keys.old.items ≡ length values.old.items }
     requires fits { FitsIn (paired keys.old.items values.old.items) new }
     requires key_room { vec_len keys.old + (if is_some new then 1 else 0) ≤ vec_capacity keys.old }
@@ -417,7 +450,7 @@ fn split(keys: &mut Vec<NumberedKey>, values: &mut Vec<Values>, new: Option<(usi
         Some(before) => values[before].gap,
         None => Value::unowned(Timestamp::ZERO),
     };
-    keys.insert(place, NumberedKey::new(key)).ok();
+    keys.insert(place, key).ok();
     values.insert(place, Values { value, gap: value }).ok();
 }
 
@@ -523,9 +556,9 @@ fn joint_of(best: &Value, value: &Value) -> Value
 #[derive(Debug, Drop)]
 pub struct NewKeys {
     /// The smaller key, with its place.
-    pub first: Option<(usize, Key)>,
+    pub first: Option<(usize, NumberedKey)>,
     /// The greater key, with its place before the smaller one has a node.
-    pub second: Option<(usize, Key)>,
+    pub second: Option<(usize, NumberedKey)>,
     /// Where both keys stand once they have nodes.
     pub near: (Option<usize>, Option<usize>),
 }

@@ -4,9 +4,10 @@ ghost use Rattle.tsc_span.specs.Span.{key_cmp, before, last, is_below};
 ghost use Rattle.tsc_span.specs.Cuts.{cut_of};
 ghost use Rattle.tsc_nodes.specs.Numbers.{spelled, IsNumberOf, IsKeyAt, AreTied, TellsBelow, TellsAbove};
 
-use std::alloc::AllocError;
+use std::alloc::{AllocError, Global};
 use std::cmp::Ordering;
 use std::marker::Model;
+use std::sync::Arc;
 use tsc_span::{Cut, Key};
 use tsc_time::NoMemory;
 
@@ -70,32 +71,34 @@ impl KeyNumber {
     }
 }
 
-/// A key with its number, which lies beside it where the bytes of the key lie elsewhere.
+/// A key that others may hold too, with its number, which lies beside it where the bytes of the key lie elsewhere.
 #[derive(Debug, Drop)]
 pub struct NumberedKey {
     number: KeyNumber,
-    key: Key,
+    key: Arc<Key>,
 }
 
 impl Model for NumberedKey {
+    ghost use Rattle.std.specs.Arc.{arc_value};
     ghost use Rattle.tsc_span.specs.Span.{KeyBytes};
     ghost use Rattle.tsc_nodes.specs.Numbers.{IsNumberOf};
 
     ghost Value = { KeyBytes };
 
-    ghost view = { λ k. k.key };
+    ghost view = { λ k. arc_value k.key };
 
-    ghost invariant = { λ k. IsNumberOf k.number k.key };
+    ghost invariant = { λ k. IsNumberOf k.number (arc_value k.key) };
 }
 
 impl NumberedKey {
-    pub(crate) fn new(key: Key) -> NumberedKey
-        ensures { result ≡ key }
+    /// A copy of a key, with its number.
+    pub(crate) fn copy_of(alloc: Global, key: &Key) -> Result<NumberedKey, NoMemory>
+        ensures { IfOk result (λ copy. copy ≡ key.now) }
     {
-        NumberedKey {
+        Ok(NumberedKey {
             number: number_of(key.bytes()),
-            key,
-        }
+            key: Arc::new(alloc, key.try_copy()?)?,
+        })
     }
 
     /// The bytes of the key.
@@ -111,23 +114,17 @@ impl NumberedKey {
     {
         self.number
     }
-
-    /// A copy of the key.
-    pub(crate) fn try_copy(&self) -> Result<NumberedKey, NoMemory>
-        ensures { IfOk result (λ copy. copy ≡ self.now) }
-    {
-        Ok(NumberedKey {
-            number: self.number,
-            key: self.key.try_copy()?,
-        })
-    }
 }
 
+/// A clone shares the key, and takes no memory.
 impl Clone for NumberedKey {
     ghost is_clone = { λ key copy. copy ≡ key };
 
     fn clone(&self) -> Result<NumberedKey, AllocError> {
-        self.try_copy().map_err(|_| AllocError)
+        Ok(NumberedKey {
+            number: self.number,
+            key: Arc::try_clone(&self.key)?,
+        })
     }
 }
 

@@ -216,8 +216,8 @@ fn make_node(list: &mut Vec<Block>, key: Option<&Key>) -> Result<(), NoMemory>
 /// Makes nodes of the keys that have none, in the leaf in which a span starts and in that in which it stops, and ratchets
 /// a value into the keys and gaps between two cuts, of which the lower one falls in the first of these leaves, or, where
 /// there is none, in the first of the blocks behind them. Tells how many nodes came in; or `None`, where they would be
-/// more than `room`, where others hold one of these leaves or its block, or the keys of a leaf that gets a new one, where one would have to be cut, or where they
-/// are more than `deep`.
+/// more than `room`, where one of these leaves would have to be cut, where they are more than `deep`, or where others
+/// hold one of them, its block, or the keys of one that gets a new one.
 /// Nothing changes then, nor where memory is refused: a leaf is changed only once those after it are.
 fn add_owned(
     leaves: &mut [Leaf],

@@ -1,8 +1,8 @@
 //! One page of a timestamp cache.
 //!
-//! A [`Page`] keeps what the spans that were added to it come to, as one sorted list of nodes, in leaves of
-//! 1 to 64. Copies of a page share their leaves, and a leaf that is shared is copied before it changes: its values,
-//! and its keys too where a new one comes.
+//! A [`Page`] keeps what the spans that were added to it come to, as one sorted list of nodes. These stand in leaves
+//! of 1 to 64, and the leaves in blocks of 1 to 64. Copies of a page share blocks and leaves, and one that is shared is
+//! copied before it changes: of a leaf its values, and its list of keys too where a new one comes.
 //! A node is an end key of such a span. It has the value that holds at its key, and the value that holds
 //! in the open gap between its key and that of the next node. Below the first node nothing was added.
 //!

@@ -70,12 +70,13 @@ impl Page {
     /// Adds a span with its value. The span is not empty, and the page has room for it. Where memory is
     /// refused the page is as before, and so are its leaves.
     ///
-    /// Where no copy of the page shares the leaves that the span meets, nor the keys of one that gets a new one, and none
-    /// of them would come to have 65 nodes, they are changed in place. That costs a search among the leaves and one for each end key in its leaf, a copy
-    /// of each end key that is new to the page, a move of a leaf's nodes above a new one, and a step for each node
-    /// within the span; a span whose end keys the page holds already takes no memory then. So it is for 256 leaves at
-    /// the most. Any other Add copies the list of leaves, and of the leaves themselves those that it changes; a leaf
-    /// that comes to have 65 nodes is cut into its first 32 and its last 33.
+    /// Where no copy of the page shares the blocks and leaves that the span meets, nor the keys of a leaf that gets a
+    /// new one, and no leaf would come to have 65 nodes, they are changed in place. That costs a search among the
+    /// blocks, one among the leaves of a block and one for each end key in its leaf, a copy of each end key that is new
+    /// to the page, a move of a leaf's nodes above a new one, and a step for each node within the span; a span whose end
+    /// keys the page holds already takes no memory then. So it is for 256 leaves at the most. Any other Add copies the
+    /// list of blocks, and of the blocks and leaves themselves those that it changes; a leaf that comes to have 65 nodes
+    /// is cut into its first 32 and its last 33, and so is a block of 65 leaves.
     pub fn add(&mut self, span: &Span, value: Value) -> Result<(), NoMemory>
         requires not_empty { is_empty_span span.now ≡ false }
         requires room { has_room_for self.old span.now ≡ true }

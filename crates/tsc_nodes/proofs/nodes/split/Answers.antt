@@ -36,7 +36,7 @@ returns-clause-inserted c =
     let place : ℕ = c.in-Some.place in
     let fits = subst (FitsIn nodes) c.in-Some.is c.requires.fits in
     let value : OwnedTime = c.match-checked_sub.value in
-    let new_keys : c.insert.new.self.items ≡ insert keys place c.in-Some.key = rw (c.insert.ensures.succeeds (search rules)) at c.insert.ensures.items ∙ ap (λ (k : KeyBytes). insert keys place k) c.new.ensures in
+    let new_keys : c.insert.new.self.items ≡ insert keys place c.in-Some.key = rw (c.insert.ensures.succeeds (search rules)) at c.insert.ensures.items in
     let new_values : c.insert-2.new.self.items ≡ insert values place (record { value = value; gap = value }) = rw (c.insert-2.ensures.succeeds (search rules)) at c.insert-2.ensures.items in
     let inserted = ap (λ (ks : List KeyBytes). paired ks c.insert-2.new.self.items) new_keys ∙ ap (λ (vs : List Values). paired (insert keys place c.in-Some.key) vs) new_values ∙ paired-insert keys values c.requires.same place c.in-Some.key (record { value = value; gap = value }) in
     let with_value = λ (v : OwnedTime). insert nodes place (node_in_gap c.in-Some.key v) in

@@ -9,8 +9,8 @@ use Rattle.tsc_nodes.proofs.Edits.{FitsAt-absent}
 use Rattle.tsc_nodes.proofs.Searches.{placed, new_at}
 use Rattle.tsc_nodes.proofs.nodes.Lists.new_key.Goals as goal
 
-pub returns-in_err-try_copy-in-Err-clause-memory : goal.returns-in_err-try_copy-in-Err-clause-memory
-returns-in_err-try_copy-in-Err-clause-memory c known =
+pub returns-in_err-copy-in-Err-clause-memory : goal.returns-in_err-copy-in-Err-clause-memory
+returns-in_err-copy-in-Err-clause-memory c known =
     let nodes : List Node = c.args.self.now in
     let k : KeyBytes = c.in-Some.key.now in
     let place : ℕ = c.in-Err.place in
@@ -27,11 +27,11 @@ returns-in-Ok-clause-value c =
     let found : IsFoundAt nodes k (Ok place) = subst (λ (m : KeyBytes). IsFoundAt nodes m (Ok place)) (c.new.ensures ∙ c.bytes.ensures.value) (subst (IsFoundAt nodes c.new.result) c.in-Ok.is c.find.ensures) in
     subst (λ o. IsNewKey nodes (option_map (λ k. k.now) o) None) (sym c.in-Some.is) (placed nodes k (Ok place) found)
 
-pub returns-in_ok-try_copy-in-Err-clause-value : goal.returns-in_ok-try_copy-in-Err-clause-value
-returns-in_ok-try_copy-in-Err-clause-value c =
+pub returns-in_ok-copy-in-Err-clause-value : goal.returns-in_ok-copy-in-Err-clause-value
+returns-in_ok-copy-in-Err-clause-value c =
     let nodes : List Node = c.args.self.now in
     let k : KeyBytes = c.in-Some.key.now in
-    let copy : KeyBytes = c.in_ok-try_copy-in-Err.field-0 in
+    let copy : KeyBytes = c.in_ok-copy-in-Err.copy in
     let place : ℕ = c.in-Err.place in
     let found : IsFoundAt nodes k (Err place) = subst (λ (m : KeyBytes). IsFoundAt nodes m (Err place)) (c.new.ensures ∙ c.bytes.ensures.value) (subst (IsFoundAt nodes c.new.result) c.in-Err.is c.find.ensures) in
-    subst (λ o. IsNewKey nodes (option_map (λ k. k.now) o) (Some (place, copy))) (sym c.in-Some.is) (new_at nodes k place copy c.in_ok-try_copy-in-Err.ensures found)
+    subst (λ o. IsNewKey nodes (option_map (λ k. k.now) o) (Some (place, copy))) (sym c.in-Some.is) (new_at nodes k place copy c.in_ok-copy-in-Err.ensures found)
