@@ -680,9 +680,9 @@ fn number(order: Order, step: u32, count: u32) -> u32 {
 
 /// The key of a number, alone or after a beginning that all keys have.
 fn numbered_key(alloc: Global, number: u32, alike: bool) -> Result<Key, Fail> {
-    let mut bytes = [7; 20];
-    bytes[16..].copy_from_slice(&number.to_be_bytes());
-    let bytes = if alike { &bytes[..] } else { &bytes[16..] };
+    let mut bytes = [7; 28];
+    bytes[24..].copy_from_slice(&number.to_be_bytes());
+    let bytes = if alike { &bytes[..] } else { &bytes[24..] };
     Ok(Key::new(alloc, bytes)?)
 }
 

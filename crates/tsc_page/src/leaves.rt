@@ -19,7 +19,7 @@ use tsc_nodes::{Nodes, NumberedCut};
 use tsc_span::{Cut, Key};
 use tsc_time::{NoMemory, Value};
 
-/// How many leaves an Add changes in place at the most: each takes some 1,400 bytes of the stack.
+/// How many leaves an Add changes in place at the most: each takes some 1,700 bytes of the stack.
 const DEEPEST: usize = 256;
 
 /// The nodes of a page in leaves, one after another, and how many there are. A leaf that others hold too is
