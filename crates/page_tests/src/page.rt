@@ -168,7 +168,7 @@ const STEPS: [Step; 118] = [
 /// The names of the keys of all spans to which both pages have to answer alike.
 const NAMES: &[u8] = b".aAbcdefgl";
 
-fn value(wall: u64, logical: u32, owner: u128) -> Result<Value, Fail> {
+pub(crate) fn value(wall: u64, logical: u32, owner: u128) -> Result<Value, Fail> {
     let time = Timestamp::new(wall, logical).ok_or("out of range")?;
     Ok(Value::of(time, Uuid::from_u128(owner)))
 }
@@ -663,14 +663,14 @@ fn an_add_over_leaves_of_a_copy(rt: HostRuntime) -> Result<(), Fail> {
 
 /// In which order keys come to a page.
 #[derive(Clone, Copy, Debug)]
-enum Order {
+pub(crate) enum Order {
     Rising,
     Falling,
     Mixed,
 }
 
 /// The number of a step among so many.
-fn number(order: Order, step: u32, count: u32) -> u32 {
+pub(crate) fn number(order: Order, step: u32, count: u32) -> u32 {
     match order {
         Order::Rising => step,
         Order::Falling => count.saturating_sub(step).saturating_sub(1),
@@ -679,7 +679,7 @@ fn number(order: Order, step: u32, count: u32) -> u32 {
 }
 
 /// The key of a number, alone or after a beginning that all keys have.
-fn numbered_key(alloc: Global, number: u32, alike: bool) -> Result<Key, Fail> {
+pub(crate) fn numbered_key(alloc: Global, number: u32, alike: bool) -> Result<Key, Fail> {
     let mut bytes = [7; 28];
     bytes[24..].copy_from_slice(&number.to_be_bytes());
     let bytes = if alike { &bytes[..] } else { &bytes[24..] };

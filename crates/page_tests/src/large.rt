@@ -1,0 +1,122 @@
+use crate::page::{Order, number, numbered_key, value};
+use std::alloc::Global;
+use std::test::Fail;
+use tsc_page::{Page, PlainPage};
+use tsc_span::{Ends, Span};
+use tsc_time::{Timestamp, Value, ratchet};
+
+/// How many keys a page of more leaves than one block has is filled with.
+const MANY: u32 = 4096;
+
+/// How many spans a plain page gets, which compares each end key with all others to see whether there is room.
+const SOME: u32 = 128;
+
+/// In which order the keys come to a page, and whether they begin alike.
+static FILLS: [(Order, bool); 6] = [
+    (Order::Rising, true),
+    (Order::Rising, false),
+    (Order::Falling, true),
+    (Order::Falling, false),
+    (Order::Mixed, true),
+    (Order::Mixed, false),
+];
+
+/// The range from the key of a number to that of another one.
+fn range(alloc: Global, from: u32, to: u32, ends: Ends, alike: bool) -> Result<Span, Fail> {
+    let (from, to) = (
+        numbered_key(alloc, from, alike)?,
+        numbered_key(alloc, to, alike)?,
+    );
+    Ok(Span::for_lookup(from, to, ends))
+}
+
+/// Adds a value to a span of both pages.
+fn add_to_both(
+    page: &mut Page,
+    plain: &mut PlainPage,
+    span: &Span,
+    value: Value,
+) -> Result<(), Fail> {
+    if span.is_empty() || !page.room(span) || !plain.room(span) {
+        return Err(Fail::new("an Add of an empty span, or without room"));
+    }
+    page.add(span, value)?;
+    plain.add(span, value)?;
+    Ok(())
+}
+
+/// Adds values to the ranges of some numbers, each up to the key of the next number, and tells the plain page that has
+/// got the same.
+fn add_some(
+    alloc: Global,
+    page: &mut Page,
+    first: u32,
+    order: Order,
+    alike: bool,
+) -> Result<PlainPage, Fail> {
+    let mut plain = PlainPage::new(alloc, MANY, Timestamp::ZERO)?;
+    for step in first..first.saturating_add(SOME) {
+        let at = number(order, step, MANY);
+        let ends = Ends {
+            exclude_from: at % 3 == 1,
+            exclude_to: at % 2 == 0,
+        };
+        let next = at.saturating_add(1).min(MANY - 1);
+        let span = range(alloc, at, next, ends, alike)?;
+        let told = value(u64::from(step % 50) + 1, 0, u128::from(step % 3))?;
+        add_to_both(page, &mut plain, &span, told)?;
+    }
+    Ok(plain)
+}
+
+/// Fills a page, and as many plain pages as that takes.
+fn fill(alloc: Global, page: &mut Page, order: Order, alike: bool) -> Result<Vec<PlainPage>, Fail> {
+    let mut plain = Vec::new(alloc);
+    for first in (0..MANY).step_by(128) {
+        plain.push(add_some(alloc, page, first, order, alike)?)?;
+    }
+    Ok(plain)
+}
+
+/// What plain pages answer together.
+fn joint_answer(plain: &[PlainPage], span: &Span) -> Value {
+    let mut best = Value::unowned(Timestamp::ZERO);
+    for page in plain {
+        best = ratchet(best, page.lookup(span)).0;
+    }
+    best
+}
+
+/// Whether a page answers as plain pages do together to keys, to the gaps after them, and to ranges of several lengths.
+fn answers_alike(
+    alloc: Global,
+    page: &Page,
+    plain: &[PlainPage],
+    alike: bool,
+) -> Result<bool, Fail> {
+    let mut same = page.nodes() == MANY;
+    for at in (0..MANY).step_by(5) {
+        for (length, exclude) in [(0, false), (1, true), (40, false), (MANY, true)] {
+            let ends = Ends {
+                exclude_from: exclude,
+                exclude_to: exclude,
+            };
+            let span = range(alloc, at, at.saturating_add(length), ends, alike)?;
+            same &= page.lookup(&span) == joint_answer(plain, &span);
+        }
+    }
+    Ok(same)
+}
+
+#[test]
+fn large_pages_answer_alike(rt: HostRuntime) -> Result<(), Fail> {
+    for (order, alike) in &FILLS {
+        let mut page = Page::new(rt.alloc(), MANY, Timestamp::ZERO)?;
+        let plain = fill(rt.alloc(), &mut page, *order, *alike)?;
+        assert!(rt;
+            answers_alike(rt.alloc(), &page, &plain, *alike)?,
+            "{order:?} {alike}"
+        );
+    }
+    Ok(())
+}
