@@ -741,12 +741,31 @@ fn filled_alike(alloc: Global, pages: &Pages, alike: bool, count: u32) -> Result
 }
 
 /// What pages are filled with: how many keys, in which order, and whether they begin alike.
-static FILLS: [(u32, Order, bool); 5] = [
+static FILLS: [(u32, Order, bool); 24] = [
     (64, Order::Rising, true),
+    (64, Order::Rising, false),
+    (64, Order::Falling, true),
+    (64, Order::Falling, false),
+    (64, Order::Mixed, true),
+    (64, Order::Mixed, false),
+    (65, Order::Rising, true),
+    (65, Order::Rising, false),
     (65, Order::Falling, true),
+    (65, Order::Falling, false),
+    (65, Order::Mixed, true),
+    (65, Order::Mixed, false),
+    (128, Order::Rising, true),
+    (128, Order::Rising, false),
+    (128, Order::Falling, true),
+    (128, Order::Falling, false),
+    (128, Order::Mixed, true),
     (128, Order::Mixed, false),
+    (129, Order::Rising, true),
     (129, Order::Rising, false),
+    (129, Order::Falling, true),
+    (129, Order::Falling, false),
     (129, Order::Mixed, true),
+    (129, Order::Mixed, false),
 ];
 
 #[test]
