@@ -1,6 +1,6 @@
 ghost use Rattle.std.specs.Prelude.{◌≤◌};
 
-use crate::measure::{COPIES, Figure, Keys, PLACES, ROUNDS, WIDTH, figure_of, keep_least};
+use crate::measure::{Figure, Keys, Places, ROUNDS, figure_of, keep_least};
 use anyhow::{Context, Result, ensure};
 use std::alloc::Global;
 use std::time::Instant;
@@ -40,27 +40,48 @@ pub fn measure_caches(rt: &HostRuntime, nodes: u32, pages: u32, turns: u32) -> R
 }
 
 /// Fills the pages of two caches with nodes, and makes each operation on one of them: on the first at
-/// [`PLACES`] places, `turns` times.
-fn measure_round(rt: &HostRuntime, nodes: u32, pages: u32, turns: u32) -> Result<[Figure; 8]>
+/// [`PLACES`](crate::measure::PLACES) places, `turns` times.
+fn measure_round(rt: &HostRuntime, nodes: u32, pages: u32, turns: u32) -> Result<Vec<Figure>>
     requires at_least { 64 ≤ nodes }
     requires at_most { nodes ≤ 65536 }
 {
     let front = Keys::new(nodes, pages.saturating_sub(1), &[]);
-    let keys = front.spans(rt.alloc(), PLACES, 0)?;
-    let ranges = front.spans(rt.alloc(), PLACES, WIDTH)?;
-    let some = keys.get(..COPIES as usize).context("too few keys")?;
-    let mut level = filled(rt, nodes, pages, false)?;
+    let places = Places::of(rt.alloc(), front)?;
+    let level = filled(rt, nodes, pages, false)?;
     let mut rising = filled(rt, nodes, pages, true)?;
-    Ok([
-        look_up(rt, &level, &keys, turns)?,
-        look_up(rt, &level, &ranges, turns)?,
-        add(rt, &mut level, &keys, turns)?,
-        add(rt, &mut level, &ranges, turns)?,
-        make_versions(rt, level, some)?,
-        look_up(rt, &rising, &keys, turns)?,
-        look_up(rt, &rising, &ranges, turns)?,
-        rotate(rt, &mut rising, nodes, pages)?,
-    ])
+    let mut figures = measure_level(rt, level, &places, turns)?;
+    look_up_both(rt, &rising, &places, turns, &mut figures)?;
+    figures.push(rotate(rt, &mut rising, nodes, pages)?)?;
+    Ok(figures)
+}
+
+/// Makes each operation on a cache whose pages have one time.
+fn measure_level(
+    rt: &HostRuntime,
+    cache: Cache,
+    places: &Places,
+    turns: u32,
+) -> Result<Vec<Figure>> {
+    let mut cache = cache;
+    let mut figures = Vec::with_capacity(rt.alloc(), CACHE_OPERATIONS.len())?;
+    look_up_both(rt, &cache, places, turns, &mut figures)?;
+    figures.push(add(rt, &mut cache, &places.keys, turns)?)?;
+    figures.push(add(rt, &mut cache, &places.ranges, turns)?)?;
+    figures.push(make_versions(rt, cache, places.some()?)?)?;
+    Ok(figures)
+}
+
+/// Looks up the keys, and then the ranges.
+fn look_up_both(
+    rt: &HostRuntime,
+    cache: &Cache,
+    places: &Places,
+    turns: u32,
+    figures: &mut Vec<Figure>,
+) -> Result<()> {
+    figures.push(look_up(rt, cache, &places.keys, turns)?)?;
+    figures.push(look_up(rt, cache, &places.ranges, turns)?)?;
+    Ok(())
 }
 
 /// A cache of so many full pages, each with keys of its own. All that is on them has one time, or that of a

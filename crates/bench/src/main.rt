@@ -17,7 +17,7 @@ mod shared;
 mod stops;
 
 use crate::caches::{CACHE_OPERATIONS, PAGES, measure_caches};
-use crate::measure::{LARGEST, ROUNDS, Row, SMALLEST, measure};
+use crate::measure::{Figure, LARGEST, ROUNDS, Row, SMALLEST, measure};
 use crate::shared::{LOOKUPS, SEATS, measure_shared};
 use crate::stops::{MANY, STOPPING, measure_stops};
 use anyhow::{Context, Result, ensure};
@@ -41,33 +41,54 @@ fn main(rt: HostRuntime) -> Result<()> {
     let words: Vec<String> = env::args(&rt)?.collect(rt.alloc())?;
     let mut all: Vec<Vec<Row>> = Vec::new(rt.alloc());
     for word in words.iter().skip(1) {
-        let nodes = word.parse()?;
-        ensure!(
-            SMALLEST <= nodes && nodes <= LARGEST,
-            "a page of {SMALLEST} to {LARGEST} nodes can be measured"
-        );
-        let rows = measure(&rt, nodes, TURNS)?;
-        for Row { keys, name, figure } in &rows {
-            let (operations, each) = (figure.operations, figure.each());
-            println!(&rt;
-                "{nodes} nodes, {keys}, {name}: {operations} operations, {each} ns each"
-            )?;
-        }
-        print_caches(&rt, nodes, &rows)?;
-        print_stops(&rt, nodes)?;
-        print_shared(&rt, &rt, nodes)?;
-        all.push(rows)?;
+        all.push(measure_size(&rt, &rt, word)?)?;
     }
-    let Some((first, later)) = all.as_slice().split_first() else {
+    if all.len() == 0 {
         short_run(&rt)?;
         return short_run_shared(&rt, &rt);
+    }
+    print_growth(&rt, &all)
+}
+
+/// Measures all with as many nodes as a word says, and prints it. Gives what operations on a page took.
+fn measure_size<R: Threads + Wait + Sync>(
+    host: &HostRuntime,
+    rt: &R,
+    word: &str,
+) -> Result<Vec<Row>> {
+    let nodes = word.parse()?;
+    ensure!(
+        SMALLEST <= nodes && nodes <= LARGEST,
+        "a page of {SMALLEST} to {LARGEST} nodes can be measured"
+    );
+    let rows = measure(host, nodes, TURNS)?;
+    print_page(host, nodes, &rows)?;
+    print_caches(host, nodes, &rows)?;
+    print_stops(host, nodes)?;
+    print_shared(host, rt, nodes)?;
+    Ok(rows)
+}
+
+/// Prints what operations on a page take.
+fn print_page(rt: &HostRuntime, nodes: u32, rows: &[Row]) -> Result<()> {
+    for Row { keys, name, figure } in rows {
+        let (operations, each) = (figure.operations, figure.each());
+        println!(rt; "{nodes} nodes, {keys}, {name}: {operations} operations, {each} ns each")?;
+    }
+    Ok(())
+}
+
+/// Prints by how much operations on a page grew from the first size to the last, where there are several.
+fn print_growth(rt: &HostRuntime, all: &[Vec<Row>]) -> Result<()> {
+    let Some((first, later)) = all.split_first() else {
+        return Ok(());
     };
     let Some(last) = later.last() else {
         return Ok(());
     };
     for (row, later) in first.iter().zip(last) {
         let (keys, name, percent) = (row.keys, row.name, later.figure.percent_of(row.figure));
-        println!(&rt; "from the first size to the last, {keys}, {name}: {percent} %")?;
+        println!(rt; "from the first size to the last, {keys}, {name}: {percent} %")?;
     }
     Ok(())
 }
@@ -78,14 +99,26 @@ fn print_caches(rt: &HostRuntime, nodes: u32, page: &[Row]) -> Result<()> {
     for pages in PAGES {
         let figures = measure_caches(rt, nodes, pages, CACHE_TURNS)?;
         for ((name, beside), figure) in CACHE_OPERATIONS.into_iter().zip(figures) {
-            let (operations, each) = (figure.operations, figure.each());
             let beside = page.get(beside).context("no such operation")?;
-            let percent = figure.percent_of(beside.figure);
-            println!(rt;
-                "{pages} x {nodes} nodes, {name}: {operations} operations, {each} ns each, {percent} %"
-            )?;
+            print_beside(rt, pages, nodes, name, figure, beside.figure)?;
         }
     }
+    Ok(())
+}
+
+/// Prints what an operation on a cache takes beside the one on a page.
+fn print_beside(
+    rt: &HostRuntime,
+    pages: u32,
+    nodes: u32,
+    name: &str,
+    figure: Figure,
+    beside: Figure,
+) -> Result<()> {
+    let (operations, each, percent) = (figure.operations, figure.each(), figure.percent_of(beside));
+    println!(rt;
+        "{pages} x {nodes} nodes, {name}: {operations} operations, {each} ns each, {percent} %"
+    )?;
     Ok(())
 }
 
@@ -129,14 +162,20 @@ fn short_run(rt: &HostRuntime) -> Result<()> {
         println!(rt; "{SMALLEST} nodes, {keys}, {name}: {operations} operations")?;
     }
     for pages in PAGES {
-        let figures = measure_caches(rt, SMALLEST, pages, 1)?;
-        for ((name, _), figure) in CACHE_OPERATIONS.into_iter().zip(figures) {
-            let operations = figure.operations;
-            println!(rt; "{pages} x {SMALLEST} nodes, {name}: {operations} operations")?;
-        }
+        short_run_of_caches(rt, pages)?;
     }
     for (_, width) in STOPPING {
         measure_stops(rt, SMALLEST, width, 2, 1)?;
+    }
+    Ok(())
+}
+
+/// Those on caches of so many pages.
+fn short_run_of_caches(rt: &HostRuntime, pages: u32) -> Result<()> {
+    let figures = measure_caches(rt, SMALLEST, pages, 1)?;
+    for ((name, _), figure) in CACHE_OPERATIONS.into_iter().zip(figures) {
+        let operations = figure.operations;
+        println!(rt; "{pages} x {SMALLEST} nodes, {name}: {operations} operations")?;
     }
     Ok(())
 }

@@ -172,40 +172,111 @@ pub fn keep_least(all: &mut [Figure], round: &[Figure]) {
     }
 }
 
-/// Fills a page with nodes, and then makes each operation at [`PLACES`] places in each of so many turns, of which that
-/// counts in which it took least: in a short time others seldom come in between. New keys are added to copies before
-/// the page has its last node, when there is room for one.
-fn measure_page(rt: &HostRuntime, here: Keys, turns: u32) -> Result<[Figure; 7]>
+/// The places of a page at which operations are made: [`PLACES`] keys, and as many ranges of [`WIDTH`] nodes.
+#[derive(Drop)]
+pub struct Places {
+    pub keys: Vec<Span>,
+    pub ranges: Vec<Span>,
+}
+
+impl Places {
+    pub fn of(alloc: Global, here: Keys) -> Result<Places>
+        requires { 64 ≤ here.nodes }
+    {
+        Ok(Places {
+            keys: here.spans(alloc, PLACES, 0)?,
+            ranges: here.spans(alloc, PLACES, WIDTH)?,
+        })
+    }
+
+    /// The keys that are added to copies.
+    pub fn some(&self) -> Result<&[Span]> {
+        Ok(self.keys.get(..COPIES as usize).context("too few keys")?)
+    }
+}
+
+/// A full page, and what the Adds of its keys took, and those of new keys to copies of it.
+#[derive(Drop)]
+struct Filled {
+    page: Page,
+    adds: Figure,
+    next_new: Figure,
+}
+
+/// Fills a page with nodes. New keys are added to copies before it has its last node, when there is room for one.
+fn fill_page(rt: &HostRuntime, here: Keys) -> Result<Filled>
     requires at_least { 64 ≤ here.nodes }
     requires at_most { here.nodes ≤ 65536 }
 {
-    let nodes = here.nodes;
     let between = Keys { page: 1, ..here }.spans(rt.alloc(), COPIES, 0)?;
-    let all = here.spans(rt.alloc(), nodes, 0)?;
-    let keys = here.spans(rt.alloc(), PLACES, 0)?;
-    let ranges = here.spans(rt.alloc(), PLACES, WIDTH)?;
-    let some = keys.get(..COPIES as usize).context("too few keys")?;
+    let all = here.spans(rt.alloc(), here.nodes, 0)?;
     let (most, last) = all.split_at(all.len().saturating_sub(1));
-    let mut page = Page::new(rt.alloc(), nodes, Timestamp::ZERO)?;
-    let filled = add(rt, &mut page, most, 0)?;
+    let mut page = Page::new(rt.alloc(), here.nodes, Timestamp::ZERO)?;
+    let adds = add(rt, &mut page, most, 0)?;
     let next_new = add_to_copies(rt, &page, &between)?;
-    let filled = filled.and(add(rt, &mut page, last, 0)?);
-    ensure!(page.nodes() == nodes, "not as many nodes");
-    let next = add_to_copies(rt, &page, some)?;
-    let mut least = [Figure::NONE; 7];
+    let adds = adds.and(add(rt, &mut page, last, 0)?);
+    ensure!(page.nodes() == here.nodes, "not as many nodes");
+    Ok(Filled {
+        page,
+        adds,
+        next_new,
+    })
+}
+
+/// Fills a page with nodes, and then makes each operation at its places in each of so many turns, of which that
+/// counts in which it took least: in a short time others seldom come in between.
+fn measure_page(rt: &HostRuntime, here: Keys, turns: u32) -> Result<Vec<Figure>>
+    requires at_least { 64 ≤ here.nodes }
+    requires at_most { here.nodes ≤ 65536 }
+{
+    let places = Places::of(rt.alloc(), here)?;
+    let Filled {
+        mut page,
+        adds,
+        next_new,
+    } = fill_page(rt, here)?;
+    let next = add_to_copies(rt, &page, places.some()?)?;
+    let least = measure_turns(rt, &mut page, &places, turns)?;
+    in_order(rt.alloc(), adds, &least, next, next_new)
+}
+
+/// The figures in the order of [`OPERATIONS`].
+fn in_order(
+    alloc: Global,
+    adds: Figure,
+    at_places: &[Figure],
+    next: Figure,
+    next_new: Figure,
+) -> Result<Vec<Figure>> {
+    let mut all = Vec::with_capacity(alloc, OPERATIONS.len())?;
+    all.push(adds)?;
+    all.extend_from_slice(at_places)?;
+    all.push(next)?;
+    all.push(next_new)?;
+    Ok(all)
+}
+
+/// Makes so many turns, and gives of each operation what it took in the turn in which it took least.
+fn measure_turns(
+    rt: &HostRuntime,
+    page: &mut Page,
+    places: &Places,
+    turns: u32,
+) -> Result<[Figure; 4]> {
+    let mut least = [Figure::NONE; 4];
     for turn in 0..turns {
-        let turn = [
-            filled,
-            look_up(rt, &page, &keys)?,
-            look_up(rt, &page, &ranges)?,
-            add(rt, &mut page, &keys, turn)?,
-            add(rt, &mut page, &ranges, turn)?,
-            next,
-            next_new,
-        ];
-        keep_least(&mut least, &turn);
+        keep_least(&mut least, &make_turn(rt, page, places, turn)?);
     }
     Ok(least)
+}
+
+/// Looks up the keys and the ranges of a page, and then adds them.
+fn make_turn(rt: &HostRuntime, page: &mut Page, places: &Places, turn: u32) -> Result<[Figure; 4]> {
+    let of_key = look_up(rt, page, &places.keys)?;
+    let of_range = look_up(rt, page, &places.ranges)?;
+    let to_key = add(rt, page, &places.keys, turn)?;
+    let to_range = add(rt, page, &places.ranges, turn)?;
+    Ok([of_key, of_range, to_key, to_range])
 }
 
 /// Looks up each of the spans.

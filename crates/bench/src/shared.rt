@@ -132,9 +132,24 @@ fn fill<R: Wait>(
     let time = Timestamp::new(1, 0).context("no time")?;
     for place in 0..u64::from(nodes) {
         let span = Span::point(Keys::new(nodes, 0, &[]).key(alloc, place)?);
-        let added = shared.add(rt, &mut seat, &span, Value::unowned(time), Timestamp::ZERO);
-        ensure!(added.is_ok(), "an Add was refused");
+        add_at(rt, shared, &mut seat, &span, time)?;
     }
+    Ok(())
+}
+
+/// Adds a span at a time.
+fn add_at<R: Wait>(
+    rt: &R,
+    shared: &SharedCache,
+    seat: &mut Seat,
+    span: &Span,
+    time: Timestamp,
+) -> Result<()>
+    requires seat { seat.old.cache ≡ shared.now }
+    ensures { seat.new.cache ≡ seat.old.cache }
+{
+    let added = shared.add(rt, seat, span, Value::unowned(time), Timestamp::ZERO);
+    ensure!(added.is_ok(), "an Add was refused");
     Ok(())
 }
 

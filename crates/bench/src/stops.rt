@@ -51,6 +51,11 @@ pub fn measure_stops(
         percents.push(compare(rt, &pair, turns)?)?;
     }
     percents.sort_unstable();
+    stops_of(&percents)
+}
+
+/// The least, the one in the middle and the greatest of percentages in their order.
+fn stops_of(percents: &[u64]) -> Result<Stops> {
     Ok(Stops {
         least: *percents.first().context("no round")?,
         median: *percents.get(percents.len() / 2).context("no round")?,

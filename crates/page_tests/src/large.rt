@@ -1,4 +1,4 @@
-use crate::page::{Order, number, numbered_key, value};
+use crate::page::{Order, range, step_span, step_value};
 use std::alloc::Global;
 use std::test::Fail;
 use tsc_page::{Page, PlainPage};
@@ -20,15 +20,6 @@ static FILLS: [(Order, bool); 6] = [
     (Order::Mixed, true),
     (Order::Mixed, false),
 ];
-
-/// The range from the key of a number to that of another one.
-fn range(alloc: Global, from: u32, to: u32, ends: Ends, alike: bool) -> Result<Span, Fail> {
-    let (from, to) = (
-        numbered_key(alloc, from, alike)?,
-        numbered_key(alloc, to, alike)?,
-    );
-    Ok(Span::for_lookup(from, to, ends))
-}
 
 /// Adds a value to a span of both pages.
 fn add_to_both(
@@ -56,15 +47,8 @@ fn add_some(
 ) -> Result<PlainPage, Fail> {
     let mut plain = PlainPage::new(alloc, MANY, Timestamp::ZERO)?;
     for step in first..first.saturating_add(SOME) {
-        let at = number(order, step, MANY);
-        let ends = Ends {
-            exclude_from: at % 3 == 1,
-            exclude_to: at % 2 == 0,
-        };
-        let next = at.saturating_add(1).min(MANY - 1);
-        let span = range(alloc, at, next, ends, alike)?;
-        let told = value(u64::from(step % 50) + 1, 0, u128::from(step % 3))?;
-        add_to_both(page, &mut plain, &span, told)?;
+        let span = step_span(alloc, order, step, MANY, alike)?;
+        add_to_both(page, &mut plain, &span, step_value(step)?)?;
     }
     Ok(plain)
 }

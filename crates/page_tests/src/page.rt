@@ -29,7 +29,7 @@ enum Step {
     Shows(u32, u64, u32),
 }
 
-const STEPS: [Step; 118] = [
+static STEPS: [Step; 118] = [
     // an empty page
     Step::New(4, 7),
     Step::Shows(0, 7, 0),
@@ -287,32 +287,66 @@ impl Pages {
         self.page.nodes() == nodes && self.plain.nodes() == nodes
     }
 
+    /// Goes on with empty pages, and says whether they are alike.
+    fn restart(
+        &mut self,
+        alloc: Global,
+        page_nodes: u32,
+        base: u64,
+        all: &[Span],
+    ) -> Result<bool, Fail> {
+        *self = Pages::new(alloc, page_nodes, base)?;
+        Ok(alike_on(&self.page, &self.plain, all))
+    }
+
+    /// Adds a value to a span, and says whether the pages and copies of them are alike then.
+    fn add_alike(&mut self, span: &Span, value: Value, all: &[Span]) -> Result<bool, Fail> {
+        self.add(span, value)?;
+        let copy = self.copy()?;
+        Ok(alike_on(&self.page, &copy.plain, all) && alike_on(&copy.page, &self.plain, all))
+    }
+
+    /// Adds a value to a span on copies, and says whether these answer it, and have so many nodes then.
+    fn add_to_copies(&self, span: &Span, value: Value, nodes: u32) -> Result<bool, Fail> {
+        let mut copy = self.copy()?;
+        copy.add(span, value)?;
+        Ok(copy.answer(span, value) && copy.have(nodes))
+    }
+
+    /// Whether both pages have so many nodes, and this top.
+    fn show(&self, nodes: u32, top: Timestamp) -> bool {
+        self.have(nodes) && self.page.top() == top && self.plain.top() == top
+    }
+
+    /// Takes a step with a span, and says whether both pages show what it tells, and answer alike to each of the
+    /// spans.
+    fn take_on(&mut self, span: &Span, step: Step, all: &[Span]) -> Result<bool, Fail> {
+        match step {
+            Step::Add(_, wall, logical, owner) => {
+                self.add_alike(span, value(wall, logical, owner)?, all)
+            }
+            Step::AddToCopies(_, wall, logical, owner, nodes) => {
+                self.add_to_copies(span, value(wall, logical, owner)?, nodes)
+            }
+            Step::Look(_, wall, logical, owner) => {
+                Ok(self.answer(span, value(wall, logical, owner)?))
+            }
+            Step::Room(_, room) => self.tell_room(span, room),
+            Step::New(_, _) | Step::Shows(_, _, _) => Err(Fail::new("a step without a span")),
+        }
+    }
+
     /// Takes a step, and says whether both pages show what it tells, and answer alike to each of the spans.
     fn take(&mut self, alloc: Global, step: Step, all: &[Span]) -> Result<bool, Fail> {
         match step {
-            Step::New(page_nodes, base) => {
-                *self = Pages::new(alloc, page_nodes, base)?;
-                Ok(alike_on(&self.page, &self.plain, all))
-            }
-            Step::Add(text, wall, logical, owner) => {
-                self.add(&span(alloc, text)?, value(wall, logical, owner)?)?;
-                let copy = self.copy()?;
-                Ok(alike_on(&self.page, &copy.plain, all) && alike_on(&copy.page, &self.plain, all))
-            }
-            Step::AddToCopies(text, wall, logical, owner, nodes) => {
-                let (span, value) = (span(alloc, text)?, value(wall, logical, owner)?);
-                let mut copy = self.copy()?;
-                copy.add(&span, value)?;
-                Ok(copy.answer(&span, value) && copy.have(nodes))
-            }
-            Step::Look(text, wall, logical, owner) => {
-                Ok(self.answer(&span(alloc, text)?, value(wall, logical, owner)?))
-            }
-            Step::Room(text, room) => { self.tell_room(&span(alloc, text)?, room) }
+            Step::New(page_nodes, base) => self.restart(alloc, page_nodes, base, all),
             Step::Shows(nodes, wall, logical) => {
-                let top = value(wall, logical, NOBODY)?.time();
-                Ok(self.have(nodes) && self.page.top() == top && self.plain.top() == top)
+                Ok(self.show(nodes, value(wall, logical, NOBODY)?.time()))
             }
+            Step::Add(text, _, _, _)
+            | Step::AddToCopies(text, _, _, _, _)
+            | Step::Look(text, _, _, _)
+            | Step::Room(text, _) => self.take_on(&span(alloc, text)?, step, all),
         }
     }
 }
@@ -331,8 +365,8 @@ fn alike_on(page: &Page, plain: &PlainPage, spans: &[Span]) -> bool {
 fn rows_of_calls(rt: HostRuntime) -> Result<(), Fail> {
     let all = all_spans(rt.alloc(), NAMES)?;
     let mut pages = Pages::new(rt.alloc(), LEAST_NODES, 0)?;
-    for (i, step) in STEPS.into_iter().enumerate() {
-        assert!(rt; pages.take(rt.alloc(), step, &all)?, "step {i}: {step:?}");
+    for (i, step) in STEPS.iter().enumerate() {
+        assert!(rt; pages.take(rt.alloc(), *step, &all)?, "step {i}: {step:?}");
     }
     Ok(())
 }
@@ -364,8 +398,11 @@ fn copy_and_add(pages: &mut Pages, span: &Span, value: Value, all: &[Span]) -> R
     Ok(alike && alike_on(page, plain, all))
 }
 
+/// A span, and the wall time and the owner that are added to it.
+type Mark = (&'static [u8], u64, u128);
+
 /// What is added where each call may be refused memory.
-const MARKS: [(&[u8], u64, u128); 5] = [
+static MARKS: [Mark; 5] = [
     (b"[a,c)", 20, FIRST),
     (b"b", 10, SECOND),
     (b"(c,e]", 30, SECOND),
@@ -373,13 +410,25 @@ const MARKS: [(&[u8], u64, u128); 5] = [
     (b"[d,", 20, FIRST),
 ];
 
+/// Copies both pages and adds a mark, in the same way.
+fn copy_and_mark(
+    alloc: Global,
+    pages: &mut Pages,
+    (text, wall, owner): Mark,
+    all: &[Span],
+) -> Result<bool, Fail> {
+    copy_and_add(pages, &span(alloc, text)?, value(wall, 0, owner)?, all)
+}
+
 #[test]
 fn a_refused_call_changes_nothing(rt: HostRuntime) -> Result<(), Fail> {
     let all = all_spans(rt.alloc(), NAMES)?;
     let mut pages = Pages::new(rt.alloc(), 5, 7)?;
-    for (text, wall, owner) in MARKS {
-        let (span, value) = (span(rt.alloc(), text)?, value(wall, 0, owner)?);
-        assert!(rt; copy_and_add(&mut pages, &span, value, &all)?, "{text:?}");
+    for mark in &MARKS {
+        assert!(rt;
+            copy_and_mark(rt.alloc(), &mut pages, *mark, &all)?,
+            "{mark:?}"
+        );
     }
     assert!(rt; pages.have(5));
     Ok(())
@@ -390,14 +439,22 @@ fn place(alloc: Global, place: u32) -> Result<Span, Fail> {
     Ok(Span::point(Key::new(alloc, &place.to_be_bytes())?))
 }
 
-/// Adds a time of its own to the key of a place, once.
-fn add_place(alloc: Global, page: &mut Page, at: u32) -> Result<(), Fail> {
-    let span = place(alloc, at)?;
-    if span.is_empty() || !page.room(&span) {
+/// Adds a value to a span for which there has to be room.
+fn add_with_room(page: &mut Page, span: &Span, value: Value) -> Result<(), Fail> {
+    if span.is_empty() || !page.room(span) {
         return Err(Fail::new("no room"));
     }
-    page.add(&span, value(u64::from(at) + 1, 0, FIRST)?)?;
+    page.add(span, value)?;
     Ok(())
+}
+
+/// Adds a time of its own to the key of a place, once.
+fn add_place(alloc: Global, page: &mut Page, at: u32) -> Result<(), Fail> {
+    add_with_room(
+        page,
+        &place(alloc, at)?,
+        value(u64::from(at) + 1, 0, FIRST)?,
+    )
 }
 
 /// Whether a page is full, with its own time at the key of each place that is looked up.
@@ -452,12 +509,7 @@ fn add_over_all(alloc: Global, page: &mut Page, told: Value) -> Result<(), Fail>
         exclude_from: false,
         exclude_to: false,
     };
-    let span = Span::for_lookup(from, to, ends);
-    if span.is_empty() || !page.room(&span) {
-        return Err(Fail::new("no room"));
-    }
-    page.add(&span, told)?;
-    Ok(())
+    add_with_room(page, &Span::for_lookup(from, to, ends), told)
 }
 
 /// A page with more leaves than one block has, whose keys came in mixed order.
@@ -469,16 +521,31 @@ fn page_of_blocks(alloc: Global) -> Result<Page, Fail> {
     Ok(page)
 }
 
+/// Adds a value to all of them, and says whether the page tells it of each then.
+fn tells_over_all(alloc: Global, page: &mut Page, told: Value) -> Result<bool, Fail> {
+    add_over_all(alloc, page, told)?;
+    tells_one(alloc, page, told)
+}
+
+/// Does so to a page that tells one value of each of them, of which there is a copy, and says whether the copy goes on
+/// telling that one.
+fn tells_beside_a_copy(
+    alloc: Global,
+    page: &mut Page,
+    before: Value,
+    told: Value,
+) -> Result<bool, Fail> {
+    let copy = page.try_copy()?;
+    Ok(tells_over_all(alloc, page, told)? && tells_one(alloc, &copy, before)?)
+}
+
 #[test]
 fn a_page_of_several_blocks(rt: HostRuntime) -> Result<(), Fail> {
+    let (later, latest) = (value(5000, 0, FIRST)?, value(6000, 0, FIRST)?);
     let mut page = page_of_blocks(rt.alloc())?;
     assert!(rt; page.leaf_nodes(64).is_some() && tells_places(rt.alloc(), &page)?);
-    let (later, latest) = (value(5000, 0, FIRST)?, value(6000, 0, FIRST)?);
-    add_over_all(rt.alloc(), &mut page, later)?;
-    assert!(rt; tells_one(rt.alloc(), &page, later)?);
-    let copy = page.try_copy()?;
-    add_over_all(rt.alloc(), &mut page, latest)?;
-    assert!(rt; tells_one(rt.alloc(), &copy, later)? && tells_one(rt.alloc(), &page, latest)?);
+    assert!(rt; tells_over_all(rt.alloc(), &mut page, later)?);
+    assert!(rt; tells_beside_a_copy(rt.alloc(), &mut page, later, latest)?);
     Ok(())
 }
 
@@ -526,25 +593,101 @@ fn add_once(page: &mut Page, span: &Span, value: Value) -> Result<(), Fail> {
     Ok(())
 }
 
-/// What a page of the keys 0 to 129 answers after an Add over most of its leaves.
-fn answers_after_a_long_add(alloc: Global, page: &Page) -> Result<bool, Fail> {
+/// What a page of the keys 0 to 129 tells of single keys after an Add over most of its leaves: the key's byte, the wall
+/// time and the owner.
+static KEYS_AFTER: [(u8, u64, u128); 13] = [
+    (10, 200, SECOND),
+    (11, 200, SECOND),
+    (31, 200, SECOND),
+    (32, 200, SECOND),
+    (63, 200, SECOND),
+    (64, 200, SECOND),
+    (95, 200, SECOND),
+    (96, 200, SECOND),
+    (119, 200, SECOND),
+    (0, 1, FIRST),
+    (9, 10, FIRST),
+    (120, 121, FIRST),
+    (129, 130, FIRST),
+];
+
+/// And of the gaps between two keys.
+static GAPS_AFTER: [(u8, u8, u64, u128); 3] = [
+    (9, 10, 0, NOBODY),
+    (119, 120, 200, SECOND),
+    (31, 32, 200, SECOND),
+];
+
+/// Whether this is what a page tells of the key of a byte.
+fn tells_of_key(
+    alloc: Global,
+    page: &Page,
+    byte: u8,
+    wall: u64,
+    owner: u128,
+) -> Result<bool, Fail> {
+    let span = Span::point(byte_key(alloc, byte)?);
+    Ok(page.lookup(&span) == value(wall, 0, owner)?)
+}
+
+/// Whether a page tells this of keys.
+fn tells_of_keys(alloc: Global, page: &Page, rows: &[(u8, u64, u128)]) -> Result<bool, Fail> {
+    let mut alike = true;
+    for (byte, wall, owner) in rows {
+        alike &= tells_of_key(alloc, page, *byte, *wall, *owner)?;
+    }
+    Ok(alike)
+}
+
+/// Whether a page tells this of the gaps between keys.
+fn tells_of_gaps(alloc: Global, page: &Page, rows: &[(u8, u8, u64, u128)]) -> Result<bool, Fail> {
     let open = Ends {
         exclude_from: true,
         exclude_to: true,
     };
-    let mut alike = page.nodes() == 130 && page.top() == value(200, 0, NOBODY)?.time();
-    for byte in [10, 11, 31, 32, 63, 64, 95, 96, 119] {
-        let span = Span::point(byte_key(alloc, byte)?);
-        alike &= page.lookup(&span) == value(200, 0, SECOND)?;
+    let mut alike = true;
+    for (from, to, wall, owner) in rows {
+        let gap = byte_range(alloc, *from, *to, open)?;
+        alike &= page.lookup(&gap) == value(*wall, 0, *owner)?;
     }
-    for byte in [0, 9, 120, 129] {
-        let span = Span::point(byte_key(alloc, byte)?);
-        alike &= page.lookup(&span) == value(u64::from(byte) + 1, 0, FIRST)?;
-    }
-    let below = page.lookup(&byte_range(alloc, 9, 10, open)?);
-    let last = page.lookup(&byte_range(alloc, 119, 120, open)?);
-    let across = page.lookup(&byte_range(alloc, 31, 32, open)?);
-    Ok(alike && below == value(0, 0, NOBODY)? && last == value(200, 0, SECOND)? && across == last)
+    Ok(alike)
+}
+
+/// What a page of the keys 0 to 129 answers after an Add over most of its leaves.
+fn answers_after_a_long_add(alloc: Global, page: &Page) -> Result<bool, Fail> {
+    let alike = page.nodes() == 130 && page.top() == value(200, 0, NOBODY)?.time();
+    Ok(
+        alike
+            && tells_of_keys(alloc, page, &KEYS_AFTER)?
+            && tells_of_gaps(alloc, page, &GAPS_AFTER)?,
+    )
+}
+
+/// The sizes of the leaves of a page of the keys 0 to 129.
+static FOUR_LEAVES: [u32; 4] = [32, 32, 32, 34];
+
+/// Adds a value to a single key, and to a range over it, of a page of which a copy shares the leaves.
+fn add_over_shared(alloc: Global, page: &mut Page) -> Result<(), Fail> {
+    let inner = Span::point(byte_key(alloc, 40)?);
+    add_once(page, &inner, value(150, 0, SECOND)?)?;
+    add_once(
+        page,
+        &bytes_up_to(alloc, [10, 120])?,
+        value(200, 0, SECOND)?,
+    )
+}
+
+/// Adds a value to a range that ends at a new key, and says what comes of it.
+fn is_added_beyond(alloc: Global, page: &mut Page) -> Result<bool, Fail> {
+    add_once(page, &bytes_up_to(alloc, [10, 150])?, value(201, 0, FIRST)?)?;
+    let alike = has_leaves(page, &[32, 32, 32, 35]) && page.nodes() == 131;
+    Ok(alike && tells_of_key(alloc, page, 40, 201, FIRST)?)
+}
+
+/// Whether a copy is as the page was at first.
+fn is_as_at_first(alloc: Global, copy: &Page) -> Result<bool, Fail> {
+    let alike = copy.nodes() == 130 && copy.top() == value(130, 0, NOBODY)?.time();
+    Ok(alike && tells_of_key(alloc, copy, 40, 41, FIRST)?)
 }
 
 /// An Add over leaves of a page of which a copy shares all but one: the copy answers as before. And one over
@@ -552,30 +695,21 @@ fn answers_after_a_long_add(alloc: Global, page: &Page) -> Result<bool, Fail> {
 #[test]
 fn an_add_over_shared_leaves(rt: HostRuntime) -> Result<(), Fail> {
     let mut page = page_of_bytes(rt.alloc())?;
-    assert!(rt; has_leaves(&page, &[32, 32, 32, 34]));
+    assert!(rt; has_leaves(&page, &FOUR_LEAVES));
     let copy = page.try_copy()?;
-    let ends = Ends {
-        exclude_from: false,
-        exclude_to: true,
-    };
-    let inner = Span::point(byte_key(rt.alloc(), 40)?);
-    add_once(&mut page, &inner, value(150, 0, SECOND)?)?;
-    let span = byte_range(rt.alloc(), 10, 120, ends)?;
-    add_once(&mut page, &span, value(200, 0, SECOND)?)?;
+    add_over_shared(rt.alloc(), &mut page)?;
     assert!(rt; answers_after_a_long_add(rt.alloc(), &page)?);
-    assert!(rt; has_leaves(&page, &[32, 32, 32, 34]) && has_leaves(&copy, &[32, 32, 32, 34]));
-    let longer = byte_range(rt.alloc(), 10, 150, ends)?;
-    add_once(&mut page, &longer, value(201, 0, FIRST)?)?;
-    assert!(rt; has_leaves(&page, &[32, 32, 32, 35]));
-    assert!(rt; page.lookup(&inner) == value(201, 0, FIRST)? && page.nodes() == 131);
-    assert!(rt; copy.lookup(&inner) == value(41, 0, FIRST)? && copy.nodes() == 130);
-    assert!(rt; copy.top() == value(130, 0, NOBODY)?.time());
+    assert!(rt; has_leaves(&page, &FOUR_LEAVES) && has_leaves(&copy, &FOUR_LEAVES));
+    assert!(rt; is_added_beyond(rt.alloc(), &mut page)?);
+    assert!(rt; is_as_at_first(rt.alloc(), &copy)?);
     Ok(())
 }
 
+type OverLeaves = (bool, [u8; 2], [u8; 2], [u32; 3]);
+
 /// What is added to pages of three leaves whose copies share them: first to the copies or to the pages, so that one leaf of
 /// the pages is theirs alone, or each; and then over all leaves of the pages, which have these sizes then.
-static OVER_LEAVES: [(bool, [u8; 2], [u8; 2], [u32; 3]); 5] = [
+static OVER_LEAVES: [OverLeaves; 5] = [
     (false, [6, 6], [10, 180], [32, 32, 33]),
     (true, [6, 6], [11, 181], [33, 32, 34]),
     (true, [64, 64], [10, 181], [32, 32, 34]),
@@ -635,28 +769,51 @@ fn add_beside(
     Ok(alike)
 }
 
+/// Adds a value at a wall time to a range of both pages, or to a single key, in the same way.
+fn add_bytes_beside(
+    alloc: Global,
+    pages: &mut Pages,
+    copies: &Pages,
+    bytes: [u8; 2],
+    wall: u64,
+    all: &[Span],
+) -> Result<bool, Fail> {
+    add_beside(
+        pages,
+        copies,
+        &bytes_up_to(alloc, bytes)?,
+        value(wall, 0, SECOND)?,
+        all,
+    )
+}
+
+/// Makes the Adds of a row, and says of those that were refused memory, and of all pages then, whether they are as they
+/// have to be.
+fn add_over_leaves(alloc: Global, row: &OverLeaves, all: &[Span]) -> Result<(bool, bool), Fail> {
+    let (in_copies, first, second, sizes) = row;
+    let mut pages = pages_of_bytes(alloc)?;
+    let mut copies = pages.copy()?;
+    let single = if *in_copies {
+        add_bytes_beside(alloc, &mut copies, &pages, *first, 250, all)?
+    } else {
+        add_bytes_beside(alloc, &mut pages, &copies, *first, 250, all)?
+    };
+    let alike = add_bytes_beside(alloc, &mut pages, &copies, *second, 220, all)?;
+    let copied = alike_in_leaves(&copies, &THREE_LEAVES, all);
+    Ok((
+        single && alike,
+        copied && alike_in_leaves(&pages, sizes, all),
+    ))
+}
+
 /// Adds over leaves that copies hold too, all but one, and over leaves that they did.
 #[test]
 fn an_add_over_leaves_of_a_copy(rt: HostRuntime) -> Result<(), Fail> {
-    let alloc = rt.alloc();
-    let all = all_spans(alloc, SOME_BYTES)?;
-    for (in_copies, first, second, sizes) in &OVER_LEAVES {
-        let mut pages = pages_of_bytes(alloc)?;
-        let mut copies = pages.copy()?;
-        let (inner, over) = (bytes_up_to(alloc, *first)?, bytes_up_to(alloc, *second)?);
-        let (later, last) = (value(250, 0, SECOND)?, value(220, 0, SECOND)?);
-        let single = if *in_copies {
-            add_beside(&mut copies, &pages, &inner, later, &all)?
-        } else {
-            add_beside(&mut pages, &copies, &inner, later, &all)?
-        };
-        let alike = add_beside(&mut pages, &copies, &over, last, &all)?;
-        assert!(rt; single && alike, "a refused Add: {first:?} {second:?}");
-        let copied = alike_in_leaves(&copies, &THREE_LEAVES, &all);
-        assert!(rt;
-            copied && alike_in_leaves(&pages, sizes, &all),
-            "{first:?} {second:?}"
-        );
+    let all = all_spans(rt.alloc(), SOME_BYTES)?;
+    for row in &OVER_LEAVES {
+        let (refused, alike) = add_over_leaves(rt.alloc(), row, &all)?;
+        assert!(rt; refused, "a refused Add: {row:?}");
+        assert!(rt; alike, "{row:?}");
     }
     Ok(())
 }
@@ -686,6 +843,43 @@ pub(crate) fn numbered_key(alloc: Global, number: u32, alike: bool) -> Result<Ke
     Ok(Key::new(alloc, bytes)?)
 }
 
+/// The range from the key of a number to that of another one.
+pub(crate) fn range(
+    alloc: Global,
+    from: u32,
+    to: u32,
+    ends: Ends,
+    alike: bool,
+) -> Result<Span, Fail> {
+    let (from, to) = (
+        numbered_key(alloc, from, alike)?,
+        numbered_key(alloc, to, alike)?,
+    );
+    Ok(Span::for_lookup(from, to, ends))
+}
+
+/// The span of a step among so many: from the key of its number up to the key of the next number.
+pub(crate) fn step_span(
+    alloc: Global,
+    order: Order,
+    step: u32,
+    count: u32,
+    alike: bool,
+) -> Result<Span, Fail> {
+    let at = number(order, step, count);
+    let ends = Ends {
+        exclude_from: at % 3 == 1,
+        exclude_to: at % 2 == 0,
+    };
+    let next = at.saturating_add(1).min(count.saturating_sub(1));
+    range(alloc, at, next, ends, alike)
+}
+
+/// The value that a step adds.
+pub(crate) fn step_value(step: u32) -> Result<Value, Fail> {
+    value(u64::from(step % 50) + 1, 0, u128::from(step % 3))
+}
+
 /// Fills both pages with the keys of so many numbers, each in a range up to the key of the next number.
 fn fill(
     alloc: Global,
@@ -695,25 +889,9 @@ fn fill(
     count: u32,
 ) -> Result<(), Fail> {
     for step in 0..count {
-        let at = number(order, step, count);
-        let ends = Ends {
-            exclude_from: at % 3 == 1,
-            exclude_to: at % 2 == 0,
-        };
-        let (from, to) = (
-            numbered_key(alloc, at, alike)?,
-            numbered_key(
-                alloc,
-                at.saturating_add(1).min(count.saturating_sub(1)),
-                alike,
-            )?,
-        );
-        let span = Span::for_lookup(from, to, ends);
+        let span = step_span(alloc, order, step, count, alike)?;
         if !span.is_empty() {
-            pages.add(
-                &span,
-                value(u64::from(step % 50) + 1, 0, u128::from(step % 3))?,
-            )?;
+            pages.add(&span, step_value(step)?)?;
         }
     }
     Ok(())
@@ -729,11 +907,7 @@ fn filled_alike(alloc: Global, pages: &Pages, alike: bool, count: u32) -> Result
                 exclude_from: exclude,
                 exclude_to: exclude,
             };
-            let (from, to) = (
-                numbered_key(alloc, at, alike)?,
-                numbered_key(alloc, at.saturating_add(length), alike)?,
-            );
-            let span = Span::for_lookup(from, to, ends);
+            let span = range(alloc, at, at.saturating_add(length), ends, alike)?;
             same &= pages.page.lookup(&span) == pages.plain.lookup(&span);
         }
     }

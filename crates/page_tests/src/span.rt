@@ -23,10 +23,10 @@ const BOTH: Ends = Ends {
 };
 
 /// Keys, each of which comes before the next.
-const RISING: [&[u8]; 7] = [b"", b"\x00", b"a", b"a\x00", b"ab", b"b", b"\xff"];
+static RISING: [&[u8]; 7] = [b"", b"\x00", b"a", b"a\x00", b"ab", b"b", b"\xff"];
 
 /// The keys that are looked for in each span.
-const PROBES: [&[u8]; 8] = [b"", b"a", b"a\x00", b"b", b"c", b"l", b"m", b"\xff"];
+static PROBES: [&[u8]; 8] = [b"", b"a", b"a\x00", b"b", b"c", b"l", b"m", b"\xff"];
 
 /// Which constructor makes a span.
 #[derive(Clone, Copy)]
@@ -163,14 +163,13 @@ static PAIRS: [(Made, Made, bool, bool); 10] = [
     ),
 ];
 
-const TEXTS: [(SpanFault, &str); 3] = [
+static TEXTS: [(SpanFault, &str); 3] = [
     (SpanFault::KeyTooLong, "the key is too long"),
     (SpanFault::Inverted, "the range is inverted"),
     (SpanFault::NoMemory, "out of memory"),
 ];
 
-fn make(alloc: Global, (way, from, to): Made) -> Result<Span, SpanFault> {
-    let (from, to) = (Key::new(alloc, from)?, Key::new(alloc, to)?);
+fn span_of(way: Way, from: Key, to: Key) -> Result<Span, SpanFault> {
     match way {
         Way::Point => Ok(Span::point(from)),
         Way::Range(ends) => Span::range(from, to, ends),
@@ -180,24 +179,39 @@ fn make(alloc: Global, (way, from, to): Made) -> Result<Span, SpanFault> {
     }
 }
 
+fn make(alloc: Global, (way, from, to): Made) -> Result<Span, SpanFault> {
+    span_of(way, Key::new(alloc, from)?, Key::new(alloc, to)?)
+}
+
+/// Whether a span covers a key and overlaps it, or it does neither.
+fn meets(alloc: Global, span: &Span, probe: &[u8], within: bool) -> Result<bool, Fail> {
+    let single = Span::point(Key::new(alloc, probe)?);
+    Ok(span.covers(probe) == within && span.overlaps(&single) == within)
+}
+
+/// Whether these are the end keys of a span.
+fn has_ends(span: &Span, ends: &[&[u8]]) -> bool {
+    let (first, second) = span.end_keys();
+    first.map(|key| key.bytes()) == ends.first().copied()
+        && second.map(|key| key.bytes()) == ends.get(1).copied()
+}
+
 /// Whether a span covers these keys of `PROBES` alone, overlaps just the single keys that it covers, has
 /// these end keys, and is empty where it has none, and else overlaps itself.
 fn is_known(alloc: Global, span: &Span, (covered, ends): Known) -> Result<bool, Fail> {
-    for probe in PROBES {
-        let single = Span::point(Key::new(alloc, probe)?);
-        let within = covered.contains(&probe);
-        if span.covers(probe) != within || span.overlaps(&single) != within {
+    for probe in &PROBES {
+        if !meets(alloc, span, probe, covered.contains(probe))? {
             return Ok(false);
         }
     }
-    let (first, second) = span.end_keys();
     let is_empty = ends.is_empty();
-    Ok(
-        first.map(|key| key.bytes()) == ends.first().copied()
-            && second.map(|key| key.bytes()) == ends.get(1).copied()
-            && span.is_empty() == is_empty
-            && span.overlaps(span) != is_empty,
-    )
+    Ok(has_ends(span, ends) && span.is_empty() == is_empty && span.overlaps(span) != is_empty)
+}
+
+/// Whether a span and a copy of it are the same, and known so.
+fn is_known_and_copied(alloc: Global, span: &Span, known: Known) -> Result<bool, Fail> {
+    let copy = span.try_copy()?;
+    Ok(copy == *span && is_known(alloc, span, known)? && is_known(alloc, &copy, known)?)
 }
 
 /// Whether a constructor gives what a row says, and a copy of it is the same.
@@ -206,11 +220,10 @@ fn holds(alloc: Global, made: Made, known: Option<Known>) -> Result<bool, Fail> 
         Err(SpanFault::Inverted) => return Ok(known.is_none()),
         made => made?,
     };
-    let Some(known) = known else {
-        return Ok(false);
-    };
-    let copy = span.try_copy()?;
-    Ok(copy == span && is_known(alloc, &span, known)? && is_known(alloc, &copy, known)?)
+    match known {
+        Some(known) => is_known_and_copied(alloc, &span, known),
+        None => Ok(false),
+    }
 }
 
 /// Whether two keys, of which the first comes before the second, are ordered so, and are their own copies.
@@ -220,23 +233,50 @@ fn are_rising(alloc: Global, smaller: &[u8], greater: &[u8]) -> Result<bool, Fai
     Ok(ordered && smaller.try_copy()? == smaller && greater.try_copy()? == greater)
 }
 
+/// Whether a key of these bytes can be made, from a slice and from a vector.
+fn is_made(alloc: Global, bytes: &[u8]) -> Result<bool, Fail> {
+    let key = Key::new(alloc, bytes)?;
+    let moved = Key::try_from(Vec::from_slice(alloc, bytes)?)?;
+    Ok(key.bytes() == bytes && moved == key)
+}
+
+/// Whether a key of these bytes is refused as too long, from a slice and from a vector.
+fn is_too_long(alloc: Global, bytes: &[u8]) -> Result<bool, Fail> {
+    let refused = Key::try_from(Vec::from_slice(alloc, bytes)?);
+    Ok(
+        Key::new(alloc, bytes) == Err(SpanFault::KeyTooLong)
+            && refused == Err(SpanFault::KeyTooLong),
+    )
+}
+
+/// The first of some keys, from 0, that isn't before the next one.
+fn first_not_rising(alloc: Global, keys: &[&[u8]]) -> Result<Option<usize>, Fail> {
+    for (i, pair) in keys.windows(2).enumerate() {
+        if !are_rising(alloc, pair[0], pair[1])? {
+            return Ok(Some(i));
+        }
+    }
+    Ok(None)
+}
+
+/// The first of some faults, from 0, that has another text.
+fn wrong_text(alloc: Global, rows: &[(SpanFault, &str)]) -> Result<Option<usize>, Fail> {
+    for (i, (fault, text)) in rows.iter().enumerate() {
+        if format!(in alloc; "{fault}")?.as_str() != *text {
+            return Ok(Some(i));
+        }
+    }
+    Ok(None)
+}
+
 #[test]
 fn keys_and_faults(rt: HostRuntime) -> Result<(), Fail> {
     let bytes = [7u8; LONGEST_KEY + 1];
-    let longest = Key::new(rt.alloc(), &bytes[1..])?;
-    assert_eq!(rt; longest.bytes(), &bytes[1..]);
-    assert_eq!(rt; Key::new(rt.alloc(), &bytes), Err(SpanFault::KeyTooLong));
-    let moved = Key::try_from(Vec::from_slice(rt.alloc(), &bytes[1..])?)?;
-    assert_eq!(rt; moved, longest);
-    let refused = Key::try_from(Vec::from_slice(rt.alloc(), &bytes)?);
-    assert_eq!(rt; refused, Err(SpanFault::KeyTooLong));
     assert_eq!(rt; bytes.len(), 4097);
-    for pair in RISING.windows(2) {
-        assert!(rt; are_rising(rt.alloc(), pair[0], pair[1])?, "{pair:?}");
-    }
-    for (fault, text) in TEXTS {
-        assert_eq!(rt; format!(in rt.alloc(); "{fault}")?.as_str(), text);
-    }
+    assert!(rt; is_made(rt.alloc(), &bytes[1..])?);
+    assert!(rt; is_too_long(rt.alloc(), &bytes)?);
+    assert_eq!(rt; first_not_rising(rt.alloc(), &RISING)?, None);
+    assert_eq!(rt; wrong_text(rt.alloc(), &TEXTS)?, None);
     Ok(())
 }
 
@@ -250,12 +290,18 @@ fn wrong_span(alloc: Global, rows: &[(Made, Option<Known>)]) -> Result<Option<us
     Ok(None)
 }
 
+/// Whether two constructors give spans that overlap or don't, and are the same or not.
+fn is_pair(alloc: Global, row: &(Made, Made, bool, bool)) -> Result<bool, Fail> {
+    let (first, second, overlap, same) = row;
+    let (first, second) = (make(alloc, *first)?, make(alloc, *second)?);
+    let overlaps = first.overlaps(&second) == *overlap && second.overlaps(&first) == *overlap;
+    Ok(overlaps && (first == second) == *same)
+}
+
 /// The first row of a table of two spans that doesn't hold.
 fn wrong_pair(alloc: Global, rows: &[(Made, Made, bool, bool)]) -> Result<Option<usize>, Fail> {
-    for (i, (first, second, overlap, same)) in rows.iter().enumerate() {
-        let (first, second) = (make(alloc, *first)?, make(alloc, *second)?);
-        let overlaps = first.overlaps(&second) == *overlap && second.overlaps(&first) == *overlap;
-        if !overlaps || (first == second) != *same {
+    for (i, row) in rows.iter().enumerate() {
+        if !is_pair(alloc, row)? {
             return Ok(Some(i));
         }
     }
@@ -296,22 +342,33 @@ fn copies_span(span: &Span, same: &Span) -> Result<bool, Fail> {
 }
 
 /// A single key, a range, a span without end, and the empty one.
-fn samples(alloc: Global) -> Result<[Span; 4], Fail> {
-    Ok([
-        Span::point(key_again(alloc, b"a")?),
-        Span::range(key_again(alloc, b"a")?, key_again(alloc, b"c")?, FROM)?,
-        Span::onward(key_again(alloc, b"a")?, true),
-        Span::range(key_again(alloc, b"a")?, key_again(alloc, b"a")?, BOTH)?,
-    ])
+static SAMPLES: [Made; 4] = [
+    (Way::Point, b"a", b""),
+    (Way::Range(FROM), b"a", b"c"),
+    (Way::Onward(true), b"a", b""),
+    (Way::Range(BOTH), b"a", b"a"),
+];
+
+/// A span, for whose keys the calls that are refused memory are made again.
+fn sample(alloc: Global, (way, from, to): Made) -> Result<Span, Fail> {
+    Ok(span_of(way, key_again(alloc, from)?, key_again(alloc, to)?)?)
+}
+
+/// The first of some samples, from 0, that can't be copied.
+fn first_not_copied(alloc: Global, rows: &[Made]) -> Result<Option<usize>, Fail> {
+    for (i, made) in rows.iter().enumerate() {
+        let (span, same) = (sample(alloc, *made)?, sample(alloc, *made)?);
+        if !copies_span(&span, &same)? {
+            return Ok(Some(i));
+        }
+    }
+    Ok(None)
 }
 
 #[test]
 fn a_refused_growth_changes_nothing(rt: HostRuntime) -> Result<(), Fail> {
     let key = key_again(rt.alloc(), b"a")?;
     assert!(rt; copies_key(&key, b"a")?);
-    let (spans, others) = (samples(rt.alloc())?, samples(rt.alloc())?);
-    for (span, same) in spans.iter().zip(&others) {
-        assert!(rt; copies_span(span, same)?, "{span:?}");
-    }
+    assert_eq!(rt; first_not_copied(rt.alloc(), &SAMPLES)?, None);
     Ok(())
 }

@@ -8,18 +8,10 @@
 //! standard error.
 #![tactic(auto)]
 
-mod check;
-mod place;
-mod program;
-mod replay;
-mod run;
-mod system;
-mod words;
-
-use crate::program::program;
-use crate::system::{SystemFiles, fetch_words};
 use std::io;
 use std::process::ExitCode;
+use tsc_commands::program::program;
+use tsc_commands::{SystemFiles, fetch_words};
 use tsc_stream::Metered;
 
 fn main(rt: HostRuntime) -> ExitCode {

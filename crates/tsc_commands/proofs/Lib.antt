@@ -1,0 +1,9 @@
+pub mod WordExamples
+pub mod WordSorts
+pub mod WordTurns
+pub mod Operands
+pub mod OneFile
+pub mod TwoFiles
+pub mod WordLemmas
+pub mod FoundLemmas
+pub mod ProgramExamples

@@ -1,0 +1,28 @@
+//! Places where the program finds files by their names.
+ghost use Rattle.std.specs.Prelude.{ℕ, List, Option, Result};
+ghost use Rattle.tsc_commands.specs.Place.{IsOpening};
+ghost use Rattle.tsc_commands.specs.declared.place.OpenFault.{OpenFault};
+
+use tsc_stream::Source;
+
+/// Why a file was not opened.
+#[derive(Clone, Copy, Debug, PartialEq, Eq)]
+pub enum OpenFault {
+    /// It could not be opened.
+    Unopened,
+    /// A growth was refused.
+    NoMemory,
+}
+
+/// A place where files are found by their names.
+pub trait Place {
+    /// A file that was opened.
+    type File: Source + Drop;
+
+    /// What opening the file of a name may come to: its bytes, where they are known, or why there are none.
+    ghost opens: { Self → List ℕ → Result (Option (List ℕ)) OpenFault → Type 0 };
+
+    /// Opens the file of a name, to be read from its first byte on.
+    fn open(&self, name: &str) -> Result<Self::File, OpenFault>
+        ensures { IsOpening Self.File.known (opens self.now name.now) result };
+}

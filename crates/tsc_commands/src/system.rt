@@ -1,0 +1,67 @@
+//! What the program takes from the system: its words, and the files that they name.
+//!
+//! The contracts of `std` say nothing of either. Tests show that these are the words of the call, and that a
+//! file is read beyond its first bytes.
+ghost use Rattle.std.specs.Prelude.{◌≡◌, ◌↔◌};
+ghost use Rattle.tsc_commands.specs.Place.{says_nothing};
+
+use crate::place::{OpenFault, Place};
+use crate::words::WordsFault;
+use std::env::Env;
+use std::io::ErrorKind;
+use std::rt::Files;
+use std::{env, fs};
+use tsc_stream::Metered;
+
+/// The program's words, of which the first is its own name. A word that is no text is wrong.
+pub fn fetch_words<R: Env + AllocGlobal>(rt: &R) -> Result<Vec<String>, WordsFault> {
+    match env::args(rt) {
+        Ok(words) => Ok(words.collect(rt.alloc())?),
+        Err(error) => Err(words_fault(error.kind())),
+    }
+}
+
+/// Why the words are not to be had, where the system gives an error of this kind.
+fn words_fault(kind: ErrorKind) -> WordsFault
+    ensures { (result ≡ WordsFault.NoMemory) ↔ (kind ≡ ErrorKind.OutOfMemory) }
+{
+    match kind {
+        ErrorKind::OutOfMemory => WordsFault::NoMemory,
+        _ => WordsFault::Wrong,
+    }
+}
+
+/// The files that a runtime reaches.
+#[derive(Drop)]
+pub struct SystemFiles<'a, R> {
+    runtime: &'a R,
+}
+
+impl<'a, R> SystemFiles<'a, R> {
+    pub fn of(runtime: &'a R) -> SystemFiles<'a, R> {
+        SystemFiles { runtime }
+    }
+}
+
+impl<R: Files> Place for SystemFiles<'_, R> {
+    type File = Metered<R::File>;
+
+    ghost opens = { says_nothing };
+
+    fn open(&self, name: &str) -> Result<Metered<R::File>, OpenFault> {
+        match fs::open(self.runtime, name) {
+            Ok(file) => Ok(Metered::new(file)),
+            Err(error) => Err(open_fault(error.kind())),
+        }
+    }
+}
+
+/// Why a file was not opened, where the system gives an error of this kind.
+fn open_fault(kind: ErrorKind) -> OpenFault
+    ensures { (result ≡ OpenFault.NoMemory) ↔ (kind ≡ ErrorKind.OutOfMemory) }
+{
+    match kind {
+        ErrorKind::OutOfMemory => OpenFault::NoMemory,
+        _ => OpenFault::Unopened,
+    }
+}

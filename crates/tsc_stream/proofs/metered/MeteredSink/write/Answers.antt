@@ -1,0 +1,6 @@
+-- What was taken is told.
+use Rattle.std.proofs.Common.{rules}
+use Rattle.tsc_stream.proofs.metered.MeteredSink.write.Goals as goal
+
+pub returns-else-eq-2-clause-bytes : goal.returns-else-eq-2-clause-bytes
+returns-else-eq-2-clause-bytes g c = search rules

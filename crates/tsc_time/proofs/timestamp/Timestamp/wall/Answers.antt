@@ -1,0 +1,6 @@
+-- The wall time is told.
+use Rattle.std.proofs.Common.{rules}
+use Rattle.tsc_time.proofs.timestamp.Timestamp.wall.Goals as goal
+
+pub returns-clause-value : goal.returns-clause-value
+returns-clause-value c = search rules

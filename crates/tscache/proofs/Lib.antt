@@ -1,4 +1,0 @@
-pub mod WordExamples
-pub mod WordLemmas
-pub mod FoundLemmas
-pub mod ProgramExamples
