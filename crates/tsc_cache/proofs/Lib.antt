@@ -5,6 +5,7 @@ pub mod MarkLists
 pub mod Floors
 pub mod Steps
 pub mod KeptMarks
+pub mod Beginnings
 pub mod Histories
 pub mod StatesSeen
 pub mod Droppings

@@ -1,5 +1,5 @@
 -- What follows from the definitions, for every configuration, history and span.
-use Rattle.std.specs.Prelude.{◌≡◌, ◌⊎◌, List, ◌++◌, map, reverse, length, Contains, true, false, Some}
+use Rattle.std.specs.Prelude.{◌≡◌, ◌⊎◌, ℕ, List, ◌++◌, map, reverse, length, Contains, true, false, Some}
 use Rattle.tsc_time.specs.Time.{Time, is_before, time_minus}
 use Rattle.tsc_time.specs.OwnedTime.{Owner, OwnedTime}
 use Rattle.tsc_time.specs.Joint.{joint_above, IsAtMost}
@@ -8,7 +8,7 @@ use Rattle.tsc_nodes.specs.Page.{PageMarks, top}
 use Rattle.tsc_cache.specs.Settings.{Settings}
 use Rattle.tsc_cache.specs.State.{look, evict}
 use Rattle.tsc_cache.specs.Eviction.{highest, Evicts}
-use Rattle.tsc_cache.specs.History.{Entry, History, state_of, entries_on, BeginsWith}
+use Rattle.tsc_cache.specs.History.{Entry, History, state_of, entries_on, BeginsWith, IsLegal}
 
 -- An entry is at most what a lookup of a span that it overlaps answers, in the ratchet order, whether its page is still there or not.
 abbrev pub KeptUp : Type 0
@@ -18,6 +18,13 @@ KeptUp = (settings : Settings) (h : History) (e : Entry) (s : Interval) → Cont
 pub record Rising : Type 0 where
   pub answers : (settings : Settings) (start h : History) (s : Interval) → BeginsWith h start → IsAtMost (look (state_of settings start) s) (look (state_of settings h) s)
   pub floors : (settings : Settings) (start h : History) → BeginsWith h start → is_before (state_of settings h).floor (state_of settings start).floor ≡ false
+
+-- What a history begins with: itself, and all that a beginning of it begins with. A beginning has no entry that the whole has not, and is legal where the whole is.
+pub record Beginnings : Type 0 where
+  pub itself : (h : History) → BeginsWith h h
+  pub onward : (h middle start : History) → BeginsWith h middle → BeginsWith middle start → BeginsWith h start
+  pub entries : (h start : History) (e : Entry) → BeginsWith h start → Contains start e → Contains h e
+  pub legal : (seats : ℕ) (h start : History) → BeginsWith h start → IsLegal seats h → IsLegal seats start
 
 -- The floor stands where it did at first, or it is older than the retention at the moment of some entry.
 abbrev pub FloorBehind : Type 0

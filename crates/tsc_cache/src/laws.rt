@@ -2,7 +2,7 @@
 //!
 //! No program needs to call these functions: their contracts are the laws. Whoever keeps a history, as a
 //! ghost, calls [`can_be_added`] to know of an Add that it may stand there.
-ghost use Rattle.tsc_cache.specs.Laws.{KeptUp, Rising, FloorBehind, Real, NoWriteBelowARead, EvictsExpired};
+ghost use Rattle.tsc_cache.specs.Laws.{KeptUp, Rising, Beginnings, FloorBehind, Real, NoWriteBelowARead, EvictsExpired};
 ghost use Rattle.tsc_cache.specs.History.{CanBeAdded};
 
 use tsc_span::Span;
@@ -17,6 +17,15 @@ pub fn kept_up()
 /// As Adds go on, the answer to a span never sinks, and the floor never does.
 pub fn rising()
     ensures { Rising }
+{}
+
+/// A history begins with itself and with all that a beginning of it begins with, and has each entry of a beginning;
+/// a beginning of a legal history is legal.
+///
+/// What a seat of a shared cache has seen begins with what it had seen before, or what a front shows: with this law
+/// that holds over several calls.
+pub fn beginnings()
+    ensures { Beginnings }
 {}
 
 /// The floor stands where the configuration put it, or it was already older than the retention at the
