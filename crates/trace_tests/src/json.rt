@@ -1,6 +1,6 @@
 use std::alloc::Global;
 use std::test::*;
-use tsc_json::{Call, TraceFault, read_trace};
+use tsc_json::{Call, Trace, TraceFault, read_trace};
 
 /// What reading tells: how many calls there are, or the fault.
 type Told = Result<usize, TraceFault>;
@@ -353,6 +353,18 @@ fn wrong_text(
     Ok(None)
 }
 
+/// The first of the lists of calls, from 0, of which something else is told.
+fn wrong_threads(alloc: Global, rows: &[(&str, Told)]) -> Result<Option<usize>, Fail> {
+    let before = format!(in alloc; "{{{HEAD},\"threads\":")?;
+    wrong_text(alloc, &before, rows, "}")
+}
+
+/// The first of the calls, from 0, of which something else is told where it is a trace's only one.
+fn wrong_call(alloc: Global, rows: &[(&str, Told)]) -> Result<Option<usize>, Fail> {
+    let before = format!(in alloc; "{{{HEAD},\"threads\":[[")?;
+    wrong_text(alloc, &before, rows, "]]}")
+}
+
 /// A trace with `threads` of a front, a piece as often as this, and a tail.
 fn long_trace(
     alloc: Global,
@@ -402,10 +414,8 @@ fn tells_what_decides_in_the_head(rt: HostRuntime) -> Result<(), Fail> {
 
 #[test]
 fn tells_what_decides_in_calls(rt: HostRuntime) -> Result<(), Fail> {
-    let before = format!(in rt.alloc(); "{{{HEAD},\"threads\":")?;
-    assert_eq!(rt; wrong_text(rt.alloc(), &before, &THREADS, "}")?, None);
-    let before = format!(in rt.alloc(); "{before}[[")?;
-    assert_eq!(rt; wrong_text(rt.alloc(), &before, &CALLS, "]]}")?, None);
+    assert_eq!(rt; wrong_threads(rt.alloc(), &THREADS)?, None);
+    assert_eq!(rt; wrong_call(rt.alloc(), &CALLS)?, None);
     assert_eq!(rt; wrong_long_trace(rt.alloc(), &LONG_TRACES)?, None);
     Ok(())
 }
@@ -451,12 +461,15 @@ static SPANS: [(&str, [bool; 4]); 14] = [
 
 static KEYS: [&[u8]; 4] = [b"a", b"b", b"c", b"d"];
 
-/// Whether the span of a trace's only call covers those of the keys that it has to.
-fn covers(alloc: Global, span: &str, want: &[bool]) -> Result<bool, Fail> {
-    let text = format!(in alloc; "{{{HEAD},\"threads\":[[{{\"op\":\"get\",\"span\":{span}}}]]}}")?;
-    let trace = read_trace(alloc, text.as_bytes())?;
+/// The first call of a trace's first list.
+fn first_call(trace: &Trace) -> Result<&Call, Fail> {
     let calls = trace.threads.list(0).ok_or("no list")?;
-    let Some(Call::Get { span }) = calls.first() else {
+    Ok(calls.first().ok_or("no call")?)
+}
+
+/// Whether the span of a lookup covers those of the keys that it has to.
+fn call_covers(call: &Call, want: &[bool]) -> Result<bool, Fail> {
+    let Call::Get { span } = call else {
         return Err(Fail::from("no lookup"));
     };
     let mut alike = want.len() == KEYS.len();
@@ -464,6 +477,13 @@ fn covers(alloc: Global, span: &str, want: &[bool]) -> Result<bool, Fail> {
         alike &= span.covers(key) == *want;
     }
     Ok(alike)
+}
+
+/// Whether the span of a trace's only call covers those of the keys that it has to.
+fn covers(alloc: Global, span: &str, want: &[bool]) -> Result<bool, Fail> {
+    let text = format!(in alloc; "{{{HEAD},\"threads\":[[{{\"op\":\"get\",\"span\":{span}}}]]}}")?;
+    let trace = read_trace(alloc, text.as_bytes())?;
+    call_covers(first_call(&trace)?, want)
 }
 
 /// The first of the spans, from 0, that covers other keys.
@@ -507,18 +527,22 @@ static OWNERS: [(&str, Option<u128>); 7] = [
     ),
 ];
 
+/// Whether a call is the Add with its times, and this owner.
+fn call_adds(call: &Call, want: Option<u128>) -> Result<bool, Fail> {
+    let Call::Add { value, now, .. } = call else {
+        return Err(Fail::from("no Add"));
+    };
+    let owner = value.owner().map(|owner| owner.as_u128());
+    Ok(value.time().wall() == 20 && now.wall() == 30 && owner == want)
+}
+
 /// Whether the Add that is a trace's only call has its times, and this owner.
 fn is_added(alloc: Global, owner: &str, want: Option<u128>) -> Result<bool, Fail> {
     let text = format!(in alloc;
         "{{{HEAD},\"threads\":[[{{\"op\":\"add\",\"span\":{{\"start\":\"61\"}},\"time\":[20,1],\"now\":[30,2]{owner}}}]]}}"
     )?;
     let trace = read_trace(alloc, text.as_bytes())?;
-    let calls = trace.threads.list(0).ok_or("no list")?;
-    let Some(Call::Add { value, now, .. }) = calls.first() else {
-        return Err(Fail::from("no Add"));
-    };
-    let owner = value.owner().map(|owner| owner.as_u128());
-    Ok(value.time().wall() == 20 && now.wall() == 30 && owner == want)
+    call_adds(first_call(&trace)?, want)
 }
 
 /// The first of the owners, from 0, that is read otherwise.

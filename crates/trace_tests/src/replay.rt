@@ -1,4 +1,5 @@
 use std::alloc::Global;
+use std::process::Abort;
 use std::test::Fail;
 use tsc_stream::fakes::{Faulty, Mishap};
 use tsc_time::NoMemory;
@@ -151,17 +152,25 @@ fn is_streamed(alloc: Global, text: &str, log: &str) -> Result<bool, Fail> {
     Ok(holds(writer, log))
 }
 
+/// Whether a log is written as this text, read again from it, and what it reads as.
+fn is_logged(alloc: Global, played: &Log, log: &str) -> Result<bool, Fail> {
+    Ok(
+        is_written(alloc, played, log)?
+            && is_read_again(alloc, played, log)?
+            && is_its_own_reading(alloc, played)?,
+    )
+}
+
+/// Whether playing and replaying a trace give this log.
+fn is_played(alloc: Global, trace: &Trace, log: &str) -> Result<bool, Fail> {
+    let played = play(alloc, trace)?;
+    Ok(is_logged(alloc, &played, log)? && is_replayed(alloc, trace, log)?)
+}
+
 /// Whether each call gives this log of a trace.
 fn gives(alloc: Global, text: &str, log: &str) -> Result<bool, Fail> {
     let trace = read_trace(alloc, text.as_bytes())?;
-    let played = play(alloc, &trace)?;
-    Ok(
-        is_written(alloc, &played, log)?
-            && is_read_again(alloc, &played, log)?
-            && is_its_own_reading(alloc, &played)?
-            && is_replayed(alloc, &trace, log)?
-            && is_streamed(alloc, text, log)?,
-    )
+    Ok(is_played(alloc, &trace, log)? && is_streamed(alloc, text, log)?)
 }
 
 /// The first row of a table of replays that doesn't hold.
@@ -252,17 +261,22 @@ fn play_again(alloc: Global, trace: &Trace) -> Result<Log, Fail> {
     }
 }
 
+/// Whether a log is read back from its text, in the same way.
+fn is_read_back(alloc: Global, log: &Log, text: &[u8]) -> Result<bool, Fail> {
+    let back = match read_log(alloc, text) {
+        Err(LogFault::NoMemory) => read_log(alloc, text)?,
+        read => read?,
+    };
+    Ok(back.lines.slice() == log.lines.slice())
+}
+
 /// Its text, in the same way, read back.
 fn text_again(alloc: Global, log: &Log) -> Result<Vec<u8>, Fail> {
     let text = match log_text(alloc, log) {
         Err(NoMemory) => log_text(alloc, log)?,
         made => made?,
     };
-    let back = match read_log(alloc, text.as_slice()) {
-        Err(LogFault::NoMemory) => read_log(alloc, text.as_slice())?,
-        read => read?,
-    };
-    if back.lines.slice() != log.lines.slice() {
+    if !is_read_back(alloc, log, text.as_slice())? {
         return Err(Fail::from("read back as another log"));
     }
     Ok(text)
@@ -291,19 +305,40 @@ fn replay_again(alloc: Global, trace: &Trace) -> Result<Vec<u8>, Fail> {
     Ok(again.into_inner())
 }
 
+/// A trace of three calls.
+const THREE_CALLS: &str =
+    r#"{"page_nodes":4,"min_pages":2,"retention":10,"low_water":[5,0],"threads":[[{"op":"add","span":{"start":"61","end":"63"},"time":[20,0],"owner":"11111111-1111-4111-8111-111111111111","now":[20,0]},{"op":"get","span":{"start":"62"}},{"op":"low"}]]}"#;
+
+/// And the log of its replay.
+const THREE_CALLS_LOG: &str =
+    "0 0 add 0 1 0 0\n0 1 get 1 20.0 11111111-1111-4111-8111-111111111111\n0 2 low 1 5.0\n";
+
+/// Whether this is the text of a log.
+fn is_text(alloc: Global, log: &Log, want: &str) -> Result<bool, Fail> {
+    Ok(text_again(alloc, log)?.as_slice() == want.as_bytes())
+}
+
+/// Whether this is written of it.
+fn is_written_once(alloc: Global, log: &Log, want: &str) -> Result<bool, Fail> {
+    Ok(write_again(alloc, log)?.as_slice() == want.as_bytes())
+}
+
+/// Whether this is written of a replay.
+fn is_replayed_once(alloc: Global, trace: &Trace, want: &str) -> Result<bool, Fail> {
+    Ok(replay_again(alloc, trace)?.as_slice() == want.as_bytes())
+}
+
+/// What comes of the trace of three calls and of its log, where each call that is refused memory is made again.
+fn gives_again(rt: &impl Abort, alloc: Global, trace: &Trace, log: &Log) -> Result<(), Fail> {
+    assert!(rt; is_text(alloc, log, THREE_CALLS_LOG)?);
+    assert!(rt; is_written_once(alloc, log, THREE_CALLS_LOG)?);
+    assert!(rt; is_replayed_once(alloc, trace, THREE_CALLS_LOG)?);
+    Ok(())
+}
+
 #[test]
 fn a_refused_growth_writes_nothing(rt: HostRuntime) -> Result<(), Fail> {
-    let alloc = rt.alloc();
-    let trace = read_again(
-        alloc,
-        r#"{"page_nodes":4,"min_pages":2,"retention":10,"low_water":[5,0],"threads":[[{"op":"add","span":{"start":"61","end":"63"},"time":[20,0],"owner":"11111111-1111-4111-8111-111111111111","now":[20,0]},{"op":"get","span":{"start":"62"}},{"op":"low"}]]}"#,
-    )?;
-    let log = play_again(alloc, &trace)?;
-    let text = text_again(alloc, &log)?;
-    let want =
-        "0 0 add 0 1 0 0\n0 1 get 1 20.0 11111111-1111-4111-8111-111111111111\n0 2 low 1 5.0\n";
-    assert_eq!(rt; text.as_slice(), want.as_bytes());
-    assert_eq!(rt; write_again(alloc, &log)?.as_slice(), want.as_bytes());
-    assert_eq!(rt; replay_again(alloc, &trace)?.as_slice(), want.as_bytes());
-    Ok(())
+    let trace = read_again(rt.alloc(), THREE_CALLS)?;
+    let log = play_again(rt.alloc(), &trace)?;
+    gives_again(&rt, rt.alloc(), &trace, &log)
 }

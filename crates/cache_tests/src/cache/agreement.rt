@@ -49,6 +49,12 @@ impl Sequence {
         (self.state >> 33) as u32 % end.max(1)
     }
 
+    /// One of some spans.
+    fn one_of<'s>(&mut self, spans: &'s [Span]) -> Result<&'s Span, Fail> {
+        let place = self.below(u32::try_from(spans.len())?) as usize;
+        Ok(spans.get(place).ok_or("no span")?)
+    }
+
     /// A value whose time goes on with the turn, on the whole.
     fn value(&mut self, turn: u64) -> Result<Value, Fail> {
         let wall = 2 + turn / 6 + u64::from(self.below(12));
@@ -91,25 +97,42 @@ impl Caches {
         Ok(self.in_place.add(span, value, now)? == added && by_next == added)
     }
 
-    /// Whether all stand and answer alike, and the older version as it did.
-    fn agree(&self, spans: &[Span]) -> bool {
+    /// Whether all stand alike.
+    fn stand_alike(&self) -> bool {
         let stand = (
             self.plain.pages(),
             self.plain.rotations(),
             self.plain.low_water(),
         );
-        let mut alike = stand == stand_of(&self.in_place) && stand == stand_of(&self.newest);
-        for span in spans {
-            let value = self.plain.get_max(span);
-            let counted = self.in_place.get_max_counted(span);
-            alike &= counted.0 == value && counted.1 as usize <= stand.0;
-            alike &= self.newest.get_max_counted(span) == counted;
-            alike &= self.in_place.get_max(span) == value && self.newest.get_max(span) == value;
-        }
+        stand == stand_of(&self.in_place) && stand == stand_of(&self.newest)
+    }
+
+    /// Whether all answer alike to a span, and look into no more pages than there are.
+    fn answer_alike(&self, span: &Span) -> bool {
+        let value = self.plain.get_max(span);
+        let counted = self.in_place.get_max_counted(span);
+        let in_place = counted.0 == value && self.in_place.get_max(span) == value;
+        let next = self.newest.get_max_counted(span) == counted;
+        let looks = counted.1 as usize <= self.plain.pages();
+        in_place && next && looks && self.newest.get_max(span) == value
+    }
+
+    /// Whether the older version answers as it did.
+    fn older_answers_as_before(&self, spans: &[Span]) -> bool {
+        let mut alike = true;
         for (span, value) in spans.iter().zip(&self.answers) {
             alike &= self.older.get_max(span) == *value;
         }
         alike
+    }
+
+    /// Whether all stand and answer alike, and the older version as it did.
+    fn agree(&self, spans: &[Span]) -> bool {
+        let mut alike = self.stand_alike();
+        for span in spans {
+            alike &= self.answer_alike(span);
+        }
+        alike && self.older_answers_as_before(spans)
     }
 
     /// Takes the newest version, and what it answers, as the older one.
@@ -121,6 +144,44 @@ impl Caches {
             self.answers.push(self.older.get_max(span))?;
         }
         Ok(())
+    }
+    /// Makes an Add of one of the spans that looks random, and says whether it tells the same in all.
+    fn add_some(
+        &mut self,
+        sequence: &mut Sequence,
+        turn: u64,
+        spans: &[Span],
+    ) -> Result<bool, Fail> {
+        let span = sequence.one_of(spans)?;
+        let (value, now) = (sequence.value(turn)?, sequence.moment(turn)?);
+        Ok(self.add(span, value, now)?)
+    }
+
+    /// Compares all answers where this is the turn for it, and then takes the newest version as the older one.
+    fn agree_in_turn(&mut self, turn: u64, spans: &[Span], nothing: &Span) -> Result<bool, Fail> {
+        if turn % LOOKS_EVERY != 0 {
+            return Ok(true);
+        }
+        let alike = self.agree(spans);
+        self.keep(spans, nothing)?;
+        Ok(alike)
+    }
+
+    /// Makes so many Adds in each way, and gives the number of the first after which something differs.
+    fn first_difference(
+        &mut self,
+        adds: u64,
+        spans: &[Span],
+        nothing: &Span,
+    ) -> Result<Option<u64>, Fail> {
+        let mut sequence = Sequence { state: 1 };
+        for turn in 0..adds {
+            let told_alike = self.add_some(&mut sequence, turn, spans)?;
+            if !told_alike || !self.agree_in_turn(turn, spans, nothing)? {
+                return Ok(Some(turn));
+            }
+        }
+        Ok(None)
     }
 }
 
@@ -150,25 +211,9 @@ fn spans(alloc: Global) -> Result<Vec<Span>, Fail> {
     Ok(spans)
 }
 
-/// Makes so many Adds in each way, and gives the number of the first after which something differs.
+/// Makes so many Adds in each way on new caches, and gives the number of the first after which something differs.
 pub fn first_difference(alloc: Global, config: Config, adds: u64) -> Result<Option<u64>, Fail> {
     let spans = spans(alloc)?;
     let nothing = super::runner::span(alloc, b"(a,a)")?;
-    let mut caches = Caches::new(alloc, config)?;
-    let mut sequence = Sequence { state: 1 };
-    for turn in 0..adds {
-        let place = sequence.below(u32::try_from(spans.len())?) as usize;
-        let span = spans.get(place).ok_or("no span")?;
-        let (value, now) = (sequence.value(turn)?, sequence.moment(turn)?);
-        if !caches.add(span, value, now)? {
-            return Ok(Some(turn));
-        }
-        if turn % LOOKS_EVERY == 0 {
-            if !caches.agree(&spans) {
-                return Ok(Some(turn));
-            }
-            caches.keep(&spans, &nothing)?;
-        }
-    }
-    Ok(None)
+    Caches::new(alloc, config)?.first_difference(adds, &spans, &nothing)
 }

@@ -142,6 +142,11 @@ fn points(alloc: Global) -> Result<Vec<Span>, Fail> {
     Ok(points)
 }
 
+/// The configuration of pages of so many nodes, of which so many are kept at the least.
+fn config((page_nodes, min_pages): (u32, u32)) -> Result<Config, Fail> {
+    Ok(Config::new(page_nodes, min_pages, RETENTION, at(FLOOR)?)?)
+}
+
 /// A cache on which steps are made.
 #[derive(Drop)]
 struct Player {
@@ -152,6 +157,19 @@ struct Player {
 }
 
 impl Player {
+    /// A player of a new cache, which makes an Add that is refused memory once more or doesn't.
+    fn new(alloc: Global, way: Way, config: Config, tries_again: bool) -> Result<Player, Fail> {
+        Ok(Player {
+            alloc,
+            looks: if tries_again {
+                Some(points(alloc)?)
+            } else {
+                None
+            },
+            tried: Tried::new(alloc, way, config)?,
+        })
+    }
+
     fn add(&mut self, span: &Span, value: Value, now: Timestamp) -> Result<Told, Fail> {
         let Some(looks) = &self.looks else {
             return Ok(self.tried.add(span, value, now)?);
@@ -178,8 +196,9 @@ impl Player {
         now: Time,
         told: Told,
     ) -> Result<bool, Fail> {
+        let (value, now) = (value(time, owner)?, at(now)?);
         let span = span(self.alloc, text)?;
-        Ok(self.add(&span, value(time, owner)?, at(now)?)? == told)
+        Ok(self.add(&span, value, now)? == told)
     }
 
     /// Whether Adds of single keys are each kept in place.
@@ -199,18 +218,15 @@ impl Player {
 
     /// Whether a lookup answers this.
     fn answers(&self, text: &[u8], time: Time, owner: u128) -> Result<bool, Fail> {
-        let span = span(self.alloc, text)?;
-        Ok(self.tried.get_max(&span) == value(time, owner)?)
+        let value = value(time, owner)?;
+        Ok(self.tried.get_max(&span(self.alloc, text)?) == value)
     }
 
     /// Whether a lookup answers this and looks into so many pages, where the cache tells that.
     fn looks(&self, text: &[u8], time: Time, owner: u128, pages: u64) -> Result<bool, Fail> {
-        let span = span(self.alloc, text)?;
-        let value = value(time, owner)?;
-        match self.tried.get_max_counted(&span) {
-            Some((answer, counted)) => Ok(answer == value && counted == pages),
-            None => Ok(true),
-        }
+        let want = (value(time, owner)?, pages);
+        let told = self.tried.get_max_counted(&span(self.alloc, text)?);
+        Ok(told.is_none_or(|told| told == want))
     }
 
     /// Whether the cache has so many pages, rotated so often, and has its floor here.
@@ -229,10 +245,9 @@ impl Player {
 
     /// Whether that version answers this.
     fn answered(&self, adds: usize, text: &[u8], time: Time, owner: u128) -> Result<bool, Fail> {
-        let span = span(self.alloc, text)?;
         let value = value(time, owner)?;
         match self.tried.version(adds) {
-            Some(version) => Ok(version.get_max(&span) == value),
+            Some(version) => Ok(version.get_max(&span(self.alloc, text)?) == value),
             None => Ok(true),
         }
     }
@@ -250,6 +265,16 @@ impl Player {
             }
         }
     }
+
+    /// Makes steps, and gives the number of the first that fails, from 0.
+    fn first_failure(&mut self, steps: &[Step]) -> Result<Option<usize>, Fail> {
+        for (i, step) in steps.iter().enumerate() {
+            if !self.step(step)? {
+                return Ok(Some(i));
+            }
+        }
+        Ok(None)
+    }
 }
 
 /// Plays a row on a new cache, and gives the number of its first step that fails, from 0. With `tries_again`
@@ -261,40 +286,23 @@ pub fn first_failure(
     row: &Row,
     tries_again: bool,
 ) -> Result<Option<usize>, Fail> {
-    let config = Config::new(limits.0, limits.1, RETENTION, at(FLOOR)?)?;
-    let tried = Tried::new(alloc, way, config)?;
-    let looks = if tries_again {
-        Some(points(alloc)?)
-    } else {
-        None
-    };
-    let mut player = Player {
-        alloc,
-        tried,
-        looks,
-    };
-    for (i, step) in row.1.iter().enumerate() {
-        if !player.step(step)? {
-            return Ok(Some(i));
-        }
-    }
-    Ok(None)
+    Player::new(alloc, way, config(limits)?, tries_again)?.first_failure(row.1)
 }
 
-/// Adds a value to the key `a` in place.
-fn add_to_a(alloc: Global, cache: &mut Cache, time: Time, owner: u128) -> Result<(), Fail> {
-    cache.add(&span(alloc, b"a")?, value(time, owner)?, at((20, 0))?)?;
+/// Adds a value to a span in place.
+fn add(cache: &mut Cache, span: &Span, time: Time, owner: u128) -> Result<(), Fail> {
+    cache.add(span, value(time, owner)?, at((20, 0))?)?;
     Ok(())
 }
 
-/// Whether this is what the key `a` is answered.
-fn answers_at_a(alloc: Global, cache: &Cache, time: Time, owner: u128) -> Result<bool, Fail> {
-    Ok(cache.get_max(&span(alloc, b"a")?) == value(time, owner)?)
+/// Whether this is what a span is answered.
+fn answers(cache: &Cache, span: &Span, time: Time, owner: u128) -> Result<bool, Fail> {
+    Ok(cache.get_max(span) == value(time, owner)?)
 }
 
 /// The next version after an Add of nothing, which is not kept.
-fn next_of(alloc: Global, cache: &Cache) -> Result<Cache, Fail> {
-    let (next, added) = cache.next(&span(alloc, b"(a,a)")?, value((30, 0), 2)?, at((20, 0))?)?;
+fn next_of(cache: &Cache, nothing: &Span) -> Result<Cache, Fail> {
+    let (next, added) = cache.next(nothing, value((30, 0), 2)?, at((20, 0))?)?;
     if added.kept {
         return Err(Fail::new("an Add of nothing is kept"));
     }
@@ -303,12 +311,23 @@ fn next_of(alloc: Global, cache: &Cache) -> Result<Cache, Fail> {
 
 /// Whether two versions that share their front page go their own ways from there on: each is added to in
 /// place, and answers what was added to it alone.
+fn go_their_ways(older: &mut Cache, newer: &mut Cache, span: &Span) -> Result<bool, Fail> {
+    add(newer, span, (30, 0), 2)?;
+    let left = answers(older, span, (20, 0), 1)? && answers(newer, span, (30, 0), 2)?;
+    add(older, span, (40, 0), 3)?;
+    Ok(left && answers(older, span, (40, 0), 3)? && answers(newer, span, (30, 0), 2)?)
+}
+
+/// Whether a new cache to which a value was added and its next version go their own ways.
+fn parts_from_its_next(alloc: Global, span: &Span, nothing: &Span) -> Result<bool, Fail> {
+    let mut older = Cache::new(alloc, config((2, 1))?)?;
+    add(&mut older, span, (20, 0), 1)?;
+    let mut newer = next_of(&older, nothing)?;
+    go_their_ways(&mut older, &mut newer, span)
+}
+
+/// Whether a front page that two versions share is left by each when it is added to.
 pub fn a_shared_front_is_left(alloc: Global) -> Result<bool, Fail> {
-    let mut older = Cache::new(alloc, Config::new(2, 1, RETENTION, at(FLOOR)?)?)?;
-    add_to_a(alloc, &mut older, (20, 0), 1)?;
-    let mut newer = next_of(alloc, &older)?;
-    add_to_a(alloc, &mut newer, (30, 0), 2)?;
-    let left = answers_at_a(alloc, &older, (20, 0), 1)? && answers_at_a(alloc, &newer, (30, 0), 2)?;
-    add_to_a(alloc, &mut older, (40, 0), 3)?;
-    Ok(left && answers_at_a(alloc, &older, (40, 0), 3)? && answers_at_a(alloc, &newer, (30, 0), 2)?)
+    let nothing = span(alloc, b"(a,a)")?;
+    parts_from_its_next(alloc, &span(alloc, b"a")?, &nothing)
 }
