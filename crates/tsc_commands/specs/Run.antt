@@ -4,13 +4,14 @@ use Rattle.tsc_trace.specs.LogText.{line_feed}
 use Rattle.tsc_stream.specs.Stream.{KnownReader, KnownWriter}
 use Rattle.tsc_run.specs.Ending.{Ran, StopsRun, stop_text}
 use Rattle.tsc_run.specs.declared.streams.RunStop.{RunStop}
-use Rattle.tsc_run.specs.declared.streams.RunStop.TheVariants.{Stream, NoView, HistoryFull, NoThread}
+use Rattle.tsc_run.specs.declared.streams.RunStop.TheVariants.{Stream, NoView, NoPlace, HistoryFull, NoThread}
 use Rattle.tsc_commands.specs.Replay.{Tells, status_of}
 
 -- the exit status of why a run ended
 abbrev pub stop_status : RunStop → ℕ
 stop_status (Stream fault) = status_of fault
 stop_status NoView = 4
+stop_status NoPlace = 4
 stop_status HistoryFull = 4
 stop_status NoThread = 4
 

@@ -44,7 +44,7 @@ pub(crate) fn status_of_stop(stop: RunStop) -> u8
 {
     match stop {
         RunStop::Stream(fault) => status_of(fault),
-        RunStop::NoView | RunStop::HistoryFull | RunStop::NoThread => 4,
+        RunStop::NoView | RunStop::NoPlace | RunStop::HistoryFull | RunStop::NoThread => 4,
     }
 }
 

@@ -12,7 +12,7 @@ use Rattle.tsc_check.specs.declared.verdict.Verdict.TheVariants.{Right}
 use Rattle.tsc_run.specs.declared.fault.RunFault.{RunFault}
 use Rattle.tsc_run.specs.declared.fault.RunFault.TheVariants as run_fault
 use Rattle.tsc_run.specs.declared.streams.RunStop.{RunStop}
-use Rattle.tsc_run.specs.declared.streams.RunStop.TheVariants.{Stream, NoView, HistoryFull, NoThread}
+use Rattle.tsc_run.specs.declared.streams.RunStop.TheVariants.{Stream, NoView, NoPlace, HistoryFull, NoThread}
 
 -- All of a trace was read, and the text of a log was written, of which the verdict is right, and nothing else.
 pub record Ran (reader reader' : KnownReader) (writer writer' : KnownWriter) : Type 0 where
@@ -36,7 +36,7 @@ pub record NotRun (reader reader' : KnownReader) (writer writer' : KnownWriter) 
   pub read : HasReadTrace reader reader' trace
   pub silent : writer' ≡ writer
 
--- What a run can end with in place of a log: a growth was refused, there are as many Adds as there may be, or a thread was not started. It has seats enough for all lists, and each lookup is answered.
+-- What a run can end with in place of a log: a growth was refused, there are as many Adds as there may be, or a thread was not started. It has seats enough for all lists and a place for each, and each lookup is answered.
 abbrev pub CanEndRun : RunFault → Type 0
 CanEndRun (run_fault.Open why) = why ≡ open_fault.NoMemory
 CanEndRun run_fault.NoMemory = Unit {0}
@@ -52,11 +52,13 @@ StopsRun (Stream (Refused fault)) reader reader' writer writer' = RefusedAs faul
 StopsRun (Stream Write) reader reader' writer writer' = LogNotWritten reader reader' writer writer'
 StopsRun (Stream NoMemory) reader reader' writer writer' = OutOfMemory reader reader' writer writer'
 StopsRun NoView reader reader' writer writer' = ⊥
+StopsRun NoPlace reader reader' writer writer' = ⊥
 StopsRun HistoryFull reader reader' writer writer' = NotRun reader reader' writer writer'
 StopsRun NoThread reader reader' writer writer' = NotRun reader reader' writer writer'
 
 -- how a fault of a run ends it
 abbrev pub stop_of_run : RunFault → RunStop
+stop_of_run (run_fault.Open open_fault.NoPlace) = NoPlace
 stop_of_run (run_fault.Open why) = Stream NoMemory
 stop_of_run run_fault.NoMemory = Stream NoMemory
 stop_of_run run_fault.Gone = NoView
@@ -67,5 +69,6 @@ stop_of_run run_fault.NoThread = NoThread
 abbrev pub stop_text : RunStop → List ℕ
 stop_text (Stream fault) = stream_text fault
 stop_text NoView = codes "no view"
+stop_text NoPlace = codes "no place"
 stop_text HistoryFull = codes "history full"
 stop_text NoThread = codes "no thread"

@@ -6,13 +6,14 @@ use tsc_time::NoMemory;
 /// Why there is no log of a run.
 #[derive(Clone, Copy, Debug, PartialEq, Eq, Error)]
 pub enum RunFault {
-    /// The shared cache was not opened, for want of memory alone: there are seats for each trace's lists.
+    /// The shared cache was not opened, for want of memory alone: there are seats for each trace's lists, and a
+    /// place for each seat.
     #[error("{0}")]
     Open(OpenFault),
     /// A growth was refused.
     #[error("out of memory")]
     NoMemory,
-    /// A lookup found no version of the cache. It never comes yet.
+    /// A lookup found no version of the cache. It never comes.
     #[error("no view")]
     Gone,
     /// An Add found as many Adds in the history as the trace has.

@@ -18,12 +18,13 @@ pub(crate) struct ListRun {
     pub lines: Vec<Line>,
 }
 
-/// Makes a call at this seat, and gives its answer.
-fn answer<R: Wait>(
+/// Makes a call at this seat, and gives its answer. The gate is told before an Add is published.
+fn answer<R: Wait, G: Gate>(
     rt: &R,
     cache: &SharedCache,
     seat: &mut Seat,
     call: &Call,
+    gate: &G,
 ) -> Result<Said, RunFault>
     requires cache { seat.old.cache ≡ cache.now }
     ensures seat { GoesOn seat.old seat.new }
@@ -32,23 +33,25 @@ fn answer<R: Wait>(
     ensures why { IfErr result CanEndRun }
 {
     match call {
-        Call::Add { span, value, now } => match cache.add(rt, seat, span, *value, *now) {
-            Ok(receipt) => Ok(Said::Add {
-                place: receipt.place,
-                added: receipt.added,
-            }),
-            Err(AddFault::HistoryFull(_)) => Err(RunFault::HistoryFull),
-            Err(AddFault::NoMemory) => Err(RunFault::NoMemory),
-        },
+        Call::Add { span, value, now } => {
+            match cache.add_gated(rt, seat, span, *value, *now, gate) {
+                Ok(receipt) => Ok(Said::Add {
+                    place: receipt.place,
+                    added: receipt.added,
+                }),
+                Err(AddFault::HistoryFull(_)) => Err(RunFault::HistoryFull),
+                Err(AddFault::NoMemory) => Err(RunFault::NoMemory),
+            }
+        }
         Call::Get { span } => {
-            let answer = cache.get_max(rt, seat, span)?;
+            let answer = cache.get_max(seat, span)?;
             Ok(Said::Get {
                 front: answer.front,
                 value: answer.value,
             })
         }
         Call::Low => {
-            let answer = cache.low_water(rt, seat)?;
+            let answer = cache.low_water(seat)?;
             Ok(Said::Low {
                 front: answer.front,
                 time: answer.time,
@@ -57,8 +60,8 @@ fn answer<R: Wait>(
     }
 }
 
-/// Makes the calls of a list, one after another, and tells the gate of each. The list has the number of its
-/// seat.
+/// Makes the calls of a list, one after another, and tells the gate of each: before it, and when it was answered
+/// or refused. The list has the number of its seat.
 pub(crate) fn run_list<R: Wait, G: Gate>(
     rt: &R,
     alloc: Global,
@@ -77,8 +80,9 @@ pub(crate) fn run_list<R: Wait, G: Gate>(
     for (index, call) in calls.iter().enumerate() {
         let index = index as u32;
         gate.start(thread, index);
-        let said = answer(rt, cache, &mut seat, call)?;
+        let said = answer(rt, cache, &mut seat, call, gate);
         gate.done(thread, index);
+        let said = said?;
         lines.push(Line {
             thread,
             index,

@@ -45,8 +45,9 @@ fn count_all_adds(lists: &[Vec<Call>]) -> u64
 /// The log of a trace on threads: each list runs on a thread of its own, over one shared cache, at a seat of
 /// its own.
 ///
-/// The gate is told before and after each call, from the thread of its list. Where a thread cannot be
-/// started, those that were started run to their end first.
+/// The gate is told before and after each call, also one that was refused, and before each accepted Add is
+/// published, from the thread of its list. Where a thread cannot be started, those that were started run to their
+/// end first.
 pub fn run_trace<R: Threads + Wait + Sync, G: Gate + Sync>(
     rt: &R,
     alloc: Global,

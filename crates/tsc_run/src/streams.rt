@@ -10,7 +10,7 @@ use crate::run::run_trace;
 use std::alloc::Global;
 use std::sync::Wait;
 use std::thread::Threads;
-use tsc_shared::Gate;
+use tsc_shared::{Gate, OpenFault};
 use tsc_stream::{InputFault, Sink, Source, WriteFailed, read_input, write_output};
 use tsc_trace::{OutFault, ReplayFault, TraceFault, read_trace, write_log};
 
@@ -19,8 +19,10 @@ use tsc_trace::{OutFault, ReplayFault, TraceFault, read_trace, write_log};
 pub enum RunStop {
     /// Reading, the trace, writing, or want of memory, as a replay ends.
     Stream(ReplayFault),
-    /// A lookup found no version of the cache. It never comes yet.
+    /// A lookup found no version of the cache. It never comes.
     NoView,
+    /// There was no place left for a reader. It never comes.
+    NoPlace,
     /// An Add found as many Adds in the history as the trace has.
     HistoryFull,
     /// A thread could not be started.
@@ -36,6 +38,7 @@ impl RunStop {
         match self {
             RunStop::Stream(fault) => fault.tell(writer),
             RunStop::NoView => write_output(writer, b"no view"),
+            RunStop::NoPlace => write_output(writer, b"no place"),
             RunStop::HistoryFull => write_output(writer, b"history full"),
             RunStop::NoThread => write_output(writer, b"no thread"),
         }
@@ -69,9 +72,11 @@ impl From<OutFault> for RunStop {
 impl From<RunFault> for RunStop {
     ghost from_gives = { λ fault given. given ≡ stop_of_run fault };
 
-    /// A trace has no more lists than a cache has seats, so a cache that was not opened is want of memory.
+    /// A trace has no more lists than a cache may have seats, so a cache that was not opened is want of memory, or of
+    /// a place.
     fn from(fault: RunFault) -> RunStop {
         match fault {
+            RunFault::Open(OpenFault::NoPlace) => RunStop::NoPlace,
             RunFault::Open(_) | RunFault::NoMemory => RunStop::Stream(ReplayFault::NoMemory),
             RunFault::Gone => RunStop::NoView,
             RunFault::HistoryFull => RunStop::HistoryFull,
