@@ -19,7 +19,8 @@ use Rattle.tsc_check.specs.TrueLog.{AreTrueLines, AreTrueLists, IsRunOf, is_add_
 use Rattle.tsc_shared.specs.Seats.{SharedView, SeatView, new_seat}
 use Rattle.tsc_shared.specs.Answers.{GoesOn, Closes, entry_by}
 use Rattle.tsc_shared.specs.declared.answers.Closed.{Closed}
-use Rattle.tsc_shared.proofs.Prefixes.{begins_itself, begins_on, begins_length, own_append, own_of_one, own_of_other}
+use Rattle.tsc_cache.proofs.Beginnings.{begins_itself, begins_on}
+use Rattle.tsc_shared.proofs.Prefixes.{begins_length, own_append, own_of_one, own_of_other}
 use Rattle.tsc_run.specs.Runs.{Says, Runs, RunsAll}
 
 -- ---- each line
