@@ -1,8 +1,8 @@
-use crate::page::{Order, range, step_span, step_value};
+use crate::page::{Order, range_of, step_span, step_value};
 use std::alloc::Global;
 use std::test::Fail;
 use tsc_page::{Page, PlainPage};
-use tsc_span::{Ends, Span};
+use tsc_span::Span;
 use tsc_time::{Timestamp, Value, ratchet};
 
 /// How many keys a page of more leaves than one block has is filled with.
@@ -47,8 +47,9 @@ fn add_some(
 ) -> Result<PlainPage, Fail> {
     let mut plain = PlainPage::new(alloc, MANY, Timestamp::ZERO)?;
     for step in first..first.saturating_add(SOME) {
+        let value = step_value(step)?;
         let span = step_span(alloc, order, step, MANY, alike)?;
-        add_to_both(page, &mut plain, &span, step_value(step)?)?;
+        add_to_both(page, &mut plain, &span, value)?;
     }
     Ok(plain)
 }
@@ -71,6 +72,25 @@ fn joint_answer(plain: &[PlainPage], span: &Span) -> Value {
     best
 }
 
+/// Ranges of several lengths, with both ends or without them: the first is the key itself, and the second the gap after it.
+static RANGES: [(u32, bool); 4] = [(0, false), (1, true), (40, false), (MANY, true)];
+
+/// Whether a page answers as plain pages do together to ranges from a key on.
+fn alike_from(
+    alloc: Global,
+    page: &Page,
+    plain: &[PlainPage],
+    at: u32,
+    alike: bool,
+) -> Result<bool, Fail> {
+    let mut same = true;
+    for (length, exclude) in &RANGES {
+        let span = range_of(alloc, at, *length, *exclude, alike)?;
+        same &= page.lookup(&span) == joint_answer(plain, &span);
+    }
+    Ok(same)
+}
+
 /// Whether a page answers as plain pages do together to keys, to the gaps after them, and to ranges of several lengths.
 fn answers_alike(
     alloc: Global,
@@ -80,27 +100,30 @@ fn answers_alike(
 ) -> Result<bool, Fail> {
     let mut same = page.nodes() == MANY;
     for at in (0..MANY).step_by(5) {
-        for (length, exclude) in [(0, false), (1, true), (40, false), (MANY, true)] {
-            let ends = Ends {
-                exclude_from: exclude,
-                exclude_to: exclude,
-            };
-            let span = range(alloc, at, at.saturating_add(length), ends, alike)?;
-            same &= page.lookup(&span) == joint_answer(plain, &span);
-        }
+        same &= alike_from(alloc, page, plain, at, alike)?;
     }
     Ok(same)
 }
 
+/// Whether a page that is filled so answers as the plain pages do.
+fn is_filled_alike(alloc: Global, order: Order, alike: bool) -> Result<bool, Fail> {
+    let mut page = Page::new(alloc, MANY, Timestamp::ZERO)?;
+    let plain = fill(alloc, &mut page, order, alike)?;
+    answers_alike(alloc, &page, &plain, alike)
+}
+
+/// The first of some rows, from 0, whose page answers otherwise.
+fn wrong_fill(alloc: Global, rows: &[(Order, bool)]) -> Result<Option<usize>, Fail> {
+    for (i, (order, alike)) in rows.iter().enumerate() {
+        if !is_filled_alike(alloc, *order, *alike)? {
+            return Ok(Some(i));
+        }
+    }
+    Ok(None)
+}
+
 #[test]
 fn large_pages_answer_alike(rt: HostRuntime) -> Result<(), Fail> {
-    for (order, alike) in &FILLS {
-        let mut page = Page::new(rt.alloc(), MANY, Timestamp::ZERO)?;
-        let plain = fill(rt.alloc(), &mut page, *order, *alike)?;
-        assert!(rt;
-            answers_alike(rt.alloc(), &page, &plain, *alike)?,
-            "{order:?} {alike}"
-        );
-    }
+    assert_eq!(rt; wrong_fill(rt.alloc(), &FILLS)?, None);
     Ok(())
 }

@@ -1,4 +1,5 @@
 use std::alloc::Global;
+use std::process::Abort;
 use std::test::Fail;
 use tsc_page::{LEAST_NODES, MOST_NODES, Page, PlainPage};
 use tsc_span::{Ends, Key, Span};
@@ -13,7 +14,7 @@ const NOBODY: u128 = 0;
 
 /// What a row does with two pages, a [`Page`] and a [`PlainPage`], and what both then show. A value is a wall
 /// time, a logical count and an owner.
-#[derive(Clone, Copy, Debug)]
+#[derive(Clone, Copy)]
 enum Step {
     /// Goes on with empty pages of so many nodes, with this base.
     New(u32, u64),
@@ -176,17 +177,27 @@ pub(crate) fn value(wall: u64, logical: u32, owner: u128) -> Result<Value, Fail>
 /// The key of a name. A dot is the empty key, `A` the next key after `a`, and `l` and `L` are two of the
 /// longest keys; any other name is the key's one byte.
 fn key(alloc: Global, name: u8) -> Result<Key, Fail> {
-    let mut long = [b'l'; 4096];
     match name {
-        b'.' => Ok(Key::new(alloc, b"")?),
-        b'A' => Ok(Key::new(alloc, b"a\x00")?),
-        b'l' => Ok(Key::new(alloc, &long)?),
-        b'L' => {
-            long[4095] = b'm';
-            Ok(Key::new(alloc, &long)?)
-        }
-        byte => Ok(Key::new(alloc, &[byte])?),
+        b'l' => long_key(alloc, b'l'),
+        b'L' => long_key(alloc, b'm'),
+        _ => short_key(alloc, name),
     }
+}
+
+/// One of the longest keys, by its last byte.
+fn long_key(alloc: Global, last: u8) -> Result<Key, Fail> {
+    let mut long = [b'l'; 4096];
+    long[4095] = last;
+    Ok(Key::new(alloc, &long)?)
+}
+
+fn short_key(alloc: Global, name: u8) -> Result<Key, Fail> {
+    let made = match name {
+        b'.' => Key::new(alloc, b""),
+        b'A' => Key::new(alloc, b"a\x00"),
+        byte => Key::new(alloc, &[byte]),
+    };
+    Ok(made?)
 }
 
 /// The span of a text such as `a`, `[a,c)` or `(m,`.
@@ -209,24 +220,50 @@ fn span(alloc: Global, text: &[u8]) -> Result<Span, Fail> {
     }
 }
 
+/// Adds the spans from a key on.
+fn push_onward(alloc: Global, spans: &mut Vec<Span>, from: u8) -> Result<(), Fail> {
+    for exclude_from in [false, true] {
+        spans.push(Span::onward(key(alloc, from)?, exclude_from))?;
+    }
+    Ok(())
+}
+
+/// All choices of ends.
+static CHOICES: [Ends; 4] = [
+    Ends {
+        exclude_from: false,
+        exclude_to: false,
+    },
+    Ends {
+        exclude_from: false,
+        exclude_to: true,
+    },
+    Ends {
+        exclude_from: true,
+        exclude_to: false,
+    },
+    Ends {
+        exclude_from: true,
+        exclude_to: true,
+    },
+];
+
+/// Adds the spans from one key to another.
+fn push_ranges(alloc: Global, spans: &mut Vec<Span>, from: u8, to: u8) -> Result<(), Fail> {
+    for ends in &CHOICES {
+        let (from, to) = (key(alloc, from)?, key(alloc, to)?);
+        spans.push(Span::for_lookup(from, to, *ends))?;
+    }
+    Ok(())
+}
+
 /// Each span between two of the named keys, and from one on.
 fn all_spans(alloc: Global, names: &[u8]) -> Result<Vec<Span>, Fail> {
     let mut spans = Vec::new(alloc);
     for from in names {
-        for exclude_from in [false, true] {
-            let onward = Span::onward(key(alloc, *from)?, exclude_from);
-            spans.push(onward).map_err(|_| NoMemory)?;
-            for to in names {
-                for exclude_to in [false, true] {
-                    let ends = Ends {
-                        exclude_from,
-                        exclude_to,
-                    };
-                    let (from, to) = (key(alloc, *from)?, key(alloc, *to)?);
-                    let span = Span::for_lookup(from, to, ends);
-                    spans.push(span).map_err(|_| NoMemory)?;
-                }
-            }
+        push_onward(alloc, &mut spans, *from)?;
+        for to in names {
+            push_ranges(alloc, &mut spans, *from, *to)?;
         }
     }
     Ok(spans)
@@ -272,11 +309,18 @@ impl Pages {
         if span.is_empty() {
             return Ok(told);
         }
-        let mut copy = self.copy()?;
         let value = value(99, 0, FIRST)?;
-        let found = copy.page.try_add(span, value)? == room;
-        let found_plain = copy.plain.try_add(span, value)? == room;
-        Ok(told && found && found_plain && copy.answer(span, value) == room)
+        Ok(told && self.copy()?.find_room(span, value, room)?)
+    }
+
+    /// Whether there is room for a span, or there is not, as an Add finds.
+    fn find_room(&mut self, span: &Span, value: Value, room: bool) -> Result<bool, Fail> {
+        if span.is_empty() {
+            return Err(Fail::new("an Add of an empty span"));
+        }
+        let found = self.page.try_add(span, value)? == room;
+        let found_plain = self.plain.try_add(span, value)? == room;
+        Ok(found && found_plain && self.answer(span, value) == room)
     }
 
     fn answer(&self, span: &Span, value: Value) -> bool {
@@ -360,42 +404,107 @@ fn alike_on(page: &Page, plain: &PlainPage, spans: &[Span]) -> bool {
     alike
 }
 
+/// The first of some steps, from 0, after which the pages don't show what it tells.
+fn wrong_step(
+    alloc: Global,
+    pages: &mut Pages,
+    steps: &[Step],
+    all: &[Span],
+) -> Result<Option<usize>, Fail> {
+    for (i, step) in steps.iter().enumerate() {
+        if !pages.take(alloc, *step, all)? {
+            return Ok(Some(i));
+        }
+    }
+    Ok(None)
+}
+
 /// Memory is ample here: no call is made again.
 #[test]
 fn rows_of_calls(rt: HostRuntime) -> Result<(), Fail> {
     let all = all_spans(rt.alloc(), NAMES)?;
     let mut pages = Pages::new(rt.alloc(), LEAST_NODES, 0)?;
-    for (i, step) in STEPS.iter().enumerate() {
-        assert!(rt; pages.take(rt.alloc(), *step, &all)?, "step {i}: {step:?}");
-    }
+    assert_eq!(rt; wrong_step(rt.alloc(), &mut pages, &STEPS, &all)?, None);
     Ok(())
+}
+
+/// A copy of a page. Where memory is refused the same call then succeeds.
+fn copy_again(page: &Page) -> Result<Page, Fail> {
+    match page.try_copy() {
+        Ok(copy) => Ok(copy),
+        Err(NoMemory) => Ok(page.try_copy()?),
+    }
+}
+
+/// A copy of a plain page, in the same way.
+fn plain_copy_again(plain: &PlainPage) -> Result<PlainPage, Fail> {
+    match plain.try_copy() {
+        Ok(copy) => Ok(copy),
+        Err(NoMemory) => Ok(plain.try_copy()?),
+    }
+}
+
+/// Adds a value to a span. An Add that is refused memory leaves the page as it was, and the same Add then succeeds.
+fn add_again(
+    page: &mut Page,
+    span: &Span,
+    value: Value,
+    before: &PlainPage,
+    all: &[Span],
+) -> Result<bool, Fail> {
+    let mut alike = true;
+    if span.is_empty() || !page.room(span) {
+        return Ok(false);
+    }
+    if let Err(NoMemory) = page.add(span, value) {
+        alike = alike_on(page, before, all);
+        page.add(span, value)?;
+    }
+    Ok(alike)
+}
+
+/// Adds a value to a span of a plain page, in the same way.
+fn plain_add_again(
+    plain: &mut PlainPage,
+    span: &Span,
+    value: Value,
+    before: &Page,
+    all: &[Span],
+) -> Result<bool, Fail> {
+    let mut alike = true;
+    if span.is_empty() || !plain.room(span) {
+        return Ok(false);
+    }
+    if let Err(NoMemory) = plain.add(span, value) {
+        alike = alike_on(before, plain, all);
+        plain.add(span, value)?;
+    }
+    Ok(alike)
+}
+
+/// Adds a value to a span of both pages, of which there are copies, in the same way.
+fn add_beside_copies(
+    pages: &mut Pages,
+    copies: &Pages,
+    span: &Span,
+    value: Value,
+    all: &[Span],
+) -> Result<bool, Fail> {
+    let copied = alike_on(&copies.page, &pages.plain, all)
+        && alike_on(&pages.page, &copies.plain, all);
+    let added = add_again(&mut pages.page, span, value, &copies.plain, all)?;
+    let plain_added = plain_add_again(&mut pages.plain, span, value, &copies.page, all)?;
+    Ok(copied && added && plain_added && alike_on(&pages.page, &pages.plain, all))
 }
 
 /// Copies both pages and adds a value to a span of both. A call that is refused memory changes nothing, and
 /// the same call then succeeds.
 fn copy_and_add(pages: &mut Pages, span: &Span, value: Value, all: &[Span]) -> Result<bool, Fail> {
-    let Pages { page, plain } = pages;
-    let before = match page.try_copy() {
-        Ok(copy) => copy,
-        Err(NoMemory) => page.try_copy()?,
+    let copies = Pages {
+        page: copy_again(&pages.page)?,
+        plain: plain_copy_again(&pages.plain)?,
     };
-    let plain_before = match plain.try_copy() {
-        Ok(copy) => copy,
-        Err(NoMemory) => plain.try_copy()?,
-    };
-    let mut alike = alike_on(&before, plain, all) && alike_on(page, &plain_before, all);
-    if span.is_empty() || !page.room(span) || !plain.room(span) {
-        return Ok(false);
-    }
-    if let Err(NoMemory) = page.add(span, value) {
-        alike &= alike_on(page, &plain_before, all);
-        page.add(span, value)?;
-    }
-    if let Err(NoMemory) = plain.add(span, value) {
-        alike &= alike_on(&before, plain, all);
-        plain.add(span, value)?;
-    }
-    Ok(alike && alike_on(page, plain, all))
+    add_beside_copies(pages, &copies, span, value, all)
 }
 
 /// A span, and the wall time and the owner that are added to it.
@@ -417,19 +526,30 @@ fn copy_and_mark(
     (text, wall, owner): Mark,
     all: &[Span],
 ) -> Result<bool, Fail> {
-    copy_and_add(pages, &span(alloc, text)?, value(wall, 0, owner)?, all)
+    let value = value(wall, 0, owner)?;
+    copy_and_add(pages, &span(alloc, text)?, value, all)
+}
+
+/// The first of some marks, from 0, that isn't added so.
+fn wrong_mark(
+    alloc: Global,
+    pages: &mut Pages,
+    marks: &[Mark],
+    all: &[Span],
+) -> Result<Option<usize>, Fail> {
+    for (i, mark) in marks.iter().enumerate() {
+        if !copy_and_mark(alloc, pages, *mark, all)? {
+            return Ok(Some(i));
+        }
+    }
+    Ok(None)
 }
 
 #[test]
 fn a_refused_call_changes_nothing(rt: HostRuntime) -> Result<(), Fail> {
     let all = all_spans(rt.alloc(), NAMES)?;
     let mut pages = Pages::new(rt.alloc(), 5, 7)?;
-    for mark in &MARKS {
-        assert!(rt;
-            copy_and_mark(rt.alloc(), &mut pages, *mark, &all)?,
-            "{mark:?}"
-        );
-    }
+    assert_eq!(rt; wrong_mark(rt.alloc(), &mut pages, &MARKS, &all)?, None);
     assert!(rt; pages.have(5));
     Ok(())
 }
@@ -448,34 +568,53 @@ fn add_with_room(page: &mut Page, span: &Span, value: Value) -> Result<(), Fail>
     Ok(())
 }
 
+/// The value of a place, with a time of its own.
+fn place_value(at: u32) -> Result<Value, Fail> {
+    value(u64::from(at) + 1, 0, FIRST)
+}
+
 /// Adds a time of its own to the key of a place, once.
 fn add_place(alloc: Global, page: &mut Page, at: u32) -> Result<(), Fail> {
-    add_with_room(
-        page,
-        &place(alloc, at)?,
-        value(u64::from(at) + 1, 0, FIRST)?,
-    )
+    let value = place_value(at)?;
+    add_with_room(page, &place(alloc, at)?, value)
+}
+
+/// Whether a page has room for the key of a place, and tells its own time of it.
+fn tells_place(alloc: Global, page: &Page, at: u32) -> Result<bool, Fail> {
+    let value = place_value(at)?;
+    let span = place(alloc, at)?;
+    Ok(page.room(&span) && page.lookup(&span) == value)
 }
 
 /// Whether a page is full, with its own time at the key of each place that is looked up.
 fn is_full(alloc: Global, page: &Page) -> Result<bool, Fail> {
     let mut full = page.nodes() == MOST_NODES && !page.room(&place(alloc, MOST_NODES)?);
     for at in (0..MOST_NODES).step_by(4369) {
-        let span = place(alloc, at)?;
-        full &= page.room(&span) && page.lookup(&span) == value(u64::from(at) + 1, 0, FIRST)?;
+        full &= tells_place(alloc, page, at)?;
     }
     Ok(full)
 }
 
+/// A page with as many keys as there may be.
+fn largest_page(alloc: Global) -> Result<Page, Fail> {
+    let mut page = Page::new(alloc, MOST_NODES, Timestamp::ZERO)?;
+    for at in 0..MOST_NODES {
+        add_place(alloc, &mut page, at)?;
+    }
+    Ok(page)
+}
+
+/// Whether a copy of a full page is full too, and has the same top.
+fn is_copied_full(alloc: Global, page: &Page) -> Result<bool, Fail> {
+    let copy = page.try_copy()?;
+    Ok(is_full(alloc, &copy)? && copy.top() == page.top())
+}
+
 #[test]
 fn the_largest_page(rt: HostRuntime) -> Result<(), Fail> {
-    let mut page = Page::new(rt.alloc(), MOST_NODES, Timestamp::ZERO)?;
-    for at in 0..MOST_NODES {
-        add_place(rt.alloc(), &mut page, at)?;
-    }
+    let page = largest_page(rt.alloc())?;
     assert!(rt; is_full(rt.alloc(), &page)?);
-    let copy = page.try_copy()?;
-    assert!(rt; is_full(rt.alloc(), &copy)? && copy.top() == page.top());
+    assert!(rt; is_copied_full(rt.alloc(), &page)?);
     Ok(())
 }
 
@@ -486,7 +625,8 @@ const MANY: u32 = 4096;
 fn tells_places(alloc: Global, page: &Page) -> Result<bool, Fail> {
     let mut alike = page.nodes() == MANY;
     for at in 0..MANY {
-        alike &= page.lookup(&place(alloc, at)?) == value(u64::from(at) + 1, 0, FIRST)?;
+        let value = place_value(at)?;
+        alike &= page.lookup(&place(alloc, at)?) == value;
     }
     Ok(alike)
 }
@@ -568,12 +708,17 @@ fn has_leaves(page: &Page, sizes: &[u32]) -> bool {
     alike
 }
 
+/// Adds a time of its own to the key of a byte.
+fn add_byte(alloc: Global, page: &mut Page, byte: u8) -> Result<(), Fail> {
+    let value = value(u64::from(byte) + 1, 0, FIRST)?;
+    add_once(page, &Span::point(byte_key(alloc, byte)?), value)
+}
+
 /// A page with the keys 0 to 129, each with a time of its own.
 fn page_of_bytes(alloc: Global) -> Result<Page, Fail> {
     let mut page = Page::new(alloc, 200, Timestamp::ZERO)?;
     for byte in 0..130 {
-        let span = Span::point(byte_key(alloc, byte)?);
-        add_once(&mut page, &span, value(u64::from(byte) + 1, 0, FIRST)?)?;
+        add_byte(alloc, &mut page, byte)?;
     }
     Ok(page)
 }
@@ -626,8 +771,8 @@ fn tells_of_key(
     wall: u64,
     owner: u128,
 ) -> Result<bool, Fail> {
-    let span = Span::point(byte_key(alloc, byte)?);
-    Ok(page.lookup(&span) == value(wall, 0, owner)?)
+    let value = value(wall, 0, owner)?;
+    Ok(page.lookup(&Span::point(byte_key(alloc, byte)?)) == value)
 }
 
 /// Whether a page tells this of keys.
@@ -647,8 +792,8 @@ fn tells_of_gaps(alloc: Global, page: &Page, rows: &[(u8, u8, u64, u128)]) -> Re
     };
     let mut alike = true;
     for (from, to, wall, owner) in rows {
-        let gap = byte_range(alloc, *from, *to, open)?;
-        alike &= page.lookup(&gap) == value(*wall, 0, *owner)?;
+        let value = value(*wall, 0, *owner)?;
+        alike &= page.lookup(&byte_range(alloc, *from, *to, open)?) == value;
     }
     Ok(alike)
 }
@@ -666,20 +811,20 @@ fn answers_after_a_long_add(alloc: Global, page: &Page) -> Result<bool, Fail> {
 /// The sizes of the leaves of a page of the keys 0 to 129.
 static FOUR_LEAVES: [u32; 4] = [32, 32, 32, 34];
 
+/// Adds a value to a range, or to a single key.
+fn add_bytes(alloc: Global, page: &mut Page, bytes: [u8; 2], value: Value) -> Result<(), Fail> {
+    add_once(page, &bytes_up_to(alloc, bytes)?, value)
+}
+
 /// Adds a value to a single key, and to a range over it, of a page of which a copy shares the leaves.
 fn add_over_shared(alloc: Global, page: &mut Page) -> Result<(), Fail> {
-    let inner = Span::point(byte_key(alloc, 40)?);
-    add_once(page, &inner, value(150, 0, SECOND)?)?;
-    add_once(
-        page,
-        &bytes_up_to(alloc, [10, 120])?,
-        value(200, 0, SECOND)?,
-    )
+    add_bytes(alloc, page, [40, 40], value(150, 0, SECOND)?)?;
+    add_bytes(alloc, page, [10, 120], value(200, 0, SECOND)?)
 }
 
 /// Adds a value to a range that ends at a new key, and says what comes of it.
 fn is_added_beyond(alloc: Global, page: &mut Page) -> Result<bool, Fail> {
-    add_once(page, &bytes_up_to(alloc, [10, 150])?, value(201, 0, FIRST)?)?;
+    add_bytes(alloc, page, [10, 150], value(201, 0, FIRST)?)?;
     let alike = has_leaves(page, &[32, 32, 32, 35]) && page.nodes() == 131;
     Ok(alike && tells_of_key(alloc, page, 40, 201, FIRST)?)
 }
@@ -690,19 +835,29 @@ fn is_as_at_first(alloc: Global, copy: &Page) -> Result<bool, Fail> {
     Ok(alike && tells_of_key(alloc, copy, 40, 41, FIRST)?)
 }
 
+/// Adds to a page beside a copy of it, and looks at both.
+fn adds_beside_a_copy(
+    rt: &impl Abort,
+    alloc: Global,
+    page: &mut Page,
+    copy: &Page,
+) -> Result<(), Fail> {
+    assert!(rt; has_leaves(page, &FOUR_LEAVES));
+    add_over_shared(alloc, page)?;
+    assert!(rt; answers_after_a_long_add(alloc, page)?);
+    assert!(rt; has_leaves(page, &FOUR_LEAVES) && has_leaves(copy, &FOUR_LEAVES));
+    assert!(rt; is_added_beyond(alloc, page)?);
+    assert!(rt; is_as_at_first(alloc, copy)?);
+    Ok(())
+}
+
 /// An Add over leaves of a page of which a copy shares all but one: the copy answers as before. And one over
 /// leaves that nobody else holds, with a new key in the last.
 #[test]
 fn an_add_over_shared_leaves(rt: HostRuntime) -> Result<(), Fail> {
     let mut page = page_of_bytes(rt.alloc())?;
-    assert!(rt; has_leaves(&page, &FOUR_LEAVES));
     let copy = page.try_copy()?;
-    add_over_shared(rt.alloc(), &mut page)?;
-    assert!(rt; answers_after_a_long_add(rt.alloc(), &page)?);
-    assert!(rt; has_leaves(&page, &FOUR_LEAVES) && has_leaves(&copy, &FOUR_LEAVES));
-    assert!(rt; is_added_beyond(rt.alloc(), &mut page)?);
-    assert!(rt; is_as_at_first(rt.alloc(), &copy)?);
-    Ok(())
+    adds_beside_a_copy(&rt, rt.alloc(), &mut page, &copy)
 }
 
 type OverLeaves = (bool, [u8; 2], [u8; 2], [u32; 3]);
@@ -736,8 +891,8 @@ fn bytes_up_to(alloc: Global, [from, to]: [u8; 2]) -> Result<Span, Fail> {
 fn pages_of_bytes(alloc: Global) -> Result<Pages, Fail> {
     let mut pages = Pages::new(alloc, 200, 0)?;
     for byte in (0..194).step_by(2) {
-        let span = Span::point(byte_key(alloc, byte)?);
-        pages.add(&span, value(u64::from(byte) + 1, 0, FIRST)?)?;
+        let value = value(u64::from(byte) + 1, 0, FIRST)?;
+        pages.add(&Span::point(byte_key(alloc, byte)?), value)?;
     }
     Ok(pages)
 }
@@ -778,48 +933,65 @@ fn add_bytes_beside(
     wall: u64,
     all: &[Span],
 ) -> Result<bool, Fail> {
-    add_beside(
-        pages,
-        copies,
-        &bytes_up_to(alloc, bytes)?,
-        value(wall, 0, SECOND)?,
-        all,
-    )
+    let value = value(wall, 0, SECOND)?;
+    add_beside(pages, copies, &bytes_up_to(alloc, bytes)?, value, all)
 }
 
 /// Makes the Adds of a row, and says of those that were refused memory, and of all pages then, whether they are as they
 /// have to be.
-fn add_over_leaves(alloc: Global, row: &OverLeaves, all: &[Span]) -> Result<(bool, bool), Fail> {
+fn add_to_each(
+    alloc: Global,
+    pages: &mut Pages,
+    copies: &mut Pages,
+    row: &OverLeaves,
+    all: &[Span],
+) -> Result<(bool, bool), Fail> {
     let (in_copies, first, second, sizes) = row;
-    let mut pages = pages_of_bytes(alloc)?;
-    let mut copies = pages.copy()?;
     let single = if *in_copies {
-        add_bytes_beside(alloc, &mut copies, &pages, *first, 250, all)?
+        add_bytes_beside(alloc, copies, pages, *first, 250, all)?
     } else {
-        add_bytes_beside(alloc, &mut pages, &copies, *first, 250, all)?
+        add_bytes_beside(alloc, pages, copies, *first, 250, all)?
     };
-    let alike = add_bytes_beside(alloc, &mut pages, &copies, *second, 220, all)?;
-    let copied = alike_in_leaves(&copies, &THREE_LEAVES, all);
+    let alike = add_bytes_beside(alloc, pages, copies, *second, 220, all)?;
+    let copied = alike_in_leaves(copies, &THREE_LEAVES, all);
     Ok((
         single && alike,
-        copied && alike_in_leaves(&pages, sizes, all),
+        copied && alike_in_leaves(pages, sizes, all),
     ))
+}
+
+/// The same, on new pages.
+fn add_over_leaves(alloc: Global, row: &OverLeaves, all: &[Span]) -> Result<(bool, bool), Fail> {
+    let mut pages = pages_of_bytes(alloc)?;
+    let mut copies = pages.copy()?;
+    add_to_each(alloc, &mut pages, &mut copies, row, all)
+}
+
+/// The first of some rows, from 0, at which a refused Add or the pages are not as they have to be.
+fn wrong_leaves(
+    alloc: Global,
+    rows: &[OverLeaves],
+    all: &[Span],
+) -> Result<Option<(usize, (bool, bool))>, Fail> {
+    for (i, row) in rows.iter().enumerate() {
+        let told = add_over_leaves(alloc, row, all)?;
+        if told != (true, true) {
+            return Ok(Some((i, told)));
+        }
+    }
+    Ok(None)
 }
 
 /// Adds over leaves that copies hold too, all but one, and over leaves that they did.
 #[test]
 fn an_add_over_leaves_of_a_copy(rt: HostRuntime) -> Result<(), Fail> {
     let all = all_spans(rt.alloc(), SOME_BYTES)?;
-    for row in &OVER_LEAVES {
-        let (refused, alike) = add_over_leaves(rt.alloc(), row, &all)?;
-        assert!(rt; refused, "a refused Add: {row:?}");
-        assert!(rt; alike, "{row:?}");
-    }
+    assert_eq!(rt; wrong_leaves(rt.alloc(), &OVER_LEAVES, &all)?, None);
     Ok(())
 }
 
 /// In which order keys come to a page.
-#[derive(Clone, Copy, Debug)]
+#[derive(Clone, Copy)]
 pub(crate) enum Order {
     Rising,
     Falling,
@@ -858,6 +1030,21 @@ pub(crate) fn range(
     Ok(Span::for_lookup(from, to, ends))
 }
 
+/// The range of this length from the key of a number, with both ends or without them.
+pub(crate) fn range_of(
+    alloc: Global,
+    at: u32,
+    length: u32,
+    exclude: bool,
+    alike: bool,
+) -> Result<Span, Fail> {
+    let ends = Ends {
+        exclude_from: exclude,
+        exclude_to: exclude,
+    };
+    range(alloc, at, at.saturating_add(length), ends, alike)
+}
+
 /// The span of a step among so many: from the key of its number up to the key of the next number.
 pub(crate) fn step_span(
     alloc: Global,
@@ -889,27 +1076,38 @@ fn fill(
     count: u32,
 ) -> Result<(), Fail> {
     for step in 0..count {
+        let value = step_value(step)?;
         let span = step_span(alloc, order, step, count, alike)?;
         if !span.is_empty() {
-            pages.add(&span, step_value(step)?)?;
+            pages.add(&span, value)?;
         }
     }
     Ok(())
+}
+
+/// Whether both pages answer alike to ranges from a key on: to the key, to the gap after it, and to longer ones.
+fn alike_from(
+    alloc: Global,
+    pages: &Pages,
+    at: u32,
+    alike: bool,
+    ranges: &[(u32, bool)],
+) -> Result<bool, Fail> {
+    let mut same = true;
+    for (length, exclude) in ranges {
+        let span = range_of(alloc, at, *length, *exclude, alike)?;
+        same &= pages.page.lookup(&span) == pages.plain.lookup(&span);
+    }
+    Ok(same)
 }
 
 /// Whether both pages answer alike to each key, to the gap after it, and to ranges of several lengths.
 fn filled_alike(alloc: Global, pages: &Pages, alike: bool, count: u32) -> Result<bool, Fail> {
     let mut same = pages.page.top() == pages.plain.top()
         && pages.page.nodes() == pages.plain.nodes();
+    let ranges = [(0, false), (1, true), (40, false), (count, true)];
     for at in (0..count).step_by(5) {
-        for (length, exclude) in [(0, false), (1, true), (40, false), (count, true)] {
-            let ends = Ends {
-                exclude_from: exclude,
-                exclude_to: exclude,
-            };
-            let span = range(alloc, at, at.saturating_add(length), ends, alike)?;
-            same &= pages.page.lookup(&span) == pages.plain.lookup(&span);
-        }
+        same &= alike_from(alloc, pages, at, alike, &ranges)?;
     }
     Ok(same)
 }
@@ -942,15 +1140,25 @@ static FILLS: [(u32, Order, bool); 24] = [
     (129, Order::Mixed, false),
 ];
 
+/// Whether pages that are filled so answer alike.
+fn is_filled_alike(alloc: Global, count: u32, order: Order, alike: bool) -> Result<bool, Fail> {
+    let mut pages = Pages::new(alloc, 4096, 0)?;
+    fill(alloc, &mut pages, order, alike, count)?;
+    filled_alike(alloc, &pages, alike, count)
+}
+
+/// The first of some rows, from 0, whose pages answer otherwise.
+fn wrong_fill(alloc: Global, rows: &[(u32, Order, bool)]) -> Result<Option<usize>, Fail> {
+    for (i, (count, order, alike)) in rows.iter().enumerate() {
+        if !is_filled_alike(alloc, *count, *order, *alike)? {
+            return Ok(Some(i));
+        }
+    }
+    Ok(None)
+}
+
 #[test]
 fn filled_pages_answer_alike(rt: HostRuntime) -> Result<(), Fail> {
-    for (count, order, alike) in &FILLS {
-        let mut pages = Pages::new(rt.alloc(), 4096, 0)?;
-        fill(rt.alloc(), &mut pages, *order, *alike, *count)?;
-        assert!(rt;
-            filled_alike(rt.alloc(), &pages, *alike, *count)?,
-            "{count} {order:?}"
-        );
-    }
+    assert_eq!(rt; wrong_fill(rt.alloc(), &FILLS)?, None);
     Ok(())
 }

@@ -269,12 +269,14 @@ fn wrong_text(alloc: Global, rows: &[(SpanFault, &str)]) -> Result<Option<usize>
     Ok(None)
 }
 
+/// One byte more than a key may have.
+static ONE_TOO_MANY: [u8; LONGEST_KEY + 1] = [7; LONGEST_KEY + 1];
+
 #[test]
 fn keys_and_faults(rt: HostRuntime) -> Result<(), Fail> {
-    let bytes = [7u8; LONGEST_KEY + 1];
-    assert_eq!(rt; bytes.len(), 4097);
-    assert!(rt; is_made(rt.alloc(), &bytes[1..])?);
-    assert!(rt; is_too_long(rt.alloc(), &bytes)?);
+    assert_eq!(rt; ONE_TOO_MANY.len(), 4097);
+    assert!(rt; is_made(rt.alloc(), &ONE_TOO_MANY[1..])?);
+    assert!(rt; is_too_long(rt.alloc(), &ONE_TOO_MANY)?);
     assert_eq!(rt; first_not_rising(rt.alloc(), &RISING)?, None);
     assert_eq!(rt; wrong_text(rt.alloc(), &TEXTS)?, None);
     Ok(())
@@ -354,11 +356,16 @@ fn sample(alloc: Global, (way, from, to): Made) -> Result<Span, Fail> {
     Ok(span_of(way, key_again(alloc, from)?, key_again(alloc, to)?)?)
 }
 
+/// Whether a sample can be copied.
+fn copies_sample(alloc: Global, made: Made) -> Result<bool, Fail> {
+    let span = sample(alloc, made)?;
+    copies_span(&span, &sample(alloc, made)?)
+}
+
 /// The first of some samples, from 0, that can't be copied.
 fn first_not_copied(alloc: Global, rows: &[Made]) -> Result<Option<usize>, Fail> {
     for (i, made) in rows.iter().enumerate() {
-        let (span, same) = (sample(alloc, *made)?, sample(alloc, *made)?);
-        if !copies_span(&span, &same)? {
+        if !copies_sample(alloc, *made)? {
             return Ok(Some(i));
         }
     }
