@@ -1,0 +1,213 @@
+//! An Add that is held up where it holds the desk and nobody can see it, until lookups on other threads have answered.
+use crate::party::{Guest, Home, Of, Owner, Scene, Told, mark_at, play, point};
+use crate::threads::{Script, TURNS, at_once};
+use std::alloc::Global;
+use std::process::Abort;
+use std::sync::Wait;
+use std::sync::atomic::{AtomicBool, AtomicU64, Ordering};
+use std::test::Fail;
+use std::thread;
+use std::thread::Threads;
+use tsc_shared::Gate;
+
+/// The first seat makes Adds, and then one that is held up until each other seat has asked for `a` so often.
+struct Plan {
+    seats: u32,
+    /// Keys with their wall times and their moments.
+    before: &'static [(&'static str, u64, u64)],
+    held: (&'static str, u64, u64),
+    /// What the held Add is told.
+    told: Told,
+    looks: u32,
+    /// What the others are told of `a` meanwhile.
+    meanwhile: Told,
+    /// And of the floor.
+    floor: Told,
+    /// What the last one is told when it learns the front of the held Add, and of `a` then.
+    learnt: (Told, Told),
+}
+
+/// The first Add of all.
+static FIRST: Plan = Plan {
+    seats: 2,
+    before: &[],
+    held: ("a", 20, 20),
+    told: Told::Place(0, (true, false, 0), 1),
+    looks: 1,
+    meanwhile: Told::Value((5, 0), Owner::None, 0),
+    floor: Told::Value((5, 0), Owner::None, 0),
+    learnt: (Told::Long(1), Told::Value((20, 0), Owner::First, 1)),
+};
+
+/// One that rotates the pages, and drops the oldest: its floor rises to 20.0, which has no owner.
+static ROTATING: Plan = Plan {
+    seats: 2,
+    before: &[
+        ("a", 20, 20),
+        ("b", 20, 20),
+        ("c", 20, 20),
+        ("d", 20, 20),
+        ("e", 20, 20),
+        ("f", 41, 40),
+        ("g", 41, 40),
+        ("h", 41, 40),
+    ],
+    held: ("i", 41, 40),
+    told: Told::Place(8, (true, true, 1), 9),
+    looks: 1,
+    meanwhile: Told::Value((20, 0), Owner::First, 8),
+    floor: Told::Value((5, 0), Owner::None, 8),
+    learnt: (Told::Long(9), Told::Value((20, 0), Owner::None, 9)),
+};
+
+/// All lookups of four other seats answer meanwhile.
+static MANY: Plan = Plan {
+    seats: 5,
+    before: &[("a", 20, 20)],
+    held: ("a", 30, 20),
+    told: Told::Place(1, (true, false, 0), 2),
+    looks: 1000,
+    meanwhile: Told::Value((20, 0), Owner::First, 1),
+    floor: Told::Value((5, 0), Owner::None, 1),
+    learnt: (Told::Long(2), Told::Value((30, 0), Owner::First, 2)),
+};
+
+/// A plan under way.
+#[derive(Drop)]
+struct Held<'a> {
+    plan: &'a Plan,
+    /// Whether the Add is held up.
+    held: AtomicBool,
+    /// How many seats have looked.
+    looked: AtomicU64,
+    /// Whether the Add saw that all had.
+    met: AtomicBool,
+}
+
+impl Held<'_> {
+    /// Waits until the Add is held up, and tells whether it was before the limit.
+    fn is_held(&self) -> bool {
+        for _ in 0..TURNS {
+            if self.held.load(Ordering::SeqCst) {
+                return true;
+            }
+            thread::yield_now();
+        }
+        false
+    }
+
+    fn have_looked(&self) -> bool {
+        self.looked.load(Ordering::SeqCst) + 1 >= u64::from(self.plan.seats)
+    }
+}
+
+impl Gate for Held<'_> {
+    fn start(&self, _thread: u32, _call: u32) {}
+
+    fn done(&self, _thread: u32, _call: u32) {}
+
+    fn publish(&self, _seat: u32) {
+        self.held.store(true, Ordering::SeqCst);
+        for _ in 0..TURNS {
+            if self.have_looked() {
+                self.met.store(true, Ordering::SeqCst);
+                return;
+            }
+            thread::yield_now();
+        }
+    }
+}
+
+impl<C: Of> Script<C> for Held<'_> {
+    fn run<R: Wait + Abort>(
+        &self,
+        rt: &R,
+        alloc: Global,
+        home: &Home<C>,
+        guest: &mut Guest<C>,
+    ) -> Option<()> {
+        if guest.number() == 0 {
+            let (key, wall, now) = self.plan.held;
+            let told = home.add_gated(rt, guest, &mark_at(alloc, key, wall, now).ok()?, self)?;
+            assert_eq!(rt; told, self.plan.told);
+            return Some(());
+        }
+        assert!(rt; self.is_held(), "the Add is held up");
+        let span = point(alloc, "a").ok()?;
+        for _ in 0..self.plan.looks {
+            assert_eq!(rt; home.get(guest, &span), self.plan.meanwhile);
+            assert_eq!(rt; home.low(guest), self.plan.floor);
+        }
+        self.looked.fetch_add(1, Ordering::SeqCst);
+        Some(())
+    }
+}
+
+/// The first of these seats makes the Adds that come before.
+fn add_before<C: Of, R: Wait>(
+    rt: &R,
+    alloc: Global,
+    home: &Home<C>,
+    guests: &mut [Guest<C>],
+    plan: &Plan,
+) -> Result<(), Fail> {
+    let first = guests.first_mut().ok_or("a seat")?;
+    for (key, wall, now) in plan.before {
+        let told = home.add(rt, first, &mark_at(alloc, key, *wall, *now)?);
+        told.ok_or("memory for an Add")?;
+    }
+    Ok(())
+}
+
+/// What the last of these seats is told when it learns the front that the first was told, and of `a` then.
+fn learn<C: Of>(
+    alloc: Global,
+    home: &Home<C>,
+    mut guests: Vec<Guest<C>>,
+) -> Result<(Told, Told), Fail> {
+    let mut last = guests.pop().ok_or("the last seat")?;
+    let first = guests.first_mut().ok_or("the first seat")?;
+    let letter = first.letter.take().ok_or("a front")?;
+    let long = home.learn(&mut last, letter);
+    Ok((long, home.get(&mut last, &point(alloc, "a")?)))
+}
+
+impl Scene for Plan {
+    fn play<C: Of + Send + Sync, R: Threads + Wait + Abort + Sync>(
+        &self,
+        rt: &R,
+        alloc: Global,
+        home: Home<C>,
+        mut guests: Vec<Guest<C>>,
+    ) -> Result<(), Fail> {
+        add_before(rt, alloc, &home, guests.as_mut_slice(), self)?;
+        let script = Held {
+            plan: self,
+            held: AtomicBool::new(false),
+            looked: AtomicU64::new(0),
+            met: AtomicBool::new(false),
+        };
+        let guests = at_once(rt, alloc, &home, guests, &script)?;
+        assert!(rt;
+            script.met.load(Ordering::SeqCst),
+            "all looked while the Add was held up"
+        );
+        assert_eq!(rt; learn(alloc, &home, guests)?, self.learnt);
+        Ok(())
+    }
+}
+
+#[test]
+fn a_lookup_answers_while_the_first_add_is_held_up(rt: HostRuntime) -> Result<(), Fail> {
+    play(&rt, rt.alloc(), FIRST.seats, 100, &FIRST)
+}
+
+#[test]
+fn a_lookup_answers_while_a_rotating_add_is_held_up(rt: HostRuntime) -> Result<(), Fail> {
+    play(&rt, rt.alloc(), ROTATING.seats, 100, &ROTATING)
+}
+
+#[test]
+fn all_lookups_answer_while_the_desk_is_held(rt: HostRuntime) -> Result<(), Fail> {
+    play(&rt, rt.alloc(), MANY.seats, 100, &MANY)
+}
