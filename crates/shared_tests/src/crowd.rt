@@ -1,6 +1,6 @@
 //! Eight seats on eight threads, which all add the same key.
-use crate::party::{Guest, Home, Of, Owner, Scene, Told, mark_at, play};
-use crate::threads::{Script, at_once};
+use crate::party::{Guest, Home, Of, Owner, Told, mark_at};
+use crate::threads::{Scene, Script, at_once, play};
 use std::alloc::{AllocError, Global};
 use std::process::Abort;
 use std::sync::Wait;
@@ -65,7 +65,7 @@ impl Crowd {
     /// Notes what an Add was told, and tells the least front that a lookup may have then.
     fn note(&self, told: Told) -> Option<u64> {
         match told {
-            Told::Place(place, (true, false, 0), front) if front == place + 1 => {
+            Told::Place(place, (true, false, 0), front) if front.checked_sub(1) == Some(place) => {
                 self.places
                     .get(place as usize)?
                     .fetch_add(1, Ordering::SeqCst);
@@ -107,44 +107,43 @@ fn is_seen(least: Option<u64>, seen: Told) -> bool {
     }
 }
 
-/// How often something is told.
-fn told(count: &AtomicU64) -> u64 {
-    count.load(Ordering::SeqCst)
+impl Crowd {
+    /// Whether each place was told once, how often a full history was, and how often the gate was told.
+    fn counts(&self) -> (bool, u64, u64) {
+        let once = self
+            .places
+            .iter()
+            .all(|place| place.load(Ordering::SeqCst) == 1);
+        (
+            once,
+            self.full.load(Ordering::SeqCst),
+            self.gate.told.load(Ordering::SeqCst),
+        )
+    }
 }
 
-/// A limit of the history.
-struct Limit(u64);
-
-impl Scene for Limit {
-    fn play<C: Of + Send + Sync, R: Threads + Wait + Abort + Sync>(
-        &self,
-        rt: &R,
-        alloc: Global,
-        home: Home<C>,
-        guests: Vec<Guest<C>>,
-    ) -> Result<(), Fail> {
-        let crowd = Crowd::new(alloc, self.0)?;
-        let guests = at_once(rt, alloc, &home, guests, &crowd)?;
-        assert!(rt;
-            crowd.places.iter().all(|place| told(place) == 1),
-            "each place once"
-        );
-        assert_eq!(rt;
-            told(&crowd.full) + self.0,
-            u64::from(SEATS) * u64::from(EACH)
-        );
-        assert_eq!(rt; told(&crowd.gate.told), self.0);
-        assert_eq!(rt; home.adds(rt, alloc, guests)?, Some(self.0));
-        Ok(())
-    }
+/// All seats add, up to a limit.
+pub fn add_at_once<C: Of + Send + Sync, R: Threads + Wait + Abort + Sync>(
+    rt: &R,
+    alloc: Global,
+    home: Home<C>,
+    guests: Vec<Guest<C>>,
+    limit: u64,
+) -> Result<(), Fail> {
+    let script = Crowd::new(alloc, limit)?;
+    let guests = at_once(rt, alloc, &home, guests, &script)?;
+    let refused = (u64::from(SEATS) * u64::from(EACH)).saturating_sub(limit);
+    assert_eq!(rt; script.counts(), (true, refused, limit));
+    assert_eq!(rt; home.adds(rt, alloc, guests)?, Some(limit));
+    Ok(())
 }
 
 #[test]
 fn eight_seats_have_each_place_once(rt: HostRuntime) -> Result<(), Fail> {
-    play(&rt, rt.alloc(), SEATS, 400, &Limit(400))
+    play(&rt, rt.alloc(), SEATS, 400, &Scene::Crowd(400))
 }
 
 #[test]
 fn one_of_eight_seats_finds_the_history_full(rt: HostRuntime) -> Result<(), Fail> {
-    play(&rt, rt.alloc(), SEATS, 399, &Limit(399))
+    play(&rt, rt.alloc(), SEATS, 399, &Scene::Crowd(399))
 }

@@ -1,6 +1,6 @@
 //! Fronts that go to other threads by channels.
-use crate::party::{Guest, Home, Letter, Mark, Of, Scene, Told, mark_at, play};
-use crate::threads::{Script, at_once};
+use crate::party::{Guest, Home, Letter, Mark, Of, Told, mark_at};
+use crate::threads::{Scene, Script, at_once, play};
 use crossbeam_channel::{Receiver, Sender};
 use std::alloc::{AllocError, Global};
 use std::process::Abort;
@@ -35,6 +35,21 @@ struct Channels<C: Of> {
     to_seats: Vec<Channel<C>>,
 }
 
+/// An Add of the seat's own key, at a time.
+fn add_own<C: Of, R: Wait>(
+    rt: &R,
+    alloc: Global,
+    home: &Home<C>,
+    guest: &mut Guest<C>,
+    time: u64,
+) -> Option<Post<C>> {
+    let key = KEYS.get(guest.number() as usize)?;
+    let mark = mark_at(alloc, key, time, time).ok()?;
+    home.add(rt, guest, &mark)?;
+    let letter = guest.letter.take()?;
+    Some(Post { letter, mark })
+}
+
 impl<C: Of> Channels<C> {
     fn new(alloc: Global) -> Result<Channels<C>, AllocError> {
         let mut to_seats = Vec::new(alloc);
@@ -54,12 +69,9 @@ impl<C: Of> Channels<C> {
         guest: &mut Guest<C>,
         time: u64,
     ) -> Option<()> {
-        let number = guest.number() as usize;
-        let mark = mark_at(alloc, KEYS.get(number)?, time, time).ok()?;
-        home.add(rt, guest, &mark)?;
-        let letter = guest.letter.take()?;
-        let next = self.to_seats.get((number + 1) % 8)?;
-        next.to.send(rt, Post { letter, mark }).ok()
+        let next = self.to_seats.get((guest.number() as usize + 1) % 8)?;
+        let post = add_own(rt, alloc, home, guest, time)?;
+        next.to.send(rt, post).ok()
     }
 
     /// Learns the next front that comes, and asks for its Add. What the answer has to come up to is told with it.
@@ -113,22 +125,17 @@ impl<C: Of> Script<C> for Channels<C> {
 }
 
 /// Each seat sends the fronts of its Adds to the next one.
-struct Ring;
-
-impl Scene for Ring {
-    fn play<C: Of + Send + Sync, R: Threads + Wait + Abort + Sync>(
-        &self,
-        rt: &R,
-        alloc: Global,
-        home: Home<C>,
-        guests: Vec<Guest<C>>,
-    ) -> Result<(), Fail> {
-        let script = Channels::new(alloc)?;
-        let guests = at_once(rt, alloc, &home, guests, &script)?;
-        let adds = u64::from(SEATS) * u64::from(EACH);
-        assert_eq!(rt; home.adds(rt, alloc, guests)?, Some(adds));
-        Ok(())
-    }
+pub fn send_round<C: Of + Send + Sync, R: Threads + Wait + Abort + Sync>(
+    rt: &R,
+    alloc: Global,
+    home: Home<C>,
+    guests: Vec<Guest<C>>,
+) -> Result<(), Fail> {
+    let script = Channels::new(alloc)?;
+    let guests = at_once(rt, alloc, &home, guests, &script)?;
+    let adds = u64::from(SEATS) * u64::from(EACH);
+    assert_eq!(rt; home.adds(rt, alloc, guests)?, Some(adds));
+    Ok(())
 }
 
 #[test]
@@ -138,6 +145,6 @@ fn who_learns_a_front_sees_its_add(rt: HostRuntime) -> Result<(), Fail> {
         rt.alloc(),
         SEATS,
         u64::from(SEATS) * u64::from(EACH),
-        &Ring,
+        &Scene::Ring,
     )
 }

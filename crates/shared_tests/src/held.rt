@@ -1,6 +1,6 @@
 //! An Add that is held up where it holds the desk and nobody can see it, until lookups on other threads have answered.
-use crate::party::{Guest, Home, Of, Owner, Scene, Told, mark_at, play, point};
-use crate::threads::{Script, TURNS, at_once};
+use crate::party::{Guest, Home, Letter, Of, Owner, Told, add_all, mark_at, point};
+use crate::threads::{Scene, Script, TURNS, at_once, play};
 use std::alloc::Global;
 use std::process::Abort;
 use std::sync::Wait;
@@ -11,7 +11,7 @@ use std::thread::Threads;
 use tsc_shared::Gate;
 
 /// The first seat makes Adds, and then one that is held up until each other seat has asked for `a` so often.
-struct Plan {
+pub struct Plan {
     seats: u32,
     /// Keys with their wall times and their moments.
     before: &'static [(&'static str, u64, u64)],
@@ -76,6 +76,8 @@ static MANY: Plan = Plan {
 #[derive(Drop)]
 struct Held<'a> {
     plan: &'a Plan,
+    /// How many seats are to look.
+    lookers: u64,
     /// Whether the Add is held up.
     held: AtomicBool,
     /// How many seats have looked.
@@ -95,10 +97,6 @@ impl Held<'_> {
         }
         false
     }
-
-    fn have_looked(&self) -> bool {
-        self.looked.load(Ordering::SeqCst) + 1 >= u64::from(self.plan.seats)
-    }
 }
 
 impl Gate for Held<'_> {
@@ -109,13 +107,29 @@ impl Gate for Held<'_> {
     fn publish(&self, _seat: u32) {
         self.held.store(true, Ordering::SeqCst);
         for _ in 0..TURNS {
-            if self.have_looked() {
+            if self.looked.load(Ordering::SeqCst) >= self.lookers {
                 self.met.store(true, Ordering::SeqCst);
                 return;
             }
             thread::yield_now();
         }
     }
+}
+
+/// Looks as often as the plan says.
+fn look<C: Of, R: Abort>(
+    rt: &R,
+    alloc: Global,
+    home: &Home<C>,
+    guest: &mut Guest<C>,
+    plan: &Plan,
+) -> Option<()> {
+    let span = point(alloc, "a").ok()?;
+    for _ in 0..plan.looks {
+        assert_eq!(rt; home.get(guest, &span), plan.meanwhile);
+        assert_eq!(rt; home.low(guest), plan.floor);
+    }
+    Some(())
 }
 
 impl<C: Of> Script<C> for Held<'_> {
@@ -126,37 +140,23 @@ impl<C: Of> Script<C> for Held<'_> {
         home: &Home<C>,
         guest: &mut Guest<C>,
     ) -> Option<()> {
+        let plan = self.plan;
         if guest.number() == 0 {
-            let (key, wall, now) = self.plan.held;
+            let (key, wall, now) = plan.held;
             let told = home.add_gated(rt, guest, &mark_at(alloc, key, wall, now).ok()?, self)?;
-            assert_eq!(rt; told, self.plan.told);
+            assert_eq!(rt; told, plan.told);
             return Some(());
         }
         assert!(rt; self.is_held(), "the Add is held up");
-        let span = point(alloc, "a").ok()?;
-        for _ in 0..self.plan.looks {
-            assert_eq!(rt; home.get(guest, &span), self.plan.meanwhile);
-            assert_eq!(rt; home.low(guest), self.plan.floor);
-        }
+        look(rt, alloc, home, guest, plan)?;
         self.looked.fetch_add(1, Ordering::SeqCst);
         Some(())
     }
 }
 
-/// The first of these seats makes the Adds that come before.
-fn add_before<C: Of, R: Wait>(
-    rt: &R,
-    alloc: Global,
-    home: &Home<C>,
-    guests: &mut [Guest<C>],
-    plan: &Plan,
-) -> Result<(), Fail> {
-    let first = guests.first_mut().ok_or("a seat")?;
-    for (key, wall, now) in plan.before {
-        let told = home.add(rt, first, &mark_at(alloc, key, *wall, *now)?);
-        told.ok_or("memory for an Add")?;
-    }
-    Ok(())
+/// The front that the first of these seats was told last.
+fn first_letter<C: Of>(guests: &mut [Guest<C>]) -> Option<Letter<C>> {
+    guests.first_mut()?.letter.take()
 }
 
 /// What the last of these seats is told when it learns the front that the first was told, and of `a` then.
@@ -165,49 +165,54 @@ fn learn<C: Of>(
     home: &Home<C>,
     mut guests: Vec<Guest<C>>,
 ) -> Result<(Told, Told), Fail> {
-    let mut last = guests.pop().ok_or("the last seat")?;
-    let first = guests.first_mut().ok_or("the first seat")?;
-    let letter = first.letter.take().ok_or("a front")?;
-    let long = home.learn(&mut last, letter);
-    Ok((long, home.get(&mut last, &point(alloc, "a")?)))
+    let letter = first_letter(guests.as_mut_slice()).ok_or("a front")?;
+    let last = guests.last_mut().ok_or("the last seat")?;
+    let long = home.learn(last, letter);
+    Ok((long, home.get(last, &point(alloc, "a")?)))
 }
 
-impl Scene for Plan {
-    fn play<C: Of + Send + Sync, R: Threads + Wait + Abort + Sync>(
-        &self,
-        rt: &R,
-        alloc: Global,
-        home: Home<C>,
-        mut guests: Vec<Guest<C>>,
-    ) -> Result<(), Fail> {
-        add_before(rt, alloc, &home, guests.as_mut_slice(), self)?;
-        let script = Held {
-            plan: self,
-            held: AtomicBool::new(false),
-            looked: AtomicU64::new(0),
-            met: AtomicBool::new(false),
-        };
-        let guests = at_once(rt, alloc, &home, guests, &script)?;
-        assert!(rt;
-            script.met.load(Ordering::SeqCst),
-            "all looked while the Add was held up"
-        );
-        assert_eq!(rt; learn(alloc, &home, guests)?, self.learnt);
-        Ok(())
-    }
+/// Plays a plan.
+pub fn hold<C: Of + Send + Sync, R: Threads + Wait + Abort + Sync>(
+    rt: &R,
+    alloc: Global,
+    home: Home<C>,
+    mut guests: Vec<Guest<C>>,
+    plan: &Plan,
+) -> Result<(), Fail> {
+    add_all(rt, alloc, &home, guests.as_mut_slice(), plan.before)?;
+    let script = Held {
+        plan,
+        lookers: u64::from(plan.seats.saturating_sub(1)),
+        held: AtomicBool::new(false),
+        looked: AtomicU64::new(0),
+        met: AtomicBool::new(false),
+    };
+    let guests = at_once(rt, alloc, &home, guests, &script)?;
+    assert!(rt;
+        script.met.load(Ordering::SeqCst),
+        "all looked while the Add was held up"
+    );
+    assert_eq!(rt; learn(alloc, &home, guests)?, plan.learnt);
+    Ok(())
 }
 
 #[test]
 fn a_lookup_answers_while_the_first_add_is_held_up(rt: HostRuntime) -> Result<(), Fail> {
-    play(&rt, rt.alloc(), FIRST.seats, 100, &FIRST)
+    play(&rt, rt.alloc(), FIRST.seats, 100, &Scene::Held(&FIRST))
 }
 
 #[test]
 fn a_lookup_answers_while_a_rotating_add_is_held_up(rt: HostRuntime) -> Result<(), Fail> {
-    play(&rt, rt.alloc(), ROTATING.seats, 100, &ROTATING)
+    play(
+        &rt,
+        rt.alloc(),
+        ROTATING.seats,
+        100,
+        &Scene::Held(&ROTATING),
+    )
 }
 
 #[test]
 fn all_lookups_answer_while_the_desk_is_held(rt: HostRuntime) -> Result<(), Fail> {
-    play(&rt, rt.alloc(), MANY.seats, 100, &MANY)
+    play(&rt, rt.alloc(), MANY.seats, 100, &Scene::Held(&MANY))
 }

@@ -1,11 +1,10 @@
 //! Want of memory. `scripts/refuse-each-growth tests shared_tests memory::..` refuses each growth of these tests in
 //! turn, and counts those after which a test passes.
-use crate::party::{Guest, Home, Mark, Of, Scene, Told, mark_at, play, play_again};
+use crate::party::{Guest, Home, Mark, Of, Scene, Told, add_all, adds_of_two, mark_at, play, two};
 use std::alloc::Global;
 use std::process::Abort;
 use std::sync::Wait;
 use std::test::Fail;
-use std::thread::Threads;
 use tsc_time::NoMemory;
 
 /// How many Adds of its own a seat counts, and what it is told of a span and of the floor.
@@ -30,16 +29,6 @@ fn add_again<C: Of, R: Wait>(
     Ok(home.add(rt, guest, mark).ok_or("an Add was refused again")?)
 }
 
-/// An Add that must not be refused.
-fn add<C: Of, R: Wait>(
-    rt: &R,
-    home: &Home<C>,
-    guest: &mut Guest<C>,
-    mark: &Mark,
-) -> Result<Told, NoMemory> {
-    home.add(rt, guest, mark).ok_or(NoMemory)
-}
-
 /// Adds that are each made again: their keys, wall times and moments, and what they are told.
 struct Again(&'static [((&'static str, u64, u64), Told)]);
 
@@ -59,25 +48,35 @@ static AGAIN: Again = Again(&[
     (("a", 21, 40), Told::Place(11, (false, false, 0), 12)),
 ]);
 
+/// The two seats make these Adds in turn.
+fn add_in_turn<C: Of, R: Wait + Abort>(
+    rt: &R,
+    alloc: Global,
+    home: &Home<C>,
+    first: &mut Guest<C>,
+    second: &mut Guest<C>,
+    adds: &[((&str, u64, u64), Told)],
+) -> Result<(), Fail> {
+    for ((key, wall, now), wanted) in adds {
+        let mark = mark_at(alloc, key, *wall, *now)?;
+        let told = add_again(rt, home, first, &mark)?;
+        assert_eq!(rt; told, *wanted, "{key}");
+        std::mem::swap(first, second);
+    }
+    Ok(())
+}
+
 impl Scene for Again {
-    fn play<C: Of + Send + Sync, R: Threads + Wait + Abort + Sync>(
+    fn play<C: Of, R: Wait + Abort>(
         &self,
         rt: &R,
         alloc: Global,
         home: Home<C>,
-        mut guests: Vec<Guest<C>>,
+        guests: Vec<Guest<C>>,
     ) -> Result<(), Fail> {
-        let mut second = guests.pop().ok_or("two seats")?;
-        let mut first = guests.pop().ok_or("one seat")?;
-        for ((key, wall, now), wanted) in self.0 {
-            let mark = mark_at(alloc, key, *wall, *now)?;
-            let told = add_again(rt, &home, &mut first, &mark)?;
-            assert_eq!(rt; told, *wanted, "{key}");
-            std::mem::swap(&mut first, &mut second);
-        }
-        guests.push(first)?;
-        guests.push(second)?;
-        assert_eq!(rt; home.adds(rt, alloc, guests)?, Some(12));
+        let (mut first, mut second) = two(guests).ok_or("two seats")?;
+        add_in_turn(rt, alloc, &home, &mut first, &mut second, self.0)?;
+        assert_eq!(rt; adds_of_two(rt, alloc, home, first, second)?, Some(12));
         Ok(())
     }
 }
@@ -85,7 +84,7 @@ impl Scene for Again {
 /// Both seats add, in turn.
 #[test]
 fn a_refused_add_can_be_made_again(rt: HostRuntime) -> Result<(), Fail> {
-    play_again(&rt, rt.alloc(), 2, 100, &AGAIN)
+    play(&rt, rt.alloc(), 100, true, &AGAIN)
 }
 
 /// What is made once more where it is refused memory.
@@ -96,43 +95,51 @@ enum Known {
     Copy,
 }
 
+fn copy_again(mark: &Mark) -> Result<(), NoMemory> {
+    if mark.span.try_copy().is_err() {
+        mark.span.try_copy()?;
+    }
+    Ok(())
+}
+
 impl Known {
     fn ask<C: Of, R: Wait>(
         &self,
         rt: &R,
+        alloc: Global,
         home: &Home<C>,
-        guest: &mut Guest<C>,
-        mark: &Mark,
+        guests: &mut [Guest<C>],
     ) -> Result<(), Fail> {
+        let guest = guests.first_mut().ok_or("a seat")?;
+        let mark = mark_at(alloc, "b", 30, 30)?;
         match self {
             Known::Add => {
-                add_again(rt, home, guest, mark)?;
-                Ok(())
+                add_again(rt, home, guest, &mark)?;
             }
-            Known::Copy => {
-                if mark.span.try_copy().is_err() {
-                    mark.span.try_copy()?;
-                }
-                add(rt, home, guest, mark)?;
-                Ok(())
-            }
+            Known::Copy => copy_again(&mark)?,
         }
+        Ok(())
     }
 }
 
+static ON_BOTH_SIDES: [(&str, u64, u64); 5] = [
+    ("a", 20, 20),
+    ("b", 20, 20),
+    ("c", 20, 20),
+    ("b", 20, 20),
+    ("b", 20, 20),
+];
+
 impl Scene for Known {
-    fn play<C: Of + Send + Sync, R: Threads + Wait + Abort + Sync>(
+    fn play<C: Of, R: Wait + Abort>(
         &self,
         rt: &R,
         alloc: Global,
         home: Home<C>,
         mut guests: Vec<Guest<C>>,
     ) -> Result<(), Fail> {
-        let guest = guests.first_mut().ok_or("a seat")?;
-        for key in ["a", "b", "c", "b", "b"] {
-            add(rt, &home, guest, &mark_at(alloc, key, 20, 20)?)?;
-        }
-        self.ask(rt, &home, guest, &mark_at(alloc, "b", 30, 30)?)
+        add_all(rt, alloc, &home, guests.as_mut_slice(), &ON_BOTH_SIDES)?;
+        self.ask(rt, alloc, &home, guests.as_mut_slice())
     }
 }
 
@@ -140,10 +147,10 @@ impl Scene for Known {
 /// other memory, where both sides have its key.
 #[test]
 fn an_add_of_a_known_key_is_made_again(rt: HostRuntime) -> Result<(), Fail> {
-    play(&rt, rt.alloc(), 2, 100, &Known::Add)
+    play(&rt, rt.alloc(), 100, false, &Known::Add)
 }
 
 #[test]
 fn a_copy_of_its_span_is_made_again(rt: HostRuntime) -> Result<(), Fail> {
-    play(&rt, rt.alloc(), 2, 100, &Known::Copy)
+    play(&rt, rt.alloc(), 100, false, &Known::Copy)
 }

@@ -8,7 +8,6 @@ use std::marker::{Brand, PhantomData};
 use std::process::Abort;
 use std::sync::Wait;
 use std::test::Fail;
-use std::thread::Threads;
 use tsc_cache::Config;
 use tsc_shared::{AddFault, Closed, Front, Gate, NoGate, OpenFault, Seat, SharedCache};
 use tsc_span::{Ends, Key, Span, SpanFault};
@@ -264,7 +263,8 @@ fn seats_of<C: Of>(alloc: Global, guests: Vec<Guest<C>>) -> Result<Vec<Seat>, No
     ensures { IfOk result (λ seats. All (λ seat. seat.cache ≡ C.cache) seats.items) }
 {
     let mut seats = Vec::with_capacity(alloc, guests.len())?;
-    for Guest { seat, letter: _ } in guests {
+    for guest in guests {
+        let Guest { seat, letter: _ } = guest;
         seats.push(seat)?;
     }
     Ok(seats)
@@ -304,9 +304,46 @@ impl<C: Of> Home<C> {
     }
 }
 
-/// What is played with a cache and its seats.
+/// The first two of some seats.
+pub fn two<C: Of>(mut guests: Vec<Guest<C>>) -> Option<(Guest<C>, Guest<C>)> {
+    let second = guests.pop()?;
+    let first = guests.pop()?;
+    Some((first, second))
+}
+
+/// How many Adds there were, where these are all seats.
+pub fn adds_of_two<C: Of, R: Wait>(
+    rt: &R,
+    alloc: Global,
+    home: Home<C>,
+    first: Guest<C>,
+    second: Guest<C>,
+) -> Result<Option<u64>, NoMemory> {
+    let mut guests = Vec::with_capacity(alloc, 2)?;
+    guests.push(first)?;
+    guests.push(second)?;
+    home.adds(rt, alloc, guests)
+}
+
+/// The first of these seats makes Adds of these keys, with their wall times and moments.
+pub fn add_all<C: Of, R: Wait>(
+    rt: &R,
+    alloc: Global,
+    home: &Home<C>,
+    guests: &mut [Guest<C>],
+    marks: &[(&str, u64, u64)],
+) -> Result<(), Fail> {
+    let first = guests.first_mut().ok_or("a seat")?;
+    for (key, wall, now) in marks {
+        let told = home.add(rt, first, &mark_at(alloc, key, *wall, *now)?);
+        told.ok_or(NoMemory)?;
+    }
+    Ok(())
+}
+
+/// What is played with a cache and its seats, on one thread.
 pub trait Scene {
-    fn play<C: Of + Send + Sync, R: Threads + Wait + Abort + Sync>(
+    fn play<C: Of, R: Wait + Abort>(
         &self,
         rt: &R,
         alloc: Global,
@@ -315,7 +352,24 @@ pub trait Scene {
     ) -> Result<(), Fail>;
 }
 
-fn enter<C: Of + Send + Sync, R: Threads + Wait + Abort + Sync, S: Scene>(
+/// The cache and its seats, with types that show that they belong together.
+pub fn together<C: Of>(
+    alloc: Global,
+    cache: SharedCache,
+    seats: Vec<Seat>,
+) -> Result<(Home<C>, Vec<Guest<C>>), NoMemory>
+    requires cache { cache ≡ C.cache }
+    requires seats { All (λ seat. seat.cache ≡ C.cache) seats.items }
+{
+    let guests = guests_of(alloc, seats)?;
+    let home = Home {
+        cache,
+        of: PhantomData,
+    };
+    Ok((home, guests))
+}
+
+fn enter<C: Of, R: Wait + Abort, S: Scene>(
     rt: &R,
     alloc: Global,
     scene: &S,
@@ -325,49 +379,33 @@ fn enter<C: Of + Send + Sync, R: Threads + Wait + Abort + Sync, S: Scene>(
     requires cache { cache ≡ C.cache }
     requires seats { All (λ seat. seat.cache ≡ C.cache) seats.items }
 {
-    let guests = guests_of(alloc, seats)?;
-    let home = Home {
-        cache,
-        of: PhantomData,
-    };
+    let (home, guests) = together::<C>(alloc, cache, seats)?;
     scene.play::<C, R>(rt, alloc, home, guests)
 }
 
-/// Opens a cache with so many seats and a history of at most so many Adds, and plays a scene.
-pub fn play<R: Threads + Wait + Abort + Sync, S: Scene>(
-    rt: &R,
-    alloc: Global,
-    seats: u32,
-    limit: u64,
-    scene: &S,
-) -> Result<(), Fail> {
-    let (cache, seats) = SharedCache::open(alloc, config()?, seats, limit)?;
-    enter::<Brand, R, S>(rt, alloc, scene, cache, seats)
-}
-
-/// Opens a cache. Where it is refused memory it is opened once more.
-fn open_again(
+/// Opens a cache. Where it is refused memory, and this is to be tried again, it is opened once more.
+fn open(
     alloc: Global,
     config: Config,
-    seats: u32,
     limit: u64,
+    tries_again: bool,
 ) -> Result<(SharedCache, Vec<Seat>), OpenFault>
-    ensures { IfOk result (λ opened. Opens config seats limit opened.0 opened.1.items) }
+    ensures { IfOk result (λ opened. Opens config 2 limit opened.0 opened.1.items) }
 {
-    match SharedCache::open(alloc, config, seats, limit) {
-        Ok(opened) => Ok(opened),
-        Err(_) => SharedCache::open(alloc, config, seats, limit),
+    match SharedCache::open(alloc, config, 2, limit) {
+        Err(_refused) if tries_again => SharedCache::open(alloc, config, 2, limit),
+        opened => opened,
     }
 }
 
-/// As [`play`]. Where it is refused memory the cache is opened once more.
-pub fn play_again<R: Threads + Wait + Abort + Sync, S: Scene>(
+/// Opens a cache with two seats and a history of at most so many Adds, and plays a scene.
+pub fn play<R: Wait + Abort, S: Scene>(
     rt: &R,
     alloc: Global,
-    seats: u32,
     limit: u64,
+    tries_again: bool,
     scene: &S,
 ) -> Result<(), Fail> {
-    let (cache, seats) = open_again(alloc, config()?, seats, limit)?;
+    let (cache, seats) = open(alloc, config()?, limit, tries_again)?;
     enter::<Brand, R, S>(rt, alloc, scene, cache, seats)
 }

@@ -1,6 +1,6 @@
 //! Lookups that begin after an Add has returned on another thread, with nothing but a number to tell them so.
-use crate::party::{Guest, Home, Of, Scene, Told, mark_at, play, point};
-use crate::threads::{Script, TURNS, at_once};
+use crate::party::{Guest, Home, Of, Told, mark_at, point};
+use crate::threads::{Scene, Script, TURNS, at_once, play};
 use std::alloc::Global;
 use std::process::Abort;
 use std::sync::Wait;
@@ -21,9 +21,21 @@ struct Returned {
 /// Whether what is seen has all of so many Adds.
 fn has_all(adds: u64, seen: Told) -> bool {
     match seen {
-        Told::Value((wall, 0), _, front) => adds <= front && (adds == 0 || 19 + adds <= wall),
+        Told::Value((wall, 0), _, front) => adds <= front && adds <= wall.saturating_sub(19),
         _ => false,
     }
+}
+
+/// What the Add of a round is told.
+fn add_one<C: Of, R: Wait>(
+    rt: &R,
+    alloc: Global,
+    home: &Home<C>,
+    guest: &mut Guest<C>,
+    round: u64,
+) -> Option<Told> {
+    let time = round.saturating_add(20);
+    home.add(rt, guest, &mark_at(alloc, "a", time, time).ok()?)
 }
 
 impl Returned {
@@ -36,8 +48,7 @@ impl Returned {
         guest: &mut Guest<C>,
     ) -> Option<()> {
         for round in 0..u64::from(ROUNDS) {
-            let time = 20 + round;
-            let told = home.add(rt, guest, &mark_at(alloc, "a", time, time).ok()?)?;
+            let told = add_one(rt, alloc, home, guest, round)?;
             assert_eq!(rt; told, Told::Place(round, (true, false, 0), round + 1));
             self.adds.store(round + 1, Ordering::SeqCst);
         }
@@ -85,27 +96,22 @@ impl<C: Of> Script<C> for Returned {
     }
 }
 
-/// One adds, and the others look.
-struct Looked;
-
-impl Scene for Looked {
-    fn play<C: Of + Send + Sync, R: Threads + Wait + Abort + Sync>(
-        &self,
-        rt: &R,
-        alloc: Global,
-        home: Home<C>,
-        guests: Vec<Guest<C>>,
-    ) -> Result<(), Fail> {
-        let script = Returned {
-            adds: AtomicU64::new(0),
-        };
-        let guests = at_once(rt, alloc, &home, guests, &script)?;
-        assert_eq!(rt; home.adds(rt, alloc, guests)?, Some(u64::from(ROUNDS)));
-        Ok(())
-    }
+/// The first seat adds, and the others look.
+pub fn look_after<C: Of + Send + Sync, R: Threads + Wait + Abort + Sync>(
+    rt: &R,
+    alloc: Global,
+    home: Home<C>,
+    guests: Vec<Guest<C>>,
+) -> Result<(), Fail> {
+    let script = Returned {
+        adds: AtomicU64::new(0),
+    };
+    let guests = at_once(rt, alloc, &home, guests, &script)?;
+    assert_eq!(rt; home.adds(rt, alloc, guests)?, Some(u64::from(ROUNDS)));
+    Ok(())
 }
 
 #[test]
 fn a_lookup_sees_each_add_that_has_returned(rt: HostRuntime) -> Result<(), Fail> {
-    play(&rt, rt.alloc(), 3, u64::from(ROUNDS), &Looked)
+    play(&rt, rt.alloc(), 3, u64::from(ROUNDS), &Scene::Returned)
 }

@@ -1,11 +1,13 @@
 //! What two seats are told, one step after the other.
-use crate::party::{Ended, Guest, Home, Letter, Of, Owner, Scene, Told, mark_at, play, point};
+use crate::party::{
+    Ended, Guest, Home, Letter, Of, Owner, Scene, Told, add_all, adds_of_two, mark_at, play, point,
+    two,
+};
 use std::alloc::Global;
 use std::collections::VecDeque;
 use std::process::Abort;
 use std::sync::Wait;
 use std::test::Fail;
-use std::thread::Threads;
 
 /// What a seat does: the first seat is 0, and the second any other number.
 #[derive(Clone, Copy, Debug)]
@@ -63,10 +65,9 @@ static NEWEST: Row = (
     3,
 );
 
-/// A cache with its two seats, and the fronts that were told and not yet learnt.
+/// Two seats, and the fronts that were told and not yet learnt.
 #[derive(Drop)]
 struct Pair<C: Of> {
-    home: Home<C>,
     first: Guest<C>,
     second: Guest<C>,
     letters: VecDeque<Letter<C>>,
@@ -108,39 +109,67 @@ fn add<C: Of, R: Wait>(
     Ok(told.ok_or("memory for an Add")?)
 }
 
-impl<C: Of> Pair<C> {
-    fn take<R: Wait>(&mut self, rt: &R, alloc: Global, step: &Step) -> Result<Told, Fail> {
-        let guest = match step {
-            Step::Add(0, _) | Step::Get(0, _) | Step::Learn(0) | Step::See(0) => &mut self.first,
-            _ => &mut self.second,
-        };
-        take_step(rt, alloc, &self.home, guest, &mut self.letters, step)
+impl Step {
+    fn is_of_first(&self) -> bool {
+        matches!(
+            self,
+            Step::Add(0, _) | Step::Get(0, _) | Step::Learn(0) | Step::See(0)
+        )
     }
 }
 
+/// One step of the seat that it is of.
+fn take<C: Of, R: Wait>(
+    rt: &R,
+    alloc: Global,
+    home: &Home<C>,
+    pair: &mut Pair<C>,
+    step: &Step,
+) -> Result<Told, Fail> {
+    let Pair {
+        first,
+        second,
+        letters,
+    } = pair;
+    if step.is_of_first() {
+        take_step(rt, alloc, home, first, letters, step)
+    } else {
+        take_step(rt, alloc, home, second, letters, step)
+    }
+}
+
+/// All steps, each with what is told.
+fn take_all<C: Of, R: Wait + Abort>(
+    rt: &R,
+    alloc: Global,
+    home: &Home<C>,
+    pair: &mut Pair<C>,
+    steps: &[(Step, Told)],
+) -> Result<(), Fail> {
+    for (step, told) in steps {
+        assert_eq!(rt; take(rt, alloc, home, pair, step)?, *told, "{step:?}");
+    }
+    Ok(())
+}
+
 impl Scene for Row {
-    fn play<C: Of + Send + Sync, R: Threads + Wait + Abort + Sync>(
+    fn play<C: Of, R: Wait + Abort>(
         &self,
         rt: &R,
         alloc: Global,
         home: Home<C>,
-        mut guests: Vec<Guest<C>>,
+        guests: Vec<Guest<C>>,
     ) -> Result<(), Fail> {
-        let second = guests.pop().ok_or("two seats")?;
-        let first = guests.pop().ok_or("one seat")?;
+        let (first, second) = two(guests).ok_or("two seats")?;
         let letters = VecDeque::new(alloc);
         let mut pair = Pair {
-            home,
             first,
             second,
             letters,
         };
-        for (step, told) in self.1 {
-            assert_eq!(rt; pair.take(rt, alloc, step)?, *told, "{step:?}");
-        }
-        guests.push(pair.first)?;
-        guests.push(pair.second)?;
-        assert_eq!(rt; pair.home.adds(rt, alloc, guests)?, Some(self.2));
+        take_all(rt, alloc, &home, &mut pair, self.1)?;
+        let adds = adds_of_two(rt, alloc, home, pair.first, pair.second)?;
+        assert_eq!(rt; adds, Some(self.2));
         Ok(())
     }
 }
@@ -148,16 +177,42 @@ impl Scene for Row {
 #[test]
 fn a_seat_learns_what_another_was_told(rt: HostRuntime) -> Result<(), Fail> {
     for row in [&LEARNT, &FULL, &NEWEST] {
-        play(&rt, rt.alloc(), 2, row.0, row)?;
+        play(&rt, rt.alloc(), row.0, false, row)?;
     }
     Ok(())
 }
 
-/// One seat adds, and the other is dropped.
+/// What the first of these seats is told of a key.
+fn first_gets<C: Of>(
+    alloc: Global,
+    home: &Home<C>,
+    guests: &mut [Guest<C>],
+    key: &str,
+) -> Result<Told, Fail> {
+    let first = guests.first_mut().ok_or("a seat")?;
+    Ok(home.get(first, &point(alloc, key)?))
+}
+
+/// What is handed back where a seat is missing at closing, and what its only seat is told of a key.
+fn stays_open<C: Of, R: Wait>(
+    rt: &R,
+    alloc: Global,
+    home: Home<C>,
+    guests: Vec<Guest<C>>,
+    key: &str,
+) -> Result<(Home<C>, Vec<Guest<C>>, Told), Fail> {
+    let Ended::Out(home, mut guests) = home.close(rt, alloc, guests)? else {
+        return Err("closed without a seat".into());
+    };
+    let told = first_gets(alloc, &home, guests.as_mut_slice(), key)?;
+    Ok((home, guests, told))
+}
+
+/// The first seat adds, and the second is dropped.
 struct Dropped;
 
 impl Scene for Dropped {
-    fn play<C: Of + Send + Sync, R: Threads + Wait + Abort + Sync>(
+    fn play<C: Of, R: Wait + Abort>(
         &self,
         rt: &R,
         alloc: Global,
@@ -165,35 +220,16 @@ impl Scene for Dropped {
         mut guests: Vec<Guest<C>>,
     ) -> Result<(), Fail> {
         drop(guests.pop());
-        let mut first = guests.pop().ok_or("one seat")?;
-        let told = home.add(rt, &mut first, &mark_at(alloc, "a", 20, 20)?);
-        assert_eq!(rt; told, Some(Told::Place(0, (true, false, 0), 1)));
-        guests.push(first)?;
-        let (home, mut guests) = stays_open(rt, alloc, home, guests)?;
-        let mut first = guests.pop().ok_or("the seat is handed back")?;
-        let nothing = Told::Value((5, 0), Owner::None, 1);
-        assert_eq!(rt; home.get(&mut first, &point(alloc, "b")?), nothing);
-        guests.push(first)?;
-        let (_home, guests) = stays_open(rt, alloc, home, guests)?;
-        assert_eq!(rt; guests.len(), 1);
+        add_all(rt, alloc, &home, guests.as_mut_slice(), &[("a", 20, 20)])?;
+        let (home, guests, of_b) = stays_open(rt, alloc, home, guests, "b")?;
+        assert_eq!(rt; of_b, Told::Value((5, 0), Owner::None, 1));
+        let (_home, _guests, of_a) = stays_open(rt, alloc, home, guests, "a")?;
+        assert_eq!(rt; of_a, Told::Value((20, 0), Owner::First, 1));
         Ok(())
-    }
-}
-
-/// What is handed back where a seat is missing at closing.
-fn stays_open<C: Of, R: Wait>(
-    rt: &R,
-    alloc: Global,
-    home: Home<C>,
-    guests: Vec<Guest<C>>,
-) -> Result<(Home<C>, Vec<Guest<C>>), Fail> {
-    match home.close(rt, alloc, guests)? {
-        Ended::Closed(_closed) => Err("closed without a seat".into()),
-        Ended::Out(home, guests) => Ok((home, guests)),
     }
 }
 
 #[test]
 fn a_dropped_seat_leaves_the_cache_open(rt: HostRuntime) -> Result<(), Fail> {
-    play(&rt, rt.alloc(), 2, 10, &Dropped)
+    play(&rt, rt.alloc(), 10, false, &Dropped)
 }
