@@ -122,6 +122,19 @@ impl Crowd {
     }
 }
 
+/// The seats afterwards, and what was counted.
+fn count<C: Of + Send + Sync, R: Threads + Wait + Abort + Sync>(
+    rt: &R,
+    alloc: Global,
+    home: &Home<C>,
+    guests: Vec<Guest<C>>,
+    limit: u64,
+) -> Result<(Vec<Guest<C>>, (bool, u64, u64)), Fail> {
+    let script = Crowd::new(alloc, limit)?;
+    let guests = at_once(rt, alloc, home, guests, &script)?;
+    Ok((guests, script.counts()))
+}
+
 /// All seats add, up to a limit.
 pub fn add_at_once<C: Of + Send + Sync, R: Threads + Wait + Abort + Sync>(
     rt: &R,
@@ -130,10 +143,9 @@ pub fn add_at_once<C: Of + Send + Sync, R: Threads + Wait + Abort + Sync>(
     guests: Vec<Guest<C>>,
     limit: u64,
 ) -> Result<(), Fail> {
-    let script = Crowd::new(alloc, limit)?;
-    let guests = at_once(rt, alloc, &home, guests, &script)?;
+    let (guests, counts) = count(rt, alloc, &home, guests, limit)?;
     let refused = (u64::from(SEATS) * u64::from(EACH)).saturating_sub(limit);
-    assert_eq!(rt; script.counts(), (true, refused, limit));
+    assert_eq!(rt; counts, (true, refused, limit));
     assert_eq!(rt; home.adds(rt, alloc, guests)?, Some(limit));
     Ok(())
 }

@@ -99,6 +99,32 @@ impl Held<'_> {
     }
 }
 
+impl Held<'_> {
+    fn of(plan: &Plan) -> Held<'_> {
+        Held {
+            plan,
+            lookers: u64::from(plan.seats.saturating_sub(1)),
+            held: AtomicBool::new(false),
+            looked: AtomicU64::new(0),
+            met: AtomicBool::new(false),
+        }
+    }
+
+    /// What the Add that is held up is told.
+    fn add<C: Of, R: Wait>(
+        &self,
+        rt: &R,
+        alloc: Global,
+        home: &Home<C>,
+        guest: &mut Guest<C>,
+    ) -> Option<Told> {
+        let plan = self.plan;
+        let (key, wall, now) = plan.held;
+        let mark = mark_at(alloc, key, wall, now).ok()?;
+        home.add_gated(rt, guest, &mark, self)
+    }
+}
+
 impl Gate for Held<'_> {
     fn start(&self, _thread: u32, _call: u32) {}
 
@@ -142,9 +168,7 @@ impl<C: Of> Script<C> for Held<'_> {
     ) -> Option<()> {
         let plan = self.plan;
         if guest.number() == 0 {
-            let (key, wall, now) = plan.held;
-            let told = home.add_gated(rt, guest, &mark_at(alloc, key, wall, now).ok()?, self)?;
-            assert_eq!(rt; told, plan.told);
+            assert_eq!(rt; self.add(rt, alloc, home, guest)?, plan.told);
             return Some(());
         }
         assert!(rt; self.is_held(), "the Add is held up");
@@ -171,6 +195,19 @@ fn learn<C: Of>(
     Ok((long, home.get(last, &point(alloc, "a")?)))
 }
 
+/// Holds the Add up, and tells whether it saw all others look.
+fn meet<C: Of + Send + Sync, R: Threads + Wait + Abort + Sync>(
+    rt: &R,
+    alloc: Global,
+    home: &Home<C>,
+    guests: Vec<Guest<C>>,
+    plan: &Plan,
+) -> Result<(Vec<Guest<C>>, bool), Fail> {
+    let script = Held::of(plan);
+    let guests = at_once(rt, alloc, home, guests, &script)?;
+    Ok((guests, script.met.load(Ordering::SeqCst)))
+}
+
 /// Plays a plan.
 pub fn hold<C: Of + Send + Sync, R: Threads + Wait + Abort + Sync>(
     rt: &R,
@@ -180,18 +217,8 @@ pub fn hold<C: Of + Send + Sync, R: Threads + Wait + Abort + Sync>(
     plan: &Plan,
 ) -> Result<(), Fail> {
     add_all(rt, alloc, &home, guests.as_mut_slice(), plan.before)?;
-    let script = Held {
-        plan,
-        lookers: u64::from(plan.seats.saturating_sub(1)),
-        held: AtomicBool::new(false),
-        looked: AtomicU64::new(0),
-        met: AtomicBool::new(false),
-    };
-    let guests = at_once(rt, alloc, &home, guests, &script)?;
-    assert!(rt;
-        script.met.load(Ordering::SeqCst),
-        "all looked while the Add was held up"
-    );
+    let (guests, met) = meet(rt, alloc, &home, guests, plan)?;
+    assert!(rt; met, "all looked while the Add was held up");
     assert_eq!(rt; learn(alloc, &home, guests)?, plan.learnt);
     Ok(())
 }

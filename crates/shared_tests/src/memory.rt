@@ -48,6 +48,17 @@ static AGAIN: Again = Again(&[
     (("a", 21, 40), Told::Place(11, (false, false, 0), 12)),
 ]);
 
+fn add_key_again<C: Of, R: Wait>(
+    rt: &R,
+    alloc: Global,
+    home: &Home<C>,
+    guest: &mut Guest<C>,
+    (key, wall, now): (&str, u64, u64),
+) -> Result<Told, Fail> {
+    let mark = mark_at(alloc, key, wall, now)?;
+    add_again(rt, home, guest, &mark)
+}
+
 /// The two seats make these Adds in turn.
 fn add_in_turn<C: Of, R: Wait + Abort>(
     rt: &R,
@@ -57,10 +68,9 @@ fn add_in_turn<C: Of, R: Wait + Abort>(
     second: &mut Guest<C>,
     adds: &[((&str, u64, u64), Told)],
 ) -> Result<(), Fail> {
-    for ((key, wall, now), wanted) in adds {
-        let mark = mark_at(alloc, key, *wall, *now)?;
-        let told = add_again(rt, home, first, &mark)?;
-        assert_eq!(rt; told, *wanted, "{key}");
+    for (key, wanted) in adds {
+        let told = add_key_again(rt, alloc, home, first, *key)?;
+        assert_eq!(rt; told, *wanted, "{key:?}");
         std::mem::swap(first, second);
     }
     Ok(())
@@ -110,15 +120,16 @@ impl Known {
         home: &Home<C>,
         guests: &mut [Guest<C>],
     ) -> Result<(), Fail> {
-        let guest = guests.first_mut().ok_or("a seat")?;
-        let mark = mark_at(alloc, "b", 30, 30)?;
+        let Some(guest) = guests.first_mut() else {
+            return Err("a seat".into());
+        };
         match self {
             Known::Add => {
-                add_again(rt, home, guest, &mark)?;
+                add_key_again(rt, alloc, home, guest, ("b", 30, 30))?;
+                Ok(())
             }
-            Known::Copy => copy_again(&mark)?,
+            Known::Copy => Ok(copy_again(&mark_at(alloc, "b", 30, 30)?)?),
         }
-        Ok(())
     }
 }
 

@@ -10,7 +10,7 @@ use std::sync::Wait;
 use std::test::Fail;
 use tsc_cache::Config;
 use tsc_shared::{AddFault, Closed, Front, Gate, NoGate, OpenFault, Seat, SharedCache};
-use tsc_span::{Ends, Key, Span, SpanFault};
+use tsc_span::{Key, Span, SpanFault};
 use tsc_time::{NoMemory, Timestamp, Value};
 use uuid::Uuid;
 
@@ -67,7 +67,7 @@ pub enum Told {
     Place(u64, (bool, bool, u64), u64),
     /// The length of the front.
     Full(u64),
-    /// The wall time and the logical count, which of the two owners it has, or none, and the length of the front.
+    /// The wall time and the logical count, its owner, and the length of the front.
     Value((u64, u32), Owner, u64),
     /// A length.
     Long(u64),
@@ -77,20 +77,14 @@ pub enum Told {
 #[derive(Clone, Copy, Debug, PartialEq, Eq)]
 pub enum Owner {
     None,
+    /// The one that makes all Adds.
     First,
-    Second,
-    /// Neither of the two.
     Other,
 }
 
 /// 11111111-1111-4111-8111-111111111111
 const FIRST: [u8; 16] = [
     0x11, 0x11, 0x11, 0x11, 0x11, 0x11, 0x41, 0x11, 0x81, 0x11, 0x11, 0x11, 0x11, 0x11, 0x11, 0x11,
-];
-
-/// 22222222-2222-4222-8222-222222222222
-const SECOND: [u8; 16] = [
-    0x22, 0x22, 0x22, 0x22, 0x22, 0x22, 0x42, 0x22, 0x82, 0x22, 0x22, 0x22, 0x22, 0x22, 0x22, 0x22,
 ];
 
 /// A floor at 5.0, and pages of four nodes, of which two are kept at the least.
@@ -105,19 +99,6 @@ pub fn at(wall: u64) -> Timestamp {
 
 pub fn point(alloc: Global, key: &str) -> Result<Span, SpanFault> {
     Ok(Span::point(Key::new(alloc, key.as_bytes())?))
-}
-
-/// The empty span between a key and itself.
-pub fn nothing(alloc: Global, key: &str) -> Result<Span, SpanFault> {
-    let ends = Ends {
-        exclude_from: true,
-        exclude_to: true,
-    };
-    Span::range(
-        Key::new(alloc, key.as_bytes())?,
-        Key::new(alloc, key.as_bytes())?,
-        ends,
-    )
 }
 
 /// A key at a wall time, by the first owner, at a moment.
@@ -136,8 +117,6 @@ fn owner_of(value: Value) -> Owner {
     };
     if owner == Uuid::from_bytes(FIRST) {
         Owner::First
-    } else if owner == Uuid::from_bytes(SECOND) {
-        Owner::Second
     } else {
         Owner::Other
     }

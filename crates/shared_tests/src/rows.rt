@@ -8,6 +8,7 @@ use std::collections::VecDeque;
 use std::process::Abort;
 use std::sync::Wait;
 use std::test::Fail;
+use tsc_time::NoMemory;
 
 /// What a seat does: the first seat is 0, and the second any other number.
 #[derive(Clone, Copy, Debug)]
@@ -106,7 +107,7 @@ fn add<C: Of, R: Wait>(
     if let Some(letter) = guest.letter.take() {
         letters.push_back(letter)?;
     }
-    Ok(told.ok_or("memory for an Add")?)
+    Ok(told.ok_or(NoMemory)?)
 }
 
 impl Step {
@@ -152,6 +153,16 @@ fn take_all<C: Of, R: Wait + Abort>(
     Ok(())
 }
 
+fn pair_of<C: Of>(alloc: Global, guests: Vec<Guest<C>>) -> Option<Pair<C>> {
+    let (first, second) = two(guests)?;
+    let letters = VecDeque::new(alloc);
+    Some(Pair {
+        first,
+        second,
+        letters,
+    })
+}
+
 impl Scene for Row {
     fn play<C: Of, R: Wait + Abort>(
         &self,
@@ -160,13 +171,7 @@ impl Scene for Row {
         home: Home<C>,
         guests: Vec<Guest<C>>,
     ) -> Result<(), Fail> {
-        let (first, second) = two(guests).ok_or("two seats")?;
-        let letters = VecDeque::new(alloc);
-        let mut pair = Pair {
-            first,
-            second,
-            letters,
-        };
+        let mut pair = pair_of(alloc, guests).ok_or("two seats")?;
         take_all(rt, alloc, &home, &mut pair, self.1)?;
         let adds = adds_of_two(rt, alloc, home, pair.first, pair.second)?;
         assert_eq!(rt; adds, Some(self.2));
