@@ -206,7 +206,7 @@ fn one_shared<R: Wait>(
 {
     let span = spans.get((call % u64::from(PLACES)) as usize)?;
     if calls.is_lookup(call) {
-        return Some(shared.get_max(rt, seat, span).ok()?.value);
+        return Some(shared.get_max(seat, span).ok()?.value);
     }
     let value = Value::unowned(Timestamp::new(call.saturating_add(1), 0)?);
     match shared.add(rt, seat, span, value, Timestamp::ZERO) {

@@ -39,10 +39,11 @@ static ROWS: [Row; 6] = [
 ];
 
 /// The line that tells why a run ended.
-static LINES: [(RunStop, &str); 5] = [
+static LINES: [(RunStop, &str); 6] = [
     (RunStop::Stream(ReplayFault::Read), "read failed\n"),
     (RunStop::Stream(ReplayFault::NoMemory), "out of memory\n"),
     (RunStop::NoView, "no view\n"),
+    (RunStop::NoPlace, "no place\n"),
     (RunStop::HistoryFull, "history full\n"),
     (RunStop::NoThread, "no thread\n"),
 ];

@@ -188,9 +188,10 @@ fn calls_are_made_between_what_the_gate_is_told(rt: HostRuntime) -> Result<(), F
     Ok(())
 }
 
-static TEXTS: [(RunFault, &str); 6] = [
+static TEXTS: [(RunFault, &str); 7] = [
     (RunFault::Open(OpenFault::Seats), "seats are 1 to 64"),
     (RunFault::Open(OpenFault::NoMemory), "out of memory"),
+    (RunFault::Open(OpenFault::NoPlace), "no place"),
     (RunFault::NoMemory, "out of memory"),
     (RunFault::Gone, "no view"),
     (RunFault::HistoryFull, "history full"),

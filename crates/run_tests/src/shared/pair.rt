@@ -79,17 +79,12 @@ fn counts(seat: &Seat) -> Counts {
 }
 
 /// What can be seen: how many Adds of its own a seat counts, and what a lookup and the floor answer it.
-fn look<R: Wait>(
-    rt: &R,
-    cache: &SharedCache,
-    seat: &mut Seat,
-    span: &Span,
-) -> Result<(u64, Answer, LowWater), Fail>
+fn look(cache: &SharedCache, seat: &mut Seat, span: &Span) -> Result<(u64, Answer, LowWater), Fail>
     requires { seat.old.cache ≡ cache.now }
     ensures { seat.new.cache ≡ seat.old.cache }
 {
-    let answer = cache.get_max(rt, seat, span)?;
-    let floor = cache.low_water(rt, seat)?;
+    let answer = cache.get_max(seat, span)?;
+    let floor = cache.low_water(seat)?;
     Ok((seat.count(), answer, floor))
 }
 
@@ -126,11 +121,11 @@ fn add_again<R: Wait>(
     requires { seat.old.cache ≡ cache.now }
     ensures { seat.new.cache ≡ seat.old.cache }
 {
-    let before = look(rt, cache, seat, span)?;
+    let before = look(cache, seat, span)?;
     if let Some(told) = add_once(rt, cache, seat, span, wall)? {
         return Ok(Some(told));
     }
-    if look(rt, cache, seat, span)? != before {
+    if look(cache, seat, span)? != before {
         return Err("a refused Add changed what can be seen".into());
     }
     match add_once(rt, cache, seat, span, wall)? {
@@ -161,11 +156,11 @@ fn add<R: Wait>(
     }
 }
 
-fn get<R: Wait>(rt: &R, cache: &SharedCache, seat: &mut Seat, span: &Span) -> Result<Told, Fail>
+fn get(cache: &SharedCache, seat: &mut Seat, span: &Span) -> Result<Told, Fail>
     requires { seat.old.cache ≡ cache.now }
     ensures { seat.new.cache ≡ seat.old.cache }
 {
-    let answer = cache.get_max(rt, seat, span)?;
+    let answer = cache.get_max(seat, span)?;
     Ok(Told::Value {
         wall: answer.value.time().wall(),
         owned: answer.value.owner().is_some(),
@@ -173,11 +168,11 @@ fn get<R: Wait>(rt: &R, cache: &SharedCache, seat: &mut Seat, span: &Span) -> Re
     })
 }
 
-fn low<R: Wait>(rt: &R, cache: &SharedCache, seat: &mut Seat) -> Result<Told, Fail>
+fn low(cache: &SharedCache, seat: &mut Seat) -> Result<Told, Fail>
     requires { seat.old.cache ≡ cache.now }
     ensures { seat.new.cache ≡ seat.old.cache }
 {
-    let answer = cache.low_water(rt, seat)?;
+    let answer = cache.low_water(seat)?;
     Ok(Told::Floor(answer.time.wall(), answer.front))
 }
 
@@ -199,8 +194,8 @@ fn take_step<R: Wait>(
             add(rt, cache, seat, &point(alloc, key)?, *wall, tries_again)?
         }
         Step::AddNothing(_) => add(rt, cache, seat, &nothing(alloc)?, 20, tries_again)?,
-        Step::Get(_, key) => get(rt, cache, seat, &point(alloc, key)?)?,
-        Step::Low(_) => low(rt, cache, seat)?,
+        Step::Get(_, key) => get(cache, seat, &point(alloc, key)?)?,
+        Step::Low(_) => low(cache, seat)?,
         Step::Meet => return Err("one seat cannot meet".into()),
     };
     Ok((told, counts(seat)))

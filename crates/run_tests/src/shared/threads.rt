@@ -74,7 +74,7 @@ fn take_turn<R: Wait>(
     let span = plan.span(alloc, number, turn)?;
     let value = plan.value(number, turn)?;
     let place = cache.add(rt, seat, &span, value, value.time()).ok()?.place;
-    let answer = cache.get_max(rt, seat, &span).ok()?;
+    let answer = cache.get_max(seat, &span).ok()?;
     let is_after = place < answer.front && value.time() <= answer.value.time();
     is_after.then_some(Made {
         place,

@@ -2,5 +2,5 @@
 use Rattle.std.proofs.Common.{rules}
 use Rattle.tsc_commands.proofs.words.text.Goals as goal
 
-pub returns-in-Some : goal.returns-in-Some
-returns-in-Some c = search rules
+pub returns-in_ok-from_str-in-Some : goal.returns-in_ok-from_str-in-Some
+returns-in_ok-from_str-in-Some c = search rules

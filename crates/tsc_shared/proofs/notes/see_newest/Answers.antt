@@ -1,10 +1,7 @@
-use Rattle.std.proofs.Common.{◌≡◌, ◌∙◌, refl, sym, ap, subst, arith, List, [], ◌∷◌, ◌+◌, ◌*◌, None, Some, length, ℕ}
+use Rattle.std.proofs.Common.{◌∙◌, ap, arith}
 use mathlib.Core.Option as maybe
 use Rattle.atomic_table.specs.Table.{step}
-use Rattle.tsc_shared.specs.declared.board.Slot.TheVariants.{Empty, Desk, Side}
-use Rattle.tsc_shared.specs.AtDesk.{IsAtRest}
-use Rattle.tsc_shared.specs.Desk.{epoch_word}
-use Rattle.tsc_shared.specs.DeskSteps.{number_of, seen_of, count_of, seated}
+use Rattle.tsc_shared.specs.DeskSteps.{number_of, seen_of, count_of}
 use Rattle.tsc_shared.proofs.Meeting.{read_at, newest_at, noted_then, newest_then}
 use Rattle.tsc_shared.proofs.notes.see_newest.Goals as goal
 

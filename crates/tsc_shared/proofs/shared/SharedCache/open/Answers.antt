@@ -1,0 +1,11 @@
+use Rattle.std.proofs.Common.{rules}
+use Rattle.tsc_shared.proofs.shared.SharedCache.open.Goals as goal
+
+pub returns-in_err-desk-clause-refused : goal.returns-in_err-desk-clause-refused
+returns-in_err-desk-clause-refused c = search rules
+
+pub returns-in_err-seats-clause-refused : goal.returns-in_err-seats-clause-refused
+returns-in_err-seats-clause-refused c = search rules
+
+pub returns-clause-opened : goal.returns-clause-opened
+returns-clause-opened c = search rules
