@@ -1,0 +1,245 @@
+//! An Add that is held up where it holds the desk and nobody can see it, until lookups on other threads have answered.
+use crate::party::{Guest, Home, Letter, Of, Owner, Told, add_all, mark_at, point};
+use crate::threads::{Scene, Script, TURNS, at_once, play};
+use std::alloc::Global;
+use std::process::Abort;
+use std::sync::Wait;
+use std::sync::atomic::{AtomicBool, AtomicU64, Ordering};
+use std::test::Fail;
+use std::thread;
+use std::thread::Threads;
+use tsc_shared::Gate;
+
+/// The first seat makes Adds, and then one that is held up until each other seat has asked for `a` so often.
+pub struct Plan {
+    seats: u32,
+    /// Keys with their wall times and their moments.
+    before: &'static [(&'static str, u64, u64)],
+    held: (&'static str, u64, u64),
+    /// What the held Add is told.
+    told: Told,
+    looks: u32,
+    /// What the others are told of `a` meanwhile.
+    meanwhile: Told,
+    /// And of the floor.
+    floor: Told,
+    /// What the last one is told when it learns the front of the held Add, and of `a` then.
+    learnt: (Told, Told),
+}
+
+/// The first Add of all.
+static FIRST: Plan = Plan {
+    seats: 2,
+    before: &[],
+    held: ("a", 20, 20),
+    told: Told::Place(0, (true, false, 0), 1),
+    looks: 1,
+    meanwhile: Told::Value((5, 0), Owner::None, 0),
+    floor: Told::Value((5, 0), Owner::None, 0),
+    learnt: (Told::Long(1), Told::Value((20, 0), Owner::First, 1)),
+};
+
+/// One that rotates the pages, and drops the oldest: its floor rises to 20.0, which has no owner.
+static ROTATING: Plan = Plan {
+    seats: 2,
+    before: &[
+        ("a", 20, 20),
+        ("b", 20, 20),
+        ("c", 20, 20),
+        ("d", 20, 20),
+        ("e", 20, 20),
+        ("f", 41, 40),
+        ("g", 41, 40),
+        ("h", 41, 40),
+    ],
+    held: ("i", 41, 40),
+    told: Told::Place(8, (true, true, 1), 9),
+    looks: 1,
+    meanwhile: Told::Value((20, 0), Owner::First, 8),
+    floor: Told::Value((5, 0), Owner::None, 8),
+    learnt: (Told::Long(9), Told::Value((20, 0), Owner::None, 9)),
+};
+
+/// All lookups of four other seats answer meanwhile.
+static MANY: Plan = Plan {
+    seats: 5,
+    before: &[("a", 20, 20)],
+    held: ("a", 30, 20),
+    told: Told::Place(1, (true, false, 0), 2),
+    looks: 1000,
+    meanwhile: Told::Value((20, 0), Owner::First, 1),
+    floor: Told::Value((5, 0), Owner::None, 1),
+    learnt: (Told::Long(2), Told::Value((30, 0), Owner::First, 2)),
+};
+
+/// A plan under way.
+#[derive(Drop)]
+struct Held<'a> {
+    plan: &'a Plan,
+    /// How many seats are to look.
+    lookers: u64,
+    /// Whether the Add is held up.
+    held: AtomicBool,
+    /// How many seats have looked.
+    looked: AtomicU64,
+    /// Whether the Add saw that all had.
+    met: AtomicBool,
+}
+
+impl Held<'_> {
+    /// Waits until the Add is held up, and tells whether it was before the limit.
+    fn is_held(&self) -> bool {
+        for _ in 0..TURNS {
+            if self.held.load(Ordering::SeqCst) {
+                return true;
+            }
+            thread::yield_now();
+        }
+        false
+    }
+}
+
+impl Held<'_> {
+    fn of(plan: &Plan) -> Held<'_> {
+        Held {
+            plan,
+            lookers: u64::from(plan.seats.saturating_sub(1)),
+            held: AtomicBool::new(false),
+            looked: AtomicU64::new(0),
+            met: AtomicBool::new(false),
+        }
+    }
+
+    /// What the Add that is held up is told.
+    fn add<C: Of, R: Wait>(
+        &self,
+        rt: &R,
+        alloc: Global,
+        home: &Home<C>,
+        guest: &mut Guest<C>,
+    ) -> Option<Told> {
+        let plan = self.plan;
+        let (key, wall, now) = plan.held;
+        let mark = mark_at(alloc, key, wall, now).ok()?;
+        home.add_gated(rt, guest, &mark, self)
+    }
+}
+
+impl Gate for Held<'_> {
+    fn start(&self, _thread: u32, _call: u32) {}
+
+    fn done(&self, _thread: u32, _call: u32) {}
+
+    fn publish(&self, _seat: u32) {
+        self.held.store(true, Ordering::SeqCst);
+        for _ in 0..TURNS {
+            if self.looked.load(Ordering::SeqCst) >= self.lookers {
+                self.met.store(true, Ordering::SeqCst);
+                return;
+            }
+            thread::yield_now();
+        }
+    }
+}
+
+/// Looks as often as the plan says.
+fn look<C: Of, R: Abort>(
+    rt: &R,
+    alloc: Global,
+    home: &Home<C>,
+    guest: &mut Guest<C>,
+    plan: &Plan,
+) -> Option<()> {
+    let span = point(alloc, "a").ok()?;
+    for _ in 0..plan.looks {
+        assert_eq!(rt; home.get(guest, &span), plan.meanwhile);
+        assert_eq!(rt; home.low(guest), plan.floor);
+    }
+    Some(())
+}
+
+impl<C: Of> Script<C> for Held<'_> {
+    fn run<R: Wait + Abort>(
+        &self,
+        rt: &R,
+        alloc: Global,
+        home: &Home<C>,
+        guest: &mut Guest<C>,
+    ) -> Option<()> {
+        let plan = self.plan;
+        if guest.number() == 0 {
+            assert_eq!(rt; self.add(rt, alloc, home, guest)?, plan.told);
+            return Some(());
+        }
+        assert!(rt; self.is_held(), "the Add is held up");
+        look(rt, alloc, home, guest, plan)?;
+        self.looked.fetch_add(1, Ordering::SeqCst);
+        Some(())
+    }
+}
+
+/// The front that the first of these seats was told last.
+fn first_letter<C: Of>(guests: &mut [Guest<C>]) -> Option<Letter<C>> {
+    guests.first_mut()?.letter.take()
+}
+
+/// What the last of these seats is told when it learns the front that the first was told, and of `a` then.
+fn learn<C: Of>(
+    alloc: Global,
+    home: &Home<C>,
+    mut guests: Vec<Guest<C>>,
+) -> Result<(Told, Told), Fail> {
+    let letter = first_letter(guests.as_mut_slice()).ok_or("a front")?;
+    let last = guests.last_mut().ok_or("the last seat")?;
+    let long = home.learn(last, letter);
+    Ok((long, home.get(last, &point(alloc, "a")?)))
+}
+
+/// Holds the Add up, and tells whether it saw all others look.
+fn meet<C: Of + Send + Sync, R: Threads + Wait + Abort + Sync>(
+    rt: &R,
+    alloc: Global,
+    home: &Home<C>,
+    guests: Vec<Guest<C>>,
+    plan: &Plan,
+) -> Result<(Vec<Guest<C>>, bool), Fail> {
+    let script = Held::of(plan);
+    let guests = at_once(rt, alloc, home, guests, &script)?;
+    Ok((guests, script.met.load(Ordering::SeqCst)))
+}
+
+/// Plays a plan.
+pub fn hold<C: Of + Send + Sync, R: Threads + Wait + Abort + Sync>(
+    rt: &R,
+    alloc: Global,
+    home: Home<C>,
+    mut guests: Vec<Guest<C>>,
+    plan: &Plan,
+) -> Result<(), Fail> {
+    add_all(rt, alloc, &home, guests.as_mut_slice(), plan.before)?;
+    let (guests, met) = meet(rt, alloc, &home, guests, plan)?;
+    assert!(rt; met, "all looked while the Add was held up");
+    assert_eq!(rt; learn(alloc, &home, guests)?, plan.learnt);
+    Ok(())
+}
+
+#[test]
+fn a_lookup_answers_while_the_first_add_is_held_up(rt: HostRuntime) -> Result<(), Fail> {
+    play(&rt, rt.alloc(), FIRST.seats, 100, &Scene::Held(&FIRST))
+}
+
+#[test]
+fn a_lookup_answers_while_a_rotating_add_is_held_up(rt: HostRuntime) -> Result<(), Fail> {
+    play(
+        &rt,
+        rt.alloc(),
+        ROTATING.seats,
+        100,
+        &Scene::Held(&ROTATING),
+    )
+}
+
+#[test]
+fn all_lookups_answer_while_the_desk_is_held(rt: HostRuntime) -> Result<(), Fail> {
+    play(&rt, rt.alloc(), MANY.seats, 100, &Scene::Held(&MANY))
+}

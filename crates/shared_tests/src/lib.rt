@@ -1,0 +1,21 @@
+//! Tests of the shared cache over threads: what it tells where Adds are held up, raced, refused and handed on.
+//!
+//! They stand apart because a crate that has tests is proved once with them and once without.
+#![tactic(auto)]
+
+#[cfg(test)]
+mod crowd;
+#[cfg(test)]
+mod fronts;
+#[cfg(test)]
+mod held;
+#[cfg(test)]
+mod memory;
+#[cfg(test)]
+mod party;
+#[cfg(test)]
+mod returned;
+#[cfg(test)]
+mod rows;
+#[cfg(test)]
+mod threads;

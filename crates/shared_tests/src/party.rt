@@ -1,0 +1,390 @@
+//! A shared cache with its seats and fronts, which show by their types that they belong together. So they can go
+//! through threads and channels, and need no clauses there.
+ghost use Rattle.std.specs.Prelude.{◌≡◌, All, IfOk};
+ghost use Rattle.tsc_shared.specs.Answers.{Opens};
+
+use std::alloc::Global;
+use std::marker::{Brand, PhantomData};
+use std::process::Abort;
+use std::sync::Wait;
+use std::test::Fail;
+use tsc_cache::Config;
+use tsc_shared::{AddFault, Closed, Front, Gate, NoGate, OpenFault, Seat, SharedCache};
+use tsc_span::{Key, Span, SpanFault};
+use tsc_time::{NoMemory, Timestamp, Value};
+use uuid::Uuid;
+
+/// Which cache it is. Each scene picks its own.
+pub trait Of {
+    ghost use Rattle.tsc_shared.specs.Seats.{SharedView};
+
+    ghost cache: { SharedView };
+}
+
+impl Of for Brand {
+    ghost use Rattle.std.specs.Prelude.{[]};
+
+    ghost cache = { record { table = record { words = 0; slots = 0; views_name = 0; atom = 0; block = 0; offset = 0; slot_names = [] }; config = record { page_nodes = 4; min_pages = 2; retention = 10; low_water = record { wall = 5; logical = 0 } }; seats = 1; limit = 0 } };
+}
+
+/// The cache.
+#[derive(Drop)]
+pub struct Home<C: Of> {
+    cache: SharedCache,
+    of: PhantomData<C>,
+    ghost is: { cache ≡ C.cache },
+}
+
+/// A history that was seen.
+#[derive(Drop)]
+pub struct Letter<C: Of> {
+    front: Front,
+    of: PhantomData<C>,
+    ghost is: { front.cache ≡ C.cache },
+}
+
+/// A seat, and the front that it was told last, until it hands that on.
+#[derive(Drop)]
+pub struct Guest<C: Of> {
+    seat: Seat,
+    pub letter: Option<Letter<C>>,
+    ghost is: { seat.cache ≡ C.cache },
+}
+
+/// A span with its value and its moment.
+#[derive(Drop)]
+pub struct Mark {
+    pub span: Span,
+    pub value: Value,
+    pub now: Timestamp,
+}
+
+/// What a seat is told.
+#[derive(Clone, Copy, Debug, PartialEq, Eq)]
+pub enum Told {
+    /// The place, whether the Add was kept, whether the pages rotated, how many were dropped, and the length of
+    /// the front.
+    Place(u64, (bool, bool, u64), u64),
+    /// The length of the front.
+    Full(u64),
+    /// The wall time and the logical count, its owner, and the length of the front.
+    Value((u64, u32), Owner, u64),
+    /// A length.
+    Long(u64),
+    Gone,
+}
+
+#[derive(Clone, Copy, Debug, PartialEq, Eq)]
+pub enum Owner {
+    None,
+    /// The one that makes all Adds.
+    First,
+    Other,
+}
+
+/// 11111111-1111-4111-8111-111111111111
+const FIRST: [u8; 16] = [
+    0x11, 0x11, 0x11, 0x11, 0x11, 0x11, 0x41, 0x11, 0x81, 0x11, 0x11, 0x11, 0x11, 0x11, 0x11, 0x11,
+];
+
+/// A floor at 5.0, and pages of four nodes, of which two are kept at the least.
+pub fn config() -> Result<Config, Fail> {
+    Ok(Config::new(4, 2, 10, at(5))?)
+}
+
+/// A time of no logical count.
+pub fn at(wall: u64) -> Timestamp {
+    Timestamp::new(wall, 0).unwrap_or(Timestamp::MAX)
+}
+
+pub fn point(alloc: Global, key: &str) -> Result<Span, SpanFault> {
+    Ok(Span::point(Key::new(alloc, key.as_bytes())?))
+}
+
+/// A key at a wall time, by the first owner, at a moment.
+pub fn mark_at(alloc: Global, key: &str, wall: u64, now: u64) -> Result<Mark, SpanFault> {
+    Ok(Mark {
+        span: point(alloc, key)?,
+        value: Value::of(at(wall), Uuid::from_bytes(FIRST)),
+        now: at(now),
+    })
+}
+
+/// Which owner it is.
+fn owner_of(value: Value) -> Owner {
+    let Some(owner) = value.owner() else {
+        return Owner::None;
+    };
+    if owner == Uuid::from_bytes(FIRST) {
+        Owner::First
+    } else {
+        Owner::Other
+    }
+}
+
+impl<C: Of> Letter<C> {
+    /// How long the history is.
+    pub fn len(&self) -> u64 {
+        self.front.len()
+    }
+}
+
+impl<C: Of> Guest<C> {
+    pub fn number(&self) -> u32 {
+        self.seat.number()
+    }
+
+    /// How many Adds of its own there are.
+    pub fn count(&self) -> u64 {
+        self.seat.count()
+    }
+
+    /// How many Adds it has seen.
+    pub fn seen(&self) -> u64 {
+        self.seat.seen()
+    }
+}
+
+impl<C: Of> Home<C> {
+    /// What an Add tells, and the front, which the guest then has. `None` where it is refused memory.
+    pub fn add_gated<R: Wait, G: Gate>(
+        &self,
+        rt: &R,
+        guest: &mut Guest<C>,
+        mark: &Mark,
+        gate: &G,
+    ) -> Option<Told> {
+        let (told, front) = match self.cache.add_gated(
+            rt,
+            &mut guest.seat,
+            &mark.span,
+            mark.value,
+            mark.now,
+            gate,
+        ) {
+            Ok(receipt) => {
+                let added = receipt.added;
+                let what = (added.kept, added.rotated, added.evicted);
+                (
+                    Told::Place(receipt.place, what, receipt.front.len()),
+                    receipt.front,
+                )
+            }
+            Err(AddFault::HistoryFull(front)) => (Told::Full(front.len()), front),
+            Err(AddFault::NoMemory) => return None,
+        };
+        guest.letter = Some(Letter {
+            front,
+            of: PhantomData,
+        });
+        Some(told)
+    }
+
+    /// The same with a gate that holds nobody up.
+    pub fn add<R: Wait>(&self, rt: &R, guest: &mut Guest<C>, mark: &Mark) -> Option<Told> {
+        self.add_gated(rt, guest, mark, &NoGate)
+    }
+
+    pub fn get(&self, guest: &mut Guest<C>, span: &Span) -> Told {
+        match self.cache.get_max(&mut guest.seat, span) {
+            Ok(answer) => {
+                let time = answer.value.time();
+                Told::Value(
+                    (time.wall(), time.logical()),
+                    owner_of(answer.value),
+                    answer.front,
+                )
+            }
+            Err(_gone) => Told::Gone,
+        }
+    }
+
+    /// The floor, which has no owner.
+    pub fn low(&self, guest: &mut Guest<C>) -> Told {
+        match self.cache.low_water(&mut guest.seat) {
+            Ok(floor) => {
+                Told::Value(
+                    (floor.time.wall(), floor.time.logical()),
+                    Owner::None,
+                    floor.front,
+                )
+            }
+            Err(_gone) => Told::Gone,
+        }
+    }
+
+    pub fn learn(&self, guest: &mut Guest<C>, letter: Letter<C>) -> Told {
+        match self.cache.learn(&mut guest.seat, letter.front) {
+            Ok(long) => Told::Long(long),
+            Err(_gone) => Told::Gone,
+        }
+    }
+}
+
+/// How a cache ends: closed, or with a seat missing, and then as it was.
+#[derive(Drop)]
+pub enum Ended<C: Of> {
+    Closed(Closed),
+    Out(Home<C>, Vec<Guest<C>>),
+}
+
+fn guests_of<C: Of>(alloc: Global, seats: Vec<Seat>) -> Result<Vec<Guest<C>>, NoMemory>
+    requires { All (λ seat. seat.cache ≡ C.cache) seats.items }
+{
+    let mut guests = Vec::with_capacity(alloc, seats.len())?;
+    for seat in seats {
+        guests.push(Guest { seat, letter: None })?;
+    }
+    Ok(guests)
+}
+
+fn seats_of<C: Of>(alloc: Global, guests: Vec<Guest<C>>) -> Result<Vec<Seat>, NoMemory>
+    ensures { IfOk result (λ seats. All (λ seat. seat.cache ≡ C.cache) seats.items) }
+{
+    let mut seats = Vec::with_capacity(alloc, guests.len())?;
+    for guest in guests {
+        let Guest { seat, letter: _ } = guest;
+        seats.push(seat)?;
+    }
+    Ok(seats)
+}
+
+impl<C: Of> Home<C> {
+    pub fn close<R: Wait>(
+        self,
+        rt: &R,
+        alloc: Global,
+        guests: Vec<Guest<C>>,
+    ) -> Result<Ended<C>, NoMemory> {
+        let seats = seats_of(alloc, guests)?;
+        match self.cache.close(rt, seats) {
+            Ok(closed) => Ok(Ended::Closed(closed)),
+            Err(out) => {
+                let home = Home {
+                    cache: out.cache,
+                    of: PhantomData,
+                };
+                Ok(Ended::Out(home, guests_of(alloc, out.seats)?))
+            }
+        }
+    }
+
+    /// How many Adds there were, where all seats are there.
+    pub fn adds<R: Wait>(
+        self,
+        rt: &R,
+        alloc: Global,
+        guests: Vec<Guest<C>>,
+    ) -> Result<Option<u64>, NoMemory> {
+        match self.close(rt, alloc, guests)? {
+            Ended::Closed(closed) => Ok(Some(closed.adds)),
+            Ended::Out(_home, _guests) => Ok(None),
+        }
+    }
+}
+
+/// The first two of some seats.
+pub fn two<C: Of>(mut guests: Vec<Guest<C>>) -> Option<(Guest<C>, Guest<C>)> {
+    let second = guests.pop()?;
+    let first = guests.pop()?;
+    Some((first, second))
+}
+
+/// How many Adds there were, where these are all seats.
+pub fn adds_of_two<C: Of, R: Wait>(
+    rt: &R,
+    alloc: Global,
+    home: Home<C>,
+    first: Guest<C>,
+    second: Guest<C>,
+) -> Result<Option<u64>, NoMemory> {
+    let mut guests = Vec::with_capacity(alloc, 2)?;
+    guests.push(first)?;
+    guests.push(second)?;
+    home.adds(rt, alloc, guests)
+}
+
+/// The first of these seats makes Adds of these keys, with their wall times and moments.
+pub fn add_all<C: Of, R: Wait>(
+    rt: &R,
+    alloc: Global,
+    home: &Home<C>,
+    guests: &mut [Guest<C>],
+    marks: &[(&str, u64, u64)],
+) -> Result<(), Fail> {
+    let first = guests.first_mut().ok_or("a seat")?;
+    for (key, wall, now) in marks {
+        let told = home.add(rt, first, &mark_at(alloc, key, *wall, *now)?);
+        told.ok_or(NoMemory)?;
+    }
+    Ok(())
+}
+
+/// What is played with a cache and its seats, on one thread.
+pub trait Scene {
+    fn play<C: Of, R: Wait + Abort>(
+        &self,
+        rt: &R,
+        alloc: Global,
+        home: Home<C>,
+        guests: Vec<Guest<C>>,
+    ) -> Result<(), Fail>;
+}
+
+/// The cache and its seats, with types that show that they belong together.
+pub fn together<C: Of>(
+    alloc: Global,
+    cache: SharedCache,
+    seats: Vec<Seat>,
+) -> Result<(Home<C>, Vec<Guest<C>>), NoMemory>
+    requires cache { cache ≡ C.cache }
+    requires seats { All (λ seat. seat.cache ≡ C.cache) seats.items }
+{
+    let guests = guests_of(alloc, seats)?;
+    let home = Home {
+        cache,
+        of: PhantomData,
+    };
+    Ok((home, guests))
+}
+
+fn enter<C: Of, R: Wait + Abort, S: Scene>(
+    rt: &R,
+    alloc: Global,
+    scene: &S,
+    cache: SharedCache,
+    seats: Vec<Seat>,
+) -> Result<(), Fail>
+    requires cache { cache ≡ C.cache }
+    requires seats { All (λ seat. seat.cache ≡ C.cache) seats.items }
+{
+    let (home, guests) = together::<C>(alloc, cache, seats)?;
+    scene.play::<C, R>(rt, alloc, home, guests)
+}
+
+/// Opens a cache. Where it is refused memory, and this is to be tried again, it is opened once more.
+fn open(
+    alloc: Global,
+    config: Config,
+    limit: u64,
+    tries_again: bool,
+) -> Result<(SharedCache, Vec<Seat>), OpenFault>
+    ensures { IfOk result (λ opened. Opens config 2 limit opened.0 opened.1.items) }
+{
+    match SharedCache::open(alloc, config, 2, limit) {
+        Err(_refused) if tries_again => SharedCache::open(alloc, config, 2, limit),
+        opened => opened,
+    }
+}
+
+/// Opens a cache with two seats and a history of at most so many Adds, and plays a scene.
+pub fn play<R: Wait + Abort, S: Scene>(
+    rt: &R,
+    alloc: Global,
+    limit: u64,
+    tries_again: bool,
+    scene: &S,
+) -> Result<(), Fail> {
+    let (cache, seats) = open(alloc, config()?, limit, tries_again)?;
+    enter::<Brand, R, S>(rt, alloc, scene, cache, seats)
+}
