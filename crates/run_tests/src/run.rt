@@ -188,6 +188,118 @@ fn calls_are_made_between_what_the_gate_is_told(rt: HostRuntime) -> Result<(), F
     Ok(())
 }
 
+/// Holds each Add up before it can be seen, until the first call of the second list is done.
+#[derive(Drop)]
+struct Unseen {
+    done: AtomicBool,
+    met: AtomicU64,
+}
+
+impl Gate for Unseen {
+    fn start(&self, _thread: u32, _call: u32) {}
+
+    fn done(&self, thread: u32, call: u32) {
+        if (thread, call) == (1, 0) {
+            self.done.store(true, Ordering::SeqCst);
+        }
+    }
+
+    fn publish(&self, _seat: u32) {
+        for _ in 0..TURNS {
+            if self.done.load(Ordering::SeqCst) {
+                self.met.fetch_add(1, Ordering::SeqCst);
+                return;
+            }
+            thread::yield_now();
+        }
+    }
+}
+
+/// One list adds a key, and the other asks for it.
+const ADD_AND_GET: &str = r#"[
+[{"op":"add","span":{"start":"61"},"time":[20,0],"owner":"11111111-1111-4111-8111-111111111111","now":[20,0]}],
+[{"op":"get","span":{"start":"61"}}]]}"#;
+
+const ADD_AND_GET_LOG: &str = "0 0 add 0 1 0 0\n1 0 get 0 5.0 none\n";
+
+#[test]
+fn an_add_is_not_seen_before_its_gate_was_told(rt: HostRuntime) -> Result<(), Fail> {
+    let gate = Unseen {
+        done: AtomicBool::new(false),
+        met: AtomicU64::new(0),
+    };
+    let log = run(&rt, rt.alloc(), ADD_AND_GET, &gate)?;
+    assert_eq!(rt; gate.met.load(Ordering::SeqCst), 1);
+    assert_eq!(rt;
+        log_text(rt.alloc(), &log)?.as_slice(),
+        ADD_AND_GET_LOG.as_bytes()
+    );
+    Ok(())
+}
+
+/// Counts, for each of two lists, what it is told: a call is started at an even count, and done at the next one.
+#[derive(Drop)]
+struct Counts {
+    first: AtomicU64,
+    second: AtomicU64,
+    wrong: AtomicU64,
+    published: AtomicU64,
+}
+
+impl Counts {
+    fn of(&self, thread: u32) -> &AtomicU64 {
+        match thread {
+            0 => &self.first,
+            1 => &self.second,
+            _ => &self.wrong,
+        }
+    }
+
+    fn count(&self, thread: u32, wanted: u64) {
+        if self.of(thread).fetch_add(1, Ordering::SeqCst) != wanted {
+            self.wrong.fetch_add(1, Ordering::SeqCst);
+        }
+    }
+}
+
+impl Gate for Counts {
+    fn start(&self, thread: u32, call: u32) {
+        self.count(thread, u64::from(call).saturating_mul(2));
+    }
+
+    fn done(&self, thread: u32, call: u32) {
+        self.count(thread, u64::from(call).saturating_mul(2).saturating_add(1));
+    }
+
+    fn publish(&self, seat: u32) {
+        self.published.fetch_add(1, Ordering::SeqCst);
+        if self.of(seat).load(Ordering::SeqCst) % 2 == 0 {
+            self.wrong.fetch_add(1, Ordering::SeqCst);
+        }
+    }
+}
+
+/// Two lists of three calls, with three Adds.
+const THREE_EACH: &str = r#"[
+[{"op":"low"},{"op":"add","span":{"start":"61"},"time":[20,0],"now":[20,0]},{"op":"get","span":{"start":"61"}}],
+[{"op":"add","span":{"start":"62"},"time":[20,0],"now":[20,0]},{"op":"get","span":{"start":"62"}},{"op":"add","span":{"start":"63"},"time":[4,0],"now":[20,0]}]]}"#;
+
+#[test]
+fn a_gate_is_told_of_each_call_in_its_order(rt: HostRuntime) -> Result<(), Fail> {
+    let gate = Counts {
+        first: AtomicU64::new(0),
+        second: AtomicU64::new(0),
+        wrong: AtomicU64::new(0),
+        published: AtomicU64::new(0),
+    };
+    run(&rt, rt.alloc(), THREE_EACH, &gate)?;
+    assert_eq!(rt; gate.first.load(Ordering::SeqCst), 6);
+    assert_eq!(rt; gate.second.load(Ordering::SeqCst), 6);
+    assert_eq!(rt; gate.published.load(Ordering::SeqCst), 3);
+    assert_eq!(rt; gate.wrong.load(Ordering::SeqCst), 0);
+    Ok(())
+}
+
 static TEXTS: [(RunFault, &str); 7] = [
     (RunFault::Open(OpenFault::Seats), "seats are 1 to 64"),
     (RunFault::Open(OpenFault::NoMemory), "out of memory"),
