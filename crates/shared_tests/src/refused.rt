@@ -1,5 +1,7 @@
 //! Adds that are refused memory more than once, or for good, beside a plain cache. `scripts/refuse-each-growth` with the
 //! words `twice` or `for-good` refuses it to them.
+ghost use Rattle.std.specs.Prelude.{◌≡◌, []};
+
 use crate::crowd::Counting;
 use crate::party::{Guest, Home, Mark, Of, Scene, Told, config, mark_at, play, told_of, two};
 use std::alloc::Global;
@@ -166,6 +168,22 @@ fn add_in_turn<C: Of, R: Wait>(
     Ok(adds)
 }
 
+/// Adds until memory is refused for good, and tells whether the closed cache answers as the plain one.
+fn follow<C: Of, R: Wait>(
+    rt: &R,
+    home: Home<C>,
+    room: Vec<Seat>,
+    guests: Vec<Guest<C>>,
+    course: &Course,
+) -> Result<bool, Fail>
+    requires { room.items ≡ [] }
+{
+    let (mut first, mut second) = two(guests).ok_or("two seats")?;
+    let adds = add_in_turn(rt, &home, &mut first, &mut second, course)?;
+    let closed = home.close_in(rt, room, first, second)?;
+    Ok(course.is_closed(&closed, adds))
+}
+
 /// Adds that may be refused.
 struct Refused;
 
@@ -178,11 +196,11 @@ impl Scene for Refused {
         guests: Vec<Guest<C>>,
     ) -> Result<(), Fail> {
         let course = Course::new(alloc)?;
-        let room: Vec<Seat> = Vec::with_capacity(alloc, 2)?;
-        let (mut first, mut second) = two(guests).ok_or("two seats")?;
-        let adds = add_in_turn(rt, &home, &mut first, &mut second, &course)?;
-        let closed = home.close_in(rt, room, first, second)?;
-        assert!(rt; course.is_closed(&closed, adds), "after {adds} Adds");
+        let room = Vec::with_capacity(alloc, 2)?;
+        assert!(rt;
+            follow(rt, home, room, guests, &course)?,
+            "the closed cache"
+        );
         Ok(())
     }
 }
