@@ -188,15 +188,33 @@ fn calls_are_made_between_what_the_gate_is_told(rt: HostRuntime) -> Result<(), F
     Ok(())
 }
 
-/// Holds each Add up before it can be seen, until the first call of the second list is done.
+/// Holds each Add up before it can be seen, until the first call of the second list is done, and that one until an Add is
+/// held up. It counts those that saw what they waited for.
 #[derive(Drop)]
 struct Unseen {
+    held: AtomicBool,
     done: AtomicBool,
     met: AtomicU64,
 }
 
+impl Unseen {
+    fn wait_for(&self, told: &AtomicBool) {
+        for _ in 0..TURNS {
+            if told.load(Ordering::SeqCst) {
+                self.met.fetch_add(1, Ordering::SeqCst);
+                return;
+            }
+            thread::yield_now();
+        }
+    }
+}
+
 impl Gate for Unseen {
-    fn start(&self, _thread: u32, _call: u32) {}
+    fn start(&self, thread: u32, call: u32) {
+        if (thread, call) == (1, 0) {
+            self.wait_for(&self.held);
+        }
+    }
 
     fn done(&self, thread: u32, call: u32) {
         if (thread, call) == (1, 0) {
@@ -205,13 +223,8 @@ impl Gate for Unseen {
     }
 
     fn publish(&self, _seat: u32) {
-        for _ in 0..TURNS {
-            if self.done.load(Ordering::SeqCst) {
-                self.met.fetch_add(1, Ordering::SeqCst);
-                return;
-            }
-            thread::yield_now();
-        }
+        self.held.store(true, Ordering::SeqCst);
+        self.wait_for(&self.done);
     }
 }
 
@@ -225,11 +238,12 @@ const ADD_AND_GET_LOG: &str = "0 0 add 0 1 0 0\n1 0 get 0 5.0 none\n";
 #[test]
 fn an_add_is_not_seen_before_its_gate_was_told(rt: HostRuntime) -> Result<(), Fail> {
     let gate = Unseen {
+        held: AtomicBool::new(false),
         done: AtomicBool::new(false),
         met: AtomicU64::new(0),
     };
     let log = run(&rt, rt.alloc(), ADD_AND_GET, &gate)?;
-    assert_eq!(rt; gate.met.load(Ordering::SeqCst), 1);
+    assert_eq!(rt; gate.met.load(Ordering::SeqCst), 2);
     assert_eq!(rt;
         log_text(rt.alloc(), &log)?.as_slice(),
         ADD_AND_GET_LOG.as_bytes()
@@ -260,6 +274,13 @@ impl Counts {
             self.wrong.fetch_add(1, Ordering::SeqCst);
         }
     }
+
+    /// Whether each call that was started is done, and all was told in its order.
+    fn is_done(&self) -> bool {
+        self.first.load(Ordering::SeqCst) % 2 == 0
+            && self.second.load(Ordering::SeqCst) % 2 == 0
+            && self.wrong.load(Ordering::SeqCst) == 0
+    }
 }
 
 impl Gate for Counts {
@@ -284,6 +305,8 @@ const THREE_EACH: &str = r#"[
 [{"op":"low"},{"op":"add","span":{"start":"61"},"time":[20,0],"now":[20,0]},{"op":"get","span":{"start":"61"}}],
 [{"op":"add","span":{"start":"62"},"time":[20,0],"now":[20,0]},{"op":"get","span":{"start":"62"}},{"op":"add","span":{"start":"63"},"time":[4,0],"now":[20,0]}]]}"#;
 
+/// `scripts/refuse-each-growth tests run_tests run::..` refuses each growth of this test in turn: a call that was refused
+/// its memory is done too, and the last one of its list.
 #[test]
 fn a_gate_is_told_of_each_call_in_its_order(rt: HostRuntime) -> Result<(), Fail> {
     let gate = Counts {
@@ -292,11 +315,12 @@ fn a_gate_is_told_of_each_call_in_its_order(rt: HostRuntime) -> Result<(), Fail>
         wrong: AtomicU64::new(0),
         published: AtomicU64::new(0),
     };
-    run(&rt, rt.alloc(), THREE_EACH, &gate)?;
+    let ran = run(&rt, rt.alloc(), THREE_EACH, &gate);
+    assert!(rt; gate.is_done());
+    ran?;
     assert_eq!(rt; gate.first.load(Ordering::SeqCst), 6);
     assert_eq!(rt; gate.second.load(Ordering::SeqCst), 6);
     assert_eq!(rt; gate.published.load(Ordering::SeqCst), 3);
-    assert_eq!(rt; gate.wrong.load(Ordering::SeqCst), 0);
     Ok(())
 }
 

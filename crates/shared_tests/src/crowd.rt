@@ -16,8 +16,21 @@ const EACH: u32 = 50;
 
 /// Counts the Adds that it is told of.
 #[derive(Drop)]
-struct Counting {
+pub struct Counting {
     told: AtomicU64,
+}
+
+impl Counting {
+    pub fn new() -> Counting {
+        Counting {
+            told: AtomicU64::new(0),
+        }
+    }
+
+    /// How many it was told of.
+    pub fn told(&self) -> u64 {
+        self.told.load(Ordering::SeqCst)
+    }
 }
 
 impl Gate for Counting {
@@ -54,9 +67,7 @@ impl Crowd {
     fn new(alloc: Global, limit: u64) -> Result<Crowd, AllocError> {
         Ok(Crowd {
             limit,
-            gate: Counting {
-                told: AtomicU64::new(0),
-            },
+            gate: Counting::new(),
             places: zeros(alloc, limit)?,
             full: AtomicU64::new(0),
         })
@@ -114,11 +125,7 @@ impl Crowd {
             .places
             .iter()
             .all(|place| place.load(Ordering::SeqCst) == 1);
-        (
-            once,
-            self.full.load(Ordering::SeqCst),
-            self.gate.told.load(Ordering::SeqCst),
-        )
+        (once, self.full.load(Ordering::SeqCst), self.gate.told())
     }
 }
 

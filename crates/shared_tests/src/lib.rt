@@ -14,6 +14,8 @@ mod memory;
 #[cfg(test)]
 mod party;
 #[cfg(test)]
+mod refused;
+#[cfg(test)]
 mod returned;
 #[cfg(test)]
 mod rows;

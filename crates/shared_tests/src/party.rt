@@ -1,6 +1,6 @@
 //! A shared cache with its seats and fronts, which show by their types that they belong together. So they can go
 //! through threads and channels, and need no clauses there.
-ghost use Rattle.std.specs.Prelude.{◌≡◌, All, IfOk};
+ghost use Rattle.std.specs.Prelude.{◌≡◌, [], All, IfOk};
 ghost use Rattle.tsc_shared.specs.Answers.{Opens};
 
 use std::alloc::Global;
@@ -122,6 +122,12 @@ fn owner_of(value: Value) -> Owner {
     }
 }
 
+/// What a lookup tells that is answered so.
+pub fn told_of(value: Value, front: u64) -> Told {
+    let time = value.time();
+    Told::Value((time.wall(), time.logical()), owner_of(value), front)
+}
+
 impl<C: Of> Letter<C> {
     /// How long the history is.
     pub fn len(&self) -> u64 {
@@ -187,14 +193,7 @@ impl<C: Of> Home<C> {
 
     pub fn get(&self, guest: &mut Guest<C>, span: &Span) -> Told {
         match self.cache.get_max(&mut guest.seat, span) {
-            Ok(answer) => {
-                let time = answer.value.time();
-                Told::Value(
-                    (time.wall(), time.logical()),
-                    owner_of(answer.value),
-                    answer.front,
-                )
-            }
+            Ok(answer) => told_of(answer.value, answer.front),
             Err(_gone) => Told::Gone,
         }
     }
@@ -202,13 +201,7 @@ impl<C: Of> Home<C> {
     /// The floor, which has no owner.
     pub fn low(&self, guest: &mut Guest<C>) -> Told {
         match self.cache.low_water(&mut guest.seat) {
-            Ok(floor) => {
-                Told::Value(
-                    (floor.time.wall(), floor.time.logical()),
-                    Owner::None,
-                    floor.front,
-                )
-            }
+            Ok(floor) => told_of(Value::unowned(floor.time), floor.front),
             Err(_gone) => Told::Gone,
         }
     }
@@ -266,6 +259,26 @@ impl<C: Of> Home<C> {
                 };
                 Ok(Ended::Out(home, guests_of(alloc, out.seats)?))
             }
+        }
+    }
+
+    /// What a cache of these two seats holds. It takes no memory where there is room for them.
+    pub fn close_in<R: Wait>(
+        self,
+        rt: &R,
+        mut room: Vec<Seat>,
+        first: Guest<C>,
+        second: Guest<C>,
+    ) -> Result<Closed, Fail>
+        requires { room.items ≡ [] }
+    {
+        let Guest { seat, letter: _ } = first;
+        room.push(seat)?;
+        let Guest { seat, letter: _ } = second;
+        room.push(seat)?;
+        match self.cache.close(rt, room) {
+            Ok(closed) => Ok(closed),
+            Err(_out) => Err("a seat is missing".into()),
         }
     }
 
