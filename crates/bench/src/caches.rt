@@ -47,9 +47,10 @@ fn measure_round(rt: &HostRuntime, nodes: u32, pages: u32, turns: u32) -> Result
 {
     let front = Keys::new(nodes, pages.saturating_sub(1), &[]);
     let places = Places::of(rt.alloc(), front)?;
-    let level = filled(rt, nodes, pages, false)?;
-    let mut rising = filled(rt, nodes, pages, true)?;
-    let mut figures = measure_level(rt, level, &places, turns)?;
+    let mut figures = Vec::with_capacity(rt.alloc(), CACHE_OPERATIONS.len())?;
+    let level = filled(rt.alloc(), nodes, pages, false)?;
+    measure_level(rt, level, &places, turns, &mut figures)?;
+    let mut rising = filled(rt.alloc(), nodes, pages, true)?;
     look_up_both(rt, &rising, &places, turns, &mut figures)?;
     figures.push(rotate(rt, &mut rising, nodes, pages)?)?;
     Ok(figures)
@@ -61,14 +62,14 @@ fn measure_level(
     cache: Cache,
     places: &Places,
     turns: u32,
-) -> Result<Vec<Figure>> {
+    figures: &mut Vec<Figure>,
+) -> Result<()> {
     let mut cache = cache;
-    let mut figures = Vec::with_capacity(rt.alloc(), CACHE_OPERATIONS.len())?;
-    look_up_both(rt, &cache, places, turns, &mut figures)?;
+    look_up_both(rt, &cache, places, turns, figures)?;
     figures.push(add(rt, &mut cache, &places.keys, turns)?)?;
     figures.push(add(rt, &mut cache, &places.ranges, turns)?)?;
     figures.push(make_versions(rt, cache, places.some()?)?)?;
-    Ok(figures)
+    Ok(())
 }
 
 /// Looks up the keys, and then the ranges.
@@ -86,12 +87,12 @@ fn look_up_both(
 
 /// A cache of so many full pages, each with keys of its own. All that is on them has one time, or that of a
 /// newer page is later.
-pub fn filled(rt: &HostRuntime, nodes: u32, pages: u32, rising: bool) -> Result<Cache> {
+pub fn filled(alloc: Global, nodes: u32, pages: u32, rising: bool) -> Result<Cache> {
     let config = Config::new(nodes, pages, 0, Timestamp::ZERO)?;
-    let mut cache = Cache::new(rt.alloc(), config)?;
+    let mut cache = Cache::new(alloc, config)?;
     for page in 0..pages {
         let wall = if rising { u64::from(page) + 1 } else { 1 };
-        fill_front(rt.alloc(), &mut cache, nodes, page, wall)?;
+        fill_front(alloc, &mut cache, nodes, page, wall)?;
     }
     ensure!(cache.pages() == pages as usize, "not as many pages");
     Ok(cache)
@@ -99,10 +100,10 @@ pub fn filled(rt: &HostRuntime, nodes: u32, pages: u32, rising: bool) -> Result<
 
 /// Adds the keys of a page from the least on, which moves no node, at a wall time. Nothing is dropped.
 fn fill_front(alloc: Global, cache: &mut Cache, nodes: u32, page: u32, wall: u64) -> Result<()> {
-    let time = Timestamp::new(wall, 0).context("no time")?;
+    let value = Value::unowned(Timestamp::new(wall, 0).context("no time")?);
+    let keys = Keys::new(nodes, page, &[]);
     for place in 0..u64::from(nodes) {
-        let span = Span::point(Keys::new(nodes, page, &[]).key(alloc, place)?);
-        cache.add(&span, Value::unowned(time), Timestamp::ZERO)?;
+        cache.add(&keys.span(alloc, place, 0)?, value, Timestamp::ZERO)?;
     }
     Ok(())
 }

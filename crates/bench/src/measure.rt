@@ -132,14 +132,22 @@ impl Keys {
         let mut spans = Vec::with_capacity(alloc, count as usize)?;
         for i in 0..u64::from(count) {
             let from = i * STRIDE % u64::from(self.nodes - width);
-            let ends = Ends {
-                exclude_from: false,
-                exclude_to: width != 0,
-            };
-            let to = from + u64::from(width);
-            spans.push(Span::range(self.key(alloc, from)?, self.key(alloc, to)?, ends)?)?;
+            spans.push(self.span(alloc, from, width)?)?;
         }
         Ok(spans)
+    }
+
+    /// The span of a key, or of `width` nodes from it on.
+    pub fn span(self, alloc: Global, from: u64, width: u32) -> Result<Span> {
+        if width == 0 {
+            return Ok(Span::point(self.key(alloc, from)?));
+        }
+        let to = from.saturating_add(u64::from(width));
+        let ends = Ends {
+            exclude_from: false,
+            exclude_to: true,
+        };
+        Ok(Span::range(self.key(alloc, from)?, self.key(alloc, to)?, ends)?)
     }
 }
 
@@ -150,16 +158,34 @@ pub fn measure(rt: &HostRuntime, nodes: u32, turns: u32) -> Result<Vec<Row>>
 {
     let mut rows = Vec::new(rt.alloc());
     for (keys, front) in KINDS {
-        let mut all = [Figure::NONE; 7];
-        for _ in 0..ROUNDS {
-            let round = measure_page(rt, Keys::new(nodes, 0, front), turns)?;
-            keep_least(&mut all, &round);
-        }
-        for (name, figure) in OPERATIONS.into_iter().zip(all) {
-            rows.push(Row { keys, name, figure })?;
-        }
+        let figures = measure_kind(rt, Keys::new(nodes, 0, front), turns)?;
+        push_rows(&mut rows, keys, &figures)?;
     }
     Ok(rows)
+}
+
+/// Measures pages with keys of one kind.
+fn measure_kind(rt: &HostRuntime, keys: Keys, turns: u32) -> Result<[Figure; 7]>
+    requires at_least { 64 ≤ keys.nodes }
+    requires at_most { keys.nodes ≤ 65536 }
+{
+    let mut all = [Figure::NONE; 7];
+    for _ in 0..ROUNDS {
+        keep_least(&mut all, &measure_page(rt, keys, turns)?);
+    }
+    Ok(all)
+}
+
+/// Names the figures of one kind of keys.
+fn push_rows(rows: &mut Vec<Row>, keys: &'static str, figures: &[Figure]) -> Result<()> {
+    for (name, figure) in OPERATIONS.iter().zip(figures) {
+        rows.push(Row {
+            keys,
+            name,
+            figure: *figure,
+        })?;
+    }
+    Ok(())
 }
 
 /// Puts in the place of each figure that of a further round of the same operations, where these took less, or where
@@ -224,36 +250,25 @@ fn fill_page(rt: &HostRuntime, here: Keys) -> Result<Filled>
 }
 
 /// Fills a page with nodes, and then makes each operation at its places in each of so many turns, of which that
-/// counts in which it took least: in a short time others seldom come in between.
-fn measure_page(rt: &HostRuntime, here: Keys, turns: u32) -> Result<Vec<Figure>>
+/// counts in which it took least: in a short time others seldom come in between. The figures stand in the order
+/// of [`OPERATIONS`].
+fn measure_page(rt: &HostRuntime, here: Keys, turns: u32) -> Result<[Figure; 7]>
     requires at_least { 64 ≤ here.nodes }
     requires at_most { here.nodes ≤ 65536 }
 {
     let places = Places::of(rt.alloc(), here)?;
-    let Filled {
-        mut page,
-        adds,
-        next_new,
-    } = fill_page(rt, here)?;
-    let next = add_to_copies(rt, &page, places.some()?)?;
-    let least = measure_turns(rt, &mut page, &places, turns)?;
-    in_order(rt.alloc(), adds, &least, next, next_new)
-}
-
-/// The figures in the order of [`OPERATIONS`].
-fn in_order(
-    alloc: Global,
-    adds: Figure,
-    at_places: &[Figure],
-    next: Figure,
-    next_new: Figure,
-) -> Result<Vec<Figure>> {
-    let mut all = Vec::with_capacity(alloc, OPERATIONS.len())?;
-    all.push(adds)?;
-    all.extend_from_slice(at_places)?;
-    all.push(next)?;
-    all.push(next_new)?;
-    Ok(all)
+    let mut filled = fill_page(rt, here)?;
+    let next = add_to_copies(rt, &filled.page, places.some()?)?;
+    let [of_key, of_range, to_key, to_range] = measure_turns(rt, &mut filled.page, &places, turns)?;
+    Ok([
+        filled.adds,
+        of_key,
+        of_range,
+        to_key,
+        to_range,
+        next,
+        filled.next_new,
+    ])
 }
 
 /// Makes so many turns, and gives of each operation what it took in the turn in which it took least.
