@@ -26,6 +26,7 @@ mod report;
 mod shared;
 mod spread;
 mod stops;
+mod watch;
 
 use crate::caches::{CACHE_OPERATIONS, PAGES, measure_caches};
 use crate::measure::{Figure, LARGEST, ROUNDS, Row, SMALLEST, measure};

@@ -1,8 +1,8 @@
 ghost use Rattle.std.specs.Prelude.{◌≡◌, ◌≤◌};
 
+use crate::watch::Watch;
 use anyhow::{Context, Result, ensure};
 use std::alloc::Global;
-use std::time::Instant;
 use tsc_page::Page;
 use tsc_span::{Ends, Key, Span};
 use tsc_time::{Timestamp, Value, ratchet};
@@ -102,7 +102,8 @@ impl Figure {
 /// The keys of a page of so many nodes.
 #[derive(Clone, Copy)]
 pub struct Keys {
-    nodes: u32,
+    /// How many nodes the page has.
+    pub nodes: u32,
     page: u32,
     front: &'static [u8],
 }
@@ -297,50 +298,48 @@ fn make_turn(rt: &HostRuntime, page: &mut Page, places: &Places, turn: u32) -> R
 /// Looks up each of the spans.
 fn look_up(rt: &HostRuntime, page: &Page, spans: &[Span]) -> Result<Figure> {
     let mut latest = Value::unowned(Timestamp::ZERO);
-    let start = Instant::now(rt)?;
+    let watch = Watch::start(rt)?;
     for span in spans {
         latest = ratchet(latest, page.lookup(span)).0;
     }
-    let took = start.elapsed(rt)?.as_nanos();
+    let figure = watch.stop(rt, spans.len() as u64)?;
     // what was looked up is used, so that no compiler leaves the lookups out
     ensure!(
         latest.time() <= page.top(),
         "a lookup answered more than the top"
     );
-    figure_of(spans, 1, took)
+    Ok(figure)
 }
 
 /// Adds each of the spans, in each turn a nanosecond later.
 fn add(rt: &HostRuntime, page: &mut Page, spans: &[Span], turn: u32) -> Result<Figure> {
-    let start = Instant::now(rt)?;
+    let watch = Watch::start(rt)?;
     for (i, span) in spans.iter().enumerate() {
         add_at(page, span, u64::from(turn).saturating_add(i as u64))?;
     }
-    figure_of(spans, 1, start.elapsed(rt)?.as_nanos())
+    watch.stop(rt, spans.len() as u64)
 }
 
 /// Adds each of the spans to a copy of the page, which is then dropped.
 fn add_to_copies(rt: &HostRuntime, page: &Page, spans: &[Span]) -> Result<Figure> {
-    let start = Instant::now(rt)?;
+    let watch = Watch::start(rt)?;
     for span in spans {
         let mut copy = page.try_copy()?;
         add_at(&mut copy, span, u64::from(u32::MAX))?;
     }
-    figure_of(spans, 1, start.elapsed(rt)?.as_nanos())
+    watch.stop(rt, spans.len() as u64)
 }
 
 /// Adds a span at a wall time.
 fn add_at(page: &mut Page, span: &Span, wall: u64) -> Result<()> {
-    let time = Timestamp::new(wall, 0).context("no time")?;
-    let is_added = !span.is_empty() && page.try_add(span, Value::unowned(time))?;
+    let value = value_at(wall)?;
+    let is_added = !span.is_empty() && page.try_add(span, value)?;
     ensure!(is_added, "an Add of an empty span, or without room");
     Ok(())
 }
 
-/// What `turns` operations at each of the spans took.
-pub fn figure_of(spans: &[Span], turns: u32, nanoseconds: u128) -> Result<Figure> {
-    Ok(Figure {
-        operations: (spans.len() as u64).saturating_mul(u64::from(turns)),
-        nanoseconds: u64::try_from(nanoseconds)?,
-    })
+/// The value of a wall time, which has no owner.
+pub fn value_at(wall: u64) -> Result<Value> {
+    let time = Timestamp::new(wall, 0).context("no time")?;
+    Ok(Value::unowned(time))
 }

@@ -23,7 +23,7 @@ const IDLE: [u32; 4] = [0, 1, 7, 63];
 const CROWD: u32 = 8;
 
 /// How often each seat goes over the places.
-const TURNS: u32 = 25;
+const TURNS: u32 = 50;
 
 /// And while each Add is timed by itself: all seats make a million Adds together.
 const TIMED_TURNS: u32 = 245;
@@ -84,24 +84,29 @@ fn print_adds<R: Threads + Wait + Sync + Clock + AllocGlobal + Print>(
     let mut before = None;
     for idle in IDLE {
         let told = measure_shared(rt, trial(nodes, 1, idle, 0, TURNS), ROUNDS)?;
-        let more = Tenths(tenths_more(before, idle, told.shared.median));
         let (shared, alone, percents) = (told.shared, told.alone, told.percents);
         println!(rt;
-            "{nodes} nodes, shared by 1 and {idle} idle, only Adds: {shared} ns each, {alone} without sharing, {percents} %, {more} ns more for each further idle one"
+            "{nodes} nodes, shared by 1 and {idle} idle, only Adds: {shared} ns each, {alone} without sharing, {percents} %"
         )?;
-        before = Some((idle, told.shared.median));
+        if let Some(before) = before {
+            print_further(rt, nodes, before, (idle, shared.median))?;
+        }
+        before = Some((idle, shared.median));
     }
     Ok(())
 }
 
-/// How many tenths of a nanosecond each idle seat adds to those of which there were some before, with what an Add took
-/// then.
-fn tenths_more(before: Option<(u32, u64)>, idle: u32, median: u64) -> u64 {
-    let Some((fewer, least)) = before else {
-        return 0;
-    };
+/// Prints what each further idle seat adds to an Add, from one number of idle seats with its figure to another one.
+fn print_further<R: Print>(
+    rt: &R,
+    nodes: u32,
+    (fewer, least): (u32, u64),
+    (idle, median): (u32, u64),
+) -> Result<()> {
     let seats = u64::from(idle.saturating_sub(fewer)).max(1);
-    median.saturating_sub(least).saturating_mul(10) / seats
+    let each = Tenths(median.saturating_sub(least).saturating_mul(10) / seats);
+    println!(rt; "{nodes} nodes, from {fewer} idle to {idle}: {each} ns for each further one")?;
+    Ok(())
 }
 
 /// A number of tenths.

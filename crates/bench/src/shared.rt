@@ -4,11 +4,12 @@ use crate::caches::filled;
 use crate::calls::{AddTimes, Calls, add_shared, call_plain, call_seat};
 use crate::measure::{Figure, Keys, PLACES};
 use crate::spread::Spread;
+use crate::watch::Watch;
 use anyhow::{Context, Result, bail, ensure};
 use std::alloc::{AllocError, AllocGlobal, Global};
 use std::sync::Wait;
 use std::thread::{Threads, map_vec};
-use std::time::{Clock, Instant};
+use std::time::Clock;
 use tsc_cache::Config;
 use tsc_shared::{Seat, SharedCache};
 use tsc_span::Span;
@@ -117,32 +118,26 @@ fn by_seats<R: Threads + Wait + Sync + Clock + AllocGlobal>(
     spans: &[Span],
 ) -> Result<Figure> {
     let (shared, seats) = open_filled(rt, rt.alloc(), trial)?;
-    let start = Instant::now(rt)?;
+    let watch = Watch::start(rt)?;
     let times = call_all(rt, &shared, seats, spans, trial.calls)?;
-    let took = start.elapsed(rt)?.as_nanos();
+    let figure = watch.stop(rt, trial.operations())?;
     ensure!(times.iter().all(Option::is_some), "a call was refused");
-    Ok(Figure {
-        operations: trial.operations(),
-        nanoseconds: u64::try_from(took)?,
-    })
+    Ok(figure)
 }
 
 /// What as many calls took on one thread.
 fn by_one<R: Clock + AllocGlobal>(rt: &R, trial: Trial, spans: &[Span]) -> Result<Figure> {
     let mut cache = filled(rt.alloc(), trial.nodes, 1, false)?;
-    let start = Instant::now(rt)?;
+    let watch = Watch::start(rt)?;
     for _ in 0..trial.seats {
         let met = call_plain(&mut cache, spans, trial.calls);
         ensure!(met == Some(true), "a call was refused");
     }
-    Ok(Figure {
-        operations: trial.operations(),
-        nanoseconds: u64::try_from(start.elapsed(rt)?.as_nanos())?,
-    })
+    watch.stop(rt, trial.operations())
 }
 
 /// How long the Adds took of all seats together.
-pub fn measure_adds<R: Threads + Wait + Sync + AllocGlobal + Clock>(
+pub fn measure_adds<R: Threads + Wait + Sync + Clock + AllocGlobal>(
     rt: &R,
     trial: Trial,
 ) -> Result<AddTimes>
@@ -150,11 +145,16 @@ pub fn measure_adds<R: Threads + Wait + Sync + AllocGlobal + Clock>(
 {
     let spans = Keys::new(trial.nodes, 0, &[]).spans(rt.alloc(), PLACES, 0)?;
     let (shared, seats) = open_filled(rt, rt.alloc(), trial)?;
+    sum_of(&call_all(rt, &shared, seats, &spans, trial.calls)?).context("a call was refused")
+}
+
+/// What the Adds of all took, if none of their calls was refused.
+fn sum_of(times: &[Option<AddTimes>]) -> Option<AddTimes> {
     let mut all = AddTimes::NONE;
-    for times in call_all(rt, &shared, seats, &spans, trial.calls)? {
-        all = all.and(times.context("a call was refused")?);
+    for one in times {
+        all = all.and((*one)?);
     }
-    Ok(all)
+    Some(all)
 }
 
 /// A shared cache with a full page, and the seats that are to make calls. The idle ones are dropped, which leaves
