@@ -1,9 +1,9 @@
 ghost use Rattle.std.specs.Prelude.{◌≤◌};
 
-use crate::measure::{Figure, Keys, Places, ROUNDS, figure_of, keep_least};
-use anyhow::{Context, Result, ensure};
+use crate::measure::{Figure, Keys, Places, ROUNDS, keep_least, value_at};
+use crate::watch::Watch;
+use anyhow::{Result, ensure};
 use std::alloc::Global;
-use std::time::Instant;
 use tsc_cache::{Cache, Config};
 use tsc_span::Span;
 use tsc_time::{Timestamp, Value, ratchet};
@@ -47,11 +47,9 @@ fn measure_round(rt: &HostRuntime, nodes: u32, pages: u32, turns: u32) -> Result
 {
     let front = Keys::new(nodes, pages.saturating_sub(1), &[]);
     let places = Places::of(rt.alloc(), front)?;
-    let level = filled(rt, nodes, pages, false)?;
-    let mut rising = filled(rt, nodes, pages, true)?;
+    let level = filled(rt.alloc(), nodes, pages, false)?;
     let mut figures = measure_level(rt, level, &places, turns)?;
-    look_up_both(rt, &rising, &places, turns, &mut figures)?;
-    figures.push(rotate(rt, &mut rising, nodes, pages)?)?;
+    measure_rising(rt, front, pages, &places, turns, &mut figures)?;
     Ok(figures)
 }
 
@@ -63,12 +61,28 @@ fn measure_level(
     turns: u32,
 ) -> Result<Vec<Figure>> {
     let mut cache = cache;
-    let mut figures = Vec::with_capacity(rt.alloc(), CACHE_OPERATIONS.len())?;
+    let mut figures = Vec::new(rt.alloc());
     look_up_both(rt, &cache, places, turns, &mut figures)?;
-    figures.push(add(rt, &mut cache, &places.keys, turns)?)?;
-    figures.push(add(rt, &mut cache, &places.ranges, turns)?)?;
+    add_both(rt, &mut cache, places, turns, &mut figures)?;
     figures.push(make_versions(rt, cache, places.some()?)?)?;
     Ok(figures)
+}
+
+/// And then on one whose newer pages have later times, of which the last is `front`.
+fn measure_rising(
+    rt: &HostRuntime,
+    front: Keys,
+    pages: u32,
+    places: &Places,
+    turns: u32,
+    figures: &mut Vec<Figure>,
+) -> Result<()>
+    requires { 64 ≤ front.nodes }
+{
+    let mut cache = filled(rt.alloc(), front.nodes, pages, true)?;
+    look_up_both(rt, &cache, places, turns, figures)?;
+    figures.push(rotate(rt, &mut cache, front.nodes, pages)?)?;
+    Ok(())
 }
 
 /// Looks up the keys, and then the ranges.
@@ -84,14 +98,27 @@ fn look_up_both(
     Ok(())
 }
 
+/// Adds the keys, and then the ranges.
+fn add_both(
+    rt: &HostRuntime,
+    cache: &mut Cache,
+    places: &Places,
+    turns: u32,
+    figures: &mut Vec<Figure>,
+) -> Result<()> {
+    figures.push(add(rt, cache, &places.keys, turns)?)?;
+    figures.push(add(rt, cache, &places.ranges, turns)?)?;
+    Ok(())
+}
+
 /// A cache of so many full pages, each with keys of its own. All that is on them has one time, or that of a
 /// newer page is later.
-pub fn filled(rt: &HostRuntime, nodes: u32, pages: u32, rising: bool) -> Result<Cache> {
+pub fn filled(alloc: Global, nodes: u32, pages: u32, rising: bool) -> Result<Cache> {
     let config = Config::new(nodes, pages, 0, Timestamp::ZERO)?;
-    let mut cache = Cache::new(rt.alloc(), config)?;
+    let mut cache = Cache::new(alloc, config)?;
     for page in 0..pages {
         let wall = if rising { u64::from(page) + 1 } else { 1 };
-        fill_front(rt.alloc(), &mut cache, nodes, page, wall)?;
+        fill_front(alloc, &mut cache, nodes, page, wall)?;
     }
     ensure!(cache.pages() == pages as usize, "not as many pages");
     Ok(cache)
@@ -99,22 +126,20 @@ pub fn filled(rt: &HostRuntime, nodes: u32, pages: u32, rising: bool) -> Result<
 
 /// Adds the keys of a page from the least on, which moves no node, at a wall time. Nothing is dropped.
 fn fill_front(alloc: Global, cache: &mut Cache, nodes: u32, page: u32, wall: u64) -> Result<()> {
-    let time = Timestamp::new(wall, 0).context("no time")?;
+    let value = value_at(wall)?;
+    let keys = Keys::new(nodes, page, &[]);
     for place in 0..u64::from(nodes) {
-        let span = Span::point(Keys::new(nodes, page, &[]).key(alloc, place)?);
-        cache.add(&span, Value::unowned(time), Timestamp::ZERO)?;
+        cache.add(&keys.span(alloc, place, 0)?, value, Timestamp::ZERO)?;
     }
     Ok(())
 }
 
 /// Adds each of the spans at a wall time, while all older pages are past their retention.
 fn add_late(cache: &mut Cache, spans: &[Span], wall: u64) -> Result<()> {
-    let time = Timestamp::new(wall, 0).context("no time")?;
+    let value = value_at(wall)?;
     for span in spans {
-        ensure!(
-            cache.add(span, Value::unowned(time), Timestamp::MAX)?.kept,
-            "an Add is not kept"
-        );
+        let added = cache.add(span, value, Timestamp::MAX)?;
+        ensure!(added.kept, "an Add is not kept");
     }
     Ok(())
 }
@@ -122,58 +147,57 @@ fn add_late(cache: &mut Cache, spans: &[Span], wall: u64) -> Result<()> {
 /// Looks up each of the spans `turns` times.
 pub fn look_up(rt: &HostRuntime, cache: &Cache, spans: &[Span], turns: u32) -> Result<Figure> {
     let mut latest = Value::unowned(Timestamp::ZERO);
-    let start = Instant::now(rt)?;
+    let watch = Watch::start(rt)?;
     for _ in 0..turns {
         for span in spans {
             latest = ratchet(latest, cache.get_max(span)).0;
         }
     }
-    let took = start.elapsed(rt)?.as_nanos();
+    let figure = watch.stop(rt, times(spans, turns))?;
     // what was looked up is used, so that no compiler leaves the lookups out
     ensure!(cache.low_water() < latest.time(), "nothing was found");
-    figure_of(spans, turns, took)
+    Ok(figure)
+}
+
+/// How many operations are `turns` at each of the spans.
+fn times(spans: &[Span], turns: u32) -> u64 {
+    (spans.len() as u64).saturating_mul(u64::from(turns))
 }
 
 /// Adds each of the spans `turns` times, in place, and each time a nanosecond later.
 fn add(rt: &HostRuntime, cache: &mut Cache, spans: &[Span], turns: u32) -> Result<Figure> {
-    let start = Instant::now(rt)?;
+    let watch = Watch::start(rt)?;
     for turn in 0..turns {
         for (i, span) in spans.iter().enumerate() {
             let wall = u64::from(turn).saturating_add(i as u64).saturating_add(1);
-            let time = Timestamp::new(wall, 0).context("no time")?;
-            cache.add(span, Value::unowned(time), Timestamp::ZERO)?;
+            cache.add(span, value_at(wall)?, Timestamp::ZERO)?;
         }
     }
-    let took = start.elapsed(rt)?.as_nanos();
-    figure_of(spans, turns, took)
+    watch.stop(rt, times(spans, turns))
 }
 
 /// Adds each of the spans once by the next version, which takes the place of the one before it.
 fn make_versions(rt: &HostRuntime, cache: Cache, spans: &[Span]) -> Result<Figure> {
     let mut newest = cache;
-    let start = Instant::now(rt)?;
+    let value = Value::unowned(Timestamp::MAX);
+    let watch = Watch::start(rt)?;
     for span in spans {
-        newest = newest
-            .next(span, Value::unowned(Timestamp::MAX), Timestamp::ZERO)?
-            .0;
+        newest = newest.next(span, value, Timestamp::ZERO)?.0;
     }
-    figure_of(spans, 1, start.elapsed(rt)?.as_nanos())
+    watch.stop(rt, spans.len() as u64)
 }
 
 /// Fills [`ROTATIONS`] more pages, and each time the oldest one is dropped.
 fn rotate(rt: &HostRuntime, cache: &mut Cache, nodes: u32, pages: u32) -> Result<Figure>
-    requires at_least { 64 ≤ nodes }
+    requires { 64 ≤ nodes }
 {
-    let mut took: u128 = 0;
+    let mut all = Figure::NONE;
     for page in pages..pages.saturating_add(ROTATIONS) {
         let keys = Keys::new(nodes, page, &[]).spans(rt.alloc(), nodes, 0)?;
-        let start = Instant::now(rt)?;
+        let watch = Watch::start(rt)?;
         add_late(cache, &keys, u64::from(page) + 1)?;
-        took = took.saturating_add(start.elapsed(rt)?.as_nanos());
+        all = all.and(watch.stop(rt, keys.len() as u64)?);
     }
     ensure!(cache.pages() == pages as usize, "not as many pages");
-    Ok(Figure {
-        operations: u64::from(nodes) * u64::from(ROTATIONS),
-        nanoseconds: u64::try_from(took)?,
-    })
+    Ok(all)
 }

@@ -1,29 +1,43 @@
-//! Measures a page of the timestamp cache, caches of 1, 4 and 17 such pages, and a cache that threads share.
-//!
 //! `bench NODES..` fills a page with so many nodes, from 64 to 65,536, and then looks up and adds single keys, and
 //! ranges of 16 nodes, and adds keys to copies of the page; first with keys of 8 bytes, and then with keys whose
 //! first 16 bytes are the same. It prints how many operations it made in a turn and the nanoseconds of one, in
 //! that turn of many in which they took least. Then it does so to the caches, and prints too what each took as a
 //! percentage of what it took on the page, and compares lookups that stop at the newest of 17 pages with those
-//! in a single page, turn by turn. Then it has 1 and 4 seats of a shared cache look up and add on threads, and
-//! prints how many operations they made in a second, and the same calls on one thread without sharing. For two
+//! in a single page, turn by turn. Then it measures a shared cache, as `bench shared NODES..` does alone. For two
 //! sizes and more it prints by how much each operation of a page grew from the first size to the last.
+//!
+//! `bench shared NODES..` has 1, 2 and 4 seats of a shared cache look up and add on threads, and prints how many
+//! calls they made in a second; then one seat add beside seats that nobody uses, and prints the nanoseconds of an Add
+//! and what each idle seat costs it. Beside each figure stands that of the same calls on one thread to a cache of its
+//! own. Of several rounds it prints the one in the middle, the least and the greatest.
+//!
+//! `bench longest NODES..` has 8 seats make a million Adds, and lookups between them, and prints the time of the
+//! longest Add.
+//!
 //! `bench` alone makes a short run and prints no times.
 #![tactic(auto)]
 
+ghost use Rattle.std.specs.Prelude.{◌≤◌, IfOk};
+
 mod caches;
+mod calls;
 mod measure;
+mod report;
 mod shared;
+mod spread;
 mod stops;
+mod watch;
 
 use crate::caches::{CACHE_OPERATIONS, PAGES, measure_caches};
 use crate::measure::{Figure, LARGEST, ROUNDS, Row, SMALLEST, measure};
-use crate::shared::{LOOKUPS, SEATS, measure_shared};
+use crate::report::{print_longest, print_shared, short_run_shared};
 use crate::stops::{MANY, STOPPING, measure_stops};
 use anyhow::{Context, Result, ensure};
+use std::alloc::AllocGlobal;
 use std::env;
 use std::sync::Wait;
 use std::thread::Threads;
+use std::time::Clock;
 
 /// In how many turns of a round each operation is made at each of the spans of a measurement.
 const TURNS: u32 = 25;
@@ -34,38 +48,73 @@ const CACHE_TURNS: u32 = 5;
 /// And where two caches are compared.
 const STOP_TURNS: u32 = 40;
 
-/// And by each seat of a shared cache.
-const SHARED_TURNS: u32 = 25;
-
 fn main(rt: HostRuntime) -> Result<()> {
-    let words: Vec<String> = env::args(&rt)?.collect(rt.alloc())?;
-    let mut all: Vec<Vec<Row>> = Vec::new(rt.alloc());
-    for word in words.iter().skip(1) {
-        all.push(measure_size(&rt, &rt, word)?)?;
-    }
-    if all.len() == 0 {
+    let words: Vec<String> = env::args(&rt)?.skip(1).collect(rt.alloc())?;
+    let Some((first, sizes)) = words.split_first() else {
         short_run(&rt)?;
-        return short_run_shared(&rt, &rt);
+        return short_run_shared(&rt);
+    };
+    match first.as_str() {
+        "shared" => measure_sharing(&rt, sizes, false),
+        "longest" => measure_sharing(&rt, sizes, true),
+        _ => measure_all(&rt, &rt, &words),
     }
-    print_growth(&rt, &all)
 }
 
-/// Measures all with as many nodes as a word says, and prints it. Gives what operations on a page took.
-fn measure_size<R: Threads + Wait + Sync>(
-    host: &HostRuntime,
-    rt: &R,
-    word: &str,
-) -> Result<Vec<Row>> {
+/// How many nodes a word says.
+fn nodes_of(word: &str) -> Result<u32>
+    ensures at_least { IfOk result (λ nodes. 64 ≤ nodes) }
+    ensures at_most { IfOk result (λ nodes. nodes ≤ 65536) }
+{
     let nodes = word.parse()?;
     ensure!(
         SMALLEST <= nodes && nodes <= LARGEST,
         "a page of {SMALLEST} to {LARGEST} nodes can be measured"
     );
-    let rows = measure(host, nodes, TURNS)?;
-    print_page(host, nodes, &rows)?;
-    print_caches(host, nodes, &rows)?;
-    print_stops(host, nodes)?;
-    print_shared(host, rt, nodes)?;
+    Ok(nodes)
+}
+
+/// Measures a shared cache of each size, or the longest Add to it.
+fn measure_sharing<R: Threads + Wait + Sync + Clock + AllocGlobal + Print>(
+    rt: &R,
+    sizes: &[String],
+    longest: bool,
+) -> Result<()> {
+    for word in sizes {
+        let nodes = nodes_of(word)?;
+        if longest {
+            print_longest(rt, nodes)?;
+        } else {
+            print_shared(rt, nodes)?;
+        }
+    }
+    Ok(())
+}
+
+/// Measures all with each size.
+fn measure_all<R: Threads + Wait + Sync + Clock + AllocGlobal + Print>(
+    host: &HostRuntime,
+    rt: &R,
+    sizes: &[String],
+) -> Result<()> {
+    let mut all: Vec<Vec<Row>> = Vec::new(host.alloc());
+    for word in sizes {
+        let nodes = nodes_of(word)?;
+        all.push(measure_size(host, nodes)?)?;
+        print_shared(rt, nodes)?;
+    }
+    print_growth(host, &all)
+}
+
+/// Measures pages and caches, and prints it. Gives what operations on a page took.
+fn measure_size(rt: &HostRuntime, nodes: u32) -> Result<Vec<Row>>
+    requires at_least { 64 ≤ nodes }
+    requires at_most { nodes ≤ 65536 }
+{
+    let rows = measure(rt, nodes, TURNS)?;
+    print_page(rt, nodes, &rows)?;
+    print_caches(rt, nodes, &rows)?;
+    print_stops(rt, nodes)?;
     Ok(rows)
 }
 
@@ -94,13 +143,15 @@ fn print_growth(rt: &HostRuntime, all: &[Vec<Row>]) -> Result<()> {
 }
 
 /// Prints what operations on caches take beside those on a page of the same size.
-fn print_caches(rt: &HostRuntime, nodes: u32, page: &[Row]) -> Result<()> {
-    ensure!(SMALLEST <= nodes && nodes <= LARGEST, "no such page");
+fn print_caches(rt: &HostRuntime, nodes: u32, page: &[Row]) -> Result<()>
+    requires at_least { 64 ≤ nodes }
+    requires at_most { nodes ≤ 65536 }
+{
     for pages in PAGES {
         let figures = measure_caches(rt, nodes, pages, CACHE_TURNS)?;
-        for ((name, beside), figure) in CACHE_OPERATIONS.into_iter().zip(figures) {
-            let beside = page.get(beside).context("no such operation")?;
-            print_beside(rt, pages, nodes, name, figure, beside.figure)?;
+        for ((name, beside), figure) in CACHE_OPERATIONS.iter().zip(&figures) {
+            let beside = page.get(*beside).context("no such operation")?;
+            print_beside(rt, pages, nodes, name, *figure, beside.figure)?;
         }
     }
     Ok(())
@@ -123,34 +174,14 @@ fn print_beside(
 }
 
 /// Prints what lookups that stop at the newest of many pages take beside those in a single page.
-fn print_stops(rt: &HostRuntime, nodes: u32) -> Result<()> {
-    ensure!(SMALLEST <= nodes && nodes <= LARGEST, "no such page");
+fn print_stops(rt: &HostRuntime, nodes: u32) -> Result<()>
+    requires { 64 ≤ nodes }
+{
     for (name, width) in STOPPING {
-        let stops = measure_stops(rt, nodes, width, ROUNDS, STOP_TURNS)?;
-        let (least, median, greatest) = (stops.least, stops.median, stops.greatest);
+        let percents = measure_stops(rt, nodes, width, ROUNDS, STOP_TURNS)?;
         println!(rt;
-            "{MANY} x {nodes} nodes, {name} that stops at the newest page, beside a single page in {ROUNDS} rounds: {median} % ({least} to {greatest})"
+            "{MANY} x {nodes} nodes, {name} that stops at the newest page, beside a single page in {ROUNDS} rounds: {percents} %"
         )?;
-    }
-    Ok(())
-}
-
-/// Prints how many operations in a second seats of a shared cache make, and one thread without sharing.
-fn print_shared<R: Threads + Wait + Sync>(host: &HostRuntime, rt: &R, nodes: u32) -> Result<()> {
-    ensure!(SMALLEST <= nodes && nodes <= LARGEST, "no such page");
-    for seats in SEATS {
-        for lookups in LOOKUPS {
-            let [shared, plain] = measure_shared(host, rt, nodes, seats, lookups, SHARED_TURNS)?;
-            let (operations, rate, beside) = (
-                shared.operations,
-                shared.per_second(),
-                plain.per_second(),
-            );
-            let percent = plain.percent_of(shared);
-            println!(host;
-                "{nodes} nodes, shared by {seats}, {lookups} lookups of 100: {operations} operations, {rate} a second, {beside} without sharing, {percent} %"
-            )?;
-        }
     }
     Ok(())
 }
@@ -173,23 +204,9 @@ fn short_run(rt: &HostRuntime) -> Result<()> {
 /// Those on caches of so many pages.
 fn short_run_of_caches(rt: &HostRuntime, pages: u32) -> Result<()> {
     let figures = measure_caches(rt, SMALLEST, pages, 1)?;
-    for ((name, _), figure) in CACHE_OPERATIONS.into_iter().zip(figures) {
+    for ((name, _), figure) in CACHE_OPERATIONS.iter().zip(&figures) {
         let operations = figure.operations;
         println!(rt; "{pages} x {SMALLEST} nodes, {name}: {operations} operations")?;
-    }
-    Ok(())
-}
-
-/// And each kind of calls at each place of a small page that seats share.
-fn short_run_shared<R: Threads + Wait + Sync>(host: &HostRuntime, rt: &R) -> Result<()> {
-    for seats in SEATS {
-        for lookups in LOOKUPS {
-            let [shared, _] = measure_shared(host, rt, SMALLEST, seats, lookups, 1)?;
-            let operations = shared.operations;
-            println!(host;
-                "{SMALLEST} nodes, shared by {seats}, {lookups} lookups of 100: {operations} operations"
-            )?;
-        }
     }
     Ok(())
 }

@@ -1,8 +1,8 @@
 ghost use Rattle.std.specs.Prelude.{◌≡◌, ◌≤◌};
 
+use crate::watch::Watch;
 use anyhow::{Context, Result, ensure};
 use std::alloc::Global;
-use std::time::Instant;
 use tsc_page::Page;
 use tsc_span::{Ends, Key, Span};
 use tsc_time::{Timestamp, Value, ratchet};
@@ -102,7 +102,8 @@ impl Figure {
 /// The keys of a page of so many nodes.
 #[derive(Clone, Copy)]
 pub struct Keys {
-    nodes: u32,
+    /// How many nodes the page has.
+    pub nodes: u32,
     page: u32,
     front: &'static [u8],
 }
@@ -132,14 +133,22 @@ impl Keys {
         let mut spans = Vec::with_capacity(alloc, count as usize)?;
         for i in 0..u64::from(count) {
             let from = i * STRIDE % u64::from(self.nodes - width);
-            let ends = Ends {
-                exclude_from: false,
-                exclude_to: width != 0,
-            };
-            let to = from + u64::from(width);
-            spans.push(Span::range(self.key(alloc, from)?, self.key(alloc, to)?, ends)?)?;
+            spans.push(self.span(alloc, from, width)?)?;
         }
         Ok(spans)
+    }
+
+    /// The span of a key, or of `width` nodes from it on.
+    pub fn span(self, alloc: Global, from: u64, width: u32) -> Result<Span> {
+        if width == 0 {
+            return Ok(Span::point(self.key(alloc, from)?));
+        }
+        let to = from.saturating_add(u64::from(width));
+        let ends = Ends {
+            exclude_from: false,
+            exclude_to: true,
+        };
+        Ok(Span::range(self.key(alloc, from)?, self.key(alloc, to)?, ends)?)
     }
 }
 
@@ -150,16 +159,34 @@ pub fn measure(rt: &HostRuntime, nodes: u32, turns: u32) -> Result<Vec<Row>>
 {
     let mut rows = Vec::new(rt.alloc());
     for (keys, front) in KINDS {
-        let mut all = [Figure::NONE; 7];
-        for _ in 0..ROUNDS {
-            let round = measure_page(rt, Keys::new(nodes, 0, front), turns)?;
-            keep_least(&mut all, &round);
-        }
-        for (name, figure) in OPERATIONS.into_iter().zip(all) {
-            rows.push(Row { keys, name, figure })?;
-        }
+        let figures = measure_kind(rt, Keys::new(nodes, 0, front), turns)?;
+        push_rows(&mut rows, keys, &figures)?;
     }
     Ok(rows)
+}
+
+/// Measures pages with keys of one kind.
+fn measure_kind(rt: &HostRuntime, keys: Keys, turns: u32) -> Result<[Figure; 7]>
+    requires at_least { 64 ≤ keys.nodes }
+    requires at_most { keys.nodes ≤ 65536 }
+{
+    let mut all = [Figure::NONE; 7];
+    for _ in 0..ROUNDS {
+        keep_least(&mut all, &measure_page(rt, keys, turns)?);
+    }
+    Ok(all)
+}
+
+/// Names the figures of one kind of keys.
+fn push_rows(rows: &mut Vec<Row>, keys: &'static str, figures: &[Figure]) -> Result<()> {
+    for (name, figure) in OPERATIONS.iter().zip(figures) {
+        rows.push(Row {
+            keys,
+            name,
+            figure: *figure,
+        })?;
+    }
+    Ok(())
 }
 
 /// Puts in the place of each figure that of a further round of the same operations, where these took less, or where
@@ -224,36 +251,25 @@ fn fill_page(rt: &HostRuntime, here: Keys) -> Result<Filled>
 }
 
 /// Fills a page with nodes, and then makes each operation at its places in each of so many turns, of which that
-/// counts in which it took least: in a short time others seldom come in between.
-fn measure_page(rt: &HostRuntime, here: Keys, turns: u32) -> Result<Vec<Figure>>
+/// counts in which it took least: in a short time others seldom come in between. The figures stand in the order
+/// of [`OPERATIONS`].
+fn measure_page(rt: &HostRuntime, here: Keys, turns: u32) -> Result<[Figure; 7]>
     requires at_least { 64 ≤ here.nodes }
     requires at_most { here.nodes ≤ 65536 }
 {
     let places = Places::of(rt.alloc(), here)?;
-    let Filled {
-        mut page,
-        adds,
-        next_new,
-    } = fill_page(rt, here)?;
-    let next = add_to_copies(rt, &page, places.some()?)?;
-    let least = measure_turns(rt, &mut page, &places, turns)?;
-    in_order(rt.alloc(), adds, &least, next, next_new)
-}
-
-/// The figures in the order of [`OPERATIONS`].
-fn in_order(
-    alloc: Global,
-    adds: Figure,
-    at_places: &[Figure],
-    next: Figure,
-    next_new: Figure,
-) -> Result<Vec<Figure>> {
-    let mut all = Vec::with_capacity(alloc, OPERATIONS.len())?;
-    all.push(adds)?;
-    all.extend_from_slice(at_places)?;
-    all.push(next)?;
-    all.push(next_new)?;
-    Ok(all)
+    let mut filled = fill_page(rt, here)?;
+    let next = add_to_copies(rt, &filled.page, places.some()?)?;
+    let [of_key, of_range, to_key, to_range] = measure_turns(rt, &mut filled.page, &places, turns)?;
+    Ok([
+        filled.adds,
+        of_key,
+        of_range,
+        to_key,
+        to_range,
+        next,
+        filled.next_new,
+    ])
 }
 
 /// Makes so many turns, and gives of each operation what it took in the turn in which it took least.
@@ -282,50 +298,48 @@ fn make_turn(rt: &HostRuntime, page: &mut Page, places: &Places, turn: u32) -> R
 /// Looks up each of the spans.
 fn look_up(rt: &HostRuntime, page: &Page, spans: &[Span]) -> Result<Figure> {
     let mut latest = Value::unowned(Timestamp::ZERO);
-    let start = Instant::now(rt)?;
+    let watch = Watch::start(rt)?;
     for span in spans {
         latest = ratchet(latest, page.lookup(span)).0;
     }
-    let took = start.elapsed(rt)?.as_nanos();
+    let figure = watch.stop(rt, spans.len() as u64)?;
     // what was looked up is used, so that no compiler leaves the lookups out
     ensure!(
         latest.time() <= page.top(),
         "a lookup answered more than the top"
     );
-    figure_of(spans, 1, took)
+    Ok(figure)
 }
 
 /// Adds each of the spans, in each turn a nanosecond later.
 fn add(rt: &HostRuntime, page: &mut Page, spans: &[Span], turn: u32) -> Result<Figure> {
-    let start = Instant::now(rt)?;
+    let watch = Watch::start(rt)?;
     for (i, span) in spans.iter().enumerate() {
         add_at(page, span, u64::from(turn).saturating_add(i as u64))?;
     }
-    figure_of(spans, 1, start.elapsed(rt)?.as_nanos())
+    watch.stop(rt, spans.len() as u64)
 }
 
 /// Adds each of the spans to a copy of the page, which is then dropped.
 fn add_to_copies(rt: &HostRuntime, page: &Page, spans: &[Span]) -> Result<Figure> {
-    let start = Instant::now(rt)?;
+    let watch = Watch::start(rt)?;
     for span in spans {
         let mut copy = page.try_copy()?;
         add_at(&mut copy, span, u64::from(u32::MAX))?;
     }
-    figure_of(spans, 1, start.elapsed(rt)?.as_nanos())
+    watch.stop(rt, spans.len() as u64)
 }
 
 /// Adds a span at a wall time.
 fn add_at(page: &mut Page, span: &Span, wall: u64) -> Result<()> {
-    let time = Timestamp::new(wall, 0).context("no time")?;
-    let is_added = !span.is_empty() && page.try_add(span, Value::unowned(time))?;
+    let value = value_at(wall)?;
+    let is_added = !span.is_empty() && page.try_add(span, value)?;
     ensure!(is_added, "an Add of an empty span, or without room");
     Ok(())
 }
 
-/// What `turns` operations at each of the spans took.
-pub fn figure_of(spans: &[Span], turns: u32, nanoseconds: u128) -> Result<Figure> {
-    Ok(Figure {
-        operations: (spans.len() as u64).saturating_mul(u64::from(turns)),
-        nanoseconds: u64::try_from(nanoseconds)?,
-    })
+/// The value of a wall time, which has no owner.
+pub fn value_at(wall: u64) -> Result<Value> {
+    let time = Timestamp::new(wall, 0).context("no time")?;
+    Ok(Value::unowned(time))
 }

@@ -1,122 +1,177 @@
 ghost use Rattle.std.specs.Prelude.{◌≡◌, ◌≤◌, IfOk, All};
 
 use crate::caches::filled;
-use crate::measure::{Figure, Keys, PLACES, ROUNDS, keep_least};
+use crate::calls::{AddTimes, Calls, add_shared, call_plain, call_seat};
+use crate::measure::{Figure, Keys, PLACES};
+use crate::spread::Spread;
+use crate::watch::Watch;
 use anyhow::{Context, Result, bail, ensure};
-use std::alloc::{AllocError, Global};
+use std::alloc::{AllocError, AllocGlobal, Global};
 use std::sync::Wait;
 use std::thread::{Threads, map_vec};
-use std::time::Instant;
-use tsc_cache::{Cache, Config};
+use std::time::Clock;
+use tsc_cache::Config;
 use tsc_shared::{Seat, SharedCache};
 use tsc_span::Span;
-use tsc_time::{Timestamp, Value, ratchet};
+use tsc_time::Timestamp;
 
-/// How many seats are measured, each in a thread of its own.
-pub const SEATS: [u32; 2] = [1, 4];
-
-/// How many of 100 calls are lookups; the others are Adds.
-pub const LOOKUPS: [u64; 2] = [50, 95];
-
-/// Multiplied by this, the numbers of 100 calls in a row spread the lookups among them.
-const SPREAD: u64 = 37;
-
-/// The calls of one seat.
+/// What is measured: seats that make calls at one full page that they share, each in a thread of its own.
 #[derive(Clone, Copy)]
-struct Calls {
-    number: u64,
-    lookups: u64,
+pub struct Trial {
+    /// How many nodes the page has.
+    pub nodes: u32,
+    /// How many seats make calls.
+    pub seats: u32,
+    /// How many further seats the cache has, which make none.
+    pub idle: u32,
+    /// What each makes.
+    pub calls: Calls,
 }
 
-impl Calls {
-    /// Whether the call of this number is a lookup.
-    fn is_lookup(self, call: u64) -> bool {
-        call.wrapping_mul(SPREAD) % 100 < self.lookups
+impl Trial {
+    /// How many calls all seats make.
+    pub fn operations(self) -> u64 {
+        self.calls.number.saturating_mul(u64::from(self.seats))
+    }
+
+    /// How many are made in a second; or how many nanoseconds an Add takes, where no call is a lookup.
+    fn unit(self, figure: Figure) -> u64 {
+        if self.calls.lookups == 0 {
+            figure.each()
+        } else {
+            figure.per_second()
+        }
     }
 }
 
-/// Fills a page of a shared cache, and has each of some seats go over [`PLACES`] places `turns` times; then
-/// has one thread do the same to a cache of its own, in [`ROUNDS`] rounds. Gives what the seats took and what the
-/// one thread did. The threads are those of `rt`.
-pub fn measure_shared<R: Threads + Wait + Sync>(
-    host: &HostRuntime,
+/// What the rounds of a trial came to.
+#[derive(Clone, Copy)]
+pub struct Sharing {
+    /// At the shared cache, how many calls in a second; or how many nanoseconds an Add took, where all are Adds.
+    pub shared: Spread,
+    /// The same of one thread, with as many calls to a cache of its own.
+    pub alone: Spread,
+    /// The first as a percentage of the second, each in the same round.
+    pub percents: Spread,
+}
+
+/// Makes a trial's calls in so many rounds, at the shared cache and then at the one of a single thread, with new
+/// caches each time.
+pub fn measure_shared<R: Threads + Wait + Sync + Clock + AllocGlobal>(
     rt: &R,
-    nodes: u32,
-    seats: u32,
-    lookups: u64,
-    turns: u32,
-) -> Result<[Figure; 2]>
-    requires at_least { 64 ≤ nodes }
+    trial: Trial,
+    rounds: u32,
+) -> Result<Sharing>
+    requires { 64 ≤ trial.nodes }
 {
-    let keys = Keys::new(nodes, 0, &[]).spans(host.alloc(), PLACES, 0)?;
-    let calls = Calls {
-        number: u64::from(PLACES) * u64::from(turns),
-        lookups,
-    };
-    let mut least = [Figure::NONE; 2];
-    for _ in 0..ROUNDS {
-        let shared = by_seats(host, rt, nodes, seats, &keys, calls)?;
-        let plain = by_one(host, nodes, seats, &keys, calls)?;
-        keep_least(&mut least, &[shared, plain]);
+    let spans = Keys::new(trial.nodes, 0, &[]).spans(rt.alloc(), PLACES, 0)?;
+    let mut all = Rounds::new(rt.alloc());
+    for _ in 0..rounds {
+        let shared = trial.unit(by_seats(rt, trial, &spans)?);
+        let alone = trial.unit(by_one(rt, trial, &spans)?);
+        all.push(shared, alone)?;
     }
-    Ok(least)
+    all.end()
+}
+
+/// What each of some rounds came to.
+#[derive(Drop)]
+struct Rounds {
+    shared: Vec<u64>,
+    alone: Vec<u64>,
+    percents: Vec<u64>,
+}
+
+impl Rounds {
+    /// None.
+    fn new(alloc: Global) -> Rounds {
+        Rounds {
+            shared: Vec::new(alloc),
+            alone: Vec::new(alloc),
+            percents: Vec::new(alloc),
+        }
+    }
+
+    /// One more.
+    fn push(&mut self, shared: u64, alone: u64) -> Result<()> {
+        self.shared.push(shared)?;
+        self.alone.push(alone)?;
+        self.percents
+            .push(shared.saturating_mul(100) / alone.max(1))?;
+        Ok(())
+    }
+
+    /// What they came to.
+    fn end(self) -> Result<Sharing> {
+        Ok(Sharing {
+            shared: Spread::of(self.shared)?,
+            alone: Spread::of(self.alone)?,
+            percents: Spread::of(self.percents)?,
+        })
+    }
 }
 
 /// What the calls of all seats took.
-fn by_seats<R: Threads + Wait + Sync>(
-    host: &HostRuntime,
+fn by_seats<R: Threads + Wait + Sync + Clock + AllocGlobal>(
     rt: &R,
-    nodes: u32,
-    seats: u32,
+    trial: Trial,
     spans: &[Span],
-    calls: Calls,
 ) -> Result<Figure> {
-    let (shared, all) = filled_shared(rt, host.alloc(), nodes, seats)?;
-    let start = Instant::now(host)?;
-    let done = call_all(rt, &shared, all, spans, calls)?;
-    let took = start.elapsed(host)?.as_nanos();
-    ensure!(done.iter().all(|done| *done), "a call was refused");
-    Ok(Figure {
-        operations: calls.number.saturating_mul(u64::from(seats)),
-        nanoseconds: u64::try_from(took)?,
-    })
+    let (shared, seats) = open_filled(rt, rt.alloc(), trial)?;
+    let watch = Watch::start(rt)?;
+    let times = call_all(rt, &shared, seats, spans, trial.calls)?;
+    let figure = watch.stop(rt, trial.operations())?;
+    ensure!(times.iter().all(Option::is_some), "a call was refused");
+    Ok(figure)
 }
 
-/// What so many times these calls took on one thread.
-fn by_one(
-    rt: &HostRuntime,
-    nodes: u32,
-    times: u32,
-    spans: &[Span],
-    calls: Calls,
-) -> Result<Figure> {
-    let mut cache = filled(rt, nodes, 1, false)?;
-    let start = Instant::now(rt)?;
-    for _ in 0..times {
-        ensure!(call_plain(&mut cache, spans, calls), "a call was refused");
+/// What as many calls took on one thread.
+fn by_one<R: Clock + AllocGlobal>(rt: &R, trial: Trial, spans: &[Span]) -> Result<Figure> {
+    let mut cache = filled(rt.alloc(), trial.nodes, 1, false)?;
+    let watch = Watch::start(rt)?;
+    for _ in 0..trial.seats {
+        let met = call_plain(&mut cache, spans, trial.calls);
+        ensure!(met == Some(true), "a call was refused");
     }
-    Ok(Figure {
-        operations: calls.number.saturating_mul(u64::from(times)),
-        nanoseconds: u64::try_from(start.elapsed(rt)?.as_nanos())?,
-    })
+    watch.stop(rt, trial.operations())
 }
 
-/// A shared cache with a full page, and seats that nobody has used.
-fn filled_shared<R: Wait>(
+/// How long the Adds took of all seats together.
+pub fn measure_adds<R: Threads + Wait + Sync + Clock + AllocGlobal>(
     rt: &R,
-    alloc: Global,
-    nodes: u32,
-    seats: u32,
-) -> Result<(SharedCache, Vec<Seat>)>
+    trial: Trial,
+) -> Result<AddTimes>
+    requires { 64 ≤ trial.nodes }
+{
+    let spans = Keys::new(trial.nodes, 0, &[]).spans(rt.alloc(), PLACES, 0)?;
+    let (shared, seats) = open_filled(rt, rt.alloc(), trial)?;
+    sum_of(&call_all(rt, &shared, seats, &spans, trial.calls)?).context("a call was refused")
+}
+
+/// What the Adds of all took, if none of their calls was refused.
+fn sum_of(times: &[Option<AddTimes>]) -> Option<AddTimes> {
+    let mut all = AddTimes::NONE;
+    for one in times {
+        all = all.and((*one)?);
+    }
+    Some(all)
+}
+
+/// A shared cache with a full page, and the seats that are to make calls. The idle ones are dropped, which leaves
+/// their places in the cache.
+fn open_filled<R: Wait>(rt: &R, alloc: Global, trial: Trial) -> Result<(SharedCache, Vec<Seat>)>
     ensures { IfOk result (λ made. All (λ seat. seat.cache ≡ made.0) made.1.items) }
 {
-    let config = Config::new(nodes, 1, 0, Timestamp::ZERO)?;
-    let (shared, mut all) = SharedCache::open(alloc, config, seats.saturating_add(1), u64::MAX)?;
-    let Some(filler) = all.pop() else {
+    let config = Config::new(trial.nodes, 1, 0, Timestamp::ZERO)?;
+    let number = trial.seats.saturating_add(trial.idle);
+    let (shared, mut seats) = SharedCache::open(alloc, config, number, u64::MAX)?;
+    seats.truncate(trial.seats as usize);
+    let Some(mut filler) = seats.pop() else {
         bail!("no seat");
     };
-    fill(rt, alloc, &shared, filler, nodes)?;
-    Ok((shared, all))
+    fill(rt, alloc, &shared, &mut filler, trial.nodes)?;
+    seats.push(filler)?;
+    Ok((shared, seats))
 }
 
 /// Adds the keys of a page from the least on.
@@ -124,118 +179,35 @@ fn fill<R: Wait>(
     rt: &R,
     alloc: Global,
     shared: &SharedCache,
-    mut seat: Seat,
+    seat: &mut Seat,
     nodes: u32,
 ) -> Result<()>
-    requires seat { seat.cache ≡ shared.now }
+    requires { seat.old.cache ≡ shared.now }
+    ensures { seat.new.cache ≡ seat.old.cache }
 {
-    let time = Timestamp::new(1, 0).context("no time")?;
+    let keys = Keys::new(nodes, 0, &[]);
     for place in 0..u64::from(nodes) {
-        let span = Span::point(Keys::new(nodes, 0, &[]).key(alloc, place)?);
-        add_at(rt, shared, &mut seat, &span, time)?;
+        let added = add_shared(rt, shared, seat, &keys.span(alloc, place, 0)?, 1);
+        ensure!(added.is_some(), "an Add was refused");
     }
     Ok(())
 }
 
-/// Adds a span at a time.
-fn add_at<R: Wait>(
-    rt: &R,
-    shared: &SharedCache,
-    seat: &mut Seat,
-    span: &Span,
-    time: Timestamp,
-) -> Result<()>
-    requires seat { seat.old.cache ≡ shared.now }
-    ensures { seat.new.cache ≡ seat.old.cache }
-{
-    let added = shared.add(rt, seat, span, Value::unowned(time), Timestamp::ZERO);
-    ensure!(added.is_ok(), "an Add was refused");
-    Ok(())
-}
-
-/// Has each seat make its calls in a thread of its own, and tells of each whether all were answered.
-fn call_all<R: Threads + Wait + Sync>(
+/// Has each seat make its calls in a thread of its own, and gives what each tells.
+fn call_all<R: Threads + Wait + Sync + Clock>(
     rt: &R,
     shared: &SharedCache,
     seats: Vec<Seat>,
     spans: &[Span],
     calls: Calls,
-) -> Result<Vec<bool>, AllocError>
-    requires seats { All (λ seat. seat.cache ≡ shared.now) seats.items }
+) -> Result<Vec<Option<AddTimes>>, AllocError>
+    requires { All (λ seat. seat.cache ≡ shared.now) seats.items }
 {
     map_vec(
         rt,
         seats,
-        &|seat: Seat| -> bool
+        &|seat: Seat| -> Option<AddTimes>
             requires { seat.cache ≡ shared.now }
-        { call_shared(rt, shared, seat, spans, calls) },
+        { call_seat(rt, shared, seat, spans, calls) },
     )
-}
-
-/// Makes the calls of a seat, and tells whether all were answered.
-fn call_shared<R: Wait>(
-    rt: &R,
-    shared: &SharedCache,
-    mut seat: Seat,
-    spans: &[Span],
-    calls: Calls,
-) -> bool
-    requires seat { seat.cache ≡ shared.now }
-{
-    let mut latest = Value::unowned(Timestamp::ZERO);
-    for call in 0..calls.number {
-        let Some(value) = one_shared(rt, shared, &mut seat, spans, calls, call) else {
-            return false;
-        };
-        latest = ratchet(latest, value).0;
-    }
-    Timestamp::ZERO < latest.time()
-}
-
-/// One call of a seat, and the value that it had or added.
-fn one_shared<R: Wait>(
-    rt: &R,
-    shared: &SharedCache,
-    seat: &mut Seat,
-    spans: &[Span],
-    calls: Calls,
-    call: u64,
-) -> Option<Value>
-    requires seat { seat.old.cache ≡ shared.now }
-    ensures { seat.new.cache ≡ seat.old.cache }
-{
-    let span = spans.get((call % u64::from(PLACES)) as usize)?;
-    if calls.is_lookup(call) {
-        return Some(shared.get_max(seat, span).ok()?.value);
-    }
-    let value = Value::unowned(Timestamp::new(call.saturating_add(1), 0)?);
-    match shared.add(rt, seat, span, value, Timestamp::ZERO) {
-        Ok(_receipt) => Some(value),
-        Err(_fault) => None,
-    }
-}
-
-/// Makes the same calls to a cache that is not shared.
-fn call_plain(cache: &mut Cache, spans: &[Span], calls: Calls) -> bool {
-    let mut latest = Value::unowned(Timestamp::ZERO);
-    for call in 0..calls.number {
-        let Some(value) = one_plain(cache, spans, calls, call) else {
-            return false;
-        };
-        latest = ratchet(latest, value).0;
-    }
-    Timestamp::ZERO < latest.time()
-}
-
-/// One of them, and the value that it had or added.
-fn one_plain(cache: &mut Cache, spans: &[Span], calls: Calls, call: u64) -> Option<Value> {
-    let span = spans.get((call % u64::from(PLACES)) as usize)?;
-    if calls.is_lookup(call) {
-        return Some(cache.get_max(span));
-    }
-    let value = Value::unowned(Timestamp::new(call.saturating_add(1), 0)?);
-    match cache.add(span, value, Timestamp::ZERO) {
-        Ok(_added) => Some(value),
-        Err(_fault) => None,
-    }
 }

@@ -2,7 +2,8 @@ ghost use Rattle.std.specs.Prelude.{◌≤◌};
 
 use crate::caches::{filled, look_up};
 use crate::measure::{Figure, Keys, PLACES, WIDTH};
-use anyhow::{Context, Result};
+use crate::spread::Spread;
+use anyhow::Result;
 use tsc_cache::Cache;
 use tsc_span::Span;
 
@@ -11,18 +12,6 @@ pub const MANY: u32 = 17;
 
 /// What is looked up, and how many nodes wide it is.
 pub const STOPPING: [(&str, u32); 2] = [("lookup of a key", 0), ("lookup of 16 nodes", WIDTH)];
-
-/// What lookups that stop at the newest of [`MANY`] pages took, as a percentage of those in a single page, in
-/// several rounds.
-#[derive(Clone, Copy)]
-pub struct Stops {
-    /// The round in which they took least beside the others.
-    pub least: u64,
-    /// The round in the middle.
-    pub median: u64,
-    /// The round in which they took most.
-    pub greatest: u64,
-}
 
 /// Two caches whose front pages have the same number of nodes, and what is looked up in each.
 #[derive(Drop)]
@@ -33,15 +22,16 @@ struct Pair {
     in_many: Vec<Span>,
 }
 
-/// Looks up spans in both caches turn by turn, in so many rounds. Each round makes both caches anew, and
-/// every second round the larger one first, since it matters where in memory a page lies.
+/// Looks up spans in both caches turn by turn, in so many rounds, and gives what lookups that stop at the newest of
+/// [`MANY`] pages took as a percentage of those in a single page. Each round makes both caches anew, and every
+/// second round the larger one first, since it matters where in memory a page lies.
 pub fn measure_stops(
     rt: &HostRuntime,
     nodes: u32,
     width: u32,
     rounds: u32,
     turns: u32,
-) -> Result<Stops>
+) -> Result<Spread>
     requires at_least { 64 ≤ nodes }
     requires width { width ≤ 16 }
 {
@@ -50,17 +40,7 @@ pub fn measure_stops(
         let pair = make_pair(rt, nodes, width, round % 2 == 0)?;
         percents.push(compare(rt, &pair, turns)?)?;
     }
-    percents.sort_unstable();
-    stops_of(&percents)
-}
-
-/// The least, the one in the middle and the greatest of percentages in their order.
-fn stops_of(percents: &[u64]) -> Result<Stops> {
-    Ok(Stops {
-        least: *percents.first().context("no round")?,
-        median: *percents.get(percents.len() / 2).context("no round")?,
-        greatest: *percents.last().context("no round")?,
-    })
+    Spread::of(percents)
 }
 
 /// Fills both caches, the single page first or last.
@@ -71,11 +51,11 @@ fn make_pair(rt: &HostRuntime, nodes: u32, width: u32, single_first: bool) -> Re
     let in_single = Keys::new(nodes, 0, &[]).spans(rt.alloc(), PLACES, width)?;
     let in_many = Keys::new(nodes, MANY - 1, &[]).spans(rt.alloc(), PLACES, width)?;
     let (single, many) = if single_first {
-        let single = filled(rt, nodes, 1, true)?;
-        (single, filled(rt, nodes, MANY, true)?)
+        let single = filled(rt.alloc(), nodes, 1, true)?;
+        (single, filled(rt.alloc(), nodes, MANY, true)?)
     } else {
-        let many = filled(rt, nodes, MANY, true)?;
-        (filled(rt, nodes, 1, true)?, many)
+        let many = filled(rt.alloc(), nodes, MANY, true)?;
+        (filled(rt.alloc(), nodes, 1, true)?, many)
     };
     Ok(Pair {
         single,

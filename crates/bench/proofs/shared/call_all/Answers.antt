@@ -1,26 +1,31 @@
 use denote.RattleType.{RattleType}
 use denote.Ref.{ShrRef}
 use denote.Param.{param}
-use denote.Param.Send.{IsSync, sendable, shr_sync}
+use denote.Param.Send.{IsSend, IsSync, sendable, shr_sync}
 use mir.Syntax.{Lifetime}
 use base.Fml.{Lft}
 use Rattle.std.proofs.Crossing.{crosses}
 use Rattle.tsc_cache.proofs.Crossing.{span_syncs}
 use Rattle.tsc_shared.proofs.Crossing.{seat_sends, shared_cache_syncs}
-use Rattle.bench.specs.contracts.shared.Calls.{the_row as calls}
+use Rattle.bench.specs.contracts.calls.AddTimes.{the_row as times}
+use Rattle.bench.specs.contracts.calls.Calls.{the_row as calls}
 use Rattle.bench.proofs.shared.call_all.Goals as goal
 
 calls_syncs : IsSync calls
 calls_syncs = search (sendable, crosses) depth 20
 
+times_send : IsSend times
+times_send = search (sendable, crosses) depth 20
+
 -- a borrowed handle may be shared
 handle_syncs : (R : RattleType) → IsSync (param 0 R) → (ℓ : Lifetime) (κ : Lft) → IsSync (ShrRef ℓ κ (param 0 R))
 handle_syncs R s ℓ κ = shr_sync ℓ κ (param 0 R) s
 
--- src/shared.rt:154:5
 pub map_vec-requires-send-J : goal.map_vec-requires-send-J
 map_vec-requires-send-J g c κs within = search (sendable, crosses, seat_sends) depth 20
 
--- src/shared.rt:154:5
+pub map_vec-requires-send-X : goal.map_vec-requires-send-X
+map_vec-requires-send-X g c κs within = search (sendable, crosses, times_send) depth 20
+
 pub map_vec-requires-sync-F : goal.map_vec-requires-sync-F
 map_vec-requires-sync-F g c κs within = search (sendable, crosses, handle_syncs g.row.R c.type_bounds.sync-R, shared_cache_syncs, span_syncs, calls_syncs) depth 20
