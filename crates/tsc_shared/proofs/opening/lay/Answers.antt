@@ -1,5 +1,4 @@
-use Rattle.std.proofs.Common.{◌∙◌, ap, ◌++◌, ◌∷◌, replicate, arith, ◌≡◌}
-use Rattle.tsc_shared.specs.declared.board.Slot.TheVariants.{Empty}
+use Rattle.std.proofs.Common.{arith}
 use Rattle.tsc_shared.proofs.Openings.{line_more, line_full}
 use Rattle.tsc_shared.proofs.opening.lay.Goals as goal
 
@@ -10,4 +9,4 @@ pub loop-beside-preserved : goal.loop-beside-preserved
 loop-beside-preserved c = line_more c.args.slots.now.items c.loop-beside.slots.items c.push-in-loop-beside.new.self.items c.args.slot c.loop-beside._beside c.loop-beside.invariant c.in_ok-push-2.ensures.items
 
 pub returns : goal.returns
-returns c = ?
+returns c = line_full c.args.slots.now.items c.loop-beside.slots.items c.args.slot c.loop-beside._beside c.loop-beside.invariant (omega (arith, c.loop-beside.auto._beside-end, c.loop-beside-test.false))
