@@ -22,8 +22,8 @@ pub use nodes::Nodes;
 pub use number::{KeyNumber, NumberedCut, NumberedKey};
 pub use plain::PlainPage;
 
-/// How many different end keys a page may hold at the least: those of one range.
-pub const LEAST_NODES: u32 = 2;
+/// How many bytes a page may have at the least.
+pub const LEAST_SIZE: u32 = 64;
 
-/// How many different end keys a page may hold at the most.
-pub const MOST_NODES: u32 = 65_536;
+/// How many bytes a page may have at the most.
+pub const MOST_SIZE: u32 = 1_073_741_824;
