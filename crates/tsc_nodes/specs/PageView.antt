@@ -1,5 +1,5 @@
 -- What can be seen of a page, and which list of marks it stands for.
-use Rattle.std.specs.Prelude.{◌≡◌, ℕ, ◌≤◌, List, [], ◌∷◌, ◌++◌, nat_le, Bool, false, not, Option, Some, None}
+use Rattle.std.specs.Prelude.{◌≡◌, ℕ, ◌≤◌, List, [], ◌∷◌, ◌++◌, nat_le, Bool, false, not, Option, Some, None, if◌then◌else◌}
 use Rattle.std.specs.List.{list_any}
 use Rattle.std.specs.Str.{bytes_eq}
 use Rattle.tsc_time.specs.Time.{Time, zero_time, is_before}
@@ -51,6 +51,11 @@ has_room_for v span = nat_le (cost_distinct (v.keys ++ end_keys span)) v.size
 -- what can be seen of a page that keeps the list itself, without leaves
 abbrev pub view_of : PageMarks → PageView
 view_of p = record { size = p.size; top = top p; keys = marked_keys p.marks; spans = p.marks; leaves = [] }
+
+-- what a key weighs, where this is one and not in a list
+abbrev pub new_weight : (KeyBytes → ℕ) → List KeyBytes → Option KeyBytes → ℕ
+new_weight weight ks None = 0
+new_weight weight ks (Some k) = if is_in k ks then 0 else weight k
 
 -- whether this is a key, and not in a list
 abbrev pub is_new_among : List KeyBytes → Option KeyBytes → Bool
