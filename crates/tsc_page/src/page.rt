@@ -1,109 +1,104 @@
-ghost use Rattle.std.specs.Prelude.{sum, slice_get, ◌≡◌, ◌≤◌, ◌||◌, ◌∷◌, [], true, false, IsOk, IfOk, OnOk, OnErr, if◌then◌else◌};
+ghost use Rattle.std.specs.Prelude.{◌≡◌, ◌≤◌, ◌*◌, nat_le, ◌||◌, ◌∷◌, [], true, false, IsOk, IfOk, OnOk, OnErr, if◌then◌else◌};
 ghost use Rattle.tsc_time.specs.Joint.{joint, joint_above};
 ghost use Rattle.tsc_time.specs.Time.{zero_time, is_before, later};
-ghost use Rattle.tsc_span.specs.Span.{KeyBytes, Interval, is_empty_span, overlaps, end_keys};
-ghost use Rattle.tsc_nodes.specs.declared.TheConstants.{LEAST_NODES, MOST_NODES};
-ghost use Rattle.tsc_nodes.specs.Page.{PageMarks, Mark, empty_page, with_mark, top, values_on, marked_keys, count_distinct, has_room};
-ghost use Rattle.tsc_nodes.specs.PageView.{AreLeafSizes, StandsFor, NoAnswerAboveTop, answer, is_in, has_room_for};
+ghost use Rattle.tsc_span.specs.Span.{KeyBytes, Interval, is_empty_span, overlaps, end_keys, span_cost};
+ghost use Rattle.tsc_nodes.specs.declared.TheConstants.{LEAST_SIZE, MOST_SIZE};
+ghost use Rattle.tsc_nodes.specs.Page.{PageMarks, Mark, empty_page, with_mark, top, values_on, marked_keys, count_distinct, cost_distinct, has_room};
+ghost use Rattle.tsc_nodes.specs.PageView.{StandsFor, NoAnswerAboveTop, answer, is_in, bytes_of, has_room_for};
 
-use crate::leaves::Leaves;
 use std::alloc::Global;
 use std::marker::Model;
-use tsc_span::{Key, Span};
+use tsc_nodes::PlainPage;
+use tsc_span::Span;
 use tsc_time::{NoMemory, Timestamp, Value};
 
-/// One page of the cache: what was added to it, as sorted nodes.
+/// One page of the cache.
 ///
-/// A page holds a bounded number of different end keys, and answers a lookup by its nodes alone. So its
-/// cost does not depend on how many spans were added.
+/// It stands in for a page of leaves until that one is measured in bytes: it keeps the plain list.
 #[derive(Debug, Drop)]
 pub struct Page {
-    page_nodes: u32,
-    top: Timestamp,
-    leaves: Leaves,
+    plain: PlainPage,
 }
 
 impl Model for Page {
-    ghost use Rattle.std.specs.Prelude.{length, ◌≤◌};
-    ghost use Rattle.tsc_nodes.specs.declared.TheConstants.{MOST_NODES};
-    ghost use Rattle.tsc_nodes.specs.PageView.{PageView, NoAnswerAboveTop};
-    ghost use Rattle.tsc_nodes.specs.Nodes.{page_of};
-    ghost use Rattle.tsc_page.specs.Leaves.{leaf_sizes};
-    ghost use Rattle.tsc_page.specs.LeafParts.{leaves_of, all_nodes, AreCounted};
+    ghost use Rattle.tsc_nodes.specs.PageView.{PageView};
 
     ghost Value = { PageView };
 
-    ghost view = { λ p. page_of p.page_nodes p.top (all_nodes p.leaves) (leaf_sizes (leaves_of p.leaves)) };
-
-    ghost invariant = { λ p. AreCounted p.leaves × (length (all_nodes p.leaves) ≤ p.page_nodes) × (p.page_nodes ≤ MOST_NODES) × NoAnswerAboveTop (page_of p.page_nodes p.top (all_nodes p.leaves) (leaf_sizes (leaves_of p.leaves))) };
+    ghost view = { λ p. p.plain };
 }
 
 impl Page {
-    /// An empty page, which has room for `page_nodes` different end keys, from [`LEAST_NODES`](crate::LEAST_NODES)
-    /// to [`MOST_NODES`](crate::MOST_NODES). `base` is the least that its top can be. It takes no memory until something is added,
-    /// so it cannot answer that memory is wanting.
-    pub fn new(alloc: Global, page_nodes: u32, base: Timestamp) -> Result<Page, NoMemory>
-        requires at_least { LEAST_NODES ≤ page_nodes }
-        requires at_most { page_nodes ≤ MOST_NODES }
-        ensures stands { IfOk result (λ page. StandsFor page (empty_page base)) }
-        ensures limit { IfOk result (λ page. page.page_nodes ≡ page_nodes) }
-        ensures room { IfOk result (λ page. (span : Interval) → has_room_for page span ≡ true) }
+    /// An empty page of a size in bytes, from [`LEAST_SIZE`](crate::LEAST_SIZE) to [`MOST_SIZE`](crate::MOST_SIZE). `base` is
+    /// the least that its top can be. It takes no memory until something is added, so it cannot answer that memory is
+    /// wanting.
+    pub fn new(alloc: Global, size: u32, base: Timestamp) -> Result<Page, NoMemory>
+        requires at_least { LEAST_SIZE ≤ size }
+        requires at_most { size ≤ MOST_SIZE }
+        ensures stands { IfOk result (λ page. StandsFor page (empty_page size base)) }
+        ensures room { IfOk result (λ page. (span : Interval) → has_room_for page span ≡ nat_le (span_cost span) size) }
         ensures memory { IsOk result }
     {
         Ok(Page {
-            page_nodes,
-            top: base,
-            leaves: Leaves::new(alloc),
+            plain: PlainPage::new(alloc, size, base)?,
         })
     }
 
-    /// Whether the page has room for a span: whether the end keys of all that was added and of the span,
-    /// counted without repeats, are no more than it may hold. It costs a search for each end key.
+    /// How many bytes the page may have.
+    pub fn size(&self) -> u32
+        ensures value { result ≡ self.now.size }
+        ensures stands { (p : PageMarks) → StandsFor self.now p → result ≡ p.size }
+        ensures least { LEAST_SIZE ≤ result }
+        ensures most { result ≤ MOST_SIZE }
+    {
+        self.plain.size()
+    }
+
+    /// What the end keys of all that was added cost together, each of them once: for each as many bytes as it has, and
+    /// 32 more. It compares each end key with all others.
+    pub fn bytes(&self) -> u32
+        ensures value { result ≡ bytes_of self.now }
+        ensures stands { (p : PageMarks) → StandsFor self.now p → result ≡ cost_distinct (marked_keys p.marks) }
+        ensures most { result ≤ self.now.size }
+    {
+        self.plain.bytes()
+    }
+
+    /// Whether the page has room for a span: whether the end keys of all that was added and of the span, each of them
+    /// once, cost no more than the page's size. It compares each end key with all others.
     pub fn room(&self, span: &Span) -> bool
         ensures value { result ≡ has_room_for self.now span.now }
-        ensures stands { (p : PageMarks) → StandsFor self.now p → result ≡ has_room self.now.page_nodes p span.now }
+        ensures stands { (p : PageMarks) → StandsFor self.now p → result ≡ has_room p span.now }
     {
-        let (first, second) = span.end_keys();
-        self.leaves.len() + self.leaves.new_among(first, second) <= self.page_nodes as usize
+        self.plain.room(span)
     }
 
     /// Adds a span with its value. The span is not empty, and the page has room for it. Where memory is
-    /// refused the page is as before, and so are its leaves.
-    ///
-    /// Where no copy of the page shares the blocks and leaves that the span meets, nor the keys of a leaf that gets a
-    /// new one, and no leaf would come to have 65 nodes, they are changed in place. That costs a search among the
-    /// blocks, one among the leaves of a block and one for each end key in its leaf, a copy of each end key that is new
-    /// to the page, a move of a leaf's nodes above a new one, and a step for each node within the span; a span whose end
-    /// keys the page holds already takes no memory then. So it is for 256 leaves at the most. Any other Add copies the
-    /// list of blocks, and of the blocks and leaves themselves those that it changes; a leaf that comes to have 65 nodes
-    /// is cut into its first 32 and its last 33, and so is a block of 65 leaves.
+    /// refused the page is as before. It costs a copy of the span, and a move of all that was added where
+    /// the list has to grow.
     pub fn add(&mut self, span: &Span, value: Value) -> Result<(), NoMemory>
         requires not_empty { is_empty_span span.now ≡ false }
         requires room { has_room_for self.old span.now ≡ true }
         ensures stands { OnOk result ((p : PageMarks) → StandsFor self.old p
             → StandsFor self.new (with_mark p (record { span = span.now; value = value }))) }
-        ensures limit { self.new.page_nodes ≡ self.old.page_nodes }
+        ensures size { self.new.size ≡ self.old.size }
         ensures top { OnOk result (self.new.top ≡ later self.old.top value.time) }
         ensures keys { OnOk result ((k : KeyBytes) → is_in k self.new.keys ≡ (is_in k self.old.keys || is_in k (end_keys span.now))) }
         ensures answers { OnOk result ((s : Interval) → answer self.new s
             ≡ (if overlaps span.now s then joint (answer self.old s) (value ∷ []) else answer self.old s)) }
         ensures unchanged { OnErr result (self.new ≡ self.old) }
     {
-        self.try_add(span, value)?;
-        Ok(())
+        self.plain.add(span, value)
     }
 
     /// Adds a span with its value, where the page has room for it, and says whether it had. The span is not
     /// empty. Without room the page stays as it is, and where memory is refused.
-    ///
-    /// It costs what [`add`](Page::add) does, and no searches beside these but where an Add is not made in place: then
-    /// one more for each end key.
     pub fn try_add(&mut self, span: &Span, value: Value) -> Result<bool, NoMemory>
         requires not_empty { is_empty_span span.now ≡ false }
         ensures room { IfOk result (λ done. done ≡ has_room_for self.old span.now) }
         ensures stands { IfOk result (λ done. done ≡ true → (p : PageMarks) → StandsFor self.old p
             → StandsFor self.new (with_mark p (record { span = span.now; value = value }))) }
-        ensures limit { self.new.page_nodes ≡ self.old.page_nodes }
+        ensures size { self.new.size ≡ self.old.size }
         ensures top { IfOk result (λ done. done ≡ true → self.new.top ≡ later self.old.top value.time) }
         ensures keys { IfOk result (λ done. done ≡ true → (k : KeyBytes) → is_in k self.new.keys ≡ (is_in k self.old.keys || is_in k (end_keys span.now))) }
         ensures answers { IfOk result (λ done. done ≡ true → (s : Interval) → answer self.new s
@@ -111,31 +106,16 @@ impl Page {
         ensures full { IfOk result (λ done. done ≡ false → self.new ≡ self.old) }
         ensures unchanged { OnErr result (self.new ≡ self.old) }
     {
-        let Some((from, to)) = span.cuts() else {
-            return Ok(true);
-        };
-        let (first, second) = span.end_keys();
-        let most = self.page_nodes as usize;
-        if !self.leaves.try_add(first, second, from, to, value, most)? {
-            return Ok(false);
-        }
-        self.top = self.top.max(value.time());
-        Ok(true)
+        self.plain.try_add(span, value)
     }
 
-    /// The joint value of time zero without an owner and of all that was added and overlaps the span. It
-    /// costs a search among the leaves, one in each leaf that the span meets, and a step for each node within
-    /// the span. A search compares keys by their first twenty-four bytes, and reads what is behind these only
-    /// where they are the same.
+    /// The joint value of time zero without an owner and of all that was added and overlaps the span.
     pub fn lookup(&self, span: &Span) -> Value
         ensures value { result ≡ answer self.now span.now }
         ensures below_top { is_before self.now.top result.time ≡ false }
         ensures stands { (p : PageMarks) → StandsFor self.now p → result ≡ joint_above zero_time (values_on span.now p.marks) }
     {
-        match span.cuts() {
-            Some((from, to)) => self.leaves.joint_between(from, to),
-            None => Value::unowned(Timestamp::ZERO),
-        }
+        self.plain.lookup(span)
     }
 
     /// The greatest of the base and of the times that were added. No answer to a lookup is later.
@@ -144,40 +124,25 @@ impl Page {
         ensures covers { NoAnswerAboveTop self.now }
         ensures stands { (p : PageMarks) → StandsFor self.now p → result ≡ top p }
     {
-        self.top
+        self.plain.top()
     }
 
-    /// How many different end keys the page holds.
+    /// How many different end keys the page holds. It compares each with all others.
     pub fn nodes(&self) -> u32
         ensures value { result ≡ count_distinct self.now.keys }
         ensures stands { (p : PageMarks) → StandsFor self.now p → result ≡ count_distinct (marked_keys p.marks) }
-        ensures limit { result ≤ self.now.page_nodes }
+        ensures few { 32 * result ≤ self.now.size }
     {
-        self.leaves.len() as u32
+        self.plain.nodes()
     }
 
-    /// How many nodes a leaf has, from the first one in the order of keys on; `None` past the last. A page
-    /// keeps its nodes in leaves, each of 1 to 64, and copies of a page share those that are the same.
-    pub fn leaf_nodes(&self, i: u32) -> Option<u32>
-        ensures value { result ≡ slice_get self.now.leaves i }
-        ensures sizes { AreLeafSizes self.now.leaves }
-        ensures total { sum self.now.leaves ≡ count_distinct self.now.keys }
-    {
-        match self.leaves.leaf_len(i as usize) {
-            Some(len) => Some(len as u32),
-            None => None,
-        }
-    }
-
-    /// A copy of the page, which shares its leaves. It takes the memory of the list of their blocks.
+    /// A copy of the page. It takes as much memory as all that was added.
     pub fn try_copy(&self) -> Result<Page, NoMemory>
         ensures value { IfOk result (λ copy. copy ≡ self.now) }
         ensures stands { IfOk result (λ copy. (p : PageMarks) → StandsFor self.now p → StandsFor copy p) }
     {
         Ok(Page {
-            page_nodes: self.page_nodes,
-            top: self.top,
-            leaves: self.leaves.try_copy()?,
+            plain: self.plain.try_copy()?,
         })
     }
 }
