@@ -4,7 +4,7 @@ use Rattle.tsc_time.specs.Time.{zero_time}
 use Rattle.tsc_time.specs.OwnedTime.{unowned}
 use Rattle.tsc_span.specs.Span.{point}
 use Rattle.tsc_cache.specs.State.{CacheState, look, rotate}
-use Rattle.tsc_cache.proofs.ExampleSettings.{at, of_first, usual, tight, twenty, without_end, marks_at, page, Addition, add_points, state_after, answers, added}
+use Rattle.tsc_cache.proofs.ExampleSettings.{at, of_first, usual, tight, twenty, without_end, marks_at, page, small_page, Addition, add_points, state_after, answers, added}
 
 -- ---- a fifth key on a page of four
 
@@ -276,7 +276,7 @@ only_page_dropped = add_points (codes "ab") (of_first twenty) twenty ++ add_poin
 
 pub the_only_page_can_be_dropped :
     state_after tight only_page_dropped
-    ≡ record { floor = twenty; pages = page twenty (marks_at (codes "c") (of_first (at 40 0))) ∷ []; rotations = 1 }
+    ≡ record { floor = twenty; pages = small_page twenty (marks_at (codes "c") (of_first (at 40 0))) ∷ []; rotations = 1 }
 the_only_page_can_be_dropped = refl
 
 pub the_third_point_drops_the_only_page :
@@ -299,7 +299,7 @@ overtaken_by_the_floor = add_points (codes "ab") (of_first twenty) twenty ++ add
 
 pub the_floor_is_not_compared_again :
     state_after tight overtaken_by_the_floor
-    ≡ record { floor = twenty; pages = page twenty (marks_at (codes "c") (of_first (at 15 0))) ∷ []; rotations = 1 }
+    ≡ record { floor = twenty; pages = small_page twenty (marks_at (codes "c") (of_first (at 15 0))) ∷ []; rotations = 1 }
 the_floor_is_not_compared_again = refl
 
 pub a_mark_overtaken_by_the_floor_is_kept :
@@ -318,8 +318,8 @@ an_overtaken_mark_answers_the_floor = refl
 abbrev pub full_after : ℕ → CacheState
 full_after rotations = record { floor = at 5 0; pages = page zero_time (marks_at (codes "abcd") (of_first twenty)) ∷ []; rotations = rotations }
 
-pub a_rotation_is_counted : (rotate usual (full_after (2 ^ 64 - 2)) twenty).state.rotations ≡ 2 ^ 64 - 1
+pub a_rotation_is_counted : (rotate usual (full_after (2 ^ 64 - 2)) (point (codes "e")) twenty).state.rotations ≡ 2 ^ 64 - 1
 a_rotation_is_counted = refl
 
-pub the_count_of_rotations_stays_at_its_end : (rotate usual (full_after (2 ^ 64 - 1)) twenty).state.rotations ≡ 2 ^ 64 - 1
+pub the_count_of_rotations_stays_at_its_end : (rotate usual (full_after (2 ^ 64 - 1)) (point (codes "e")) twenty).state.rotations ≡ 2 ^ 64 - 1
 the_count_of_rotations_stays_at_its_end = refl

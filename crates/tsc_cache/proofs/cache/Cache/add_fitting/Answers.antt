@@ -8,13 +8,13 @@ use Rattle.tsc_cache.specs.Settings.{Settings}
 use Rattle.tsc_cache.specs.State.{CacheState, is_kept, step, kept_after_rotation}
 use Rattle.tsc_cache.specs.CacheView.{CacheView, StandsForState, RotatesWith, MarksFront, front_has_room_for}
 use Rattle.tsc_cache.specs.CacheParts.{pages_of}
-use Rattle.tsc_cache.specs.Stacks.{AreStacked, HaveLimit}
+use Rattle.tsc_cache.specs.Stacks.{AreStacked}
 use Rattle.tsc_cache.proofs.StatesSeen.{adds_stands, marks_adds, rotates_adds, marks_stacked, on_ok, if_ok}
-use Rattle.tsc_cache.proofs.cache.Cache.add.Goals as goal
+use Rattle.tsc_cache.proofs.cache.Cache.add_fitting.Goals as goal
 
 pub invariant_of-self-then-branch : goal.invariant_of-self-then-branch
 invariant_of-self-then-branch c =
-    marks_stacked c.self.inside.config.page_nodes (pages_of c.self.inside.pages) (pages_of c.mark_front.new.self) (record { span = c.args.span.now; value = c.args.value }) c.self.invariant (c.in_ok-mark_front.ensures.marked c.if-branch.true)
+    marks_stacked (pages_of c.self.inside.pages) (pages_of c.mark_front.new.self) (record { span = c.args.span.now; value = c.args.value }) c.self.invariant (c.in_ok-mark_front.ensures.marked c.if-branch.true)
 
 pub returns-then-branch-clause-stands : goal.returns-then-branch-clause-stands
 returns-then-branch-clause-stands c settings s stands =
@@ -60,4 +60,4 @@ returns-clause-added c =
     (λ a turned settings s stands. (adds_stands c.args.self.now c.rotate.new.self m c.args.now a (rotates_adds c.args.self.now c.rotate.new.self m c.args.now a kept room (c.rotate.ensures.settings ∙ ap (λ (v : CacheView). v.settings) same) turned) settings s stands).1)
 
 pub invariant_of-self-2 : goal.invariant_of-self-2
-invariant_of-self-2 c = subst (λ ps. AreStacked ps × HaveLimit c.self.inside.config.page_nodes ps) (sym (c.in_ok-mark_front.ensures.full c.if-branch.false)) c.self.invariant
+invariant_of-self-2 c = subst AreStacked (sym (c.in_ok-mark_front.ensures.full c.if-branch.false)) c.self.invariant
