@@ -1,6 +1,8 @@
 pub mod Joins
 pub mod LeafAnswers
 pub mod LeafLists
+pub mod Pending
+pub mod AllJoint
 pub mod LeafKeys
 pub mod LeafRaises
 pub mod LeafMakes

@@ -1,4 +1,5 @@
 pub mod Leaves
+pub mod Pending
 pub mod LeafParts
 pub use Rattle.tsc_time.specs.Time
 pub use Rattle.tsc_time.specs.Joint
