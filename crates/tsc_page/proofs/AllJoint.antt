@@ -8,7 +8,7 @@ use Rattle.tsc_time.proofs.RatchetOrder.{IsAtMost-itself, IsAtMost-transitive}
 use Rattle.tsc_span.specs.Span.{Cut, before, after, last, Interval, between, overlaps}
 use Rattle.tsc_nodes.specs.Nodes.{Node, node_stretches, IsSorted, raise_nodes}
 use Rattle.tsc_page.specs.Leaves.{start_of}
-use Rattle.tsc_page.specs.Pending.{everything, with_pending, joint_with, all_joint}
+use Rattle.tsc_page.specs.Pending.{everything, with_pending, seen_with, all_joint}
 use Rattle.tsc_nodes.proofs.CutOrder.{Lt, Le, Lt-or_Le, Lt-not_Le, Le_Lt-chain, before-after, below_last, none_above_last, overlaps-from}
 use Rattle.tsc_nodes.proofs.Cuts.{lowest}
 use Rattle.tsc_nodes.proofs.Edits.{raise_nodes-sorted}
@@ -115,6 +115,6 @@ starts_below_last (n ∷ ns) some = refl
 pub all_joint_whole : (v : OwnedTime) (ns : List Node) → IsSorted ns → 1 ≤ length ns → all_joint (raise_nodes everything v ns) ≡ joint (all_joint ns) (v ∷ [])
 all_joint_whole v ns sorted some = all_joint_raised (before []) last v ns sorted refl (starts_below_last ns some)
 
-pub all_joint_pending : (p : Option OwnedTime) (ns : List Node) → IsSorted ns → 1 ≤ length ns → all_joint (with_pending p ns) ≡ joint_with (all_joint ns) p
+pub all_joint_pending : (p : Option OwnedTime) (ns : List Node) → IsSorted ns → 1 ≤ length ns → all_joint (with_pending p ns) ≡ seen_with p true (all_joint ns)
 all_joint_pending None ns sorted some = refl
 all_joint_pending (Some v) ns sorted some = all_joint_whole v ns sorted some

@@ -10,7 +10,7 @@ use Rattle.tsc_span.specs.Span.{KeyBytes, Cut, before, after, last, Interval, be
 use Rattle.tsc_nodes.specs.PageView.{is_in}
 use Rattle.tsc_nodes.specs.Nodes.{Node, node_keys, node_stretches, IsSorted, answer_of, raise_nodes}
 use Rattle.tsc_page.specs.Leaves.{nodes_of, start_of}
-use Rattle.tsc_page.specs.Pending.{everything, with_pending, joined, joint_with}
+use Rattle.tsc_page.specs.Pending.{everything, with_pending, merged, seen_with}
 use Rattle.tsc_nodes.proofs.CutOrder.{Lt, Le, Lt-not_Le, Le-from_Lt, Le-itself, Lt-chain, Le-chain, Le_Lt-chain, before-after, below_last, none_above_last, overlaps-from}
 use Rattle.tsc_nodes.proofs.Cuts.{lowest, raise_nodes_answers}
 use Rattle.tsc_nodes.proofs.Edits.{raise_nodes-keys, raise_nodes-start, raise_nodes-length, raise_nodes-sorted}
@@ -66,7 +66,7 @@ raise_joint s v w (n ∷ ns) = same_first n.key _ _ _ _ _ _ (both_at_once n.valu
     gap = rw (raise_nodes-start s w ns) (both_at_once n.gap v w (overlaps (between (after n.key) (start_of ns)) s))
 
 -- so is one that joins what is pending
-pub raise_merged : (p : Option OwnedTime) (v : OwnedTime) (ns : List Node) → with_pending (joined p v) ns ≡ raise_nodes everything v (with_pending p ns)
+pub raise_merged : (p : Option OwnedTime) (v : OwnedTime) (ns : List Node) → with_pending (Some (merged p v)) ns ≡ raise_nodes everything v (with_pending p ns)
 raise_merged None v ns = refl
 raise_merged (Some w) v ns = raise_joint everything v w ns
 
@@ -172,13 +172,10 @@ pub pending_below : (p : Option OwnedTime) (f t : Cut) (ns : List Node) → IsSo
 pending_below p f t ns sorted high = answer_below f t (with_pending p ns) (pending-sorted p ns sorted) (subst (λ (c : Cut). Le t c) (sym (pending-start p ns)) high)
 
 -- so what is pending joins an answer just where the span reaches where they begin
-pub pending_answer : (p : Option OwnedTime) (f t : Cut) (ns : List Node) → IsSorted ns → Lt f t → Lt (start_of ns) t → answer_of (with_pending p ns) (between f t) ≡ joint_with (answer_of ns (between f t)) p
-pending_answer None f t ns sorted up reaches = refl
-pending_answer (Some v) f t ns sorted up reaches = raised_answer f t v ns sorted up reaches
-
-pub pending_answers : (p : Option OwnedTime) (f t : Cut) (ns : List Node) → IsSorted ns → Lt f t → answer_of (with_pending p ns) (between f t) ≡ cond (is_below (start_of ns) t) (joint_with (answer_of ns (between f t)) p) (answer_of ns (between f t))
-pending_answers p f t ns sorted up = by (is_below (start_of ns) t) refl
+pub pending_answer : (p : Option OwnedTime) (f t : Cut) (ns : List Node) → IsSorted ns → Lt f t → answer_of (with_pending p ns) (between f t) ≡ seen_with p (is_below (start_of ns) t) (answer_of ns (between f t))
+pending_answer None f t ns sorted up = refl
+pending_answer (Some v) f t ns sorted up = by (is_below (start_of ns) t) refl
   where
-    by : (b : Bool) → is_below (start_of ns) t ≡ b → answer_of (with_pending p ns) (between f t) ≡ cond b (joint_with (answer_of ns (between f t)) p) (answer_of ns (between f t))
-    by true h = pending_answer p f t ns sorted up h
-    by false h = pending_below p f t ns sorted h ∙ sym (answer_below f t ns sorted h)
+    by : (b : Bool) → is_below (start_of ns) t ≡ b → answer_of (raise_nodes everything v ns) (between f t) ≡ cond b (joint (answer_of ns (between f t)) (v ∷ [])) (answer_of ns (between f t))
+    by true h = raised_answer f t v ns sorted up h
+    by false h = pending_below (Some v) f t ns sorted h ∙ sym (answer_below f t ns sorted h)
