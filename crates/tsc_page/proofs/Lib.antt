@@ -3,6 +3,8 @@ pub mod LeafAnswers
 pub mod LeafLists
 pub mod Pending
 pub mod AllJoint
+pub mod Told
+pub mod PartLoops
 pub mod LeafKeys
 pub mod LeafRaises
 pub mod LeafMakes
