@@ -192,7 +192,7 @@ none_below c t None up lies = refl
 none_below c t (Some k) up lies = rw (not_low c t k up lies) refl
 
 -- and the first key of one that begins before them is
-all_below : (ys : List Node) (f : Cut) (o : Option KeyBytes) → Lt f (start_of ys) → LiesAt o f → key_below (start_of ys) o ≡ o
+pub all_below : (ys : List Node) (f : Cut) (o : Option KeyBytes) → Lt f (start_of ys) → LiesAt o f → key_below (start_of ys) o ≡ o
 all_below ys f None low lies = refl
 all_below ys f (Some k) low lies = rw (known_low ys f (Some k) low lies k refl) refl
 
