@@ -11,6 +11,8 @@ pub mod Told
 pub mod PartLoops
 pub mod PartSizes
 pub mod PartAdds
+pub mod PartLists
+pub mod Weights
 pub mod Blocks
 pub mod BlockAdds
 pub mod BlockPlaces

@@ -1,5 +1,6 @@
 pub mod Leaves
 pub mod Pending
+pub mod Copies
 pub mod LeafParts
 pub use Rattle.tsc_time.specs.Time
 pub use Rattle.tsc_time.specs.Joint
