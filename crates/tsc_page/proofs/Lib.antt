@@ -13,7 +13,4 @@ pub mod PartSizes
 pub mod PartAdds
 pub mod PartLists
 pub mod Weights
-pub mod Blocks
-pub mod BlockAdds
-pub mod BlockPlaces
 pub mod Refusals

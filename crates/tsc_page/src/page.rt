@@ -6,7 +6,7 @@ ghost use Rattle.tsc_nodes.specs.declared.TheConstants.{LEAST_NODES, MOST_NODES}
 ghost use Rattle.tsc_nodes.specs.Page.{PageMarks, Mark, empty_page, with_mark, top, values_on, marked_keys, count_distinct, has_room};
 ghost use Rattle.tsc_nodes.specs.PageView.{AreLeafSizes, StandsFor, NoAnswerAboveTop, answer, is_in, has_room_for};
 
-use crate::leaves::Leaves;
+use crate::tree::Tree;
 use std::alloc::Global;
 use std::marker::Model;
 use tsc_span::{Key, Span};
@@ -20,7 +20,7 @@ use tsc_time::{NoMemory, Timestamp, Value};
 pub struct Page {
     page_nodes: u32,
     top: Timestamp,
-    leaves: Leaves,
+    tree: Tree,
 }
 
 impl Model for Page {
@@ -28,14 +28,13 @@ impl Model for Page {
     ghost use Rattle.tsc_nodes.specs.declared.TheConstants.{MOST_NODES};
     ghost use Rattle.tsc_nodes.specs.PageView.{PageView, NoAnswerAboveTop};
     ghost use Rattle.tsc_nodes.specs.Nodes.{page_of};
-    ghost use Rattle.tsc_page.specs.Leaves.{leaf_sizes};
-    ghost use Rattle.tsc_page.specs.LeafParts.{leaves_of, all_nodes, AreCounted};
+    ghost use Rattle.tsc_page.specs.Trees.{tree_nodes, tree_sizes, IsCounted};
 
     ghost Value = { PageView };
 
-    ghost view = { λ p. page_of p.page_nodes p.top (all_nodes p.leaves) (leaf_sizes (leaves_of p.leaves)) };
+    ghost view = { λ p. page_of p.page_nodes p.top (tree_nodes p.tree) (tree_sizes p.tree) };
 
-    ghost invariant = { λ p. AreCounted p.leaves × (length (all_nodes p.leaves) ≤ p.page_nodes) × (p.page_nodes ≤ MOST_NODES) × NoAnswerAboveTop (page_of p.page_nodes p.top (all_nodes p.leaves) (leaf_sizes (leaves_of p.leaves))) };
+    ghost invariant = { λ p. IsCounted p.tree × (length (tree_nodes p.tree) ≤ p.page_nodes) × (p.page_nodes ≤ MOST_NODES) × NoAnswerAboveTop (page_of p.page_nodes p.top (tree_nodes p.tree) (tree_sizes p.tree)) };
 }
 
 impl Page {
@@ -53,7 +52,7 @@ impl Page {
         Ok(Page {
             page_nodes,
             top: base,
-            leaves: Leaves::new(alloc),
+            tree: Tree::new(alloc),
         })
     }
 
@@ -64,7 +63,7 @@ impl Page {
         ensures stands { (p : PageMarks) → StandsFor self.now p → result ≡ has_room self.now.page_nodes p span.now }
     {
         let (first, second) = span.end_keys();
-        self.leaves.len() + self.leaves.new_among(first, second) <= self.page_nodes as usize
+        self.tree.len() + self.tree.new_among(first, second) <= self.page_nodes as usize
     }
 
     /// Adds a span with its value. The span is not empty, and the page has room for it. Where memory is
@@ -116,7 +115,7 @@ impl Page {
         };
         let (first, second) = span.end_keys();
         let most = self.page_nodes as usize;
-        if !self.leaves.try_add(first, second, from, to, value, most)? {
+        if !self.tree.try_add(first, second, from, to, value, most)? {
             return Ok(false);
         }
         self.top = self.top.max(value.time());
@@ -133,7 +132,7 @@ impl Page {
         ensures stands { (p : PageMarks) → StandsFor self.now p → result ≡ joint_above zero_time (values_on span.now p.marks) }
     {
         match span.cuts() {
-            Some((from, to)) => self.leaves.joint_between(from, to),
+            Some((from, to)) => self.tree.joint_between(from, to),
             None => Value::unowned(Timestamp::ZERO),
         }
     }
@@ -153,7 +152,7 @@ impl Page {
         ensures stands { (p : PageMarks) → StandsFor self.now p → result ≡ count_distinct (marked_keys p.marks) }
         ensures limit { result ≤ self.now.page_nodes }
     {
-        self.leaves.len() as u32
+        self.tree.len() as u32
     }
 
     /// How many nodes a leaf has, from the first one in the order of keys on; `None` past the last. A page
@@ -163,7 +162,7 @@ impl Page {
         ensures sizes { AreLeafSizes self.now.leaves }
         ensures total { sum self.now.leaves ≡ count_distinct self.now.keys }
     {
-        match self.leaves.leaf_len(i as usize) {
+        match self.tree.leaf_len(i as usize) {
             Some(len) => Some(len as u32),
             None => None,
         }
@@ -177,7 +176,7 @@ impl Page {
         Ok(Page {
             page_nodes: self.page_nodes,
             top: self.top,
-            leaves: self.leaves.try_copy()?,
+            tree: self.tree.try_copy()?,
         })
     }
 }
