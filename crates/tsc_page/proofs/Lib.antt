@@ -13,4 +13,5 @@ pub mod PartSizes
 pub mod PartAdds
 pub mod PartLists
 pub mod Weights
+pub mod Wholes
 pub mod Refusals

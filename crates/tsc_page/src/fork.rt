@@ -1,11 +1,9 @@
-ghost use Rattle.std.specs.Prelude.{◌≡◌, ◌≤◌, ◌∷◌, [], ◌++◌, length, map, take, drop, None, IfOk, OnOk, IfSome};
+ghost use Rattle.std.specs.Prelude.{◌≡◌, ◌≤◌, ◌++◌, length, map, take, drop, None, IfOk, OnOk, IfSome};
 ghost use Rattle.std.specs.List.{All};
-ghost use Rattle.std.specs.Arc.{arc_value};
-ghost use Rattle.std.specs.Option.{option_to_list};
 ghost use Rattle.tsc_nodes.specs.Nodes.{IsSorted};
 ghost use Rattle.tsc_page.specs.Leaves.{AreParts, HasNode, nodes_of};
-ghost use Rattle.tsc_page.specs.Pending.{with_pending, sizes_of};
-ghost use Rattle.tsc_page.specs.Trees.{fork_nodes, fork_sizes, AreFewParts, IsWholeFork, IsTold, items_in};
+ghost use Rattle.tsc_page.specs.Pending.{with_pending};
+ghost use Rattle.tsc_page.specs.Trees.{fork_nodes, fork_sizes, fork_copied, AreFewParts, IsWholeFork, IsForkCopy, IsTold, items_in};
 
 use crate::addition::Addition;
 use crate::parts;
@@ -33,7 +31,7 @@ impl<P: Part> Fork<P> {
         requires few { AreFewParts P.IsWhole parts.items }
         requires sorted { IsSorted (nodes_of (map P.nodes parts.items)) }
         ensures nodes { IfOk result (λ fork. fork_nodes P.nodes fork ≡ nodes_of (map P.nodes parts.items)) }
-        ensures whole { IfOk result (IsWholeFork P.nodes P.IsWhole) }
+        ensures whole { IfOk result (IsWholeFork P.nodes P.sizes P.IsWhole) }
     {
         Ok(Fork {
             summary: summary_of(&parts),
@@ -46,7 +44,7 @@ impl<P: Part> Fork<P> {
         requires whole { P.IsWhole part }
         requires sorted { IsSorted (P.nodes part) }
         ensures nodes { IfOk result (λ fork. fork_nodes P.nodes fork ≡ P.nodes part) }
-        ensures whole { IfOk result (IsWholeFork P.nodes P.IsWhole) }
+        ensures whole { IfOk result (IsWholeFork P.nodes P.sizes P.IsWhole) }
     {
         let mut parts = Vec::with_capacity(alloc, 1)?;
         parts.push(part)?;
@@ -56,7 +54,7 @@ impl<P: Part> Fork<P> {
 
 /// A clone shares the list of parts.
 impl<P: Part> Clone for Fork<P> {
-    ghost is_clone = { λ fork copy. (copy.summary ≡ fork.summary) × (arc_value copy.parts ≡ arc_value fork.parts) };
+    ghost is_clone = { IsForkCopy };
 
     fn clone(&self) -> Result<Fork<P>, AllocError> {
         Ok(Fork {
@@ -71,7 +69,7 @@ impl<P: Part> Part for Fork<P> {
 
     ghost sizes = { fork_sizes P.sizes };
 
-    ghost IsWhole = { IsWholeFork P.nodes P.IsWhole };
+    ghost IsWhole = { IsWholeFork P.nodes P.sizes P.IsWhole };
 
     fn starts_above(&self, cut: &NumberedCut<'_>) -> bool {
         match cut.is_below_number(&self.summary.start) {
@@ -144,11 +142,11 @@ impl<P: Part> Part for Fork<P> {
         made
     }
 
-    ghost some = { λ f is. ? };
+    ghost some = { λ f is. is.some };
 
-    ghost counted = { λ f is. ? };
+    ghost counted = { λ f is. is.sizes };
 
-    ghost copied = { λ f g same. ? };
+    ghost copied = { fork_copied P.nodes P.sizes P.IsWhole };
 }
 
 /// What is known of all nodes of parts over which nothing is pending.

@@ -1,9 +1,8 @@
-ghost use Rattle.std.specs.Prelude.{◌≡◌, ◌≤◌, ◌∷◌, ◌++◌, length, refl, IfOk, OnOk, IfSome};
-ghost use Rattle.std.specs.Arc.{arc_value};
+ghost use Rattle.std.specs.Prelude.{◌≡◌, ◌≤◌, ◌++◌, length, None, IfOk, OnOk, IfSome};
 ghost use Rattle.tsc_nodes.specs.Nodes.{IsSorted};
 ghost use Rattle.tsc_page.specs.Leaves.{IsLeaf, HasNode};
 ghost use Rattle.tsc_page.specs.Pending.{with_pending};
-ghost use Rattle.tsc_page.specs.Trees.{nodes_in, leaf_nodes, leaf_sizes, IsWholeLeaf, IsTold};
+ghost use Rattle.tsc_page.specs.Trees.{nodes_in, leaf_nodes, leaf_sizes, leaf_copied, IsWholeLeaf, IsLeafCopy, IsTold};
 
 use crate::addition::Addition;
 use crate::parts::Part;
@@ -40,7 +39,7 @@ impl Leaf {
 
 /// A clone shares the nodes.
 impl Clone for Leaf {
-    ghost is_clone = { λ leaf copy. (copy.summary ≡ leaf.summary) × (arc_value copy.nodes ≡ arc_value leaf.nodes) };
+    ghost is_clone = { IsLeafCopy };
 
     fn clone(&self) -> Result<Leaf, AllocError> {
         Ok(Leaf {
@@ -133,11 +132,11 @@ impl Part for Leaf {
         made
     }
 
-    ghost some = { λ l is. ? };
+    ghost some = { λ l is. is.some };
 
-    ghost counted = { λ l is. ? };
+    ghost counted = { λ l is. is.sizes };
 
-    ghost copied = { λ l m same. ? };
+    ghost copied = { leaf_copied };
 }
 
 /// What is known of nodes over which nothing is pending.
