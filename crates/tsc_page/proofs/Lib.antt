@@ -13,5 +13,6 @@ pub mod PartSizes
 pub mod PartAdds
 pub mod PartLists
 pub mod Weights
+pub mod TreeLists
 pub mod Wholes
 pub mod Refusals

@@ -1,6 +1,6 @@
 -- An Add in one of several parts, beyond which the span doesn't go on.
 use Rattle.std.proofs.Common.{◌≡◌, ◌⊎◌, ◌∙◌, refl, sym, ap, subst, Bool, true, false, cond, ℕ, suc, ◌<◌, ◌≤◌, List, [], ◌++◌, length, map, take, drop, get_or, set, arith}
-use Rattle.std.specs.Prelude.{Option, Some, None, Result, Ok, Err}
+use Rattle.std.specs.Prelude.{Option, Some, None, Result, Ok, Err, not}
 use Rattle.std.proofs.lemmas.List.{length-map, length-append, map-set}
 use Rattle.tsc_span.specs.Span.{KeyBytes, between, is_below}
 use Rattle.tsc_nodes.specs.Nodes.{Node, IsSorted, IsInOrder, IsNewKey, AddsNodes, raise_nodes}
@@ -11,6 +11,19 @@ use Rattle.tsc_page.proofs.Joins.{up_to_last}
 use Rattle.tsc_page.proofs.LeafLists.{parted_at, leaf_first, leaf_set, leaf_sorted, sorted_from, starts_low, ends_high, part_read}
 use Rattle.tsc_page.proofs.LeafAdds.{adds_left, adds_right, all_below, told_below}
 use Rattle.tsc_page.proofs.PartLoops.{same_by}
+
+-- an Add's keys lie at its cuts, and these are in order
+abbrev pub IsAddend : Addend → Type 0
+IsAddend a = Lt a.from a.to × LiesAt a.first a.from × LiesAt a.second a.to × IsInOrder a.first a.second
+
+-- what a test says where its opposite holds
+pub not_true : (b : Bool) → not b ≡ true → b ≡ false
+not_true true q = sym q
+not_true false q = refl
+
+pub not_false : (b : Bool) → not b ≡ false → b ≡ true
+not_false true q = refl
+not_false false q = sym q
 
 module _ {X : Type 0} (f : X → List Node) (xs : List X) (p : ℕ) (d y : X) (a : Addend) (some : AreSome (map f xs)) (sorted : IsSorted (nodes_of (map f xs))) (inside : p < length xs) (at : IsLeafAt (map f xs) a.from p)
     (up : Lt a.from a.to) (first : LiesAt a.first a.from) (second : LiesAt a.second a.to) (order : IsInOrder a.first a.second) (high : Le a.to (start_of (nodes_of (drop (suc p) (map f xs))))) where

@@ -1,14 +1,17 @@
 -- Lists of parts: copies of them, cut in two, and with a node more.
 use Rattle.std.proofs.Common.{◌≡◌, ◌∙◌, refl, sym, ap, subst, ℕ, zero, suc, List, [], ◌∷◌, ◌++◌, length, map, take, drop, append-nil, arith}
+use Rattle.std.specs.Prelude.{Option}
 use Rattle.std.specs.List.{All, AllZip}
 use Rattle.std.proofs.lemmas.List.{map-append, take-append-drop}
 use Rattle.tsc_time.specs.Time.{zero_time}
-use Rattle.tsc_time.specs.OwnedTime.{unowned}
-use Rattle.tsc_span.specs.Span.{KeyBytes}
-use Rattle.tsc_nodes.specs.Nodes.{Node, IsSorted, IsSplitAt, node_in_gap}
+use Rattle.tsc_time.specs.OwnedTime.{OwnedTime, unowned}
+use Rattle.tsc_span.specs.Span.{KeyBytes, Interval, between}
+use Rattle.tsc_nodes.specs.Nodes.{Node, IsSorted, IsInOrder, IsSplitAt, AddsNodes, node_in_gap}
 use Rattle.tsc_page.specs.Leaves.{nodes_of, AreParts, HasNode}
-use Rattle.tsc_page.specs.Pending.{sizes_of}
+use Rattle.tsc_page.specs.Pending.{sizes_of, Addend, AddsSome}
 use Rattle.tsc_page.specs.Copies.{IsSameAs}
+use Rattle.tsc_nodes.proofs.Edits.{raise_nodes-sorted}
+use Rattle.tsc_nodes.proofs.NewKeys.{makes_sorted}
 use Rattle.tsc_page.proofs.Joins.{sorted_left, sorted_right}
 use Rattle.tsc_page.proofs.LeafAdds.{nodes_append}
 use Rattle.tsc_page.proofs.LeafKeys.{made_first, has_node_splits}
@@ -87,6 +90,18 @@ one_part f x = append-nil (f x)
 -- nodes with that of a key are in order, in whatever parts they stand
 pub made_sorted : (old new : List Node) (k : KeyBytes) → IsSorted old → HasNode old new k → IsSorted new
 made_sorted old new k sorted made = (has_node_splits old new k sorted made).sorted
+
+-- an Add keeps the order
+pub adds_sorted : (old new : List Node) (o q : Option KeyBytes) (s : Interval) (v : OwnedTime) → IsSorted old → IsInOrder o q → AddsNodes old new o q s v → IsSorted new
+adds_sorted old new o q s v sorted order adds = subst IsSorted (sym adds.raised) (raise_nodes-sorted s v adds.mid (makes_sorted old adds.mid o q sorted order adds.made))
+
+-- what an Add makes of parts in order
+pub parts_added : {X : Type 0} (f : X → List Node) (Q : X → Type 0) (old new : List X) (a : Addend) (room more : ℕ) → AreParts f Q old → All Q new → IsInOrder a.first a.second → AddsSome (nodes_of (map f old)) (nodes_of (map f new)) a room more → AreParts f Q new
+parts_added f Q old new a room more parts all order adds = record { whole = all; sorted = adds_sorted (nodes_of (map f old)) (nodes_of (map f new)) a.first a.second (between a.from a.to) a.value parts.sorted order adds.adds }
+
+-- and others that stand for the same
+pub parts_kept : {X : Type 0} (f : X → List Node) (Q : X → Type 0) (old new : List X) → AreParts f Q old → All Q new → nodes_of (map f new) ≡ nodes_of (map f old) → AreParts f Q new
+parts_kept f Q old new parts all same = record { whole = all; sorted = subst IsSorted (sym same) parts.sorted }
 
 -- a node made in parts
 pub made_parts : {X : Type 0} (f : X → List Node) (Q : X → Type 0) (old new : List X) (k : KeyBytes) → IsSorted (nodes_of (map f old)) → All Q new → HasNode (nodes_of (map f old)) (nodes_of (map f new)) k

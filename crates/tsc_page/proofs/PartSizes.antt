@@ -4,6 +4,7 @@ use Rattle.std.specs.Prelude.{Option, Some, None, Ok, Err, slice_get, sum}
 use Rattle.std.specs.List.{All}
 use Rattle.std.proofs.lemmas.List.{length-append, take_more, take_all}
 use Rattle.std.proofs.lemmas.List.Sums.{sum_by-append}
+use Rattle.std.proofs.lemmas.Option.{slice_get_past}
 use Rattle.tsc_time.specs.OwnedTime.{OwnedTime}
 use Rattle.tsc_nodes.specs.PageView.{AreLeafSizes}
 use Rattle.tsc_nodes.specs.Nodes.{Node}
@@ -77,3 +78,10 @@ size_passed {X = X} s xs i place left rest x inside at told so_far =
 
 pub no_size_told : {X : Type 0} (s : X → List ℕ) (xs : List X) (i place left : ℕ) → length xs ≤ i → SizesSoFar s xs place i left → TellsSize (sizes_of (map s xs)) place (Err left)
 no_size_told {X = X} s xs i place left past so_far = so_far ∙ ap (λ (ys : List X). length (sizes_of (map s ys)) + left) (take_all i xs past)
+
+-- a place among all sizes
+pub size_found : (sizes : List ℕ) (place n : ℕ) → TellsSize sizes place (Ok n) → Some n ≡ slice_get sizes place
+size_found sizes place n told = sym told
+
+pub none_found : (sizes : List ℕ) (place rest : ℕ) → TellsSize sizes place (Err rest) → None ≡ slice_get sizes place
+none_found sizes place rest told = sym (slice_get_past sizes place (omega (arith, told)))

@@ -28,7 +28,7 @@ impl<'a> Model for Addition<'a> {
     ghost view = { λ a. record { first = option_map (λ k. k.now) a.first; second = option_map (λ k. k.now) a.second; from = a.from.now; to = a.to.now; value = a.value } };
 
     ghost invariant = { λ a. (is_below a.from.now a.to.now ≡ true) × LiesAt (option_map (λ k. k.now) a.first) a.from.now × LiesAt (option_map (λ k. k.now) a.second) a.to.now
-      × IsInOrder (option_map (λ k. k.now) a.first) (option_map (λ k. k.now) a.second) };
+        × IsInOrder (option_map (λ k. k.now) a.first) (option_map (λ k. k.now) a.second) };
 }
 
 impl<'a> Addition<'a> {
