@@ -7,7 +7,9 @@ use Rattle.std.specs.List.{All}
 use Rattle.tsc_time.specs.OwnedTime.{OwnedTime}
 use Rattle.tsc_span.specs.Span.{between}
 use Rattle.tsc_nodes.specs.Nodes.{Node, IsSorted, AddsNodes}
-use Rattle.tsc_page.specs.Leaves.{nodes_of, IsLeaf, HasNode}
+use Rattle.tsc_page.specs.Leaves.{nodes_of, IsLeaf, AreParts}
+use Rattle.std.proofs.lemmas.List.{length-append}
+use Rattle.tsc_page.proofs.Pending.{sorted_without}
 use Rattle.tsc_page.specs.Pending.{with_pending, IsToldOf, sizes_of, AreSizesOf, Addend, AddsSome, IsAddTold}
 use Rattle.tsc_page.specs.Trees.{IsTold, IsLeafOf, IsForkOf, AreFewParts}
 use Rattle.tsc_page.specs.declared.summary.Summary.{Summary}
@@ -52,3 +54,12 @@ pub leaf_added : {E : Type 0} (r : Result (Option ℕ) E) (old new : List Node) 
 leaf_added (Ok (Some more)) old new was now a room leaf few made = (omega (arith, leaf.0, made.count), omega (arith, few, made.count, made.within))
 leaf_added (Ok None) old new was now a room leaf few left = subst (λ (ns : List Node). IsLeaf ns) (sym left.0) leaf
 leaf_added (Err e) old new was now a room leaf few left = subst (λ (ns : List Node). IsLeaf ns) (sym left.0) leaf
+
+-- parts have nodes
+pub some_in : {P : Type 0} (nodes : P → List Node) (IsWhole : P → Type 0) (ps : List P) → ((p : P) → IsWhole p → 1 ≤ length (nodes p)) → AreFewParts IsWhole ps → 1 ≤ length (nodes_of (map nodes ps))
+some_in nodes IsWhole [] law parts = absurd (omega (arith, parts.some))
+some_in nodes IsWhole (p ∷ ps) law parts = let first = law p (parts.each 0 p (omega arith)) in omega (arith, first, length-append (nodes p) (nodes_of (map nodes ps)))
+
+-- parts in order, below a fork
+pub fork_parts : {P : Type 0} (nodes : P → List Node) (sizes : P → List ℕ) (IsWhole : P → Type 0) (s : Summary) (ps : List P) → IsForkOf nodes sizes IsWhole s ps → IsSorted (with_pending s.pending (nodes_of (map nodes ps))) → AreParts nodes IsWhole ps
+fork_parts nodes sizes IsWhole s ps whole sorted = record { whole = whole.parts.each; sorted = sorted_without s.pending (nodes_of (map nodes ps)) sorted }
