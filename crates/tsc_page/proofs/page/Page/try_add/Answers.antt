@@ -1,5 +1,5 @@
 -- The nodes are split at the span's ends, and then raised within it.
-use Rattle.std.proofs.Common.{◌∙◌, sym, ap, subst, ◌++◌, ◌||◌, ◌∷◌, [], cond, ◌≤◌, nat_le, List, length, arith}
+use Rattle.std.proofs.Common.{◌≡◌, ◌∙◌, sym, ap, subst, ◌++◌, ◌||◌, ◌∷◌, [], cond, ◌≤◌, nat_le, ℕ, List, length, arith}
 use Rattle.std.specs.Prelude.{Option, slice_get}
 use Rattle.std.specs.Ordering.{ord_max}
 use Rattle.std.proofs.lemmas.Bool.{le-leb}
@@ -10,12 +10,16 @@ use Rattle.tsc_span.specs.Cuts.{cut_of}
 use Rattle.tsc_nodes.specs.Page.{with_mark, count_distinct}
 use Rattle.tsc_nodes.specs.PageView.{PageView, StandsFor, NoAnswerAboveTop, answer, is_in, has_room_for}
 use Rattle.tsc_nodes.specs.Nodes.{Node, answer_of, node_keys, page_of}
-use Rattle.tsc_page.specs.Leaves.{nodes_of, leaf_sizes, LiesAt}
-use Rattle.tsc_page.specs.LeafParts.{leaves_of, all_nodes}
+use Rattle.tsc_page.specs.Leaves.{LiesAt}
+use Rattle.tsc_page.specs.Trees.{tree_nodes, tree_sizes}
 use Rattle.tsc_page.proofs.LeafAdds.{ends_lie}
 use Rattle.tsc_page.proofs.Refusals.{on_refusal}
 use Rattle.tsc_nodes.proofs.Standing.{later-max, added_length, added_keys, added_answers, added_covers, added_stands}
 use Rattle.tsc_page.proofs.page.Page.try_add.Goals as goal
+
+-- the same nodes in the same leaves look the same
+same_view : (limit : ℕ) (t : Time) (ns ms : List Node) (ss zs : List ℕ) → ns ≡ ms → ss ≡ zs → page_of limit t ns ss ≡ page_of limit t ms zs
+same_view limit t ns ms ss zs nodes sizes = ap (λ (os : List Node). page_of limit t os ss) nodes ∙ ap (page_of limit t ms) sizes
 
 pub try_add-requires-clause-keys : goal.try_add-requires-clause-keys
 try_add-requires-clause-keys c = c.end_keys.ensures.keys ∙ ap end_keys (sym c.in-Some.ensures.value)
@@ -39,43 +43,43 @@ pub invariant_of-self : goal.invariant_of-self
 invariant_of-self c =
     let same = c.in_err-try_add.ensures.unchanged in (
       c.in_err-try_add.ensures.counted,
-      subst (λ (ls : List (List Node)). length (nodes_of ls) ≤ c.self.inside.page_nodes) (sym same) c.self.invariant.1,
+      subst (λ (ns : List Node). length ns ≤ c.self.inside.page_nodes) (sym same.0) c.self.invariant.1,
       c.self.invariant.2,
-      subst (λ (ls : List (List Node)). NoAnswerAboveTop (page_of c.self.inside.page_nodes c.self.inside.top (nodes_of ls) (leaf_sizes ls))) (sym same) c.self.invariant.3,
+      subst (λ (v : PageView). NoAnswerAboveTop v) (sym (same_view c.self.inside.page_nodes c.self.inside.top _ _ _ _ same.0 same.1)) c.self.invariant.3,
     )
 
 pub returns-in_err-try_add-clause-unchanged : goal.returns-in_err-try_add-clause-unchanged
-returns-in_err-try_add-clause-unchanged c = on_refusal c.from_residual.result _ (ap (λ (ls : List (List Node)). page_of c.self.inside.page_nodes c.self.inside.top (nodes_of ls) (leaf_sizes ls)) c.in_err-try_add.ensures.unchanged ∙ c.self.view_is)
+returns-in_err-try_add-clause-unchanged c = on_refusal c.from_residual.result _ (same_view c.self.inside.page_nodes c.self.inside.top _ _ _ _ c.in_err-try_add.ensures.unchanged.0 c.in_err-try_add.ensures.unchanged.1 ∙ c.self.view_is)
 
 pub invariant_of-self-2 : goal.invariant_of-self-2
 invariant_of-self-2 c =
-    let old : List Node = all_nodes c.self.inside.leaves in
+    let old : List Node = tree_nodes c.self.inside.tree in
     let mid : List Node = (c.in_ok-try_add.ensures.added c.if-not-branch.false).mid in
     let f : Cut = cut_of c.in-Some.from in
     let t : Cut = cut_of c.in-Some.to in
     let split = (c.in_ok-try_add.ensures.added c.if-not-branch.false).split in
     let is = c.max-self-inside.ensures ∙ ap (ord_max time_cmp c.self.inside.top) c.time.ensures ∙ later-max c.self.inside.top c.args.value.time in
-    let covers = added_covers old mid f t c.in-Some.ensures.order c.args.value split (leaf_sizes (leaves_of c.self.inside.leaves)) (leaf_sizes (leaves_of c.try_add.new.self)) c.self.inside.page_nodes c.self.inside.top c.max-self-inside.result c.self.invariant.3 is in
-    let few : length (all_nodes c.try_add.new.self) ≤ c.self.inside.page_nodes = omega (arith, c.in_ok-try_add.ensures.within c.if-not-branch.false, c.in_ok-try_add.ensures.counted.count) in (
+    let covers = added_covers old mid f t c.in-Some.ensures.order c.args.value split (tree_sizes c.self.inside.tree) (tree_sizes c.try_add.new.self) c.self.inside.page_nodes c.self.inside.top c.max-self-inside.result c.self.invariant.3 is in
+    let few : length (tree_nodes c.try_add.new.self) ≤ c.self.inside.page_nodes = omega (arith, c.in_ok-try_add.ensures.within c.if-not-branch.false, c.in_ok-try_add.ensures.counted.count) in (
       c.in_ok-try_add.ensures.counted,
       few,
       c.self.invariant.2,
-      subst (λ (ns : List Node). NoAnswerAboveTop (page_of c.self.inside.page_nodes c.max-self-inside.result ns (leaf_sizes (leaves_of c.try_add.new.self)))) (sym (c.in_ok-try_add.ensures.added c.if-not-branch.false).raised) covers,
+      subst (λ (ns : List Node). NoAnswerAboveTop (page_of c.self.inside.page_nodes c.max-self-inside.result ns (tree_sizes c.try_add.new.self))) (sym (c.in_ok-try_add.ensures.added c.if-not-branch.false).raised) covers,
     )
 
 pub returns-clause-stands : goal.returns-clause-stands
 returns-clause-stands c e p stands =
-    let old : List Node = all_nodes c.self.inside.leaves in
+    let old : List Node = tree_nodes c.self.inside.tree in
     let mid : List Node = (c.in_ok-try_add.ensures.added c.if-not-branch.false).mid in
     let f : Cut = cut_of c.in-Some.from in
     let t : Cut = cut_of c.in-Some.to in
     let split = (c.in_ok-try_add.ensures.added c.if-not-branch.false).split in
     let after_it : Time = c.max-self-inside.result in
-    let view_at = λ (ns : List Node). page_of c.self.inside.page_nodes after_it ns (leaf_sizes (leaves_of c.try_add.new.self)) in
+    let view_at = λ (ns : List Node). page_of c.self.inside.page_nodes after_it ns (tree_sizes c.try_add.new.self) in
     let old_stands = subst (λ (v : PageView). StandsFor v p) (sym c.self.view_is) stands in
     let is = c.max-self-inside.ensures ∙ ap (ord_max time_cmp c.self.inside.top) c.time.ensures ∙ later-max c.self.inside.top c.args.value.time in
-    let done = added_stands old mid f t c.in-Some.ensures.order c.args.value split (leaf_sizes (leaves_of c.self.inside.leaves)) (leaf_sizes (leaves_of c.try_add.new.self)) c.self.inside.page_nodes c.self.inside.top after_it p old_stands is in
-    subst (λ (s : Interval). StandsFor (view_at (all_nodes c.try_add.new.self)) (with_mark p (record { span = s; value = c.args.value }))) c.in-Some.ensures.value
+    let done = added_stands old mid f t c.in-Some.ensures.order c.args.value split (tree_sizes c.self.inside.tree) (tree_sizes c.try_add.new.self) c.self.inside.page_nodes c.self.inside.top after_it p old_stands is in
+    subst (λ (s : Interval). StandsFor (view_at (tree_nodes c.try_add.new.self)) (with_mark p (record { span = s; value = c.args.value }))) c.in-Some.ensures.value
     (subst (λ (ns : List Node). StandsFor (view_at ns) (with_mark p (record { span = between f t; value = c.args.value }))) (sym (c.in_ok-try_add.ensures.added c.if-not-branch.false).raised) done)
 
 pub returns-clause-top : goal.returns-clause-top
@@ -84,7 +88,7 @@ returns-clause-top c e =
 
 pub returns-clause-keys : goal.returns-clause-keys
 returns-clause-keys c e k =
-    let old : List Node = all_nodes c.self.inside.leaves in
+    let old : List Node = tree_nodes c.self.inside.tree in
     let mid : List Node = (c.in_ok-try_add.ensures.added c.if-not-branch.false).mid in
     let f : Cut = cut_of c.in-Some.from in
     let t : Cut = cut_of c.in-Some.to in
@@ -94,7 +98,7 @@ returns-clause-keys c e k =
 
 pub returns-clause-answers : goal.returns-clause-answers
 returns-clause-answers c e s =
-    let old : List Node = all_nodes c.self.inside.leaves in
+    let old : List Node = tree_nodes c.self.inside.tree in
     let mid : List Node = (c.in_ok-try_add.ensures.added c.if-not-branch.false).mid in
     let f : Cut = cut_of c.in-Some.from in
     let t : Cut = cut_of c.in-Some.to in
@@ -105,7 +109,7 @@ returns-clause-answers c e s =
 
 pub returns-clause-room : goal.returns-clause-room
 returns-clause-room c =
-    let old : List Node = all_nodes c.self.inside.leaves in
+    let old : List Node = tree_nodes c.self.inside.tree in
     let added = c.in_ok-try_add.ensures.added c.if-not-branch.false in
     let f : Cut = cut_of c.in-Some.from in
     let t : Cut = cut_of c.in-Some.to in
