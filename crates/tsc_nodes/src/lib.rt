@@ -14,7 +14,7 @@
 //! A [`PlainPage`] is the same thing as the list of what was added: slow, and easy to believe.
 #![tactic(auto)]
 
-pub mod nodes;
+mod nodes;
 mod number;
 mod plain;
 

@@ -1,5 +1,7 @@
 pub mod Leaves
-pub mod LeafParts
+pub mod Pending
+pub mod Copies
+pub mod Trees
 pub use Rattle.tsc_time.specs.Time
 pub use Rattle.tsc_time.specs.Joint
 pub use Rattle.tsc_span.specs.Span

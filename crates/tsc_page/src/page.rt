@@ -6,7 +6,7 @@ ghost use Rattle.tsc_nodes.specs.declared.TheConstants.{LEAST_SIZE, MOST_SIZE};
 ghost use Rattle.tsc_nodes.specs.Page.{PageMarks, Mark, empty_page, with_mark, top, values_on, marked_keys, count_distinct, cost_distinct, has_room};
 ghost use Rattle.tsc_nodes.specs.PageView.{AreLeafSizes, StandsFor, NoAnswerAboveTop, answer, is_in, bytes_of, has_room_for, new_weight};
 
-use crate::leaves::Leaves;
+use crate::tree::Tree;
 use std::alloc::Global;
 use std::marker::Model;
 use tsc_nodes::MOST_NODES;
@@ -22,7 +22,7 @@ pub struct Page {
     size: u32,
     bytes: u32,
     top: Timestamp,
-    leaves: Leaves,
+    tree: Tree,
 }
 
 impl Model for Page {
@@ -31,15 +31,14 @@ impl Model for Page {
     ghost use Rattle.tsc_nodes.specs.declared.TheConstants.{LEAST_SIZE, MOST_SIZE};
     ghost use Rattle.tsc_nodes.specs.PageView.{PageView, NoAnswerAboveTop};
     ghost use Rattle.tsc_nodes.specs.Nodes.{node_keys, page_of};
-    ghost use Rattle.tsc_page.specs.Leaves.{leaf_sizes};
-    ghost use Rattle.tsc_page.specs.LeafParts.{leaves_of, all_nodes, AreCounted};
+    ghost use Rattle.tsc_page.specs.Trees.{tree_nodes, tree_sizes, IsCounted};
 
     ghost Value = { PageView };
 
-    ghost view = { λ p. page_of p.size p.top (all_nodes p.leaves) (leaf_sizes (leaves_of p.leaves)) };
+    ghost view = { λ p. page_of p.size p.top (tree_nodes p.tree) (tree_sizes p.tree) };
 
-    ghost invariant = { λ p. AreCounted p.leaves × (p.bytes ≡ cost_of (node_keys (all_nodes p.leaves))) × (p.bytes ≤ p.size) × (LEAST_SIZE ≤ p.size) × (p.size ≤ MOST_SIZE)
-        × NoAnswerAboveTop (page_of p.size p.top (all_nodes p.leaves) (leaf_sizes (leaves_of p.leaves))) };
+    ghost invariant = { λ p. IsCounted p.tree × (p.bytes ≡ cost_of (node_keys (tree_nodes p.tree))) × (p.bytes ≤ p.size) × (LEAST_SIZE ≤ p.size) × (p.size ≤ MOST_SIZE)
+        × NoAnswerAboveTop (page_of p.size p.top (tree_nodes p.tree) (tree_sizes p.tree)) };
 }
 
 impl Page {
@@ -57,7 +56,7 @@ impl Page {
             size,
             bytes: 0,
             top: base,
-            leaves: Leaves::new(alloc),
+            tree: Tree::new(alloc),
         })
     }
 
@@ -142,7 +141,7 @@ impl Page {
         if cost > self.size - self.bytes {
             return Ok(false);
         }
-        self.leaves
+        self.tree
             .try_add(first, second, from, to, value, MOST_NODES as usize)?;
         self.bytes += cost;
         self.top = self.top.max(value.time());
@@ -159,7 +158,7 @@ impl Page {
         ensures stands { (p : PageMarks) → StandsFor self.now p → result ≡ joint_above zero_time (values_on span.now p.marks) }
     {
         match span.cuts() {
-            Some((from, to)) => self.leaves.joint_between(from, to),
+            Some((from, to)) => self.tree.joint_between(from, to),
             None => Value::unowned(Timestamp::ZERO),
         }
     }
@@ -179,7 +178,7 @@ impl Page {
         ensures stands { (p : PageMarks) → StandsFor self.now p → result ≡ count_distinct (marked_keys p.marks) }
         ensures few { 32 * result ≤ self.now.size }
     {
-        self.leaves.len() as u32
+        self.tree.len() as u32
     }
 
     /// How many nodes a leaf has, from the first one in the order of keys on; `None` past the last. A page
@@ -189,7 +188,7 @@ impl Page {
         ensures sizes { AreLeafSizes self.now.leaves }
         ensures total { sum self.now.leaves ≡ count_distinct self.now.keys }
     {
-        match self.leaves.leaf_len(i as usize) {
+        match self.tree.leaf_len(i as usize) {
             Some(len) => Some(len as u32),
             None => None,
         }
@@ -204,7 +203,7 @@ impl Page {
             size: self.size,
             bytes: self.bytes,
             top: self.top,
-            leaves: self.leaves.try_copy()?,
+            tree: self.tree.try_copy()?,
         })
     }
 
@@ -214,7 +213,7 @@ impl Page {
         ensures most { result ≤ 4128 }
     {
         match key {
-            Some(key) if self.leaves.is_new(Some(key)) => key.cost(),
+            Some(key) if self.tree.is_new(Some(key)) => key.cost(),
             _ => 0,
         }
     }

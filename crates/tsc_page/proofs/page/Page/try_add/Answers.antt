@@ -11,14 +11,18 @@ use Rattle.tsc_nodes.specs.declared.TheConstants.{MOST_SIZE}
 use Rattle.tsc_nodes.specs.Page.{with_mark, cost_distinct}
 use Rattle.tsc_nodes.specs.PageView.{PageView, StandsFor, NoAnswerAboveTop, answer, is_in, has_room_for, new_weight}
 use Rattle.tsc_nodes.specs.Nodes.{Node, answer_of, node_keys, page_of}
-use Rattle.tsc_page.specs.Leaves.{nodes_of, leaf_sizes, LiesAt}
-use Rattle.tsc_page.specs.LeafParts.{leaves_of, all_nodes}
+use Rattle.tsc_page.specs.Leaves.{LiesAt}
+use Rattle.tsc_page.specs.Trees.{tree_nodes, tree_sizes}
 use Rattle.tsc_page.proofs.LeafAdds.{ends_lie}
 use Rattle.tsc_page.proofs.Refusals.{on_refusal}
-use Rattle.tsc_page.proofs.Weights.{node_costs, cost_with_ends, never_too_many}
+use Rattle.tsc_page.proofs.Costs.{node_costs, cost_with_ends, never_too_many}
 use Rattle.tsc_nodes.proofs.Edits.{raise_nodes-keys}
 use Rattle.tsc_nodes.proofs.Standing.{later-max, split_weight, added_keys, added_answers, added_covers, added_stands}
 use Rattle.tsc_page.proofs.page.Page.try_add.Goals as goal
+
+-- the same nodes in the same leaves look the same
+same_view : (size : ℕ) (t : Time) (ns ms : List Node) (ss zs : List ℕ) → ns ≡ ms → ss ≡ zs → page_of size t ns ss ≡ page_of size t ms zs
+same_view size t ns ms ss zs nodes sizes = ap (λ (os : List Node). page_of size t os ss) nodes ∙ ap (page_of size t ms) sizes
 
 pub try_add-requires-clause-keys : goal.try_add-requires-clause-keys
 try_add-requires-clause-keys c = c.end_keys.ensures.keys ∙ ap end_keys (sym c.in-Some.ensures.value)
@@ -36,65 +40,65 @@ try_add-requires-clause-second c =
     subst (λ (o : Option KeyBytes). LiesAt o t) (sym (c.end_keys.ensures.end ∙ ap (λ (s : Interval). slice_get (end_keys s) 1) (sym c.in-Some.ensures.value))) (ends_lie f t c.in-Some.ensures.order).1
 
 pub try_add-requires-clause-within : goal.try_add-requires-clause-within
-try_add-requires-clause-within c = omega (arith, c.self.invariant.0.count, node_costs (all_nodes c.self.inside.leaves), c.self.invariant.1, c.self.invariant.2, c.self.invariant.4)
+try_add-requires-clause-within c = omega (arith, c.self.invariant.0.count, node_costs (tree_nodes c.self.inside.tree), c.self.invariant.1, c.self.invariant.2, c.self.invariant.4)
 
 pub invariant_of-self : goal.invariant_of-self
 invariant_of-self c =
     let same = c.in_err-try_add.ensures.unchanged in (
       c.in_err-try_add.ensures.counted,
-      subst (λ (ls : List (List Node)). c.self.inside.bytes ≡ cost_of (node_keys (nodes_of ls))) (sym same) c.self.invariant.1,
+      subst (λ (ns : List Node). c.self.inside.bytes ≡ cost_of (node_keys ns)) (sym same.0) c.self.invariant.1,
       c.self.invariant.2,
       c.self.invariant.3,
       c.self.invariant.4,
-      subst (λ (ls : List (List Node)). NoAnswerAboveTop (page_of c.self.inside.size c.self.inside.top (nodes_of ls) (leaf_sizes ls))) (sym same) c.self.invariant.5,
+      subst (λ (v : PageView). NoAnswerAboveTop v) (sym (same_view c.self.inside.size c.self.inside.top _ _ _ _ same.0 same.1)) c.self.invariant.5,
     )
 
 pub returns-in_err-try_add-clause-unchanged : goal.returns-in_err-try_add-clause-unchanged
-returns-in_err-try_add-clause-unchanged c = on_refusal c.from_residual.result _ (ap (λ (ls : List (List Node)). page_of c.self.inside.size c.self.inside.top (nodes_of ls) (leaf_sizes ls)) c.in_err-try_add.ensures.unchanged ∙ c.self.view_is)
+returns-in_err-try_add-clause-unchanged c = on_refusal c.from_residual.result _ (same_view c.self.inside.size c.self.inside.top _ _ _ _ c.in_err-try_add.ensures.unchanged.0 c.in_err-try_add.ensures.unchanged.1 ∙ c.self.view_is)
 
 pub invariant_of-self-2 : goal.invariant_of-self-2
 invariant_of-self-2 c =
-    let old : List Node = all_nodes c.self.inside.leaves in
+    let old : List Node = tree_nodes c.self.inside.tree in
     let first : Option KeyBytes = option_map (λ k. k.now) c.end_keys.result.0 in
     let second : Option KeyBytes = option_map (λ k. k.now) c.end_keys.result.1 in
     let one = c.new_cost.ensures.value ∙ ap (λ (v : PageView). new_weight key_cost v.keys first) (sym c.self.view_is) in
     let two = c.new_cost-2.ensures.value ∙ ap (λ (v : PageView). new_weight key_cost v.keys second) (sym c.self.view_is) in
-    let sum = cost_with_ends old first second c.args.span.now c.self.inside.bytes c.new_cost.result c.new_cost-2.result c.self.invariant.0.leaves.sorted c.end_keys.ensures.keys c.self.invariant.1 one two in
+    let sum = cost_with_ends old first second c.args.span.now c.self.inside.bytes c.new_cost.result c.new_cost-2.result c.self.invariant.0.parts.sorted c.end_keys.ensures.keys c.self.invariant.1 one two in
     let f : Cut = cut_of c.in-Some.from in
     let t : Cut = cut_of c.in-Some.to in
     let ends = ap (λ (s : Interval). cost_distinct (node_keys old ++ end_keys s)) c.in-Some.ensures.value in
     let done = never_too_many _ (node_keys old ++ end_keys (between f t)) (omega (arith, sum, ends, c.if-cost-self.false, c.self.invariant.2, c.self.invariant.4)) c.in_ok-try_add.ensures.full in
     let added = c.in_ok-try_add.ensures.added done in
     let is = c.max-self-inside.ensures ∙ ap (ord_max time_cmp c.self.inside.top) c.time.ensures ∙ later-max c.self.inside.top c.args.value.time in
-    let covers = added_covers old added.mid f t c.in-Some.ensures.order c.args.value added.split (leaf_sizes (leaves_of c.self.inside.leaves)) (leaf_sizes (leaves_of c.try_add.new.self)) c.self.inside.size c.self.inside.top c.max-self-inside.result c.self.invariant.5 is in
+    let covers = added_covers old added.mid f t c.in-Some.ensures.order c.args.value added.split (tree_sizes c.self.inside.tree) (tree_sizes c.try_add.new.self) c.self.inside.size c.self.inside.top c.max-self-inside.result c.self.invariant.5 is in
     let weighs = ap (λ (ns : List Node). cost_of (node_keys ns)) added.raised ∙ ap cost_of (raise_nodes-keys (between f t) c.args.value added.mid) ∙ split_weight key_cost old added.mid (between f t) added.split in (
       c.in_ok-try_add.ensures.counted,
       omega (arith, sum, ends, weighs),
       omega (arith, c.if-cost-self.false, c.self.invariant.2),
       c.self.invariant.3,
       c.self.invariant.4,
-      subst (λ (ns : List Node). NoAnswerAboveTop (page_of c.self.inside.size c.max-self-inside.result ns (leaf_sizes (leaves_of c.try_add.new.self)))) (sym added.raised) covers,
+      subst (λ (ns : List Node). NoAnswerAboveTop (page_of c.self.inside.size c.max-self-inside.result ns (tree_sizes c.try_add.new.self))) (sym added.raised) covers,
     )
 
 pub returns-clause-stands : goal.returns-clause-stands
 returns-clause-stands c e p stands =
-    let old : List Node = all_nodes c.self.inside.leaves in
+    let old : List Node = tree_nodes c.self.inside.tree in
     let first : Option KeyBytes = option_map (λ k. k.now) c.end_keys.result.0 in
     let second : Option KeyBytes = option_map (λ k. k.now) c.end_keys.result.1 in
     let one = c.new_cost.ensures.value ∙ ap (λ (v : PageView). new_weight key_cost v.keys first) (sym c.self.view_is) in
     let two = c.new_cost-2.ensures.value ∙ ap (λ (v : PageView). new_weight key_cost v.keys second) (sym c.self.view_is) in
-    let sum = cost_with_ends old first second c.args.span.now c.self.inside.bytes c.new_cost.result c.new_cost-2.result c.self.invariant.0.leaves.sorted c.end_keys.ensures.keys c.self.invariant.1 one two in
+    let sum = cost_with_ends old first second c.args.span.now c.self.inside.bytes c.new_cost.result c.new_cost-2.result c.self.invariant.0.parts.sorted c.end_keys.ensures.keys c.self.invariant.1 one two in
     let f : Cut = cut_of c.in-Some.from in
     let t : Cut = cut_of c.in-Some.to in
     let ends = ap (λ (s : Interval). cost_distinct (node_keys old ++ end_keys s)) c.in-Some.ensures.value in
     let done = never_too_many _ (node_keys old ++ end_keys (between f t)) (omega (arith, sum, ends, c.if-cost-self.false, c.self.invariant.2, c.self.invariant.4)) c.in_ok-try_add.ensures.full in
     let added = c.in_ok-try_add.ensures.added done in
     let after_it : Time = c.max-self-inside.result in
-    let view_at = λ (ns : List Node). page_of c.self.inside.size after_it ns (leaf_sizes (leaves_of c.try_add.new.self)) in
+    let view_at = λ (ns : List Node). page_of c.self.inside.size after_it ns (tree_sizes c.try_add.new.self) in
     let old_stands = subst (λ (v : PageView). StandsFor v p) (sym c.self.view_is) stands in
     let is = c.max-self-inside.ensures ∙ ap (ord_max time_cmp c.self.inside.top) c.time.ensures ∙ later-max c.self.inside.top c.args.value.time in
-    let stood = added_stands old added.mid f t c.in-Some.ensures.order c.args.value added.split (leaf_sizes (leaves_of c.self.inside.leaves)) (leaf_sizes (leaves_of c.try_add.new.self)) c.self.inside.size c.self.inside.top after_it p old_stands is in
-    subst (λ (s : Interval). StandsFor (view_at (all_nodes c.try_add.new.self)) (with_mark p (record { span = s; value = c.args.value }))) c.in-Some.ensures.value
+    let stood = added_stands old added.mid f t c.in-Some.ensures.order c.args.value added.split (tree_sizes c.self.inside.tree) (tree_sizes c.try_add.new.self) c.self.inside.size c.self.inside.top after_it p old_stands is in
+    subst (λ (s : Interval). StandsFor (view_at (tree_nodes c.try_add.new.self)) (with_mark p (record { span = s; value = c.args.value }))) c.in-Some.ensures.value
     (subst (λ (ns : List Node). StandsFor (view_at ns) (with_mark p (record { span = between f t; value = c.args.value }))) (sym added.raised) stood)
 
 pub returns-clause-top : goal.returns-clause-top
@@ -103,12 +107,12 @@ returns-clause-top c e =
 
 pub returns-clause-keys : goal.returns-clause-keys
 returns-clause-keys c e k =
-    let old : List Node = all_nodes c.self.inside.leaves in
+    let old : List Node = tree_nodes c.self.inside.tree in
     let first : Option KeyBytes = option_map (λ k. k.now) c.end_keys.result.0 in
     let second : Option KeyBytes = option_map (λ k. k.now) c.end_keys.result.1 in
     let one = c.new_cost.ensures.value ∙ ap (λ (v : PageView). new_weight key_cost v.keys first) (sym c.self.view_is) in
     let two = c.new_cost-2.ensures.value ∙ ap (λ (v : PageView). new_weight key_cost v.keys second) (sym c.self.view_is) in
-    let sum = cost_with_ends old first second c.args.span.now c.self.inside.bytes c.new_cost.result c.new_cost-2.result c.self.invariant.0.leaves.sorted c.end_keys.ensures.keys c.self.invariant.1 one two in
+    let sum = cost_with_ends old first second c.args.span.now c.self.inside.bytes c.new_cost.result c.new_cost-2.result c.self.invariant.0.parts.sorted c.end_keys.ensures.keys c.self.invariant.1 one two in
     let f : Cut = cut_of c.in-Some.from in
     let t : Cut = cut_of c.in-Some.to in
     let ends = ap (λ (s : Interval). cost_distinct (node_keys old ++ end_keys s)) c.in-Some.ensures.value in
@@ -119,12 +123,12 @@ returns-clause-keys c e k =
 
 pub returns-clause-answers : goal.returns-clause-answers
 returns-clause-answers c e s =
-    let old : List Node = all_nodes c.self.inside.leaves in
+    let old : List Node = tree_nodes c.self.inside.tree in
     let first : Option KeyBytes = option_map (λ k. k.now) c.end_keys.result.0 in
     let second : Option KeyBytes = option_map (λ k. k.now) c.end_keys.result.1 in
     let one = c.new_cost.ensures.value ∙ ap (λ (v : PageView). new_weight key_cost v.keys first) (sym c.self.view_is) in
     let two = c.new_cost-2.ensures.value ∙ ap (λ (v : PageView). new_weight key_cost v.keys second) (sym c.self.view_is) in
-    let sum = cost_with_ends old first second c.args.span.now c.self.inside.bytes c.new_cost.result c.new_cost-2.result c.self.invariant.0.leaves.sorted c.end_keys.ensures.keys c.self.invariant.1 one two in
+    let sum = cost_with_ends old first second c.args.span.now c.self.inside.bytes c.new_cost.result c.new_cost-2.result c.self.invariant.0.parts.sorted c.end_keys.ensures.keys c.self.invariant.1 one two in
     let f : Cut = cut_of c.in-Some.from in
     let t : Cut = cut_of c.in-Some.to in
     let ends = ap (λ (s : Interval). cost_distinct (node_keys old ++ end_keys s)) c.in-Some.ensures.value in
@@ -136,22 +140,22 @@ returns-clause-answers c e s =
 
 pub returns-clause-room : goal.returns-clause-room
 returns-clause-room c =
-    let old : List Node = all_nodes c.self.inside.leaves in
+    let old : List Node = tree_nodes c.self.inside.tree in
     let first : Option KeyBytes = option_map (λ k. k.now) c.end_keys.result.0 in
     let second : Option KeyBytes = option_map (λ k. k.now) c.end_keys.result.1 in
     let one = c.new_cost.ensures.value ∙ ap (λ (v : PageView). new_weight key_cost v.keys first) (sym c.self.view_is) in
     let two = c.new_cost-2.ensures.value ∙ ap (λ (v : PageView). new_weight key_cost v.keys second) (sym c.self.view_is) in
-    let sum = cost_with_ends old first second c.args.span.now c.self.inside.bytes c.new_cost.result c.new_cost-2.result c.self.invariant.0.leaves.sorted c.end_keys.ensures.keys c.self.invariant.1 one two in
+    let sum = cost_with_ends old first second c.args.span.now c.self.inside.bytes c.new_cost.result c.new_cost-2.result c.self.invariant.0.parts.sorted c.end_keys.ensures.keys c.self.invariant.1 one two in
     let few : cost_distinct (node_keys old ++ end_keys c.args.span.now) ≤ c.self.inside.size = omega (arith, sum, c.if-cost-self.false, c.self.invariant.2) in
     sym (le-leb (cost_distinct (node_keys old ++ end_keys c.args.span.now)) c.self.inside.size few) ∙ ap (λ (v : PageView). has_room_for v c.args.span.now) c.self.view_is
 
 pub returns-then-cost-self-clause-room : goal.returns-then-cost-self-clause-room
 returns-then-cost-self-clause-room c =
-    let old : List Node = all_nodes c.self.inside.leaves in
+    let old : List Node = tree_nodes c.self.inside.tree in
     let first : Option KeyBytes = option_map (λ k. k.now) c.end_keys.result.0 in
     let second : Option KeyBytes = option_map (λ k. k.now) c.end_keys.result.1 in
     let one = c.new_cost.ensures.value ∙ ap (λ (v : PageView). new_weight key_cost v.keys first) (sym c.self.view_is) in
     let two = c.new_cost-2.ensures.value ∙ ap (λ (v : PageView). new_weight key_cost v.keys second) (sym c.self.view_is) in
-    let sum = cost_with_ends old first second c.args.span.now c.self.inside.bytes c.new_cost.result c.new_cost-2.result c.self.invariant.0.leaves.sorted c.end_keys.ensures.keys c.self.invariant.1 one two in
+    let sum = cost_with_ends old first second c.args.span.now c.self.inside.bytes c.new_cost.result c.new_cost-2.result c.self.invariant.0.parts.sorted c.end_keys.ensures.keys c.self.invariant.1 one two in
     let many : c.self.inside.size < cost_distinct (node_keys old ++ end_keys c.args.span.now) = omega (arith, sum, c.if-cost-self.true, c.self.invariant.2) in
     sym (lt-leb (cost_distinct (node_keys old ++ end_keys c.args.span.now)) c.self.inside.size many) ∙ ap (λ (v : PageView). has_room_for v c.args.span.now) c.self.view_is
