@@ -1,24 +1,28 @@
 -- A value raised over several parts, of which the first and the last are looked into.
-use Rattle.std.proofs.Common.{◌≡◌, ◌⊎◌, inl, inr, ◌∙◌, refl, sym, ap, subst, true, false, ℕ, ◌+◌, ◌≤◌, List, [], ◌∷◌, ◌++◌, length, append-nil, arith}
+use Rattle.std.proofs.Common.{◌≡◌, ◌⊎◌, inl, inr, ◌∙◌, refl, sym, ap, subst, Bool, true, false, cond, ℕ, zero, suc, ◌+◌, ◌<◌, ◌≤◌, List, [], ◌∷◌, ◌++◌, length, map, take, drop, get_or, append-nil, arith}
+use Rattle.std.proofs.Math.Bool.{or-true}
+use Rattle.std.proofs.lemmas.List.{append_assoc}
 use Rattle.std.specs.Prelude.{Option, Some, None}
 use Rattle.tsc_time.specs.OwnedTime.{OwnedTime}
 use Rattle.tsc_time.specs.Joint.{joint}
-use Rattle.tsc_span.specs.Span.{KeyBytes, Cut, before, after, last, Interval, between, is_below}
+use Rattle.tsc_span.specs.Span.{KeyBytes, Cut, before, after, last, between, is_below}
 use Rattle.tsc_nodes.specs.PageView.{is_in}
 use Rattle.tsc_nodes.specs.Nodes.{Node, node_keys, IsSorted, IsNewKey, raise_nodes}
 use Rattle.tsc_nodes.specs.Numbers.{IsCutNumber}
-use Rattle.tsc_page.specs.Leaves.{start_of, LiesAt}
+use Rattle.tsc_page.specs.Leaves.{nodes_of, AreSome, start_of, IsLeafAt, LiesAt}
 use Rattle.tsc_page.specs.Pending.{everything, with_pending, all_joint, IsToldOf, Addend, AddsSome}
-use Rattle.tsc_page.specs.Across.{HasKey, AreRaisedAcross}
-use Rattle.tsc_nodes.proofs.CutOrder.{Lt, Le, Lt-or_Le, Lt-not_Le, Le-from_Lt, Le-itself, Lt-chain, Le-chain, Le_Lt-chain, before-after, none_above_last}
+use Rattle.tsc_page.specs.Across.{HasKey, AreRaisedAcross, IsLastReached}
+use Rattle.tsc_nodes.proofs.CutOrder.{Lt, Le, Le-from_Lt, Le-itself, Lt-chain, Le-chain, Le_Lt-chain, Lt_Le-chain, before-after, none_above_last}
 use Rattle.tsc_nodes.proofs.Cuts.{lowest}
+use Rattle.tsc_nodes.proofs.Places.{before_or_past}
 use Rattle.tsc_nodes.proofs.Edits.{raise_nodes-start, raise_nodes-length}
 use Rattle.tsc_page.proofs.Joins.{sorted_left, sorted_right, below_next, up_to_last, raises_left, raises_right, raises_both}
+use Rattle.tsc_page.proofs.LeafLists.{leaf_first, sorted_from, start_at, start_past, some_nodes}
 use Rattle.tsc_page.proofs.LeafAdds.{known_high}
 use Rattle.tsc_page.proofs.LeafKeys.{is_in-append, known_within}
-use Rattle.tsc_page.proofs.Pending.{raise_pending, pending-start, pending-length}
-use Rattle.tsc_page.proofs.AllJoint.{all_joint_raised, starts_below_last}
-use Rattle.tsc_page.proofs.Told.{told_some}
+use Rattle.tsc_page.proofs.Pending.{raise_pending}
+use Rattle.tsc_page.proofs.AllJoint.{all_joint_raised}
+use Rattle.tsc_page.proofs.PartLists.{nodes_of_both}
 
 -- nodes begin no later than those that stand behind them
 pub starts_first : (xs ys : List Node) → IsSorted (xs ++ ys) → Le (start_of (xs ++ ys)) (start_of ys)
@@ -99,4 +103,73 @@ told_reached n all v p f t ns sorted up reaches told = record {
   some = omega (arith, told.some, raise_nodes-length (between f t) v ns);
   start = subst (IsCutNumber n) (sym (raise_nodes-start (between f t) v ns)) told.start;
   joint = ap (λ (w : OwnedTime). joint w (v ∷ [])) told.joint ∙ sym (all_joint_raised f t v (with_pending p ns) sorted up reaches) ∙ ap (λ (ms : List Node). all_joint ms) (sym (raise_pending p (between f t) v ns));
+}
+
+-- a key of the second of two lists is one of both
+pub has_right : (o : Option KeyBytes) (xs ys : List Node) → HasKey o ys → HasKey o (xs ++ ys)
+has_right None xs ys has = tt
+has_right (Some k) xs ys has = is_in-append k xs ys ∙ rw has (or-true (is_in k (node_keys xs)))
+
+-- the second key of a span, where it is handed on
+abbrev pub handed_on : Addend → Option KeyBytes → Addend
+handed_on a q = record { first = a.first; second = q; from = a.from; to = a.to; value = a.value }
+
+second_has : (a : Addend) (q : Option KeyBytes) (high behind : List Node) (b : Bool) → is_below a.to (start_of behind) ≡ b → q ≡ cond b a.second None → LiesAt a.second a.to → Le a.to (start_of behind) → HasKey q high → HasKey a.second (high ++ behind)
+second_has a q high behind true h is lies stops has = has_within a.second [] high behind (subst (λ (o : Option KeyBytes). HasKey o high) is has)
+second_has a q high behind false h is lies stops has = has_right a.second high behind (has_at_start a.second a.to behind lies stops h)
+
+-- An Add over several parts of one list, whose end keys have nodes in the first and in the last of them.
+pub told_over : (front low mid high behind new_low new_mid new_high : List Node) (a : Addend) (q : Option KeyBytes) (room : ℕ) → IsSorted (front ++ (low ++ (mid ++ (high ++ behind)))) → (front ≡ []) ⊎ Le (start_of (low ++ (mid ++ (high ++ behind)))) a.from
+    → Lt a.from (start_of (mid ++ (high ++ behind))) → Lt (start_of (high ++ behind)) a.to → Le a.to (start_of behind) → LiesAt a.second a.to → q ≡ cond (is_below a.to (start_of behind)) a.second None
+    → AreRaisedAcross low new_low high new_high (handed_on a q) → new_mid ≡ raise_nodes everything a.value mid → AddsSome (front ++ (low ++ (mid ++ (high ++ behind)))) (front ++ (new_low ++ (new_mid ++ (new_high ++ behind)))) a room 0
+told_over front low mid high behind new_low new_mid new_high a q room sorted start below reaches stops lies is told wholly = adds_known (front ++ (low ++ (mid ++ (high ++ behind)))) (front ++ (new_low ++ (new_mid ++ (new_high ++ behind)))) a room
+    (has_within a.first front low (mid ++ (high ++ behind)) told.first)
+    (has_right a.second front (low ++ (mid ++ (high ++ behind))) (has_right a.second low (mid ++ (high ++ behind)) (has_right a.second mid (high ++ behind) (second_has a q high behind (is_below a.to (start_of behind)) refl is lies stops told.second))))
+    (raised_over front low mid high behind new_low new_mid new_high a.from a.to a.value sorted start below reaches stops told.raised_low wholly told.raised_high)
+
+-- The same where the first stands in one list, and the last in another one behind it.
+pub told_two : (front low mid others high behind new_low new_mid new_others new_high : List Node) (a : Addend) (q : Option KeyBytes) → IsSorted (front ++ (low ++ mid)) → IsSorted (others ++ (high ++ behind)) → (front ≡ []) ⊎ Le (start_of (low ++ mid)) a.from
+    → Lt a.from (start_of mid) → Lt (start_of (high ++ behind)) a.to → Le a.to (start_of behind) → LiesAt a.second a.to → q ≡ cond (is_below a.to (start_of behind)) a.second None
+    → AreRaisedAcross low new_low high new_high (handed_on a q) → new_mid ≡ raise_nodes everything a.value mid → new_others ≡ raise_nodes everything a.value others
+    → AreRaisedAcross (front ++ (low ++ mid)) (front ++ (new_low ++ new_mid)) (others ++ (high ++ behind)) (new_others ++ (new_high ++ behind)) a
+told_two front low mid others high behind new_low new_mid new_others new_high a q low_sorted high_sorted start below reaches stops lies is told wholly all = record {
+  first = has_within a.first front low mid told.first;
+  second = has_right a.second others (high ++ behind) (second_has a q high behind (is_below a.to (start_of behind)) refl is lies stops told.second);
+  raised_low = raised_from front low mid new_low new_mid a.from a.value low_sorted start below told.raised_low wholly;
+  raised_high = raised_up_to others high behind new_others new_high a.to a.value high_sorted reaches stops all told.raised_high;
+}
+
+-- the nodes of parts in two lists, with one of each by itself
+pub parted_over : {X : Type 0} (f : X → List Node) (xs ys : List X) (p : ℕ) (d e : X) → p < length xs → 1 ≤ length ys
+    → nodes_of (map f (xs ++ ys)) ≡ nodes_of (map f (take p xs)) ++ (f (get_or xs p d) ++ (nodes_of (map f (drop (suc p) xs)) ++ (f (get_or ys 0 e) ++ nodes_of (map f (drop 1 ys)))))
+parted_over f [] ys p d e inside some = absurd (omega (arith, inside))
+parted_over f xs [] p d e inside some = absurd (omega (arith, some))
+parted_over f (x ∷ xs) (y ∷ ys) zero d e inside some = ap (λ (ns : List Node). f x ++ ns) (nodes_of_both f xs (y ∷ ys))
+parted_over f (x ∷ xs) (y ∷ ys) (suc p) d e inside some = ap (λ (ns : List Node). f x ++ ns) (parted_over f xs (y ∷ ys) p d e (omega (arith, inside)) some) ∙ sym (append_assoc (f x) (nodes_of (map f (take p xs))) (f (get_or xs p d) ++ (nodes_of (map f (drop (suc p) xs)) ++ (f y ++ nodes_of (map f ys)))))
+
+-- nodes begin below those that stand behind them
+pub starts_below_rest : (xs ys : List Node) → 1 ≤ length xs → IsSorted (xs ++ ys) → Lt (start_of xs) (start_of ys)
+starts_below_rest [] ys some sorted = absurd (omega (arith, some))
+starts_below_rest (x ∷ xs) ys some sorted = Lt-chain (before x.key) (after x.key) (start_of ys) (before-after x.key) (below_next x xs ys sorted)
+
+-- the part in which a cut falls is the last one reached
+pub reached_here : (ls : List (List Node)) (t : Cut) (p : ℕ) → AreSome ls → IsLeafAt ls t p → (1 ≤ p → is_below (start_of (get_or ls p [])) t ≡ true) → IsLastReached ls t p
+reached_here ls t p some at reaches = record {
+  bound = at.bound;
+  reaches = reaches;
+  stops = elim (before_or_past (suc p) (length ls)) [
+    | inl h ↦ subst (λ (c : Cut). Le t c) (sym (start_at ls some (suc p) [] h)) (Le-from_Lt t (start_of (get_or ls (suc p) [])) (at.high h))
+    | inr h ↦ subst (λ (c : Cut). Le t c) (sym (start_past ls (suc p) h)) (none_above_last t)
+  ];
+}
+
+-- or the one before it, where it begins right at the cut
+pub reached_before : (ls : List (List Node)) (t : Cut) (p : ℕ) → AreSome ls → IsSorted (nodes_of ls) → p < length ls → IsLeafAt ls t (suc p) → suc p < length ls → is_below (start_of (get_or ls (suc p) [])) t ≡ false → IsLastReached ls t p
+reached_before ls t p some sorted inside at within not_reached = record {
+  bound = omega (arith, at.bound);
+  reaches = λ h.
+      let here = leaf_first ls p [] inside in
+      let below = starts_below_rest (get_or ls p []) (nodes_of (drop (suc p) ls)) (some_nodes ls some p [] inside) (subst IsSorted here (sorted_from ls p sorted)) in
+      Lt_Le-chain (start_of (get_or ls p [])) (start_of (nodes_of (drop (suc p) ls))) t below (subst (λ (c : Cut). Le c t) (sym (start_at ls some (suc p) [] within)) (at.low (omega arith)));
+  stops = subst (λ (c : Cut). Le t c) (sym (start_at ls some (suc p) [] within)) not_reached;
 }

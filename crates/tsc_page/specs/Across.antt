@@ -1,8 +1,9 @@
 -- A value raised over several parts whose end keys have nodes.
-use Rattle.std.specs.Prelude.{◌≡◌, List, [], Bool, true, false, Option, Some, None}
-use Rattle.tsc_span.specs.Span.{KeyBytes, before, last, between}
+use Rattle.std.specs.Prelude.{◌≡◌, ℕ, suc, ◌≤◌, ◌-◌, List, [], length, drop, slice_index_or, Bool, true, false, Option, Some, None}
+use Rattle.tsc_span.specs.Span.{KeyBytes, Cut, before, last, between, is_below}
 use Rattle.tsc_nodes.specs.PageView.{is_in}
 use Rattle.tsc_nodes.specs.Nodes.{Node, node_keys, raise_nodes}
+use Rattle.tsc_page.specs.Leaves.{nodes_of, start_of}
 use Rattle.tsc_page.specs.Pending.{Addend}
 
 -- a key has a node, where it is one
@@ -21,3 +22,9 @@ pub record AreRaisedAcross (low new_low high new_high : List Node) (a : Addend) 
 abbrev pub IsAcrossTold : (low new_low high new_high : List Node) → Addend → Bool → Type 0
 IsAcrossTold low new_low high new_high a true = AreRaisedAcross low new_low high new_high a
 IsAcrossTold low new_low high new_high a false = (new_low ≡ low) × (new_high ≡ high)
+
+-- The last part that a span reaches which stops at a cut, or the first one.
+pub record IsLastReached (ls : List (List Node)) (t : Cut) (p : ℕ) : Type 0 where
+  pub bound : p ≤ length ls - 1
+  pub reaches : 1 ≤ p → is_below (start_of (slice_index_or ls p [])) t ≡ true
+  pub stops : is_below (start_of (nodes_of (drop (suc p) ls))) t ≡ false
