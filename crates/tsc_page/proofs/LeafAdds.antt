@@ -52,7 +52,7 @@ known_low ys f None start lies k e = absurd (none e)
 known_low ys f (Some m) start (inl at) k e = subst (λ (q : KeyBytes). Lt (after q) (start_of ys)) (same_some m k e) (wholly_below m ys (subst (λ (c : Cut). Lt c (start_of ys)) at start))
 known_low ys f (Some m) start (inr at) k e = subst (λ (q : KeyBytes). Lt (after q) (start_of ys)) (same_some m k e) (subst (λ (c : Cut). Lt c (start_of ys)) at start)
 
-known_high : (ys : List Node) (t : Cut) (k : KeyBytes) → Le t (start_of ys) → (t ≡ before k) ⊎ (t ≡ after k) → is_below (after k) (start_of ys) ≡ false → is_in k (node_keys ys) ≡ true
+pub known_high : (ys : List Node) (t : Cut) (k : KeyBytes) → Le t (start_of ys) → (t ≡ before k) ⊎ (t ≡ after k) → is_below (after k) (start_of ys) ≡ false → is_in k (node_keys ys) ≡ true
 known_high [] t k high at h = absurd (true≢false h)
 known_high (m ∷ ys) t k high (inl e) h = rw ((bytes_eq-Decides k m.key).1 (same_key k m.key (subst (λ (c : Cut). Le c (before m.key)) e high) (no_higher (m ∷ ys) k h))) refl
 known_high (m ∷ ys) t k high (inr e) h = absurd (Lt-not_Le (after k) (before m.key) (Lt-from_Le_sides k m.key (subst (λ (c : Cut). Le c (before m.key)) e high)) h)

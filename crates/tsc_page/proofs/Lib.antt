@@ -13,6 +13,7 @@ pub mod PartSizes
 pub mod PartAdds
 pub mod PartLists
 pub mod Weights
+pub mod PartAcross
 pub mod TreeLists
 pub mod Wholes
 pub mod Refusals

@@ -1,6 +1,7 @@
 pub mod Leaves
 pub mod Pending
 pub mod Copies
+pub mod Across
 pub mod Trees
 pub use Rattle.tsc_time.specs.Time
 pub use Rattle.tsc_time.specs.Joint
