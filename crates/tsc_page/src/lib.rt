@@ -19,6 +19,7 @@
 #![tactic(auto)]
 
 mod block;
+mod cost;
 mod leaf;
 mod leaves;
 mod page;
