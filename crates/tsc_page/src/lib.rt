@@ -19,6 +19,7 @@
 #![tactic(auto)]
 
 mod addition;
+mod cost;
 mod fork;
 mod leaf;
 mod page;

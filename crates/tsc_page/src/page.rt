@@ -4,8 +4,10 @@ ghost use Rattle.tsc_time.specs.Time.{zero_time, is_before, later};
 ghost use Rattle.tsc_span.specs.Span.{KeyBytes, Interval, is_empty_span, overlaps, end_keys, key_cost, span_cost};
 ghost use Rattle.tsc_nodes.specs.declared.TheConstants.{LEAST_SIZE, MOST_SIZE};
 ghost use Rattle.tsc_nodes.specs.Page.{PageMarks, Mark, empty_page, with_mark, top, values_on, marked_keys, count_distinct, cost_distinct, has_room};
+ghost use Rattle.tsc_page.specs.Costs.{IsRoomTold};
 ghost use Rattle.tsc_nodes.specs.PageView.{AreLeafSizes, StandsFor, NoAnswerAboveTop, answer, is_in, bytes_of, has_room_for, new_weight};
 
+use crate::cost::{Cost, cost_of};
 use crate::tree::Tree;
 use std::alloc::Global;
 use std::marker::Model;
@@ -137,13 +139,13 @@ impl Page {
             return Ok(true);
         };
         let (first, second) = span.end_keys();
-        let cost = self.new_cost(first) + self.new_cost(second);
-        if cost > self.size - self.bytes {
+        let Some(cost) = self.cost_within(first, second, self.size - self.bytes) else {
             return Ok(false);
-        }
+        };
+        let nodes = self.tree.len();
         self.tree
             .try_add(first, second, from, to, value, MOST_NODES as usize)?;
-        self.bytes += cost;
+        self.bytes += cost.paid_for(self.tree.len() - nodes);
         self.top = self.top.max(value.time());
         Ok(true)
     }
@@ -205,6 +207,26 @@ impl Page {
             top: self.top,
             tree: self.tree.try_copy()?,
         })
+    }
+
+    /// What those of two keys cost that have no node, or `None` where that is more than `room`. It looks for them only
+    /// where how many they are would not tell, or where there is not room for both.
+    fn cost_within(&self, first: Option<&Key>, second: Option<&Key>, room: u32) -> Option<Cost>
+        ensures { IsRoomTold self.now.keys (option_map (λ k. k.now) first.entry) (option_map (λ k. k.now) second.entry) room result }
+    {
+        let (one, other) = (cost_of(first), cost_of(second));
+        if one + other <= room && (other == 0 || other == one) {
+            return Some(Cost::Alike {
+                one,
+                both: one + other,
+            });
+        }
+        let cost = self.new_cost(first) + self.new_cost(second);
+        if cost <= room {
+            Some(Cost::Known(cost))
+        } else {
+            None
+        }
     }
 
     /// What a key costs, where this is one and has no node.

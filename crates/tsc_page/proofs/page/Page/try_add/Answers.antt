@@ -1,5 +1,5 @@
 -- The nodes are split at the span's ends, and then raised within it.
-use Rattle.std.proofs.Common.{◌≡◌, ◌∙◌, sym, ap, subst, ◌++◌, ◌||◌, ◌∷◌, [], cond, ℕ, ◌+◌, ◌<◌, ◌≤◌, nat_le, true, List, arith}
+use Rattle.std.proofs.Common.{◌≡◌, ◌∙◌, sym, ap, subst, ◌++◌, ◌||◌, ◌∷◌, [], cond, ◌-◌, ◌+◌, ◌<◌, ◌≤◌, nat_le, ℕ, List, length, arith}
 use Rattle.std.specs.Prelude.{Option, option_map, slice_get}
 use Rattle.std.specs.Ordering.{ord_max}
 use Rattle.std.proofs.lemmas.Bool.{le-leb, lt-leb}
@@ -8,16 +8,17 @@ use Rattle.tsc_time.specs.Joint.{joint}
 use Rattle.tsc_span.specs.Span.{KeyBytes, Cut, Interval, between, overlaps, end_keys, key_cost, cost_of}
 use Rattle.tsc_span.specs.Cuts.{cut_of}
 use Rattle.tsc_nodes.specs.declared.TheConstants.{MOST_SIZE}
-use Rattle.tsc_nodes.specs.Page.{with_mark, cost_distinct}
-use Rattle.tsc_nodes.specs.PageView.{PageView, StandsFor, NoAnswerAboveTop, answer, is_in, has_room_for, new_weight}
+use Rattle.tsc_nodes.specs.Page.{with_mark, count_distinct, cost_distinct}
+use Rattle.tsc_nodes.specs.PageView.{PageView, StandsFor, NoAnswerAboveTop, answer, is_in, has_room_for}
 use Rattle.tsc_nodes.specs.Nodes.{Node, answer_of, node_keys, page_of}
 use Rattle.tsc_page.specs.Leaves.{LiesAt}
 use Rattle.tsc_page.specs.Trees.{tree_nodes, tree_sizes}
 use Rattle.tsc_page.proofs.LeafAdds.{ends_lie}
 use Rattle.tsc_page.proofs.Refusals.{on_refusal}
-use Rattle.tsc_page.proofs.Costs.{node_costs, cost_with_ends, never_too_many}
+use Rattle.tsc_page.specs.Costs.{new_costs, IsCostOf}
+use Rattle.tsc_page.proofs.Costs.{node_costs, never_too_many, paid_with_ends, ends_have_room, ends_lack_room, no_fewer}
 use Rattle.tsc_nodes.proofs.Edits.{raise_nodes-keys}
-use Rattle.tsc_nodes.proofs.Standing.{later-max, split_weight, added_keys, added_answers, added_covers, added_stands}
+use Rattle.tsc_nodes.proofs.Standing.{later-max, split_weight, added_length, added_keys, added_answers, added_covers, added_stands}
 use Rattle.tsc_page.proofs.page.Page.try_add.Goals as goal
 
 -- the same nodes in the same leaves look the same
@@ -56,25 +57,45 @@ invariant_of-self c =
 pub returns-in_err-try_add-clause-unchanged : goal.returns-in_err-try_add-clause-unchanged
 returns-in_err-try_add-clause-unchanged c = on_refusal c.from_residual.result _ (same_view c.self.inside.size c.self.inside.top _ _ _ _ c.in_err-try_add.ensures.unchanged.0 c.in_err-try_add.ensures.unchanged.1 ∙ c.self.view_is)
 
+pub overflow_sub-len : goal.overflow_sub-len
+overflow_sub-len c =
+    let old : List Node = tree_nodes c.self.inside.tree in
+    let first : Option KeyBytes = option_map (λ k. k.now) c.end_keys.result.0 in
+    let second : Option KeyBytes = option_map (λ k. k.now) c.end_keys.result.1 in
+    let sorted = c.self.invariant.0.parts.sorted in
+    let costs = subst (λ (v : PageView). IsCostOf v.keys first second (c.self.inside.size - c.self.inside.bytes) c.in-Some-cost_within.cost) (sym c.self.view_is) c.in-Some-cost_within.ensures in
+    let few = ends_have_room old first second c.args.span.now c.self.inside.size c.self.inside.bytes c.in-Some-cost_within.cost sorted c.end_keys.ensures.keys c.self.invariant.1 c.self.invariant.2 costs in
+    let f : Cut = cut_of c.in-Some.from in
+    let t : Cut = cut_of c.in-Some.to in
+    let ends = ap (λ (s : Interval). cost_distinct (node_keys old ++ end_keys s)) c.in-Some.ensures.value in
+    let done = never_too_many _ (node_keys old ++ end_keys (between f t)) (omega (arith, few, ends, c.self.invariant.4)) c.in_ok-try_add.ensures.full in
+    let added = c.in_ok-try_add.ensures.added done in
+    let long = ap length added.raised ∙ added_length old added.mid f t c.in-Some.ensures.order c.args.value added.split ∙ ap (λ (s : Interval). count_distinct (node_keys old ++ end_keys s)) c.in-Some.ensures.value in
+    omega (arith, long, no_fewer old first second c.args.span.now sorted c.end_keys.ensures.keys, c.len.ensures, c.len-nodes.ensures, c.self.invariant.0.count, c.in_ok-try_add.ensures.counted.count)
+
 pub invariant_of-self-2 : goal.invariant_of-self-2
 invariant_of-self-2 c =
     let old : List Node = tree_nodes c.self.inside.tree in
     let first : Option KeyBytes = option_map (λ k. k.now) c.end_keys.result.0 in
     let second : Option KeyBytes = option_map (λ k. k.now) c.end_keys.result.1 in
-    let one = c.new_cost.ensures.value ∙ ap (λ (v : PageView). new_weight key_cost v.keys first) (sym c.self.view_is) in
-    let two = c.new_cost-2.ensures.value ∙ ap (λ (v : PageView). new_weight key_cost v.keys second) (sym c.self.view_is) in
-    let sum = cost_with_ends old first second c.args.span.now c.self.inside.bytes c.new_cost.result c.new_cost-2.result c.self.invariant.0.parts.sorted c.end_keys.ensures.keys c.self.invariant.1 one two in
+    let sorted = c.self.invariant.0.parts.sorted in
+    let costs = subst (λ (v : PageView). IsCostOf v.keys first second (c.self.inside.size - c.self.inside.bytes) c.in-Some-cost_within.cost) (sym c.self.view_is) c.in-Some-cost_within.ensures in
+    let few = ends_have_room old first second c.args.span.now c.self.inside.size c.self.inside.bytes c.in-Some-cost_within.cost sorted c.end_keys.ensures.keys c.self.invariant.1 c.self.invariant.2 costs in
     let f : Cut = cut_of c.in-Some.from in
     let t : Cut = cut_of c.in-Some.to in
     let ends = ap (λ (s : Interval). cost_distinct (node_keys old ++ end_keys s)) c.in-Some.ensures.value in
-    let done = never_too_many _ (node_keys old ++ end_keys (between f t)) (omega (arith, sum, ends, c.if-cost-self.false, c.self.invariant.2, c.self.invariant.4)) c.in_ok-try_add.ensures.full in
+    let done = never_too_many _ (node_keys old ++ end_keys (between f t)) (omega (arith, few, ends, c.self.invariant.4)) c.in_ok-try_add.ensures.full in
     let added = c.in_ok-try_add.ensures.added done in
+    let long = ap length added.raised ∙ added_length old added.mid f t c.in-Some.ensures.order c.args.value added.split ∙ ap (λ (s : Interval). count_distinct (node_keys old ++ end_keys s)) c.in-Some.ensures.value in
+    let less = no_fewer old first second c.args.span.now sorted c.end_keys.ensures.keys in
+    let new : length old + (c.len.result - c.len-nodes.result) ≡ count_distinct (node_keys old ++ end_keys c.args.span.now) = omega (arith, long, less, c.len.ensures, c.len-nodes.ensures, c.self.invariant.0.count, c.in_ok-try_add.ensures.counted.count) in
+    let sum = paid_with_ends old first second c.args.span.now (c.self.inside.size - c.self.inside.bytes) c.self.inside.bytes (c.len.result - c.len-nodes.result) c.paid_for.result c.in-Some-cost_within.cost sorted c.end_keys.ensures.keys c.self.invariant.1 costs new c.paid_for.ensures in
     let is = c.max-self-inside.ensures ∙ ap (ord_max time_cmp c.self.inside.top) c.time.ensures ∙ later-max c.self.inside.top c.args.value.time in
     let covers = added_covers old added.mid f t c.in-Some.ensures.order c.args.value added.split (tree_sizes c.self.inside.tree) (tree_sizes c.try_add.new.self) c.self.inside.size c.self.inside.top c.max-self-inside.result c.self.invariant.5 is in
     let weighs = ap (λ (ns : List Node). cost_of (node_keys ns)) added.raised ∙ ap cost_of (raise_nodes-keys (between f t) c.args.value added.mid) ∙ split_weight key_cost old added.mid (between f t) added.split in (
       c.in_ok-try_add.ensures.counted,
-      omega (arith, sum, ends, weighs),
-      omega (arith, c.if-cost-self.false, c.self.invariant.2),
+      sum ∙ sym ends ∙ sym weighs,
+      omega (arith, sum, few),
       c.self.invariant.3,
       c.self.invariant.4,
       subst (λ (ns : List Node). NoAnswerAboveTop (page_of c.self.inside.size c.max-self-inside.result ns (tree_sizes c.try_add.new.self))) (sym added.raised) covers,
@@ -85,13 +106,13 @@ returns-clause-stands c e p stands =
     let old : List Node = tree_nodes c.self.inside.tree in
     let first : Option KeyBytes = option_map (λ k. k.now) c.end_keys.result.0 in
     let second : Option KeyBytes = option_map (λ k. k.now) c.end_keys.result.1 in
-    let one = c.new_cost.ensures.value ∙ ap (λ (v : PageView). new_weight key_cost v.keys first) (sym c.self.view_is) in
-    let two = c.new_cost-2.ensures.value ∙ ap (λ (v : PageView). new_weight key_cost v.keys second) (sym c.self.view_is) in
-    let sum = cost_with_ends old first second c.args.span.now c.self.inside.bytes c.new_cost.result c.new_cost-2.result c.self.invariant.0.parts.sorted c.end_keys.ensures.keys c.self.invariant.1 one two in
+    let sorted = c.self.invariant.0.parts.sorted in
+    let costs = subst (λ (v : PageView). IsCostOf v.keys first second (c.self.inside.size - c.self.inside.bytes) c.in-Some-cost_within.cost) (sym c.self.view_is) c.in-Some-cost_within.ensures in
+    let few = ends_have_room old first second c.args.span.now c.self.inside.size c.self.inside.bytes c.in-Some-cost_within.cost sorted c.end_keys.ensures.keys c.self.invariant.1 c.self.invariant.2 costs in
     let f : Cut = cut_of c.in-Some.from in
     let t : Cut = cut_of c.in-Some.to in
     let ends = ap (λ (s : Interval). cost_distinct (node_keys old ++ end_keys s)) c.in-Some.ensures.value in
-    let done = never_too_many _ (node_keys old ++ end_keys (between f t)) (omega (arith, sum, ends, c.if-cost-self.false, c.self.invariant.2, c.self.invariant.4)) c.in_ok-try_add.ensures.full in
+    let done = never_too_many _ (node_keys old ++ end_keys (between f t)) (omega (arith, few, ends, c.self.invariant.4)) c.in_ok-try_add.ensures.full in
     let added = c.in_ok-try_add.ensures.added done in
     let after_it : Time = c.max-self-inside.result in
     let view_at = λ (ns : List Node). page_of c.self.inside.size after_it ns (tree_sizes c.try_add.new.self) in
@@ -110,13 +131,13 @@ returns-clause-keys c e k =
     let old : List Node = tree_nodes c.self.inside.tree in
     let first : Option KeyBytes = option_map (λ k. k.now) c.end_keys.result.0 in
     let second : Option KeyBytes = option_map (λ k. k.now) c.end_keys.result.1 in
-    let one = c.new_cost.ensures.value ∙ ap (λ (v : PageView). new_weight key_cost v.keys first) (sym c.self.view_is) in
-    let two = c.new_cost-2.ensures.value ∙ ap (λ (v : PageView). new_weight key_cost v.keys second) (sym c.self.view_is) in
-    let sum = cost_with_ends old first second c.args.span.now c.self.inside.bytes c.new_cost.result c.new_cost-2.result c.self.invariant.0.parts.sorted c.end_keys.ensures.keys c.self.invariant.1 one two in
+    let sorted = c.self.invariant.0.parts.sorted in
+    let costs = subst (λ (v : PageView). IsCostOf v.keys first second (c.self.inside.size - c.self.inside.bytes) c.in-Some-cost_within.cost) (sym c.self.view_is) c.in-Some-cost_within.ensures in
+    let few = ends_have_room old first second c.args.span.now c.self.inside.size c.self.inside.bytes c.in-Some-cost_within.cost sorted c.end_keys.ensures.keys c.self.invariant.1 c.self.invariant.2 costs in
     let f : Cut = cut_of c.in-Some.from in
     let t : Cut = cut_of c.in-Some.to in
     let ends = ap (λ (s : Interval). cost_distinct (node_keys old ++ end_keys s)) c.in-Some.ensures.value in
-    let done = never_too_many _ (node_keys old ++ end_keys (between f t)) (omega (arith, sum, ends, c.if-cost-self.false, c.self.invariant.2, c.self.invariant.4)) c.in_ok-try_add.ensures.full in
+    let done = never_too_many _ (node_keys old ++ end_keys (between f t)) (omega (arith, few, ends, c.self.invariant.4)) c.in_ok-try_add.ensures.full in
     let added = c.in_ok-try_add.ensures.added done in
     ap (λ (ns : List Node). is_in k (node_keys ns)) added.raised ∙ added_keys old added.mid f t c.in-Some.ensures.order c.args.value added.split k
     ∙ ap (λ (v : PageView). is_in k v.keys || is_in k (end_keys (between f t))) c.self.view_is ∙ ap (λ (s : Interval). is_in k c.args.self.now.keys || is_in k (end_keys s)) c.in-Some.ensures.value
@@ -126,13 +147,13 @@ returns-clause-answers c e s =
     let old : List Node = tree_nodes c.self.inside.tree in
     let first : Option KeyBytes = option_map (λ k. k.now) c.end_keys.result.0 in
     let second : Option KeyBytes = option_map (λ k. k.now) c.end_keys.result.1 in
-    let one = c.new_cost.ensures.value ∙ ap (λ (v : PageView). new_weight key_cost v.keys first) (sym c.self.view_is) in
-    let two = c.new_cost-2.ensures.value ∙ ap (λ (v : PageView). new_weight key_cost v.keys second) (sym c.self.view_is) in
-    let sum = cost_with_ends old first second c.args.span.now c.self.inside.bytes c.new_cost.result c.new_cost-2.result c.self.invariant.0.parts.sorted c.end_keys.ensures.keys c.self.invariant.1 one two in
+    let sorted = c.self.invariant.0.parts.sorted in
+    let costs = subst (λ (v : PageView). IsCostOf v.keys first second (c.self.inside.size - c.self.inside.bytes) c.in-Some-cost_within.cost) (sym c.self.view_is) c.in-Some-cost_within.ensures in
+    let few = ends_have_room old first second c.args.span.now c.self.inside.size c.self.inside.bytes c.in-Some-cost_within.cost sorted c.end_keys.ensures.keys c.self.invariant.1 c.self.invariant.2 costs in
     let f : Cut = cut_of c.in-Some.from in
     let t : Cut = cut_of c.in-Some.to in
     let ends = ap (λ (s : Interval). cost_distinct (node_keys old ++ end_keys s)) c.in-Some.ensures.value in
-    let done = never_too_many _ (node_keys old ++ end_keys (between f t)) (omega (arith, sum, ends, c.if-cost-self.false, c.self.invariant.2, c.self.invariant.4)) c.in_ok-try_add.ensures.full in
+    let done = never_too_many _ (node_keys old ++ end_keys (between f t)) (omega (arith, few, ends, c.self.invariant.4)) c.in_ok-try_add.ensures.full in
     let added = c.in_ok-try_add.ensures.added done in
     ap (λ (ns : List Node). answer_of ns s) added.raised ∙ added_answers old added.mid f t c.in-Some.ensures.order c.args.value added.split s
     ∙ ap (λ (v : PageView). cond (overlaps (between f t) s) (joint (answer v s) (c.args.value ∷ [])) (answer v s)) c.self.view_is
@@ -143,19 +164,17 @@ returns-clause-room c =
     let old : List Node = tree_nodes c.self.inside.tree in
     let first : Option KeyBytes = option_map (λ k. k.now) c.end_keys.result.0 in
     let second : Option KeyBytes = option_map (λ k. k.now) c.end_keys.result.1 in
-    let one = c.new_cost.ensures.value ∙ ap (λ (v : PageView). new_weight key_cost v.keys first) (sym c.self.view_is) in
-    let two = c.new_cost-2.ensures.value ∙ ap (λ (v : PageView). new_weight key_cost v.keys second) (sym c.self.view_is) in
-    let sum = cost_with_ends old first second c.args.span.now c.self.inside.bytes c.new_cost.result c.new_cost-2.result c.self.invariant.0.parts.sorted c.end_keys.ensures.keys c.self.invariant.1 one two in
-    let few : cost_distinct (node_keys old ++ end_keys c.args.span.now) ≤ c.self.inside.size = omega (arith, sum, c.if-cost-self.false, c.self.invariant.2) in
+    let sorted = c.self.invariant.0.parts.sorted in
+    let costs = subst (λ (v : PageView). IsCostOf v.keys first second (c.self.inside.size - c.self.inside.bytes) c.in-Some-cost_within.cost) (sym c.self.view_is) c.in-Some-cost_within.ensures in
+    let few = ends_have_room old first second c.args.span.now c.self.inside.size c.self.inside.bytes c.in-Some-cost_within.cost sorted c.end_keys.ensures.keys c.self.invariant.1 c.self.invariant.2 costs in
     sym (le-leb (cost_distinct (node_keys old ++ end_keys c.args.span.now)) c.self.inside.size few) ∙ ap (λ (v : PageView). has_room_for v c.args.span.now) c.self.view_is
 
-pub returns-then-cost-self-clause-room : goal.returns-then-cost-self-clause-room
-returns-then-cost-self-clause-room c =
+pub returns-in_default-cost_within-clause-room : goal.returns-in_default-cost_within-clause-room
+returns-in_default-cost_within-clause-room c =
     let old : List Node = tree_nodes c.self.inside.tree in
     let first : Option KeyBytes = option_map (λ k. k.now) c.end_keys.result.0 in
     let second : Option KeyBytes = option_map (λ k. k.now) c.end_keys.result.1 in
-    let one = c.new_cost.ensures.value ∙ ap (λ (v : PageView). new_weight key_cost v.keys first) (sym c.self.view_is) in
-    let two = c.new_cost-2.ensures.value ∙ ap (λ (v : PageView). new_weight key_cost v.keys second) (sym c.self.view_is) in
-    let sum = cost_with_ends old first second c.args.span.now c.self.inside.bytes c.new_cost.result c.new_cost-2.result c.self.invariant.0.parts.sorted c.end_keys.ensures.keys c.self.invariant.1 one two in
-    let many : c.self.inside.size < cost_distinct (node_keys old ++ end_keys c.args.span.now) = omega (arith, sum, c.if-cost-self.true, c.self.invariant.2) in
-    sym (lt-leb (cost_distinct (node_keys old ++ end_keys c.args.span.now)) c.self.inside.size many) ∙ ap (λ (v : PageView). has_room_for v c.args.span.now) c.self.view_is
+    let sorted = c.self.invariant.0.parts.sorted in
+    let many = subst (λ (v : PageView). c.self.inside.size - c.self.inside.bytes < new_costs v.keys first second) (sym c.self.view_is) c.in_default-cost_within.ensures in
+    let full = ends_lack_room old first second c.args.span.now c.self.inside.size c.self.inside.bytes sorted c.end_keys.ensures.keys c.self.invariant.1 c.self.invariant.2 many in
+    sym (lt-leb (cost_distinct (node_keys old ++ end_keys c.args.span.now)) c.self.inside.size full) ∙ ap (λ (v : PageView). has_room_for v c.args.span.now) c.self.view_is
