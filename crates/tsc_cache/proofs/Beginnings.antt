@@ -2,6 +2,7 @@
 use Rattle.std.proofs.Common.{◌≡◌, ◌∙◌, sym, ap, subst, ℕ, [], ◌∷◌, ◌++◌, append_assoc, append-nil}
 use Rattle.std.specs.List.{Contains}
 use Rattle.std.proofs.lemmas.List.Elements.{Contains-append_left}
+use Rattle.tsc_cache.specs.Settings.{Settings}
 use Rattle.tsc_cache.specs.History.{Entry, History, BeginsWith, IsLegal}
 use Rattle.tsc_cache.specs.Laws.{Beginnings}
 
@@ -18,8 +19,8 @@ pub begins_entries : (h g : History) (e : Entry) → BeginsWith h g → Contains
 begins_entries h g e b has = subst (λ (x : History). Contains x e) (sym b.1) (Contains-append_left g b.0 e has)
 
 -- a beginning of a legal history is legal
-pub legal_beginning : (seats : ℕ) (h g : History) → IsLegal seats h → BeginsWith h g → IsLegal seats g
-legal_beginning seats h g legal b before e c = legal before e (begins_on h g (before ++ e ∷ []) b c)
+pub legal_beginning : (settings : Settings) (seats : ℕ) (h g : History) → IsLegal settings seats h → BeginsWith h g → IsLegal settings seats g
+legal_beginning settings seats h g legal b before e c = legal before e (begins_on h g (before ++ e ∷ []) b c)
 
 -- all of it as one law
 pub beginnings : Beginnings
@@ -27,5 +28,5 @@ beginnings = record {
   itself = begins_itself;
   onward = begins_on;
   entries = begins_entries;
-  legal = λ seats h start b legal. legal_beginning seats h start legal b;
+  legal = λ settings seats h start b legal. legal_beginning settings seats h start legal b;
 }

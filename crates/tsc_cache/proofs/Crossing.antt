@@ -9,9 +9,10 @@ use Rattle.tsc_nodes.specs.contracts.number.KeyNumber.{the_row as key_number}
 use Rattle.tsc_nodes.specs.contracts.number.NumberedKey.{the_row as numbered_key}
 use Rattle.tsc_nodes.specs.contracts.nodes.Values.{the_row as values}
 use Rattle.tsc_nodes.specs.contracts.nodes.Nodes.{the_row as nodes}
+use Rattle.tsc_page.specs.contracts.summary.Summary.{the_row as summary}
 use Rattle.tsc_page.specs.contracts.leaf.Leaf.{the_row as leaf}
-use Rattle.tsc_page.specs.contracts.block.Block.{the_row as block}
-use Rattle.tsc_page.specs.contracts.leaves.Leaves.{the_row as leaves}
+use Rattle.tsc_page.specs.contracts.fork.Fork.{the_row as fork}
+use Rattle.tsc_page.specs.contracts.tree.Tree.{the_row as tree}
 use Rattle.tsc_page.specs.contracts.page.Page.{the_row as page}
 use Rattle.tsc_span.specs.contracts.span.Shape.{the_row as shape}
 use Rattle.tsc_span.specs.contracts.span.Span.{the_row as span}
@@ -66,29 +67,41 @@ nodes_send = search (sendable, crosses, numbered_key_sends, numbered_key_syncs, 
 nodes_sync : IsSync nodes
 nodes_sync = search (sendable, crosses, numbered_key_sends, numbered_key_syncs, values_sync) depth 20
 
+summary_sends : IsSend summary
+summary_sends = search (sendable, crosses, key_number_sends, value_sends) depth 20
+
+summary_syncs : IsSync summary
+summary_syncs = search (sendable, crosses, key_number_syncs, value_syncs) depth 20
+
 leaf_sends : IsSend leaf
-leaf_sends = search (sendable, crosses, key_number_sends, nodes_send, nodes_sync) depth 20
+leaf_sends = search (sendable, crosses, summary_sends, nodes_send, nodes_sync) depth 20
 
 leaf_syncs : IsSync leaf
-leaf_syncs = search (sendable, crosses, key_number_syncs, nodes_send, nodes_sync) depth 20
+leaf_syncs = search (sendable, crosses, summary_syncs, nodes_send, nodes_sync) depth 20
 
-block_sends : IsSend block
-block_sends = search (sendable, crosses, key_number_sends, leaf_sends, leaf_syncs) depth 20
+fork_sends : IsSend (fork leaf)
+fork_sends = search (sendable, crosses, summary_sends, leaf_sends, leaf_syncs) depth 20
 
-block_syncs : IsSync block
-block_syncs = search (sendable, crosses, key_number_syncs, leaf_sends, leaf_syncs) depth 20
+fork_syncs : IsSync (fork leaf)
+fork_syncs = search (sendable, crosses, summary_syncs, leaf_sends, leaf_syncs) depth 20
 
-leaves_send : IsSend leaves
-leaves_send = search (sendable, crosses, block_sends, block_syncs) depth 20
+top_sends : IsSend (fork (fork leaf))
+top_sends = search (sendable, crosses, summary_sends, fork_sends, fork_syncs) depth 20
 
-leaves_sync : IsSync leaves
-leaves_sync = search (sendable, crosses, block_sends, block_syncs) depth 20
+top_syncs : IsSync (fork (fork leaf))
+top_syncs = search (sendable, crosses, summary_syncs, fork_sends, fork_syncs) depth 20
+
+tree_sends : IsSend tree
+tree_sends = search (sendable, crosses, top_sends, top_syncs) depth 20
+
+tree_syncs : IsSync tree
+tree_syncs = search (sendable, crosses, top_sends, top_syncs) depth 20
 
 page_sends : IsSend page
-page_sends = search (sendable, declared_send, as_row_send, timestamp_sends, leaves_send) depth 20
+page_sends = search (sendable, declared_send, as_row_send, timestamp_sends, tree_sends) depth 20
 
 page_syncs : IsSync page
-page_syncs = search (sendable, declared_sync, as_row_sync, timestamp_syncs, leaves_sync) depth 20
+page_syncs = search (sendable, declared_sync, as_row_sync, timestamp_syncs, tree_syncs) depth 20
 
 pub config_sends : IsSend config
 config_sends = search (sendable, crosses, timestamp_sends) depth 20

@@ -6,8 +6,8 @@ use Rattle.tsc_span.specs.Span.{KeyBytes, Interval, from_to, point}
 use Rattle.tsc_nodes.specs.Page.{Mark, PageMarks}
 use Rattle.tsc_cache.specs.declared.added.Added.{Added}
 use Rattle.tsc_cache.specs.Settings.{Settings}
-use Rattle.tsc_cache.specs.State.{CacheState, step, opening}
-use Rattle.tsc_cache.specs.History.{History, mark_of, state_of}
+use Rattle.tsc_cache.specs.State.{CacheState, step_all, opening}
+use Rattle.tsc_cache.specs.History.{History, entry_of_mark, state_of}
 
 -- ---- times and values
 
@@ -31,13 +31,13 @@ of_second t = record { time = t; owner = Some second }
 
 -- ---- settings
 
--- pages of four keys, of which two are kept at the least
+-- pages of four keys of one byte, of which two are kept at the least
 abbrev pub usual : Settings
-usual = record { page_nodes = 4; min_pages = 2; retention = 10; low_water = at 5 0 }
+usual = record { page_first = 132; page_max = 132; min_pages = 2; retention = 10; low_water = at 5 0 }
 
--- pages of two keys, of which one is kept at the least
+-- pages of two keys of one byte, of which one is kept at the least
 abbrev pub tight : Settings
-tight = record { page_nodes = 2; min_pages = 1; retention = 10; low_water = at 5 0 }
+tight = record { page_first = 66; page_max = 66; min_pages = 1; retention = 10; low_water = at 5 0 }
 
 -- the time of most Adds, and the moment at which they are made
 abbrev pub twenty : Time
@@ -64,8 +64,13 @@ mark span value = record { span = span; value = value }
 abbrev pub marks_at : List ℕ → OwnedTime → List Mark
 marks_at letters value = map (λ b. mark (point (b ∷ [])) value) letters
 
+-- a page of four such keys
 abbrev pub page : Time → List Mark → PageMarks
-page base marks = record { base = base; marks = marks }
+page base marks = record { size = 132; base = base; marks = marks }
+
+-- and one of two
+abbrev pub small_page : Time → List Mark → PageMarks
+small_page base marks = record { size = 66; base = base; marks = marks }
 
 -- ---- histories
 
@@ -83,7 +88,7 @@ add_points letters value now = map (λ m. (m, now)) (marks_at letters value)
 -- as Adds of one seat, numbered from a number on
 abbrev pub numbered : ℕ → List Addition → History
 numbered n [] = []
-numbered n (x ∷ xs) = record { seat = 0; number = n; span = x.0.span; value = x.0.value; now = x.1 } ∷ numbered (suc n) xs
+numbered n (x ∷ xs) = entry_of_mark 0 n x.0 x.1 ∷ numbered (suc n) xs
 
 abbrev pub history : List Addition → History
 history adds = numbered 0 adds
@@ -96,7 +101,7 @@ state_after settings adds = state_of settings (history adds)
 abbrev pub answers_from : Settings → CacheState → History → List Added
 answers_from settings s [] = []
 answers_from settings s (e ∷ h) =
-    (step settings s (mark_of e) e.now).added ∷ answers_from settings (step settings s (mark_of e) e.now).state h
+    (step_all settings s e.marks e.now).added ∷ answers_from settings (step_all settings s e.marks e.now).state h
 
 -- what Adds to a new cache answer
 abbrev pub answers : Settings → List Addition → List Added

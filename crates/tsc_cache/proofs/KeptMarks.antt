@@ -1,5 +1,5 @@
 -- Of all marks that were added, a state keeps those above its floor.
-use Rattle.std.proofs.Common.{◌≡◌, ◌⊎◌, ◌∙◌, inl, inr, refl, ap, List, [], ◌∷◌, ◌++◌, map, true, false, not}
+use Rattle.std.proofs.Common.{◌≡◌, ◌⊎◌, ◌∙◌, inl, inr, refl, ap, subst, List, [], ◌∷◌, ◌++◌, map, true, false, not, append_assoc, append-nil}
 use Rattle.std.specs.List.{Contains}
 use Rattle.std.proofs.lemmas.Grind.{flat_map-append}
 use Rattle.std.proofs.lemmas.Bool.{cases_Bool, both_ways, and_parts, and_from}
@@ -12,7 +12,7 @@ use Rattle.tsc_time.proofs.RatchetOrder.{IsAtMost-antisymmetric, IsAtMost-transi
 use Rattle.tsc_span.specs.Span.{Interval, nothing, between, overlaps, is_empty_span}
 use Rattle.tsc_nodes.specs.Page.{Mark, PageMarks, top, values_on}
 use Rattle.tsc_cache.specs.Settings.{Settings}
-use Rattle.tsc_cache.specs.State.{CacheState, opening, is_kept, marked, rotate, step, look}
+use Rattle.tsc_cache.specs.State.{CacheState, opening, is_kept, marked, rotate, step, step_all, look}
 use Rattle.tsc_cache.specs.Eviction.{highest}
 use Rattle.tsc_cache.proofs.Evictions.{evicts_the}
 use Rattle.tsc_cache.proofs.FloorJoints.{above_floor, above_each, least_above, at_most_unowned}
@@ -93,19 +93,26 @@ dropped_go ms s t stay dropped parts left lifted h = record {
     above x k = (and_parts (not (is_empty_span x.span)) (is_before (highest s.floor (map top dropped)) x.value.time) (rw lifted at k)).1
 
 -- so a rotation keeps what it has to
-rotated_keeps : (ms : List Mark) (settings : Settings) (s : CacheState) (now : Time) → KeepsMarks ms s → KeepsMarks ms (rotate settings s now).state
-rotated_keeps ms settings s now h =
+rotated_keeps : (ms : List Mark) (settings : Settings) (s : CacheState) (span : Interval) (now : Time) → KeepsMarks ms s → KeepsMarks ms (rotate settings s span now).state
+rotated_keeps ms settings s span now h =
     let v = evicts_the settings now s.floor s.pages in
-    let is = rotate-is settings s now v in
-    dropped_go ms s (rotate settings s now).state v.stay v.dropped v.parts (ap (λ (t : CacheState). all_marks t.pages) is) (ap (λ (t : CacheState). t.floor) is) h
+    let is = rotate-is settings s span now v in
+    dropped_go ms s (rotate settings s span now).state v.stay v.dropped v.parts (ap (λ (t : CacheState). all_marks t.pages) is) (ap (λ (t : CacheState). t.floor) is) h
 
 -- one Add more, whatever becomes of it
 pub keeps_one_more : (ms : List Mark) (settings : Settings) (s : CacheState) (m : Mark) (now : Time) → KeepsMarks ms s → KeepsMarks (ms ++ m ∷ []) (step settings s m now).state
 keeps_one_more ms settings s m now h = elim (step-tells settings s m now) [
   | inl t ↦ rw t.1 (not_kept_more ms s m t.0 h)
   | inr (inl t) ↦ rw t.3 (marked_more ms s m t.0 t.1 t.2 h)
-  | inr (inr t) ↦ rw t (marked_more ms (rotate settings s now).state m _ _ refl (rotated_keeps ms settings s now h))
+  | inr (inr t) ↦ rw t (marked_more ms (rotate settings s m.span now).state m _ _ refl (rotated_keeps ms settings s m.span now h))
 ]
+
+-- an Add of several marks more
+pub keeps_all_more : (ms : List Mark) (settings : Settings) (s : CacheState) (ns : List Mark) (now : Time) → KeepsMarks ms s → KeepsMarks (ms ++ ns) (step_all settings s ns now).state
+keeps_all_more ms settings s [] now h = rw (append-nil ms) h
+keeps_all_more ms settings s (n ∷ ns) now h =
+    subst (λ (all : List Mark). KeepsMarks all (step_all settings s (n ∷ ns) now).state) (append_assoc ms (n ∷ []) ns)
+    (keeps_all_more (ms ++ n ∷ []) settings (step settings s n now).state ns now (keeps_one_more ms settings s n now h))
 
 -- a mark on a span that is not above the floor is at most that
 at_floor_or_kept : (floor : Time) (m : Mark) (span : Interval) → overlaps m.span span ≡ true → (is_kept floor m ≡ true) ⊎ IsAtMost m.value (unowned floor)

@@ -4,6 +4,7 @@ pub mod FloorJoints
 pub mod MarkLists
 pub mod Floors
 pub mod Steps
+pub mod Sizes
 pub mod KeptMarks
 pub mod Beginnings
 pub mod Histories

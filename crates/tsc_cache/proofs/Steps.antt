@@ -1,14 +1,16 @@
 -- What an Add makes of a state, by cases, and where it leaves the floor.
-use Rattle.std.proofs.Common.{◌≡◌, ◌⊎◌, ◌∙◌, inl, inr, refl, ap, List, [], ◌∷◌, map, reverse, true, false}
+use Rattle.std.proofs.Common.{◌≡◌, ◌⊎◌, ◌∙◌, inl, inr, refl, ap, ℕ, ◌+◌, ◌||◌, Bool, List, [], ◌∷◌, map, reverse, true, false, arith}
 use Rattle.std.proofs.lemmas.Bool.{cases_Bool}
 use Rattle.std.proofs.lemmas.List.Elements.{All-contains}
 use Rattle.tsc_time.specs.Time.{Time, is_before}
-use Rattle.tsc_time.proofs.TimeOrder.{is_before-itself}
-use Rattle.tsc_nodes.specs.Page.{Mark, PageMarks, empty_page, top}
+use Rattle.tsc_time.proofs.TimeOrder.{is_before-itself, no_earlier-transitive}
+use Rattle.tsc_span.specs.Span.{Interval}
+use Rattle.tsc_nodes.specs.Page.{Mark, PageMarks, top}
+use Rattle.tsc_cache.specs.declared.added.Added.{Added}
 use Rattle.tsc_cache.specs.Settings.{Settings}
-use Rattle.tsc_cache.specs.State.{CacheState, is_past_retention, is_kept, front_has_room, front_top, marked, counted_on, evict, rotate, step}
+use Rattle.tsc_cache.specs.State.{CacheState, is_past_retention, is_kept, front_has_room, new_front, marked, counted_on, evict, rotate, added_with, not_kept, step, step_all}
 use Rattle.tsc_cache.specs.Eviction.{highest}
-use Rattle.tsc_cache.specs.Laws.{PartsPages}
+use Rattle.tsc_cache.specs.Laws.{PartsPages, OneMarkIsAStep}
 use Rattle.tsc_cache.proofs.Evictions.{evicts_the}
 use Rattle.tsc_cache.proofs.Floors.{highest-floor, highest-reached}
 
@@ -16,24 +18,24 @@ use Rattle.tsc_cache.proofs.Floors.{highest-floor, highest-reached}
 pub step-tells : (settings : Settings) (s : CacheState) (m : Mark) (now : Time)
     → ((is_kept s.floor m ≡ false) × ((step settings s m now).state ≡ s))
     ⊎ (((front : PageMarks) × (older : List PageMarks) × (s.pages ≡ front ∷ older) × ((step settings s m now).state ≡ marked s m))
-    ⊎ ((step settings s m now).state ≡ marked (rotate settings s now).state m))
+    ⊎ ((step settings s m now).state ≡ marked (rotate settings s m.span now).state m))
 step-tells settings s m now = elim (cases_Bool (is_kept s.floor m)) [
   | inr h ↦ inl (h, rw h refl)
-  | inl h ↦ elim (cases_Bool (front_has_room settings s m.span)) [
+  | inl h ↦ elim (cases_Bool (front_has_room s m.span)) [
     | inl r ↦ let f = front s.pages r in inr (inl (f.0, f.1, f.2, rw (h, r) refl))
     | inr r ↦ inr (inr (rw (h, r) refl))
   ]
 ]
   where
-    front : (pages : List PageMarks) → front_has_room settings (record { floor = s.floor; pages = pages; rotations = s.rotations }) m.span ≡ true → (p : PageMarks) × (ps : List PageMarks) × (pages ≡ p ∷ ps)
+    front : (pages : List PageMarks) → front_has_room (record { floor = s.floor; pages = pages; rotations = s.rotations }) m.span ≡ true → (p : PageMarks) × (ps : List PageMarks) × (pages ≡ p ∷ ps)
     front [] r = let none : false ≡ true = r in cc
     front (p ∷ ps) r = (p, ps, refl)
 
 -- a rotation by the pages that stay and those that it drops
-pub rotate-is : (settings : Settings) (s : CacheState) (now : Time) (v : PartsPages settings now s.floor s.pages)
-    → (rotate settings s now).state ≡ record { floor = highest s.floor (map top v.dropped); pages = empty_page (front_top s.pages) ∷ v.stay; rotations = counted_on s.rotations }
-rotate-is settings s now v =
-    let made : Time → List PageMarks → CacheState = λ floor older. record { floor = floor; pages = empty_page (front_top s.pages) ∷ older; rotations = counted_on s.rotations } in
+pub rotate-is : (settings : Settings) (s : CacheState) (span : Interval) (now : Time) (v : PartsPages settings now s.floor s.pages)
+    → (rotate settings s span now).state ≡ record { floor = highest s.floor (map top v.dropped); pages = new_front settings s.pages span ∷ v.stay; rotations = counted_on s.rotations }
+rotate-is settings s span now v =
+    let made : Time → List PageMarks → CacheState = λ floor older. record { floor = floor; pages = new_front settings s.pages span ∷ older; rotations = counted_on s.rotations } in
     ap (λ floor. made floor (reverse (evict settings now s.floor (reverse s.pages)).pages)) v.raised ∙ ap (made (highest s.floor (map top v.dropped))) v.kept
 
 -- a step leaves the floor where it was, or is a rotation's
@@ -61,3 +63,39 @@ step-lifts settings s m now = elim (floor_tells settings s m now) [
     | inr c ↦ inr (rw h.1 (All-contains (λ t. is_past_retention settings.retention now t ≡ true) (map top h.0.dropped) (highest s.floor (map top h.0.dropped)) h.0.evicts.expired c))
   ]
 ]
+
+-- and so for some marks, one after another: none lowers the floor
+pub step_all-floor : (settings : Settings) (s : CacheState) (ms : List Mark) (now : Time) → is_before (step_all settings s ms now).state.floor s.floor ≡ false
+step_all-floor settings s [] now = is_before-itself s.floor
+step_all-floor settings s (m ∷ ms) now =
+    let t : CacheState = (step settings s m now).state in
+    no_earlier-transitive s.floor t.floor (step_all settings t ms now).state.floor (step-floor settings s m now) (step_all-floor settings t ms now)
+
+-- and where they lift it, then to a top that is past its retention
+pub step_all-lifts : (settings : Settings) (s : CacheState) (ms : List Mark) (now : Time)
+    → ((step_all settings s ms now).state.floor ≡ s.floor) ⊎ (is_past_retention settings.retention now (step_all settings s ms now).state.floor ≡ true)
+step_all-lifts settings s [] now = inl refl
+step_all-lifts settings s (m ∷ ms) now = elim (step_all-lifts settings (step settings s m now).state ms now) [
+  | inr past ↦ inr past
+  | inl same ↦ elim (step-lifts settings s m now) [
+    | inl first ↦ inl (same ∙ first)
+    | inr past ↦ inr (ap (is_past_retention settings.retention now) same ∙ past)
+  ]
+]
+
+-- An Add of a list of one mark is the Add of that mark.
+pub one_mark_is_a_step : OneMarkIsAStep
+one_mark_is_a_step settings s m now = ap (λ (a : Added). record { state = (step settings s m now).state; added = a }) (alone (step settings s m now).added)
+  where
+    or_false : (b : Bool) → (b || false) ≡ b
+    or_false true = refl
+    or_false false = refl
+
+    told : Bool → Bool → ℕ → Added
+    told kept rotated evicted = record { kept = kept; rotated = rotated; evicted = evicted }
+
+    alone : (a : Added) → added_with a not_kept ≡ a
+    alone a =
+        ap (λ b. told b (a.rotated || false) (a.evicted + 0)) (or_false a.kept)
+        ∙ ap (λ b. told a.kept b (a.evicted + 0)) (or_false a.rotated)
+        ∙ ap (told a.kept a.rotated) (omega arith)

@@ -3,12 +3,12 @@ use Rattle.std.specs.Prelude.{◌≡◌, ℕ, List, [], ◌∷◌, ◌++◌, map
 use Rattle.tsc_time.specs.Time.{Time, zero_time, later}
 use Rattle.tsc_time.specs.OwnedTime.{OwnedTime}
 use Rattle.tsc_time.specs.Joint.{joint, joint_above}
-use Rattle.tsc_span.specs.Span.{KeyBytes, Interval, overlaps, end_keys}
+use Rattle.tsc_span.specs.Span.{KeyBytes, Interval, overlaps, end_keys, span_cost}
 use Rattle.tsc_nodes.specs.Page.{Mark, PageMarks, empty_page, with_mark}
 use Rattle.tsc_nodes.specs.PageView.{PageView, StandsFor, answer, is_in, has_room_for}
 use Rattle.tsc_cache.specs.declared.added.Added.{Added}
 use Rattle.tsc_cache.specs.Settings.{Settings}
-use Rattle.tsc_cache.specs.State.{CacheState, is_kept, not_kept, kept_without_rotation, kept_after_rotation, counted_on}
+use Rattle.tsc_cache.specs.State.{CacheState, is_kept, not_kept, kept_without_rotation, kept_after_rotation, counted_on, next_size}
 use Rattle.tsc_cache.specs.Eviction.{highest, Evicts}
 use Rattle.tsc_cache.specs.Lookup.{LooksInto}
 
@@ -19,18 +19,18 @@ pub record CacheView : Type 0 where
   pub pages : List PageView
   pub rotations : ℕ
 
--- each page may hold so many nodes, and stands for the base and the marks at its place
-abbrev pub EachStandsFor : ℕ → List PageView → List PageMarks → Type 0
-EachStandsFor n [] [] = Unit {0}
-EachStandsFor n [] (p ∷ ps) = ⊥
-EachStandsFor n (v ∷ vs) [] = ⊥
-EachStandsFor n (v ∷ vs) (p ∷ ps) = (v.page_nodes ≡ n) × StandsFor v p × EachStandsFor n vs ps
+-- each page stands for the one at its place
+abbrev pub EachStandsFor : List PageView → List PageMarks → Type 0
+EachStandsFor [] [] = Unit {0}
+EachStandsFor [] (p ∷ ps) = ⊥
+EachStandsFor (v ∷ vs) [] = ⊥
+EachStandsFor (v ∷ vs) (p ∷ ps) = StandsFor v p × EachStandsFor vs ps
 
 -- A cache stands for a state under some settings where it is set up so, floor and count are the same, and as many pages stand each for the one at its place.
 pub record StandsForState (v : CacheView) (settings : Settings) (s : CacheState) : Type 0 where
   pub set_up : v.settings ≡ settings
   pub floor : v.floor ≡ s.floor
-  pub pages : EachStandsFor settings.page_nodes v.pages s.pages
+  pub pages : EachStandsFor v.pages s.pages
   pub rotations : v.rotations ≡ s.rotations
 
 -- what a cache answers to a span: what its floor and the answer of each page come to together
@@ -47,9 +47,14 @@ abbrev pub front_view_top : List PageView → Time
 front_view_top [] = zero_time
 front_view_top (front ∷ older) = front.top
 
+-- the size of the front page, or none without pages
+abbrev pub front_view_size : List PageView → ℕ
+front_view_size [] = 0
+front_view_size (front ∷ older) = front.size
+
 -- what can be seen of a page after one more mark
 pub record IsMarked (old new : PageView) (m : Mark) : Type 0 where
-  pub limit : new.page_nodes ≡ old.page_nodes
+  pub size : new.size ≡ old.size
   pub top : new.top ≡ later old.top m.value.time
   pub keys : (k : KeyBytes) → is_in k new.keys ≡ (is_in k old.keys || is_in k (end_keys m.span))
   pub answers : (s : Interval) → answer new s ≡ (if overlaps m.span s then joint (answer old s) (m.value ∷ []) else answer old s)
@@ -60,6 +65,10 @@ MarksFront [] new m = ⊥
 MarksFront (front ∷ older) [] m = ⊥
 MarksFront (front ∷ older) (marked ∷ others) m = IsMarked front marked m × (others ≡ older)
 
+-- the page that comes to the front for a mark: one that is larger than the front page before it, takes its top as its base, and has that mark
+abbrev pub front_marked : Settings → List PageView → Mark → PageMarks
+front_marked settings pages m = with_mark (empty_page (next_size settings.page_max (front_view_size pages) (span_cost m.span)) (front_view_top pages)) m
+
 -- A rotation that brings a page with one mark to the front: the pages that there were are parted into those that stay and those that are dropped.
 pub record RotatesWith (old new : CacheView) (m : Mark) (now : Time) (evicted : ℕ) : Type 0 where
   pub front : PageView
@@ -69,8 +78,7 @@ pub record RotatesWith (old new : CacheView) (m : Mark) (now : Time) (evicted : 
   pub evicts : Evicts old.settings now (map (λ p. p.top) stay) (map (λ p. p.top) dropped)
   pub count : evicted ≡ length dropped
   pub pages : new.pages ≡ front ∷ stay
-  pub limit : front.page_nodes ≡ old.settings.page_nodes
-  pub marked : StandsFor front (with_mark (empty_page (front_view_top old.pages)) m)
+  pub marked : StandsFor front (front_marked old.settings old.pages m)
   pub floor : new.floor ≡ highest old.floor (map (λ p. p.top) dropped)
   pub rotations : new.rotations ≡ counted_on old.rotations
 

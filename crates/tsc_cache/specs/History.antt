@@ -1,17 +1,18 @@
 -- Histories of Adds, and the state that one leaves.
-use Rattle.std.specs.Prelude.{◌≡◌, ℕ, ◌<◌, List, [], ◌∷◌, ◌++◌, map, true, count_by, ◌==◌}
+use Rattle.std.specs.Prelude.{◌≡◌, ℕ, ◌<◌, List, [], ◌∷◌, ◌++◌, All, true, count_by, ◌==◌}
+use Rattle.std.specs.List.{flat_map}
 use Rattle.tsc_time.specs.Time.{Time, is_in_range}
 use Rattle.tsc_time.specs.OwnedTime.{OwnedTime, IsMadeValue}
 use Rattle.tsc_span.specs.Span.{Interval}
 use Rattle.tsc_span.specs.MadeSpan.{IsMadeSpan}
 use Rattle.tsc_nodes.specs.Page.{Mark, values_on}
-use Rattle.tsc_cache.specs.Settings.{Settings}
-use Rattle.tsc_cache.specs.State.{CacheState, opening, step}
+use Rattle.tsc_cache.specs.Settings.{Settings, fits}
+use Rattle.tsc_cache.specs.State.{CacheState, opening, step_all}
 pub use Rattle.tsc_cache.specs.declared.history.Entry.{Entry}
 
--- the mark of an entry
-abbrev pub mark_of : Entry → Mark
-mark_of e = record { span = e.span; value = e.value }
+-- the entry of an Add of one mark
+abbrev pub entry_of_mark : ℕ → ℕ → Mark → Time → Entry
+entry_of_mark seat number m now = record { seat = seat; number = number; marks = m ∷ []; now = now }
 
 -- Adds in their order, the first of them first
 abbrev pub History : Type 0
@@ -24,36 +25,45 @@ own_count seat h = count_by (λ e. e.seat == seat) h
 -- the state that entries make of a state, one after another
 abbrev pub state_from : Settings → CacheState → History → CacheState
 state_from settings s [] = s
-state_from settings s (e ∷ h) = state_from settings (step settings s (mark_of e) e.now).state h
+state_from settings s (e ∷ h) = state_from settings (step_all settings s e.marks e.now).state h
 
 -- the state that a history leaves
 abbrev pub state_of : Settings → History → CacheState
 state_of settings h = state_from settings (opening settings) h
 
--- the values of the entries that overlap a span
-abbrev pub entries_on : Interval → History → List OwnedTime
-entries_on span h = values_on span (map mark_of h)
+-- the marks of entries, those of the first one first
+abbrev pub marks_of : History → List Mark
+marks_of h = flat_map (λ e. e.marks) h
+
+-- the values of those that overlap a span
+abbrev pub marks_on : Interval → History → List OwnedTime
+marks_on span h = values_on span (marks_of h)
 
 -- a history begins with another where that one is a first part of it
 abbrev pub BeginsWith : History → History → Type 0
 BeginsWith h start = (rest : History) × (h ≡ start ++ rest)
 
--- An entry that a caller can make: its times are in range, and its span and its owner are such as the constructors give.
-pub record IsMadeEntry (e : Entry) : Type 0 where
-  pub span : IsMadeSpan e.span
-  pub value : IsMadeValue e.value
+-- A mark that a caller can make: its span and its value are such as the constructors give, and the span fits a page.
+pub record IsMadeMark (settings : Settings) (m : Mark) : Type 0 where
+  pub span : IsMadeSpan m.span
+  pub value : IsMadeValue m.value
+  pub fits : fits settings m.span ≡ true
+
+-- An entry that a caller can make: each of its marks is one that can be made, and its moment is in range.
+pub record IsMadeEntry (settings : Settings) (e : Entry) : Type 0 where
+  pub marks : All (λ m. IsMadeMark settings m) e.marks
   pub moment : is_in_range e.now ≡ true
 
--- The entry of these parts can be made, whatever its seat and its number.
-abbrev pub CanBeAdded : Interval → OwnedTime → Time → Type 0
-CanBeAdded span value now = (seat number : ℕ) → IsMadeEntry (record { seat = seat; number = number; span = span; value = value; now = now })
+-- The entry of this mark can be made, whatever its seat and its number.
+abbrev pub CanBeAdded : Settings → Mark → Time → Type 0
+CanBeAdded settings m now = (seat number : ℕ) → IsMadeEntry settings (entry_of_mark seat number m now)
 
 -- The next entry of a seat after a history: its seat is one of so many, its number is how many entries of that seat stand before it, and a caller can make it.
-pub record IsNext (seats : ℕ) (h : History) (e : Entry) : Type 0 where
+pub record IsNext (settings : Settings) (seats : ℕ) (h : History) (e : Entry) : Type 0 where
   pub seat : e.seat < seats
   pub number : e.number ≡ own_count e.seat h
-  pub made : IsMadeEntry e
+  pub made : IsMadeEntry settings e
 
--- A history is legal for so many seats where each of its entries is the next one after those before it.
-abbrev pub IsLegal : ℕ → History → Type 0
-IsLegal seats h = (before : History) (e : Entry) → BeginsWith h (before ++ e ∷ []) → IsNext seats before e
+-- A history is legal under some settings for so many seats where each of its entries is the next one after those before it.
+abbrev pub IsLegal : Settings → ℕ → History → Type 0
+IsLegal settings seats h = (before : History) (e : Entry) → BeginsWith h (before ++ e ∷ []) → IsNext settings seats before e

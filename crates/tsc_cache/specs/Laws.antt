@@ -1,18 +1,19 @@
 -- What follows from the definitions, for every configuration, history and span.
-use Rattle.std.specs.Prelude.{◌≡◌, ◌⊎◌, ℕ, List, ◌++◌, map, reverse, length, Contains, true, false, Some}
+use Rattle.std.specs.Prelude.{◌≡◌, ◌⊎◌, ℕ, ◌≤◌, ◌<◌, List, [], ◌∷◌, ◌++◌, map, reverse, length, Contains, true, false, Some}
 use Rattle.tsc_time.specs.Time.{Time, is_before, time_minus}
 use Rattle.tsc_time.specs.OwnedTime.{Owner, OwnedTime}
 use Rattle.tsc_time.specs.Joint.{joint_above, IsAtMost}
 use Rattle.tsc_span.specs.Span.{Interval, overlaps}
-use Rattle.tsc_nodes.specs.Page.{PageMarks, top}
+use Rattle.tsc_nodes.specs.Page.{Mark, PageMarks, top}
 use Rattle.tsc_cache.specs.Settings.{Settings}
-use Rattle.tsc_cache.specs.State.{look, evict}
+use Rattle.tsc_cache.specs.State.{CacheState, look, evict, doubled, next_size, step, step_all}
 use Rattle.tsc_cache.specs.Eviction.{highest, Evicts}
-use Rattle.tsc_cache.specs.History.{Entry, History, state_of, entries_on, BeginsWith, IsLegal}
+use Rattle.tsc_cache.specs.History.{Entry, History, state_of, marks_on, BeginsWith, IsLegal}
 
--- An entry is at most what a lookup of a span that it overlaps answers, in the ratchet order, whether its page is still there or not.
+-- A mark of an entry is at most what a lookup of a span that it overlaps answers, in the ratchet order, whether its page is still there or not.
 abbrev pub KeptUp : Type 0
-KeptUp = (settings : Settings) (h : History) (e : Entry) (s : Interval) → Contains h e → overlaps e.span s ≡ true → IsAtMost e.value (look (state_of settings h) s)
+KeptUp = (settings : Settings) (h : History) (e : Entry) (m : Mark) (s : Interval) → Contains h e → Contains e.marks m → overlaps m.span s ≡ true
+    → IsAtMost m.value (look (state_of settings h) s)
 
 -- as a history goes on, no answer sinks, and the floor doesn't either
 pub record Rising : Type 0 where
@@ -24,7 +25,7 @@ pub record Beginnings : Type 0 where
   pub itself : (h : History) → BeginsWith h h
   pub onward : (h middle start : History) → BeginsWith h middle → BeginsWith middle start → BeginsWith h start
   pub entries : (h start : History) (e : Entry) → BeginsWith h start → Contains start e → Contains h e
-  pub legal : (seats : ℕ) (h start : History) → BeginsWith h start → IsLegal seats h → IsLegal seats start
+  pub legal : (settings : Settings) (seats : ℕ) (h start : History) → BeginsWith h start → IsLegal settings seats h → IsLegal settings seats start
 
 -- The floor stands where it did at first, or it is older than the retention at the moment of some entry.
 abbrev pub FloorBehind : Type 0
@@ -32,9 +33,9 @@ FloorBehind = (settings : Settings) (h : History) →
     ((state_of settings h).floor ≡ settings.low_water)
     ⊎ ((e : Entry) × (limit : Time) × Contains h e × (time_minus e.now settings.retention ≡ Some limit) × (is_before (state_of settings h).floor limit ≡ true))
 
--- A lookup answers what the floor and all entries on the span come to together, kept or not, dropped or not.
+-- A lookup answers what the floor and all marks of entries on the span come to together, kept or not, dropped or not.
 abbrev pub Real : Type 0
-Real = (settings : Settings) (h : History) (s : Interval) → look (state_of settings h) s ≡ joint_above (state_of settings h).floor (entries_on s h)
+Real = (settings : Settings) (h : History) (s : Interval) → look (state_of settings h) s ≡ joint_above (state_of settings h).floor (marks_on s h)
 
 -- A write of a transaction is clear of a read where it is later, or at the same time and the read is the transaction's own.
 abbrev pub IsClearOf : OwnedTime → Owner → Time → Type 0
@@ -43,7 +44,7 @@ IsClearOf read writer time = (is_before read.time time ≡ true) ⊎ ((read.time
 -- A write that is clear of what a lookup of its span answers is clear of each read of the history that overlaps the span.
 abbrev pub NoWriteBelowARead : Type 0
 NoWriteBelowARead = (settings : Settings) (h : History) (s : Interval) (writer : Owner) (time : Time) → IsClearOf (look (state_of settings h) s) writer time
-    → (e : Entry) → Contains h e → overlaps e.span s ≡ true → IsClearOf e.value writer time
+    → (e : Entry) (m : Mark) → Contains h e → Contains e.marks m → overlaps m.span s ≡ true → IsClearOf m.value writer time
 
 -- An eviction parts the pages into those that stay and those that it drops, and lifts the floor to the latest of itself and of their tops.
 pub record PartsPages (settings : Settings) (now floor : Time) (pages : List PageMarks) : Type 0 where
@@ -58,3 +59,19 @@ pub record PartsPages (settings : Settings) (now floor : Time) (pages : List Pag
 -- Whatever the settings, the moment, the floor and the pages are, an eviction does so.
 abbrev pub EvictsExpired : Type 0
 EvictsExpired = (settings : Settings) (now floor : Time) (pages : List PageMarks) → PartsPages settings now floor pages
+
+-- An Add of a list of one mark is the Add of that mark.
+abbrev pub OneMarkIsAStep : Type 0
+OneMarkIsAStep = (settings : Settings) (s : CacheState) (m : Mark) (now : Time) → step_all settings s (m ∷ []) now ≡ step settings s m now
+
+-- The size of a page for a cost behind a page of some size: that size, doubled so often and no more than the most, is at least the cost, and doubled less often it is not.
+pub record IsFirstDoubled (most size cost next : ℕ) : Type 0 where
+  pub times : ℕ
+  pub some : 1 ≤ times
+  pub is : next ≡ doubled most size times
+  pub enough : cost ≤ next
+  pub before : (fewer : ℕ) → 1 ≤ fewer → fewer < times → doubled most size fewer < cost
+
+-- So it is whatever the sizes are, where the cost is no more than the most.
+abbrev pub SizesDouble : Type 0
+SizesDouble = (most size cost : ℕ) → 64 ≤ size → most ≤ 1073741824 → cost ≤ most → IsFirstDoubled most size cost (next_size most size cost)

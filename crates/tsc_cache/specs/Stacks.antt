@@ -23,11 +23,6 @@ abbrev pub AreStacked : List PageView → Type 0
 AreStacked [] = Unit {0}
 AreStacked (p ∷ ps) = NoAnswerAboveTop p × HaveTopsUpTo p.top ps × AreStacked ps
 
--- each page may hold so many nodes
-abbrev pub HaveLimit : ℕ → List PageView → Type 0
-HaveLimit n [] = Unit {0}
-HaveLimit n (p ∷ ps) = (p.page_nodes ≡ n) × HaveLimit n ps
-
 -- the top of the oldest page, where there are enough pages and that one is expired
 abbrev pub IsExpiredTop : Settings → Time → List PageView → Option Time → Type 0
 IsExpiredTop settings now pages None = OldestStays settings now (map (λ p. p.top) pages)

@@ -1,13 +1,13 @@
-ghost use Rattle.std.specs.Prelude.{◌≡◌, length, false, IsOk, IfOk, OnOk, OnErr};
+ghost use Rattle.std.specs.Prelude.{◌≡◌, ◌↔◌, length, true, false, IsOk, IfOk, IsErrOf, OnOk, OnErr};
 ghost use Rattle.tsc_span.specs.Span.{is_empty_span};
-ghost use Rattle.tsc_cache.specs.Settings.{Settings};
+ghost use Rattle.tsc_cache.specs.Settings.{Settings, fits};
 ghost use Rattle.tsc_cache.specs.State.{CacheState, opening, step, look, is_kept, kept_after_rotation};
 ghost use Rattle.tsc_cache.specs.Lookup.{LooksIntoPages};
 ghost use Rattle.tsc_cache.specs.CacheView.{StandsForState, Adds, RotatesWith, cache_answer, LooksIntoViews};
 
 use crate::config::counted_on;
 use crate::pages::Pages;
-use crate::{Added, Config};
+use crate::{Added, CacheFault, Config};
 use std::alloc::Global;
 use std::marker::Model;
 use tsc_page::Page;
@@ -31,11 +31,11 @@ impl Model for Cache {
     ghost Value = { CacheView };
 
     ghost use Rattle.tsc_cache.specs.CacheParts.{pages_of};
-    ghost use Rattle.tsc_cache.specs.Stacks.{AreStacked, HaveLimit};
+    ghost use Rattle.tsc_cache.specs.Stacks.{AreStacked};
 
     ghost view = { λ c. record { settings = c.config; floor = c.floor; pages = pages_of c.pages; rotations = c.rotations } };
 
-    ghost invariant = { λ c. AreStacked (pages_of c.pages) × HaveLimit c.config.page_nodes (pages_of c.pages) };
+    ghost invariant = { λ c. AreStacked (pages_of c.pages) };
 }
 
 impl Cache {
@@ -44,7 +44,7 @@ impl Cache {
     pub fn new(alloc: Global, config: Config) -> Result<Cache, NoMemory>
         ensures stands { IfOk result (λ cache. StandsForState cache config (opening config)) }
     {
-        let front = Page::new(alloc, config.page_nodes(), Timestamp::ZERO)?;
+        let front = Page::new(alloc, config.page_first(), Timestamp::ZERO)?;
         Ok(Cache {
             config,
             floor: config.low_water(),
@@ -61,22 +61,20 @@ impl Cache {
     /// to a copy of it else. Where the page has no room the pages rotate first, and a new one is made.
     ///
     /// It restates `intervalSkl.AddRange` of CockroachDB's `pkg/kv/kvserver/tscache/interval_skl.go`.
-    pub fn add(&mut self, span: &Span, value: Value, now: Timestamp) -> Result<Added, NoMemory>
+    pub fn add(&mut self, span: &Span, value: Value, now: Timestamp) -> Result<Added, CacheFault>
         ensures stands { OnOk result ((settings : Settings) (s : CacheState) → StandsForState self.old settings s
             → StandsForState self.new settings (step settings s (record { span = span.now; value = value }) now).state) }
         ensures added { IfOk result (λ added. (settings : Settings) (s : CacheState) → StandsForState self.old settings s
             → added ≡ (step settings s (record { span = span.now; value = value }) now).added) }
         ensures seen { IfOk result (λ added. Adds self.old self.new (record { span = span.now; value = value }) now added) }
+        ensures too_large { IsErrOf result CacheFault.TooLarge ↔ (fits self.old.settings span.now ≡ false) }
         ensures unchanged { OnErr result (self.new ≡ self.old) }
-        ensures memory { is_kept self.old.floor (record { span = span.now; value = value }) ≡ false → IsOk result }
+        ensures memory { fits self.old.settings span.now ≡ true → is_kept self.old.floor (record { span = span.now; value = value }) ≡ false → IsOk result }
     {
-        if !self.keeps(span, value) {
-            return Ok(Added::nothing());
+        if !self.config.fits(span) {
+            return Err(CacheFault::TooLarge);
         }
-        if self.pages.mark_front(span, value)? {
-            return Ok(Added::without_rotation());
-        }
-        self.rotate(span, value, now)
+        Ok(self.add_fitting(span, value, now)?)
     }
 
     /// The cache after an Add, beside this one, which stays as it is. The two share the pages that
@@ -88,20 +86,24 @@ impl Cache {
         span: &Span,
         value: Value,
         now: Timestamp,
-    ) -> Result<(Cache, Added), NoMemory>
+    ) -> Result<(Cache, Added), CacheFault>
         ensures stands { IfOk result (λ next. (settings : Settings) (s : CacheState) → StandsForState self.now settings s
             → StandsForState next.0 settings (step settings s (record { span = span.now; value = value }) now).state) }
         ensures added { IfOk result (λ next. (settings : Settings) (s : CacheState) → StandsForState self.now settings s
             → next.1 ≡ (step settings s (record { span = span.now; value = value }) now).added) }
         ensures seen { IfOk result (λ next. Adds self.now next.0 (record { span = span.now; value = value }) now next.1) }
+        ensures too_large { IsErrOf result CacheFault.TooLarge ↔ (fits self.now.settings span.now ≡ false) }
     {
+        if !self.config.fits(span) {
+            return Err(CacheFault::TooLarge);
+        }
         let mut next = Cache {
             config: self.config,
             floor: self.floor,
             pages: self.pages.share()?,
             rotations: self.rotations,
         };
-        let added = next.add(span, value, now)?;
+        let added = next.add_fitting(span, value, now)?;
         Ok((next, added))
     }
 
@@ -152,6 +154,26 @@ impl Cache {
         self.rotations
     }
 
+    /// Adds a span that fits.
+    fn add_fitting(&mut self, span: &Span, value: Value, now: Timestamp) -> Result<Added, NoMemory>
+        requires fits { fits self.old.settings span.now ≡ true }
+        ensures stands { OnOk result ((settings : Settings) (s : CacheState) → StandsForState self.old settings s
+            → StandsForState self.new settings (step settings s (record { span = span.now; value = value }) now).state) }
+        ensures added { IfOk result (λ added. (settings : Settings) (s : CacheState) → StandsForState self.old settings s
+            → added ≡ (step settings s (record { span = span.now; value = value }) now).added) }
+        ensures seen { IfOk result (λ added. Adds self.old self.new (record { span = span.now; value = value }) now added) }
+        ensures unchanged { OnErr result (self.new ≡ self.old) }
+        ensures memory { is_kept self.old.floor (record { span = span.now; value = value }) ≡ false → IsOk result }
+    {
+        if !self.keeps(span, value) {
+            return Ok(Added::nothing());
+        }
+        if self.pages.mark_front(span, value)? {
+            return Ok(Added::without_rotation());
+        }
+        self.rotate(span, value, now)
+    }
+
     /// Whether an Add is kept.
     fn keeps(&self, span: &Span, value: Value) -> bool
         ensures { result ≡ is_kept self.now.floor (record { span = span.now; value = value }) }
@@ -163,16 +185,15 @@ impl Cache {
     /// the first change.
     fn rotate(&mut self, span: &Span, value: Value, now: Timestamp) -> Result<Added, NoMemory>
         requires not_empty { is_empty_span span.now ≡ false }
+        requires fits { fits self.old.settings span.now ≡ true }
         ensures rotated { IfOk result (λ added. RotatesWith self.old self.new (record { span = span.now; value = value }) now added.evicted
             × (added ≡ kept_after_rotation added.evicted)) }
         ensures settings { self.new.settings ≡ self.old.settings }
         ensures unchanged { OnErr result (self.new ≡ self.old) }
     {
-        let mut front = Page::new(
-            self.pages.alloc(),
-            self.config.page_nodes(),
-            self.pages.front().top(),
-        )?;
+        let former = self.pages.front();
+        let size = self.config.next_size(former.size(), span.cost());
+        let mut front = Page::new(self.pages.alloc(), size, former.top())?;
         front.add(span, value)?;
         self.pages.push_front(front)?;
         let (floor, evicted) = self.pages.evict(&self.config, self.floor, now);

@@ -1,10 +1,12 @@
-ghost use Rattle.std.specs.Prelude.{◌≡◌, ◌≤◌};
-ghost use Rattle.tsc_cache.specs.Settings.{Settings, settings_of, IsWithinLimits};
-ghost use Rattle.tsc_cache.specs.State.{is_past_retention, counted_on};
+ghost use Rattle.std.specs.Prelude.{◌≡◌, ◌≤◌, ◌*◌, min};
+ghost use Rattle.tsc_nodes.specs.declared.TheConstants.{LEAST_SIZE, MOST_SIZE};
+ghost use Rattle.tsc_cache.specs.Settings.{Settings, settings_of, fits, IsWithinLimits};
+ghost use Rattle.tsc_cache.specs.State.{is_past_retention, next_size, counted_on};
 
 use std::marker::Model;
 use thiserror::Error;
-use tsc_page::{LEAST_NODES, MOST_NODES};
+use tsc_page::{LEAST_SIZE, MOST_SIZE};
+use tsc_span::Span;
 use tsc_time::Timestamp;
 
 /// The least that `min_pages` may be.
@@ -16,11 +18,14 @@ pub const MOST_MIN_PAGES: u32 = 64;
 /// For how many nanoseconds reads may be retained at the most.
 pub const LONGEST_RETENTION: u64 = 9_223_372_036_854_775_807;
 
+/// How often a size is doubled at the most: from the least size on that leads beyond the greatest.
+const DOUBLINGS: u32 = 32;
+
 /// Why a configuration was refused.
 #[derive(Clone, Copy, Debug, PartialEq, Eq, Error)]
 pub enum ConfigFault {
-    /// `page_nodes` is below 2 or above 65,536.
-    #[error("page_nodes is 2 to 65536")]
+    /// `page_first` is below 64 or above `page_max`, or that is above 2^30.
+    #[error("page_first is 64 to page_max, and page_max is at most 2^30")]
     PageSize,
     /// `min_pages` is 0 or above 64.
     #[error("min_pages is 1 to 64")]
@@ -36,7 +41,8 @@ pub enum ConfigFault {
 /// 10,000,000,000 nanoseconds.
 #[derive(Clone, Copy, Debug, PartialEq, Eq)]
 pub struct Config {
-    page_nodes: u32,
+    page_first: u32,
+    page_max: u32,
     min_pages: u32,
     retention: u64,
     low_water: Timestamp,
@@ -47,28 +53,29 @@ impl Model for Config {
 
     ghost Value = { Settings };
 
-    ghost view = { λ c. record { page_nodes = c.page_nodes; min_pages = c.min_pages; retention = c.retention; low_water = c.low_water } };
+    ghost view = { λ c. record { page_first = c.page_first; page_max = c.page_max; min_pages = c.min_pages; retention = c.retention; low_water = c.low_water } };
 
-    ghost invariant = { λ c. IsWithinLimits (record { page_nodes = c.page_nodes; min_pages = c.min_pages; retention = c.retention; low_water = c.low_water }) };
+    ghost invariant = { λ c. IsWithinLimits (record { page_first = c.page_first; page_max = c.page_max; min_pages = c.min_pages; retention = c.retention; low_water = c.low_water }) };
 
-    ghost inverse = { λ s. record { page_nodes = s.page_nodes; min_pages = s.min_pages; retention = s.retention; low_water = s.low_water } };
+    ghost inverse = { λ s. record { page_first = s.page_first; page_max = s.page_max; min_pages = s.min_pages; retention = s.retention; low_water = s.low_water } };
 }
 
 impl Config {
     /// The configuration of these values, or the first fault in the order of [`ConfigFault`].
     ///
-    /// `page_nodes` bounds how many different end keys a page holds. A page is dropped only while there
-    /// are at least `min_pages`, and only once all of it is older than `retention` nanoseconds.
+    /// The first page has `page_first` bytes, and no page has more than `page_max`. A page is dropped only while
+    /// there are at least `min_pages`, and only once all of it is older than `retention` nanoseconds.
     /// `low_water` is where the floor stands at first.
     pub fn new(
-        page_nodes: u32,
+        page_first: u32,
+        page_max: u32,
         min_pages: u32,
         retention: u64,
         low_water: Timestamp,
     ) -> Result<Config, ConfigFault>
-        ensures { result ≡ settings_of page_nodes min_pages retention low_water }
+        ensures { result ≡ settings_of page_first page_max min_pages retention low_water }
     {
-        if !(LEAST_NODES..=MOST_NODES).contains(&page_nodes) {
+        if page_first < LEAST_SIZE || page_max < page_first || MOST_SIZE < page_max {
             return Err(ConfigFault::PageSize);
         }
         if !(LEAST_MIN_PAGES..=MOST_MIN_PAGES).contains(&min_pages) {
@@ -78,21 +85,65 @@ impl Config {
             return Err(ConfigFault::Retention);
         }
         Ok(Config {
-            page_nodes,
+            page_first,
+            page_max,
             min_pages,
             retention,
             low_water,
         })
     }
 
-    /// How many different end keys a page may hold.
-    pub fn page_nodes(&self) -> u32
-        ensures value { result ≡ self.now.page_nodes }
+    /// How many bytes the first page may have.
+    pub fn page_first(&self) -> u32
+        ensures value { result ≡ self.now.page_first }
         ensures limits { IsWithinLimits self.now }
-        ensures least { LEAST_NODES ≤ result }
-        ensures most { result ≤ MOST_NODES }
+        ensures least { LEAST_SIZE ≤ result }
+        ensures most { result ≤ MOST_SIZE }
     {
-        self.page_nodes
+        self.page_first
+    }
+
+    /// How many bytes a page may have at the most.
+    pub fn page_max(&self) -> u32
+        ensures value { result ≡ self.now.page_max }
+        ensures least { LEAST_SIZE ≤ result }
+        ensures most { result ≤ MOST_SIZE }
+    {
+        self.page_max
+    }
+
+    /// Whether a span fits the largest page: whether it [costs](Span::cost) no more than `page_max`.
+    pub fn fits(&self, span: &Span) -> bool
+        ensures { result ≡ fits self.now span.now }
+    {
+        span.cost() <= self.page_max
+    }
+
+    /// The size of a page for a span of this cost, behind one of this size: the first of twice that size, four times that
+    /// size and so on, each no more than `page_max`, that is at least the cost.
+    pub(crate) fn next_size(&self, size: u32, cost: u32) -> u32
+        ensures value { result ≡ next_size self.now.page_max size cost }
+        ensures enough { cost ≤ self.now.page_max → cost ≤ result }
+        ensures least { LEAST_SIZE ≤ size → LEAST_SIZE ≤ result }
+        ensures most { result ≤ MOST_SIZE }
+    {
+        let mut next = size;
+        for times in 0..DOUBLINGS {
+            next = self.doubled(next);
+            if cost <= next {
+                return next;
+            }
+        }
+        self.page_max
+    }
+
+    /// Twice a size, and no more than `page_max`.
+    fn doubled(&self, size: u32) -> u32
+        ensures value { result ≡ min self.now.page_max (2 * size) }
+        ensures least { LEAST_SIZE ≤ size → LEAST_SIZE ≤ result }
+        ensures most { result ≤ MOST_SIZE }
+    {
+        size.saturating_mul(2).min(self.page_max)
     }
 
     /// How many pages there are at the least when one is dropped.

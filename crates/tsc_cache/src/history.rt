@@ -1,5 +1,6 @@
-use tsc_span::Span;
-use tsc_time::{Timestamp, Value};
+use crate::Mark;
+use std::collections::LinkedList;
+use tsc_time::Timestamp;
 
 /// An Add as histories have it.
 ///
@@ -11,10 +12,8 @@ pub struct Entry {
     pub seat: u32,
     /// How many Adds of that seat stand before it.
     pub number: u64,
-    /// What was read.
-    pub span: Span,
-    /// When, and by whom.
-    pub value: Value,
+    /// What was added, one mark after another.
+    pub marks: LinkedList<Mark>,
     /// The moment of the Add.
     pub now: Timestamp,
 }

@@ -2,9 +2,12 @@
 //!
 //! No program needs to call these functions: their contracts are the laws. Whoever keeps a history, as a
 //! ghost, calls [`can_be_added`] to know of an Add that it may stand there.
-ghost use Rattle.tsc_cache.specs.Laws.{KeptUp, Rising, Beginnings, FloorBehind, Real, NoWriteBelowARead, EvictsExpired};
+ghost use Rattle.tsc_cache.specs.Laws.{KeptUp, Rising, Beginnings, FloorBehind, Real, NoWriteBelowARead, EvictsExpired, OneMarkIsAStep, SizesDouble};
+ghost use Rattle.tsc_cache.specs.Settings.{fits};
 ghost use Rattle.tsc_cache.specs.History.{CanBeAdded};
+ghost use Rattle.std.specs.Prelude.{◌≡◌, true};
 
+use crate::Config;
 use tsc_span::Span;
 use tsc_time::{Timestamp, Value};
 
@@ -53,10 +56,21 @@ pub fn evicts_the_expired()
     ensures { EvictsExpired }
 {}
 
-/// Whatever a program holds as a span, a value and a moment can be added: the entry is one that a caller
-/// can make.
-pub fn can_be_added(span: &Span, value: Value, now: Timestamp)
-    ensures { CanBeAdded span.now value now }
+/// An Add of a list of one mark is the Add of that mark.
+pub fn one_mark_is_a_step()
+    ensures { OneMarkIsAStep }
+{}
+
+/// A new page is the first of twice, four times, eight times the size and so on of the one before it, each no larger than
+/// the largest, that the span fits.
+pub fn sizes_double()
+    ensures { SizesDouble }
+{}
+
+/// Whatever a program holds as a span that fits a page, a value and a moment can be added: the entry is one that a
+/// caller can make.
+pub fn can_be_added(config: &Config, span: &Span, value: Value, now: Timestamp)
+    ensures { fits config.now span.now ≡ true → CanBeAdded config.now (record { span = span.now; value = value }) now }
 {
     let _cuts = span.cuts();
 }

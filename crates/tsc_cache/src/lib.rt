@@ -1,9 +1,10 @@
 //! The timestamp cache on one thread.
 //!
 //! A [`Cache`] remembers the latest time at which each span was read. What is added stands on pages of a
-//! bounded size. Where the newest page has no room for an Add, the pages *rotate*: the oldest ones are
-//! dropped, if they are old enough, and an empty one comes to the front. For what was on a dropped page the
-//! *floor* answers from then on, which has risen to its top. So an answer may be later than the reads that
+//! bounded size in bytes. Where the newest page has no room for an Add, the pages *rotate*: the oldest ones are
+//! dropped, if they are old enough, and an empty one comes to the front, twice as large as the one before it, or larger
+//! where the span wants that, up to the largest size. For what was on a dropped page the *floor* answers from then
+//! on, which has risen to its top. So an answer may be later than the reads that
 //! there were, and never earlier.
 //!
 //! It restates `intervalSkl` and `Cache` of CockroachDB's `pkg/kv/kvserver/tscache` (`interval_skl.go` and
@@ -17,8 +18,10 @@
 mod added;
 mod cache;
 mod config;
+mod fault;
 mod history;
 pub mod laws;
+mod mark;
 mod pages;
 mod plain;
 mod plain_pages;
@@ -26,5 +29,7 @@ mod plain_pages;
 pub use added::Added;
 pub use cache::Cache;
 pub use config::{Config, ConfigFault, LEAST_MIN_PAGES, LONGEST_RETENTION, MOST_MIN_PAGES};
+pub use fault::CacheFault;
 pub use history::Entry;
+pub use mark::Mark;
 pub use plain::PlainCache;

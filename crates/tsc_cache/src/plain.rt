@@ -1,12 +1,12 @@
-ghost use Rattle.std.specs.Prelude.{◌≡◌, length, false, IsOk, IfOk, OnOk, OnErr};
+ghost use Rattle.std.specs.Prelude.{◌≡◌, ◌↔◌, length, true, false, IsOk, IfOk, IsErrOf, OnOk, OnErr};
 ghost use Rattle.tsc_span.specs.Span.{is_empty_span};
-ghost use Rattle.tsc_cache.specs.Settings.{Settings};
+ghost use Rattle.tsc_cache.specs.Settings.{Settings, fits};
 ghost use Rattle.tsc_cache.specs.State.{CacheState, opening, step, look, is_kept, kept_after_rotation};
 ghost use Rattle.tsc_cache.specs.CacheView.{StandsForState, Adds, RotatesWith, cache_answer};
 
 use crate::config::counted_on;
 use crate::plain_pages::PlainPages;
-use crate::{Added, Config};
+use crate::{Added, CacheFault, Config};
 use std::alloc::Global;
 use std::marker::Model;
 use tsc_page::PlainPage;
@@ -32,11 +32,8 @@ impl Model for PlainCache {
     ghost Value = { CacheView };
 
     ghost use Rattle.tsc_cache.specs.CacheParts.{plain_pages_of};
-    ghost use Rattle.tsc_cache.specs.Stacks.{HaveLimit};
 
     ghost view = { λ c. record { settings = c.config; floor = c.floor; pages = plain_pages_of c.pages; rotations = c.rotations } };
-
-    ghost invariant = { λ c. HaveLimit c.config.page_nodes (plain_pages_of c.pages) };
 }
 
 impl PlainCache {
@@ -46,7 +43,7 @@ impl PlainCache {
         ensures stands { IfOk result (λ cache. StandsForState cache config (opening config)) }
         ensures memory { IsOk result }
     {
-        let front = PlainPage::new(alloc, config.page_nodes(), Timestamp::ZERO)?;
+        let front = PlainPage::new(alloc, config.page_first(), Timestamp::ZERO)?;
         Ok(PlainCache {
             config,
             floor: config.low_water(),
@@ -58,23 +55,20 @@ impl PlainCache {
     /// Adds a span with its value, at the moment `now`: who read what, and when. Where memory is refused the
     /// cache is as before. An Add of the empty span, or with a time at or below the floor, is not kept: it
     /// changes nothing and takes no memory.
-    pub fn add(&mut self, span: &Span, value: Value, now: Timestamp) -> Result<Added, NoMemory>
+    pub fn add(&mut self, span: &Span, value: Value, now: Timestamp) -> Result<Added, CacheFault>
         ensures stands { OnOk result ((settings : Settings) (s : CacheState) → StandsForState self.old settings s
             → StandsForState self.new settings (step settings s (record { span = span.now; value = value }) now).state) }
         ensures added { IfOk result (λ added. (settings : Settings) (s : CacheState) → StandsForState self.old settings s
             → added ≡ (step settings s (record { span = span.now; value = value }) now).added) }
         ensures seen { IfOk result (λ added. Adds self.old self.new (record { span = span.now; value = value }) now added) }
+        ensures too_large { IsErrOf result CacheFault.TooLarge ↔ (fits self.old.settings span.now ≡ false) }
         ensures unchanged { OnErr result (self.new ≡ self.old) }
-        ensures memory { is_kept self.old.floor (record { span = span.now; value = value }) ≡ false → IsOk result }
+        ensures memory { fits self.old.settings span.now ≡ true → is_kept self.old.floor (record { span = span.now; value = value }) ≡ false → IsOk result }
     {
-        if !self.keeps(span, value) {
-            return Ok(Added::nothing());
+        if !self.config.fits(span) {
+            return Err(CacheFault::TooLarge);
         }
-        if self.pages.front().room(span) {
-            self.pages.mark_front(span, value)?;
-            return Ok(Added::without_rotation());
-        }
-        self.rotate(span, value, now)
+        Ok(self.add_fitting(span, value, now)?)
     }
 
     /// What the floor, and each Add that overlaps the span, come to together.
@@ -109,6 +103,27 @@ impl PlainCache {
         self.rotations
     }
 
+    /// Adds a span that fits.
+    fn add_fitting(&mut self, span: &Span, value: Value, now: Timestamp) -> Result<Added, NoMemory>
+        requires fits { fits self.old.settings span.now ≡ true }
+        ensures stands { OnOk result ((settings : Settings) (s : CacheState) → StandsForState self.old settings s
+            → StandsForState self.new settings (step settings s (record { span = span.now; value = value }) now).state) }
+        ensures added { IfOk result (λ added. (settings : Settings) (s : CacheState) → StandsForState self.old settings s
+            → added ≡ (step settings s (record { span = span.now; value = value }) now).added) }
+        ensures seen { IfOk result (λ added. Adds self.old self.new (record { span = span.now; value = value }) now added) }
+        ensures unchanged { OnErr result (self.new ≡ self.old) }
+        ensures memory { is_kept self.old.floor (record { span = span.now; value = value }) ≡ false → IsOk result }
+    {
+        if !self.keeps(span, value) {
+            return Ok(Added::nothing());
+        }
+        if self.pages.front().room(span) {
+            self.pages.mark_front(span, value)?;
+            return Ok(Added::without_rotation());
+        }
+        self.rotate(span, value, now)
+    }
+
     /// Whether an Add is kept.
     fn keeps(&self, span: &Span, value: Value) -> bool
         ensures { result ≡ is_kept self.now.floor (record { span = span.now; value = value }) }
@@ -120,16 +135,15 @@ impl PlainCache {
     /// the first change.
     fn rotate(&mut self, span: &Span, value: Value, now: Timestamp) -> Result<Added, NoMemory>
         requires not_empty { is_empty_span span.now ≡ false }
+        requires fits { fits self.old.settings span.now ≡ true }
         ensures rotated { IfOk result (λ added. RotatesWith self.old self.new (record { span = span.now; value = value }) now added.evicted
             × (added ≡ kept_after_rotation added.evicted)) }
         ensures settings { self.new.settings ≡ self.old.settings }
         ensures unchanged { OnErr result (self.new ≡ self.old) }
     {
-        let mut front = PlainPage::new(
-            self.pages.alloc(),
-            self.config.page_nodes(),
-            self.pages.front().top(),
-        )?;
+        let former = self.pages.front();
+        let size = self.config.next_size(former.size(), span.cost());
+        let mut front = PlainPage::new(self.pages.alloc(), size, former.top())?;
         front.add(span, value)?;
         self.pages.push_front(front)?;
         let (floor, evicted) = self.pages.evict(&self.config, self.floor, now);

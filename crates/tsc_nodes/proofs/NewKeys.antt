@@ -1,5 +1,5 @@
 -- What nodes for new keys make of the list.
-use Rattle.std.proofs.Common.{◌≡◌, inl, inr, ◌∙◌, refl, sym, ap, subst, Bool, true, false, ◌||◌, ℕ, List, [], ◌∷◌, ◌++◌, arith}
+use Rattle.std.proofs.Common.{◌≡◌, inl, inr, ◌∙◌, refl, sym, ap, subst, Bool, true, false, cond, ◌||◌, ◌+◌, ℕ, List, [], ◌∷◌, ◌++◌, length, arith}
 use mathlib.Core.Bool.{true≢false}
 use Rattle.std.specs.Prelude.{Option, Some, None, not, is_some}
 use Rattle.std.specs.Option.{option_to_list}
@@ -13,7 +13,7 @@ use Rattle.tsc_time.specs.OwnedTime.{unowned}
 use Rattle.std.proofs.lemmas.Bool.{cases_Bool}
 use Rattle.tsc_span.specs.Span.{KeyBytes, before, after, is_below}
 use Rattle.tsc_nodes.specs.PageView.{is_in, is_new_among}
-use Rattle.tsc_nodes.specs.Nodes.{Node, node_keys, IsSorted, FitsAt, FitsIn, IsNewKey, IsInOrder, IsSplitAt, MakesNodes, with_new, node_in_gap, gap_value}
+use Rattle.tsc_nodes.specs.Nodes.{Node, node_keys, IsSorted, FitsAt, FitsIn, IsNewKey, IsInOrder, IsSplitAt, MakesNodes, new_count, with_new, node_in_gap, gap_value}
 use Rattle.tsc_nodes.proofs.Splits.{split_answers}
 use Rattle.tsc_nodes.proofs.Edits.{insert-sorted, insert-keys, FitsAt-below, FitsAt-absent}
 
@@ -109,3 +109,24 @@ makes_sorted old mid o p sorted order made =
     let once = with_new_splits old p made.upper sorted made.has_upper in
     let twice = with_new_splits (with_new old made.upper) o made.lower once.sorted (still_new old o p made.lower made.upper sorted order made.has_lower made.has_upper) in
     subst IsSorted (sym made.nodes) twice.sorted
+
+-- how many nodes there are with a new one
+pub with_new-length : (ns : List Node) (g : Option (ℕ × KeyBytes)) → FitsIn ns g → length (with_new ns g) ≡ length ns + cond (is_some g) 1 0
+with_new-length ns None fits = omega arith
+with_new-length ns (Some f) fits = length-insert ns f.0 (node_in_gap f.1 (gap_value (unowned zero_time) ns f.0)) fits.1
+
+-- and with two of them
+pub made_length : (ns : List Node) (o q : Option KeyBytes) (h g : Option (ℕ × KeyBytes)) → IsSorted ns → IsInOrder o q → IsNewKey ns o h → IsNewKey ns q g → length (with_new (with_new ns g) h) ≡ length ns + new_count h g
+made_length ns o q h g sorted order has_lower has_upper =
+    let one = with_new-length ns g (new_fits ns q g has_upper) in
+    let two = with_new-length (with_new ns g) h (new_fits (with_new ns g) o h (still_new ns o q h g sorted order has_lower has_upper)) in
+    omega (arith, one, two)
+
+-- what is needed to make them
+pub made_ready : (ns : List Node) (o q : Option KeyBytes) (h g : Option (ℕ × KeyBytes)) → IsSorted ns → IsInOrder o q → IsNewKey ns o h → IsNewKey ns q g → IsSorted (with_new (with_new ns g) h) × FitsIn (with_new ns g) h
+made_ready ns o q h g sorted order has_lower has_upper =
+    let once = with_new_splits ns q g sorted has_upper in
+    let still = still_new ns o q h g sorted order has_lower has_upper in (
+      (with_new_splits (with_new ns g) o h once.sorted still).sorted,
+      new_fits (with_new ns g) o h still,
+    )

@@ -11,13 +11,13 @@ use Rattle.tsc_time.specs.Time.{Time, zero_time, later}
 use Rattle.tsc_time.specs.OwnedTime.{OwnedTime, unowned}
 use Rattle.tsc_time.specs.Joint.{joint, joint_above, latest}
 use Rattle.tsc_time.proofs.JointLemmas.{joint-append}
-use Rattle.tsc_span.specs.Span.{KeyBytes, Interval, overlaps, end_keys}
-use Rattle.tsc_nodes.specs.Page.{Mark, PageMarks, with_mark, values_on, marked_keys, count_distinct}
-use Rattle.tsc_nodes.specs.PageView.{StandsFor, is_in, is_new_among, view_of}
+use Rattle.tsc_span.specs.Span.{KeyBytes, Interval, overlaps, end_keys, key_cost}
+use Rattle.tsc_nodes.specs.Page.{Mark, PageMarks, with_mark, values_on, marked_keys, count_distinct, cost_distinct}
+use Rattle.tsc_nodes.specs.PageView.{StandsFor, is_in, new_weight, is_new_among, view_of}
 use Rattle.tsc_nodes.proofs.DistinctKeys.{has_no_repeats}
 use Rattle.tsc_nodes.proofs.Ends.{end_keys_once}
 use Rattle.tsc_nodes.proofs.Lookups.{values_on-more}
-use Rattle.tsc_nodes.proofs.Standing.{latest-push, top_with, one_if, count_before}
+use Rattle.tsc_nodes.proofs.Standing.{latest-push, top_with, one_if, weigh_before, count_before}
 
 -- a mark of a span and a value
 abbrev pub mark_of : Interval → OwnedTime → Mark
@@ -57,8 +57,9 @@ pub answers_push : (marks : List Mark) (m : Mark) (s : Interval) → joint_above
 answers_push marks m s = ap (joint_above zero_time) (values_on-more s marks m) ∙ joined (overlaps m.span s) (values_on s marks) m.value
 
 -- a list that stands for another still does with the same mark on both
-pub push_stands : (limit : ℕ) (q p : PageMarks) (m : Mark) → StandsFor (view_of limit q) p → StandsFor (view_of limit (with_mark q m)) (with_mark p m)
-push_stands limit q p m stands = record {
+pub push_stands : (q p : PageMarks) (m : Mark) → StandsFor (view_of q) p → StandsFor (view_of (with_mark q m)) (with_mark p m)
+push_stands q p m stands = record {
+  size = stands.size;
   top = top_with q m ∙ ap (λ t. later t m.value.time) stands.top ∙ sym (top_with p m);
   keys = λ k. in_push k q.marks m ∙ ap (λ b. b || is_in k (end_keys m.span)) (stands.keys k) ∙ sym (in_push k p.marks m);
   answers = λ s. answers_push q.marks m s ∙ ap (λ (w : OwnedTime). cond (overlaps m.span s) (joint w (m.value ∷ [])) w) (stands.answers s) ∙ sym (answers_push p.marks m s);
@@ -71,4 +72,13 @@ next_counted count total rest later_marks m o p is ends so_far =
     let once = subst (λ ks. has_no_repeats ks ≡ true) (sym ends) (end_keys_once m.span) in
     let more : count_distinct (marked_keys rest) ≡ one_if (is_new_among (marked_keys later_marks) o) + one_if (is_new_among (marked_keys later_marks) p) + count_distinct (marked_keys later_marks) =
     ap (λ ms. count_distinct (marked_keys ms)) is ∙ ap (λ ks. count_distinct (ks ++ marked_keys later_marks)) (sym ends) ∙ count_before (marked_keys later_marks) o p once in
+    omega (arith, more, so_far)
+
+-- and so do those that cost something
+pub next_costs : (cost total : ℕ) (rest later_marks : List Mark) (m : Mark) (o p : Option KeyBytes) → rest ≡ m ∷ later_marks → option_to_list o ++ option_to_list p ≡ end_keys m.span
+    → cost + cost_distinct (marked_keys rest) ≡ total → (cost + (new_weight key_cost (marked_keys later_marks) o + new_weight key_cost (marked_keys later_marks) p)) + cost_distinct (marked_keys later_marks) ≡ total
+next_costs cost total rest later_marks m o p is ends so_far =
+    let once = subst (λ ks. has_no_repeats ks ≡ true) (sym ends) (end_keys_once m.span) in
+    let more : cost_distinct (marked_keys rest) ≡ new_weight key_cost (marked_keys later_marks) o + new_weight key_cost (marked_keys later_marks) p + cost_distinct (marked_keys later_marks) =
+    ap (λ ms. cost_distinct (marked_keys ms)) is ∙ ap (λ ks. cost_distinct (ks ++ marked_keys later_marks)) (sym ends) ∙ weigh_before key_cost (marked_keys later_marks) o p once in
     omega (arith, more, so_far)

@@ -6,6 +6,7 @@ use Rattle.std.specs.Prelude.{Option, Some, None, filter, not}
 use Rattle.std.proofs.Math.Bool.{or-true}
 use Rattle.std.specs.Option.{option_to_list}
 use Rattle.std.specs.Ordering.{ord_max}
+use Rattle.std.specs.List.{sum_by}
 use Rattle.std.specs.Str.{bytes_eq}
 use Rattle.std.proofs.lemmas.List.{map-append, append_assoc}
 use Rattle.std.proofs.lemmas.Grind.{flat_map-append}
@@ -17,12 +18,12 @@ use Rattle.tsc_time.specs.Joint.{joint, joint_above, latest}
 use Rattle.tsc_time.proofs.TimeOrder.{later-tells, is_before-opposite, is_before-transitive, no_earlier-transitive, same_from_neither_before}
 use Rattle.tsc_time.proofs.JointLemmas.{joint-append, joint-singleton}
 use Rattle.std.proofs.lemmas.Bool.{cases_Bool}
-use Rattle.tsc_span.specs.Span.{KeyBytes, Cut, before, after, last, Interval, nothing, between, overlaps, end_keys}
-use Rattle.tsc_nodes.specs.Page.{Mark, PageMarks, with_mark, top, values_on, marked_keys, count_distinct, has_room}
-use Rattle.tsc_nodes.specs.PageView.{PageView, StandsFor, NoAnswerAboveTop, answer, is_in, has_room_for, is_new_among}
+use Rattle.tsc_span.specs.Span.{KeyBytes, Cut, before, after, last, Interval, nothing, between, overlaps, end_keys, key_cost, span_cost}
+use Rattle.tsc_nodes.specs.Page.{Mark, PageMarks, with_mark, top, values_on, marked_keys, weigh_distinct, count_distinct, cost_distinct, has_room}
+use Rattle.tsc_nodes.specs.PageView.{PageView, StandsFor, NoAnswerAboveTop, answer, is_in, bytes_of, has_room_for, new_weight, is_new_among}
 use Rattle.tsc_nodes.specs.Nodes.{Node, next_cut, node_stretches, node_keys, IsSorted, IsSplitAt, raise_nodes, answer_of, page_of}
 use Rattle.tsc_nodes.proofs.CutOrder.{Lt, Lt-not_Le, Le-chain, Le-from_Lt, before-after}
-use Rattle.tsc_nodes.proofs.DistinctKeys.{count_distinct-same, count_distinct-push, count_distinct-no_repeats, has_no_repeats, is_in-push}
+use Rattle.tsc_nodes.proofs.DistinctKeys.{weigh_distinct-same, count_distinct-same, weigh_distinct-push, weigh_distinct-no_repeats, count_distinct-no_repeats, has_no_repeats, is_in-push}
 use Rattle.tsc_nodes.proofs.Cuts.{HasCut, first_low, rising_nodes, cuts_of_key, raise_nodes_answers}
 use Rattle.tsc_nodes.proofs.Edits.{raise_nodes-keys, raise_nodes-sorted, raise_nodes-length}
 use Rattle.tsc_nodes.proofs.Ends.{ends_are_nodes, end_keys_once}
@@ -44,7 +45,11 @@ length-map : (ns : List Node) → length (node_keys ns) ≡ length ns
 length-map [] = refl
 length-map (n ∷ ns) = ap suc (length-map ns)
 
--- so they are as many as their different keys
+-- so all of their keys are different ones
+pub weigh_of_nodes : (weight : KeyBytes → ℕ) (ns : List Node) → IsSorted ns → weigh_distinct weight (node_keys ns) ≡ sum_by weight (node_keys ns)
+weigh_of_nodes weight ns sorted = weigh_distinct-no_repeats weight (node_keys ns) (sorted_once ns sorted)
+
+-- and as many as they are
 pub count_of_nodes : (ns : List Node) → IsSorted ns → count_distinct (node_keys ns) ≡ length ns
 count_of_nodes ns sorted = count_distinct-no_repeats (node_keys ns) (sorted_once ns sorted) ∙ length-map ns
 
@@ -65,64 +70,98 @@ differ_back k m once = elim (cases_Bool (bytes_eq m k)) [
   | inr h ↦ h
 ]
 
--- with the end keys of a span keys are as many more as are new
-pub count_with : (ks : List KeyBytes) (o p : Option KeyBytes) → has_no_repeats (option_to_list o ++ option_to_list p) ≡ true
-    → count_distinct (ks ++ (option_to_list o ++ option_to_list p)) ≡ count_distinct ks + one_if (is_new_among ks o) + one_if (is_new_among ks p)
-count_with ks None None once = ap count_distinct (append-nil ks) ∙ omega arith
-count_with ks None (Some m) once = count_distinct-push ks m ∙ one (is_in m ks) (count_distinct ks)
+-- with the end keys of a span keys weigh as much more as those that are new
+pub weigh_with : (weight : KeyBytes → ℕ) (ks : List KeyBytes) (o p : Option KeyBytes) → has_no_repeats (option_to_list o ++ option_to_list p) ≡ true
+    → weigh_distinct weight (ks ++ (option_to_list o ++ option_to_list p)) ≡ weigh_distinct weight ks + new_weight weight ks o + new_weight weight ks p
+weigh_with weight ks None None once = ap (weigh_distinct weight) (append-nil ks) ∙ omega arith
+weigh_with weight ks None (Some m) once = weigh_distinct-push weight ks m ∙ one (is_in m ks) (weigh_distinct weight ks) (weight m)
   where
-    one : (b : Bool) (n : ℕ) → cond b n (suc n) ≡ n + 0 + cond (not b) 1 0
-    one true n = omega arith
-    one false n = omega arith
-count_with ks (Some k) None once = count_distinct-push ks k ∙ one (is_in k ks) (count_distinct ks)
+    one : (b : Bool) (n w : ℕ) → cond b n (w + n) ≡ n + 0 + cond b 0 w
+    one true n w = omega arith
+    one false n w = omega arith
+weigh_with weight ks (Some k) None once = weigh_distinct-push weight ks k ∙ one (is_in k ks) (weigh_distinct weight ks) (weight k)
   where
-    one : (b : Bool) (n : ℕ) → cond b n (suc n) ≡ n + cond (not b) 1 0 + 0
-    one true n = omega arith
-    one false n = omega arith
-count_with ks (Some k) (Some m) once =
-    ap count_distinct (sym (append_assoc ks (k ∷ []) (m ∷ [])))
-    ∙ count_distinct-push (ks ++ k ∷ []) m
-    ∙ ap (λ b. cond b (count_distinct (ks ++ k ∷ [])) (suc (count_distinct (ks ++ k ∷ [])))) second
-    ∙ two (is_in k ks) (is_in m ks) (count_distinct (ks ++ k ∷ [])) (count_distinct ks) (count_distinct-push ks k)
+    one : (b : Bool) (n w : ℕ) → cond b n (w + n) ≡ n + cond b 0 w + 0
+    one true n w = omega arith
+    one false n w = omega arith
+weigh_with weight ks (Some k) (Some m) once =
+    ap (weigh_distinct weight) (sym (append_assoc ks (k ∷ []) (m ∷ [])))
+    ∙ weigh_distinct-push weight (ks ++ k ∷ []) m
+    ∙ ap (λ b. cond b (weigh_distinct weight (ks ++ k ∷ [])) (weight m + weigh_distinct weight (ks ++ k ∷ []))) second
+    ∙ two (is_in k ks) (is_in m ks) (weigh_distinct weight (ks ++ k ∷ [])) (weigh_distinct weight ks) (weight k) (weight m) (weigh_distinct-push weight ks k)
   where
     second : is_in m (ks ++ k ∷ []) ≡ is_in m ks
     second = is_in-push m k ks ∙ rw (differ_back k m once) refl
 
-    two : (a b : Bool) (c n : ℕ) → c ≡ cond a n (suc n) → cond b c (suc c) ≡ n + cond (not a) 1 0 + cond (not b) 1 0
-    two true true c n e = omega arith
-    two true false c n e = omega arith
-    two false true c n e = omega arith
-    two false false c n e = omega arith
+    two : (a b : Bool) (c n v w : ℕ) → c ≡ cond a n (v + n) → cond b c (w + c) ≡ n + cond a 0 v + cond b 0 w
+    two true true c n v w e = omega (arith, e)
+    two true false c n v w e = omega (arith, e)
+    two false true c n v w e = omega (arith, e)
+    two false false c n v w e = omega (arith, e)
 
 -- and so where the end keys come first
+pub weigh_before : (weight : KeyBytes → ℕ) (ks : List KeyBytes) (o p : Option KeyBytes) → has_no_repeats (option_to_list o ++ option_to_list p) ≡ true
+    → weigh_distinct weight ((option_to_list o ++ option_to_list p) ++ ks) ≡ new_weight weight ks o + new_weight weight ks p + weigh_distinct weight ks
+weigh_before weight ks None None once = omega arith
+weigh_before weight ks None (Some m) once = one (is_in m ks) (weigh_distinct weight ks) (weight m)
+  where
+    one : (b : Bool) (n w : ℕ) → cond b n (w + n) ≡ 0 + cond b 0 w + n
+    one true n w = omega arith
+    one false n w = omega arith
+weigh_before weight ks (Some k) None once = one (is_in k ks) (weigh_distinct weight ks) (weight k)
+  where
+    one : (b : Bool) (n w : ℕ) → cond b n (w + n) ≡ cond b 0 w + 0 + n
+    one true n w = omega arith
+    one false n w = omega arith
+weigh_before weight ks (Some k) (Some m) once = rw (differ k m once) (two (is_in k ks) (is_in m ks) (weigh_distinct weight ks) (weight k) (weight m))
+  where
+    two : (a b : Bool) (n v w : ℕ) → cond a (cond b n (w + n)) (v + cond b n (w + n)) ≡ cond a 0 v + cond b 0 w + n
+    two true true n v w = omega arith
+    two true false n v w = omega arith
+    two false true n v w = omega arith
+    two false false n v w = omega arith
+
+-- a new key counts as one
+new_one : (ks : List KeyBytes) (o : Option KeyBytes) → new_weight (λ k. 1) ks o ≡ one_if (is_new_among ks o)
+new_one ks None = refl
+new_one ks (Some k) = by (is_in k ks)
+  where
+    by : (b : Bool) → cond b 0 1 ≡ one_if (not b)
+    by true = refl
+    by false = refl
+
+-- so with the end keys of a span keys are as many more as are new
+pub count_with : (ks : List KeyBytes) (o p : Option KeyBytes) → has_no_repeats (option_to_list o ++ option_to_list p) ≡ true
+    → count_distinct (ks ++ (option_to_list o ++ option_to_list p)) ≡ count_distinct ks + one_if (is_new_among ks o) + one_if (is_new_among ks p)
+count_with ks o p once = weigh_with (λ k. 1) ks o p once ∙ rw (new_one ks o, new_one ks p) refl
+
 pub count_before : (ks : List KeyBytes) (o p : Option KeyBytes) → has_no_repeats (option_to_list o ++ option_to_list p) ≡ true
     → count_distinct ((option_to_list o ++ option_to_list p) ++ ks) ≡ one_if (is_new_among ks o) + one_if (is_new_among ks p) + count_distinct ks
-count_before ks None None once = omega arith
-count_before ks None (Some m) once = one (is_in m ks) (count_distinct ks)
-  where
-    one : (b : Bool) (n : ℕ) → cond b n (suc n) ≡ 0 + cond (not b) 1 0 + n
-    one true n = omega arith
-    one false n = omega arith
-count_before ks (Some k) None once = one (is_in k ks) (count_distinct ks)
-  where
-    one : (b : Bool) (n : ℕ) → cond b n (suc n) ≡ cond (not b) 1 0 + 0 + n
-    one true n = omega arith
-    one false n = omega arith
-count_before ks (Some k) (Some m) once = rw (differ k m once) (two (is_in k ks) (is_in m ks) (count_distinct ks))
-  where
-    two : (a b : Bool) (n : ℕ) → cond a (cond b n (suc n)) (suc (cond b n (suc n))) ≡ cond (not a) 1 0 + cond (not b) 1 0 + n
-    two true true n = omega arith
-    two true false n = omega arith
-    two false true n = omega arith
-    two false false n = omega arith
+count_before ks o p once = weigh_before (λ k. 1) ks o p once ∙ rw (new_one ks o, new_one ks p) refl
 
 -- lists of the same keys leave the same room
-pub same_room : (v : PageView) (p : PageMarks) (span : Interval) → StandsFor v p → has_room_for v span ≡ has_room v.page_nodes p span
-same_room v p span stands = ap (λ n. nat_le n v.page_nodes) (count_distinct-same (v.keys ++ end_keys span) (marked_keys p.marks ++ end_keys span) (λ k.
+pub same_room : (v : PageView) (p : PageMarks) (span : Interval) → StandsFor v p → has_room_for v span ≡ has_room p span
+same_room v p span stands =
+    ap (λ n. nat_le n v.size) (weigh_distinct-same key_cost (v.keys ++ end_keys span) (marked_keys p.marks ++ end_keys span) (λ k.
     list_any-append (bytes_eq k) v.keys (end_keys span) ∙ ap (λ b. b || is_in k (end_keys span)) (stands.keys k) ∙ sym (list_any-append (bytes_eq k) (marked_keys p.marks) (end_keys span))))
+    ∙ ap (nat_le (cost_distinct (marked_keys p.marks ++ end_keys span))) stands.size
 
 pub same_count : (v : PageView) (p : PageMarks) → StandsFor v p → count_distinct v.keys ≡ count_distinct (marked_keys p.marks)
 same_count v p stands = count_distinct-same v.keys (marked_keys p.marks) stands.keys
+
+pub same_bytes : (v : PageView) (p : PageMarks) → StandsFor v p → bytes_of v ≡ cost_distinct (marked_keys p.marks)
+same_bytes v p stands = weigh_distinct-same key_cost v.keys (marked_keys p.marks) stands.keys
+
+-- the end keys of a span are all different
+pub end_keys-cost : (s : Interval) → cost_distinct (end_keys s) ≡ span_cost s
+end_keys-cost s = weigh_distinct-no_repeats key_cost (end_keys s) (end_keys_once s)
+
+-- the nodes, and the weight of each end key that is new, weigh as the keys without repeats
+pub weigh_with_ends : (weight : KeyBytes → ℕ) (ns : List Node) (o p : Option KeyBytes) (s : Interval) → IsSorted ns → option_to_list o ++ option_to_list p ≡ end_keys s
+    → sum_by weight (node_keys ns) + (new_weight weight (node_keys ns) o + new_weight weight (node_keys ns) p) ≡ weigh_distinct weight (node_keys ns ++ end_keys s)
+weigh_with_ends weight ns o p s sorted keys =
+    let all = weigh_with weight (node_keys ns) o p (subst (λ ks. has_no_repeats ks ≡ true) (sym keys) (end_keys_once s)) in
+    omega (arith, all, weigh_of_nodes weight ns sorted, ap (λ ks. weigh_distinct weight (node_keys ns ++ ks)) keys)
 
 -- the nodes, and one for each end key that is new, are as many as the keys without repeats
 pub count_with_ends : (ns : List Node) (o p : Option KeyBytes) (s : Interval) → IsSorted ns → option_to_list o ++ option_to_list p ≡ end_keys s
@@ -134,6 +173,12 @@ count_with_ends ns o p s sorted keys =
 -- the nodes after a split are as many as the page's keys with those of the span
 pub split_count : (old new : List Node) (span : Interval) → IsSplitAt old new (end_keys span) → length new ≡ count_distinct (node_keys old ++ end_keys span)
 split_count old new span split = sym (count_of_nodes new split.sorted) ∙ count_distinct-same (node_keys new) (node_keys old ++ end_keys span) (λ k. split.keys k ∙ sym (list_any-append (bytes_eq k) (node_keys old) (end_keys span)))
+
+-- the nodes after a split weigh as the page's keys with those of the span
+pub split_weight : (weight : KeyBytes → ℕ) (old new : List Node) (span : Interval) → IsSplitAt old new (end_keys span) → sum_by weight (node_keys new) ≡ weigh_distinct weight (node_keys old ++ end_keys span)
+split_weight weight old new span split =
+    sym (weigh_of_nodes weight new split.sorted)
+    ∙ weigh_distinct-same weight (node_keys new) (node_keys old ++ end_keys span) (λ k. split.keys k ∙ sym (list_any-append (bytes_eq k) (node_keys old) (end_keys span)))
 
 pub later-swap : (a b : Time) → later a b ≡ later b a
 later-swap a b = elim (later-tells a b) [
@@ -207,17 +252,18 @@ module _ (old mid : List Node) (f t : Cut) (up : Lt f t) (value : OwnedTime) (sp
   added_answers s = raise_nodes_answers f t value mid split.sorted added_cuts.0 added_cuts.1 s ∙ ap (λ (w : OwnedTime). cond (overlaps (between f t) s) (joint w (value ∷ [])) w) (split.answers s)
 
   -- no answer comes to lie above the top
-  pub added_covers : (sizes more : List ℕ) (limit : ℕ) (before_it after_it : Time) → NoAnswerAboveTop (page_of limit before_it old sizes) → after_it ≡ later before_it value.time → NoAnswerAboveTop (page_of limit after_it (raise_nodes (between f t) value mid) more)
-  added_covers sizes more limit before_it after_it covers is s =
+  pub added_covers : (sizes more : List ℕ) (size : ℕ) (before_it after_it : Time) → NoAnswerAboveTop (page_of size before_it old sizes) → after_it ≡ later before_it value.time → NoAnswerAboveTop (page_of size after_it (raise_nodes (between f t) value mid) more)
+  added_covers sizes more size before_it after_it covers is s =
       subst (λ (x : Time). is_before x (answer_of (raise_nodes (between f t) value mid) s).time ≡ false) (sym is)
       (subst (λ (w : OwnedTime). is_before (later before_it value.time) w.time ≡ false) (sym (added_answers s)) (raised_covers before_it (answer_of old s) value (overlaps (between f t) s) (covers s)))
 
   -- the page then stands for the list with the mark
-  pub added_stands : (sizes more : List ℕ) (limit : ℕ) (before_it after_it : Time) (p : PageMarks)
-      → StandsFor (page_of limit before_it old sizes) p
+  pub added_stands : (sizes more : List ℕ) (size : ℕ) (before_it after_it : Time) (p : PageMarks)
+      → StandsFor (page_of size before_it old sizes) p
       → after_it ≡ later before_it value.time
-      → StandsFor (page_of limit after_it (raise_nodes (between f t) value mid) more) (with_mark p (record { span = between f t; value = value }))
-  added_stands sizes more limit before_it after_it p stands is = record {
+      → StandsFor (page_of size after_it (raise_nodes (between f t) value mid) more) (with_mark p (record { span = between f t; value = value }))
+  added_stands sizes more size before_it after_it p stands is = record {
+    size = stands.size;
     top = is ∙ ap (λ x. later x value.time) stands.top ∙ sym (top_with p m);
     keys = λ k. added_keys k ∙ ap (λ b. b || is_in k (end_keys (between f t))) (stands.keys k)
         ∙ sym (list_any-append (bytes_eq k) (marked_keys p.marks) (end_keys (between f t))) ∙ ap (is_in k) (sym more_keys);

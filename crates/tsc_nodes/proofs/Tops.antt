@@ -31,8 +31,8 @@ top_covers base (m ∷ ms) s = by (overlaps m.span s) (top_covers base ms s)
     by false rest = one_later (latest base (map (λ (n : Mark). n.value) ms)) (joint_above zero_time (values_on s ms)).time m.value.time rest
 
 -- and so that of a page that keeps it
-pub plain_covers : (v : PageView) (limit : ℕ) (p : PageMarks) → view_of limit p ≡ v → NoAnswerAboveTop v
-plain_covers v limit p is = subst NoAnswerAboveTop is (λ s. top_covers p.base p.marks s)
+pub plain_covers : (v : PageView) (p : PageMarks) → view_of p ≡ v → NoAnswerAboveTop v
+plain_covers v p is = subst NoAnswerAboveTop is (λ s. top_covers p.base p.marks s)
 
 -- without nodes nothing is answered above time zero
 pub none_covers : (base : Time) (ns : List Node) → ns ≡ [] → (s : Interval) → is_before base (answer_of ns s).time ≡ false

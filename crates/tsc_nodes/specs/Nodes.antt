@@ -53,9 +53,9 @@ stretch_spans (x ∷ xs) = record { span = between x.from (next_cut xs); value =
 abbrev pub node_keys : List Node → List KeyBytes
 node_keys nodes = map (λ n. n.key) nodes
 
--- what can be seen of a page by its limit, its top, its nodes and the sizes of its leaves
+-- what can be seen of a page by its size, its top, its nodes and how many of them each of its leaves has
 abbrev pub page_of : ℕ → Time → List Node → List ℕ → PageView
-page_of limit t nodes sizes = record { page_nodes = limit; top = t; keys = node_keys nodes; spans = stretch_spans (stretches nodes); leaves = sizes }
+page_of size t nodes leaves = record { size = size; top = t; keys = node_keys nodes; spans = stretch_spans (stretches nodes); leaves = leaves }
 
 -- what nodes answer to a span
 abbrev pub answer_of : List Node → Interval → OwnedTime

@@ -14,7 +14,7 @@
 //! A [`PlainPage`] is the same thing as the list of what was added: slow, and easy to believe.
 #![tactic(auto)]
 
-pub mod nodes;
+mod nodes;
 mod number;
 mod plain;
 
@@ -22,8 +22,11 @@ pub use nodes::Nodes;
 pub use number::{KeyNumber, NumberedCut, NumberedKey};
 pub use plain::PlainPage;
 
-/// How many different end keys a page may hold at the least: those of one range.
-pub const LEAST_NODES: u32 = 2;
+/// How many bytes a page may have at the least.
+pub const LEAST_SIZE: u32 = 64;
 
-/// How many different end keys a page may hold at the most.
-pub const MOST_NODES: u32 = 65_536;
+/// How many bytes a page may have at the most.
+pub const MOST_SIZE: u32 = 1_073_741_824;
+
+/// How many nodes a page may have at the most: each costs 32 bytes and those of its key.
+pub const MOST_NODES: u32 = 33_554_432;

@@ -1,4 +1,4 @@
-ghost use Rattle.std.specs.Prelude.{◌≡◌, ◌<◌, ◌≤◌, [], ◌∷◌, length, take, drop, true, false, IsOk, IfOk, OnOk, OnErr, IfSome, is_some, ◌+◌, option_map, if◌then◌else◌};
+ghost use Rattle.std.specs.Prelude.{◌≡◌, ◌<◌, ◌≤◌, [], ◌∷◌, length, take, drop, true, false, Some, None, IsOk, IfOk, OnOk, OnErr, IfSome, is_some, ◌+◌, option_map, if◌then◌else◌};
 ghost use Rattle.std.specs.Vec.{vec_len, vec_capacity};
 ghost use Rattle.std.specs.Arc.{arc_value};
 ghost use Rattle.tsc_time.specs.Time.{zero_time};
@@ -8,7 +8,7 @@ ghost use Rattle.tsc_span.specs.Span.{is_below, between};
 ghost use Rattle.tsc_span.specs.Cuts.{cut_of};
 ghost use Rattle.tsc_nodes.specs.Numbers.{IsCutNumber};
 ghost use Rattle.tsc_nodes.specs.PageView.{is_new_among};
-ghost use Rattle.tsc_nodes.specs.Nodes.{paired, IsSorted, FitsAt, IsPlaceFor, IsFoundAt, IsPlaceOf, HasKeysBelow, StandsAt, LiesFrom, index_of, key_above, first_gap, IsNewKey, FitsIn, with_new, IsInOrder, HasNodes, new_count, HoldsKeysOn, HoldsGapsOn, node_keys, answer_of, raise_nodes, node_in_gap, gap_value, next_cut, node_stretches};
+ghost use Rattle.tsc_nodes.specs.Nodes.{paired, IsSorted, FitsAt, IsPlaceFor, IsFoundAt, IsPlaceOf, HasKeysBelow, StandsAt, LiesFrom, index_of, key_above, first_gap, IsNewKey, FitsIn, with_new, IsInOrder, HasNodes, MakesNodes, AddsNodes, new_count, HoldsKeysOn, HoldsGapsOn, node_keys, answer_of, raise_nodes, node_in_gap, gap_value, next_cut, node_stretches};
 
 use crate::number::{KeyNumber, NumberedBytes, NumberedCut, NumberedKey};
 use std::alloc::{AllocError, Global};
@@ -24,7 +24,7 @@ const LOWER_HALF: usize = 32;
 
 /// The value of a key, and that of the open gap up to the next node.
 #[derive(Clone, Copy, Debug)]
-pub struct Values {
+pub(crate) struct Values {
     value: Value,
     gap: Value,
 }
@@ -34,9 +34,9 @@ pub struct Values {
 #[derive(Debug, Drop)]
 pub struct Nodes {
     /// The keys, in their order.
-    pub keys: Arc<Vec<NumberedKey>>,
+    keys: Arc<Vec<NumberedKey>>,
     /// The values of the node of each key.
-    pub values: Vec<Values>,
+    values: Vec<Values>,
 }
 
 impl Model for Nodes {
@@ -154,7 +154,7 @@ impl Nodes {
     }
 
     /// The same, where the keys of the cuts may stand at places that are told.
-    pub fn raise_near(
+    fn raise_near(
         &mut self,
         from: &NumberedCut<'_>,
         to: &NumberedCut<'_>,
@@ -177,7 +177,7 @@ impl Nodes {
 
     /// Copies of the keys that have no node, with the places for them. Where both have nodes no memory is
     /// asked for. It costs a binary search for each key.
-    pub fn new_keys(&self, first: Option<&Key>, second: Option<&Key>) -> Result<NewKeys, NoMemory>
+    fn new_keys(&self, first: Option<&Key>, second: Option<&Key>) -> Result<NewKeys, NoMemory>
         requires sorted { IsSorted self.now }
         ensures first { IfOk result (λ new. IsNewKey self.now (option_map (λ k. k.now) first.entry) new.first) }
         ensures second { IfOk result (λ new. IsNewKey self.now (option_map (λ k. k.now) second.entry) new.second) }
@@ -199,7 +199,7 @@ impl Nodes {
 
     /// Makes nodes of new keys, of which the first is the smaller. A list of keys that others hold too is copied; then, and
     /// where a list has no room, it takes memory. It costs a move of what stands above each new node.
-    pub fn make(&mut self, new: NewKeys) -> Result<(), NoMemory>
+    fn make(&mut self, new: NewKeys) -> Result<(), NoMemory>
         requires second { FitsIn self.old new.second }
         requires first { FitsIn (with_new self.old new.second) new.first }
         ensures { OnOk result (self.new ≡ with_new (with_new self.old new.second) new.first) }
@@ -210,6 +210,55 @@ impl Nodes {
         split(keys, &mut self.values, new.second);
         split(keys, &mut self.values, new.first);
         Ok(())
+    }
+
+    /// Makes a node of a key, where it has none. A list of keys that others hold too is copied then, and it takes the memory of
+    /// a copy of the key. It costs a binary search, and a move of what stands above a new node.
+    pub fn make_node(&mut self, key: &Key) -> Result<(), NoMemory>
+        requires sorted { IsSorted self.old }
+        ensures { OnOk result (MakesNodes self.old self.new (Some key.now) None) }
+    {
+        let new = self.new_keys(Some(key), None)?;
+        self.make(new)
+    }
+
+    /// Makes nodes of the keys that have none, of which the first is the smaller, and ratchets a value into the keys and
+    /// gaps between two cuts; tells how many nodes came in. Where that would be more than `room`, or where one would and
+    /// others hold the list of keys too, nothing changes, and `None` says so; nor where memory is refused. Where both keys
+    /// have nodes no memory is asked for.
+    pub fn add_owned(
+        &mut self,
+        first: Option<&Key>,
+        second: Option<&Key>,
+        from: &NumberedCut<'_>,
+        to: &NumberedCut<'_>,
+        value: Value,
+        room: usize,
+    ) -> Result<Option<usize>, NoMemory>
+        requires sorted { IsSorted self.old }
+        requires order { is_below from.now to.now ≡ true }
+        requires in_order { IsInOrder (option_map (λ k. k.now) first) (option_map (λ k. k.now) second) }
+        ensures added { IfOk result (λ done. IfSome done (λ more. AddsNodes self.old self.new (option_map (λ k. k.now) first.entry) (option_map (λ k. k.now) second.entry) (between from.now to.now) value)) }
+        ensures count { IfOk result (λ done. IfSome done (λ more. (length self.new ≡ length self.old + more) × (more ≤ room))) }
+        ensures left { IfOk result (λ done. done ≡ None → self.new ≡ self.old) }
+        ensures unchanged { OnErr result (self.new ≡ self.old) }
+    {
+        let new = self.new_keys(first, second)?;
+        let made = new.len();
+        if made > room {
+            return Ok(None);
+        }
+        if made == 0 {
+            self.raise_near(from, to, new.near, value);
+            return Ok(Some(0));
+        }
+        let Some(keys) = Arc::get_mut(&mut self.keys) else {
+            return Ok(None)
+        };
+        let values = &mut self.values;
+        reserve(keys, values, &new)?;
+        add(keys, values, new, from, to, value);
+        Ok(Some(made))
     }
 
     /// Takes off the nodes behind the first 32. It takes the memory of two lists for them, and that of a copy of the list of
@@ -411,7 +460,7 @@ fn copy_of_keys(keys: &Vec<NumberedKey>) -> Result<Vec<NumberedKey>, NoMemory>
 
 /// Makes room for nodes of new keys. Where memory is refused there are as many as before, and the list of values has
 /// not grown. Where there are no new keys no memory is asked for.
-pub fn reserve(
+fn reserve(
     keys: &mut Vec<NumberedKey>,
     values: &mut Vec<Values>,
     new: &NewKeys,
@@ -485,7 +534,7 @@ fn raise_values(
 /// Makes nodes of new keys, of which the first is the smaller, and ratchets a value into the keys and gaps
 /// between two cuts. It takes no memory. It costs a move of what stands above each new node, and a step for each node between
 /// the cuts. A cut is searched for only where its key doesn't stand at the place that `new_keys` found.
-pub fn add(
+fn add(
     keys: &mut Vec<NumberedKey>,
     values: &mut Vec<Values>,
     new: NewKeys,
@@ -554,18 +603,18 @@ fn joint_of(best: &Value, value: &Value) -> Value
 /// Copies of up to two keys that have no node, of which the first is the smaller, with the places for them; and
 /// where both keys stand once they have nodes, as far as they are here.
 #[derive(Debug, Drop)]
-pub struct NewKeys {
+struct NewKeys {
     /// The smaller key, with its place.
-    pub first: Option<(usize, NumberedKey)>,
+    first: Option<(usize, NumberedKey)>,
     /// The greater key, with its place before the smaller one has a node.
-    pub second: Option<(usize, NumberedKey)>,
+    second: Option<(usize, NumberedKey)>,
     /// Where both keys stand once they have nodes.
-    pub near: (Option<usize>, Option<usize>),
+    near: (Option<usize>, Option<usize>),
 }
 
 impl NewKeys {
     /// How many there are: up to two.
-    pub fn len(&self) -> usize
+    fn len(&self) -> usize
         ensures { result ≡ new_count self.now.first self.now.second }
     {
         usize::from(self.first.is_some()) + usize::from(self.second.is_some())

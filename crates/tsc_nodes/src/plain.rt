@@ -1,10 +1,10 @@
-ghost use Rattle.std.specs.Prelude.{◌≡◌, ◌≤◌, ◌||◌, ◌∷◌, [], true, false, IsOk, IfOk, OnOk, OnErr, option_map, if◌then◌else◌};
+ghost use Rattle.std.specs.Prelude.{◌≡◌, ◌≤◌, ◌*◌, nat_le, ◌||◌, ◌∷◌, [], true, false, IsOk, IfOk, OnOk, OnErr, option_map, if◌then◌else◌};
 ghost use Rattle.tsc_time.specs.Joint.{joint, joint_above};
 ghost use Rattle.tsc_time.specs.Time.{zero_time, is_before, later};
-ghost use Rattle.tsc_span.specs.Span.{KeyBytes, Interval, is_empty_span, overlaps, end_keys};
-ghost use Rattle.tsc_nodes.specs.declared.TheConstants.{LEAST_NODES, MOST_NODES};
-ghost use Rattle.tsc_nodes.specs.Page.{PageMarks, Mark, empty_page, with_mark, top, values_on, marked_keys, count_distinct, has_room};
-ghost use Rattle.tsc_nodes.specs.PageView.{StandsFor, NoAnswerAboveTop, answer, is_in, has_room_for, is_new_among};
+ghost use Rattle.tsc_span.specs.Span.{KeyBytes, Interval, is_empty_span, overlaps, end_keys, key_cost, span_cost};
+ghost use Rattle.tsc_nodes.specs.declared.TheConstants.{LEAST_SIZE, MOST_SIZE};
+ghost use Rattle.tsc_nodes.specs.Page.{PageMarks, Mark, empty_page, with_mark, top, values_on, marked_keys, count_distinct, cost_distinct, has_room};
+ghost use Rattle.tsc_nodes.specs.PageView.{StandsFor, NoAnswerAboveTop, answer, is_in, bytes_of, has_room_for, new_weight, is_new_among};
 
 use std::alloc::Global;
 use std::marker::Model;
@@ -14,27 +14,27 @@ use tsc_time::{NoMemory, Timestamp, Value, ratchet};
 /// A page as the plain list of what was added to it.
 ///
 /// It makes the same promises as `Page` of `tsc_page`, word for word, but that each Add takes memory, and is
-/// slow: `lookup`, `top` and `try_copy` look at all that was added, and `room` and `nodes` compare each end
-/// key with all later ones, so their cost grows with the square of what was added. `new` and `add` alone
+/// slow: `lookup`, `top` and `try_copy` look at all that was added, and `room`, `bytes` and `nodes` compare each end
+/// key with all later ones, so their cost grows with the square of what was added. `new`, `size` and `add` alone
 /// look at none of it.
 #[derive(Debug, Drop)]
 pub struct PlainPage {
-    page_nodes: u32,
+    size: u32,
     base: Timestamp,
     marks: Vec<PlainMark>,
 }
 
 impl Model for PlainPage {
     ghost use Rattle.std.specs.Prelude.{◌≤◌};
-    ghost use Rattle.tsc_nodes.specs.Page.{count_distinct, marked_keys};
-    ghost use Rattle.tsc_nodes.specs.declared.TheConstants.{MOST_NODES};
+    ghost use Rattle.tsc_nodes.specs.Page.{cost_distinct, marked_keys};
+    ghost use Rattle.tsc_nodes.specs.declared.TheConstants.{LEAST_SIZE, MOST_SIZE};
     ghost use Rattle.tsc_nodes.specs.PageView.{PageView, view_of};
 
     ghost Value = { PageView };
 
-    ghost view = { λ p. view_of p.page_nodes (record { base = p.base; marks = p.marks.items }) };
+    ghost view = { λ p. view_of (record { size = p.size; base = p.base; marks = p.marks.items }) };
 
-    ghost invariant = { λ p. (count_distinct (marked_keys p.marks.items) ≤ p.page_nodes) × (p.page_nodes ≤ MOST_NODES) };
+    ghost invariant = { λ p. (cost_distinct (marked_keys p.marks.items) ≤ p.size) × (LEAST_SIZE ≤ p.size) × (p.size ≤ MOST_SIZE) };
 }
 
 /// A span with the value that was added to it.
@@ -53,34 +53,52 @@ impl Model for PlainMark {
 }
 
 impl PlainPage {
-    /// An empty page, which has room for `page_nodes` different end keys, from [`LEAST_NODES`](crate::LEAST_NODES)
-    /// to [`MOST_NODES`](crate::MOST_NODES). `base` is the least that its top can be. It takes no memory until something is added,
-    /// so it cannot answer that memory is wanting.
-    pub fn new(alloc: Global, page_nodes: u32, base: Timestamp) -> Result<PlainPage, NoMemory>
-        requires at_least { LEAST_NODES ≤ page_nodes }
-        requires at_most { page_nodes ≤ MOST_NODES }
-        ensures stands { IfOk result (λ page. StandsFor page (empty_page base)) }
-        ensures limit { IfOk result (λ page. page.page_nodes ≡ page_nodes) }
-        ensures room { IfOk result (λ page. (span : Interval) → has_room_for page span ≡ true) }
+    /// An empty page of a size in bytes, from [`LEAST_SIZE`](crate::LEAST_SIZE) to [`MOST_SIZE`](crate::MOST_SIZE). `base` is
+    /// the least that its top can be. It takes no memory until something is added, so it cannot answer that memory is
+    /// wanting.
+    pub fn new(alloc: Global, size: u32, base: Timestamp) -> Result<PlainPage, NoMemory>
+        requires at_least { LEAST_SIZE ≤ size }
+        requires at_most { size ≤ MOST_SIZE }
+        ensures stands { IfOk result (λ page. StandsFor page (empty_page size base)) }
+        ensures room { IfOk result (λ page. (span : Interval) → has_room_for page span ≡ nat_le (span_cost span) size) }
         ensures memory { IsOk result }
     {
         Ok(PlainPage {
-            page_nodes,
+            size,
             base,
             marks: Vec::new(alloc),
         })
     }
 
-    /// Whether the page has room for a span: whether the end keys of all that was added and of the span,
-    /// counted without repeats, are no more than it may hold. It compares each end key with all others.
+    /// How many bytes the page may have.
+    pub fn size(&self) -> u32
+        ensures value { result ≡ self.now.size }
+        ensures stands { (p : PageMarks) → StandsFor self.now p → result ≡ p.size }
+        ensures least { LEAST_SIZE ≤ result }
+        ensures most { result ≤ MOST_SIZE }
+    {
+        self.size
+    }
+
+    /// What the end keys of all that was added cost together, each of them once: for each as many bytes as it has, and
+    /// 32 more. It compares each end key with all others.
+    pub fn bytes(&self) -> u32
+        ensures value { result ≡ bytes_of self.now }
+        ensures stands { (p : PageMarks) → StandsFor self.now p → result ≡ cost_distinct (marked_keys p.marks) }
+        ensures most { result ≤ self.now.size }
+    {
+        cost_keys(self.marks.as_slice())
+    }
+
+    /// Whether the page has room for a span: whether the end keys of all that was added and of the span, each of them
+    /// once, cost no more than the page's size. It compares each end key with all others.
     pub fn room(&self, span: &Span) -> bool
         ensures value { result ≡ has_room_for self.now span.now }
-        ensures stands { (p : PageMarks) → StandsFor self.now p → result ≡ has_room self.now.page_nodes p span.now }
+        ensures stands { (p : PageMarks) → StandsFor self.now p → result ≡ has_room p span.now }
     {
         let marks = self.marks.as_slice();
         let (first, second) = span.end_keys();
-        let new = usize::from(is_new(first, marks)) + usize::from(is_new(second, marks));
-        count_keys(marks) + new <= self.page_nodes as usize
+        cost_keys(marks) + new_cost(first, marks) + new_cost(second, marks) <= self.size
     }
 
     /// Adds a span with its value. The span is not empty, and the page has room for it. Where memory is
@@ -91,7 +109,7 @@ impl PlainPage {
         requires room { has_room_for self.old span.now ≡ true }
         ensures stands { OnOk result ((p : PageMarks) → StandsFor self.old p
             → StandsFor self.new (with_mark p (record { span = span.now; value = value }))) }
-        ensures limit { self.new.page_nodes ≡ self.old.page_nodes }
+        ensures size { self.new.size ≡ self.old.size }
         ensures top { OnOk result (self.new.top ≡ later self.old.top value.time) }
         ensures keys { OnOk result ((k : KeyBytes) → is_in k self.new.keys ≡ (is_in k self.old.keys || is_in k (end_keys span.now))) }
         ensures answers { OnOk result ((s : Interval) → answer self.new s
@@ -110,7 +128,7 @@ impl PlainPage {
         ensures room { IfOk result (λ done. done ≡ has_room_for self.old span.now) }
         ensures stands { IfOk result (λ done. done ≡ true → (p : PageMarks) → StandsFor self.old p
             → StandsFor self.new (with_mark p (record { span = span.now; value = value }))) }
-        ensures limit { self.new.page_nodes ≡ self.old.page_nodes }
+        ensures size { self.new.size ≡ self.old.size }
         ensures top { IfOk result (λ done. done ≡ true → self.new.top ≡ later self.old.top value.time) }
         ensures keys { IfOk result (λ done. done ≡ true → (k : KeyBytes) → is_in k self.new.keys ≡ (is_in k self.old.keys || is_in k (end_keys span.now))) }
         ensures answers { IfOk result (λ done. done ≡ true → (s : Interval) → answer self.new s
@@ -157,7 +175,7 @@ impl PlainPage {
     pub fn nodes(&self) -> u32
         ensures value { result ≡ count_distinct self.now.keys }
         ensures stands { (p : PageMarks) → StandsFor self.now p → result ≡ count_distinct (marked_keys p.marks) }
-        ensures limit { result ≤ self.now.page_nodes }
+        ensures few { 32 * result ≤ self.now.size }
     {
         count_keys(self.marks.as_slice()) as u32
     }
@@ -172,7 +190,7 @@ impl PlainPage {
             marks.push(mark.try_copy()?)?;
         }
         Ok(PlainPage {
-            page_nodes: self.page_nodes,
+            size: self.size,
             base: self.base,
             marks,
         })
@@ -214,9 +232,20 @@ fn is_new(key: Option<&Key>, marks: &[PlainMark]) -> bool
     true
 }
 
+/// What a key costs, where this is one and no end key of a list.
+fn new_cost(key: Option<&Key>, marks: &[PlainMark]) -> u32
+    ensures value { result ≡ new_weight key_cost (marked_keys marks.now) (option_map (λ k. k.now) key.entry) }
+    ensures most { result ≤ 4128 }
+{
+    match key {
+        Some(key) if is_new(Some(key), marks) => key.cost(),
+        _ => 0,
+    }
+}
+
 /// How many different end keys a list has. It compares each with all later ones.
 fn count_keys(marks: &[PlainMark]) -> usize
-    requires { count_distinct (marked_keys marks.now) ≤ MOST_NODES }
+    requires { cost_distinct (marked_keys marks.now) ≤ MOST_SIZE }
     ensures { result ≡ count_distinct (marked_keys marks.now) }
 {
     let mut count = 0;
@@ -227,4 +256,19 @@ fn count_keys(marks: &[PlainMark]) -> usize
         rest = later;
     }
     count
+}
+
+/// What they cost together.
+fn cost_keys(marks: &[PlainMark]) -> u32
+    requires { cost_distinct (marked_keys marks.now) ≤ MOST_SIZE }
+    ensures { result ≡ cost_distinct (marked_keys marks.now) }
+{
+    let mut cost = 0;
+    let mut rest = marks;
+    while let Some((mark, later)) = rest.split_first() {
+        let (first, second) = mark.span.end_keys();
+        cost += new_cost(first, later) + new_cost(second, later);
+        rest = later;
+    }
+    cost
 }

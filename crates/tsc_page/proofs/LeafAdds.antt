@@ -23,7 +23,7 @@ use Rattle.tsc_nodes.specs.Nodes.{Node, node_keys, IsSorted, FitsAt, FitsIn, IsN
 use Rattle.tsc_page.specs.Leaves.{nodes_of, leaf_sizes, AreLeaves, AreSome, IsLeaf, start_of, AddsTo, AddsLeaves, LiesAt, IsLeafAt, key_below}
 use Rattle.tsc_nodes.proofs.CutOrder.{Lt, Le, Lt-or_Le, Lt-not_Le, Le-chain, Le-from_Lt, Lt-chain, Lt-from_Le_sides, none_above_last, before-after}
 use Rattle.tsc_nodes.proofs.Edits.{raise_nodes-length, raise_nodes-sorted}
-use Rattle.tsc_nodes.proofs.NewKeys.{with_new_splits, new_fits, still_new, splits_chain, makes_sorted}
+use Rattle.tsc_nodes.proofs.NewKeys.{with_new_splits, with_new-length, new_fits, still_new, splits_chain, makes_sorted}
 use Rattle.tsc_page.proofs.Joins.{sorted_left, sorted_right, raises_left, raises_right, raises_both, up_to_last}
 use Rattle.tsc_page.proofs.LeafLists.{lowest_below, starts_low, ends_high}
 use Rattle.tsc_page.proofs.LeafKeys.{wholly_below, is_in-append, shift, shift_bound, insert_left, insert_right, gap_value_left, gap_value_right, fits_left, fits_right}
@@ -52,7 +52,7 @@ known_low ys f None start lies k e = absurd (none e)
 known_low ys f (Some m) start (inl at) k e = subst (λ (q : KeyBytes). Lt (after q) (start_of ys)) (same_some m k e) (wholly_below m ys (subst (λ (c : Cut). Lt c (start_of ys)) at start))
 known_low ys f (Some m) start (inr at) k e = subst (λ (q : KeyBytes). Lt (after q) (start_of ys)) (same_some m k e) (subst (λ (c : Cut). Lt c (start_of ys)) at start)
 
-known_high : (ys : List Node) (t : Cut) (k : KeyBytes) → Le t (start_of ys) → (t ≡ before k) ⊎ (t ≡ after k) → is_below (after k) (start_of ys) ≡ false → is_in k (node_keys ys) ≡ true
+pub known_high : (ys : List Node) (t : Cut) (k : KeyBytes) → Le t (start_of ys) → (t ≡ before k) ⊎ (t ≡ after k) → is_below (after k) (start_of ys) ≡ false → is_in k (node_keys ys) ≡ true
 known_high [] t k high at h = absurd (true≢false h)
 known_high (m ∷ ys) t k high (inl e) h = rw ((bytes_eq-Decides k m.key).1 (same_key k m.key (subst (λ (c : Cut). Le c (before m.key)) e high) (no_higher (m ∷ ys) k h))) refl
 known_high (m ∷ ys) t k high (inr e) h = absurd (Lt-not_Le (after k) (before m.key) (Lt-from_Le_sides k m.key (subst (λ (c : Cut). Le c (before m.key)) e high)) h)
@@ -75,11 +75,6 @@ order_below c (Some k) (Some m) h = by (is_below (after k) c) (is_below (after m
     by true true = h
     by true false = tt
     by false b = tt
-
--- how many nodes there are with a new one
-pub with_new-length : (ns : List Node) (g : Option (ℕ × KeyBytes)) → FitsIn ns g → length (with_new ns g) ≡ length ns + cond (is_some g) 1 0
-with_new-length ns None fits = omega arith
-with_new-length ns (Some f) fits = length-insert ns f.0 (node_in_gap f.1 (gap_value (unowned zero_time) ns f.0)) fits.1
 
 -- A new key in the first of two lists is new in both, in the same place.
 module _ (l ys : List Node) where
@@ -192,7 +187,7 @@ none_below c t None up lies = refl
 none_below c t (Some k) up lies = rw (not_low c t k up lies) refl
 
 -- and the first key of one that begins before them is
-all_below : (ys : List Node) (f : Cut) (o : Option KeyBytes) → Lt f (start_of ys) → LiesAt o f → key_below (start_of ys) o ≡ o
+pub all_below : (ys : List Node) (f : Cut) (o : Option KeyBytes) → Lt f (start_of ys) → LiesAt o f → key_below (start_of ys) o ≡ o
 all_below ys f None low lies = refl
 all_below ys f (Some k) low lies = rw (known_low ys f (Some k) low lies k refl) refl
 

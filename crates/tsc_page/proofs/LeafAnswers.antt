@@ -14,7 +14,7 @@ use Rattle.tsc_nodes.proofs.Seen.{IsJointOf, none_seen}
 use Rattle.tsc_page.proofs.Joins.{meets_left, meets_right, meets_both}
 
 -- an answer is the joint value of what is met
-answer_is : (s : Interval) (ns : List Node) → IsJointOf (Meets s (node_stretches ns)) (answer_of ns s)
+pub answer_is : (s : Interval) (ns : List Node) → IsJointOf (Meets s (node_stretches ns)) (answer_of ns s)
 answer_is s ns = subst (IsJointOf (Meets s (node_stretches ns))) (ap (joint_above zero_time) (values_over-is s xs)) (record {
   zero_below = answer-above_zero s xs;
   above = λ w m. answer-above s xs w (inr m);
@@ -28,12 +28,12 @@ answer_is s ns = subst (IsJointOf (Meets s (node_stretches ns))) (ap (joint_abov
     xs = stretches ns
 
 -- there is one joint value
-one_joint : (Seen Other : OwnedTime → Type 0) (a b : OwnedTime) → ((w : OwnedTime) → Seen w → Other w) → ((w : OwnedTime) → Other w → Seen w) → IsJointOf Seen a → IsJointOf Other b → a ≡ b
+pub one_joint : (Seen Other : OwnedTime → Type 0) (a b : OwnedTime) → ((w : OwnedTime) → Seen w → Other w) → ((w : OwnedTime) → Other w → Seen w) → IsJointOf Seen a → IsJointOf Other b → a ≡ b
 one_joint Seen Other a b to back first second = IsAtMost-antisymmetric a b
     (first.least b second.zero_below (λ w s. second.above w (to w s)))
     (second.least a first.zero_below (λ w s. first.above w (back w s)))
 
-joint_of_two : (Seen Other : OwnedTime → Type 0) (a b : OwnedTime) → IsJointOf Seen a → IsJointOf Other b → IsJointOf (λ w. Seen w ⊎ Other w) (joint a (b ∷ []))
+pub joint_of_two : (Seen Other : OwnedTime → Type 0) (a b : OwnedTime) → IsJointOf Seen a → IsJointOf Other b → IsJointOf (λ w. Seen w ⊎ Other w) (joint a (b ∷ []))
 joint_of_two Seen Other a b first second = record {
   zero_below = IsAtMost-transitive (unowned zero_time) a (joint a (b ∷ [])) first.zero_below (first_below a b);
   above = λ w s. elim s [

@@ -1,121 +1,170 @@
-ghost use Rattle.std.specs.Prelude.{◌≡◌, ◌++◌, refl, OnOk, IfOk, IfSome};
+ghost use Rattle.std.specs.Prelude.{◌≡◌, ◌≤◌, ◌++◌, length, None, IfOk, OnOk, IfSome};
 ghost use Rattle.tsc_nodes.specs.Nodes.{IsSorted};
-ghost use Rattle.tsc_page.specs.Leaves.{IsLeaf, HasNode, start_of};
-ghost use Rattle.tsc_page.specs.LeafParts.{nodes_in};
+ghost use Rattle.tsc_page.specs.Leaves.{IsLeaf, HasNode};
+ghost use Rattle.tsc_page.specs.Pending.{with_pending};
+ghost use Rattle.tsc_page.specs.Trees.{nodes_in, leaf_nodes, leaf_sizes, leaf_copied, IsWholeLeaf, IsLeafCopy, IsTold};
 
+use crate::addition::Addition;
 use crate::parts::Part;
+use crate::summary::Summary;
 use std::alloc::{AllocError, Global};
-use std::marker::Model;
 use std::sync::Arc;
 use tsc_nodes::{KeyNumber, Nodes, NumberedCut};
 use tsc_span::{Cut, Key};
 use tsc_time::{NoMemory, Value};
 
 /// How many nodes a leaf has at the most.
-pub(crate) const LEAF_NODES: usize = 64;
+const LEAF_NODES: usize = 64;
 
-/// Nodes that others may hold too, with the number of where they begin. They don't change while others hold them.
+/// Nodes that others may hold too, with what is known of them all. They don't change while others hold them.
 #[derive(Debug, Drop)]
 pub(crate) struct Leaf {
-    pub(crate) start: KeyNumber,
+    pub(crate) summary: Summary,
     pub(crate) nodes: Arc<Nodes>,
-}
-
-impl Model for Leaf {
-    ghost use Rattle.std.specs.Prelude.{List};
-    ghost use Rattle.std.specs.Arc.{arc_value};
-    ghost use Rattle.tsc_nodes.specs.Nodes.{Node};
-    ghost use Rattle.tsc_nodes.specs.Numbers.{IsCutNumber};
-    ghost use Rattle.tsc_page.specs.Leaves.{start_of};
-
-    ghost Value = { List Node };
-
-    ghost view = { λ l. arc_value l.nodes };
-
-    ghost invariant = { λ l. IsCutNumber l.start (start_of (arc_value l.nodes)) };
 }
 
 impl Leaf {
     pub(crate) fn new(alloc: Global, nodes: Nodes) -> Result<Leaf, NoMemory>
-        ensures { IfOk result (λ leaf. leaf ≡ nodes) }
+        requires leaf { IsLeaf nodes }
+        requires sorted { IsSorted nodes }
+        ensures nodes { IfOk result (λ leaf. leaf_nodes leaf ≡ nodes) }
+        ensures whole { IfOk result IsWholeLeaf }
     {
         Ok(Leaf {
-            start: nodes.start_number(),
+            summary: summary_of(&nodes),
             nodes: Arc::new(alloc, nodes)?,
         })
-    }
-
-    /// The nodes of the leaf.
-    pub(crate) fn nodes(&self) -> &Nodes
-        ensures { result.now ≡ self.now }
-    {
-        &self.nodes
     }
 }
 
 /// A clone shares the nodes.
 impl Clone for Leaf {
-    ghost is_clone = { λ leaf copy. copy ≡ leaf };
+    ghost is_clone = { IsLeafCopy };
 
     fn clone(&self) -> Result<Leaf, AllocError> {
         Ok(Leaf {
-            start: self.start,
+            summary: self.summary,
             nodes: Arc::try_clone(&self.nodes)?,
         })
     }
 }
 
 impl Part for Leaf {
-    ghost nodes = { λ l. l };
+    ghost nodes = { leaf_nodes };
 
-    ghost start = { start_of };
+    ghost sizes = { leaf_sizes };
 
-    ghost IsWhole = { IsLeaf };
+    ghost IsWhole = { IsWholeLeaf };
 
     fn starts_above(&self, cut: &NumberedCut<'_>) -> bool {
-        match cut.is_below_number(&self.start) {
+        match cut.is_below_number(&self.summary.start) {
             Some(below) => below,
             None => self.nodes.starts_above(cut),
         }
     }
 
     fn starts_below(&self, cut: &NumberedCut<'_>) -> bool {
-        match cut.is_above_number(&self.start) {
+        match cut.is_above_number(&self.summary.start) {
             Some(above) => above,
             None => self.nodes.starts_below(cut),
         }
     }
 
+    fn start_number(&self) -> KeyNumber {
+        self.summary.start
+    }
+
+    fn joint(&self) -> Value {
+        self.summary.joint
+    }
+
     fn joint_between(&self, from: &NumberedCut<'_>, to: &NumberedCut<'_>) -> Value {
-        self.nodes.joint_between(from, to)
+        let below = self.nodes.joint_between(from, to);
+        self.summary.seen(below, self.starts_below(to))
     }
 
     fn is_new(&self, key: &Key) -> bool {
         self.nodes.place_for(key).is_some()
     }
 
+    fn leaf_len(&self, place: usize) -> Result<usize, usize> {
+        match place.checked_sub(1) {
+            Some(rest) => Err(rest),
+            None => Ok(self.nodes.len()),
+        }
+    }
+
+    fn raise_whole(&mut self, value: Value) {
+        self.summary.raise(value);
+    }
+
     fn raise_between(&mut self, from: Cut<'_>, to: Cut<'_>, value: Value) -> Result<(), NoMemory> {
         let (from, to) = (NumberedCut::new(from), NumberedCut::new(to));
-        Arc::make_mut(&mut self.nodes)?.raise_between(&from, &to, value);
+        let nodes = Arc::make_mut(&mut self.nodes)?;
+        push_down(nodes, &self.summary);
+        nodes.raise_between(&from, &to, value);
+        self.summary = summary_of(nodes);
         Ok(())
     }
 
     fn make_node(&mut self, alloc: Global, key: &Key) -> Result<Option<Leaf>, NoMemory> {
-        if self.nodes.place_for(key).is_none() {
-            return Ok(None);
-        }
         let nodes = Arc::make_mut(&mut self.nodes)?;
-        let made = grow(nodes, key);
-        self.start = nodes.start_number();
-        match made? {
+        push_down(nodes, &self.summary);
+        let upper = grow(nodes, key)?;
+        self.summary = summary_of(nodes);
+        match upper {
             Some(upper) => Ok(Some(Leaf::new(alloc, upper)?)),
             None => Ok(None),
         }
     }
 
-    ghost some = { λ l is. is.0 };
+    fn add_within(&mut self, add: &Addition<'_>, room: usize) -> Result<Option<usize>, NoMemory> {
+        let Some(nodes) = Arc::get_mut(&mut self.nodes) else {
+            return Ok(None)
+        };
+        push_down(nodes, &self.summary);
+        self.summary.pending = None;
+        let room = room.min(LEAF_NODES - nodes.len());
+        let made = nodes.add_owned(add.first, add.second, add.from, add.to, add.value, room);
+        let reached = nodes.starts_below(add.to);
+        self.summary
+            .heed(&made, nodes.start_number(), reached, add.value);
+        made
+    }
 
-    ghost begins = { λ l is. refl };
+    ghost some = { λ l is. is.some };
+
+    ghost counted = { λ l is. is.sizes };
+
+    ghost copied = { leaf_copied };
+}
+
+/// What is known of nodes over which nothing is pending.
+fn summary_of(nodes: &Nodes) -> Summary
+    requires some { 1 ≤ length nodes.now }
+    requires sorted { IsSorted nodes.now }
+    ensures told { IsTold result nodes.now }
+    ensures pending { result.pending ≡ None }
+{
+    let least = NumberedCut::new(Cut::Before(&[]));
+    let last = NumberedCut::new(Cut::Last);
+    Summary {
+        start: nodes.start_number(),
+        joint: nodes.joint_between(&least, &last),
+        pending: None,
+    }
+}
+
+/// Ratchets what is pending into nodes.
+fn push_down(nodes: &mut Nodes, summary: &Summary)
+    requires sorted { IsSorted nodes.old }
+    ensures { nodes.new ≡ with_pending summary.now.pending nodes.old }
+{
+    if let Some(pending) = summary.pending {
+        let least = NumberedCut::new(Cut::Before(&[]));
+        let last = NumberedCut::new(Cut::Last);
+        nodes.raise_between(&least, &last, pending);
+    }
 }
 
 /// Makes a node of a key, where it has none. Where there are then more than a leaf has, those behind the first 32 come off.
@@ -126,8 +175,7 @@ fn grow(nodes: &mut Nodes, key: &Key) -> Result<Option<Nodes>, NoMemory>
     ensures leaf { OnOk result (IsLeaf nodes.new) }
     ensures upper { IfOk result (λ upper. IfSome upper (λ u. IsLeaf u)) }
 {
-    let new = nodes.new_keys(Some(key), None)?;
-    nodes.make(new)?;
+    nodes.make_node(key)?;
     if nodes.len() > LEAF_NODES {
         Ok(Some(nodes.cut()?))
     } else {

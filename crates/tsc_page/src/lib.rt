@@ -18,11 +18,14 @@
 //! A [`PlainPage`] is the same thing as the list of what was added: slow, and easy to believe.
 #![tactic(auto)]
 
-mod block;
+mod addition;
+mod cost;
+mod fork;
 mod leaf;
-mod leaves;
 mod page;
 mod parts;
+mod summary;
+mod tree;
 
 pub use page::Page;
-pub use tsc_nodes::{LEAST_NODES, MOST_NODES, PlainPage};
+pub use tsc_nodes::{LEAST_SIZE, MOST_SIZE, PlainPage};

@@ -1,70 +1,95 @@
-ghost use Rattle.std.specs.Prelude.{sum, slice_get, ◌≡◌, ◌≤◌, ◌||◌, ◌∷◌, [], true, false, IsOk, IfOk, OnOk, OnErr, if◌then◌else◌};
+ghost use Rattle.std.specs.Prelude.{sum, slice_get, ◌≡◌, ◌≤◌, ◌*◌, nat_le, ◌||◌, ◌∷◌, [], true, false, IsOk, IfOk, OnOk, OnErr, option_map, if◌then◌else◌};
 ghost use Rattle.tsc_time.specs.Joint.{joint, joint_above};
 ghost use Rattle.tsc_time.specs.Time.{zero_time, is_before, later};
-ghost use Rattle.tsc_span.specs.Span.{KeyBytes, Interval, is_empty_span, overlaps, end_keys};
-ghost use Rattle.tsc_nodes.specs.declared.TheConstants.{LEAST_NODES, MOST_NODES};
-ghost use Rattle.tsc_nodes.specs.Page.{PageMarks, Mark, empty_page, with_mark, top, values_on, marked_keys, count_distinct, has_room};
-ghost use Rattle.tsc_nodes.specs.PageView.{AreLeafSizes, StandsFor, NoAnswerAboveTop, answer, is_in, has_room_for};
+ghost use Rattle.tsc_span.specs.Span.{KeyBytes, Interval, is_empty_span, overlaps, end_keys, key_cost, span_cost};
+ghost use Rattle.tsc_nodes.specs.declared.TheConstants.{LEAST_SIZE, MOST_SIZE};
+ghost use Rattle.tsc_nodes.specs.Page.{PageMarks, Mark, empty_page, with_mark, top, values_on, marked_keys, count_distinct, cost_distinct, has_room};
+ghost use Rattle.tsc_page.specs.Costs.{IsRoomTold};
+ghost use Rattle.tsc_nodes.specs.PageView.{AreLeafSizes, StandsFor, NoAnswerAboveTop, answer, is_in, bytes_of, has_room_for, new_weight};
 
-use crate::leaves::Leaves;
+use crate::cost::{Cost, cost_of};
+use crate::tree::Tree;
 use std::alloc::Global;
 use std::marker::Model;
+use tsc_nodes::MOST_NODES;
 use tsc_span::{Key, Span};
 use tsc_time::{NoMemory, Timestamp, Value};
 
 /// One page of the cache: what was added to it, as sorted nodes.
 ///
-/// A page holds a bounded number of different end keys, and answers a lookup by its nodes alone. So its
+/// A page holds end keys that cost no more than its size, and answers a lookup by its nodes alone. So its
 /// cost does not depend on how many spans were added.
 #[derive(Debug, Drop)]
 pub struct Page {
-    page_nodes: u32,
+    size: u32,
+    bytes: u32,
     top: Timestamp,
-    leaves: Leaves,
+    tree: Tree,
 }
 
 impl Model for Page {
-    ghost use Rattle.std.specs.Prelude.{length, ◌≤◌};
-    ghost use Rattle.tsc_nodes.specs.declared.TheConstants.{MOST_NODES};
+    ghost use Rattle.std.specs.Prelude.{◌≡◌, ◌≤◌};
+    ghost use Rattle.tsc_span.specs.Span.{cost_of};
+    ghost use Rattle.tsc_nodes.specs.declared.TheConstants.{LEAST_SIZE, MOST_SIZE};
     ghost use Rattle.tsc_nodes.specs.PageView.{PageView, NoAnswerAboveTop};
-    ghost use Rattle.tsc_nodes.specs.Nodes.{page_of};
-    ghost use Rattle.tsc_page.specs.Leaves.{leaf_sizes};
-    ghost use Rattle.tsc_page.specs.LeafParts.{leaves_of, all_nodes, AreCounted};
+    ghost use Rattle.tsc_nodes.specs.Nodes.{node_keys, page_of};
+    ghost use Rattle.tsc_page.specs.Trees.{tree_nodes, tree_sizes, IsCounted};
 
     ghost Value = { PageView };
 
-    ghost view = { λ p. page_of p.page_nodes p.top (all_nodes p.leaves) (leaf_sizes (leaves_of p.leaves)) };
+    ghost view = { λ p. page_of p.size p.top (tree_nodes p.tree) (tree_sizes p.tree) };
 
-    ghost invariant = { λ p. AreCounted p.leaves × (length (all_nodes p.leaves) ≤ p.page_nodes) × (p.page_nodes ≤ MOST_NODES) × NoAnswerAboveTop (page_of p.page_nodes p.top (all_nodes p.leaves) (leaf_sizes (leaves_of p.leaves))) };
+    ghost invariant = { λ p. IsCounted p.tree × (p.bytes ≡ cost_of (node_keys (tree_nodes p.tree))) × (p.bytes ≤ p.size) × (LEAST_SIZE ≤ p.size) × (p.size ≤ MOST_SIZE)
+        × NoAnswerAboveTop (page_of p.size p.top (tree_nodes p.tree) (tree_sizes p.tree)) };
 }
 
 impl Page {
-    /// An empty page, which has room for `page_nodes` different end keys, from [`LEAST_NODES`](crate::LEAST_NODES)
-    /// to [`MOST_NODES`](crate::MOST_NODES). `base` is the least that its top can be. It takes no memory until something is added,
-    /// so it cannot answer that memory is wanting.
-    pub fn new(alloc: Global, page_nodes: u32, base: Timestamp) -> Result<Page, NoMemory>
-        requires at_least { LEAST_NODES ≤ page_nodes }
-        requires at_most { page_nodes ≤ MOST_NODES }
-        ensures stands { IfOk result (λ page. StandsFor page (empty_page base)) }
-        ensures limit { IfOk result (λ page. page.page_nodes ≡ page_nodes) }
-        ensures room { IfOk result (λ page. (span : Interval) → has_room_for page span ≡ true) }
+    /// An empty page of a size in bytes, from [`LEAST_SIZE`](crate::LEAST_SIZE) to [`MOST_SIZE`](crate::MOST_SIZE). `base` is
+    /// the least that its top can be. It takes no memory until something is added, so it cannot answer that memory is
+    /// wanting.
+    pub fn new(alloc: Global, size: u32, base: Timestamp) -> Result<Page, NoMemory>
+        requires at_least { LEAST_SIZE ≤ size }
+        requires at_most { size ≤ MOST_SIZE }
+        ensures stands { IfOk result (λ page. StandsFor page (empty_page size base)) }
+        ensures room { IfOk result (λ page. (span : Interval) → has_room_for page span ≡ nat_le (span_cost span) size) }
         ensures memory { IsOk result }
     {
         Ok(Page {
-            page_nodes,
+            size,
+            bytes: 0,
             top: base,
-            leaves: Leaves::new(alloc),
+            tree: Tree::new(alloc),
         })
     }
 
-    /// Whether the page has room for a span: whether the end keys of all that was added and of the span,
-    /// counted without repeats, are no more than it may hold. It costs a search for each end key.
+    /// How many bytes the page may have.
+    pub fn size(&self) -> u32
+        ensures value { result ≡ self.now.size }
+        ensures stands { (p : PageMarks) → StandsFor self.now p → result ≡ p.size }
+        ensures least { LEAST_SIZE ≤ result }
+        ensures most { result ≤ MOST_SIZE }
+    {
+        self.size
+    }
+
+    /// What the end keys of all that was added cost together, each of them once: for each as many bytes as it has, and
+    /// 32 more.
+    pub fn bytes(&self) -> u32
+        ensures value { result ≡ bytes_of self.now }
+        ensures stands { (p : PageMarks) → StandsFor self.now p → result ≡ cost_distinct (marked_keys p.marks) }
+        ensures most { result ≤ self.now.size }
+    {
+        self.bytes
+    }
+
+    /// Whether the page has room for a span: whether the end keys of all that was added and of the span, each of them
+    /// once, cost no more than the page's size. It costs a search for each end key.
     pub fn room(&self, span: &Span) -> bool
         ensures value { result ≡ has_room_for self.now span.now }
-        ensures stands { (p : PageMarks) → StandsFor self.now p → result ≡ has_room self.now.page_nodes p span.now }
+        ensures stands { (p : PageMarks) → StandsFor self.now p → result ≡ has_room p span.now }
     {
         let (first, second) = span.end_keys();
-        self.leaves.len() + self.leaves.new_among(first, second) <= self.page_nodes as usize
+        self.bytes + self.new_cost(first) + self.new_cost(second) <= self.size
     }
 
     /// Adds a span with its value. The span is not empty, and the page has room for it. Where memory is
@@ -82,7 +107,7 @@ impl Page {
         requires room { has_room_for self.old span.now ≡ true }
         ensures stands { OnOk result ((p : PageMarks) → StandsFor self.old p
             → StandsFor self.new (with_mark p (record { span = span.now; value = value }))) }
-        ensures limit { self.new.page_nodes ≡ self.old.page_nodes }
+        ensures size { self.new.size ≡ self.old.size }
         ensures top { OnOk result (self.new.top ≡ later self.old.top value.time) }
         ensures keys { OnOk result ((k : KeyBytes) → is_in k self.new.keys ≡ (is_in k self.old.keys || is_in k (end_keys span.now))) }
         ensures answers { OnOk result ((s : Interval) → answer self.new s
@@ -96,14 +121,13 @@ impl Page {
     /// Adds a span with its value, where the page has room for it, and says whether it had. The span is not
     /// empty. Without room the page stays as it is, and where memory is refused.
     ///
-    /// It costs what [`add`](Page::add) does, and no searches beside these but where an Add is not made in place: then
-    /// one more for each end key.
+    /// It costs what [`add`](Page::add) does.
     pub fn try_add(&mut self, span: &Span, value: Value) -> Result<bool, NoMemory>
         requires not_empty { is_empty_span span.now ≡ false }
         ensures room { IfOk result (λ done. done ≡ has_room_for self.old span.now) }
         ensures stands { IfOk result (λ done. done ≡ true → (p : PageMarks) → StandsFor self.old p
             → StandsFor self.new (with_mark p (record { span = span.now; value = value }))) }
-        ensures limit { self.new.page_nodes ≡ self.old.page_nodes }
+        ensures size { self.new.size ≡ self.old.size }
         ensures top { IfOk result (λ done. done ≡ true → self.new.top ≡ later self.old.top value.time) }
         ensures keys { IfOk result (λ done. done ≡ true → (k : KeyBytes) → is_in k self.new.keys ≡ (is_in k self.old.keys || is_in k (end_keys span.now))) }
         ensures answers { IfOk result (λ done. done ≡ true → (s : Interval) → answer self.new s
@@ -115,10 +139,13 @@ impl Page {
             return Ok(true);
         };
         let (first, second) = span.end_keys();
-        let most = self.page_nodes as usize;
-        if !self.leaves.try_add(first, second, from, to, value, most)? {
+        let Some(cost) = self.cost_within(first, second, self.size - self.bytes) else {
             return Ok(false);
-        }
+        };
+        let nodes = self.tree.len();
+        self.tree
+            .try_add(first, second, from, to, value, MOST_NODES as usize)?;
+        self.bytes += cost.paid_for(self.tree.len() - nodes);
         self.top = self.top.max(value.time());
         Ok(true)
     }
@@ -133,7 +160,7 @@ impl Page {
         ensures stands { (p : PageMarks) → StandsFor self.now p → result ≡ joint_above zero_time (values_on span.now p.marks) }
     {
         match span.cuts() {
-            Some((from, to)) => self.leaves.joint_between(from, to),
+            Some((from, to)) => self.tree.joint_between(from, to),
             None => Value::unowned(Timestamp::ZERO),
         }
     }
@@ -151,9 +178,9 @@ impl Page {
     pub fn nodes(&self) -> u32
         ensures value { result ≡ count_distinct self.now.keys }
         ensures stands { (p : PageMarks) → StandsFor self.now p → result ≡ count_distinct (marked_keys p.marks) }
-        ensures limit { result ≤ self.now.page_nodes }
+        ensures few { 32 * result ≤ self.now.size }
     {
-        self.leaves.len() as u32
+        self.tree.len() as u32
     }
 
     /// How many nodes a leaf has, from the first one in the order of keys on; `None` past the last. A page
@@ -163,7 +190,7 @@ impl Page {
         ensures sizes { AreLeafSizes self.now.leaves }
         ensures total { sum self.now.leaves ≡ count_distinct self.now.keys }
     {
-        match self.leaves.leaf_len(i as usize) {
+        match self.tree.leaf_len(i as usize) {
             Some(len) => Some(len as u32),
             None => None,
         }
@@ -175,9 +202,41 @@ impl Page {
         ensures stands { IfOk result (λ copy. (p : PageMarks) → StandsFor self.now p → StandsFor copy p) }
     {
         Ok(Page {
-            page_nodes: self.page_nodes,
+            size: self.size,
+            bytes: self.bytes,
             top: self.top,
-            leaves: self.leaves.try_copy()?,
+            tree: self.tree.try_copy()?,
         })
+    }
+
+    /// What those of two keys cost that have no node, or `None` where that is more than `room`. It looks for them only
+    /// where how many they are would not tell, or where there is not room for both.
+    fn cost_within(&self, first: Option<&Key>, second: Option<&Key>, room: u32) -> Option<Cost>
+        ensures { IsRoomTold self.now.keys (option_map (λ k. k.now) first.entry) (option_map (λ k. k.now) second.entry) room result }
+    {
+        let (one, other) = (cost_of(first), cost_of(second));
+        if one + other <= room && (other == 0 || other == one) {
+            return Some(Cost::Alike {
+                one,
+                both: one + other,
+            });
+        }
+        let cost = self.new_cost(first) + self.new_cost(second);
+        if cost <= room {
+            Some(Cost::Known(cost))
+        } else {
+            None
+        }
+    }
+
+    /// What a key costs, where this is one and has no node.
+    fn new_cost(&self, key: Option<&Key>) -> u32
+        ensures value { result ≡ new_weight key_cost self.now.keys (option_map (λ k. k.now) key.entry) }
+        ensures most { result ≤ 4128 }
+    {
+        match key {
+            Some(key) if self.tree.is_new(Some(key)) => key.cost(),
+            _ => 0,
+        }
     }
 }

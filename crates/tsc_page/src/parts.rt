@@ -1,31 +1,47 @@
-ghost use Rattle.std.specs.Prelude.{◌≡◌, List, ◌≤◌, ◌<◌, ◌+◌, ◌++◌, suc, map, length, drop, option_to_list, OnOk, IfOk, IfSome, not, true};
+ghost use Rattle.std.specs.Prelude.{◌≡◌, ℕ, List, ◌≤◌, ◌<◌, ◌+◌, ◌++◌, ◌∷◌, [], suc, map, length, drop, option_to_list, OnOk, IfOk, IfSome, not, true};
 ghost use Rattle.std.specs.List.{All};
-ghost use Rattle.tsc_span.specs.Span.{Cut as CutPlace, is_below, between};
+ghost use Rattle.tsc_span.specs.Span.{is_below, between};
 ghost use Rattle.tsc_span.specs.Cuts.{cut_of};
+ghost use Rattle.tsc_nodes.specs.Numbers.{IsCutNumber};
 ghost use Rattle.tsc_nodes.specs.PageView.{is_in};
 ghost use Rattle.tsc_nodes.specs.Nodes.{Node, IsSorted, node_keys, answer_of, raise_nodes};
 ghost use Rattle.tsc_page.specs.Leaves.{AreParts, HasNode, IsLeafAt, nodes_of, start_of};
+ghost use Rattle.tsc_page.specs.Pending.{everything, all_joint, sizes_of, AreSizesOf, TellsSize, IsAddTold, before_second};
+ghost use Rattle.tsc_page.specs.Copies.{IsSameAs};
 
+use crate::addition::Addition;
 use std::alloc::Global;
-use tsc_nodes::NumberedCut;
+use tsc_nodes::{KeyNumber, NumberedCut};
 use tsc_span::{Cut, Key};
 use tsc_time::{NoMemory, Timestamp, Value, ratchet};
 
 /// Nodes that stand in a list with others of their kind, one after another.
-pub(crate) trait Part: Drop {
+pub(crate) trait Part: Clone + Drop {
     ghost nodes: { Self → List Node };
 
-    ghost start: { Self → CutPlace };
+    ghost sizes: { Self → List ℕ };
 
     ghost IsWhole: { Self → Type 0 };
 
     /// Whether a cut lies below where the part begins.
     fn starts_above(&self, cut: &NumberedCut<'_>) -> bool
-        ensures { result ≡ is_below cut.now (start self.now) };
+        requires whole { IsWhole self.now }
+        ensures { result ≡ is_below cut.now (start_of (nodes self.now)) };
 
     /// Whether a cut lies above where the part begins.
     fn starts_below(&self, cut: &NumberedCut<'_>) -> bool
-        ensures { result ≡ is_below (start self.now) cut.now };
+        requires whole { IsWhole self.now }
+        ensures { result ≡ is_below (start_of (nodes self.now)) cut.now };
+
+    /// The number of where the part begins.
+    fn start_number(&self) -> KeyNumber
+        requires whole { IsWhole self.now }
+        ensures { IsCutNumber result (start_of (nodes self.now)) };
+
+    /// The joint value of all keys and gaps.
+    fn joint(&self) -> Value
+        requires whole { IsWhole self.now }
+        ensures { result ≡ all_joint (nodes self.now) };
 
     /// The joint value of the keys and gaps between two cuts.
     fn joint_between(&self, from: &NumberedCut<'_>, to: &NumberedCut<'_>) -> Value
@@ -40,8 +56,20 @@ pub(crate) trait Part: Drop {
         requires sorted { IsSorted (nodes self.now) }
         ensures { result ≡ not (is_in key.now (node_keys (nodes self.now))) };
 
+    /// How many nodes a leaf has; `Err` tells how many places behind the last leaf this is.
+    fn leaf_len(&self, place: usize) -> Result<usize, usize>
+        ensures { TellsSize (sizes self.now) place result };
+
+    /// Ratchets a value into all keys and gaps. It takes no memory, and looks into nothing.
+    fn raise_whole(&mut self, value: Value)
+        requires whole { IsWhole self.old }
+        requires sorted { IsSorted (nodes self.old) }
+        ensures raised { nodes self.new ≡ raise_nodes everything value (nodes self.old) }
+        ensures sizes { sizes self.new ≡ sizes self.old }
+        ensures whole { IsWhole self.new };
+
     /// Ratchets a value into the keys and gaps between two cuts, and changes nothing that others hold. Where memory is
-    /// refused, some may be raised and others not.
+    /// refused nothing is known of the part.
     fn raise_between(&mut self, from: Cut<'_>, to: Cut<'_>, value: Value) -> Result<(), NoMemory>
         requires whole { IsWhole self.old }
         requires sorted { IsSorted (nodes self.old) }
@@ -50,7 +78,7 @@ pub(crate) trait Part: Drop {
         ensures whole { OnOk result (IsWhole self.new) };
 
     /// Makes a node of a key, where it has none, and changes nothing that others hold. Where the part grows too long
-    /// it is cut, and tells the part behind.
+    /// it is cut, and tells the part behind. Where memory is refused nothing is known of the part.
     fn make_node(&mut self, alloc: Global, key: &Key) -> Result<Option<Self>, NoMemory>
         requires whole { IsWhole self.old }
         requires sorted { IsSorted (nodes self.old) }
@@ -58,20 +86,37 @@ pub(crate) trait Part: Drop {
         ensures whole { OnOk result (IsWhole self.new) }
         ensures upper { IfOk result (λ upper. IfSome upper IsWhole) };
 
+    /// Adds in place, and tells how many nodes came in: where the span lies in one leaf to which nobody else holds a way, which
+    /// need not be cut, and no more than `room` come in. Else nothing changes, nor where memory is refused.
+    fn add_within(&mut self, add: &Addition<'_>, room: usize) -> Result<Option<usize>, NoMemory>
+        requires whole { IsWhole self.old }
+        requires sorted { IsSorted (nodes self.old) }
+        ensures told { IsAddTold (nodes self.old) (nodes self.new) (sizes self.old) (sizes self.new) add.now room result }
+        ensures whole { IsWhole self.new };
+
     ghost some: { (p : Self) → IsWhole p → 1 ≤ length (nodes p) };
 
-    ghost begins: { (p : Self) → IsWhole p → start p ≡ start_of (nodes p) };
+    ghost counted: { (p : Self) → IsWhole p → AreSizesOf (sizes p) (nodes p) };
+
+    ghost copied: { (p q : Self) → Self.is_clone p q → IsSameAs nodes sizes IsWhole p q };
 }
 
 /// The place of the part in which a cut falls.
 pub(crate) fn part_at<P: Part>(parts: &[P], cut: &NumberedCut<'_>) -> usize
-    requires parts { AreParts P.nodes P.IsWhole parts.now }
+    requires whole { All P.IsWhole parts.now }
     ensures { IsLeafAt (map P.nodes parts.now) cut.now result }
 {
-    match parts.split_first() {
-        Some((_, rest)) => rest.partition_point(|part| !part.starts_above(cut)),
-        None => 0,
+    let mut low = 0;
+    let mut high = parts.len().saturating_sub(1);
+    while low < high {
+        let middle = low + (high - low) / 2;
+        if parts[middle + 1].starts_above(cut) {
+            high = middle;
+        } else {
+            low = middle + 1;
+        }
     }
+    low
 }
 
 /// Whether a cut lies below where parts begin.
@@ -150,7 +195,7 @@ fn joint_beyond<P: Part>(
         if !goes_on(parts, place, to) {
             return ratchet(best, parts[place].joint_between(&least, to)).0;
         }
-        best = ratchet(best, parts[place].joint_between(&least, &last)).0;
+        best = ratchet(best, parts[place].joint()).0;
     }
     best
 }
@@ -181,18 +226,56 @@ pub(crate) fn raise_between<P: Part>(
     ensures whole { OnOk result (All P.IsWhole parts.new) }
     ensures len { length parts.new ≡ length parts.old }
 {
-    let mut low = from;
     let end = NumberedCut::new(to);
-    for place in part_at(parts, &NumberedCut::new(from))..parts.len() {
-        let goes_on = goes_on(parts, place, &end);
-        let high = if goes_on { Cut::Last } else { to };
-        parts[place].raise_between(low, high, value)?;
-        if !goes_on {
-            return Ok(());
+    let first = part_at(parts, &NumberedCut::new(from));
+    if first >= parts.len() {
+        return Ok(());
+    }
+    if goes_on(parts, first, &end) {
+        raise_beyond(parts, first, from, &end, value)
+    } else {
+        parts[first].raise_between(from, to, value)
+    }
+}
+
+/// The same, where the span goes on beyond the part in which it starts. The parts that lie wholly within it are not looked into.
+fn raise_beyond<P: Part>(
+    parts: &mut [P],
+    first: usize,
+    from: Cut<'_>,
+    to: &NumberedCut<'_>,
+    value: Value,
+) -> Result<(), NoMemory>
+    requires parts { AreParts P.nodes P.IsWhole parts.old }
+    requires order { is_below (cut_of from) to.now ≡ true }
+    requires bound { first < length parts.old }
+    requires first { IsLeafAt (map P.nodes parts.old) (cut_of from) first }
+    requires beyond { is_below (start_of (nodes_of (drop (suc first) (map P.nodes parts.old)))) to.now ≡ true }
+    ensures raised { OnOk result (nodes_of (map P.nodes parts.new) ≡ raise_nodes (between (cut_of from.entry) to.now) value (nodes_of (map P.nodes parts.old))) }
+    ensures whole { OnOk result (All P.IsWhole parts.new) }
+    ensures len { length parts.new ≡ length parts.old }
+{
+    parts[first].raise_between(from, Cut::Last, value)?;
+    for place in first + 1..parts.len() {
+        if !goes_on(parts, place, to) {
+            return parts[place].raise_between(Cut::Before(&[]), to.cut(), value);
         }
-        low = Cut::Before(&[]);
+        parts[place].raise_whole(value);
     }
     Ok(())
+}
+
+/// Ratchets a value into all keys and gaps of parts.
+pub(crate) fn raise_all<P: Part>(parts: &mut [P], value: Value)
+    requires parts { AreParts P.nodes P.IsWhole parts.old }
+    ensures raised { nodes_of (map P.nodes parts.new) ≡ raise_nodes everything value (nodes_of (map P.nodes parts.old)) }
+    ensures sizes { map P.sizes parts.new ≡ map P.sizes parts.old }
+    ensures whole { All P.IsWhole parts.new }
+    ensures len { length parts.new ≡ length parts.old }
+{
+    for place in 0..parts.len() {
+        parts[place].raise_whole(value);
+    }
 }
 
 /// Makes a node of a key, where it has none, in the part in which it falls.
@@ -213,4 +296,75 @@ pub(crate) fn make_node<P: Part>(
         parts.insert(place + 1, upper)?;
     }
     Ok(())
+}
+
+/// The number of where parts begin.
+pub(crate) fn start_number<P: Part>(parts: &[P]) -> KeyNumber
+    requires whole { All P.IsWhole parts.now }
+    ensures { IsCutNumber result (start_of (nodes_of (map P.nodes parts.now))) }
+{
+    match parts.first() {
+        Some(first) => first.start_number(),
+        None => KeyNumber::greatest(),
+    }
+}
+
+/// The joint value of all keys and gaps of parts.
+pub(crate) fn joint<P: Part>(parts: &[P]) -> Value
+    requires parts { AreParts P.nodes P.IsWhole parts.now }
+    ensures { result ≡ all_joint (nodes_of (map P.nodes parts.now)) }
+{
+    let mut best = Value::unowned(Timestamp::ZERO);
+    for part in parts {
+        best = ratchet(best, part.joint()).0;
+    }
+    best
+}
+
+/// How many nodes a leaf has among those of parts; `Err` tells how many places behind the last leaf this is.
+pub(crate) fn leaf_len<P: Part>(parts: &[P], place: usize) -> Result<usize, usize>
+    ensures { TellsSize (sizes_of (map P.sizes parts.now)) place result }
+{
+    let mut place = place;
+    for part in parts {
+        match part.leaf_len(place) {
+            Ok(len) => return Ok(len),
+            Err(rest) => place = rest,
+        }
+    }
+    Err(place)
+}
+
+/// Adds in place to the part in which the span lies, if it lies in one.
+pub(crate) fn add_within<P: Part>(
+    parts: &mut [P],
+    add: &Addition<'_>,
+    room: usize,
+) -> Result<Option<usize>, NoMemory>
+    requires parts { AreParts P.nodes P.IsWhole parts.old }
+    ensures told { IsAddTold (nodes_of (map P.nodes parts.old)) (nodes_of (map P.nodes parts.new)) (sizes_of (map P.sizes parts.old)) (sizes_of (map P.sizes parts.new)) add.now room result }
+    ensures whole { All P.IsWhole parts.new }
+    ensures len { length parts.new ≡ length parts.old }
+{
+    let place = part_at(parts, add.from);
+    if place >= parts.len() || goes_on(parts, place, add.to) {
+        return Ok(None);
+    }
+    if stops_at_next(parts, place, add.to) {
+        parts[place].add_within(&add.before_second(), room)
+    } else {
+        parts[place].add_within(add, room)
+    }
+}
+
+/// Whether what doesn't go on beyond a part stops right where the next one begins.
+fn stops_at_next<P: Part>(parts: &[P], place: usize, to: &NumberedCut<'_>) -> bool
+    requires whole { All P.IsWhole parts.now }
+    requires bound { place < length parts.now }
+    ensures { result ≡ not (is_below to.now (start_of (nodes_of (drop (suc place) (map P.nodes parts.now))))) }
+{
+    match parts.get(place + 1) {
+        Some(next) => !next.starts_above(to),
+        None => !to.is_below_last(),
+    }
 }

@@ -1,5 +1,6 @@
 -- Keys and spans of keys: the bounds of pkg/kv/kvserver/tscache in CockroachDB, with its two flags `excludeFrom` and `excludeTo`.
-use Rattle.std.specs.Prelude.{ℕ, List, [], ◌∷◌, length, nat_le, Bool, true, false, ◌&&◌, not, Option, Some, None, unwrap_or, if◌then◌else◌}
+use Rattle.std.specs.Prelude.{ℕ, ◌+◌, List, [], ◌∷◌, length, nat_le, Bool, true, false, ◌&&◌, not, Option, Some, None, unwrap_or, if◌then◌else◌}
+use Rattle.std.specs.List.{sum_by}
 use Rattle.std.specs.declared.cmp.Ordering.{Ordering}
 use Rattle.std.specs.declared.cmp.Ordering.TheVariants.{Less, Equal, Greater}
 use Rattle.std.specs.Ordering.{nat_cmp, is_lt, ordering_then}
@@ -133,3 +134,15 @@ different_keys (Some k) (Some m) = if bytes_eq k m then k ∷ [] else k ∷ m �
 abbrev pub end_keys : Interval → List KeyBytes
 end_keys nothing = []
 end_keys (between from to) = different_keys (key_of_cut from) (key_of_cut to)
+
+-- what a key costs on a page: as many bytes as it has, and 32 more
+abbrev pub key_cost : KeyBytes → ℕ
+key_cost k = length k + 32
+
+-- what keys cost together
+abbrev pub cost_of : List KeyBytes → ℕ
+cost_of ks = sum_by key_cost ks
+
+-- what a span costs on a page that has none of its keys; the empty span costs nothing
+abbrev pub span_cost : Interval → ℕ
+span_cost s = cost_of (end_keys s)

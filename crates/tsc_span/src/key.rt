@@ -3,7 +3,7 @@ ghost use Rattle.std.specs.List.{All};
 ghost use Rattle.std.specs.Str.{bytes_eq};
 ghost use Rattle.std.specs.Cmp.{partial_equiv_from_equiv};
 ghost use Rattle.std.specs.Cmp.Lexicographic.{nat_list_eq_equiv, nat_list_cmp_total, texts_ties, texts_po};
-ghost use Rattle.tsc_span.specs.Span.{longest_key, key_cmp};
+ghost use Rattle.tsc_span.specs.Span.{longest_key, key_cmp, key_cost};
 ghost use Rattle.tsc_span.specs.MadeKey.{made_key};
 
 use crate::SpanFault;
@@ -14,6 +14,9 @@ use tsc_time::NoMemory;
 
 /// How many bytes a key has at the most.
 pub const LONGEST_KEY: usize = 4096;
+
+/// What a node of a page costs beside the bytes of its key.
+const NODE_COST: u32 = 32;
 
 /// A key: a text of bytes, 4096 of them at the most. The empty key comes first.
 ///
@@ -57,6 +60,14 @@ impl Key {
         ensures small { All (λ b. b < 256) result.now }
     {
         bytes_of(self.bytes.as_slice())
+    }
+
+    /// What the key costs on a page: as many bytes as it has, and 32 more.
+    pub fn cost(&self) -> u32
+        ensures value { result ≡ key_cost self.now }
+        ensures most { result ≤ 4128 }
+    {
+        self.bytes.len() as u32 + NODE_COST
     }
 
     /// A copy of the key. It takes as much memory as the key has bytes.

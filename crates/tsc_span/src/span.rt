@@ -1,7 +1,7 @@
-ghost use Rattle.std.specs.Prelude.{◌≡◌, ◌++◌, IfOk, IfErr, IfSome, true, option_map, option_to_list, slice_get};
+ghost use Rattle.std.specs.Prelude.{◌≡◌, ◌≤◌, ◌++◌, IfOk, IfErr, IfSome, true, option_map, option_to_list, slice_get};
 ghost use Rattle.std.specs.Result.{result_ok, IsOk};
 ghost use Rattle.std.specs.Cmp.{partial_equiv_from_equiv};
-ghost use Rattle.tsc_span.specs.Span.{point, range, range_for_lookup, start_to_end, start_cut, onward, is_empty_span, is_below, overlaps, covers, end_keys};
+ghost use Rattle.tsc_span.specs.Span.{point, range, range_for_lookup, start_to_end, start_cut, onward, is_empty_span, is_below, overlaps, covers, end_keys, cost_of, span_cost};
 ghost use Rattle.tsc_span.specs.MadeSpan.{IsMadeCut, IsMadeSpan};
 ghost use Rattle.tsc_span.specs.Cuts.{cut_of, interval_of_cuts};
 ghost use Rattle.tsc_span.specs.Same.{is_same_span};
@@ -191,6 +191,16 @@ impl Span {
         }
     }
 
+    /// What the span costs on a page that has none of its keys: for each of its [end keys](Span::end_keys) as many
+    /// bytes as it has, and 32 more. The empty span costs nothing.
+    pub fn cost(&self) -> u32
+        ensures value { result ≡ span_cost self.now }
+        ensures most { result ≤ 8256 }
+    {
+        let (first, second) = self.end_keys();
+        cost_of(first) + cost_of(second)
+    }
+
     /// A copy of the span. It takes as much memory as its keys have bytes, so none for the empty span.
     pub fn try_copy(&self) -> Result<Span, NoMemory>
         ensures value { IfOk result (λ copy. copy ≡ self.now) }
@@ -217,6 +227,17 @@ fn start_cut(key: &Key, excluded: bool) -> Cut<'_>
         Cut::After(key.bytes())
     } else {
         Cut::Before(key.bytes())
+    }
+}
+
+/// What a key costs on a page, where there is one.
+fn cost_of(key: Option<&Key>) -> u32
+    ensures value { result ≡ cost_of (option_to_list (option_map (λ k. k.now) key.entry)) }
+    ensures most { result ≤ 4128 }
+{
+    match key {
+        Some(key) => key.cost(),
+        None => 0,
     }
 }
 

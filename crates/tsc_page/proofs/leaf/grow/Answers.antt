@@ -11,14 +11,15 @@ pub returns-in_ok-cut-clause-made : goal.returns-in_ok-cut-clause-made
 returns-in_ok-cut-clause-made c =
     let k : KeyBytes = c.args.key.now in
     let old : List Node = c.args.nodes.now in
-    let new : List Node = c.make.new.self in
-    let made = has_one old new k c.in_ok-new.new.first c.in_ok-new.new.second c.in_ok-new.ensures.first c.in_ok-new.ensures.second c.in_ok-make.ensures in
+    let new : List Node = c.make_node.new.self in
+    let makes = c.in_ok-make_node.ensures in
+    let made = has_one old new k makes.lower makes.upper makes.has_lower makes.has_upper makes.nodes in
     let parts = ap (λ (ns : List Node). ns ++ c.in_ok-cut.field-0) c.in_ok-cut.ensures.kept ∙ ap (λ (ns : List Node). take 32 new ++ ns) c.in_ok-cut.ensures.rest ∙ take-append-drop 32 new in
     subst (λ (ns : List Node). HasNode old ns k) (sym parts) made
 
 pub returns-in_ok-cut-clause-leaf : goal.returns-in_ok-cut-clause-leaf
 returns-in_ok-cut-clause-leaf c =
-    let new : List Node = c.make.new.self in
+    let new : List Node = c.make_node.new.self in
     let many = c.if-len-gt-LEAF_NODES.true in
     let first = ap length c.in_ok-cut.ensures.kept ∙ length-take-le 32 new (omega (arith, many, c.len.ensures)) in
     (omega (arith, first), omega (arith, first))
@@ -27,8 +28,9 @@ pub returns-in_ok-cut-clause-upper : goal.returns-in_ok-cut-clause-upper
 returns-in_ok-cut-clause-upper c =
     let k : KeyBytes = c.args.key.now in
     let old : List Node = c.args.nodes.now in
-    let new : List Node = c.make.new.self in
-    let made = has_one old new k c.in_ok-new.new.first c.in_ok-new.new.second c.in_ok-new.ensures.first c.in_ok-new.ensures.second c.in_ok-make.ensures in
+    let new : List Node = c.make_node.new.self in
+    let makes = c.in_ok-make_node.ensures in
+    let made = has_one old new k makes.lower makes.upper makes.has_lower makes.has_upper makes.nodes in
     let long = has_node-length old new k made in
     let many = c.if-len-gt-LEAF_NODES.true in
     let rest : length c.in_ok-cut.field-0 ≡ length new - 32 = ap length c.in_ok-cut.ensures.rest ∙ length-drop 32 new in

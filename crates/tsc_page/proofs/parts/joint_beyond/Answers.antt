@@ -83,16 +83,6 @@ returns-then-not-goes_on g c =
     let answer = c.joint_between.ensures ∙ ap (λ (x : Cut). answer_of (read c.index-parts-place.result) (between x to)) c.new-least.ensures ∙ ap (λ (ns : List Node). answer_of ns (between (before []) to)) is in
     c.ratchet.ensures.joint ∙ ap (λ (w : OwnedTime). joint c.loop-place.best (w ∷ [])) answer ∙ last_one
 
-pub joint_between-requires-in-loop-place-clause-sorted :
-    goal.joint_between-requires-in-loop-place-clause-sorted
-joint_between-requires-in-loop-place-clause-sorted g c =
-    let read = g.P.Part.nodes in
-    let items = c.args.parts.now in
-    let p : ℕ = c.loop-place.place in
-    let here : p < length items = omega (arith, c.loop-place-test.true) in
-    let is = read_leaf read items p c.index-parts-place-in-loop-place.result here c.index-parts-place-in-loop-place.is in
-    subst IsSorted (sym is) (leaf_sorted (map read items) p [] (omega (arith, here, length-map items read)) c.requires.parts.sorted)
-
 pub loop-place-preserved : goal.loop-place-preserved
 loop-place-preserved g c =
     let read = g.P.Part.nodes in
@@ -110,8 +100,7 @@ loop-place-preserved g c =
     let sorted = c.requires.parts.sorted in
     let some = all_some read g.P.Part.IsWhole items g.met.P.Part.some c.requires.parts.whole in
     let more = answers_go_on (nodes_of ls) (get_or ls p []) (nodes_of (drop (suc p) ls)) from to (before []) c.loop-place.best (subst IsSorted first (sorted_from ls p sorted)) (lowest_below ls some sorted p) goes so_far in
-    let answer = c.joint_between-in-loop-place.ensures ∙ ap (λ (x : Cut). answer_of (read c.index-parts-place-in-loop-place.result) (between x c.new-last.result)) c.new-least.ensures
-    ∙ ap (λ (x : Cut). answer_of (read c.index-parts-place-in-loop-place.result) (between (before []) x)) c.new-last.ensures ∙ ap (λ (ns : List Node). answer_of ns (between (before []) last)) is in
+    let answer = c.joint.ensures ∙ ap (λ (ns : List Node). answer_of ns (between (before []) last)) is in
     let best = c.ratchet-best.ensures.joint ∙ ap (λ (w : OwnedTime). joint c.loop-place.best (w ∷ [])) answer in
     let next : suc p ≡ p + 1 = omega arith in
     subst (λ (j : ℕ). AnswersSoFar (nodes_of ls) (nodes_of (drop j ls)) from to (before []) c.ratchet-best.result.0) next

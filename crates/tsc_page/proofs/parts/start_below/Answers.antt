@@ -1,5 +1,5 @@
 -- Parts begin where the first one does.
-use Rattle.std.proofs.Common.{◌∙◌, ◌<◌, sym, ap, subst, List, [], map, length, arith}
+use Rattle.std.proofs.Common.{◌∙◌, ◌<◌, sym, ap, List, [], map, length, arith}
 use Rattle.std.proofs.lemmas.List.{length-map}
 use Rattle.tsc_span.specs.Span.{Cut, is_below}
 use Rattle.tsc_nodes.specs.Nodes.{Node}
@@ -13,4 +13,4 @@ returns-in-Some g c =
     let items = c.args.parts.now in
     let here : 0 < length items = omega (arith, c.in-Some.ensures.item.3.0) in
     let is = read_leaf read items 0 c.in-Some.first.now here c.in-Some.ensures.item.1 in
-    c.starts_below.ensures ∙ ap (λ (x : Cut). is_below x c.args.cut.now) (g.met.P.Part.begins c.in-Some.first.now (subst g.P.Part.IsWhole (sym c.in-Some.ensures.item.1) (c.requires.whole 0 c.in-Some.first.now here)) ∙ ap (λ (l : List Node). start_of l) is ∙ sym (start_at (map read items) (all_some read g.P.Part.IsWhole items g.met.P.Part.some c.requires.whole) 0 [] (omega (arith, here, length-map items read))))
+    c.starts_below.ensures ∙ ap (λ (x : Cut). is_below x c.args.cut.now) (ap (λ (l : List Node). start_of l) is ∙ sym (start_at (map read items) (all_some read g.P.Part.IsWhole items g.met.P.Part.some c.requires.whole) 0 [] (omega (arith, here, length-map items read))))

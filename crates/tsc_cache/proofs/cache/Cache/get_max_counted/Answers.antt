@@ -21,5 +21,5 @@ returns-clause-stands c settings s stands = returns-clause-value c ∙ answers_l
 
 pub returns-clause-looked_into : goal.returns-clause-looked_into
 returns-clause-looked_into c settings s stands =
-    looks_into_pages settings.page_nodes c.args.span.now c.args.self.now.pages s.pages c.lookup-best.result.1 stands.pages
+    looks_into_pages c.args.span.now c.args.self.now.pages s.pages c.lookup-best.result.1 stands.pages
     (subst (λ (v : CacheView). LooksIntoViews c.args.span.now v.pages c.lookup-best.result.1) c.self.view_is c.lookup-best.ensures.looked)

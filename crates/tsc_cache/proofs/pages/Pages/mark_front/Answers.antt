@@ -15,7 +15,7 @@ returns-in_ok-self-in-None-clause-marked c e =
     let m : Mark = record { span = c.args.span.now; value = c.args.value } in
     let copied : c.in_ok-front-in-None.front ≡ front_of c.args.self.now = c.in_ok-front-in-None.ensures.value ∙ c.deref-in-None.ensures in
     let marked : IsMarked c.in_ok-front-in-None.front c.add.new.self m = record {
-      limit = c.in_ok-add-in-None.ensures.limit;
+      size = c.in_ok-add-in-None.ensures.size;
       top = c.in_ok-add-in-None.ensures.top;
       keys = c.in_ok-add-in-None.ensures.keys;
       answers = c.in_ok-add-in-None.ensures.answers;
@@ -26,13 +26,13 @@ returns-in_ok-self-in-None-clause-marked c e =
     )
 
 -- what a page tells of an Add that it had room for
-marked_by : {E : Type 0} (r : Result Bool E) (old new : PageView) (m : Mark) → new.page_nodes ≡ old.page_nodes
+marked_by : {E : Type 0} (r : Result Bool E) (old new : PageView) (m : Mark) → new.size ≡ old.size
     → IfOk r (λ done. done ≡ true → new.top ≡ later old.top m.value.time)
     → IfOk r (λ done. done ≡ true → (k : KeyBytes) → is_in k new.keys ≡ (is_in k old.keys || is_in k (end_keys m.span)))
     → IfOk r (λ done. done ≡ true → (s : Interval) → answer new s ≡ cond (overlaps m.span s) (joint (answer old s) (m.value ∷ [])) (answer old s))
     → IfOk r (λ done. done ≡ true → IsMarked old new m)
-marked_by (Ok done) old new m limit top keys answers = λ e. record { limit = limit; top = top e; keys = keys e; answers = answers e }
-marked_by (Err e) old new m limit top keys answers = tt
+marked_by (Ok done) old new m size top keys answers = λ e. record { size = size; top = top e; keys = keys e; answers = answers e }
+marked_by (Err e) old new m size top keys answers = tt
 
 -- and with the pages behind it, which stay
 beside : {E : Type 0} (r : Result Bool E) (P Q : Type 0) → Q → IfOk r (λ done. done ≡ true → P) → IfOk r (λ done. done ≡ true → P × Q)
@@ -44,5 +44,5 @@ returns-in-Some-clause-marked c =
     let m : Mark = record { span = c.args.span.now; value = c.args.value } in
     let old : PageView = front_of c.args.self.now in
     let is : c.in-Some.front.now ≡ old = c.in-Some.ensures.value in
-    let marked = marked_by c.try_add.result c.in-Some.front.now c.try_add.new.self m c.try_add.ensures.limit c.try_add.ensures.top c.try_add.ensures.keys c.try_add.ensures.answers in
+    let marked = marked_by c.try_add.result c.in-Some.front.now c.try_add.new.self m c.try_add.ensures.size c.try_add.ensures.top c.try_add.ensures.keys c.try_add.ensures.answers in
     beside c.try_add.result (IsMarked old c.try_add.new.self m) _ refl (subst (λ (v : PageView). IfOk c.try_add.result (λ done. done ≡ true → IsMarked v c.try_add.new.self m)) is marked)

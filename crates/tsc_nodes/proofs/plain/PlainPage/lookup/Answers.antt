@@ -33,5 +33,5 @@ returns-clause-value = value
 
 pub returns-clause-below_top : goal.returns-clause-below_top
 returns-clause-below_top c =
-    let covers = plain_covers c.args.self.now c.self.inside.page_nodes (record { base = c.self.inside.base; marks = c.self.inside.marks.items }) c.self.view_is in
+    let covers = plain_covers c.args.self.now (record { size = c.self.inside.size; base = c.self.inside.base; marks = c.self.inside.marks.items }) c.self.view_is in
     subst (λ (w : OwnedTime). is_before c.args.self.now.top w.time ≡ false) (sym (value c)) (covers c.args.span.now)

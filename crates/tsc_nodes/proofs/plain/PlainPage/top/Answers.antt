@@ -18,4 +18,4 @@ loop-mark-preserved c =
     ∙ sym (latest_more c.self.inside.base marks c.loop-mark.mark-index c.mark-item.result c.loop-mark-test.true)
 
 pub returns-clause-covers : goal.returns-clause-covers
-returns-clause-covers c = plain_covers c.args.self.now c.self.inside.page_nodes (record { base = c.self.inside.base; marks = c.self.inside.marks.items }) c.self.view_is
+returns-clause-covers c = plain_covers c.args.self.now (record { size = c.self.inside.size; base = c.self.inside.base; marks = c.self.inside.marks.items }) c.self.view_is

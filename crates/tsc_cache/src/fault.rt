@@ -1,0 +1,24 @@
+use thiserror::Error;
+use tsc_time::NoMemory;
+
+/// Why an Add was refused.
+#[derive(Clone, Copy, Debug, PartialEq, Eq, Error)]
+pub enum CacheFault {
+    /// The span costs more than the largest page may have.
+    #[error("the span is too large for a page")]
+    TooLarge,
+    /// A growth was refused.
+    #[error("out of memory")]
+    NoMemory,
+}
+
+impl From<NoMemory> for CacheFault {
+    ghost use Rattle.std.specs.Prelude.{◌≡◌};
+    ghost use Rattle.tsc_cache.specs.declared.fault.CacheFault.TheVariants.{NoMemory};
+
+    ghost from_gives = { λ _ fault. fault ≡ NoMemory };
+
+    fn from(_refused: NoMemory) -> CacheFault {
+        CacheFault::NoMemory
+    }
+}
