@@ -8,6 +8,9 @@ use tsc_time::{Timestamp, Value, ratchet};
 /// How many keys a page of more leaves than one block has is filled with.
 const MANY: u32 = 4096;
 
+/// The most that such a key costs.
+const COST: u32 = 60;
+
 /// How many spans a plain page gets, which compares each end key with all others to see whether there is room.
 const SOME: u32 = 128;
 
@@ -45,7 +48,7 @@ fn add_some(
     order: Order,
     alike: bool,
 ) -> Result<PlainPage, Fail> {
-    let mut plain = PlainPage::new(alloc, MANY, Timestamp::ZERO)?;
+    let mut plain = PlainPage::new(alloc, MANY * COST, Timestamp::ZERO)?;
     for step in first..first.saturating_add(SOME) {
         let value = step_value(step)?;
         let span = step_span(alloc, order, step, MANY, alike)?;
@@ -107,7 +110,7 @@ fn answers_alike(
 
 /// Whether a page that is filled so answers as the plain pages do.
 fn is_filled_alike(alloc: Global, order: Order, alike: bool) -> Result<bool, Fail> {
-    let mut page = Page::new(alloc, MANY, Timestamp::ZERO)?;
+    let mut page = Page::new(alloc, MANY * COST, Timestamp::ZERO)?;
     let plain = fill(alloc, &mut page, order, alike)?;
     answers_alike(alloc, &page, &plain, alike)
 }

@@ -1,7 +1,7 @@
 use std::alloc::Global;
 use std::process::Abort;
 use std::test::Fail;
-use tsc_page::{LEAST_NODES, MOST_NODES, Page, PlainPage};
+use tsc_page::{LEAST_SIZE, MOST_SIZE, Page, PlainPage};
 use tsc_span::{Ends, Key, Span};
 use tsc_time::{NoMemory, Timestamp, Value};
 use uuid::Uuid;
@@ -16,7 +16,7 @@ const NOBODY: u128 = 0;
 /// time, a logical count and an owner.
 #[derive(Clone, Copy)]
 enum Step {
-    /// Goes on with empty pages of so many nodes, with this base.
+    /// Goes on with empty pages of so many bytes, with this base.
     New(u32, u64),
     /// Adds a value to a span.
     Add(&'static [u8], u64, u32, u128),
@@ -26,67 +26,67 @@ enum Step {
     Look(&'static [u8], u64, u32, u128),
     /// Whether there is room for a span.
     Room(&'static [u8], bool),
-    /// The number of nodes, and the wall time and the logical count of the top.
-    Shows(u32, u64, u32),
+    /// The number of nodes, what they cost, and the wall time and the logical count of the top.
+    Shows(u32, u32, u64, u32),
 }
 
 static STEPS: [Step; 118] = [
     // an empty page
-    Step::New(4, 7),
-    Step::Shows(0, 7, 0),
+    Step::New(132, 7),
+    Step::Shows(0, 0, 7, 0),
     Step::Look(b"a", 0, 0, NOBODY),
     Step::Look(b"[a,", 0, 0, NOBODY),
     Step::Room(b"[a,c]", true),
     // a range reaches up to its excluded end
-    Step::New(4, 5),
+    Step::New(132, 5),
     Step::Add(b"[a,c)", 20, 0, FIRST),
     Step::Look(b"a", 20, 0, FIRST),
     Step::Look(b"b", 20, 0, FIRST),
     Step::Look(b"c", 0, 0, NOBODY),
     // the logical count decides at one wall time
-    Step::New(4, 5),
+    Step::New(132, 5),
     Step::Add(b"a", 5, 1, FIRST),
     Step::Look(b"a", 5, 1, FIRST),
-    Step::Shows(1, 5, 1),
+    Step::Shows(1, 33, 5, 1),
     Step::Add(b"a", 5, 0, SECOND),
     Step::Look(b"a", 5, 1, FIRST),
-    Step::Shows(1, 5, 1),
+    Step::Shows(1, 33, 5, 1),
     // a range takes a node for each end
-    Step::New(4, 7),
+    Step::New(132, 7),
     Step::Add(b"[a,c)", 20, 0, FIRST),
-    Step::Shows(2, 20, 0),
+    Step::Shows(2, 66, 20, 0),
     Step::Add(b"b", 10, 0, SECOND),
-    Step::Shows(3, 20, 0),
+    Step::Shows(3, 99, 20, 0),
     Step::Look(b"b", 20, 0, FIRST),
     Step::Room(b"[d,e)", false),
     Step::Room(b"[c,d)", true),
     // a copy goes its own way
     Step::AddToCopies(b"[c,d)", 30, 0, SECOND, 4),
     Step::Look(b"c", 0, 0, NOBODY),
-    Step::Shows(3, 20, 0),
+    Step::Shows(3, 99, 20, 0),
     // a new node takes the value of its gap
-    Step::New(8, 0),
+    Step::New(264, 0),
     Step::Add(b"[a,e)", 20, 0, FIRST),
     Step::Look(b"c", 20, 0, FIRST),
-    Step::Shows(2, 20, 0),
+    Step::Shows(2, 66, 20, 0),
     Step::Add(b"c", 10, 0, SECOND),
     Step::Look(b"c", 20, 0, FIRST),
-    Step::Shows(3, 20, 0),
+    Step::Shows(3, 99, 20, 0),
     Step::Add(b"(c,e)", 20, 0, SECOND),
-    Step::Shows(3, 20, 0),
+    Step::Shows(3, 99, 20, 0),
     Step::Look(b"c", 20, 0, FIRST),
     Step::Look(b"(a,c)", 20, 0, FIRST),
     Step::Look(b"d", 20, 0, NOBODY),
     Step::Look(b"(c,e)", 20, 0, NOBODY),
     Step::Look(b"e", 0, 0, NOBODY),
     // known keys need no room
-    Step::New(2, 0),
+    Step::New(66, 0),
     Step::Add(b"[a,c)", 20, 0, FIRST),
     Step::Room(b"[c,", true),
     Step::Room(b"(a,a)", true),
     Step::Room(b"b", false),
     // owners that differ are lost
-    Step::New(4, 0),
+    Step::New(132, 0),
     Step::Add(b"[a,c)", 20, 0, FIRST),
     Step::Add(b"[b,d)", 20, 0, SECOND),
     Step::Look(b"a", 20, 0, FIRST),
@@ -94,7 +94,7 @@ static STEPS: [Step; 118] = [
     Step::Look(b"c", 20, 0, SECOND),
     Step::Look(b"[a,d)", 20, 0, NOBODY),
     // at one time only a common owner stays
-    Step::New(4, 0),
+    Step::New(132, 0),
     Step::Add(b"a", 20, 0, FIRST),
     Step::Add(b"a", 20, 0, SECOND),
     Step::Look(b"a", 20, 0, NOBODY),
@@ -108,30 +108,30 @@ static STEPS: [Step; 118] = [
     Step::Add(b"d", 20, 0, NOBODY),
     Step::Look(b"d", 20, 0, NOBODY),
     // equal ends are the single key
-    Step::New(4, 0),
+    Step::New(132, 0),
     Step::Add(b"[a,a)", 20, 0, FIRST),
-    Step::Shows(1, 20, 0),
+    Step::Shows(1, 33, 20, 0),
     Step::Look(b"a", 20, 0, FIRST),
     Step::Look(b"(a,a)", 0, 0, NOBODY),
     Step::Look(b"(a,b)", 0, 0, NOBODY),
     // excluded ends stay as they are
-    Step::New(4, 0),
+    Step::New(132, 0),
     Step::Add(b"(a,c)", 20, 0, FIRST),
     Step::Look(b"a", 0, 0, NOBODY),
     Step::Look(b"b", 20, 0, FIRST),
     Step::Look(b"c", 0, 0, NOBODY),
     Step::Look(b"(a,a)", 0, 0, NOBODY),
     // a gap without keys has a value
-    Step::New(4, 0),
+    Step::New(132, 0),
     Step::Add(b"(a,A)", 20, 0, FIRST),
     Step::Look(b"(a,A)", 20, 0, FIRST),
     Step::Look(b"[a,A]", 20, 0, FIRST),
     Step::Look(b"A", 0, 0, NOBODY),
     Step::Look(b"a", 0, 0, NOBODY),
     // a span without end
-    Step::New(4, 0),
+    Step::New(132, 0),
     Step::Add(b"[m,", 20, 0, FIRST),
-    Step::Shows(1, 20, 0),
+    Step::Shows(1, 33, 20, 0),
     Step::Look(b"\xff", 20, 0, FIRST),
     Step::Look(b"m", 20, 0, FIRST),
     Step::Look(b"l", 0, 0, NOBODY),
@@ -139,12 +139,12 @@ static STEPS: [Step; 118] = [
     Step::Look(b"(a,m]", 20, 0, FIRST),
     Step::Look(b"[a,m)", 0, 0, NOBODY),
     // the empty key, and two of the longest ones, which differ in their last byte
-    Step::New(3, 0),
+    Step::New(8288, 0),
     Step::Add(b".", 10, 0, FIRST),
     Step::Look(b".", 10, 0, FIRST),
     Step::Look(b"(.,", 0, 0, NOBODY),
     Step::Add(b"[l,L)", 20, 0, SECOND),
-    Step::Shows(3, 20, 0),
+    Step::Shows(3, 8288, 20, 0),
     Step::Look(b"l", 20, 0, SECOND),
     Step::Look(b"L", 0, 0, NOBODY),
     Step::Look(b"(L,", 0, 0, NOBODY),
@@ -154,7 +154,7 @@ static STEPS: [Step; 118] = [
     Step::Room(b"[.,L]", true),
     Step::Room(b"[.,m)", false),
     // all kinds of spans on a page that they fill
-    Step::New(5, 7),
+    Step::New(165, 7),
     Step::Add(b"[b,d)", 20, 0, FIRST),
     Step::Add(b"c", 30, 0, SECOND),
     Step::Add(b"(b,f]", 20, 0, SECOND),
@@ -163,7 +163,7 @@ static STEPS: [Step; 118] = [
     Step::Add(b"[a,f]", 25, 0, NOBODY),
     Step::Room(b"g", false),
     Step::Add(b"[c,c]", 30, 0, SECOND),
-    Step::Shows(5, 30, 0),
+    Step::Shows(5, 165, 30, 0),
 ];
 
 /// The names of the keys of all spans to which both pages have to answer alike.
@@ -277,12 +277,12 @@ struct Pages {
 }
 
 impl Pages {
-    fn new(alloc: Global, page_nodes: u32, base: u64) -> Result<Pages, Fail> {
-        let page_nodes = page_nodes.clamp(LEAST_NODES, MOST_NODES);
+    fn new(alloc: Global, size: u32, base: u64) -> Result<Pages, Fail> {
+        let size = size.clamp(LEAST_SIZE, MOST_SIZE);
         let base = Timestamp::new(base, 0).ok_or("out of range")?;
         Ok(Pages {
-            page: Page::new(alloc, page_nodes, base)?,
-            plain: PlainPage::new(alloc, page_nodes, base)?,
+            page: Page::new(alloc, size, base)?,
+            plain: PlainPage::new(alloc, size, base)?,
         })
     }
 
@@ -332,14 +332,8 @@ impl Pages {
     }
 
     /// Goes on with empty pages, and says whether they are alike.
-    fn restart(
-        &mut self,
-        alloc: Global,
-        page_nodes: u32,
-        base: u64,
-        all: &[Span],
-    ) -> Result<bool, Fail> {
-        *self = Pages::new(alloc, page_nodes, base)?;
+    fn restart(&mut self, alloc: Global, size: u32, base: u64, all: &[Span]) -> Result<bool, Fail> {
+        *self = Pages::new(alloc, size, base)?;
         Ok(alike_on(&self.page, &self.plain, all))
     }
 
@@ -357,9 +351,10 @@ impl Pages {
         Ok(copy.answer(span, value) && copy.have(nodes))
     }
 
-    /// Whether both pages have so many nodes, and this top.
-    fn show(&self, nodes: u32, top: Timestamp) -> bool {
-        self.have(nodes) && self.page.top() == top && self.plain.top() == top
+    /// Whether both pages have so many nodes that cost so much, and this top.
+    fn show(&self, nodes: u32, bytes: u32, top: Timestamp) -> bool {
+        let cost = self.page.bytes() == bytes && self.plain.bytes() == bytes;
+        self.have(nodes) && cost && self.page.top() == top && self.plain.top() == top
     }
 
     /// Takes a step with a span, and says whether both pages show what it tells, and answer alike to each of the
@@ -376,16 +371,16 @@ impl Pages {
                 Ok(self.answer(span, value(wall, logical, owner)?))
             }
             Step::Room(_, room) => self.tell_room(span, room),
-            Step::New(_, _) | Step::Shows(_, _, _) => Err(Fail::new("a step without a span")),
+            Step::New(_, _) | Step::Shows(_, _, _, _) => Err(Fail::new("a step without a span")),
         }
     }
 
     /// Takes a step, and says whether both pages show what it tells, and answer alike to each of the spans.
     fn take(&mut self, alloc: Global, step: Step, all: &[Span]) -> Result<bool, Fail> {
         match step {
-            Step::New(page_nodes, base) => self.restart(alloc, page_nodes, base, all),
-            Step::Shows(nodes, wall, logical) => {
-                Ok(self.show(nodes, value(wall, logical, NOBODY)?.time()))
+            Step::New(size, base) => self.restart(alloc, size, base, all),
+            Step::Shows(nodes, bytes, wall, logical) => {
+                Ok(self.show(nodes, bytes, value(wall, logical, NOBODY)?.time()))
             }
             Step::Add(text, _, _, _)
             | Step::AddToCopies(text, _, _, _, _)
@@ -398,6 +393,7 @@ impl Pages {
 /// Whether two pages show the same, and answer alike to each of the spans.
 fn alike_on(page: &Page, plain: &PlainPage, spans: &[Span]) -> bool {
     let mut alike = page.top() == plain.top() && page.nodes() == plain.nodes();
+    alike &= page.size() == plain.size() && page.bytes() == plain.bytes();
     for span in spans {
         alike &= page.lookup(span) == plain.lookup(span) && page.room(span) == plain.room(span);
     }
@@ -423,7 +419,7 @@ fn wrong_step(
 #[test]
 fn rows_of_calls(rt: HostRuntime) -> Result<(), Fail> {
     let all = all_spans(rt.alloc(), NAMES)?;
-    let mut pages = Pages::new(rt.alloc(), LEAST_NODES, 0)?;
+    let mut pages = Pages::new(rt.alloc(), LEAST_SIZE, 0)?;
     assert_eq!(rt; wrong_step(rt.alloc(), &mut pages, &STEPS, &all)?, None);
     Ok(())
 }
@@ -548,7 +544,7 @@ fn wrong_mark(
 #[test]
 fn a_refused_call_changes_nothing(rt: HostRuntime) -> Result<(), Fail> {
     let all = all_spans(rt.alloc(), NAMES)?;
-    let mut pages = Pages::new(rt.alloc(), 5, 7)?;
+    let mut pages = Pages::new(rt.alloc(), 165, 7)?;
     assert_eq!(rt; wrong_mark(rt.alloc(), &mut pages, &MARKS, &all)?, None);
     assert!(rt; pages.have(5));
     Ok(())
@@ -586,19 +582,25 @@ fn tells_place(alloc: Global, page: &Page, at: u32) -> Result<bool, Fail> {
     Ok(page.room(&span) && page.lookup(&span) == value)
 }
 
+/// How many keys of four bytes a page is filled with, and what each of them costs.
+const FULL: u32 = 65_536;
+
+const PLACE_COST: u32 = 36;
+
 /// Whether a page is full, with its own time at the key of each place that is looked up.
 fn is_full(alloc: Global, page: &Page) -> Result<bool, Fail> {
-    let mut full = page.nodes() == MOST_NODES && !page.room(&place(alloc, MOST_NODES)?);
-    for at in (0..MOST_NODES).step_by(4369) {
+    let mut full = page.nodes() == FULL && page.bytes() == page.size();
+    full &= !page.room(&place(alloc, FULL)?);
+    for at in (0..FULL).step_by(4369) {
         full &= tells_place(alloc, page, at)?;
     }
     Ok(full)
 }
 
-/// A page with as many keys as there may be.
-fn largest_page(alloc: Global) -> Result<Page, Fail> {
-    let mut page = Page::new(alloc, MOST_NODES, Timestamp::ZERO)?;
-    for at in 0..MOST_NODES {
+/// A page that such keys fill.
+fn full_page(alloc: Global) -> Result<Page, Fail> {
+    let mut page = Page::new(alloc, FULL * PLACE_COST, Timestamp::ZERO)?;
+    for at in 0..FULL {
         add_place(alloc, &mut page, at)?;
     }
     Ok(page)
@@ -611,8 +613,8 @@ fn is_copied_full(alloc: Global, page: &Page) -> Result<bool, Fail> {
 }
 
 #[test]
-fn the_largest_page(rt: HostRuntime) -> Result<(), Fail> {
-    let page = largest_page(rt.alloc())?;
+fn a_full_page(rt: HostRuntime) -> Result<(), Fail> {
+    let page = full_page(rt.alloc())?;
     assert!(rt; is_full(rt.alloc(), &page)?);
     assert!(rt; is_copied_full(rt.alloc(), &page)?);
     Ok(())
@@ -654,7 +656,7 @@ fn add_over_all(alloc: Global, page: &mut Page, told: Value) -> Result<(), Fail>
 
 /// A page with more leaves than one block has, whose keys came in mixed order.
 fn page_of_blocks(alloc: Global) -> Result<Page, Fail> {
-    let mut page = Page::new(alloc, MANY, Timestamp::ZERO)?;
+    let mut page = Page::new(alloc, MANY * PLACE_COST, Timestamp::ZERO)?;
     for step in 0..MANY {
         add_place(alloc, &mut page, number(Order::Mixed, step, MANY))?;
     }
@@ -716,7 +718,7 @@ fn add_byte(alloc: Global, page: &mut Page, byte: u8) -> Result<(), Fail> {
 
 /// A page with the keys 0 to 129, each with a time of its own.
 fn page_of_bytes(alloc: Global) -> Result<Page, Fail> {
-    let mut page = Page::new(alloc, 200, Timestamp::ZERO)?;
+    let mut page = Page::new(alloc, 6600, Timestamp::ZERO)?;
     for byte in 0..130 {
         add_byte(alloc, &mut page, byte)?;
     }
@@ -889,7 +891,7 @@ fn bytes_up_to(alloc: Global, [from, to]: [u8; 2]) -> Result<Span, Fail> {
 
 /// Two pages with 97 keys of one byte, each with a time of its own.
 fn pages_of_bytes(alloc: Global) -> Result<Pages, Fail> {
-    let mut pages = Pages::new(alloc, 200, 0)?;
+    let mut pages = Pages::new(alloc, 6600, 0)?;
     for byte in (0..194).step_by(2) {
         let value = value(u64::from(byte) + 1, 0, FIRST)?;
         pages.add(&Span::point(byte_key(alloc, byte)?), value)?;
@@ -1142,7 +1144,7 @@ static FILLS: [(u32, Order, bool); 24] = [
 
 /// Whether pages that are filled so answer alike.
 fn is_filled_alike(alloc: Global, count: u32, order: Order, alike: bool) -> Result<bool, Fail> {
-    let mut pages = Pages::new(alloc, 4096, 0)?;
+    let mut pages = Pages::new(alloc, 8192, 0)?;
     fill(alloc, &mut pages, order, alike, count)?;
     filled_alike(alloc, &pages, alike, count)
 }

@@ -189,11 +189,16 @@ fn meets(alloc: Global, span: &Span, probe: &[u8], within: bool) -> Result<bool,
     Ok(span.covers(probe) == within && span.overlaps(&single) == within)
 }
 
-/// Whether these are the end keys of a span.
+/// Whether these are the end keys of a span, and it costs what they do.
 fn has_ends(span: &Span, ends: &[&[u8]]) -> bool {
     let (first, second) = span.end_keys();
+    let mut cost = 0_usize;
+    for end in ends {
+        cost = cost.saturating_add(end.len()).saturating_add(32);
+    }
     first.map(|key| key.bytes()) == ends.first().copied()
         && second.map(|key| key.bytes()) == ends.get(1).copied()
+        && span.cost() as usize == cost
 }
 
 /// Whether a span covers these keys of `PROBES` alone, overlaps just the single keys that it covers, has

@@ -5,6 +5,13 @@ use Rattle.std.proofs.Crossing.{crosses}
 use Rattle.tsc_time.specs.contracts.timestamp.Timestamp.{the_row as timestamp}
 use Rattle.tsc_time.specs.contracts.value.Value.{the_row as value}
 use Rattle.tsc_span.specs.contracts.key.Key.{the_row as key}
+use Rattle.tsc_nodes.specs.contracts.number.KeyNumber.{the_row as key_number}
+use Rattle.tsc_nodes.specs.contracts.number.NumberedKey.{the_row as numbered_key}
+use Rattle.tsc_nodes.specs.contracts.nodes.Values.{the_row as values}
+use Rattle.tsc_nodes.specs.contracts.nodes.Nodes.{the_row as nodes}
+use Rattle.tsc_page.specs.contracts.leaf.Leaf.{the_row as leaf}
+use Rattle.tsc_page.specs.contracts.block.Block.{the_row as block}
+use Rattle.tsc_page.specs.contracts.leaves.Leaves.{the_row as leaves}
 use Rattle.tsc_page.specs.contracts.page.Page.{the_row as page}
 use Rattle.tsc_span.specs.contracts.span.Shape.{the_row as shape}
 use Rattle.tsc_span.specs.contracts.span.Span.{the_row as span}
@@ -35,11 +42,71 @@ key_sends = search (sendable, crosses) depth 20
 key_syncs : IsSync key
 key_syncs = search (sendable, crosses) depth 20
 
+key_number_sends : IsSend key_number
+key_number_sends = search (sendable, crosses) depth 20
+
+key_number_syncs : IsSync key_number
+key_number_syncs = search (sendable, crosses) depth 20
+
+numbered_key_sends : IsSend numbered_key
+numbered_key_sends = search (sendable, crosses, key_number_sends, key_sends, key_syncs) depth 20
+
+numbered_key_syncs : IsSync numbered_key
+numbered_key_syncs = search (sendable, crosses, key_number_syncs, key_sends, key_syncs) depth 20
+
+values_send : IsSend values
+values_send = search (sendable, crosses, value_sends) depth 20
+
+values_sync : IsSync values
+values_sync = search (sendable, crosses, value_syncs) depth 20
+
+nodes_send : IsSend nodes
+nodes_send = search (sendable, crosses, numbered_key_sends, numbered_key_syncs, values_send) depth 20
+
+nodes_sync : IsSync nodes
+nodes_sync = search (sendable, crosses, numbered_key_sends, numbered_key_syncs, values_sync) depth 20
+
+leaf_sends : IsSend leaf
+leaf_sends = search (sendable, crosses, key_number_sends, nodes_send, nodes_sync) depth 20
+
+leaf_syncs : IsSync leaf
+leaf_syncs = search (sendable, crosses, key_number_syncs, nodes_send, nodes_sync) depth 20
+
+block_sends : IsSend block
+block_sends = search (sendable, crosses, key_number_sends, leaf_sends, leaf_syncs) depth 20
+
+block_syncs : IsSync block
+block_syncs = search (sendable, crosses, key_number_syncs, leaf_sends, leaf_syncs) depth 20
+
+leaves_send : IsSend leaves
+leaves_send = search (sendable, crosses, block_sends, block_syncs) depth 20
+
+leaves_sync : IsSync leaves
+leaves_sync = search (sendable, crosses, block_sends, block_syncs) depth 20
+
+page_sends : IsSend page
+page_sends = search (sendable, declared_send, as_row_send, timestamp_sends, leaves_send) depth 20
+
+page_syncs : IsSync page
+page_syncs = search (sendable, declared_sync, as_row_sync, timestamp_syncs, leaves_sync) depth 20
+
 pub config_sends : IsSend config
 config_sends = search (sendable, crosses, timestamp_sends) depth 20
 
 pub config_syncs : IsSync config
 config_syncs = search (sendable, crosses, timestamp_syncs) depth 20
+
+pages_send : IsSend pages
+pages_send = search (sendable, crosses, page_sends, page_syncs) depth 20
+
+pages_sync : IsSync pages
+pages_sync = search (sendable, crosses, page_sends, page_syncs) depth 20
+
+pub cache_sends : IsSend cache
+cache_sends = search (sendable, declared_send, as_row_send, config_sends, timestamp_sends, pages_send) depth 20
+
+pub cache_syncs : IsSync cache
+cache_syncs = search (sendable, declared_sync, as_row_sync, config_syncs, timestamp_syncs, pages_sync) depth 20
 
 pub added_sends : IsSend added
 added_sends = search sendable depth 20
@@ -70,24 +137,6 @@ plain_page_sends = search (sendable, crosses, declared_send, as_row_send, timest
 
 plain_page_syncs : IsSync plain_page
 plain_page_syncs = search (sendable, crosses, declared_sync, as_row_sync, timestamp_syncs, plain_mark_syncs) depth 20
-
-page_sends : IsSend page
-page_sends = search (sendable, declared_send, as_row_send, plain_page_sends) depth 20
-
-page_syncs : IsSync page
-page_syncs = search (sendable, declared_sync, as_row_sync, plain_page_syncs) depth 20
-
-pages_send : IsSend pages
-pages_send = search (sendable, crosses, page_sends, page_syncs) depth 20
-
-pages_sync : IsSync pages
-pages_sync = search (sendable, crosses, page_sends, page_syncs) depth 20
-
-pub cache_sends : IsSend cache
-cache_sends = search (sendable, declared_send, as_row_send, config_sends, timestamp_sends, pages_send) depth 20
-
-pub cache_syncs : IsSync cache
-cache_syncs = search (sendable, declared_sync, as_row_sync, config_syncs, timestamp_syncs, pages_sync) depth 20
 
 plain_pages_send : IsSend plain_pages
 plain_pages_send = search (sendable, crosses, declared_send, as_row_send, plain_page_sends) depth 20

@@ -1,0 +1,12 @@
+pub mod Joins
+pub mod LeafAnswers
+pub mod LeafLists
+pub mod LeafKeys
+pub mod LeafRaises
+pub mod LeafMakes
+pub mod LeafAdds
+pub mod Blocks
+pub mod BlockAdds
+pub mod BlockPlaces
+pub mod Refusals
+pub mod Weights

@@ -18,7 +18,11 @@
 //! A [`PlainPage`] is the same thing as the list of what was added: slow, and easy to believe.
 #![tactic(auto)]
 
+mod block;
+mod leaf;
+mod leaves;
 mod page;
+mod parts;
 
 pub use page::Page;
 pub use tsc_nodes::{LEAST_SIZE, MOST_SIZE, PlainPage};

@@ -1,31 +1,45 @@
-ghost use Rattle.std.specs.Prelude.{◌≡◌, ◌≤◌, ◌*◌, nat_le, ◌||◌, ◌∷◌, [], true, false, IsOk, IfOk, OnOk, OnErr, if◌then◌else◌};
+ghost use Rattle.std.specs.Prelude.{sum, slice_get, ◌≡◌, ◌≤◌, ◌*◌, nat_le, ◌||◌, ◌∷◌, [], true, false, IsOk, IfOk, OnOk, OnErr, option_map, if◌then◌else◌};
 ghost use Rattle.tsc_time.specs.Joint.{joint, joint_above};
 ghost use Rattle.tsc_time.specs.Time.{zero_time, is_before, later};
-ghost use Rattle.tsc_span.specs.Span.{KeyBytes, Interval, is_empty_span, overlaps, end_keys, span_cost};
+ghost use Rattle.tsc_span.specs.Span.{KeyBytes, Interval, is_empty_span, overlaps, end_keys, key_cost, span_cost};
 ghost use Rattle.tsc_nodes.specs.declared.TheConstants.{LEAST_SIZE, MOST_SIZE};
 ghost use Rattle.tsc_nodes.specs.Page.{PageMarks, Mark, empty_page, with_mark, top, values_on, marked_keys, count_distinct, cost_distinct, has_room};
-ghost use Rattle.tsc_nodes.specs.PageView.{StandsFor, NoAnswerAboveTop, answer, is_in, bytes_of, has_room_for};
+ghost use Rattle.tsc_nodes.specs.PageView.{AreLeafSizes, StandsFor, NoAnswerAboveTop, answer, is_in, bytes_of, has_room_for, new_weight};
 
+use crate::leaves::Leaves;
 use std::alloc::Global;
 use std::marker::Model;
-use tsc_nodes::PlainPage;
-use tsc_span::Span;
+use tsc_nodes::MOST_NODES;
+use tsc_span::{Key, Span};
 use tsc_time::{NoMemory, Timestamp, Value};
 
-/// One page of the cache.
+/// One page of the cache: what was added to it, as sorted nodes.
 ///
-/// It stands in for a page of leaves until that one is measured in bytes: it keeps the plain list.
+/// A page holds end keys that cost no more than its size, and answers a lookup by its nodes alone. So its
+/// cost does not depend on how many spans were added.
 #[derive(Debug, Drop)]
 pub struct Page {
-    plain: PlainPage,
+    size: u32,
+    bytes: u32,
+    top: Timestamp,
+    leaves: Leaves,
 }
 
 impl Model for Page {
-    ghost use Rattle.tsc_nodes.specs.PageView.{PageView};
+    ghost use Rattle.std.specs.Prelude.{◌≡◌, ◌≤◌};
+    ghost use Rattle.tsc_span.specs.Span.{cost_of};
+    ghost use Rattle.tsc_nodes.specs.declared.TheConstants.{LEAST_SIZE, MOST_SIZE};
+    ghost use Rattle.tsc_nodes.specs.PageView.{PageView, NoAnswerAboveTop};
+    ghost use Rattle.tsc_nodes.specs.Nodes.{node_keys, page_of};
+    ghost use Rattle.tsc_page.specs.Leaves.{leaf_sizes};
+    ghost use Rattle.tsc_page.specs.LeafParts.{leaves_of, all_nodes, AreCounted};
 
     ghost Value = { PageView };
 
-    ghost view = { λ p. p.plain };
+    ghost view = { λ p. page_of p.size p.top (all_nodes p.leaves) (leaf_sizes (leaves_of p.leaves)) };
+
+    ghost invariant = { λ p. AreCounted p.leaves × (p.bytes ≡ cost_of (node_keys (all_nodes p.leaves))) × (p.bytes ≤ p.size) × (LEAST_SIZE ≤ p.size) × (p.size ≤ MOST_SIZE)
+        × NoAnswerAboveTop (page_of p.size p.top (all_nodes p.leaves) (leaf_sizes (leaves_of p.leaves))) };
 }
 
 impl Page {
@@ -40,7 +54,10 @@ impl Page {
         ensures memory { IsOk result }
     {
         Ok(Page {
-            plain: PlainPage::new(alloc, size, base)?,
+            size,
+            bytes: 0,
+            top: base,
+            leaves: Leaves::new(alloc),
         })
     }
 
@@ -51,31 +68,39 @@ impl Page {
         ensures least { LEAST_SIZE ≤ result }
         ensures most { result ≤ MOST_SIZE }
     {
-        self.plain.size()
+        self.size
     }
 
     /// What the end keys of all that was added cost together, each of them once: for each as many bytes as it has, and
-    /// 32 more. It compares each end key with all others.
+    /// 32 more.
     pub fn bytes(&self) -> u32
         ensures value { result ≡ bytes_of self.now }
         ensures stands { (p : PageMarks) → StandsFor self.now p → result ≡ cost_distinct (marked_keys p.marks) }
         ensures most { result ≤ self.now.size }
     {
-        self.plain.bytes()
+        self.bytes
     }
 
     /// Whether the page has room for a span: whether the end keys of all that was added and of the span, each of them
-    /// once, cost no more than the page's size. It compares each end key with all others.
+    /// once, cost no more than the page's size. It costs a search for each end key.
     pub fn room(&self, span: &Span) -> bool
         ensures value { result ≡ has_room_for self.now span.now }
         ensures stands { (p : PageMarks) → StandsFor self.now p → result ≡ has_room p span.now }
     {
-        self.plain.room(span)
+        let (first, second) = span.end_keys();
+        self.bytes + self.new_cost(first) + self.new_cost(second) <= self.size
     }
 
     /// Adds a span with its value. The span is not empty, and the page has room for it. Where memory is
-    /// refused the page is as before. It costs a copy of the span, and a move of all that was added where
-    /// the list has to grow.
+    /// refused the page is as before, and so are its leaves.
+    ///
+    /// Where no copy of the page shares the blocks and leaves that the span meets, nor the keys of a leaf that gets a
+    /// new one, and no leaf would come to have 65 nodes, they are changed in place. That costs a search among the
+    /// blocks, one among the leaves of a block and one for each end key in its leaf, a copy of each end key that is new
+    /// to the page, a move of a leaf's nodes above a new one, and a step for each node within the span; a span whose end
+    /// keys the page holds already takes no memory then. So it is for 256 leaves at the most. Any other Add copies the
+    /// list of blocks, and of the blocks and leaves themselves those that it changes; a leaf that comes to have 65 nodes
+    /// is cut into its first 32 and its last 33, and so is a block of 65 leaves.
     pub fn add(&mut self, span: &Span, value: Value) -> Result<(), NoMemory>
         requires not_empty { is_empty_span span.now ≡ false }
         requires room { has_room_for self.old span.now ≡ true }
@@ -88,11 +113,14 @@ impl Page {
             ≡ (if overlaps span.now s then joint (answer self.old s) (value ∷ []) else answer self.old s)) }
         ensures unchanged { OnErr result (self.new ≡ self.old) }
     {
-        self.plain.add(span, value)
+        self.try_add(span, value)?;
+        Ok(())
     }
 
     /// Adds a span with its value, where the page has room for it, and says whether it had. The span is not
     /// empty. Without room the page stays as it is, and where memory is refused.
+    ///
+    /// It costs what [`add`](Page::add) does.
     pub fn try_add(&mut self, span: &Span, value: Value) -> Result<bool, NoMemory>
         requires not_empty { is_empty_span span.now ≡ false }
         ensures room { IfOk result (λ done. done ≡ has_room_for self.old span.now) }
@@ -106,16 +134,34 @@ impl Page {
         ensures full { IfOk result (λ done. done ≡ false → self.new ≡ self.old) }
         ensures unchanged { OnErr result (self.new ≡ self.old) }
     {
-        self.plain.try_add(span, value)
+        let Some((from, to)) = span.cuts() else {
+            return Ok(true);
+        };
+        let (first, second) = span.end_keys();
+        let cost = self.new_cost(first) + self.new_cost(second);
+        if cost > self.size - self.bytes {
+            return Ok(false);
+        }
+        self.leaves
+            .try_add(first, second, from, to, value, MOST_NODES as usize)?;
+        self.bytes += cost;
+        self.top = self.top.max(value.time());
+        Ok(true)
     }
 
-    /// The joint value of time zero without an owner and of all that was added and overlaps the span.
+    /// The joint value of time zero without an owner and of all that was added and overlaps the span. It
+    /// costs a search among the leaves, one in each leaf that the span meets, and a step for each node within
+    /// the span. A search compares keys by their first twenty-four bytes, and reads what is behind these only
+    /// where they are the same.
     pub fn lookup(&self, span: &Span) -> Value
         ensures value { result ≡ answer self.now span.now }
         ensures below_top { is_before self.now.top result.time ≡ false }
         ensures stands { (p : PageMarks) → StandsFor self.now p → result ≡ joint_above zero_time (values_on span.now p.marks) }
     {
-        self.plain.lookup(span)
+        match span.cuts() {
+            Some((from, to)) => self.leaves.joint_between(from, to),
+            None => Value::unowned(Timestamp::ZERO),
+        }
     }
 
     /// The greatest of the base and of the times that were added. No answer to a lookup is later.
@@ -124,25 +170,52 @@ impl Page {
         ensures covers { NoAnswerAboveTop self.now }
         ensures stands { (p : PageMarks) → StandsFor self.now p → result ≡ top p }
     {
-        self.plain.top()
+        self.top
     }
 
-    /// How many different end keys the page holds. It compares each with all others.
+    /// How many different end keys the page holds.
     pub fn nodes(&self) -> u32
         ensures value { result ≡ count_distinct self.now.keys }
         ensures stands { (p : PageMarks) → StandsFor self.now p → result ≡ count_distinct (marked_keys p.marks) }
         ensures few { 32 * result ≤ self.now.size }
     {
-        self.plain.nodes()
+        self.leaves.len() as u32
     }
 
-    /// A copy of the page. It takes as much memory as all that was added.
+    /// How many nodes a leaf has, from the first one in the order of keys on; `None` past the last. A page
+    /// keeps its nodes in leaves, each of 1 to 64, and copies of a page share those that are the same.
+    pub fn leaf_nodes(&self, i: u32) -> Option<u32>
+        ensures value { result ≡ slice_get self.now.leaves i }
+        ensures sizes { AreLeafSizes self.now.leaves }
+        ensures total { sum self.now.leaves ≡ count_distinct self.now.keys }
+    {
+        match self.leaves.leaf_len(i as usize) {
+            Some(len) => Some(len as u32),
+            None => None,
+        }
+    }
+
+    /// A copy of the page, which shares its leaves. It takes the memory of the list of their blocks.
     pub fn try_copy(&self) -> Result<Page, NoMemory>
         ensures value { IfOk result (λ copy. copy ≡ self.now) }
         ensures stands { IfOk result (λ copy. (p : PageMarks) → StandsFor self.now p → StandsFor copy p) }
     {
         Ok(Page {
-            plain: self.plain.try_copy()?,
+            size: self.size,
+            bytes: self.bytes,
+            top: self.top,
+            leaves: self.leaves.try_copy()?,
         })
+    }
+
+    /// What a key costs, where this is one and has no node.
+    fn new_cost(&self, key: Option<&Key>) -> u32
+        ensures value { result ≡ new_weight key_cost self.now.keys (option_map (λ k. k.now) key.entry) }
+        ensures most { result ≤ 4128 }
+    {
+        match key {
+            Some(key) if self.leaves.is_new(Some(key)) => key.cost(),
+            _ => 0,
+        }
     }
 }

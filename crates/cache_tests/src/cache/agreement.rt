@@ -3,7 +3,7 @@ use super::runner::{at, value};
 use std::alloc::Global;
 use std::mem;
 use std::test::Fail;
-use tsc_cache::{Cache, Config, PlainCache};
+use tsc_cache::{Cache, CacheFault, Config, PlainCache};
 use tsc_span::{Ends, Key, Span};
 use tsc_time::{NoMemory, Timestamp, Value};
 
@@ -71,6 +71,7 @@ impl Sequence {
 /// Both caches, the newest version by `next`, and one before it with what that one answered.
 #[derive(Drop)]
 struct Caches {
+    config: Config,
     in_place: Cache,
     plain: PlainCache,
     newest: Cache,
@@ -81,6 +82,7 @@ struct Caches {
 impl Caches {
     fn new(alloc: Global, config: Config) -> Result<Caches, NoMemory> {
         Ok(Caches {
+            config,
             in_place: Cache::new(alloc, config)?,
             plain: PlainCache::new(alloc, config)?,
             newest: Cache::new(alloc, config)?,
@@ -90,11 +92,28 @@ impl Caches {
     }
 
     /// Makes an Add in each way, and says whether it tells the same in all.
-    fn add(&mut self, span: &Span, value: Value, now: Timestamp) -> Result<bool, NoMemory> {
+    fn add(&mut self, span: &Span, value: Value, now: Timestamp) -> Result<bool, CacheFault> {
+        if !self.config.fits(span) {
+            return Ok(self.refuse(span, value, now));
+        }
         let added = self.plain.add(span, value, now)?;
         let (next, by_next) = self.newest.next(span, value, now)?;
         self.newest = next;
         Ok(self.in_place.add(span, value, now)? == added && by_next == added)
+    }
+
+    /// Makes an Add that is too large in each way, and says whether it is refused as such.
+    fn refuse(&mut self, span: &Span, value: Value, now: Timestamp) -> bool {
+        let plain = matches!(&self.plain.add(span, value, now), Err(CacheFault::TooLarge));
+        let in_place = matches!(
+            &self.in_place.add(span, value, now),
+            Err(CacheFault::TooLarge)
+        );
+        let next = matches!(
+            &self.newest.next(span, value, now),
+            Err(CacheFault::TooLarge)
+        );
+        plain && in_place && next
     }
 
     /// Whether all stand alike.
@@ -136,12 +155,14 @@ impl Caches {
     }
 
     /// Takes the newest version, and what it answers, as the older one.
-    fn keep(&mut self, spans: &[Span], nothing: &Span) -> Result<(), NoMemory> {
+    fn keep(&mut self, spans: &[Span], nothing: &Span) -> Result<(), CacheFault> {
         let unowned = Value::unowned(Timestamp::ZERO);
         self.older = self.newest.next(nothing, unowned, Timestamp::ZERO)?.0;
         self.answers.clear();
         for span in spans {
-            self.answers.push(self.older.get_max(span))?;
+            self.answers
+                .push(self.older.get_max(span))
+                .map_err(|_| CacheFault::NoMemory)?;
         }
         Ok(())
     }

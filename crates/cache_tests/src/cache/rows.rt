@@ -1,5 +1,6 @@
 //! What is done to a new cache, and what has to come of it.
-use self::Step::{Add, Counted, Get, Points, State, Version};
+use self::Long::{Nothing, Point, Range};
+use self::Step::{Add, AddLong, Counted, Get, GetLong, Points, Refuse, State, Version};
 
 /// A wall time with its logical count.
 pub type Time = (u64, u32);
@@ -13,9 +14,26 @@ pub type Told = (bool, bool, u64);
 /// A name, and the steps that a new cache goes through.
 pub type Row = (&'static str, &'static [Step]);
 
+/// A span over keys of so many bytes `a`.
+#[derive(Clone, Copy)]
+pub enum Long {
+    /// The single key.
+    Point(usize),
+    /// A range with both ends.
+    Range(usize, usize),
+    /// The empty span, as a range from a key to itself without both ends.
+    Nothing(usize),
+}
+
 pub enum Step {
     /// An Add of a span with a time and an owner, at a moment, and what it tells.
     Add(Text, Time, u128, Time, Told),
+    /// An Add of such a span with a time, and what it tells.
+    AddLong(Long, Time, Told),
+    /// One that is too large.
+    Refuse(Long, Time),
+    /// A lookup of such a span: the time that it answers, and the owner.
+    GetLong(Long, Time, u128),
     /// Adds of single keys of one byte, each of them kept without a rotation.
     Points(Text, Time, u128, Time),
     /// A lookup of a span: the time that it answers, and the owner.
@@ -318,3 +336,62 @@ pub static COUNTED: [Row; 1] = [(
         Counted(b"c", AT_30, SECOND, 1),
     ],
 )];
+
+/// On pages of 66 bytes at first and 264 at the most, of which two are kept at the least.
+pub static GROWING: [Row; 6] = [
+    (
+        "each page is twice as large as the one before it",
+        &[
+            Points(b"ab", AT_20, FIRST, AT_20),
+            Add(b"c", AT_20, FIRST, AT_20, ROTATED),
+            Points(b"def", AT_20, FIRST, AT_20),
+            Add(b"g", AT_20, FIRST, AT_20, ROTATED),
+            Points(b"hijklmn", AT_20, FIRST, AT_20),
+            Add(b"o", AT_20, FIRST, AT_20, ROTATED),
+            State(4, 3, FLOOR),
+        ],
+    ),
+    (
+        "an empty page is dropped, and the floor stays",
+        &[
+            AddLong(Point(100), AT_20, ROTATED),
+            Add(b"b", AT_20, FIRST, AT_20, DROPPED),
+            State(2, 2, FLOOR),
+        ],
+    ),
+    (
+        "a page is as large as its first span wants",
+        &[
+            AddLong(Point(101), AT_20, ROTATED),
+            Add(b"b", AT_20, FIRST, AT_20, KEPT),
+            State(2, 1, FLOOR),
+        ],
+    ),
+    (
+        "the largest span",
+        &[
+            AddLong(Point(232), AT_20, ROTATED),
+            GetLong(Point(232), AT_20, FIRST),
+        ],
+    ),
+    (
+        "a span that is too large",
+        &[
+            Refuse(Point(233), AT_20),
+            State(1, 0, FLOOR),
+            Refuse(Point(233), FLOOR),
+            GetLong(Point(233), FLOOR, NOBODY),
+            AddLong(Nothing(233), AT_20, NOT_KEPT),
+            State(1, 0, FLOOR),
+        ],
+    ),
+    (
+        "a range that is too large by its two keys",
+        &[
+            Refuse(Range(100, 101), AT_20),
+            AddLong(Range(100, 100), AT_20, ROTATED),
+            AddLong(Range(99, 101), AT_20, DROPPED),
+            State(2, 2, FLOOR),
+        ],
+    ),
+];

@@ -1,9 +1,9 @@
 //! Plays the steps of a row on a cache.
-use super::rows::{FLOOR, KEPT, RETENTION, Row, Step, Time, Told};
+use super::rows::{FIRST, FLOOR, KEPT, Long, RETENTION, Row, Step, Time, Told};
 use std::alloc::Global;
 use std::mem;
 use std::test::Fail;
-use tsc_cache::{Cache, Config, PlainCache};
+use tsc_cache::{Cache, CacheFault, Config, PlainCache};
 use tsc_span::{Ends, Key, Span};
 use tsc_time::{NoMemory, Timestamp, Value};
 use uuid::Uuid;
@@ -42,14 +42,14 @@ impl Tried {
         })
     }
 
-    fn add(&mut self, span: &Span, value: Value, now: Timestamp) -> Result<Told, NoMemory> {
+    fn add(&mut self, span: &Span, value: Value, now: Timestamp) -> Result<Told, CacheFault> {
         let added = match self {
             Tried::InPlace(cache) => cache.add(span, value, now)?,
             Tried::Plain(cache) => cache.add(span, value, now)?,
             Tried::ByNext(newest, older) => {
-                older.reserve(1)?;
+                older.reserve(1).map_err(|_| CacheFault::NoMemory)?;
                 let (next, added) = newest.next(span, value, now)?;
-                older.push(mem::replace(newest, next))?;
+                older.push(mem::replace(newest, next)).ok();
                 added
             }
         };
@@ -142,9 +142,30 @@ fn points(alloc: Global) -> Result<Vec<Span>, Fail> {
     Ok(points)
 }
 
-/// The configuration of pages of so many nodes, of which so many are kept at the least.
-fn config((page_nodes, min_pages): (u32, u32)) -> Result<Config, Fail> {
-    Ok(Config::new(page_nodes, min_pages, RETENTION, at(FLOOR)?)?)
+/// A key of so many bytes `a`.
+fn long_key(alloc: Global, length: usize) -> Result<Key, Fail> {
+    Ok(Key::new(alloc, &vec![in alloc; b'a'; length]?)?)
+}
+
+/// A span over such keys.
+fn long_span(alloc: Global, long: Long) -> Result<Span, Fail> {
+    let (from, to, excluded) = match long {
+        Long::Point(length) => (length, length, false),
+        Long::Range(from, to) => (from, to, false),
+        Long::Nothing(length) => (length, length, true),
+    };
+    let ends = Ends {
+        exclude_from: excluded,
+        exclude_to: excluded,
+    };
+    Ok(Span::for_lookup(long_key(alloc, from)?, long_key(alloc, to)?, ends))
+}
+
+/// The size of the first page and of the largest one, and how many are kept at the least.
+pub type Limits = (u32, u32, u32);
+
+fn config((page_first, page_max, min_pages): Limits) -> Result<Config, Fail> {
+    Ok(Config::new(page_first, page_max, min_pages, RETENTION, at(FLOOR)?)?)
 }
 
 /// A cache on which steps are made.
@@ -183,7 +204,7 @@ impl Player {
         }
         match self.tried.add(span, value, now) {
             Ok(told) => Ok(told),
-            Err(NoMemory) => Err(Fail::new("an Add was refused again")),
+            Err(_) => Err(Fail::new("an Add was refused again")),
         }
     }
 
@@ -199,6 +220,25 @@ impl Player {
         let (value, now) = (value(time, owner)?, at(now)?);
         let span = span(self.alloc, text)?;
         Ok(self.add(&span, value, now)? == told)
+    }
+
+    /// Whether an Add of a span over long keys tells this.
+    fn add_long_tells(&mut self, long: Long, time: Time, told: Told) -> Result<bool, Fail> {
+        let span = long_span(self.alloc, long)?;
+        Ok(self.add(&span, value(time, FIRST)?, at((20, 0))?)? == told)
+    }
+
+    /// Whether such an Add is too large.
+    fn refuses(&mut self, long: Long, time: Time) -> Result<bool, Fail> {
+        let span = long_span(self.alloc, long)?;
+        let told = self.tried.add(&span, value(time, FIRST)?, at((20, 0))?);
+        Ok(matches!(&told, Err(CacheFault::TooLarge)))
+    }
+
+    /// Whether a lookup of a span over long keys answers this.
+    fn answers_long(&self, long: Long, time: Time, owner: u128) -> Result<bool, Fail> {
+        let value = value(time, owner)?;
+        Ok(self.tried.get_max(&long_span(self.alloc, long)?) == value)
     }
 
     /// Whether Adds of single keys are each kept in place.
@@ -256,6 +296,9 @@ impl Player {
     fn step(&mut self, step: &Step) -> Result<bool, Fail> {
         match *step {
             Step::Add(text, time, owner, now, told) => self.add_tells(text, time, owner, now, told),
+            Step::AddLong(long, time, told) => self.add_long_tells(long, time, told),
+            Step::Refuse(long, time) => self.refuses(long, time),
+            Step::GetLong(long, time, owner) => self.answers_long(long, time, owner),
             Step::Points(keys, time, owner, now) => self.points_are_kept(keys, time, owner, now),
             Step::Get(text, time, owner) => self.answers(text, time, owner),
             Step::Counted(text, time, owner, pages) => self.looks(text, time, owner, pages),
@@ -282,7 +325,7 @@ impl Player {
 pub fn first_failure(
     alloc: Global,
     way: Way,
-    limits: (u32, u32),
+    limits: Limits,
     row: &Row,
     tries_again: bool,
 ) -> Result<Option<usize>, Fail> {
@@ -320,7 +363,7 @@ fn go_their_ways(older: &mut Cache, newer: &mut Cache, span: &Span) -> Result<bo
 
 /// Whether a new cache to which a value was added and its next version go their own ways.
 fn parts_from_its_next(alloc: Global, span: &Span, nothing: &Span) -> Result<bool, Fail> {
-    let mut older = Cache::new(alloc, config((2, 1))?)?;
+    let mut older = Cache::new(alloc, config((66, 66, 1))?)?;
     add(&mut older, span, (20, 0), 1)?;
     let mut newer = next_of(&older, nothing)?;
     go_their_ways(&mut older, &mut newer, span)

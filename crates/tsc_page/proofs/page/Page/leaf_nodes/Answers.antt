@@ -1,0 +1,23 @@
+-- The sizes of a page's leaves.
+use Rattle.std.proofs.Common.{◌∙◌, sym, ap, subst}
+use Rattle.std.specs.Prelude.{sum, slice_get}
+use Rattle.tsc_nodes.specs.Page.{count_distinct}
+use Rattle.tsc_nodes.specs.PageView.{PageView, AreLeafSizes}
+use Rattle.tsc_page.specs.LeafParts.{leaves_of, all_nodes}
+use Rattle.tsc_page.proofs.LeafLists.{sizes_sum}
+use Rattle.tsc_nodes.proofs.Standing.{count_of_nodes}
+use Rattle.tsc_page.proofs.page.Page.leaf_nodes.Goals as goal
+
+pub returns-in-Some : goal.returns-in-Some
+returns-in-Some c = record {
+  value = c.in-Some.ensures.value ∙ ap (λ (v : PageView). slice_get v.leaves c.args.i) c.self.view_is;
+  sizes = subst (λ (v : PageView). AreLeafSizes v.leaves) c.self.view_is c.self.invariant.0.leaves.sizes;
+  total = sym (ap (λ (v : PageView). sum v.leaves) c.self.view_is) ∙ sizes_sum (leaves_of c.self.inside.leaves) ∙ sym (count_of_nodes (all_nodes c.self.inside.leaves) c.self.invariant.0.leaves.sorted) ∙ ap (λ (v : PageView). count_distinct v.keys) c.self.view_is;
+}
+
+pub returns-in-None : goal.returns-in-None
+returns-in-None c = record {
+  value = c.in-None.ensures.value ∙ ap (λ (v : PageView). slice_get v.leaves c.args.i) c.self.view_is;
+  sizes = subst (λ (v : PageView). AreLeafSizes v.leaves) c.self.view_is c.self.invariant.0.leaves.sizes;
+  total = sym (ap (λ (v : PageView). sum v.leaves) c.self.view_is) ∙ sizes_sum (leaves_of c.self.inside.leaves) ∙ sym (count_of_nodes (all_nodes c.self.inside.leaves) c.self.invariant.0.leaves.sorted) ∙ ap (λ (v : PageView). count_distinct v.keys) c.self.view_is;
+}

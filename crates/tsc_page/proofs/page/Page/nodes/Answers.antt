@@ -1,0 +1,21 @@
+-- Sorted nodes have as many different keys as there are nodes.
+use Rattle.std.proofs.Common.{◌∙◌, sym, ap, arith}
+use Rattle.tsc_nodes.specs.Page.{count_distinct}
+use Rattle.tsc_nodes.specs.PageView.{PageView}
+use Rattle.tsc_page.specs.LeafParts.{all_nodes}
+use Rattle.tsc_nodes.proofs.Standing.{count_of_nodes, same_count}
+use Rattle.tsc_page.proofs.Weights.{node_costs}
+use Rattle.tsc_page.proofs.page.Page.nodes.Goals as goal
+
+pub returns-clause-value : goal.returns-clause-value
+returns-clause-value c = c.len.ensures ∙ c.self.invariant.0.count ∙ sym (count_of_nodes (all_nodes c.self.inside.leaves) c.self.invariant.0.leaves.sorted) ∙ ap (λ (v : PageView). count_distinct v.keys) c.self.view_is
+
+pub returns-clause-stands : goal.returns-clause-stands
+returns-clause-stands c p stands = c.len.ensures ∙ c.self.invariant.0.count ∙ sym (count_of_nodes (all_nodes c.self.inside.leaves) c.self.invariant.0.leaves.sorted) ∙ ap (λ (v : PageView). count_distinct v.keys) c.self.view_is ∙ same_count c.args.self.now p stands
+
+pub overflow_cast-result : goal.overflow_cast-result
+overflow_cast-result c = omega (arith, c.len.ensures, c.self.invariant.0.count, node_costs (all_nodes c.self.inside.leaves), c.self.invariant.1, c.self.invariant.2, c.self.invariant.4)
+
+pub returns-clause-few : goal.returns-clause-few
+returns-clause-few c =
+    omega (arith, c.len.ensures, c.self.invariant.0.count, node_costs (all_nodes c.self.inside.leaves), c.self.invariant.1, c.self.invariant.2, ap (λ (v : PageView). v.size) c.self.view_is)

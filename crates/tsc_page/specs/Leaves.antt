@@ -1,0 +1,103 @@
+-- How the nodes of a page stand in leaves, one after another.
+use Rattle.std.specs.List.{All}
+use Rattle.std.specs.Prelude.{◌≡◌, ℕ, suc, ◌<◌, ◌≤◌, ◌+◌, ◌-◌, ◌⊎◌, List, [], ◌∷◌, ◌++◌, length, map, drop, slice_index_or, true, false, Option, Some, None, if◌then◌else◌}
+use Rattle.tsc_time.specs.OwnedTime.{OwnedTime}
+use Rattle.tsc_span.specs.Span.{KeyBytes, Cut, before, after, last, Interval, is_below, end_keys}
+use Rattle.tsc_nodes.specs.PageView.{AreLeafSizes}
+use Rattle.tsc_nodes.specs.Nodes.{Node, next_cut, node_stretches, IsSorted, IsNewKey, IsSplitAt, AddsNodes, with_new, raise_nodes}
+
+-- the nodes of all leaves, in their order
+abbrev pub nodes_of : List (List Node) → List Node
+nodes_of [] = []
+nodes_of (l ∷ ls) = l ++ nodes_of ls
+
+-- how many nodes each leaf has
+abbrev pub leaf_sizes : List (List Node) → List ℕ
+leaf_sizes ls = map (λ l. length l) ls
+
+-- no list is empty
+abbrev pub AreSome : List (List Node) → Type 0
+AreSome [] = Unit {0}
+AreSome (l ∷ ls) = (1 ≤ length l) × AreSome ls
+
+-- Parts that are as they have to be, one by one and in the order of their keys.
+pub record AreParts {X : Type 0} (nodes : X → List Node) (IsWhole : X → Type 0) (xs : List X) : Type 0 where
+  pub whole : All IsWhole xs
+  pub sorted : IsSorted (nodes_of (map nodes xs))
+
+-- how many nodes a leaf has
+abbrev pub IsLeaf : List Node → Type 0
+IsLeaf l = (1 ≤ length l) × (length l ≤ 64)
+
+-- where nodes begin
+abbrev pub start_of : List Node → Cut
+start_of ns = next_cut (node_stretches ns)
+
+-- the leaves of all blocks, in their order
+abbrev pub rows_of : List (List (List Node)) → List (List Node)
+rows_of [] = []
+rows_of (b ∷ bs) = b ++ rows_of bs
+
+-- where the first of leaves begins
+abbrev pub first_start : List (List Node) → Cut
+first_start [] = last
+first_start (l ∷ ls) = start_of l
+
+-- 1 to 64 leaves, and what follows for their nodes.
+pub record IsBlock (b : List (List Node)) : Type 0 where
+  pub leaves : All IsLeaf b
+  pub some : 1 ≤ length b
+  pub few : length b ≤ 64
+  pub nodes : 1 ≤ length (nodes_of b)
+  pub begins : first_start b ≡ start_of (nodes_of b)
+
+-- Blocks of leaves in order.
+pub record AreBlocks (bs : List (List (List Node))) : Type 0 where
+  pub each : All IsBlock bs
+  pub sizes : AreLeafSizes (leaf_sizes (rows_of bs))
+  pub sorted : IsSorted (nodes_of (rows_of bs))
+
+-- what stands behind the first of leaves that stand before blocks, or else behind the first block
+abbrev pub rows_behind : List (List Node) → List (List (List Node)) → List (List Node)
+rows_behind [] bs = rows_of (drop 1 bs)
+rows_behind (l ∷ ls) bs = ls ++ rows_of bs
+
+-- Nodes with that of a key, which they have already or which is new.
+pub record HasNode (old new : List Node) (k : KeyBytes) : Type 0 where
+  pub found : Option (ℕ × KeyBytes)
+  pub at : IsNewKey old (Some k) found
+  pub nodes : new ≡ with_new old found
+
+-- Leaves of 1 to 64 nodes, in the order of their keys.
+pub record AreLeaves (ls : List (List Node)) : Type 0 where
+  pub sizes : AreLeafSizes (leaf_sizes ls)
+  pub sorted : IsSorted (nodes_of ls)
+
+-- The place of the leaf in which a cut falls: the last one that does not begin above it, or the first one.
+pub record IsLeafAt (ls : List (List Node)) (c : Cut) (p : ℕ) : Type 0 where
+  pub bound : p ≤ length ls - 1
+  pub low : 1 ≤ p → is_below c (start_of (slice_index_or ls p [])) ≡ false
+  pub high : suc p < length ls → is_below c (start_of (slice_index_or ls (suc p) [])) ≡ true
+
+-- What an Add of a span makes of nodes: those of its end keys come in, and the value is raised in it.
+pub record AddsTo (old new : List Node) (span : Interval) (value : OwnedTime) : Type 0 where
+  pub mid : List Node
+  pub split : IsSplitAt old mid (end_keys span)
+  pub raised : new ≡ raise_nodes span value mid
+
+-- a key, where it lies wholly below a cut
+abbrev pub key_below : Cut → Option KeyBytes → Option KeyBytes
+key_below c None = None
+key_below c (Some k) = if is_below (after k) c then Some k else None
+
+-- a key at a cut, where it is one
+abbrev pub LiesAt : Option KeyBytes → Cut → Type 0
+LiesAt None c = Unit {0}
+LiesAt (Some k) c = (c ≡ before k) ⊎ (c ≡ after k)
+
+-- What an Add makes of leaves in place: it adds to their nodes, and as many come in as are told.
+pub record AddsLeaves (old new : List (List Node)) (first second : Option KeyBytes) (span : Interval) (value : OwnedTime) (more : ℕ) : Type 0 where
+  pub adds : AddsNodes (nodes_of old) (nodes_of new) first second span value
+  pub sizes : AreLeafSizes (leaf_sizes new)
+  pub count : length (nodes_of new) ≡ length (nodes_of old) + more
+  pub few : more ≤ 2
