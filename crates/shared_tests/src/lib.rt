@@ -10,6 +10,8 @@ mod fronts;
 #[cfg(test)]
 mod held;
 #[cfg(test)]
+mod large;
+#[cfg(test)]
 mod memory;
 #[cfg(test)]
 mod party;

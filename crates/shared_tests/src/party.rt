@@ -8,7 +8,7 @@ use std::marker::{Brand, PhantomData};
 use std::process::Abort;
 use std::sync::Wait;
 use std::test::Fail;
-use tsc_cache::Config;
+use tsc_cache::{Config, ConfigFault};
 use tsc_shared::{AddFault, Closed, Front, Gate, NoGate, OpenFault, Seat, SharedCache};
 use tsc_span::{Key, Span, SpanFault};
 use tsc_time::{NoMemory, Timestamp, Value};
@@ -24,7 +24,7 @@ pub trait Of {
 impl Of for Brand {
     ghost use Rattle.std.specs.Prelude.{[]};
 
-    ghost cache = { record { table = record { words = 0; slots = 0; views_name = 0; atom = 0; block = 0; offset = 0; slot_names = [] }; config = record { page_nodes = 4; min_pages = 2; retention = 10; low_water = record { wall = 5; logical = 0 } }; seats = 1; limit = 0 } };
+    ghost cache = { record { table = record { words = 0; slots = 0; views_name = 0; atom = 0; block = 0; offset = 0; slot_names = [] }; config = record { page_first = 132; page_max = 132; min_pages = 2; retention = 10; low_water = record { wall = 5; logical = 0 } }; seats = 1; limit = 0 } };
 }
 
 /// The cache.
@@ -71,6 +71,7 @@ pub enum Told {
     Value((u64, u32), Owner, u64),
     /// A length.
     Long(u64),
+    TooLarge,
     Gone,
 }
 
@@ -87,9 +88,9 @@ const FIRST: [u8; 16] = [
     0x11, 0x11, 0x11, 0x11, 0x11, 0x11, 0x41, 0x11, 0x81, 0x11, 0x11, 0x11, 0x11, 0x11, 0x11, 0x11,
 ];
 
-/// A floor at 5.0, and pages of four nodes, of which two are kept at the least.
-pub fn config() -> Result<Config, Fail> {
-    Ok(Config::new(4, 2, 10, at(5))?)
+/// A floor at 5.0, and pages of 132 bytes, which are four nodes with keys of one byte, of which two are kept at the least.
+pub fn config() -> Result<Config, ConfigFault> {
+    Config::new(132, 132, 2, 10, at(5))
 }
 
 /// A time of no logical count.
@@ -152,7 +153,7 @@ impl<C: Of> Guest<C> {
 }
 
 impl<C: Of> Home<C> {
-    /// What an Add tells, and the front, which the guest then has. `None` where it is refused memory.
+    /// What an Add tells, and the front, which the guest then has, if there is one. `None` where it is refused memory.
     pub fn add_gated<R: Wait, G: Gate>(
         &self,
         rt: &R,
@@ -178,6 +179,7 @@ impl<C: Of> Home<C> {
             }
             Err(AddFault::HistoryFull(front)) => (Told::Full(front.len()), front),
             Err(AddFault::NoMemory) => return None,
+            Err(AddFault::TooLarge) => return Some(Told::TooLarge),
         };
         guest.letter = Some(Letter {
             front,
@@ -391,6 +393,19 @@ fn open(
 }
 
 /// Opens a cache with two seats and a history of at most so many Adds, and plays a scene.
+pub fn play_in<R: Wait + Abort, S: Scene>(
+    rt: &R,
+    alloc: Global,
+    config: Config,
+    limit: u64,
+    tries_again: bool,
+    scene: &S,
+) -> Result<(), Fail> {
+    let (cache, seats) = open(alloc, config, limit, tries_again)?;
+    enter::<Brand, R, S>(rt, alloc, scene, cache, seats)
+}
+
+/// The same on pages of four nodes, of which two are kept at the least.
 pub fn play<R: Wait + Abort, S: Scene>(
     rt: &R,
     alloc: Global,
@@ -398,6 +413,5 @@ pub fn play<R: Wait + Abort, S: Scene>(
     tries_again: bool,
     scene: &S,
 ) -> Result<(), Fail> {
-    let (cache, seats) = open(alloc, config()?, limit, tries_again)?;
-    enter::<Brand, R, S>(rt, alloc, scene, cache, seats)
+    play_in(rt, alloc, config()?, limit, tries_again, scene)
 }

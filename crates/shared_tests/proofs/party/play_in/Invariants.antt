@@ -1,4 +1,4 @@
-use Rattle.shared_tests.proofs.party.play.Given as goal
+use Rattle.shared_tests.proofs.party.play_in.Given as goal
 
 -- the cache that was just opened
 abbrev pub ghosts-enter : goal.ghosts-enter

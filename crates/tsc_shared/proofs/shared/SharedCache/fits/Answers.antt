@@ -1,0 +1,5 @@
+use Rattle.std.proofs.Common.{rules}
+use Rattle.tsc_shared.proofs.shared.SharedCache.fits.Goals as goal
+
+pub returns : goal.returns
+returns c = search rules
