@@ -1,4 +1,5 @@
 pub mod Lists
+pub mod Calls
 pub mod TraceParts
 pub mod TraceText
 pub mod TraceData

@@ -1,4 +1,5 @@
 ghost use Rattle.std.specs.Prelude.{◌≡◌, ◌≤◌, true, map, length, option_map, slice_get, IfSome};
+ghost use Rattle.tsc_json.specs.Calls.{adds, kind_of};
 ghost use Rattle.tsc_json.specs.Lists.{most_lists, most_calls, fits_trace};
 
 use std::marker::Model;
@@ -28,6 +29,37 @@ pub enum Call {
     },
     /// Asks where the floor stands.
     Low,
+}
+
+/// The kind of a call, which the line of its answer has too.
+#[derive(Clone, Copy, Debug, PartialEq, Eq)]
+pub enum Kind {
+    Add,
+    Get,
+    Low,
+}
+
+impl Call {
+    /// Of what kind the call is.
+    pub fn kind(&self) -> Kind
+        ensures { result ≡ kind_of self.now }
+    {
+        match self {
+            Call::Add { .. } => Kind::Add,
+            Call::Get { .. } => Kind::Get,
+            Call::Low => Kind::Low,
+        }
+    }
+
+    /// Whether the call adds anything.
+    pub fn adds(&self) -> bool
+        ensures { result ≡ adds self.now }
+    {
+        match self {
+            Call::Add { .. } => true,
+            Call::Get { .. } | Call::Low => false,
+        }
+    }
 }
 
 /// The lists of a trace: 1 to 64 lists of calls, with at most 65,536 calls in all.

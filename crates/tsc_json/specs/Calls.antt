@@ -1,0 +1,38 @@
+-- The calls of a trace by their kinds, and by what they add.
+use Rattle.std.specs.Prelude.{Bool, true, false, Option, Some, None, is_some}
+use Rattle.tsc_time.specs.Time.{Time}
+use Rattle.tsc_time.specs.OwnedTime.{OwnedTime}
+use Rattle.tsc_span.specs.Span.{Interval}
+use Rattle.tsc_json.specs.declared.trace.Call.{Call}
+use Rattle.tsc_json.specs.declared.trace.Call.TheVariants.{Add, Get, Low}
+use Rattle.tsc_json.specs.declared.trace.Kind.{Kind}
+use Rattle.tsc_json.specs.declared.trace.Kind.TheVariants as kind
+
+-- the kind of a call
+abbrev pub kind_of : Call → Kind
+kind_of (Add span value now) = kind.Add
+kind_of (Get span) = kind.Get
+kind_of Low = kind.Low
+
+-- whether two kinds are one
+abbrev pub is_same_kind : Kind → Kind → Bool
+is_same_kind kind.Add kind.Add = true
+is_same_kind kind.Get kind.Get = true
+is_same_kind kind.Low kind.Low = true
+is_same_kind k other = false
+
+-- what is added: a span with its value, at a moment
+pub record Addition : Type 0 where
+  pub span : Interval
+  pub value : OwnedTime
+  pub now : Time
+
+-- what a call adds, where it is one that adds
+abbrev pub addition_of : Call → Option Addition
+addition_of (Add span value now) = Some (record { span = span; value = value; now = now })
+addition_of (Get span) = None
+addition_of Low = None
+
+-- whether it is one
+abbrev pub adds : Call → Bool
+adds call = is_some (addition_of call)
