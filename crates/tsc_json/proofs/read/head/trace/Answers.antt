@@ -7,4 +7,7 @@ use Rattle.tsc_json.proofs.read.head.trace.Goals as goal
 pub of-threads-requires : goal.of-threads-requires
 of-threads-requires c =
     let fit : fits_trace (rows_view c.deref-2.result.now) ≡ true = cc in
-    threads_fit 1 (rows_view c.deref-2.result.now) (map (λ calls. calls.items) c.in_ok-threads.field-0.items) c.in_ok-threads.ensures fit
+    threads_fit c.in_ok-config.field-0 1 (rows_view c.deref-2.result.now) (map (λ calls. calls.items) c.in_ok-threads.field-0.items) c.in_ok-threads.ensures fit
+
+pub invariant_of-result : goal.invariant_of-result
+invariant_of-result c = ?
