@@ -74,7 +74,7 @@ pub as_many : (vs : List PageView) (ps : List PageMarks) → EachStandsFor vs ps
 as_many [] [] stands = refl
 as_many [] (p ∷ ps) stands = absurd stands
 as_many (v ∷ vs) [] stands = absurd stands
-as_many (v ∷ vs) (p ∷ ps) stands = ap suc (as_many vs ps stands.2)
+as_many (v ∷ vs) (p ∷ ps) stands = ap suc (as_many vs ps stands.1)
 
 pub same_front_room : (s : CacheState) (vs : List PageView) (span : Interval) → EachStandsFor vs s.pages → front_has_room_for vs span ≡ front_has_room s span
 same_front_room s vs span stands = by vs s.pages stands
@@ -368,11 +368,11 @@ pub marks_stacked : (vs ws : List PageView) (m : Mark) → AreStacked vs → Mar
 marks_stacked [] ws m h marks = absurd marks
 marks_stacked (v ∷ vs) [] m h marks = absurd marks
 marks_stacked (v ∷ vs) (w ∷ ws) m h marks = (
-    (λ span. subst (λ (a : OwnedTime). is_before w.top a.time ≡ false) (sym (marks.0.answers span))
-        (subst (λ t. is_before t (cond (overlaps m.span span) (joint (answer v span) (m.value ∷ [])) (answer v span)).time ≡ false) (sym marks.0.top)
-        (answered_to_top v.top m.value (overlaps m.span span) (answer v span) (h.0 span)))),
-    subst (λ us. HaveTopsUpTo w.top us) (sym marks.1) (raised_tops v.top w.top (subst (λ t. is_before t v.top ≡ false) (sym marks.0.top) (later-first v.top m.value.time)) vs h.1),
-    subst AreStacked (sym marks.1) h.2,
+  (λ span. subst (λ (a : OwnedTime). is_before w.top a.time ≡ false) (sym (marks.0.answers span))
+      (subst (λ t. is_before t (cond (overlaps m.span span) (joint (answer v span) (m.value ∷ [])) (answer v span)).time ≡ false) (sym marks.0.top)
+      (answered_to_top v.top m.value (overlaps m.span span) (answer v span) (h.0 span)))),
+  subst (λ us. HaveTopsUpTo w.top us) (sym marks.1) (raised_tops v.top w.top (subst (λ t. is_before t v.top ≡ false) (sym marks.0.top) (later-first v.top m.value.time)) vs h.1),
+  subst AreStacked (sym marks.1) h.2,
 )
 
 -- a new page on those that stay is stacked too

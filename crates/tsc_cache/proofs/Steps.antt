@@ -91,9 +91,11 @@ one_mark_is_a_step settings s m now = ap (λ (a : Added). record { state = (step
     or_false true = refl
     or_false false = refl
 
-    same : (kept kept' rotated rotated' : Bool) (evicted evicted' : ℕ) → kept ≡ kept' → rotated ≡ rotated' → evicted ≡ evicted'
-        → (record { kept = kept; rotated = rotated; evicted = evicted } : Added) ≡ record { kept = kept'; rotated = rotated'; evicted = evicted' }
-    same kept kept' rotated rotated' evicted evicted' k r e = rw (k, r, e) refl
+    told : Bool → Bool → ℕ → Added
+    told kept rotated evicted = record { kept = kept; rotated = rotated; evicted = evicted }
 
     alone : (a : Added) → added_with a not_kept ≡ a
-    alone a = same (a.kept || false) a.kept (a.rotated || false) a.rotated (a.evicted + 0) a.evicted (or_false a.kept) (or_false a.rotated) (omega arith)
+    alone a =
+        ap (λ b. told b (a.rotated || false) (a.evicted + 0)) (or_false a.kept)
+        ∙ ap (λ b. told a.kept b (a.evicted + 0)) (or_false a.rotated)
+        ∙ ap (told a.kept a.rotated) (omega arith)

@@ -66,7 +66,7 @@ first_doubled (suc more) times most size cost =
     if nat_le cost (doubled most size times) then doubled most size times else first_doubled more (suc times) most size cost
 
 -- The size of a page for a span of some cost behind a page of a size: the first of the size doubled once, twice and so on, each no more than the most, that comes to at least the cost. Thirty-two doublings lead from the least size beyond the greatest.
-abbrev pub next_size : ℕ → ℕ → ℕ → ℕ
+unfoldable pub next_size : ℕ → ℕ → ℕ → ℕ
 next_size most size cost = first_doubled 32 1 most size cost
 
 -- a count of 64 bits that stays at its end

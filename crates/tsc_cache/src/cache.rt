@@ -155,12 +155,7 @@ impl Cache {
     }
 
     /// Adds a span that fits.
-        fn add_fitting(
-        &mut self,
-        span: &Span,
-        value: Value,
-        now: Timestamp,
-    ) -> Result<Added, NoMemory>
+    fn add_fitting(&mut self, span: &Span, value: Value, now: Timestamp) -> Result<Added, NoMemory>
         requires fits { fits self.old.settings span.now ≡ true }
         ensures stands { OnOk result ((settings : Settings) (s : CacheState) → StandsForState self.old settings s
             → StandsForState self.new settings (step settings s (record { span = span.now; value = value }) now).state) }

@@ -1,4 +1,4 @@
-ghost use Rattle.std.specs.Prelude.{◌≡◌, ◌≤◌};
+ghost use Rattle.std.specs.Prelude.{◌≡◌, ◌≤◌, ◌*◌, min};
 ghost use Rattle.tsc_nodes.specs.declared.TheConstants.{LEAST_SIZE, MOST_SIZE};
 ghost use Rattle.tsc_cache.specs.Settings.{Settings, settings_of, fits, IsWithinLimits};
 ghost use Rattle.tsc_cache.specs.State.{is_past_retention, next_size, counted_on};
@@ -128,13 +128,22 @@ impl Config {
         ensures most { result ≤ MOST_SIZE }
     {
         let mut next = size;
-        for _ in 0..DOUBLINGS {
-            next = next.saturating_mul(2).min(self.page_max);
+        for times in 0..DOUBLINGS {
+            next = self.doubled(next);
             if cost <= next {
                 return next;
             }
         }
         self.page_max
+    }
+
+    /// Twice a size, and no more than `page_max`.
+    fn doubled(&self, size: u32) -> u32
+        ensures value { result ≡ min self.now.page_max (2 * size) }
+        ensures least { LEAST_SIZE ≤ size → LEAST_SIZE ≤ result }
+        ensures most { result ≤ MOST_SIZE }
+    {
+        size.saturating_mul(2).min(self.page_max)
     }
 
     /// How many pages there are at the least when one is dropped.

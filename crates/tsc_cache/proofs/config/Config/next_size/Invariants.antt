@@ -1,0 +1,5 @@
+use Rattle.tsc_cache.proofs.Sizes.{Doubling}
+use Rattle.tsc_cache.proofs.config.Config.next_size.Given as goal
+
+abbrev pub invariant-loop-times : goal.invariant-loop-times
+invariant-loop-times l = Doubling l.fn.self.page_max l.fn.size l.fn.cost l.times l.next
