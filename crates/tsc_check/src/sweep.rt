@@ -1,10 +1,12 @@
 //! One pass over a cache, in the order of the Adds.
-ghost use Rattle.std.specs.Prelude.{◌≡◌, ◌⊎◌, ◌<◌, ◌≤◌, ◌||◌, ℕ, suc, length, true, false, not, IfOk, OnOk, option_map, slice_get};
+ghost use Rattle.std.specs.Prelude.{◌≡◌, ◌⊎◌, ◌<◌, ◌≤◌, ◌||◌, ℕ, suc, length, true, false, not, Some, IfOk, OnOk, option_map, slice_get};
 ghost use Rattle.tsc_cache.specs.Settings.{Settings};
 ghost use Rattle.tsc_cache.specs.History.{History, state_of};
 ghost use Rattle.tsc_cache.specs.CacheView.{StandsForState};
+ghost use Rattle.tsc_json.specs.Calls.{is_same_kind};
 ghost use Rattle.tsc_trace.specs.Log.{said_after, after_call};
-ghost use Rattle.tsc_check.specs.Verdict.{adds_in, is_add, is_same_answer, is_wrong_answer, least};
+ghost use Rattle.tsc_trace.specs.Sayings.{kind_of_said, told_of};
+ghost use Rattle.tsc_check.specs.Verdict.{adds_in, is_add, is_of_kind, is_same_answer, is_wrong_answer, least};
 ghost use Rattle.tsc_check.specs.CheckParts.{AreInOrder, HasPlaced, Lowers, LowersAt, adds_there, call_in, looks_up_there, state_at};
 
 use crate::order::Order;
@@ -25,20 +27,21 @@ fn is_other_value(cache: &Cache, call: &Call, said: Said) -> bool
     }
 }
 
-/// Whether an answer is another than this one of an Add.
+/// Whether an answer tells of another addition than one of its kind that did this.
 fn is_other_added(said: Said, made: Added) -> bool
-    ensures { (place : ℕ) → result ≡ not (is_same_answer said (Said.Add place made)) }
+    ensures { (answer : Said) (place : ℕ) → is_same_kind (kind_of_said answer) (kind_of_said said) ≡ true
+        → told_of answer ≡ Some (record { place = place; added = made }) → result ≡ not (is_same_answer said answer) }
 {
-    match said {
-        Said::Add { added, .. } => added != made,
-        _ => true,
+    match said.told() {
+        Some(told) => told.added != made,
+        None => true,
     }
 }
 
 /// Makes an Add, and tells whether its answer is another.
 fn is_other_add(cache: &mut Cache, call: &Call, said: Said) -> Result<bool, NoMemory>
     ensures other { IfOk result (λ other. (settings : Settings) (h : History) → StandsForState cache.old settings (state_of settings h) → is_add said ≡ true
-        → other ≡ not (is_same_answer said (said_after settings h call.now))) }
+        → is_of_kind call.now said ≡ true → other ≡ not (is_same_answer said (said_after settings h call.now))) }
     ensures stands { OnOk result ((settings : Settings) (thread : ℕ) (h : History) → StandsForState cache.old settings (state_of settings h)
         → StandsForState cache.new settings (state_of settings (after_call thread h call.now))) }
 {
