@@ -2,6 +2,8 @@
 use Rattle.std.specs.Prelude.{Bool, true, false, List, [], ◌∷◌, Option, Some, None, is_some}
 use Rattle.std.specs.List.{list_all}
 use Rattle.tsc_time.specs.Time.{Time}
+use Rattle.tsc_time.specs.OwnedTime.{OwnedTime}
+use Rattle.tsc_span.specs.Span.{Interval}
 use Rattle.tsc_nodes.specs.Page.{Mark}
 use Rattle.tsc_cache.specs.Settings.{Settings, fits}
 use Rattle.tsc_json.specs.declared.trace.Call.{Call}
@@ -27,9 +29,13 @@ pub record Addition : Type 0 where
   pub marks : List Mark
   pub now : Time
 
+-- one mark: a span with its value
+abbrev pub one_mark : Interval → OwnedTime → Time → Addition
+one_mark span value now = record { marks = record { span = span; value = value } ∷ []; now = now }
+
 -- what a call adds, where it is one that adds
 abbrev pub addition_of : Call → Option Addition
-addition_of (Add span value now) = Some (record { marks = record { span = span; value = value } ∷ []; now = now })
+addition_of (Add span value now) = Some (one_mark span value now)
 addition_of (Get span) = None
 addition_of Low = None
 
