@@ -7,7 +7,7 @@ use Rattle.tsc_cache.specs.History.{History}
 use Rattle.tsc_cache.specs.declared.added.Added.{Added}
 use Rattle.tsc_json.specs.Calls.{kind_of, is_same_kind}
 use Rattle.tsc_json.specs.declared.trace.Call.{Call}
-use Rattle.tsc_json.specs.declared.trace.Trace.{Trace}
+use Rattle.tsc_json.specs.Traces.{Trace}
 use Rattle.tsc_trace.specs.Sayings.{kind_of_said, told_of, front_of}
 use Rattle.tsc_trace.specs.Log.{said_after, after_call}
 use Rattle.tsc_trace.specs.declared.log.Line.{Line}

@@ -10,7 +10,7 @@ use Rattle.tsc_cache.specs.History.{History, own_count, state_of, BeginsWith, Is
 use Rattle.tsc_json.specs.Calls.{Addition, adds}
 use Rattle.tsc_json.specs.declared.trace.Call.{Call}
 use Rattle.tsc_json.specs.declared.trace.Call.TheVariants.{Add, Get, Low}
-use Rattle.tsc_json.specs.declared.trace.Trace.{Trace}
+use Rattle.tsc_json.specs.Traces.{Trace}
 use Rattle.tsc_trace.specs.Log.{made, said_after, entry_after, with_addition, after_call}
 use Rattle.tsc_trace.specs.declared.log.Line.{Line}
 use Rattle.tsc_trace.specs.declared.log.Said.{Said}

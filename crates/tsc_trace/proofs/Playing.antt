@@ -1,9 +1,9 @@
 -- A replay that goes on from where it stands gives the lines that are made anew from the opening state.
 use Rattle.std.proofs.Common.{◌≡◌, ◌∙◌, refl, ap, ℕ, suc, List, [], ◌∷◌, ◌++◌, length, length-append, Option, Some, None, arith}
 use Rattle.tsc_cache.specs.Settings.{Settings}
-use Rattle.tsc_cache.specs.State.{step}
+use Rattle.tsc_cache.specs.State.{step_all}
 use Rattle.tsc_cache.specs.declared.history.Entry.{Entry}
-use Rattle.tsc_cache.specs.History.{History, mark_of, state_of}
+use Rattle.tsc_cache.specs.History.{History, state_of}
 use Rattle.tsc_cache.proofs.Histories.{state_of-push}
 use Rattle.tsc_json.specs.Calls.{Addition, addition_of}
 use Rattle.tsc_json.specs.declared.trace.Call.{Call}
@@ -15,7 +15,7 @@ abbrev pub standing_after : Settings → History → Standing
 standing_after settings h = record { state = state_of settings h; adds = length h }
 
 -- one more entry
-standing_after-append : (settings : Settings) (h : History) (e : Entry) → standing_after settings (h ++ e ∷ []) ≡ record { state = (step settings (state_of settings h) (mark_of e) e.now).state; adds = suc (length h) }
+standing_after-append : (settings : Settings) (h : History) (e : Entry) → standing_after settings (h ++ e ∷ []) ≡ record { state = (step_all settings (state_of settings h) e.marks e.now).state; adds = suc (length h) }
 standing_after-append settings h e =
     let adds : length (h ++ e ∷ []) ≡ suc (length h) = omega (arith, length-append h (e ∷ [])) in
     let state = state_of-push settings h e in
