@@ -33,10 +33,10 @@ lists_begin thread g (calls ∷ lists) = begins_on (after_lists thread g (calls 
 reach_within : (settings : Settings) (thread : ℕ) (g : History) (call : Call) → reach (said_after settings g call) ≤ length (after_call thread g call)
 reach_within settings thread g call =
     let s = said_after settings g call in
-    let longer : length (after_call thread g call) ≡ length g + cond (is_add s) 1 0 = addition_length thread g (addition_of call) ∙ ap (λ b. length g + cond b 1 0) (sym (adds_said settings g call)) in
+    let longer : length (after_call thread g call) ≡ length g + cond (is_add s) 1 0 = addition_length thread g (addition_of call) ∙ ap {B = ℕ} (λ b. length g + cond b 1 0) (sym (adds_said settings g call)) in
     elim (tested (is_add s)) [
-      | inl e ↦ omega (arith, reach_of_add s e, front_said settings g call, longer, ap (λ b. cond b 1 0) e)
-      | inr e ↦ omega (arith, reach_of_lookup s e, front_said settings g call, longer)
+      | inl e ↦ omega (arith, reach_of_add s e, front_said settings g call, longer, ap {B = ℕ} (λ b. cond b 1 0) e)
+      | inr e ↦ omega (arith, reach_of_lookup s e, front_said settings g call, longer, ap {B = ℕ} (λ b. cond b 1 0) e)
     ]
 
 list_is_true : (settings : Settings) (h : History) (thread index reached : ℕ) (g : History) (calls : List Call) → BeginsWith h (after_calls thread g calls) → reached ≤ length g → AreTrueLines settings h thread index reached calls (lines_of_list settings thread index g calls)

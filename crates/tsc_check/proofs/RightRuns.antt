@@ -133,7 +133,7 @@ call_at_line trace lines pass i line at c of = not_false (is_line_of c line) (sy
 -- one entry more, where the call is of the kind of an Add's answer
 one_longer : (thread : ℕ) (g : History) (call : Call) (s : Said) → is_of_kind call s ≡ true → is_add s ≡ true → length (after_call thread g call) ≡ suc (length g)
 one_longer thread g call s kind add =
-    let one : cond (adds call) 1 0 ≡ 1 = ap (λ b. cond b 1 0) (sym (tells_where_adds call s kind) ∙ add) in
+    let one : ◌≡◌ {A = ℕ} (cond (adds call) 1 0) 1 = ap {B = ℕ} (λ b. cond b 1 0) (sym (tells_where_adds call s kind) ∙ add) in
     omega (arith, addition_length thread g (addition_of call), one)
 
 -- what the next Add makes of those before it
@@ -213,16 +213,16 @@ goes_on trace lines pass i line at c of =
     let g = first_adds (calls_of trace) lines place in
     let all = first_adds (calls_of trace) lines (adds_in lines) in
     elim (tested (is_add line.said)) [
-  | inl e ↦
-      let add : is_add_at place line.said ≡ true = rw (e, same_number place place refl) refl in
-      let there = add_there lines i place line at add in
-      let below : place < adds_in lines = all_below_at trace lines pass.order i line at place add in
-      let one : first_adds (calls_of trace) lines (suc place) ≡ after_call c.thread g c.call = one_put place (calls_of trace) lines g i c of there (λ j t. only_add trace lines pass.order place i there j t) in
-      subst (BeginsWith all) one (adds_begin_all trace lines pass (suc place) (omega (arith, below)))
-  | inr e ↦
-      let none : adds c.call ≡ false = sym (tells_where_adds c.call line.said kind) ∙ e in
-      subst (BeginsWith all) (sym (no_addition c.thread g (addition_of c.call) none)) (adds_begin_all trace lines pass place within)
-]
+      | inl e ↦
+          let add : is_add_at place line.said ≡ true = rw (e, same_number place place refl) refl in
+          let there = add_there lines i place line at add in
+          let below : place < adds_in lines = all_below_at trace lines pass.order i line at place add in
+          let one : first_adds (calls_of trace) lines (suc place) ≡ after_call c.thread g c.call = one_put place (calls_of trace) lines g i c of there (λ j t. only_add trace lines pass.order place i there j t) in
+          subst (BeginsWith all) one (adds_begin_all trace lines pass (suc place) (omega (arith, below)))
+      | inr e ↦
+          let none : adds c.call ≡ false = sym (tells_where_adds c.call line.said kind) ∙ e in
+          subst (BeginsWith all) (sym (no_addition c.thread g (addition_of c.call) none)) (adds_begin_all trace lines pass place within)
+    ]
   where
     within : front_of line.said ≤ adds_in lines
     within = (fine_line lines i line at (line_is_fine trace lines pass.order i line at)).within

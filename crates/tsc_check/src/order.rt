@@ -30,11 +30,11 @@ pub fn is_add(said: Said) -> bool
 }
 
 /// How many Adds a caller knows of who has had an answer: those before it, and its own.
-fn reach(said: Said) -> u64
-    requires { front_of said + 1 < 2 ^ 64 }
-    ensures { result ≡ reach said }
+fn reach(said: &Said) -> u64
+    requires { front_of said.now + 1 < 2 ^ 64 }
+    ensures { result ≡ reach said.now }
 {
-    if is_add(said) {
+    if is_add(*said) {
         said.front() + 1
     } else {
         said.front()
@@ -117,7 +117,7 @@ impl Order {
         let slot = line.said.front() as usize;
         let before = self.lookups[slot];
         self.earlier.push(before)?;
-        self.reached[line.thread as usize] = reach(line.said);
+        self.reached[line.thread as usize] = reach(&line.said);
         if is_add(line.said) {
             self.adds[slot] = Some(i);
         } else {
