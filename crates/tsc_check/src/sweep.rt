@@ -1,9 +1,9 @@
 //! One pass over a cache, in the order of the Adds.
-ghost use Rattle.std.specs.Prelude.{◌≡◌, ◌⊎◌, ◌<◌, ◌≤◌, ◌||◌, ℕ, suc, length, true, false, not, Some, IfOk, OnOk, option_map, slice_get};
+ghost use Rattle.std.specs.Prelude.{◌≡◌, ◌⊎◌, ◌<◌, ◌≤◌, ◌||◌, ℕ, suc, length, true, false, not, Some, IfOk, IfSome, OnOk, option_map, slice_get};
 ghost use Rattle.tsc_cache.specs.Settings.{Settings};
 ghost use Rattle.tsc_cache.specs.History.{History, state_of};
 ghost use Rattle.tsc_cache.specs.CacheView.{StandsForState};
-ghost use Rattle.tsc_json.specs.Calls.{is_same_kind};
+ghost use Rattle.tsc_json.specs.Calls.{call_fits, is_same_kind};
 ghost use Rattle.tsc_trace.specs.Log.{said_after, after_call};
 ghost use Rattle.tsc_trace.specs.Sayings.{kind_of_said, told_of};
 ghost use Rattle.tsc_check.specs.Verdict.{adds_in, is_add, is_of_kind, is_same_answer, is_wrong_answer, least};
@@ -13,7 +13,7 @@ use crate::order::Order;
 use std::alloc::Global;
 use tsc_cache::{Added, Cache};
 use tsc_time::NoMemory;
-use tsc_trace::{Call, Line, Said, Trace};
+use tsc_trace::{Call, Line, Said, Trace, add_fitting};
 
 /// Whether the answer of a lookup is another than the cache gives.
 fn is_other_value(cache: &Cache, call: &Call, said: Said) -> bool
@@ -40,6 +40,7 @@ fn is_other_added(said: Said, made: Added) -> bool
 
 /// Makes an Add, and tells whether its answer is another.
 fn is_other_add(cache: &mut Cache, call: &Call, said: Said) -> Result<bool, NoMemory>
+    requires { call_fits cache.old.settings call.now ≡ true }
     ensures other { IfOk result (λ other. (settings : Settings) (h : History) → StandsForState cache.old settings (state_of settings h) → is_add said ≡ true
         → is_of_kind call.now said ≡ true → other ≡ not (is_same_answer said (said_after settings h call.now))) }
     ensures stands { OnOk result ((settings : Settings) (thread : ℕ) (h : History) → StandsForState cache.old settings (state_of settings h)
@@ -47,16 +48,17 @@ fn is_other_add(cache: &mut Cache, call: &Call, said: Said) -> Result<bool, NoMe
 {
     match call {
         Call::Add { span, value, now } => {
-            let made = cache.add(span, *value, *now)?;
+            let made = add_fitting(cache, span, *value, *now)?;
             Ok(is_other_added(said, made))
         }
         Call::Get { .. } | Call::Low => Ok(true),
     }
 }
 
-/// The call of a line.
+/// The call of a line. All that it adds fits.
 fn call_of<'a>(trace: &'a Trace, line: &Line) -> Option<&'a Call>
-    ensures { option_map (λ call. call.now) result ≡ call_in (slice_get trace.now.threads line.now.thread) line.now.index }
+    ensures value { option_map (λ call. call.now) result ≡ call_in (slice_get trace.now.threads line.now.thread) line.now.index }
+    ensures fits { IfSome result (λ call. call_fits trace.now.config call.now ≡ true) }
 {
     trace
         .threads
@@ -97,6 +99,7 @@ fn make_add(
 ) -> Result<usize, NoMemory>
     requires index { i < length lines.now }
     requires order { AreInOrder trace.now lines.now }
+    requires settings { cache.old.settings ≡ trace.now.config }
     ensures lowers { IfOk result (λ new. (place : ℕ) → adds_there lines.now place i ≡ true → StandsForState cache.old trace.now.config (state_at trace.now lines.now place)
         → LowersAt (is_wrong_answer trace.now lines.now) i least new) }
     ensures stands { OnOk result ((place : ℕ) → adds_there lines.now place i ≡ true → StandsForState cache.old trace.now.config (state_at trace.now lines.now place)

@@ -1,9 +1,10 @@
 -- The calls of a trace that was read fit the pages of its configuration.
-use Rattle.std.proofs.Common.{◌≡◌, ◌∙◌, refl, sym, ℕ, suc, ◌+◌, ◌&&◌, Bool, true, false, List, [], ◌∷◌, length, Result, Ok, Err}
+use Rattle.std.proofs.Common.{◌≡◌, refl, subst, ℕ, suc, ◌+◌, Bool, true, false, List, [], ◌∷◌, length, Some, Result, Ok, Err}
+use Rattle.std.specs.Prelude.{slice_get}
 use Rattle.std.proofs.lemmas.List.Elements.{All-nil, All-cons}
+use Rattle.std.proofs.lemmas.Option.{slice_get_within, get_or_from_slice_get}
 use Rattle.serde_json.specs.Data.{Data}
-use Rattle.tsc_span.specs.Span.{Interval}
-use Rattle.tsc_cache.specs.Settings.{Settings, fits}
+use Rattle.tsc_cache.specs.Settings.{Settings}
 use Rattle.tsc_json.specs.declared.trace.Call.{Call}
 use Rattle.tsc_json.specs.declared.read.TraceFault.{TraceFault}
 use Rattle.tsc_json.specs.declared.read.part.PartFault.TheVariants.{TooLarge}
@@ -12,14 +13,6 @@ use Rattle.tsc_json.specs.Traces.{EachFits, AllFit}
 use Rattle.tsc_json.specs.TraceParts.{Part, ◌>>=◌, where_holds, at_call}
 use Rattle.tsc_json.specs.TraceText.{call_of, fitting_call, calls_of, threads_of}
 use Rattle.tsc_json.proofs.Calls.{one_and_rest}
-
--- one mark fits where its span does
-pub one_fits : (settings : Settings) (span : Interval) → fits settings span && true ≡ fits settings span
-one_fits settings span = and_true (fits settings span)
-  where
-    and_true : (b : Bool) → b && true ≡ b
-    and_true true = refl
-    and_true false = refl
 
 -- what is told of one call that holds
 one_holds : (settings : Settings) (first : ℕ) (read : Part Call) (call : Call) → at_call first (read >>= λ c. where_holds TooLarge (call_fits settings c) c) ≡ Ok call → call_fits settings call ≡ true
@@ -55,3 +48,13 @@ threads_hold settings first [] threads h = let e : [] ≡ threads = cc in rw (�
 threads_hold settings first (ds ∷ lists) threads h =
     both_hold (EachFits settings) (AllFit settings) (calls_of settings first ds) (threads_of settings (first + length ds) lists) threads h
     (calls_hold settings first ds) (threads_hold settings (first + length ds) lists) (λ calls others one rest. All-cons (λ calls. EachFits settings calls) calls others one rest)
+
+-- ---- lists and calls by their numbers
+
+-- so does each list
+pub list_fits : (settings : Settings) (lists : List (List Call)) (i : ℕ) (calls : List Call) → slice_get lists i ≡ Some calls → AllFit settings lists → EachFits settings calls
+list_fits settings lists i calls at fit = subst (EachFits settings) (get_or_from_slice_get lists i calls calls at) (fit i calls (slice_get_within lists i calls at))
+
+-- and each call in it
+pub call_in_fits : (settings : Settings) (calls : List Call) (i : ℕ) (call : Call) → slice_get calls i ≡ Some call → EachFits settings calls → call_fits settings call ≡ true
+call_in_fits settings calls i call at fit = subst (λ c. call_fits settings c ≡ true) (get_or_from_slice_get calls i call call at) (fit i call (slice_get_within calls i call at))

@@ -3,6 +3,7 @@ use Rattle.tsc_cache.specs.History.{state_of}
 use Rattle.tsc_cache.specs.CacheView.{StandsForState}
 use Rattle.tsc_cache.specs.declared.added.Added.{Added}
 use Rattle.tsc_cache.proofs.Histories.{state_of-push}
+use Rattle.tsc_json.specs.Calls.{one_mark}
 use Rattle.tsc_json.specs.declared.trace.Call.{Call}
 use Rattle.tsc_json.specs.declared.trace.Call.TheVariants.{Add}
 use Rattle.tsc_trace.specs.Log.{said_after, entry_after, after_call}
@@ -22,7 +23,7 @@ returns-in_ok-made-in-Add-clause-other c = λ settings h s add kind.
 
 pub returns-in_ok-made-in-Add-clause-stands : goal.returns-in_ok-made-in-Add-clause-stands
 returns-in_ok-made-in-Add-clause-stands c = λ settings thread h s.
-    let e = entry_after thread h (record { span = c.in-Add.span; value = c.in-Add.value; now = c.in-Add.now }) in
+    let e = entry_after thread h (one_mark c.in-Add.span c.in-Add.value c.in-Add.now) in
     let next = c.in_ok-made-in-Add.ensures.stands settings (state_of settings h) s in
-    subst (λ call. StandsForState c.add.new.self settings (state_of settings (after_call thread h call))) (sym c.in-Add.is)
-    (subst (StandsForState c.add.new.self settings) (sym (state_of-push settings h e)) next)
+    subst (λ call. StandsForState c.add_fitting.new.cache settings (state_of settings (after_call thread h call))) (sym c.in-Add.is)
+    (subst (StandsForState c.add_fitting.new.cache settings) (sym (state_of-push settings h e)) next)
