@@ -188,13 +188,24 @@ fn print_stops(rt: &HostRuntime, nodes: u32) -> Result<()>
 
 /// Makes each operation once at each place of a small page and of small caches, and prints no times.
 fn short_run(rt: &HostRuntime) -> Result<()> {
-    for Row { keys, name, figure } in &measure(rt, SMALLEST, 1)? {
-        let operations = figure.operations;
-        println!(rt; "{SMALLEST} nodes, {keys}, {name}: {operations} operations")?;
-    }
+    short_run_of_pages(rt, &measure(rt, SMALLEST, 1)?)?;
     for pages in PAGES {
         short_run_of_caches(rt, pages)?;
     }
+    short_run_of_stops(rt)
+}
+
+/// Prints how many operations there were on a page.
+fn short_run_of_pages(rt: &HostRuntime, rows: &[Row]) -> Result<()> {
+    for Row { keys, name, figure } in rows {
+        let operations = figure.operations;
+        println!(rt; "{SMALLEST} nodes, {keys}, {name}: {operations} operations")?;
+    }
+    Ok(())
+}
+
+/// Compares lookups that stop at the newest page with those in a single page.
+fn short_run_of_stops(rt: &HostRuntime) -> Result<()> {
     for (_, width) in STOPPING {
         measure_stops(rt, SMALLEST, width, 2, 1)?;
     }

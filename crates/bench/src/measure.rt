@@ -230,19 +230,41 @@ struct Filled {
     next_new: Figure,
 }
 
-/// Fills a page with nodes. New keys are added to copies before it has its last node, when there is room for one.
+impl Filled {
+    /// The figures of a page in the order of [`OPERATIONS`], with those of Adds to copies and of the turns.
+    fn figures(&self, next: Figure, turns: [Figure; 4]) -> [Figure; 7] {
+        let [of_key, of_range, to_key, to_range] = turns;
+        [
+            self.adds,
+            of_key,
+            of_range,
+            to_key,
+            to_range,
+            next,
+            self.next_new,
+        ]
+    }
+}
+
+/// Fills a page with nodes.
 fn fill_page(rt: &HostRuntime, here: Keys) -> Result<Filled>
     requires at_least { 64 ≤ here.nodes }
     requires at_most { here.nodes ≤ 65536 }
 {
     let between = Keys { page: 1, ..here }.spans(rt.alloc(), COPIES, 0)?;
     let all = here.spans(rt.alloc(), here.nodes, 0)?;
+    let page = Page::new(rt.alloc(), here.nodes, Timestamp::ZERO)?;
+    let filled = add_all(rt, page, &all, &between)?;
+    ensure!(filled.page.nodes() == here.nodes, "not as many nodes");
+    Ok(filled)
+}
+
+/// Adds keys to a page. New ones are added to copies before it has its last key, when there is room for one.
+fn add_all(rt: &HostRuntime, mut page: Page, all: &[Span], between: &[Span]) -> Result<Filled> {
     let (most, last) = all.split_at(all.len().saturating_sub(1));
-    let mut page = Page::new(rt.alloc(), here.nodes, Timestamp::ZERO)?;
     let adds = add(rt, &mut page, most, 0)?;
-    let next_new = add_to_copies(rt, &page, &between)?;
+    let next_new = add_to_copies(rt, &page, between)?;
     let adds = adds.and(add(rt, &mut page, last, 0)?);
-    ensure!(page.nodes() == here.nodes, "not as many nodes");
     Ok(Filled {
         page,
         adds,
@@ -260,16 +282,8 @@ fn measure_page(rt: &HostRuntime, here: Keys, turns: u32) -> Result<[Figure; 7]>
     let places = Places::of(rt.alloc(), here)?;
     let mut filled = fill_page(rt, here)?;
     let next = add_to_copies(rt, &filled.page, places.some()?)?;
-    let [of_key, of_range, to_key, to_range] = measure_turns(rt, &mut filled.page, &places, turns)?;
-    Ok([
-        filled.adds,
-        of_key,
-        of_range,
-        to_key,
-        to_range,
-        next,
-        filled.next_new,
-    ])
+    let made = measure_turns(rt, &mut filled.page, &places, turns)?;
+    Ok(filled.figures(next, made))
 }
 
 /// Makes so many turns, and gives of each operation what it took in the turn in which it took least.

@@ -25,8 +25,16 @@ const CROWD: u32 = 8;
 /// How often each seat goes over the places.
 const TURNS: u32 = 50;
 
+/// And where all calls are lookups, which take so little that else a round would be the start and the end of threads.
+const LOOKUP_TURNS: u32 = 500;
+
 /// And while each Add is timed by itself: all seats make a million Adds together.
 const TIMED_TURNS: u32 = 245;
+
+/// How often each seat goes over the places where so many of 100 calls are lookups.
+fn turns_of(lookups: u64) -> u32 {
+    if lookups == 100 { LOOKUP_TURNS } else { TURNS }
+}
 
 /// Seats that make calls of which so many of 100 are lookups, beside so many idle seats.
 fn trial(nodes: u32, seats: u32, idle: u32, lookups: u64, turns: u32) -> Trial
@@ -64,7 +72,8 @@ pub fn print_shared<R: Threads + Wait + Sync + Clock + AllocGlobal + Print>(
 {
     for seats in SEATS {
         for lookups in LOOKUPS {
-            let told = measure_shared(rt, trial(nodes, seats, 0, lookups, TURNS), ROUNDS)?;
+            let calls = trial(nodes, seats, 0, lookups, turns_of(lookups));
+            let told = measure_shared(rt, calls, ROUNDS)?;
             let (shared, alone, percents) = (told.shared, told.alone, told.percents);
             println!(rt;
                 "{nodes} nodes, shared by {seats}, {lookups} lookups of 100: {shared} calls a second, {alone} without sharing, {percents} %"
