@@ -4,10 +4,15 @@ use Rattle.std.specs.Prelude.{◌==◌, cond}
 use Rattle.std.proofs.lemmas.Bool.Decides.{nat_tests}
 use Rattle.std.proofs.lemmas.List.Sums.{sum_by-cons}
 use Rattle.std.proofs.lemmas.List.Elements.{All-head, All-tail}
+use Rattle.tsc_time.specs.Time.{Time}
+use Rattle.tsc_time.specs.OwnedTime.{OwnedTime}
+use Rattle.tsc_span.specs.Span.{Interval}
 use Rattle.tsc_cache.specs.Settings.{Settings}
 use Rattle.tsc_cache.specs.declared.history.Entry.{Entry}
+use Rattle.tsc_cache.specs.State.{Stepped}
 use Rattle.tsc_cache.specs.History.{History, own_count, state_of, BeginsWith, IsLegal}
-use Rattle.tsc_json.specs.Calls.{Addition, adds}
+use Rattle.tsc_cache.proofs.Steps.{one_mark_is_a_step}
+use Rattle.tsc_json.specs.Calls.{Addition, one_mark, adds}
 use Rattle.tsc_json.specs.declared.trace.Call.{Call}
 use Rattle.tsc_json.specs.declared.trace.Call.TheVariants.{Add, Get, Low}
 use Rattle.tsc_json.specs.Traces.{Trace}
@@ -41,16 +46,19 @@ record IsTaken (old mid : SeatView) (a : Addition) (receipt : Receipt) : Type 0 
   later : length old.seen ≤ length before
   reached : suc receipt.place ≡ length mid.seen
 
-taken : (old mid : SeatView) (a : Addition) (receipt : Receipt) → GoesOn old mid → Accepts old mid a.span a.value a.now receipt → IsTaken old mid a receipt
-taken old mid a receipt goes acc =
-    let e : Entry = entry_by old a.span a.value a.now in
+taken : (old mid : SeatView) (span : Interval) (value : OwnedTime) (now : Time) (receipt : Receipt) → GoesOn old mid → Accepts old mid (record { span = span; value = value }) now receipt
+    → IsTaken old mid (one_mark span value now) receipt
+taken old mid span value now receipt goes acc =
+    let a : Addition = one_mark span value now in
+    let e : Entry = entry_by old (record { span = span; value = value }) now in
+    let state = state_of old.cache.config acc.before in
     let next = goes.is_seat.legal acc.before e ([], acc.seen ∙ sym (append-nil (acc.before ++ e ∷ []))) in
     let own : Entry = entry_after old.number acc.before a in
     record {
       before = acc.before;
       place = acc.place;
-      added = acc.added;
-      part = ([], acc.seen ∙ ap (λ (n : ℕ). acc.before ++ record { seat = old.number; number = n; span = a.span; value = a.value; now = a.now } ∷ []) next.number ∙ sym (append-nil (acc.before ++ own ∷ [])));
+      added = acc.added ∙ ap (λ (t : Stepped). t.added) (sym (one_mark_is_a_step old.cache.config state (record { span = span; value = value }) now));
+      part = ([], acc.seen ∙ ap (λ (n : ℕ). acc.before ++ record { seat = old.number; number = n; marks = a.marks; now = a.now } ∷ []) next.number ∙ sym (append-nil (acc.before ++ own ∷ [])));
       later = begins_length acc.before old.seen acc.begins;
       reached = omega (arith, acc.place, ap length acc.seen, length-append acc.before (e ∷ []));
     }
@@ -66,7 +74,7 @@ record IsTold (old mid : SeatView) (call : Call) (answer : Said) : Type 0 where
 
 is_told : (old mid : SeatView) (call : Call) (answer : Said) → GoesOn old mid → Says old mid call answer → IsTold old mid call answer
 is_told old mid (Add span value now) (said.Add place added) goes says =
-    let t = taken old mid (record { span = span; value = value; now = now }) (record { place = place; added = added; front = says.0 }) goes says.1 in
+    let t = taken old mid span value now (record { place = place; added = added; front = says.0 }) goes says.1 in
     let at = t.place in
     let what = t.added in
     record { before = t.before; told = λ i. said.Add (at i) (what i); part = t.part; later = t.later; reached = t.reached; count = says.1.count }
@@ -160,11 +168,11 @@ of_one_of_them from (suc n) e h low high =
     ]
 
 -- a legal history has no entries but those of its seats
-all_are_of_seats : (seats : ℕ) (done left : History) → IsLegal seats (done ++ left) → length left ≡ of_seats 0 seats left
-all_are_of_seats seats done [] legal = sym (none_at_all 0 seats)
-all_are_of_seats seats done (e ∷ left) legal =
+all_are_of_seats : (settings : Settings) (seats : ℕ) (done left : History) → IsLegal settings seats (done ++ left) → length left ≡ of_seats 0 seats left
+all_are_of_seats settings seats done [] legal = sym (none_at_all 0 seats)
+all_are_of_seats settings seats done (e ∷ left) legal =
     let next = legal done e (left, sym (append_assoc done (e ∷ []) left)) in
-    let rest = all_are_of_seats seats (done ++ e ∷ []) left (subst (IsLegal seats) (sym (append_assoc done (e ∷ []) left)) legal) in
+    let rest = all_are_of_seats settings seats (done ++ e ∷ []) left (subst (IsLegal settings seats) (sym (append_assoc done (e ∷ []) left)) legal) in
     omega (arith, rest, of_one_of_them 0 seats e left (omega arith) (omega (arith, next.seat)))
 
 counted : (start seat : SeatView) (index : ℕ) (calls : List Call) (lines : List Line) → Runs start index calls lines seat → (seat.number ≡ start.number) × (seat.count ≡ start.count + adds_of_list calls)
@@ -192,7 +200,7 @@ pub run_of : (trace : Trace) (cache : SharedView) (lines : List Line) (seats : L
 run_of trace cache lines seats closed config count runs closes = (
   closes.history,
   record {
-    size = all_are_of_seats (length trace.threads) [] closes.history (subst (λ n. IsLegal n closes.history) count closes.legal) ∙ adds_of_seats cache closes.history 0 trace.threads lines seats closes.own runs;
+    size = all_are_of_seats cache.config (length trace.threads) [] closes.history (subst (λ n. IsLegal cache.config n closes.history) count closes.legal) ∙ adds_of_seats cache closes.history 0 trace.threads lines seats closes.own runs;
     lines_are_true = subst (λ s. AreTrueLists s closes.history 0 trace.threads lines) config (true_lists cache closes.history 0 trace.threads lines seats closes.begins runs);
   },
 )

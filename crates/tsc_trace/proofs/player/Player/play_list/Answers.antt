@@ -12,7 +12,7 @@ loop-index-preserved c =
       under_way = λ settings from stands.
           one_more_call c.args.self.now l.self (record { cache = c.answer.new.self.cache; adds = c.answer.new.self.adds; lines = c.push.new.self })
           settings c.args.thread l.index c.args.calls.now c.index-calls-index.result c.in_ok-said.said from (omega arith) c.index-calls-index.is
-          (λ s a k. c.in_ok-said.ensures.said s a k) (λ s a k. c.in_ok-said.ensures.stands s a k) lines (l.invariant.under_way settings from stands);
+          (λ s a k. c.in_ok-said.ensures.said s a k) (λ s a k. let t = c.in_ok-said.ensures.stands s a k in record { state = t.state; adds = t.adds }) lines (l.invariant.under_way settings from stands);
       counted = omega (arith, c.in_ok-said.ensures.count, l.invariant.counted);
       settings = c.in_ok-said.ensures.settings ∙ l.invariant.settings;
     }
