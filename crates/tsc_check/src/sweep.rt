@@ -6,14 +6,21 @@ ghost use Rattle.tsc_cache.specs.CacheView.{StandsForState};
 ghost use Rattle.tsc_json.specs.Calls.{call_fits, is_same_kind};
 ghost use Rattle.tsc_trace.specs.Log.{said_after, after_call};
 ghost use Rattle.tsc_trace.specs.Sayings.{kind_of_said, told_of};
-ghost use Rattle.tsc_check.specs.Verdict.{adds_in, is_add, is_of_kind, is_same_answer, is_wrong_answer, least};
+ghost use Rattle.tsc_check.specs.Verdict.{adds_in, is_add, is_of_kind, is_same_answer, is_same_value, is_wrong_answer, least};
 ghost use Rattle.tsc_check.specs.CheckParts.{AreInOrder, HasPlaced, Lowers, LowersAt, adds_there, call_in, looks_up_there, state_at};
 
 use crate::order::Order;
 use std::alloc::Global;
 use tsc_cache::{Added, Cache};
-use tsc_time::NoMemory;
+use tsc_time::{NoMemory, Value};
 use tsc_trace::{Call, Line, Said, Trace, add_fitting};
+
+/// Whether two values are not the same.
+fn differ(value: Value, other: Value) -> bool
+    ensures { result ≡ not (is_same_value value other) }
+{
+    value != other
+}
 
 /// Whether the answer of a lookup is another than the cache gives.
 fn is_other_value(cache: &Cache, call: &Call, said: Said) -> bool
@@ -21,7 +28,7 @@ fn is_other_value(cache: &Cache, call: &Call, said: Said) -> bool
         → result ≡ not (is_same_answer said (said_after settings h call.now)) }
 {
     match (call, said) {
-        (Call::Get { span }, Said::Get { value, .. }) => cache.get_max(span) != value,
+        (Call::Get { span }, Said::Get { value, .. }) => differ(value, cache.get_max(span)),
         (Call::Low, Said::Low { time, .. }) => cache.low_water() != time,
         _ => true,
     }
