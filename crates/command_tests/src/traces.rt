@@ -72,7 +72,7 @@ pub(crate) const TWO_THREADS_LOG: &str = "0 0 add 1 1 0 0
 1 2 get 2 20.0 11111111-1111-4111-8111-111111111111
 ";
 
-pub(crate) static ROWS: [Row; 18] = [
+pub(crate) static ROWS: [Row; 19] = [
     (OVERLAPPING_READS, 0, OVERLAPPING_READS_LOG, ""),
     // The folder `examples`.
     (TWO_READERS, 0, TWO_READERS_LOG, ""),
@@ -166,6 +166,29 @@ pub(crate) static ROWS: [Row; 18] = [
 2 2 get 5 20.1 none
 2 3 get 5 25.0 22222222-2222-4222-8222-222222222222
 2 4 get 5 42.0 33333333-3333-4333-8333-333333333333
+",
+        "",
+    ),
+    // Pages that double: for two keys, four and eight.
+    (
+        r#"{"page_first":66,"page_max":264,"min_pages":2,"retention":10,"low_water":[5,0],"threads":[[
+{"op":"add","span":{"start":"61"},"time":[20,0],"now":[20,0]},
+{"op":"add","span":{"start":"62"},"time":[20,0],"now":[20,0]},
+{"op":"add","span":{"start":"63"},"time":[20,0],"now":[20,0]},
+{"op":"add","span":{"start":"64"},"time":[20,0],"now":[20,0]},
+{"op":"add","span":{"start":"65"},"time":[20,0],"now":[20,0]},
+{"op":"add","span":{"start":"66"},"time":[20,0],"now":[20,0]},
+{"op":"add","span":{"start":"67"},"time":[20,0],"now":[20,0]},
+{"op":"get","span":{"start":"61","onward":"["}}]]}"#,
+        0,
+        "0 0 add 0 1 0 0
+0 1 add 1 1 0 0
+0 2 add 2 1 1 0
+0 3 add 3 1 0 0
+0 4 add 4 1 0 0
+0 5 add 5 1 0 0
+0 6 add 6 1 1 0
+0 7 get 7 20.0 none
 ",
         "",
     ),
