@@ -1,4 +1,4 @@
-use Rattle.std.proofs.Common.{◌≡◌, ◌∙◌, sym, ap, subst, length, List}
+use Rattle.std.proofs.Common.{◌≡◌, ◌∙◌, sym, ap, subst, length, List, map}
 use Rattle.std.proofs.lemmas.List.{length-map}
 use Rattle.tsc_cache.specs.Settings.{Settings}
 use Rattle.tsc_json.specs.declared.trace.Call.{Call}
@@ -12,9 +12,11 @@ use Rattle.tsc_run.proofs.Truth.{run_of}
 use Rattle.tsc_run.proofs.run.run_trace.Goals as goal
 
 pub run_lists-requires-clause-fits : goal.run_lists-requires-clause-fits
-run_lists-requires-clause-fits g c =
+run_lists-requires-clause-fits g c κs within =
     let inside = c.trace.inside in
-    subst (λ (s : Settings). AllFit s _) (sym c.in_ok-cache.ensures.opened.settings_kept) (subst (AllFit inside.config) (sym c.slice-lists.ensures.value) c.trace.invariant)
+    let lists = map (λ calls. calls.items) c.slice-lists.result.now in
+    let fit : AllFit inside.config lists = subst (AllFit inside.config) (sym c.slice-lists.ensures.value) c.trace.invariant in
+    subst (λ (s : Settings). AllFit s lists) (sym c.in_ok-cache.ensures.opened.settings_kept) fit
 
 pub close-requires : goal.close-requires
 close-requires g c = record { seats = all_stay c.in_ok-cache.cache 0 _ _ c.in_ok-runs.runs.seats.items c.in_ok-runs.ensures.runs }
