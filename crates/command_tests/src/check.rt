@@ -23,15 +23,15 @@ const RACE_LOG: &str =
 
 /// One list adds a key and asks for it.
 const ONE_LIST: &str =
-    r#"{"page_nodes":4,"min_pages":2,"retention":10,"low_water":[5,0],"threads":[[
+    r#"{"page_first":132,"page_max":132,"min_pages":2,"retention":10,"low_water":[5,0],"threads":[[
 {"op":"add","span":{"start":"61"},"time":[20,0],"owner":"11111111-1111-4111-8111-111111111111","now":[20,0]},
 {"op":"get","span":{"start":"61"}}]]}"#;
 
 const NO_CALLS: &str =
-    r#"{"page_nodes":4,"min_pages":2,"retention":10,"low_water":[5,0],"threads":[[]]}"#;
+    r#"{"page_first":132,"page_max":132,"min_pages":2,"retention":10,"low_water":[5,0],"threads":[[]]}"#;
 
 const NO_LISTS: &str =
-    r#"{"page_nodes":4,"min_pages":2,"retention":10,"low_water":[5,0],"threads":[]}"#;
+    r#"{"page_first":132,"page_max":132,"min_pages":2,"retention":10,"low_water":[5,0],"threads":[]}"#;
 
 const WRONG_FIRST_LINE: &str = "log refused: fault 1 at line 1\n";
 

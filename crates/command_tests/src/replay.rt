@@ -60,7 +60,7 @@ static MISHAPS: [MishapRow; 10] = [
 ];
 
 /// The line that tells a fault.
-static LINES: [(ReplayFault, &str); 11] = [
+static LINES: [(ReplayFault, &str); 12] = [
     (ReplayFault::Read, READ_FAILED),
     (ReplayFault::TooLong, "input too long\n"),
     (
@@ -86,6 +86,10 @@ static LINES: [(ReplayFault, &str); 11] = [
     (
         ReplayFault::Trace(TraceFault::Span(2)),
         "trace refused: fault 6 at call 2\n",
+    ),
+    (
+        ReplayFault::Trace(TraceFault::TooLarge(3)),
+        "trace refused: fault 9 at call 3\n",
     ),
     (
         ReplayFault::Trace(TraceFault::Config),

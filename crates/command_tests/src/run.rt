@@ -20,20 +20,20 @@ static ROWS: [Row; 6] = [
     (OVERLAPPING_READS, 0, OVERLAPPING_READS_LOG, ""),
     (TWO_READERS, 0, TWO_READERS_LOG, ""),
     (
-        r#"{"page_nodes":4,"min_pages":2,"retention":10,"low_water":[5,0],"threads":[[],[]]}"#,
+        r#"{"page_first":132,"page_max":132,"min_pages":2,"retention":10,"low_water":[5,0],"threads":[[],[]]}"#,
         0,
         "",
         "",
     ),
     (
-        r#"{"page_nodes":4,"min_pages":2,"retention":10,"low_water":[5,0],"threads":[]}"#,
+        r#"{"page_first":132,"page_max":132,"min_pages":2,"retention":10,"low_water":[5,0],"threads":[]}"#,
         1,
         "",
         "trace refused: fault 7\n",
     ),
     ("", 1, "", NO_JSON),
     (
-        r#"{"page_nodes":4,"min_pages":2,"retention":10,"low_water":[5,0],"threads":[[{"op":"low","x":1}]]}"#,
+        r#"{"page_first":132,"page_max":132,"min_pages":2,"retention":10,"low_water":[5,0],"threads":[[{"op":"low","x":1}]]}"#,
         1,
         "",
         "trace refused: fault 2 at call 1\n",
@@ -217,7 +217,7 @@ impl Gate for Unseen {
 
 /// Two lists that have one log in any order.
 const TWO_LOOKS: Row = (
-    r#"{"page_nodes":4,"min_pages":2,"retention":10,"low_water":[5,0],"threads":[
+    r#"{"page_first":132,"page_max":132,"min_pages":2,"retention":10,"low_water":[5,0],"threads":[
 [{"op":"get","span":{"start":"61"}},{"op":"low"}],
 [{"op":"low"},{"op":"get","span":{"start":"61"}}]]}"#,
     0,
@@ -231,7 +231,7 @@ const TWO_LOOKS: Row = (
 
 /// One list adds a key, and the other asks for it before that can be seen.
 const ADD_AND_GET: Row = (
-    r#"{"page_nodes":4,"min_pages":2,"retention":10,"low_water":[5,0],"threads":[
+    r#"{"page_first":132,"page_max":132,"min_pages":2,"retention":10,"low_water":[5,0],"threads":[
 [{"op":"add","span":{"start":"61"},"time":[20,0],"owner":"11111111-1111-4111-8111-111111111111","now":[20,0]}],
 [{"op":"get","span":{"start":"61"}}]]}"#,
     0,

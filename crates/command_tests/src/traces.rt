@@ -5,7 +5,7 @@ pub(crate) type Row = (&'static str, u8, &'static str, &'static str);
 
 /// Two transactions read overlapping spans at one time. It is the trace of the program's stored run.
 pub(crate) const OVERLAPPING_READS: &str =
-    r#"{"page_nodes":4,"min_pages":2,"retention":10,"low_water":[5,0],"threads":[[
+    r#"{"page_first":132,"page_max":132,"min_pages":2,"retention":10,"low_water":[5,0],"threads":[[
 {"op":"add","span":{"start":"61","end":"63"},"time":[20,0],"owner":"11111111-1111-4111-8111-111111111111","now":[20,0]},
 {"op":"get","span":{"start":"62"}},
 {"op":"get","span":{"start":"63"}},
@@ -24,7 +24,7 @@ pub(crate) const OVERLAPPING_READS_LOG: &str = "0 0 add 0 1 0 0
 
 /// The first trace of the folder `examples`, and its log.
 pub(crate) const TWO_READERS: &str =
-    r#"{"page_nodes":4,"min_pages":2,"retention":10,"low_water":[5,0],"threads":[[
+    r#"{"page_first":132,"page_max":132,"min_pages":2,"retention":10,"low_water":[5,0],"threads":[[
 {"op":"add","span":{"start":"61","end":"63"},"time":[20,0],"owner":"11111111-1111-4111-8111-111111111111","now":[20,0]},
 {"op":"get","span":{"start":"62"}},
 {"op":"get","span":{"start":"63"}},
@@ -45,7 +45,7 @@ pub(crate) const TWO_READERS_LOG: &str = "0 0 add 0 1 0 0
 
 /// Two lists add the same key, and a third asks for it.
 pub(crate) const RACE: &str =
-    r#"{"page_nodes":4,"min_pages":2,"retention":10,"low_water":[5,0],"threads":[
+    r#"{"page_first":132,"page_max":132,"min_pages":2,"retention":10,"low_water":[5,0],"threads":[
 [{"op":"add","span":{"start":"61"},"time":[20,0],"owner":"11111111-1111-4111-8111-111111111111","now":[20,0]}],
 [{"op":"add","span":{"start":"61"},"time":[30,0],"owner":"22222222-2222-4222-8222-222222222222","now":[20,0]}],
 [{"op":"get","span":{"start":"61"}}]]}"#;
@@ -56,7 +56,7 @@ const WRONG_CONFIG: &str = "trace refused: fault 7\n";
 
 /// The trace of the folder `examples` that is meant for a run.
 pub(crate) const TWO_THREADS: &str =
-    r#"{"page_nodes":4,"min_pages":2,"retention":10,"low_water":[5,0],"threads":[[
+    r#"{"page_first":132,"page_max":132,"min_pages":2,"retention":10,"low_water":[5,0],"threads":[[
 {"op":"add","span":{"start":"61","end":"63"},"time":[20,0],"owner":"11111111-1111-4111-8111-111111111111","now":[20,0]},
 {"op":"get","span":{"start":"62"}}],[
 {"op":"add","span":{"start":"62"},"time":[30,0],"owner":"22222222-2222-4222-8222-222222222222","now":[30,0]},
@@ -72,7 +72,7 @@ pub(crate) const TWO_THREADS_LOG: &str = "0 0 add 1 1 0 0
 1 2 get 2 20.0 11111111-1111-4111-8111-111111111111
 ";
 
-pub(crate) static ROWS: [Row; 16] = [
+pub(crate) static ROWS: [Row; 19] = [
     (OVERLAPPING_READS, 0, OVERLAPPING_READS_LOG, ""),
     // The folder `examples`.
     (TWO_READERS, 0, TWO_READERS_LOG, ""),
@@ -88,7 +88,7 @@ pub(crate) static ROWS: [Row; 16] = [
         "",
     ),
     (
-        r#"{"page_nodes":8,"min_pages":1,"retention":10000000000,"low_water":[5,0],"threads":[[
+        r#"{"page_first":264,"page_max":264,"min_pages":1,"retention":10000000000,"low_water":[5,0],"threads":[[
 {"op":"low"},
 {"op":"add","span":{"start":"61"},"time":[5,0],"owner":"11111111-1111-4111-8111-111111111111","now":[20,0]},
 {"op":"get","span":{"start":"61"}},
@@ -111,7 +111,7 @@ pub(crate) static ROWS: [Row; 16] = [
         "",
     ),
     (
-        r#"{"page_nodes":16,"min_pages":2,"retention":10,"low_water":[0,0],"threads":[[
+        r#"{"page_first":528,"page_max":528,"min_pages":2,"retention":10,"low_water":[0,0],"threads":[[
 {"op":"add","span":{"start":"","end":"62"},"time":[10,0],"owner":null,"now":[10,0]},
 {"op":"get","span":{"start":""}},
 {"op":"get","span":{"start":"61ff"}},
@@ -137,7 +137,7 @@ pub(crate) static ROWS: [Row; 16] = [
     ),
     // Three lists, whose Adds fill a page twice: the second time the oldest one is dropped.
     (
-        r#"{"page_nodes":3,"min_pages":2,"retention":10,"low_water":[5,0],"threads":[[
+        r#"{"page_first":99,"page_max":99,"min_pages":2,"retention":10,"low_water":[5,0],"threads":[[
 {"op":"add","span":{"start":"61"},"time":[20,0],"owner":"11111111-1111-4111-8111-111111111111","now":[20,0]},
 {"op":"add","span":{"start":"62","end":"63"},"time":[20,1],"owner":"11111111-1111-4111-8111-111111111111","now":[20,0]},
 {"op":"get","span":{"start":"61"}}],[
@@ -169,9 +169,32 @@ pub(crate) static ROWS: [Row; 16] = [
 ",
         "",
     ),
+    // Pages that double: for two keys, four and eight.
+    (
+        r#"{"page_first":66,"page_max":264,"min_pages":2,"retention":10,"low_water":[5,0],"threads":[[
+{"op":"add","span":{"start":"61"},"time":[20,0],"now":[20,0]},
+{"op":"add","span":{"start":"62"},"time":[20,0],"now":[20,0]},
+{"op":"add","span":{"start":"63"},"time":[20,0],"now":[20,0]},
+{"op":"add","span":{"start":"64"},"time":[20,0],"now":[20,0]},
+{"op":"add","span":{"start":"65"},"time":[20,0],"now":[20,0]},
+{"op":"add","span":{"start":"66"},"time":[20,0],"now":[20,0]},
+{"op":"add","span":{"start":"67"},"time":[20,0],"now":[20,0]},
+{"op":"get","span":{"start":"61","onward":"["}}]]}"#,
+        0,
+        "0 0 add 0 1 0 0
+0 1 add 1 1 0 0
+0 2 add 2 1 1 0
+0 3 add 3 1 0 0
+0 4 add 4 1 0 0
+0 5 add 5 1 0 0
+0 6 add 6 1 1 0
+0 7 get 7 20.0 none
+",
+        "",
+    ),
     // The last timestamp.
     (
-        r#"{"page_nodes":4,"min_pages":2,"retention":10,"low_water":[5,0],"threads":[[
+        r#"{"page_first":132,"page_max":132,"min_pages":2,"retention":10,"low_water":[5,0],"threads":[[
 {"op":"add","span":{"start":"61"},"time":[9223372036854775807,2147483647],"owner":"11111111-1111-4111-8111-111111111111","now":[20,0]},
 {"op":"get","span":{"start":"61"}}]]}"#,
         0,
@@ -182,47 +205,62 @@ pub(crate) static ROWS: [Row; 16] = [
     ),
     // No calls.
     (
-        r#"{"page_nodes":4,"min_pages":2,"retention":10,"low_water":[5,0],"threads":[[]]}"#,
+        r#"{"page_first":132,"page_max":132,"min_pages":2,"retention":10,"low_water":[5,0],"threads":[[]]}"#,
         0,
         "",
         "",
     ),
     // No JSON.
     ("", 1, "", NO_JSON),
-    (r#"{"page_nodes":4"#, 1, "", NO_JSON),
+    (r#"{"page_first":132"#, 1, "", NO_JSON),
     // A wrong head.
     ("[]", 1, "", "trace refused: fault 2 at call 0\n"),
     (
-        r#"{"page_nodes":4294967296,"min_pages":2,"retention":10,"low_water":[5,0],"threads":[[]]}"#,
+        r#"{"page_first":4294967296,"page_max":132,"min_pages":2,"retention":10,"low_water":[5,0],"threads":[[]]}"#,
         1,
         "",
         "trace refused: fault 3 at call 0\n",
     ),
+    // A member of the head that there is none of.
+    (
+        r#"{"page_nodes":4,"min_pages":2,"retention":10,"low_water":[5,0],"threads":[[]]}"#,
+        1,
+        "",
+        "trace refused: fault 2 at call 0\n",
+    ),
     // A wrong configuration, or no list.
     (
-        r#"{"page_nodes":1,"min_pages":2,"retention":10,"low_water":[5,0],"threads":[[]]}"#,
+        r#"{"page_first":63,"page_max":132,"min_pages":2,"retention":10,"low_water":[5,0],"threads":[[]]}"#,
         1,
         "",
         WRONG_CONFIG,
     ),
     (
-        r#"{"page_nodes":4,"min_pages":2,"retention":10,"low_water":[5,0],"threads":[]}"#,
+        r#"{"page_first":132,"page_max":132,"min_pages":2,"retention":10,"low_water":[5,0],"threads":[]}"#,
         1,
         "",
         WRONG_CONFIG,
     ),
     // Wrong calls.
     (
-        r#"{"page_nodes":4,"min_pages":2,"retention":10,"low_water":[5,0],"threads":[[{"op":"low","x":1}]]}"#,
+        r#"{"page_first":132,"page_max":132,"min_pages":2,"retention":10,"low_water":[5,0],"threads":[[{"op":"low","x":1}]]}"#,
         1,
         "",
         "trace refused: fault 2 at call 1\n",
     ),
     (
-        r#"{"page_nodes":4,"min_pages":2,"retention":10,"low_water":[5,0],"threads":[[{"op":"low"},
+        r#"{"page_first":132,"page_max":132,"min_pages":2,"retention":10,"low_water":[5,0],"threads":[[{"op":"low"},
 {"op":"get","span":{"start":"6g"}}]]}"#,
         1,
         "",
         "trace refused: fault 4 at call 2\n",
+    ),
+    (
+        r#"{"page_first":64,"page_max":64,"min_pages":2,"retention":10,"low_water":[5,0],"threads":[[
+{"op":"get","span":{"start":"61","end":"63"}}],[
+{"op":"add","span":{"start":"61","end":"63"},"time":[20,0],"now":[20,0]}]]}"#,
+        1,
+        "",
+        "trace refused: fault 9 at call 2\n",
     ),
 ];

@@ -13,10 +13,10 @@ use tsc_cache::Config;
 use tsc_shared::{OpenFault, SharedCache};
 use tsc_time::Timestamp;
 
-/// A floor at 5.0, and pages of so many nodes, of which so many are kept at the least.
-fn config(page_nodes: u32, min_pages: u32) -> Result<Config, Fail> {
+/// A floor at 5.0, and pages of so many bytes, of which so many are kept at the least.
+fn config(page_size: u32, min_pages: u32) -> Result<Config, Fail> {
     let floor = Timestamp::new(5, 0).ok_or("a time in range")?;
-    Ok(Config::new(page_nodes, min_pages, 10, floor)?)
+    Ok(Config::new(page_size, page_size, min_pages, 10, floor)?)
 }
 
 const OWNED_BY_ONE: Told = Told::Value {
@@ -117,12 +117,12 @@ fn play<R: Abort + Wait>(
 fn what_two_seats_are_told(rt: HostRuntime) -> Result<(), Fail> {
     for tries_again in [false, true] {
         for row in [&SEEN_BY_THE_OTHER, &FULL, &NONE_AT_ALL, &MET] {
-            play(&rt, rt.alloc(), config(4, 2)?, row, tries_again)?;
+            play(&rt, rt.alloc(), config(132, 2)?, row, tries_again)?;
         }
-        play(&rt, rt.alloc(), config(2, 1)?, &RISEN, tries_again)?;
+        play(&rt, rt.alloc(), config(66, 1)?, &RISEN, tries_again)?;
     }
     for seats in [0, 65] {
-        let opened = SharedCache::open(rt.alloc(), config(4, 2)?, seats, 1);
+        let opened = SharedCache::open(rt.alloc(), config(132, 2)?, seats, 1);
         assert!(rt; matches!(opened, Err(OpenFault::Seats)));
     }
     Ok(())
@@ -151,15 +151,15 @@ static ON_THREADS: [(u32, Plan); 2] = [
 fn each_seat_on_a_thread(rt: HostRuntime) -> Result<(), Fail> {
     let alloc = rt.alloc();
     for (seats, plan) in &ON_THREADS {
-        let (closed, adds) = run(&rt, alloc, config(4, 2)?, *seats, *plan)?;
+        let (closed, adds) = run(&rt, alloc, config(132, 2)?, *seats, *plan)?;
         assert_eq!(rt; closed.adds, u64::from(*seats) * u64::from(plan.turns));
-        let plain = in_order(alloc, config(4, 2)?, *plan, adds, closed.adds)?;
+        let plain = in_order(alloc, config(132, 2)?, *plan, adds, closed.adds)?;
         let plain = plain.ok_or("each place once, and rising for each seat")?;
         assert!(rt; are_alike(alloc, *plan, &closed.cache, &plain)?, "{plan:?}");
         let first = closed.cache.get_max(&first_four(alloc)?);
         assert!(rt; plan.differ || Some(first) == plan.value(0, 0));
     }
-    let (cache, seats) = SharedCache::open(alloc, config(4, 2)?, 2, 100)?;
+    let (cache, seats) = SharedCache::open(alloc, config(132, 2)?, 2, 100)?;
     let closed = cache.close(&rt, seats).ok().ok_or("still out")?;
     assert_eq!(rt; closed.adds, 0);
     Ok(())

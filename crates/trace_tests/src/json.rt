@@ -23,11 +23,17 @@ const UUID: Told = Err(TraceFault::Uuid(1));
 
 const SPAN: Told = Err(TraceFault::Span(1));
 
-/// The members of a head beside its lists.
-const HEAD: &str = r#""page_nodes":4,"min_pages":2,"retention":10,"low_water":[5,0]"#;
+const TOO_LARGE: Told = Err(TraceFault::TooLarge(1));
 
-/// `page_nodes`, `min_pages`, `retention`, `low_water` and `threads`, and what is told of them.
+/// The members of a head beside its lists. A page is large enough for any span.
+const HEAD: &str = r#""page_first":132,"page_max":8256,"min_pages":2,"retention":10,"low_water":[5,0]"#;
+
+/// The same with smaller pages.
+const NARROW: &str = r#""page_first":66,"page_max":264,"min_pages":2,"retention":10,"low_water":[5,0]"#;
+
+/// `page_first`, `page_max`, `min_pages`, `retention`, `low_water` and `threads`, and what is told of them.
 type Head = (
+    &'static str,
     &'static str,
     &'static str,
     &'static str,
@@ -36,44 +42,36 @@ type Head = (
     Told,
 );
 
-static HEADS: [Head; 22] = [
-    ("4", "2", "10", "[5]", "[[]]", HEAD_SHAPE),
-    ("4", "2", "10", "[5,0,0]", "[[]]", HEAD_SHAPE),
-    ("4", "2", "10", "[5,null]", "[[]]", HEAD_SHAPE),
-    (r#""4""#, "2", "10", "[5,0]", "[[]]", HEAD_SHAPE),
-    ("4294967296", "2", "10", "[5]", "[[]]", HEAD_SHAPE),
-    ("4294967296", "2", "10", "[5,0]", "[7]", HEAD_SHAPE),
-    ("4294967296", "2", "10", "[5,0]", "[[]]", HEAD_NUMBER),
-    ("4294967296", "2", "10", "[5,0]", "[[{}]]", HEAD_NUMBER),
-    ("4", "4294967296", "10", "[5,0]", "[]", HEAD_NUMBER),
+static HEADS: [Head; 27] = [
+    ("132", "132", "2", "10", "[5]", "[[]]", HEAD_SHAPE),
+    ("132", "132", "2", "10", "[5,0,0]", "[[]]", HEAD_SHAPE),
+    ("132", "132", "2", "10", "[5,null]", "[[]]", HEAD_SHAPE),
+    (r#""132""#, "132", "2", "10", "[5,0]", "[[]]", HEAD_SHAPE),
+    ("132", "[132]", "2", "10", "[5,0]", "[[]]", HEAD_SHAPE),
+    ("4294967296", "132", "2", "10", "[5]", "[[]]", HEAD_SHAPE),
+    ("4294967296", "132", "2", "10", "[5,0]", "[7]", HEAD_SHAPE),
+    ("4294967296", "132", "2", "10", "[5,0]", "[[]]", HEAD_NUMBER),
+    ("4294967296", "132", "2", "10", "[5,0]", "[[{}]]", HEAD_NUMBER),
+    ("132", "4294967296", "2", "10", "[5,0]", "[[]]", HEAD_NUMBER),
+    ("132", "132", "4294967296", "10", "[5,0]", "[]", HEAD_NUMBER),
+    ("132", "132", "2", "18446744073709551616", "[5,0]", "[[]]", HEAD_NUMBER),
+    ("132", "132", "2", "10", "[9223372036854775808,0]", "[[]]", HEAD_NUMBER),
+    ("132", "132", "2", "10", "[5,2147483648]", "[[]]", HEAD_NUMBER),
+    ("132", "132", "2", "10", "[5,4294967296]", "[[]]", HEAD_NUMBER),
+    ("132.0", "132", "2", "10", "[5,0]", "[[]]", HEAD_NUMBER),
+    ("132", "132", "2", "-0", "[5,0]", "[[]]", HEAD_NUMBER),
+    ("132", "132", "2", "2e1", "[5,0]", "[[]]", HEAD_NUMBER),
+    ("63", "132", "2", "10", "[5,0]", "[[]]", CONFIG),
+    ("200", "132", "2", "10", "[5,0]", "[[]]", CONFIG),
+    ("132", "1073741825", "2", "10", "[5,0]", "[[]]", CONFIG),
+    ("132", "4294967295", "2", "10", "[5,0]", "[[]]", CONFIG),
+    ("132", "132", "65", "10", "[5,0]", "[[]]", CONFIG),
+    ("132", "132", "2", "18446744073709551615", "[5,0]", "[[]]", CONFIG),
+    ("63", "132", "2", "10", "[5,0]", r#"[[{"op":"low","x":1}]]"#, CONFIG),
+    ("63", "63", "2", "10", "[5,0]", r#"[[{"op":"add","span":{"start":"61","end":"62"},"time":[20,0],"now":[20,0]}]]"#, CONFIG),
     (
-        "4",
-        "2",
-        "18446744073709551616",
-        "[5,0]",
-        "[[]]",
-        HEAD_NUMBER,
-    ),
-    (
-        "4",
-        "2",
-        "10",
-        "[9223372036854775808,0]",
-        "[[]]",
-        HEAD_NUMBER,
-    ),
-    ("4", "2", "10", "[5,2147483648]", "[[]]", HEAD_NUMBER),
-    ("4", "2", "10", "[5,4294967296]", "[[]]", HEAD_NUMBER),
-    ("2.0", "2", "10", "[5,0]", "[[]]", HEAD_NUMBER),
-    ("4", "2", "-0", "[5,0]", "[[]]", HEAD_NUMBER),
-    ("2", "2", "2e1", "[5,0]", "[[]]", HEAD_NUMBER),
-    ("1", "2", "10", "[5,0]", "[[]]", CONFIG),
-    ("4294967295", "2", "10", "[5,0]", "[[]]", CONFIG),
-    ("4", "65", "10", "[5,0]", "[[]]", CONFIG),
-    ("4", "2", "18446744073709551615", "[5,0]", "[[]]", CONFIG),
-    ("1", "2", "10", "[5,0]", r#"[[{"op":"low","x":1}]]"#, CONFIG),
-    (
-        "65536",
+        "64",
+        "1073741824",
         "64",
         "9223372036854775807",
         "[9223372036854775807,2147483647]",
@@ -83,22 +81,37 @@ static HEADS: [Head; 22] = [
 ];
 
 /// The members of a head beside one empty list.
-static MEMBERS: [(&str, Told); 5] = [
-    (r#""page_nodes":4,"min_pages":2,"retention":10"#, HEAD_SHAPE),
+static MEMBERS: [(&str, Told); 8] = [
     (
-        r#""page_nodes":4,"min_pages":2,"retention":10,"low_water":[5,0],"x":1"#,
+        r#""page_first":132,"page_max":132,"min_pages":2,"retention":10"#,
         HEAD_SHAPE,
     ),
     (
-        r#""page_nodes":4294967296,"min_pages":2,"retention":10,"low_water":[5,0],"x":1"#,
+        r#""page_first":132,"min_pages":2,"retention":10,"low_water":[5,0]"#,
         HEAD_SHAPE,
     ),
     (
-        r#""page_nodes":1,"page_nodes":2,"min_pages":2,"retention":10,"low_water":[5,0]"#,
+        r#""page_nodes":4,"min_pages":2,"retention":10,"low_water":[5,0]"#,
+        HEAD_SHAPE,
+    ),
+    (
+        r#""page_nodes":4,"page_first":132,"page_max":132,"min_pages":2,"retention":10,"low_water":[5,0]"#,
+        HEAD_SHAPE,
+    ),
+    (
+        r#""page_first":132,"page_max":132,"min_pages":2,"retention":10,"low_water":[5,0],"x":1"#,
+        HEAD_SHAPE,
+    ),
+    (
+        r#""page_first":4294967296,"page_max":132,"min_pages":2,"retention":10,"low_water":[5,0],"x":1"#,
+        HEAD_SHAPE,
+    ),
+    (
+        r#""page_first":63,"page_first":66,"page_max":66,"min_pages":2,"retention":10,"low_water":[5,0]"#,
         Ok(0),
     ),
     (
-        r#""page_nodes":2,"page_nodes":1,"min_pages":2,"retention":10,"low_water":[5,0]"#,
+        r#""page_first":66,"page_first":63,"page_max":66,"min_pages":2,"retention":10,"low_water":[5,0]"#,
         CONFIG,
     ),
 ];
@@ -300,12 +313,93 @@ static LONG_TRACES: [Long; 11] = [
     ),
 ];
 
+/// Calls that cost as much as the largest of small pages, or more. What else is wrong with a call comes first.
+static LARGE_SPANS: [Long; 11] = [
+    (
+        r#"[[{"op":"add","span":{"start":""#,
+        "61",
+        232,
+        r#""},"time":[20,0],"now":[20,0]}]]"#,
+        Ok(1),
+    ),
+    (
+        r#"[[{"op":"add","span":{"start":""#,
+        "61",
+        233,
+        r#""},"time":[20,0],"now":[20,0]}]]"#,
+        TOO_LARGE,
+    ),
+    (
+        r#"[[{"op":"add","span":{"start":""#,
+        "61",
+        233,
+        r#""},"time":[5,0],"now":[20,0]}]]"#,
+        TOO_LARGE,
+    ),
+    (
+        r#"[[{"op":"low"},{"op":"add","span":{"start":""#,
+        "61",
+        233,
+        r#""},"time":[20,0],"now":[20,0]},{"op":"x"}]]"#,
+        Err(TraceFault::TooLarge(2)),
+    ),
+    (
+        r#"[[{"op":"add","span":{"start":"61","end":""#,
+        "61",
+        199,
+        r#""},"time":[20,0],"now":[20,0]}]]"#,
+        Ok(1),
+    ),
+    (
+        r#"[[{"op":"add","span":{"start":"61","end":""#,
+        "61",
+        200,
+        r#""},"time":[20,0],"now":[20,0]}]]"#,
+        TOO_LARGE,
+    ),
+    (
+        r#"[[{"op":"add","span":{"start":"61","onward":"(","end":""#,
+        "61",
+        233,
+        r#""},"time":[20,0],"now":[20,0]}]]"#,
+        SHAPE,
+    ),
+    (
+        r#"[[{"op":"add","span":{"start":""#,
+        "61",
+        233,
+        r#""},"time":[-1,0],"now":[20,0]}]]"#,
+        NUMBER,
+    ),
+    (
+        r#"[[{"op":"add","span":{"end":"6","start":""#,
+        "61",
+        233,
+        r#""},"time":[20,0],"now":[20,0]}]]"#,
+        HEX,
+    ),
+    (
+        r#"[[{"op":"add","span":{"start":""#,
+        "61",
+        233,
+        r#""},"time":[20,0],"now":[20,0],"owner":"xyz"}]]"#,
+        UUID,
+    ),
+    (
+        r#"[[{"op":"get","span":{"start":""#,
+        "61",
+        233,
+        r#""}}]]"#,
+        Ok(1),
+    ),
+];
+
 /// Texts that are no JSON.
 static NO_JSON: [&[u8]; 6] = [
     b"",
     b"1e999",
     &[b'['; 200],
-    b"{\"page_nodes\":4",
+    b"{\"page_first\":132",
     b"{} {}",
     b"{\"threads\":\"\xff\"}",
 ];
@@ -323,12 +417,12 @@ fn told(alloc: Global, text: &str) -> Told {
 
 /// The first of the heads, from 0, of which something else is told.
 fn wrong_head(alloc: Global, rows: &[Head]) -> Result<Option<usize>, Fail> {
-    for (i, (page_nodes, min_pages, retention, low_water, threads, want)) in rows
+    for (i, (page_first, page_max, min_pages, retention, low_water, threads, want)) in rows
         .iter()
         .enumerate()
     {
         let text = format!(in alloc;
-            "{{\"page_nodes\":{page_nodes},\"min_pages\":{min_pages},\"retention\":{retention},\"low_water\":{low_water},\"threads\":{threads}}}"
+            "{{\"page_first\":{page_first},\"page_max\":{page_max},\"min_pages\":{min_pages},\"retention\":{retention},\"low_water\":{low_water},\"threads\":{threads}}}"
         )?;
         if told(alloc, &text) != *want {
             return Ok(Some(i));
@@ -365,15 +459,16 @@ fn wrong_call(alloc: Global, rows: &[(&str, Told)]) -> Result<Option<usize>, Fai
     wrong_text(alloc, &before, rows, "]]}")
 }
 
-/// A trace with `threads` of a front, a piece as often as this, and a tail.
+/// A trace with these members, and `threads` of a front, a piece as often as this, and a tail.
 fn long_trace(
     alloc: Global,
+    head: &str,
     front: &str,
     piece: &str,
     times: usize,
     tail: &str,
 ) -> Result<String, Fail> {
-    let mut text = format!(in alloc; "{{{HEAD},\"threads\":{front}")?;
+    let mut text = format!(in alloc; "{{{head},\"threads\":{front}")?;
     for _ in 0..times {
         text.push_str(piece)?;
     }
@@ -383,9 +478,9 @@ fn long_trace(
 }
 
 /// The first of the long traces, from 0, of which something else is told.
-fn wrong_long_trace(alloc: Global, rows: &[Long]) -> Result<Option<usize>, Fail> {
+fn wrong_long_trace(alloc: Global, head: &str, rows: &[Long]) -> Result<Option<usize>, Fail> {
     for (i, (front, piece, times, tail, want)) in rows.iter().enumerate() {
-        let text = long_trace(alloc, front, piece, *times, tail)?;
+        let text = long_trace(alloc, head, front, piece, *times, tail)?;
         if told(alloc, &text) != *want {
             return Ok(Some(i));
         }
@@ -416,7 +511,8 @@ fn tells_what_decides_in_the_head(rt: HostRuntime) -> Result<(), Fail> {
 fn tells_what_decides_in_calls(rt: HostRuntime) -> Result<(), Fail> {
     assert_eq!(rt; wrong_threads(rt.alloc(), &THREADS)?, None);
     assert_eq!(rt; wrong_call(rt.alloc(), &CALLS)?, None);
-    assert_eq!(rt; wrong_long_trace(rt.alloc(), &LONG_TRACES)?, None);
+    assert_eq!(rt; wrong_long_trace(rt.alloc(), HEAD, &LONG_TRACES)?, None);
+    assert_eq!(rt; wrong_long_trace(rt.alloc(), NARROW, &LARGE_SPANS)?, None);
     Ok(())
 }
 

@@ -7,7 +7,7 @@ use tsc_trace::log_laws::reads_again;
 use tsc_trace::*;
 
 /// The head of most traces, up to their lists.
-const HEAD: &str = r#"{"page_nodes":4,"min_pages":2,"retention":10,"low_water":[5,0],"threads":"#;
+const HEAD: &str = r#"{"page_first":132,"page_max":132,"min_pages":2,"retention":10,"low_water":[5,0],"threads":"#;
 
 const OVERLAPPING_READS: &str = r#"[[
 {"op":"add","span":{"start":"61","end":"63"},"time":[20,0],"owner":"11111111-1111-4111-8111-111111111111","now":[20,0]},
@@ -307,7 +307,7 @@ fn replay_again(alloc: Global, trace: &Trace) -> Result<Vec<u8>, Fail> {
 
 /// A trace of three calls.
 const THREE_CALLS: &str =
-    r#"{"page_nodes":4,"min_pages":2,"retention":10,"low_water":[5,0],"threads":[[{"op":"add","span":{"start":"61","end":"63"},"time":[20,0],"owner":"11111111-1111-4111-8111-111111111111","now":[20,0]},{"op":"get","span":{"start":"62"}},{"op":"low"}]]}"#;
+    r#"{"page_first":132,"page_max":132,"min_pages":2,"retention":10,"low_water":[5,0],"threads":[[{"op":"add","span":{"start":"61","end":"63"},"time":[20,0],"owner":"11111111-1111-4111-8111-111111111111","now":[20,0]},{"op":"get","span":{"start":"62"}},{"op":"low"}]]}"#;
 
 /// And the log of its replay.
 const THREE_CALLS_LOG: &str =

@@ -1,5 +1,5 @@
 -- Whether a line's place or front is wrong, by the slots.
-use Rattle.std.proofs.Common.{◌≡◌, ◌∙◌, sym, ap, refl, ℕ, zero, suc, ◌+◌, ◌<◌, ◌≤◌, List, [], ◌∷◌, length, take, get_or, replicate, Bool, true, false, ◌||◌, nat_lt, nat_le, Option, Some, None, true≢false, is_some, add-one, arith}
+use Rattle.std.proofs.Common.{◌≡◌, ◌∙◌, inl, inr, sym, ap, refl, ℕ, zero, suc, ◌+◌, ◌<◌, ◌≤◌, List, [], ◌∷◌, length, take, get_or, replicate, Bool, true, false, ◌||◌, ◌&&◌, nat_lt, nat_le, Option, Some, None, true≢false, is_some, add-one, arith}
 use Rattle.std.specs.Prelude.{slice_get, if◌then◌else◌}
 use Rattle.std.proofs.lemmas.Bool.Decides.{nat_tests}
 use Rattle.std.proofs.lemmas.List.{length-replicate}
@@ -7,23 +7,15 @@ use Rattle.std.proofs.lemmas.List.Folds.{list_any_more}
 use Rattle.std.proofs.lemmas.Option.{slice_get-get_or}
 use Rattle.tsc_trace.specs.declared.log.Line.{Line}
 use Rattle.tsc_trace.specs.declared.log.Said.{Said}
-use Rattle.tsc_trace.specs.declared.log.Said.TheVariants as said
-use Rattle.tsc_check.specs.Verdict.{is_add, is_add_at, front_of, adds_in, has_add_at, reaches_above, is_misplaced, is_misplaced_line, is_wrong_place, least}
+use Rattle.tsc_trace.specs.Sayings.{front_of}
+use Rattle.tsc_check.specs.Verdict.{is_add, is_add_at, reach, adds_in, has_add_at, reaches_above, is_misplaced, is_misplaced_line, is_wrong_place, least}
 use Rattle.tsc_check.specs.CheckParts.{last_below, holds_at, adds_there, AreOfLists, ArePlaced}
+use Rattle.tsc_check.proofs.Places.{tested}
 use Rattle.tsc_check.proofs.FirstOther.{none_from_least, least_at}
+use Rattle.tsc_check.proofs.Slots.{reach_of_add, reach_of_lookup}
 
 above_wrong : (n : ℕ) (earlier : List Line) (thread : ℕ) (s : Said) → reaches_above thread (front_of s) earlier ≡ true → is_misplaced n earlier thread s ≡ true
-above_wrong n earlier thread (said.Add place added) e = rw e (or_true (nat_le n place || has_add_at place earlier))
-  where
-    or_true : (b : Bool) → (b || true) ≡ true
-    or_true true = refl
-    or_true false = refl
-above_wrong n earlier thread (said.Get front value) e = rw e (or_true (nat_lt n front))
-  where
-    or_true : (b : Bool) → (b || true) ≡ true
-    or_true true = refl
-    or_true false = refl
-above_wrong n earlier thread (said.Low front time) e = rw e (or_true (nat_lt n front))
+above_wrong n earlier thread s e = rw e (or_true (nat_lt n (reach s) || (is_add s && has_add_at (front_of s) earlier)))
   where
     or_true : (b : Bool) → (b || true) ≡ true
     or_true true = refl
@@ -33,15 +25,26 @@ or_false : (b : Bool) → (b || false) ≡ b
 or_false true = refl
 or_false false = refl
 
+-- one more than a number is above a bound where the number is not below it
+past_bound : (n x : ℕ) → nat_lt n (suc x) ≡ nat_le n x
+past_bound n x = elim (tested (nat_le n x)) [
+  | inl e ↦ past n x e ∙ sym e
+  | inr e ↦ before n x e ∙ sym e
+]
+  where
+    past : (n x : ℕ) → nat_le n x ≡ true → nat_lt n (suc x) ≡ true
+    past n x e = grind (arith, nat_tests)
+
+    before : (n x : ℕ) → nat_le n x ≡ false → nat_lt n (suc x) ≡ false
+    before n x e = grind (arith, nat_tests)
+
 add_wrong : (n : ℕ) (earlier : List Line) (thread : ℕ) (s : Said) → is_add s ≡ true → reaches_above thread (front_of s) earlier ≡ false → is_misplaced n earlier thread s ≡ (nat_le n (front_of s) || has_add_at (front_of s) earlier)
-add_wrong n earlier thread (said.Add place added) add e = rw e (or_false (nat_le n place || has_add_at place earlier))
-add_wrong n earlier thread (said.Get front value) add e = absurd (true≢false (sym add))
-add_wrong n earlier thread (said.Low front time) add e = absurd (true≢false (sym add))
+add_wrong n earlier thread s add e =
+    rw (e, reach_of_add s add, add, past_bound n (front_of s)) (or_false (nat_le n (front_of s) || has_add_at (front_of s) earlier))
 
 lookup_wrong : (n : ℕ) (earlier : List Line) (thread : ℕ) (s : Said) → is_add s ≡ false → reaches_above thread (front_of s) earlier ≡ false → is_misplaced n earlier thread s ≡ nat_lt n (front_of s)
-lookup_wrong n earlier thread (said.Add place added) look e = absurd (true≢false look)
-lookup_wrong n earlier thread (said.Get front value) look e = rw e (or_false (nat_lt n front))
-lookup_wrong n earlier thread (said.Low front time) look e = rw e (or_false (nat_lt n front))
+lookup_wrong n earlier thread s look e =
+    rw (e, reach_of_lookup s look, look) (or_false (nat_lt n (front_of s) || false) ∙ or_false (nat_lt n (front_of s)))
 
 at_most : (a b : ℕ) → b ≤ a → nat_lt a b ≡ false
 at_most a b e = grind (arith, nat_tests)

@@ -1,10 +1,10 @@
 -- Each place below the number of Adds is that of one line, where no two have one place.
-use Rattle.std.proofs.Common.{cond, ◌≡◌, ◌⊎◌, inl, inr, ◌∙◌, sym, ap, refl, ℕ, zero, suc, ◌+◌, ◌<◌, ◌≤◌, List, [], ◌∷◌, Bool, true, false, ◌==◌, true≢false, arith}
+use Rattle.std.proofs.Common.{cond, ◌≡◌, ◌⊎◌, inl, inr, ◌∙◌, sym, ap, refl, ℕ, zero, suc, ◌+◌, ◌<◌, ◌≤◌, List, [], ◌∷◌, Bool, true, false, ◌&&◌, ◌==◌, true≢false, arith}
 use Rattle.std.proofs.lemmas.Bool.Decides.{nat_tests}
 use Rattle.std.proofs.lemmas.List.Sums.{sum_by-cons}
 use Rattle.tsc_trace.specs.declared.log.Line.{Line}
 use Rattle.tsc_trace.specs.declared.log.Said.{Said}
-use Rattle.tsc_trace.specs.declared.log.Said.TheVariants as said
+use Rattle.tsc_trace.specs.Sayings.{front_of}
 use Rattle.tsc_check.specs.Verdict.{is_add, is_add_at, adds_in}
 use Rattle.tsc_check.proofs.Each.{Each, Ordered}
 
@@ -85,9 +85,11 @@ met_once place (suc n) low = elim (tested (place == n)) [
     apart e f = true≢false (sym (same_number place n f) ∙ e)
 
 line_once : (n : ℕ) (s : Said) → ((p : ℕ) → is_add_at p s ≡ true → p < n) → sum_below (λ p. one_if (is_add_at p s)) n ≡ one_if (is_add s)
-line_once n (said.Add place added) below = met_once place n (below place (same_number place place refl))
-line_once n (said.Get front value) below = sum_below-none n
-line_once n (said.Low front time) below = sum_below-none n
+line_once n s below = by_test (is_add s) (front_of s) below
+  where
+    by_test : (b : Bool) (place : ℕ) → ((p : ℕ) → (b && (place == p)) ≡ true → p < n) → sum_below (λ p. one_if (b && (place == p))) n ≡ one_if b
+    by_test true place low = met_once place n (low place (same_number place place refl))
+    by_test false place low = sum_below-none n
 
 cond_one : (b : Bool) → cond b 1 0 ≡ one_if b
 cond_one true = refl

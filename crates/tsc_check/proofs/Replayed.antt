@@ -1,15 +1,20 @@
 -- The log of a replay is that of a run.
-use Rattle.std.proofs.Common.{cond, ◌≡◌, ◌∙◌, sym, ap, refl, ℕ, suc, ◌+◌, ◌≤◌, List, [], ◌∷◌, ◌++◌, length, length-append, append_assoc, append-nil, arith}
+use Rattle.std.proofs.Common.{cond, ◌≡◌, ◌∙◌, inl, inr, sym, ap, refl, ℕ, suc, ◌+◌, ◌≤◌, List, [], ◌∷◌, length, arith}
 use Rattle.std.proofs.lemmas.List.Sums.{sum_by-cons}
 use Rattle.tsc_cache.specs.Settings.{Settings}
-use Rattle.tsc_cache.specs.History.{History, BeginsWith, own_count}
+use Rattle.tsc_cache.specs.History.{History, BeginsWith}
+use Rattle.tsc_cache.proofs.Beginnings.{begins_itself, begins_on}
+use Rattle.tsc_json.specs.Calls.{addition_of, adds}
 use Rattle.tsc_json.specs.declared.trace.Call.{Call}
-use Rattle.tsc_json.specs.declared.trace.Call.TheVariants.{Add, Get, Low}
-use Rattle.tsc_json.specs.declared.trace.Trace.{Trace}
+use Rattle.tsc_json.specs.Traces.{Trace}
 use Rattle.tsc_trace.specs.Log.{said_after, after_call, after_calls, lines_of_list, lines_of_lists, log_of}
 use Rattle.tsc_check.specs.declared.verdict.Verdict.TheVariants.{Right}
-use Rattle.tsc_check.specs.Verdict.{reach, verdict_of}
-use Rattle.tsc_check.specs.TrueLog.{is_add_call, adds_of_list, adds_of_lists, AreTrueLines, AreTrueLists, IsRunOf}
+use Rattle.tsc_check.specs.Verdict.{is_add, reach, verdict_of}
+use Rattle.tsc_check.specs.TrueLog.{adds_of_list, adds_of_lists, AreTrueLines, AreTrueLists, IsRunOf}
+use Rattle.tsc_trace.proofs.Additions.{addition_begins, addition_length}
+use Rattle.tsc_check.proofs.Places.{tested}
+use Rattle.tsc_check.proofs.Slots.{reach_of_add, reach_of_lookup}
+use Rattle.tsc_check.proofs.TrueRuns.{front_said, adds_said}
 use Rattle.tsc_check.proofs.TrueVerdict.{run_is_right}
 
 -- the history after lists, from the list with this number on
@@ -17,34 +22,22 @@ abbrev pub after_lists : ℕ → History → List (List Call) → History
 after_lists thread g [] = g
 after_lists thread g (calls ∷ lists) = after_lists (suc thread) (after_calls thread g calls) lists
 
-begins_on : (h g f : History) → BeginsWith h g → BeginsWith g f → BeginsWith h f
-begins_on h g f a b = (b.0 ++ a.0, a.1 ∙ ap (λ k. k ++ a.0) b.1 ∙ append_assoc f b.0 a.0)
-
-begins_itself : (h : History) → BeginsWith h h
-begins_itself h = ([], sym (append-nil h))
-
-call_begins : (thread : ℕ) (g : History) (call : Call) → BeginsWith (after_call thread g call) g
-call_begins thread g (Add span value now) = (record { seat = thread; number = own_count thread g; span = span; value = value; now = now } ∷ [], refl)
-call_begins thread g (Get span) = begins_itself g
-call_begins thread g Low = begins_itself g
-
 calls_begin : (thread : ℕ) (g : History) (calls : List Call) → BeginsWith (after_calls thread g calls) g
 calls_begin thread g [] = begins_itself g
-calls_begin thread g (call ∷ calls) = begins_on (after_calls thread g (call ∷ calls)) (after_call thread g call) g (calls_begin thread (after_call thread g call) calls) (call_begins thread g call)
+calls_begin thread g (call ∷ calls) = begins_on (after_calls thread g (call ∷ calls)) (after_call thread g call) g (calls_begin thread (after_call thread g call) calls) (addition_begins thread g (addition_of call))
 
 lists_begin : (thread : ℕ) (g : History) (lists : List (List Call)) → BeginsWith (after_lists thread g lists) g
 lists_begin thread g [] = begins_itself g
 lists_begin thread g (calls ∷ lists) = begins_on (after_lists thread g (calls ∷ lists)) (after_calls thread g calls) g (lists_begin (suc thread) (after_calls thread g calls) lists) (calls_begin thread g calls)
 
-call_length : (thread : ℕ) (g : History) (call : Call) → length (after_call thread g call) ≡ length g + cond (is_add_call call) 1 0
-call_length thread g (Add span value now) = length-append g (record { seat = thread; number = own_count thread g; span = span; value = value; now = now } ∷ [])
-call_length thread g (Get span) = omega arith
-call_length thread g Low = omega arith
-
 reach_within : (settings : Settings) (thread : ℕ) (g : History) (call : Call) → reach (said_after settings g call) ≤ length (after_call thread g call)
-reach_within settings thread g (Add span value now) = omega (arith, call_length thread g (Add span value now))
-reach_within settings thread g (Get span) = omega arith
-reach_within settings thread g Low = omega arith
+reach_within settings thread g call =
+    let s = said_after settings g call in
+    let longer : length (after_call thread g call) ≡ length g + cond (is_add s) 1 0 = addition_length thread g (addition_of call) ∙ ap {B = ℕ} (λ b. length g + cond b 1 0) (sym (adds_said settings g call)) in
+    elim (tested (is_add s)) [
+      | inl e ↦ omega (arith, reach_of_add s e, front_said settings g call, longer, ap {B = ℕ} (λ b. cond b 1 0) e)
+      | inr e ↦ omega (arith, reach_of_lookup s e, front_said settings g call, longer, ap {B = ℕ} (λ b. cond b 1 0) e)
+    ]
 
 list_is_true : (settings : Settings) (h : History) (thread index reached : ℕ) (g : History) (calls : List Call) → BeginsWith h (after_calls thread g calls) → reached ≤ length g → AreTrueLines settings h thread index reached calls (lines_of_list settings thread index g calls)
 list_is_true settings h thread index reached g [] b r = tt
@@ -65,7 +58,7 @@ lists_are_true settings h thread g (calls ∷ lists) b = (
 
 calls_length : (thread : ℕ) (g : History) (calls : List Call) → length (after_calls thread g calls) ≡ length g + adds_of_list calls
 calls_length thread g [] = omega arith
-calls_length thread g (call ∷ calls) = omega (arith, calls_length thread (after_call thread g call) calls, call_length thread g call, sum_by-cons (λ c. cond (is_add_call c) 1 0) call calls)
+calls_length thread g (call ∷ calls) = omega (arith, calls_length thread (after_call thread g call) calls, addition_length thread g (addition_of call), sum_by-cons (λ c. cond (adds c) 1 0) call calls)
 
 lists_length : (thread : ℕ) (g : History) (lists : List (List Call)) → length (after_lists thread g lists) ≡ length g + adds_of_lists lists
 lists_length thread g [] = omega arith

@@ -1,5 +1,5 @@
 -- A log whose verdict is right is that of a run.
-use Rattle.std.proofs.Common.{◌≡◌, ◌⊎◌, inl, inr, ◌∙◌, sym, ap, subst, refl, ℕ, zero, suc, ◌+◌, max, ◌<◌, ◌≤◌, ◌-◌, List, [], ◌∷◌, ◌++◌, length, take, Bool, true, false, not, ◌&&◌, ◌||◌, ◌==◌, nat_lt, Option, Some, None, true≢false, length-append, append_assoc, append-nil, arith}
+use Rattle.std.proofs.Common.{cond, ◌≡◌, ◌⊎◌, inl, inr, ◌∙◌, sym, ap, subst, refl, ℕ, zero, suc, ◌+◌, max, ◌<◌, ◌≤◌, ◌-◌, List, [], ◌∷◌, ◌++◌, length, take, Bool, true, false, not, ◌&&◌, ◌||◌, ◌==◌, nat_lt, Option, Some, None, true≢false, append-nil, arith}
 use Rattle.std.specs.Prelude.{slice_get}
 use Rattle.std.proofs.lemmas.Bool.Decides.{nat_tests}
 use Rattle.std.proofs.lemmas.Option.{slice_get_within}
@@ -7,19 +7,22 @@ use Rattle.tsc_time.specs.OwnedTime.{OwnedTime}
 use Rattle.tsc_time.proofs.TimeOrder.{is_same_time-Decides}
 use Rattle.tsc_time.proofs.SharedOwner.{is_same_owner-Decides}
 use Rattle.tsc_cache.specs.Settings.{Settings}
-use Rattle.tsc_cache.specs.declared.history.Entry.{Entry}
 use Rattle.tsc_cache.specs.declared.added.Added.{Added}
-use Rattle.tsc_cache.specs.History.{History, BeginsWith, own_count}
+use Rattle.tsc_cache.specs.History.{History, BeginsWith}
+use Rattle.tsc_cache.proofs.Beginnings.{begins_on}
+use Rattle.tsc_json.specs.Calls.{addition_of, adds}
 use Rattle.tsc_json.specs.declared.trace.Call.{Call}
-use Rattle.tsc_json.specs.declared.trace.Call.TheVariants.{Add, Get, Low}
-use Rattle.tsc_json.specs.declared.trace.Trace.{Trace}
+use Rattle.tsc_json.specs.Traces.{Trace}
 use Rattle.tsc_trace.specs.Log.{said_after, after_call}
+use Rattle.tsc_trace.proofs.Additions.{addition_begins, addition_length, no_addition}
+use Rattle.tsc_trace.proofs.SaidOfCalls.{tells_where_adds}
 use Rattle.tsc_trace.specs.declared.log.Line.{Line}
 use Rattle.tsc_trace.specs.declared.log.Said.{Said}
 use Rattle.tsc_trace.specs.declared.log.Said.TheVariants as said
 use Rattle.tsc_check.specs.declared.verdict.Verdict.{Verdict}
 use Rattle.tsc_check.specs.declared.verdict.Verdict.TheVariants.{Right, WrongCall, WrongPlace, WrongAnswer}
-use Rattle.tsc_check.specs.Verdict.{PlacedCall, calls_of, calls_of_list, calls_of_lists, is_of_kind, is_line_of, is_wrong_pair, is_wrong_call, reach, front_of, is_add, is_add_at, adds_in, reaches_above, is_wrong_place, first_adds, is_same_bit, is_same_added, is_same_value, is_same_answer, is_untrue_pair, is_wrong_answer, least, named_or, verdict_of}
+use Rattle.tsc_trace.specs.Sayings.{front_of}
+use Rattle.tsc_check.specs.Verdict.{PlacedCall, calls_of, calls_of_list, calls_of_lists, is_of_kind, is_line_of, is_wrong_pair, is_wrong_call, reach, is_add, is_add_at, adds_in, reaches_above, is_wrong_place, first_adds, is_same_bit, is_same_added, is_same_value, is_same_answer, is_untrue_pair, is_wrong_answer, least, named_or, verdict_of}
 use Rattle.tsc_check.specs.TrueLog.{AreTrueLines, AreTrueLists, IsRunOf}
 use Rattle.tsc_check.specs.CheckParts.{adds_there, AreInOrder}
 use Rattle.tsc_check.proofs.Each.{Each, Ordered}
@@ -88,9 +91,7 @@ add_there : (lines : List Line) (i p : ℕ) (line : Line) → slice_get lines i 
 add_there lines i p line at add = at_line lines i line (λ l. is_add_at p l.said) at ∙ add
 
 kind_of_add : (s : Said) (p : ℕ) → is_add_at p s ≡ true → (is_add s ≡ true) × (front_of s ≡ p)
-kind_of_add (said.Add place added) p e = (refl, is_number place p e)
-kind_of_add (said.Get front value) p e = absurd (true≢false (sym e))
-kind_of_add (said.Low front time) p e = absurd (true≢false (sym e))
+kind_of_add s p e = let parts = both_parts (is_add s) (front_of s == p) e in (parts.0, is_number (front_of s) p parts.1)
 
 line_is_fine : (trace : Trace) (lines : List Line) → AreInOrder trace lines → (i : ℕ) (line : Line) → slice_get lines i ≡ Some line → is_wrong_place lines i ≡ false
 line_is_fine trace lines order i line at = none_from_least (is_wrong_place lines) (length lines) order.places i (slice_get_within lines i line at)
@@ -131,21 +132,9 @@ call_at_line trace lines pass i line at c of = not_false (is_line_of c line) (sy
 
 -- one entry more, where the call is of the kind of an Add's answer
 one_longer : (thread : ℕ) (g : History) (call : Call) (s : Said) → is_of_kind call s ≡ true → is_add s ≡ true → length (after_call thread g call) ≡ suc (length g)
-one_longer thread g (Add span value now) s kind add = let e : Entry = record { seat = thread; number = own_count thread g; span = span; value = value; now = now } in omega (arith, length-append g (e ∷ []))
-one_longer thread g (Get span) (said.Add place added) kind add = absurd (true≢false (sym kind))
-one_longer thread g (Get span) (said.Get front value) kind add = absurd (true≢false (sym add))
-one_longer thread g (Get span) (said.Low front time) kind add = absurd (true≢false (sym add))
-one_longer thread g Low (said.Add place added) kind add = absurd (true≢false (sym kind))
-one_longer thread g Low (said.Get front value) kind add = absurd (true≢false (sym add))
-one_longer thread g Low (said.Low front time) kind add = absurd (true≢false (sym add))
-
-call_begins : (thread : ℕ) (g : History) (call : Call) → BeginsWith (after_call thread g call) g
-call_begins thread g (Add span value now) = (record { seat = thread; number = own_count thread g; span = span; value = value; now = now } ∷ [], refl)
-call_begins thread g (Get span) = ([], sym (append-nil g))
-call_begins thread g Low = ([], sym (append-nil g))
-
-begins_on : (h g f : History) → BeginsWith h g → BeginsWith g f → BeginsWith h f
-begins_on h g f a b = (b.0 ++ a.0, a.1 ∙ ap (λ k. k ++ a.0) b.1 ∙ append_assoc f b.0 a.0)
+one_longer thread g call s kind add =
+    let one : ◌≡◌ {A = ℕ} (cond (adds call) 1 0) 1 = ap {B = ℕ} (λ b. cond b 1 0) (sym (tells_where_adds call s kind) ∙ add) in
+    omega (arith, addition_length thread g (addition_of call), one)
 
 -- what the next Add makes of those before it
 record IsNextAdd (trace : Trace) (lines : List Line) (p : ℕ) : Type 0 where
@@ -162,7 +151,7 @@ next_add trace lines pass p low =
     let kind = (both_parts _ _ (call_at_line trace lines pass f.0 f.1 f.2 c.call c.at)).1 in
     record {
       longer = ap length (sym next.1) ∙ one_longer next.0 g c.call.call f.1.said kind (kind_of_add f.1.said p f.3).0;
-      begins = subst (λ h. BeginsWith h g) next.1 (call_begins next.0 g c.call.call);
+      begins = subst (λ h. BeginsWith h g) next.1 (addition_begins next.0 g (addition_of c.call.call));
     }
 
 adds_length : (trace : Trace) (lines : List Line) → IsPassed trace lines → (p : ℕ) → p ≤ adds_in lines → length (first_adds (calls_of trace) lines p) ≡ p
@@ -208,14 +197,9 @@ same_value v w e =
 
 same_said : (a b : Said) → is_same_answer a b ≡ true → front_of a ≡ front_of b → a ≡ b
 same_said (said.Add p x) (said.Add q y) e f = let s = same_added x y e in λ i. said.Add (f i) (s i)
-same_said (said.Add p x) (said.Get g w) e f = absurd (true≢false (sym e))
-same_said (said.Add p x) (said.Low g u) e f = absurd (true≢false (sym e))
-same_said (said.Get g v) (said.Add q y) e f = absurd (true≢false (sym e))
 same_said (said.Get g v) (said.Get k w) e f = let s = same_value v w e in λ i. said.Get (f i) (s i)
-same_said (said.Get g v) (said.Low k u) e f = absurd (true≢false (sym e))
-same_said (said.Low g t) (said.Add q y) e f = absurd (true≢false (sym e))
-same_said (said.Low g t) (said.Get k w) e f = absurd (true≢false (sym e))
 same_said (said.Low g t) (said.Low k u) e f = let s = (is_same_time-Decides t u).0 e in λ i. said.Low (f i) (s i)
+same_said a b e f = absurd (true≢false (sym e))
 
 not_false : (b : Bool) → not b ≡ false → b ≡ true
 not_false true e = refl
@@ -224,27 +208,27 @@ not_false false e = absurd (true≢false e)
 -- the history goes on with the call's own entry
 goes_on : (trace : Trace) (lines : List Line) → IsPassed trace lines → (i : ℕ) (line : Line) → slice_get lines i ≡ Some line → (c : PlacedCall) → slice_get (calls_of trace) i ≡ Some c
     → BeginsWith (first_adds (calls_of trace) lines (adds_in lines)) (after_call c.thread (first_adds (calls_of trace) lines (front_of line.said)) c.call)
-goes_on trace lines pass i line at c of = by_call c.call line.said refl refl (both_parts ((line.thread == c.thread) && (line.index == c.index)) (is_of_kind c.call line.said) (call_at_line trace lines pass i line at c of)).1
+goes_on trace lines pass i line at c of =
+    let place = front_of line.said in
+    let g = first_adds (calls_of trace) lines place in
+    let all = first_adds (calls_of trace) lines (adds_in lines) in
+    elim (tested (is_add line.said)) [
+      | inl e ↦
+          let add : is_add_at place line.said ≡ true = rw (e, same_number place place refl) refl in
+          let there = add_there lines i place line at add in
+          let below : place < adds_in lines = all_below_at trace lines pass.order i line at place add in
+          let one : first_adds (calls_of trace) lines (suc place) ≡ after_call c.thread g c.call = one_put place (calls_of trace) lines g i c of there (λ j t. only_add trace lines pass.order place i there j t) in
+          subst (BeginsWith all) one (adds_begin_all trace lines pass (suc place) (omega (arith, below)))
+      | inr e ↦
+          let none : adds c.call ≡ false = sym (tells_where_adds c.call line.said kind) ∙ e in
+          subst (BeginsWith all) (sym (no_addition c.thread g (addition_of c.call) none)) (adds_begin_all trace lines pass place within)
+    ]
   where
     within : front_of line.said ≤ adds_in lines
     within = (fine_line lines i line at (line_is_fine trace lines pass.order i line at)).within
 
-    by_call : (call : Call) (s : Said) → c.call ≡ call → line.said ≡ s → is_of_kind call s ≡ true → BeginsWith (first_adds (calls_of trace) lines (adds_in lines)) (after_call c.thread (first_adds (calls_of trace) lines (front_of line.said)) call)
-    by_call (Get span) s e f k = adds_begin_all trace lines pass (front_of line.said) within
-    by_call Low s e f k = adds_begin_all trace lines pass (front_of line.said) within
-    by_call (Add span value now) (said.Get front found) e f k = absurd (true≢false (sym k))
-    by_call (Add span value now) (said.Low front time) e f k = absurd (true≢false (sym k))
-    by_call (Add span value now) (said.Add place added) e f k =
-        let add : is_add_at place line.said ≡ true = ap (is_add_at place) f ∙ same_number place place refl in
-        let there = add_there lines i place line at add in
-        let g = first_adds (calls_of trace) lines place in
-        let front : front_of line.said ≡ place = ap front_of f in
-        let below : place < adds_in lines = all_below_at trace lines pass.order i line at place add in
-        let one : first_adds (calls_of trace) lines (suc place) ≡ after_call c.thread g c.call = one_put place (calls_of trace) lines g i c of there (λ j t. only_add trace lines pass.order place i there j t) in
-        let begins = adds_begin_all trace lines pass (suc place) (omega (arith, below)) in
-        let here : BeginsWith (first_adds (calls_of trace) lines (adds_in lines)) (after_call c.thread g (Add span value now)) =
-        subst (λ call. BeginsWith (first_adds (calls_of trace) lines (adds_in lines)) (after_call c.thread g call)) e (subst (BeginsWith (first_adds (calls_of trace) lines (adds_in lines))) one begins) in
-        subst (λ n. BeginsWith (first_adds (calls_of trace) lines (adds_in lines)) (after_call c.thread (first_adds (calls_of trace) lines n) (Add span value now))) (sym front) here
+    kind : is_of_kind c.call line.said ≡ true
+    kind = (both_parts ((line.thread == c.thread) && (line.index == c.index)) (is_of_kind c.call line.said) (call_at_line trace lines pass i line at c of)).1
 
 line_is_true : (trace : Trace) (lines : List Line) → IsPassed trace lines → (i : ℕ) (line : Line) → slice_get lines i ≡ Some line → (c : PlacedCall) → slice_get (calls_of trace) i ≡ Some c
     → IsTrueOf trace.config (first_adds (calls_of trace) lines (adds_in lines)) c line

@@ -1,13 +1,13 @@
 -- One more line in the order.
-use Rattle.std.proofs.Common.{◌≡◌, ◌⊎◌, inl, inr, ◌∙◌, sym, ap, refl, ℕ, zero, suc, ◌<◌, ◌≤◌, List, [], ◌∷◌, ◌++◌, length, take, set, get_or, Bool, true, false, ◌||◌, ◌&&◌, ◌==◌, nat_lt, nat_le, Option, Some, None, true≢false, length-append, length-set, get_or-set_other, get_or-set_same, add-one, arith}
+use Rattle.std.proofs.Common.{◌≡◌, ◌⊎◌, inl, inr, ◌∙◌, sym, ap, refl, ℕ, zero, suc, ◌<◌, ◌≤◌, List, [], ◌∷◌, ◌++◌, length, take, set, get_or, Bool, true, false, not, ◌||◌, ◌&&◌, ◌==◌, nat_lt, nat_le, Option, Some, None, true≢false, length-append, length-set, get_or-set_other, get_or-set_same, add-one, arith}
 use Rattle.std.specs.Prelude.{slice_get, if◌then◌else◌}
 use Rattle.std.proofs.lemmas.Bool.Decides.{nat_tests}
 use Rattle.std.proofs.lemmas.List.Folds.{list_any_more}
 use Rattle.std.proofs.lemmas.Option.{slice_get_within, get_or_from_slice_get}
 use Rattle.tsc_trace.specs.declared.log.Line.{Line}
 use Rattle.tsc_trace.specs.declared.log.Said.{Said}
-use Rattle.tsc_trace.specs.declared.log.Said.TheVariants as said
-use Rattle.tsc_check.specs.Verdict.{is_add, is_add_at, front_of, reach, adds_in, reaches_above, is_misplaced, is_misplaced_line, is_wrong_place}
+use Rattle.tsc_trace.specs.Sayings.{front_of}
+use Rattle.tsc_check.specs.Verdict.{is_add, is_add_at, reach, adds_in, reaches_above, is_misplaced, is_misplaced_line, is_wrong_place}
 use Rattle.tsc_check.specs.CheckParts.{last_below, holds_at, is_lookup_at, adds_there, looks_up_there, ArePlaced}
 use Rattle.tsc_check.proofs.Places.{tested}
 
@@ -55,6 +55,17 @@ wider n old new low = elim (tested (nat_lt n old)) [
     above : (a b : ℕ) → a < b → nat_lt a b ≡ true
     above a b e = grind (arith, nat_tests)
 
+-- ---- what an answer reaches
+
+pub reach_of_add : (s : Said) → is_add s ≡ true → reach s ≡ suc (front_of s)
+reach_of_add s e = ap (λ b. if b then suc (front_of s) else front_of s) e
+
+pub reach_of_lookup : (s : Said) → is_add s ≡ false → reach s ≡ front_of s
+reach_of_lookup s e = ap (λ b. if b then suc (front_of s) else front_of s) e
+
+pub front_within_reach : (s : Said) → front_of s ≤ reach s
+front_within_reach s = elim (tested (is_add s)) [ inl e ↦ omega (arith, reach_of_add s e) | inr e ↦ omega (arith, reach_of_lookup s e) ]
+
 -- what is known of a line that is not misplaced
 pub record IsFine (n : ℕ) (earlier : List Line) (thread : ℕ) (s : Said) : Type 0 where
   pub within : front_of s ≤ n
@@ -68,21 +79,12 @@ or_parts false b e = (refl, e)
 not_above : (a b : ℕ) → nat_lt a b ≡ false → b ≤ a
 not_above a b e = grind (arith, nat_tests)
 
-below_it : (a b : ℕ) → nat_le a b ≡ false → b < a
-below_it a b e = grind (arith, nat_tests)
-
 pub fine_said : (n : ℕ) (earlier : List Line) (thread : ℕ) (s : Said) → is_misplaced n earlier thread s ≡ false → IsFine n earlier thread s
-fine_said n earlier thread (said.Add place added) f =
+fine_said n earlier thread s f =
     let outer = or_parts _ _ f in
     let inner = or_parts _ _ outer.0 in
-    let low = below_it n place inner.0 in
-    record { within = omega (arith, low); known = outer.1; below = λ _. low }
-fine_said n earlier thread (said.Get front value) f =
-    let parts = or_parts _ _ f in
-    record { within = not_above n front parts.0; known = parts.1; below = λ e. absurd (true≢false (sym e)) }
-fine_said n earlier thread (said.Low front time) f =
-    let parts = or_parts _ _ f in
-    record { within = not_above n front parts.0; known = parts.1; below = λ e. absurd (true≢false (sym e)) }
+    let low : reach s ≤ n = not_above n (reach s) inner.0 in
+    record { within = omega (arith, low, front_within_reach s); known = outer.1; below = λ e. omega (arith, low, reach_of_add s e) }
 
 pub fine_line : (lines : List Line) (i : ℕ) (line : Line) → slice_get lines i ≡ Some line → is_wrong_place lines i ≡ false → IsFine (adds_in lines) (take i lines) line.thread line.said
 fine_line lines i line at fine = fine_said (adds_in lines) (take i lines) line.thread line.said (sym (ap (is_misplaced_line (adds_in lines) (take i lines)) at) ∙ fine)
@@ -97,34 +99,16 @@ lookups_more : (lines : List Line) (i f : ℕ) (line : Line) → slice_get lines
 lookups_more lines i f line at = ap (λ b. if b then Some i else last_below (looks_up_there lines f) i) (at_line lines i line (λ l. is_lookup_at f l.said) at)
 
 place_of_add : (s : Said) (p : ℕ) → is_add s ≡ true → is_add_at p s ≡ (front_of s == p)
-place_of_add (said.Add place added) p e = refl
-place_of_add (said.Get front value) p e = absurd (true≢false (sym e))
-place_of_add (said.Low front time) p e = absurd (true≢false (sym e))
+place_of_add s p e = ap (λ b. b && (front_of s == p)) e
 
 no_lookup : (s : Said) (f : ℕ) → is_add s ≡ true → is_lookup_at f s ≡ false
-no_lookup (said.Add place added) f e = refl
-no_lookup (said.Get front value) f e = absurd (true≢false (sym e))
-no_lookup (said.Low front time) f e = absurd (true≢false (sym e))
+no_lookup s f e = ap (λ b. not b && (front_of s == f)) e
 
 no_add : (s : Said) (p : ℕ) → is_add s ≡ false → is_add_at p s ≡ false
-no_add (said.Add place added) p e = absurd (true≢false e)
-no_add (said.Get front value) p e = refl
-no_add (said.Low front time) p e = refl
+no_add s p e = ap (λ b. b && (front_of s == p)) e
 
 front_of_lookup : (s : Said) (f : ℕ) → is_add s ≡ false → is_lookup_at f s ≡ (front_of s == f)
-front_of_lookup (said.Add place added) f e = absurd (true≢false e)
-front_of_lookup (said.Get front value) f e = refl
-front_of_lookup (said.Low front time) f e = refl
-
-reach_of_add : (s : Said) → is_add s ≡ true → reach s ≡ suc (front_of s)
-reach_of_add (said.Add place added) e = refl
-reach_of_add (said.Get front value) e = absurd (true≢false (sym e))
-reach_of_add (said.Low front time) e = absurd (true≢false (sym e))
-
-reach_of_lookup : (s : Said) → is_add s ≡ false → reach s ≡ front_of s
-reach_of_lookup (said.Add place added) e = absurd (true≢false e)
-reach_of_lookup (said.Get front value) e = refl
-reach_of_lookup (said.Low front time) e = refl
+front_of_lookup s f e = ap (λ b. not b && (front_of s == f)) e
 
 get_last : {X : Type 0} (xs : List X) (x d : X) (j : ℕ) → j ≡ length xs → get_or (xs ++ x ∷ []) j d ≡ x
 get_last [] x d zero e = refl

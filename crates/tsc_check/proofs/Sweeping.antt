@@ -5,12 +5,12 @@ use Rattle.std.proofs.lemmas.Bool.Decides.{nat_tests}
 use Rattle.std.proofs.lemmas.Option.{slice_get_within}
 use Rattle.tsc_cache.specs.History.{History}
 use Rattle.tsc_json.specs.declared.trace.Call.{Call}
-use Rattle.tsc_json.specs.declared.trace.Trace.{Trace}
+use Rattle.tsc_json.specs.Traces.{Trace}
 use Rattle.tsc_trace.specs.Log.{said_after, after_call}
 use Rattle.tsc_trace.specs.declared.log.Line.{Line}
 use Rattle.tsc_trace.specs.declared.log.Said.{Said}
-use Rattle.tsc_trace.specs.declared.log.Said.TheVariants as said
-use Rattle.tsc_check.specs.Verdict.{PlacedCall, calls_of_list, calls_of_lists, calls_of, is_line_of, is_wrong_pair, is_wrong_call, is_add, is_add_at, front_of, adds_in, has_add_at, is_misplaced, is_misplaced_line, is_wrong_place, is_wrong_answer, is_untrue_pair, is_same_answer, with_adds_at, first_adds, least}
+use Rattle.tsc_trace.specs.Sayings.{front_of}
+use Rattle.tsc_check.specs.Verdict.{PlacedCall, calls_of_list, calls_of_lists, calls_of, is_of_kind, is_line_of, is_wrong_pair, is_wrong_call, is_add, is_add_at, adds_in, has_add_at, is_misplaced, is_misplaced_line, is_wrong_place, is_wrong_answer, is_untrue_pair, is_same_answer, with_adds_at, first_adds, least}
 use Rattle.tsc_check.specs.CheckParts.{ArePlaced, first_other, last_below, holds_at, is_lookup_at, adds_there, looks_up_there, is_before_front, call_in, AreInOrder, Lowers, LowersAt}
 use Rattle.tsc_check.proofs.Places.{tested}
 use Rattle.tsc_check.proofs.FirstOther.{NoneBelow, none_from_least, least_none_below, least_at, right_when_none}
@@ -64,12 +64,13 @@ pub record HasCall (trace : Trace) (lines : List Line) (i : ℕ) (line : Line) :
   pub call : PlacedCall
   pub at : slice_get (calls_of trace) i ≡ Some call
   pub there : call_in (slice_get trace.threads line.thread) line.index ≡ Some call.call
+  pub kind : is_of_kind call.call line.said ≡ true
 
-line_parts : (c : PlacedCall) (line : Line) → is_line_of c line ≡ true → (line.thread ≡ c.thread) × (line.index ≡ c.index)
+line_parts : (c : PlacedCall) (line : Line) → is_line_of c line ≡ true → (line.thread ≡ c.thread) × (line.index ≡ c.index) × (is_of_kind c.call line.said ≡ true)
 line_parts c line e =
     let outer = both_parts _ _ e in
     let inner = both_parts _ _ outer.0 in
-    (is_number line.thread c.thread inner.0, is_number line.index c.index inner.1)
+    (is_number line.thread c.thread inner.0, is_number line.index c.index inner.1, outer.1)
 
 pub has_call : (trace : Trace) (lines : List Line) → first_other 0 (calls_of trace) lines ≡ None → (i : ℕ) (line : Line) → slice_get lines i ≡ Some line → HasCall trace lines i line
 has_call trace lines order i line at = by_call (slice_get (calls_of trace) i) refl
@@ -87,6 +88,7 @@ has_call trace lines order i line at = by_call (slice_get (calls_of trace) i) re
           call = c;
           at = e;
           there = ap (λ n. call_in (slice_get trace.threads n) line.index) (omega (arith, parts.0, f.1)) ∙ ap (call_in (slice_get trace.threads f.0)) parts.1 ∙ f.2;
+          kind = parts.2;
         }
       where
         not_false : (b : Bool) → not b ≡ false → b ≡ true
@@ -98,14 +100,14 @@ wrong_at : (trace : Trace) (lines : List Line) (i : ℕ) (line : Line) (c : Plac
 wrong_at trace lines i line c at of = ap (λ o. is_untrue_pair trace lines o (slice_get lines i)) of ∙ ap (is_untrue_pair trace lines (Some c)) at
 
 lookup_parts : (s : Said) (f : ℕ) → is_lookup_at f s ≡ true → (is_add s ≡ false) × (front_of s ≡ f)
-lookup_parts (said.Add place added) f e = absurd (true≢false (sym e))
-lookup_parts (said.Get front value) f e = (refl, is_number front f e)
-lookup_parts (said.Low front time) f e = (refl, is_number front f e)
+lookup_parts s f e = let parts = both_parts (not (is_add s)) (front_of s == f) e in (not_true (is_add s) parts.0, is_number (front_of s) f parts.1)
+  where
+    not_true : (b : Bool) → not b ≡ true → b ≡ false
+    not_true true h = absurd (true≢false (sym h))
+    not_true false h = refl
 
 add_parts : (s : Said) (p : ℕ) → is_add_at p s ≡ true → (is_add s ≡ true) × (front_of s ≡ p)
-add_parts (said.Add place added) p e = (refl, is_number place p e)
-add_parts (said.Get front value) p e = absurd (true≢false (sym e))
-add_parts (said.Low front time) p e = absurd (true≢false (sym e))
+add_parts s p e = let parts = both_parts (is_add s) (front_of s == p) e in (parts.0, is_number (front_of s) p parts.1)
 
 pub at_line : (lines : List Line) (i : ℕ) (line : Line) (test : Line → Bool) → slice_get lines i ≡ Some line → holds_at test (slice_get lines i) ≡ test line
 at_line lines i line test at = ap (holds_at test) at
@@ -127,13 +129,13 @@ lookup_told trace lines order i line at call there other stands tells front look
     ∙ sym (wrong_at trace lines i line c.call at c.at)
 
 pub add_told : (trace : Trace) (lines : List Line) → AreInOrder trace lines → (i : ℕ) (line : Line) → slice_get lines i ≡ Some line → (call : Call) → call_in (slice_get trace.threads line.thread) line.index ≡ Some call
-    → (other : Bool) (stands : History → Type 0) → ((h : History) → stands h → is_add line.said ≡ true → other ≡ not (is_same_answer line.said (said_after trace.config h call)))
+    → (other : Bool) (stands : History → Type 0) → ((h : History) → stands h → is_add line.said ≡ true → is_of_kind call line.said ≡ true → other ≡ not (is_same_answer line.said (said_after trace.config h call)))
     → (place : ℕ) → adds_there lines place i ≡ true → stands (first_adds (calls_of trace) lines place) → other ≡ is_wrong_answer trace lines i
 add_told trace lines order i line at call there other stands tells place adds s =
     let c = has_call trace lines order.calls i line at in
     let same : call ≡ c.call.call = same_some call c.call.call (sym there ∙ c.there) in
     let parts = add_parts line.said place (sym (at_line lines i line (λ l. is_add_at place l.said) at) ∙ adds) in
-    tells (first_adds (calls_of trace) lines place) s parts.0
+    tells (first_adds (calls_of trace) lines place) s parts.0 (ap (λ d. is_of_kind d line.said) same ∙ c.kind)
     ∙ ap (λ d. not (is_same_answer line.said (said_after trace.config (first_adds (calls_of trace) lines place) d))) same
     ∙ ap (λ f. not (is_same_answer line.said (said_after trace.config (first_adds (calls_of trace) lines f) c.call.call))) (sym parts.1)
     ∙ sym (wrong_at trace lines i line c.call at c.at)
@@ -166,14 +168,15 @@ last_some test (suc n) i low e = elim (tested (test n)) [
 add_is_taken : (lines : List Line) (j p : ℕ) (line : Line) → slice_get lines j ≡ Some line → is_add_at p line.said ≡ true → has_add_at p (take j lines) ≡ true → is_wrong_place lines j ≡ true
 add_is_taken lines j p line at add taken = ap (is_misplaced_line (adds_in lines) (take j lines)) at ∙ by_said line.said add
   where
+    or_true : (b : Bool) → (b || true) ≡ true
+    or_true true = refl
+    or_true false = refl
+
     by_said : (s : Said) → is_add_at p s ≡ true → is_misplaced (adds_in lines) (take j lines) line.thread s ≡ true
-    by_said (said.Add place added) e = rw (is_number place p e, taken, or_true (nat_le (adds_in lines) p)) refl
-      where
-        or_true : (b : Bool) → (b || true) ≡ true
-        or_true true = refl
-        or_true false = refl
-    by_said (said.Get front value) e = absurd (true≢false (sym e))
-    by_said (said.Low front time) e = absurd (true≢false (sym e))
+    by_said s e =
+        let parts = add_parts s p e in
+        let there : has_add_at (front_of s) (take j lines) ≡ true = ap (λ q. has_add_at q (take j lines)) parts.1 ∙ taken in
+        rw (parts.0, there, or_true (nat_lt (adds_in lines) (suc (front_of s)))) refl
 
 holds_some : (lines : List Line) (j : ℕ) (test : Line → Bool) → holds_at test (slice_get lines j) ≡ true → (line : Line) × (slice_get lines j ≡ Some line) × (test line ≡ true)
 holds_some lines j test e = by_line (slice_get lines j) refl e
@@ -379,14 +382,13 @@ below_next lines f j e =
         last : (a : ℕ) → nat_lt a (suc f) ≡ true → nat_lt a f ≡ false → (a == f) ≡ true
         last a t g = grind (arith, nat_tests)
 
-    or_false : (b : Bool) → (b || false) ≡ b
-    or_false true = refl
-    or_false false = refl
+    -- it is one of the two, whichever it is
+    one_of_both : (b m : Bool) → m ≡ true → ((not b && m) || (b && m)) ≡ true
+    one_of_both true m e = e
+    one_of_both false m e = rw e refl
 
     by_said : (s : Said) → nat_lt (front_of s) (suc f) ≡ true → (nat_lt (front_of s) f ≡ true) ⊎ ((is_lookup_at f s || is_add_at f s) ≡ true)
-    by_said (said.Add place added) t = here place t
-    by_said (said.Get front value) t = elim (here front t) [ inl g ↦ inl g | inr g ↦ inr (or_false (front == f) ∙ g) ]
-    by_said (said.Low front time) t = elim (here front t) [ inl g ↦ inl g | inr g ↦ inr (or_false (front == f) ∙ g) ]
+    by_said s t = elim (here (front_of s) t) [ inl g ↦ inl g | inr g ↦ inr (one_of_both (is_add s) (front_of s == f) g) ]
 
 pub lowers_next : (test : ℕ → Bool) (lines : List Line) (f old mid new : ℕ) → Lowers test (is_before_front lines f) old mid → Lowers test (λ j. looks_up_there lines f j || adds_there lines f j) mid new → Lowers test (is_before_front lines (suc f)) old new
 lowers_next test lines f old mid new l m = record {

@@ -2,16 +2,17 @@
 use Rattle.std.proofs.Common.{cond, ◌≡◌, ◌∙◌, sym, ap, refl, ℕ, suc, ◌≤◌, List, [], ◌∷◌, ◌++◌, length, arith}
 use Rattle.std.proofs.lemmas.List.Sums.{sum_by-cons, sum_by-append}
 use Rattle.tsc_cache.specs.Settings.{Settings}
-use Rattle.tsc_cache.specs.History.{History, BeginsWith}
+use Rattle.tsc_cache.specs.History.{History, BeginsWith, state_of}
+use Rattle.tsc_json.specs.Calls.{adds}
 use Rattle.tsc_json.specs.declared.trace.Call.{Call}
-use Rattle.tsc_json.specs.declared.trace.Call.TheVariants.{Add, Get, Low}
 use Rattle.tsc_trace.specs.Log.{said_after, after_call}
 use Rattle.tsc_trace.specs.declared.log.Line.{Line}
-use Rattle.tsc_trace.specs.declared.log.Said.{Said}
-use Rattle.tsc_trace.specs.declared.log.Said.TheVariants as said
-use Rattle.tsc_check.specs.Verdict.{PlacedCall, calls_of_list, calls_of_lists, reach, front_of, is_add, adds_in}
-use Rattle.tsc_check.specs.TrueLog.{is_add_call, adds_of_list, adds_of_lists, IsTrueLine, AreTrueLines, AreTrueLists}
+use Rattle.tsc_trace.proofs.SaidOfCalls.{front_in, tells_in}
+use Rattle.tsc_trace.specs.Sayings.{front_of}
+use Rattle.tsc_check.specs.Verdict.{PlacedCall, calls_of_list, calls_of_lists, reach, is_add, adds_in}
+use Rattle.tsc_check.specs.TrueLog.{adds_of_list, adds_of_lists, IsTrueLine, AreTrueLines, AreTrueLists}
 use Rattle.tsc_check.proofs.Each.{Each, Ordered, each_append, each_weaker, ordered_append}
+use Rattle.tsc_check.proofs.Slots.{front_within_reach}
 
 -- the line of a call tells the truth of a history
 pub record IsTrueOf (settings : Settings) (h : History) (c : PlacedCall) (line : Line) : Type 0 where
@@ -40,15 +41,11 @@ GoesBefore a b = a.thread ≡ b.thread → reach a.said ≤ front_of b.said
 abbrev pub IsOfList : ℕ → ℕ → Line → Type 0
 IsOfList thread reached line = (line.thread ≡ thread) × (reached ≤ front_of line.said)
 
-pub front_within_reach : (s : Said) → front_of s ≤ reach s
-front_within_reach (said.Add place added) = omega arith
-front_within_reach (said.Get front value) = omega arith
-front_within_reach (said.Low front time) = omega arith
-
 pub front_said : (settings : Settings) (before : History) (call : Call) → front_of (said_after settings before call) ≡ length before
-front_said settings before (Add span value now) = refl
-front_said settings before (Get span) = refl
-front_said settings before Low = refl
+front_said settings before call = front_in settings (state_of settings before) (length before) call
+
+pub adds_said : (settings : Settings) (before : History) (call : Call) → is_add (said_after settings before call) ≡ adds call
+adds_said settings before call = tells_in settings (state_of settings before) (length before) call
 
 true_of_list : (settings : Settings) (h : History) (thread index reached : ℕ) (call : Call) (line : Line) → IsTrueLine settings h thread index reached call line → IsOfList thread reached line
 true_of_list settings h thread index reached call line t =
@@ -110,20 +107,15 @@ true_lists settings h thread (calls ∷ lists) lines a =
 
 -- ---- how many Adds
 
-kind_said : (settings : Settings) (before : History) (call : Call) → is_add (said_after settings before call) ≡ is_add_call call
-kind_said settings before (Add span value now) = refl
-kind_said settings before (Get span) = refl
-kind_said settings before Low = refl
-
 pub adds_of_true_list : (settings : Settings) (h : History) (thread index reached : ℕ) (calls : List Call) (lines : List Line) → AreTrueLines settings h thread index reached calls lines → adds_in lines ≡ adds_of_list calls
 adds_of_true_list settings h thread index reached [] [] a = refl
 adds_of_true_list settings h thread index reached [] (line ∷ lines) a = absurd a
 adds_of_true_list settings h thread index reached (call ∷ calls) [] a = absurd a
 adds_of_true_list settings h thread index reached (call ∷ calls) (line ∷ lines) a =
-    let same : is_add line.said ≡ is_add_call call = ap (λ l. is_add l.said) a.0.told ∙ kind_said settings a.0.before call in
+    let same : is_add line.said ≡ adds call = ap (λ l. is_add l.said) a.0.told ∙ adds_said settings a.0.before call in
     let others = adds_of_true_list settings h thread (suc index) (reach line.said) calls lines a.1 in
     sum_by-cons (λ (l : Line). cond (is_add l.said) 1 0) line lines
-    ∙ rw (same, others) (sym (sum_by-cons (λ c. cond (is_add_call c) 1 0) call calls))
+    ∙ rw (same, others) (sym (sum_by-cons (λ c. cond (adds c) 1 0) call calls))
 
 pub adds_of_true_lists : (settings : Settings) (h : History) (thread : ℕ) (lists : List (List Call)) (lines : List Line) → AreTrueLists settings h thread lists lines → adds_in lines ≡ adds_of_lists lists
 adds_of_true_lists settings h thread [] lines a = rw a refl

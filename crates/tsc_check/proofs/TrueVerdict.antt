@@ -1,5 +1,5 @@
 -- Lines that tell the truth of a history fail none of the tests.
-use Rattle.std.proofs.Common.{◌≡◌, inl, inr, ◌∙◌, sym, ap, refl, ℕ, zero, suc, max, ◌<◌, ◌≤◌, List, [], ◌∷◌, ◌++◌, length, take, Bool, true, false, not, ◌&&◌, ◌==◌, nat_lt, nat_le, Option, Some, None, true≢false, length-append, append_assoc, arith}
+use Rattle.std.proofs.Common.{◌≡◌, inl, inr, ◌∙◌, sym, ap, refl, ℕ, zero, suc, max, ◌<◌, ◌≤◌, List, [], ◌∷◌, ◌++◌, length, take, Bool, true, false, not, ◌&&◌, ◌==◌, nat_lt, Option, Some, None, is_some, true≢false, length-append, arith}
 use Rattle.std.specs.Prelude.{slice_get}
 use Rattle.std.proofs.lemmas.Bool.Decides.{nat_tests}
 use Rattle.std.proofs.Math.Seq.{take-append_seam}
@@ -7,34 +7,36 @@ use Rattle.tsc_time.proofs.TimeOrder.{is_same_time-Decides}
 use Rattle.tsc_time.proofs.SharedOwner.{is_same_owner-Decides}
 use Rattle.tsc_cache.specs.Settings.{Settings}
 use Rattle.tsc_cache.specs.declared.history.Entry.{Entry}
-use Rattle.tsc_cache.specs.History.{History, BeginsWith, own_count}
+use Rattle.tsc_cache.specs.History.{History, BeginsWith, state_of}
+use Rattle.tsc_json.specs.Calls.{Addition, kind_of, is_same_kind, addition_of, adds}
 use Rattle.tsc_json.specs.declared.trace.Call.{Call}
-use Rattle.tsc_json.specs.declared.trace.Call.TheVariants.{Add, Get, Low}
-use Rattle.tsc_json.specs.declared.trace.Trace.{Trace}
-use Rattle.tsc_trace.specs.Log.{said_after, after_call}
+use Rattle.tsc_json.specs.Traces.{Trace}
+use Rattle.tsc_trace.specs.Log.{said_after, entry_after, with_addition, after_call}
+use Rattle.tsc_trace.proofs.Additions.{begins_before}
+use Rattle.tsc_trace.proofs.SaidOfCalls.{kind_itself, kind_in}
 use Rattle.tsc_trace.specs.declared.log.Line.{Line}
 use Rattle.tsc_trace.specs.declared.log.Said.{Said}
 use Rattle.tsc_trace.specs.declared.log.Said.TheVariants as said
 use Rattle.tsc_check.specs.declared.verdict.Verdict.TheVariants.{Right}
-use Rattle.tsc_check.specs.Verdict.{PlacedCall, calls_of, is_of_kind, is_line_of, is_wrong_call, reach, front_of, is_add_at, adds_in, is_misplaced, is_misplaced_line, is_wrong_place, with_adds_at, first_adds, is_same_bit, is_same_answer, is_untrue_pair, is_wrong_answer, least, verdict_of}
+use Rattle.tsc_trace.specs.Sayings.{front_of}
+use Rattle.tsc_check.specs.Verdict.{PlacedCall, calls_of, is_of_kind, is_line_of, is_wrong_call, reach, is_add, is_add_at, adds_in, is_misplaced, is_misplaced_line, is_wrong_place, with_adds_at, first_adds, is_same_bit, is_same_answer, is_untrue_pair, is_wrong_answer, least, verdict_of}
 use Rattle.tsc_check.specs.TrueLog.{IsRunOf}
 use Rattle.tsc_check.proofs.Each.{Each, Ordered, each_weaker, ordered_both, before_it, each_at, none_passes, at_seam}
 use Rattle.tsc_check.proofs.Places.{tested, one_if, count_at, HaveOtherPlaces, IsPlacedBelow, one_at_each}
-use Rattle.tsc_check.proofs.TrueRuns.{IsTrueOf, AllTrue, GoesBefore, front_said, ordered_lists, true_lists, adds_of_true_lists}
+use Rattle.tsc_check.proofs.Slots.{reach_of_add}
+use Rattle.tsc_check.proofs.TrueRuns.{IsTrueOf, AllTrue, GoesBefore, front_said, adds_said, ordered_lists, true_lists, adds_of_true_lists}
 
 -- ---- the first test
 
 same_number : (a : ℕ) → (a == a) ≡ true
 same_number a = grind (arith, nat_tests)
 
-kind_of_said : (settings : Settings) (before : History) (call : Call) → is_of_kind call (said_after settings before call) ≡ true
-kind_of_said settings before (Add span value now) = refl
-kind_of_said settings before (Get span) = refl
-kind_of_said settings before Low = refl
+kind_said : (settings : Settings) (before : History) (call : Call) → is_of_kind call (said_after settings before call) ≡ true
+kind_said settings before call = ap (is_same_kind (kind_of call)) (kind_in settings (state_of settings before) (length before) call) ∙ kind_itself (kind_of call)
 
 line_of_call : (settings : Settings) (h : History) (c : PlacedCall) (line : Line) → IsTrueOf settings h c line → is_line_of c line ≡ true
 line_of_call settings h c line t =
-    ap (is_line_of c) t.told ∙ rw (same_number c.thread, same_number c.index, kind_of_said settings t.before c.call) refl
+    ap (is_line_of c) t.told ∙ rw (same_number c.thread, same_number c.index, kind_said settings t.before c.call) refl
 
 right_calls : (settings : Settings) (h : History) (cs : List PlacedCall) (ls : List Line) → AllTrue settings h cs ls → (i : ℕ) → is_wrong_call cs ls i ≡ false
 right_calls settings h [] [] a i = refl
@@ -56,24 +58,33 @@ IsWithin h line = front_of line.said ≤ length h
 is_number : (a b : ℕ) → (a == b) ≡ true → a ≡ b
 is_number a b e = grind (arith, nat_tests)
 
-seated_call : (settings : Settings) (h before : History) (thread : ℕ) (call : Call) → BeginsWith h (after_call thread before call) → (p : ℕ) → is_add_at p (said_after settings before call) ≡ true → (e : Entry) × (slice_get h p ≡ Some e) × (e.seat ≡ thread)
-seated_call settings h before thread (Add span value now) part p at =
-    let e : Entry = record { seat = thread; number = own_count thread before; span = span; value = value; now = now } in
-    (e, rw (← is_number (length before) p at, part.1) (at_seam before part.0 e), refl)
-seated_call settings h before thread (Get span) part p at = absurd (true≢false (sym at))
-seated_call settings h before thread Low part p at = absurd (true≢false (sym at))
+both_parts : (a b : Bool) → (a && b) ≡ true → (a ≡ true) × (b ≡ true)
+both_parts true b e = (refl, e)
+both_parts false b e = absurd (true≢false (sym e))
+
+-- where a call's answer is that of an Add, the call adds, and its place is the length of the history
+placed_said : (settings : Settings) (before : History) (call : Call) (p : ℕ) → is_add_at p (said_after settings before call) ≡ true → (adds call ≡ true) × (length before ≡ p)
+placed_said settings before call p at =
+    let parts = both_parts (is_add (said_after settings before call)) (front_of (said_after settings before call) == p) at in
+    (sym (adds_said settings before call) ∙ parts.0, sym (front_said settings before call) ∙ is_number (front_of (said_after settings before call)) p parts.1)
+
+seated_addition : (h before : History) (thread : ℕ) (o : Option Addition) → BeginsWith h (with_addition thread before o) → (p : ℕ) → is_some o ≡ true → length before ≡ p → (e : Entry) × (slice_get h p ≡ Some e) × (e.seat ≡ thread)
+seated_addition h before thread None part p adds at = absurd (true≢false (sym adds))
+seated_addition h before thread (Some a) part p adds at =
+    let e = entry_after thread before a in
+    (e, rw (← at, part.1) (at_seam before part.0 e), refl)
 
 seated : (settings : Settings) (h : History) (c : PlacedCall) (line : Line) → IsTrueOf settings h c line → IsSeated h line
 seated settings h c line t p at =
-    let s = seated_call settings h t.before c.thread c.call t.part p (sym (ap (λ l. is_add_at p l.said) t.told) ∙ at) in
+    let placed = placed_said settings t.before c.call p (sym (ap (λ l. is_add_at p l.said) t.told) ∙ at) in
+    let s = seated_addition h t.before c.thread (addition_of c.call) t.part p placed.0 placed.1 in
     (s.0, s.1, s.2 ∙ sym (ap (λ l. l.thread) t.told))
 
+begins_length : (h before : History) → BeginsWith h before → length before ≤ length h
+begins_length h before part = omega (arith, ap length part.1, length-append before part.0)
+
 within_call : (h before : History) (thread : ℕ) (call : Call) → BeginsWith h (after_call thread before call) → length before ≤ length h
-within_call h before thread (Add span value now) part =
-    let e : Entry = record { seat = thread; number = own_count thread before; span = span; value = value; now = now } in
-    omega (arith, ap length part.1, length-append (before ++ e ∷ []) part.0, length-append before (e ∷ []))
-within_call h before thread (Get span) part = omega (arith, ap length part.1, length-append before part.0)
-within_call h before thread Low part = omega (arith, ap length part.1, length-append before part.0)
+within_call h before thread call part = begins_length h before (begins_before h before thread (addition_of call) part)
 
 within : (settings : Settings) (h : History) (c : PlacedCall) (line : Line) → IsTrueOf settings h c line → IsWithin h line
 within settings h c line t = omega (arith, ap (λ l. front_of l.said) t.told, front_said settings t.before c.call, within_call h t.before c.thread c.call t.part)
@@ -92,10 +103,11 @@ some_below [] p e s = absurd (no_some e s)
 some_below (x ∷ h) zero e s = omega arith
 some_below (x ∷ h) (suc p) e s = omega (arith, some_below h p e s)
 
-reach_of_add : (p : ℕ) (s : Said) → is_add_at p s ≡ true → (reach s ≡ suc p) × (front_of s ≡ p)
-reach_of_add p (said.Add place added) at = (ap suc (is_number place p at), is_number place p at)
-reach_of_add p (said.Get front value) at = absurd (true≢false (sym at))
-reach_of_add p (said.Low front time) at = absurd (true≢false (sym at))
+reach_at : (p : ℕ) (s : Said) → is_add_at p s ≡ true → (reach s ≡ suc p) × (front_of s ≡ p)
+reach_at p s at =
+    let parts = both_parts (is_add s) (front_of s == p) at in
+    let front = is_number (front_of s) p parts.1 in
+    (reach_of_add s parts.0 ∙ ap suc front, front)
 
 same_entry : (a b : Entry) (o : Option Entry) → o ≡ Some a → o ≡ Some b → a ≡ b
 same_entry a b o e f = cc
@@ -108,7 +120,7 @@ other_places h a b sa sb goes p at = elim (tested (is_add_at p b.said)) [
       let y = sb p also in
       let one : x.0 ≡ y.0 = same_entry x.0 y.0 (slice_get h p) x.1 y.1 in
       let threads : a.thread ≡ b.thread = sym x.2 ∙ ap (λ (e : Entry). e.seat) one ∙ y.2 in
-      absurd (omega (arith, goes threads, (reach_of_add p a.said at).0, (reach_of_add p b.said also).1))
+      absurd (omega (arith, goes threads, (reach_at p a.said at).0, (reach_at p b.said also).1))
   | inr e ↦ e
 ]
 
@@ -126,9 +138,6 @@ reaches_none thread n line most = by_test (line.thread == thread) refl
     by_test true e = rw e (too_far (reach line.said) n (most (is_number line.thread thread e)))
     by_test false e = rw e refl
 
-below_test : (a b : ℕ) → a < b → nat_le b a ≡ false
-below_test a b e = grind (arith, nat_tests)
-
 within_test : (a b : ℕ) → a ≤ b → nat_lt b a ≡ false
 within_test a b e = grind (arith, nat_tests)
 
@@ -136,23 +145,21 @@ placed : (n : ℕ) (earlier : List Line) (thread : ℕ) (s : Said)
     → ((p : ℕ) → is_add_at p s ≡ true → p < n) → front_of s ≤ n
     → Each (λ l. (l.thread ≡ thread → reach l.said ≤ front_of s) × ((p : ℕ) → is_add_at p l.said ≡ true → is_add_at p s ≡ false)) earlier
     → is_misplaced n earlier thread s ≡ false
-placed n earlier thread (said.Add place added) below most fine =
-    let low = below_test place n (below place (same_number place)) in
-    let alone = none_passes (λ (l : Line). is_add_at place l.said) earlier (each_weaker _ (λ l. is_add_at place l.said ≡ false) (λ l f. free l f.1) earlier fine) in
-    let after = none_passes (λ (l : Line). (l.thread == thread) && nat_lt place (reach l.said)) earlier (each_weaker _ (λ l. ((l.thread == thread) && nat_lt place (reach l.said)) ≡ false) (λ l f. reaches_none thread place l f.0) earlier fine) in
-    rw (low, alone, after) refl
+placed n earlier thread s below most fine =
+    let reaching = none_passes (λ (l : Line). (l.thread == thread) && nat_lt (front_of s) (reach l.said)) earlier (each_weaker _ (λ l. ((l.thread == thread) && nat_lt (front_of s) (reach l.said)) ≡ false) (λ l f. reaches_none thread (front_of s) l f.0) earlier fine) in
+    elim (tested (is_add s)) [
+      | inl e ↦
+          let at : is_add_at (front_of s) s ≡ true = rw (e, same_number (front_of s)) refl in
+          let alone = none_passes (λ (l : Line). is_add_at (front_of s) l.said) earlier (each_weaker _ (λ l. is_add_at (front_of s) l.said ≡ false) (λ l f. free at l f.1) earlier fine) in
+          rw (e, within_test (suc (front_of s)) n (omega (arith, below (front_of s) at)), alone, reaching) refl
+      | inr e ↦ rw (e, within_test (front_of s) n most, reaching) refl
+    ]
   where
-    free : (l : Line) → ((p : ℕ) → is_add_at p l.said ≡ true → (place == p) ≡ false) → is_add_at place l.said ≡ false
-    free l other = elim (tested (is_add_at place l.said)) [
-      | inl e ↦ absurd (true≢false (sym (same_number place) ∙ other place e))
+    free : is_add_at (front_of s) s ≡ true → (l : Line) → ((p : ℕ) → is_add_at p l.said ≡ true → is_add_at p s ≡ false) → is_add_at (front_of s) l.said ≡ false
+    free at l other = elim (tested (is_add_at (front_of s) l.said)) [
+      | inl e ↦ absurd (true≢false (sym at ∙ other (front_of s) e))
       | inr e ↦ e
     ]
-placed n earlier thread (said.Get front value) below most fine =
-    let after = none_passes (λ (l : Line). (l.thread == thread) && nat_lt front (reach l.said)) earlier (each_weaker _ (λ l. ((l.thread == thread) && nat_lt front (reach l.said)) ≡ false) (λ l f. reaches_none thread front l f.0) earlier fine) in
-    rw (within_test front n most, after) refl
-placed n earlier thread (said.Low front time) below most fine =
-    let after = none_passes (λ (l : Line). (l.thread == thread) && nat_lt front (reach l.said)) earlier (each_weaker _ (λ l. ((l.thread == thread) && nat_lt front (reach l.said)) ≡ false) (λ l f. reaches_none thread front l f.0) earlier fine) in
-    rw (within_test front n most, after) refl
 
 right_places : (n : ℕ) (lines : List Line) → Each (IsPlacedBelow n) lines → Each (λ l. front_of l.said ≤ n) lines → Ordered IsFineAfter lines → (i : ℕ) (o : Option Line) → slice_get lines i ≡ o → is_misplaced_line n (take i lines) o ≡ false
 right_places n lines below most fine i None at = refl
@@ -174,14 +181,6 @@ same_answers (said.Low front time) = (is_same_time-Decides time time).1 refl
 begins_take : (h before : History) → BeginsWith h before → take (length before) h ≡ before
 begins_take h before part = ap (take (length before)) part.1 ∙ take-append_seam before part.0
 
--- what a call leaves of a first part is one too
-begins_after : (h before : History) (thread : ℕ) (call : Call) → BeginsWith h (after_call thread before call) → BeginsWith h before
-begins_after h before thread (Add span value now) part =
-    let e : Entry = record { seat = thread; number = own_count thread before; span = span; value = value; now = now } in
-    (e ∷ part.0, part.1 ∙ append_assoc before (e ∷ []) part.0)
-begins_after h before thread (Get span) part = part
-begins_after h before thread Low part = part
-
 -- where no line is that of an Add at a place, no Add is put there
 none_put : (p : ℕ) (cs : List PlacedCall) (ls : List Line) (g : History) → count_at p ls ≡ 0 → with_adds_at p cs ls g ≡ g
 none_put p [] ls g none = refl
@@ -191,15 +190,18 @@ none_put p (c ∷ cs) (l ∷ ls) g none = elim (tested (is_add_at p l.said)) [
   | inr e ↦ rw e (none_put p cs ls g (omega (arith, none, ap one_if e)))
 ]
 
+put_addition : (h before : History) (thread : ℕ) (o : Option Addition) → BeginsWith h (with_addition thread before o) → (p : ℕ) → is_some o ≡ true → length before ≡ p → with_addition thread (take p h) o ≡ take (suc p) h
+put_addition h before thread None part p adds at = absurd (true≢false (sym adds))
+put_addition h before thread (Some a) part p adds at =
+    let e = entry_after thread before a in
+    let front : take p h ≡ before = ap (λ n. take n h) (sym at) ∙ begins_take h before (begins_before h before thread (Some a) part) in
+    let more : length (before ++ e ∷ []) ≡ suc p = omega (arith, length-append before (e ∷ []), at) in
+    ap (λ g. with_addition thread g (Some a)) front ∙ sym (begins_take h (before ++ e ∷ []) part) ∙ ap (λ n. take n h) more
+
 put_call : (settings : Settings) (h before : History) (thread : ℕ) (call : Call) → BeginsWith h (after_call thread before call) → (p : ℕ) → is_add_at p (said_after settings before call) ≡ true → after_call thread (take p h) call ≡ take (suc p) h
-put_call settings h before thread (Add span value now) part p at =
-    let e : Entry = record { seat = thread; number = own_count thread before; span = span; value = value; now = now } in
-    let here : length before ≡ p = is_number (length before) p at in
-    let front : take p h ≡ before = ap (λ n. take n h) (sym here) ∙ begins_take h before (begins_after h before thread (Add span value now) part) in
-    let more : length (before ++ e ∷ []) ≡ suc p = omega (arith, length-append before (e ∷ []), here) in
-    ap (λ g. after_call thread g (Add span value now)) front ∙ sym (begins_take h (before ++ e ∷ []) part) ∙ ap (λ n. take n h) more
-put_call settings h before thread (Get span) part p at = absurd (true≢false (sym at))
-put_call settings h before thread Low part p at = absurd (true≢false (sym at))
+put_call settings h before thread call part p at =
+    let placed = placed_said settings before call p at in
+    put_addition h before thread (addition_of call) part p placed.0 placed.1
 
 -- where one is, just this one is
 one_put : (settings : Settings) (h : History) (p : ℕ) (cs : List PlacedCall) (ls : List Line) → AllTrue settings h cs ls → count_at p ls ≡ 1 → with_adds_at p cs ls (take p h) ≡ take (suc p) h
@@ -223,7 +225,7 @@ right_answer : (trace : Trace) (h : History) (all : List Line) (c : PlacedCall) 
 right_answer trace h all c line first t =
     let front : front_of line.said ≡ length t.before = ap (λ l. front_of l.said) t.told ∙ front_said trace.config t.before c.call in
     let before : first_adds (calls_of trace) all (front_of line.said) ≡ t.before =
-    ap (first_adds (calls_of trace) all) front ∙ first (length t.before) (within_call h t.before c.thread c.call t.part) ∙ begins_take h t.before (begins_after h t.before c.thread c.call t.part) in
+    ap (first_adds (calls_of trace) all) front ∙ first (length t.before) (within_call h t.before c.thread c.call t.part) ∙ begins_take h t.before (begins_before h t.before c.thread (addition_of c.call) t.part) in
     let says : line.said ≡ said_after trace.config t.before c.call = ap (λ l. l.said) t.told in
     rw before (rw says (ap not (same_answers (said_after trace.config t.before c.call))))
 

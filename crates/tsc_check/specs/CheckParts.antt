@@ -1,13 +1,13 @@
 -- What the parts of a check keep: which line is the next to test, and where the lines stand in the order of the Adds.
-use Rattle.std.specs.Prelude.{◌≡◌, ◌⊎◌, ℕ, zero, suc, ◌==◌, ◌<◌, ◌≤◌, nat_lt, List, [], ◌∷◌, length, take, get_or, slice_get, Bool, true, false, Option, Some, None, if◌then◌else◌}
+use Rattle.std.specs.Prelude.{◌≡◌, ◌⊎◌, ℕ, zero, suc, ◌==◌, ◌<◌, ◌≤◌, ◌&&◌, not, nat_lt, List, [], ◌∷◌, length, take, get_or, slice_get, Bool, true, false, Option, Some, None, if◌then◌else◌}
 use Rattle.tsc_trace.specs.declared.log.Line.{Line}
 use Rattle.tsc_trace.specs.declared.log.Said.{Said}
-use Rattle.tsc_trace.specs.declared.log.Said.TheVariants as said
+use Rattle.tsc_trace.specs.Sayings.{front_of}
 use Rattle.tsc_cache.specs.State.{CacheState}
 use Rattle.tsc_cache.specs.History.{state_of}
 use Rattle.tsc_json.specs.declared.trace.Call.{Call}
-use Rattle.tsc_json.specs.declared.trace.Trace.{Trace}
-use Rattle.tsc_check.specs.Verdict.{PlacedCall, calls_of, is_line_of, is_add_at, front_of, adds_in, reaches_above, is_wrong_place, least, first_adds}
+use Rattle.tsc_json.specs.Traces.{Trace}
+use Rattle.tsc_check.specs.Verdict.{PlacedCall, calls_of, is_line_of, is_add, is_add_at, adds_in, reaches_above, is_wrong_place, least, first_adds}
 use Rattle.tsc_check.specs.declared.order.Order.{Order}
 
 -- the first line that is not that of its call, where the first of these has this number
@@ -28,9 +28,7 @@ holds_at test (Some line) = test line
 
 -- whether an answer is that of a lookup with this front
 abbrev pub is_lookup_at : ℕ → Said → Bool
-is_lookup_at f (said.Add place added) = false
-is_lookup_at f (said.Get front value) = front == f
-is_lookup_at f (said.Low front time) = front == f
+is_lookup_at f s = not (is_add s) && (front_of s == f)
 
 -- whether a line, by its number, is that of an Add at this place, or of a lookup with this front
 abbrev pub adds_there : List Line → ℕ → ℕ → Bool

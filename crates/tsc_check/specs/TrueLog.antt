@@ -1,24 +1,18 @@
 -- Lines that tell the truth of one history of a trace's Adds.
-use Rattle.std.specs.Prelude.{◌≡◌, ℕ, suc, ◌+◌, ◌≤◌, List, [], ◌∷◌, ◌++◌, length, count_by, Bool, true, false}
+use Rattle.std.specs.Prelude.{◌≡◌, ℕ, suc, ◌+◌, ◌≤◌, List, [], ◌∷◌, ◌++◌, length, count_by}
 use Rattle.tsc_cache.specs.Settings.{Settings}
 use Rattle.tsc_cache.specs.History.{History, BeginsWith}
+use Rattle.tsc_json.specs.Calls.{adds}
 use Rattle.tsc_json.specs.declared.trace.Call.{Call}
-use Rattle.tsc_json.specs.declared.trace.Call.TheVariants.{Add, Get, Low}
-use Rattle.tsc_json.specs.declared.trace.Trace.{Trace}
+use Rattle.tsc_json.specs.Traces.{Trace}
 use Rattle.tsc_trace.specs.Log.{said_after, after_call, log_of}
 use Rattle.tsc_trace.specs.declared.log.Line.{Line}
 use Rattle.tsc_check.specs.Verdict.{reach, verdict_of}
 use Rattle.tsc_check.specs.declared.verdict.Verdict.TheVariants.{Right}
 
--- whether a call is an Add
-abbrev pub is_add_call : Call → Bool
-is_add_call (Add span value now) = true
-is_add_call (Get span) = false
-is_add_call Low = false
-
 -- how many Adds a list has
 abbrev pub adds_of_list : List Call → ℕ
-adds_of_list calls = count_by is_add_call calls
+adds_of_list calls = count_by adds calls
 
 -- how many lists have together
 abbrev pub adds_of_lists : List (List Call) → ℕ

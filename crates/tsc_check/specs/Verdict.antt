@@ -1,13 +1,14 @@
 -- The verdict on a log: three tests, and the least line that fails the first of them that a line fails.
-use Rattle.std.specs.Prelude.{ℕ, zero, suc, max, ◌==◌, ◌&&◌, ◌||◌, not, nat_lt, nat_le, List, [], ◌∷◌, ◌++◌, length, take, count_by, slice_get, Bool, true, false, Option, Some, None, if◌then◌else◌}
+use Rattle.std.specs.Prelude.{ℕ, zero, suc, max, ◌==◌, ◌&&◌, ◌||◌, not, nat_lt, List, [], ◌∷◌, ◌++◌, length, take, count_by, slice_get, Bool, true, false, Option, Some, None, is_some, if◌then◌else◌}
 use Rattle.std.specs.List.{list_any}
 use Rattle.tsc_time.specs.Time.{is_same_time}
 use Rattle.tsc_time.specs.OwnedTime.{OwnedTime, is_same_owner}
 use Rattle.tsc_cache.specs.History.{History}
 use Rattle.tsc_cache.specs.declared.added.Added.{Added}
+use Rattle.tsc_json.specs.Calls.{kind_of, is_same_kind}
 use Rattle.tsc_json.specs.declared.trace.Call.{Call}
-use Rattle.tsc_json.specs.declared.trace.Call.TheVariants.{Add, Get, Low}
-use Rattle.tsc_json.specs.declared.trace.Trace.{Trace}
+use Rattle.tsc_json.specs.Traces.{Trace}
+use Rattle.tsc_trace.specs.Sayings.{kind_of_said, told_of, front_of}
 use Rattle.tsc_trace.specs.Log.{said_after, after_call}
 use Rattle.tsc_trace.specs.declared.log.Line.{Line}
 use Rattle.tsc_trace.specs.declared.log.Said.{Said}
@@ -40,15 +41,7 @@ calls_of trace = calls_of_lists 0 trace.threads
 
 -- whether an answer is of the kind of a call
 abbrev pub is_of_kind : Call → Said → Bool
-is_of_kind (Add span value now) (said.Add place added) = true
-is_of_kind (Add span value now) (said.Get front found) = false
-is_of_kind (Add span value now) (said.Low front time) = false
-is_of_kind (Get span) (said.Add place added) = false
-is_of_kind (Get span) (said.Get front found) = true
-is_of_kind (Get span) (said.Low front time) = false
-is_of_kind Low (said.Add place added) = false
-is_of_kind Low (said.Get front found) = false
-is_of_kind Low (said.Low front time) = true
+is_of_kind call s = is_same_kind (kind_of call) (kind_of_said s)
 
 -- whether a line has the list, the index and the kind of a call
 abbrev pub is_line_of : PlacedCall → Line → Bool
@@ -67,23 +60,17 @@ is_wrong_call calls lines i = is_wrong_pair (slice_get calls i) (slice_get lines
 
 -- ---- the second test: places and fronts
 
--- how many Adds a caller knows of who has had an answer: those before, and its own
-abbrev pub reach : Said → ℕ
-reach (said.Add place added) = suc place
-reach (said.Get front value) = front
-reach (said.Low front time) = front
-
 -- whether an answer is that of an Add
 abbrev pub is_add : Said → Bool
-is_add (said.Add place added) = true
-is_add (said.Get front value) = false
-is_add (said.Low front time) = false
+is_add s = is_some (told_of s)
 
 -- whether it is that of an Add at this place
 abbrev pub is_add_at : ℕ → Said → Bool
-is_add_at p (said.Add place added) = place == p
-is_add_at p (said.Get front value) = false
-is_add_at p (said.Low front time) = false
+is_add_at p s = is_add s && (front_of s == p)
+
+-- how many Adds a caller knows of who has had an answer: those before, and its own
+abbrev pub reach : Said → ℕ
+reach s = if is_add s then suc (front_of s) else front_of s
 
 -- how many Adds there are in lines
 abbrev pub adds_in : List Line → ℕ
@@ -97,11 +84,9 @@ has_add_at p lines = list_any (λ line. is_add_at p line.said) lines
 abbrev pub reaches_above : ℕ → ℕ → List Line → Bool
 reaches_above thread n lines = list_any (λ line. (line.thread == thread) && nat_lt n (reach line.said)) lines
 
--- whether the place or the front of an answer is wrong, after these lines, where there are n Adds in all
+-- Whether the place or the front of an answer is wrong, after these lines, where there are n Adds in all: it reaches more than all, or its place is taken, or its list knew of more before.
 abbrev pub is_misplaced : ℕ → List Line → ℕ → Said → Bool
-is_misplaced n earlier thread (said.Add place added) = nat_le n place || has_add_at place earlier || reaches_above thread place earlier
-is_misplaced n earlier thread (said.Get front value) = nat_lt n front || reaches_above thread front earlier
-is_misplaced n earlier thread (said.Low front time) = nat_lt n front || reaches_above thread front earlier
+is_misplaced n earlier thread s = nat_lt n (reach s) || (is_add s && has_add_at (front_of s) earlier) || reaches_above thread (front_of s) earlier
 
 abbrev pub is_misplaced_line : ℕ → List Line → Option Line → Bool
 is_misplaced_line n earlier None = false
@@ -124,12 +109,6 @@ abbrev pub first_adds : List PlacedCall → List Line → ℕ → History
 first_adds calls lines zero = []
 first_adds calls lines (suc p) = with_adds_at p calls lines (first_adds calls lines p)
 
--- how many Adds came before an answer
-abbrev pub front_of : Said → ℕ
-front_of (said.Add place added) = place
-front_of (said.Get front value) = front
-front_of (said.Low front time) = front
-
 abbrev pub is_same_bit : Bool → Bool → Bool
 is_same_bit a b = if a then b else not b
 
@@ -142,14 +121,9 @@ is_same_value a b = is_same_time a.time b.time && is_same_owner a.owner b.owner
 -- whether two answers say the same, whatever their places and fronts
 abbrev pub is_same_answer : Said → Said → Bool
 is_same_answer (said.Add p a) (said.Add q b) = is_same_added a b
-is_same_answer (said.Add p a) (said.Get g w) = false
-is_same_answer (said.Add p a) (said.Low g u) = false
-is_same_answer (said.Get f v) (said.Add q b) = false
 is_same_answer (said.Get f v) (said.Get g w) = is_same_value v w
-is_same_answer (said.Get f v) (said.Low g u) = false
-is_same_answer (said.Low f t) (said.Add q b) = false
-is_same_answer (said.Low f t) (said.Get g w) = false
 is_same_answer (said.Low f t) (said.Low g u) = is_same_time t u
+is_same_answer a b = false
 
 -- whether a line doesn't say what its call answers after as many of the Adds as its place or its front tells
 abbrev pub is_untrue_pair : Trace → List Line → Option PlacedCall → Option Line → Bool

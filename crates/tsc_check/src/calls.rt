@@ -10,12 +10,7 @@ use tsc_trace::{Call, Line, Said, Trace};
 fn is_of_kind(call: &Call, said: Said) -> bool
     ensures { result ≡ is_of_kind call.now said }
 {
-    match (call, said) {
-        (Call::Add { .. }, Said::Add { .. }) => true,
-        (Call::Get { .. }, Said::Get { .. }) => true,
-        (Call::Low, Said::Low { .. }) => true,
-        _ => false,
-    }
+    call.kind() == said.kind()
 }
 
 /// Whether a line is that of the call of this list and this index.

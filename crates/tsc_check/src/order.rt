@@ -1,7 +1,8 @@
 //! The lines of a log in the order of the Adds.
 ghost use Rattle.std.specs.Prelude.{◌≡◌, ◌<◌, ◌≤◌, ◌+◌, ◌^◌, ℕ, nat_lt, suc, length, get_or, is_some, false, None, IfOk, OnOk, IfNone};
 ghost use Rattle.tsc_json.specs.Lists.{most_calls};
-ghost use Rattle.tsc_check.specs.Verdict.{adds_in, front_of, is_add, is_wrong_place, least, reach};
+ghost use Rattle.tsc_trace.specs.Sayings.{front_of};
+ghost use Rattle.tsc_check.specs.Verdict.{adds_in, is_add, is_wrong_place, least, reach};
 ghost use Rattle.tsc_check.specs.CheckParts.{AreOfLists, HasPlaced};
 
 use std::alloc::Global;
@@ -21,34 +22,22 @@ pub struct Order {
     reached: Vec<u64>,
 }
 
-/// The place of an Add, or the front of a lookup.
-pub fn front_of(said: Said) -> u64
-    ensures { result ≡ front_of said }
-{
-    match said {
-        Said::Add { place, .. } => place,
-        Said::Get { front, .. } | Said::Low { front, .. } => front,
-    }
-}
-
 /// Whether an answer is that of an Add.
 pub fn is_add(said: Said) -> bool
     ensures { result ≡ is_add said }
 {
-    match said {
-        Said::Add { .. } => true,
-        Said::Get { .. } | Said::Low { .. } => false,
-    }
+    said.told().is_some()
 }
 
 /// How many Adds a caller knows of who has had an answer: those before it, and its own.
-fn reach(said: Said) -> u64
-    requires { front_of said + 1 < 2 ^ 64 }
-    ensures { result ≡ reach said }
+fn reach(said: &Said) -> u64
+    requires { front_of said.now + 1 < 2 ^ 64 }
+    ensures { result ≡ reach said.now }
 {
-    match said {
-        Said::Add { place, .. } => place + 1,
-        Said::Get { front, .. } | Said::Low { front, .. } => front,
+    if is_add(*said) {
+        said.front() + 1
+    } else {
+        said.front()
     }
 }
 
@@ -105,7 +94,7 @@ impl Order {
         ensures { result ≡ is_wrong_place lines.now i }
     {
         let line = lines[i];
-        let front = front_of(line.said);
+        let front = line.said.front();
         if self.knows_more(line.thread as usize, front) {
             return true;
         }
@@ -125,10 +114,10 @@ impl Order {
         ensures { OnOk result (HasPlaced self.new lines.now (suc i)) }
     {
         let line = lines[i];
-        let slot = front_of(line.said) as usize;
+        let slot = line.said.front() as usize;
         let before = self.lookups[slot];
         self.earlier.push(before)?;
-        self.reached[line.thread as usize] = reach(line.said);
+        self.reached[line.thread as usize] = reach(&line.said);
         if is_add(line.said) {
             self.adds[slot] = Some(i);
         } else {

@@ -1,17 +1,26 @@
 //! One pass over a cache, in the order of the Adds.
-ghost use Rattle.std.specs.Prelude.{◌≡◌, ◌⊎◌, ◌<◌, ◌≤◌, ◌||◌, ℕ, suc, length, true, false, not, IfOk, OnOk, option_map, slice_get};
+ghost use Rattle.std.specs.Prelude.{◌≡◌, ◌⊎◌, ◌<◌, ◌≤◌, ◌||◌, ℕ, suc, length, true, false, not, Some, IfOk, IfSome, OnOk, option_map, slice_get};
 ghost use Rattle.tsc_cache.specs.Settings.{Settings};
 ghost use Rattle.tsc_cache.specs.History.{History, state_of};
 ghost use Rattle.tsc_cache.specs.CacheView.{StandsForState};
+ghost use Rattle.tsc_json.specs.Calls.{call_fits, is_same_kind};
 ghost use Rattle.tsc_trace.specs.Log.{said_after, after_call};
-ghost use Rattle.tsc_check.specs.Verdict.{adds_in, is_add, is_same_answer, is_wrong_answer, least};
+ghost use Rattle.tsc_trace.specs.Sayings.{kind_of_said, told_of};
+ghost use Rattle.tsc_check.specs.Verdict.{adds_in, is_add, is_of_kind, is_same_answer, is_same_value, is_wrong_answer, least};
 ghost use Rattle.tsc_check.specs.CheckParts.{AreInOrder, HasPlaced, Lowers, LowersAt, adds_there, call_in, looks_up_there, state_at};
 
 use crate::order::Order;
 use std::alloc::Global;
 use tsc_cache::{Added, Cache};
-use tsc_time::NoMemory;
-use tsc_trace::{Call, Line, Said, Trace};
+use tsc_time::{NoMemory, Value};
+use tsc_trace::{Call, Line, Said, Trace, add_fitting};
+
+/// Whether two values are not the same.
+fn differ(value: Value, other: Value) -> bool
+    ensures { result ≡ not (is_same_value value other) }
+{
+    value != other
+}
 
 /// Whether the answer of a lookup is another than the cache gives.
 fn is_other_value(cache: &Cache, call: &Call, said: Said) -> bool
@@ -19,41 +28,44 @@ fn is_other_value(cache: &Cache, call: &Call, said: Said) -> bool
         → result ≡ not (is_same_answer said (said_after settings h call.now)) }
 {
     match (call, said) {
-        (Call::Get { span }, Said::Get { value, .. }) => cache.get_max(span) != value,
+        (Call::Get { span }, Said::Get { value, .. }) => differ(value, cache.get_max(span)),
         (Call::Low, Said::Low { time, .. }) => cache.low_water() != time,
         _ => true,
     }
 }
 
-/// Whether an answer is another than this one of an Add.
+/// Whether an answer tells of another addition than one of its kind that did this.
 fn is_other_added(said: Said, made: Added) -> bool
-    ensures { (place : ℕ) → result ≡ not (is_same_answer said (Said.Add place made)) }
+    ensures { (answer : Said) (place : ℕ) → is_same_kind (kind_of_said answer) (kind_of_said said) ≡ true
+        → told_of answer ≡ Some (record { place = place; added = made }) → result ≡ not (is_same_answer said answer) }
 {
-    match said {
-        Said::Add { added, .. } => added != made,
-        _ => true,
+    match said.told() {
+        Some(told) => told.added != made,
+        None => true,
     }
 }
 
 /// Makes an Add, and tells whether its answer is another.
 fn is_other_add(cache: &mut Cache, call: &Call, said: Said) -> Result<bool, NoMemory>
+    requires { call_fits cache.old.settings call.now ≡ true }
     ensures other { IfOk result (λ other. (settings : Settings) (h : History) → StandsForState cache.old settings (state_of settings h) → is_add said ≡ true
-        → other ≡ not (is_same_answer said (said_after settings h call.now))) }
+        → is_of_kind call.now said ≡ true → other ≡ not (is_same_answer said (said_after settings h call.now))) }
     ensures stands { OnOk result ((settings : Settings) (thread : ℕ) (h : History) → StandsForState cache.old settings (state_of settings h)
         → StandsForState cache.new settings (state_of settings (after_call thread h call.now))) }
 {
     match call {
         Call::Add { span, value, now } => {
-            let made = cache.add(span, *value, *now)?;
+            let made = add_fitting(cache, span, *value, *now)?;
             Ok(is_other_added(said, made))
         }
         Call::Get { .. } | Call::Low => Ok(true),
     }
 }
 
-/// The call of a line.
+/// The call of a line. All that it adds fits.
 fn call_of<'a>(trace: &'a Trace, line: &Line) -> Option<&'a Call>
-    ensures { option_map (λ call. call.now) result ≡ call_in (slice_get trace.now.threads line.now.thread) line.now.index }
+    ensures value { option_map (λ call. call.now) result ≡ call_in (slice_get trace.now.threads line.now.thread) line.now.index }
+    ensures fits { IfSome result (λ call. call_fits trace.now.config call.now ≡ true) }
 {
     trace
         .threads
@@ -94,6 +106,7 @@ fn make_add(
 ) -> Result<usize, NoMemory>
     requires index { i < length lines.now }
     requires order { AreInOrder trace.now lines.now }
+    requires settings { cache.old.settings ≡ trace.now.config }
     ensures lowers { IfOk result (λ new. (place : ℕ) → adds_there lines.now place i ≡ true → StandsForState cache.old trace.now.config (state_at trace.now lines.now place)
         → LowersAt (is_wrong_answer trace.now lines.now) i least new) }
     ensures stands { OnOk result ((place : ℕ) → adds_there lines.now place i ≡ true → StandsForState cache.old trace.now.config (state_at trace.now lines.now place)

@@ -19,6 +19,7 @@ status_of (Refused (trace_fault.Uuid call)) = 1
 status_of (Refused (trace_fault.Span call)) = 1
 status_of (Refused trace_fault.Config) = 1
 status_of (Refused trace_fault.NoMemory) = 5
+status_of (Refused (trace_fault.TooLarge call)) = 1
 status_of Write = 4
 status_of NoMemory = 5
 

@@ -18,7 +18,7 @@ use Rattle.serde_json.specs.Data.{Data, object, Items, Members, no_members, memb
 use Rattle.serde_json.specs.Find.{get_member}
 use Rattle.tsc_json.specs.Lists.{fits_trace}
 use Rattle.tsc_json.specs.MemberOrder.{IsReordered, itself, arrays, objects, AreReordered, no_more, one_more, FindsReordered, neither, both_find}
-use Rattle.tsc_json.specs.TraceText.{listed, array_of, object_of, text_of, unsigned_of, number_below, names_only, only_named, needed, needed_as, two_of, time_in_range, time_of, key_of, owner_member, ends_of, excluded_of, start_form, start_to_end_form, range_form, onward_form, form_of, span_names, form_in, span_form, added_span, looked_up_span, add_names, add_in, add_of, get_names, get_in, get_of, low_of, call_by_name, call_of, numbers_in, lists_in, lists_of, head_names, head_in, head_of, settings_in, calls_of, threads_of, trace_of, json_of, trace_of_bytes}
+use Rattle.tsc_json.specs.TraceText.{listed, array_of, object_of, text_of, unsigned_of, number_below, names_only, only_named, needed, needed_as, two_of, time_in_range, time_of, key_of, owner_member, ends_of, excluded_of, start_form, start_to_end_form, range_form, onward_form, form_of, span_names, form_in, span_form, added_span, looked_up_span, add_names, add_in, add_of, get_names, get_in, get_of, low_of, call_by_name, call_of, fitting_call, numbers_in, lists_in, lists_of, head_names, head_in, head_of, settings_in, calls_of, threads_of, trace_of, json_of, trace_of_bytes}
 use Rattle.tsc_json.specs.declared.read.head.Numbers.{Numbers}
 use Rattle.tsc_json.specs.declared.read.TraceFault.{TraceFault}
 use Rattle.tsc_json.specs.declared.read.TraceFault.TheVariants.{NotJson, Config}
@@ -26,7 +26,7 @@ use Rattle.tsc_json.specs.declared.read.part.PartFault.{PartFault}
 use Rattle.tsc_json.specs.declared.read.part.PartFault.TheVariants.{Shape}
 use Rattle.tsc_json.specs.declared.trace.Call.{Call}
 use Rattle.tsc_json.specs.declared.trace.Call.TheVariants.{Add, Get, Low}
-use Rattle.tsc_json.specs.declared.trace.Trace.{Trace}
+use Rattle.tsc_json.specs.Traces.{Trace}
 use Rattle.tsc_json.specs.TraceParts.{Part, both, lesser_fault, ◌>>=◌, where_holds, at_call}
 use Rattle.tsc_json.specs.TraceLaws.{ReadsInAnyOrder}
 
@@ -277,10 +277,14 @@ same_call d e itself = refl
 same_call d e (arrays same) = refl
 same_call d e (objects {ms} {ns} finds) = then_each _ _ _ _ (same_needed (codes "op") text_of text_of ms ns same_text finds) (λ op. same_named op ms ns finds)
 
-same_calls : (first : ℕ) (ds es : List Data) → RowReordered ds es → calls_of first ds ≡ calls_of first es
+same_fitting : (settings : Settings) (d e : Data) → IsReordered d e → fitting_call settings d ≡ fitting_call settings e
+unfolding fitting_call
+same_fitting settings d e same = rw (same_call d e same) refl
+
+same_calls : (settings : Settings) (first : ℕ) (ds es : List Data) → RowReordered ds es → calls_of settings first ds ≡ calls_of settings first es
 unfolding calls_of
-same_calls first ds es row_end = refl
-same_calls first ds es (row_more d e ds' es' same rest) = rw (same_call d e same, same_calls (suc first) ds' es' rest) refl
+same_calls settings first ds es row_end = refl
+same_calls settings first ds es (row_more d e ds' es' same rest) = rw (same_fitting settings d e same, same_calls settings (suc first) ds' es' rest) refl
 
 -- ---- the head, and all lists
 
@@ -303,10 +307,11 @@ same_sum ls ks (rows_more ds es ls' ks' same rest) = rw (sum_by-cons length ds l
 same_fits : (ls ks : List (List Data)) → RowsReordered ls ks → fits_trace ls ≡ fits_trace ks
 same_fits ls ks same = rw (same_count ls ks same, same_sum ls ks same) refl
 
-same_threads : (first : ℕ) (ls ks : List (List Data)) → RowsReordered ls ks → threads_of first ls ≡ threads_of first ks
+same_threads : (settings : Settings) (first : ℕ) (ls ks : List (List Data)) → RowsReordered ls ks → threads_of settings first ls ≡ threads_of settings first ks
 unfolding threads_of
-same_threads first ls ks rows_end = refl
-same_threads first ls ks (rows_more ds es ls' ks' same rest) = rw (same_calls first ds es same, same_length ds es same, same_threads (first + length es) ls' ks' rest) refl
+same_threads settings first ls ks rows_end = refl
+same_threads settings first ls ks (rows_more ds es ls' ks' same rest) =
+    rw (same_calls settings first ds es same, same_length ds es same, same_threads settings (first + length es) ls' ks' rest) refl
 
 same_lists_in : (ds es : List Data) → RowReordered ds es → PartsAs RowsReordered (lists_in ds) (lists_in es)
 unfolding lists_in
@@ -331,17 +336,18 @@ unfolding needed
 same_needed_lists ms ns finds = same_found_lists (finds (codes "threads"))
 
 -- numbers of a head
-abbrev numbers_with : Part ℕ → Part ℕ → Part ℕ → Part Time → Part Numbers
-numbers_with page_nodes min_pages retention low_water =
-    both (both page_nodes min_pages) (both retention low_water) >>= λ parts. Ok (record { page_nodes = parts.0.0; min_pages = parts.0.1; retention = parts.1.0; low_water = parts.1.1 })
+abbrev numbers_with : Part ℕ → Part ℕ → Part ℕ → Part ℕ → Part Time → Part Numbers
+numbers_with page_first page_max min_pages retention low_water =
+    both (both (both page_first page_max) min_pages) (both retention low_water)
+    >>= λ parts. Ok (record { page_first = parts.0.0.0; page_max = parts.0.0.1; min_pages = parts.0.1; retention = parts.1.0; low_water = parts.1.1 })
 
-same_numbers_with : (a b c d e f : Part ℕ) (g h : Part Time) → a ≡ b → c ≡ d → e ≡ f → g ≡ h → numbers_with a c e g ≡ numbers_with b d f h
-same_numbers_with a b c d e f g h p q r s = rw (p, q, r, s) refl
+same_numbers_with : (a b c d e f g h : Part ℕ) (k l : Part Time) → a ≡ b → c ≡ d → e ≡ f → g ≡ h → k ≡ l → numbers_with a c e g k ≡ numbers_with b d f h l
+same_numbers_with a b c d e f g h k l p q r s t = rw (p, q, r, s, t) refl
 
 same_numbers : (ms ns : Members) → FindSame ms ns → numbers_in ms ≡ numbers_in ns
 unfolding numbers_in
 same_numbers ms ns finds =
-    same_numbers_with _ _ _ _ _ _ _ _ (same_needed (codes "page_nodes") _ _ ms ns (same_below _) finds) (same_needed (codes "min_pages") _ _ ms ns (same_below _) finds)
+    same_numbers_with _ _ _ _ _ _ _ _ _ _ (same_needed (codes "page_first") _ _ ms ns (same_below _) finds) (same_needed (codes "page_max") _ _ ms ns (same_below _) finds) (same_needed (codes "min_pages") _ _ ms ns (same_below _) finds)
     (same_needed (codes "retention") _ _ ms ns (same_below _) finds) (same_needed (codes "low_water") time_of time_of ms ns same_time finds)
 
 -- heads with the same numbers, and lists that are the same but for that order
@@ -383,7 +389,7 @@ same_head d e (objects {ms} {ns} finds) = if_named _ _ ms ns (only_these head_na
 
 -- the trace of lists, under some settings
 abbrev with_lists : Settings → List (List Data) → Result Trace TraceFault
-with_lists settings lists = threads_of 1 lists >>= λ threads. Ok (record { config = settings; threads = threads })
+with_lists settings lists = threads_of settings 1 lists >>= λ threads. Ok (record { config = settings; threads = threads })
 
 -- the trace of lists, if they fit
 abbrev with_fitting : Settings → List (List Data) → Result Trace TraceFault
@@ -393,14 +399,14 @@ with_fitting settings lists = where_holds Config (fits_trace lists) lists >>= wi
 abbrev trace_with : Numbers × List (List Data) → Result Trace TraceFault
 trace_with head = settings_in head.0 >>= λ settings. with_fitting settings head.1
 
-same_if_fitting : (settings : Settings) (b c : Bool) (ls ks : List (List Data)) → b ≡ c → threads_of 1 ls ≡ threads_of 1 ks → (where_holds Config b ls >>= with_lists settings) ≡ (where_holds Config c ks >>= with_lists settings)
+same_if_fitting : (settings : Settings) (b c : Bool) (ls ks : List (List Data)) → b ≡ c → threads_of settings 1 ls ≡ threads_of settings 1 ks → (where_holds Config b ls >>= with_lists settings) ≡ (where_holds Config c ks >>= with_lists settings)
 same_if_fitting settings true true ls ks e same = rw same refl
 same_if_fitting settings true false ls ks e same = absurd cc
 same_if_fitting settings false true ls ks e same = absurd cc
 same_if_fitting settings false false ls ks e same = refl
 
 same_settings : (settings : Result Settings TraceFault) (ls ks : List (List Data)) → RowsReordered ls ks → (settings >>= λ settings. with_fitting settings ls) ≡ (settings >>= λ settings. with_fitting settings ks)
-same_settings (Ok settings) ls ks same = same_if_fitting settings _ _ ls ks (same_fits ls ks same) (same_threads 1 ls ks same)
+same_settings (Ok settings) ls ks same = same_if_fitting settings _ _ ls ks (same_fits ls ks same) (same_threads settings 1 ls ks same)
 same_settings (Err fault) ls ks same = refl
 
 same_trace_with : (m n : Numbers) (ls ks : List (List Data)) → m ≡ n → RowsReordered ls ks → trace_with (m, ls) ≡ trace_with (n, ks)

@@ -9,6 +9,7 @@ use Rattle.std.proofs.Math.ListN.{drop_of_length-le}
 use Rattle.serde_json.specs.Data.{Data}
 use Rattle.serde_json.specs.View.{view}
 use Rattle.serde_json.specs.declared.value.Value.{Value}
+use Rattle.tsc_cache.specs.Settings.{Settings}
 use Rattle.tsc_json.specs.declared.trace.Call.{Call}
 use Rattle.tsc_json.specs.declared.read.TraceFault.{TraceFault}
 use Rattle.tsc_json.specs.declared.read.TraceFault.TheVariants.{NoMemory}
@@ -17,7 +18,7 @@ use Rattle.tsc_json.specs.declared.read.part.Refusal.TheVariants as refusal
 use Rattle.tsc_json.specs.Reading.{Refuses}
 use Rattle.tsc_json.specs.Rows.{rows_view}
 use Rattle.tsc_json.specs.TraceParts.{Part, ◌>>=◌, at_call}
-use Rattle.tsc_json.specs.TraceText.{array_of, lists_in, call_of, calls_of, threads_of}
+use Rattle.tsc_json.specs.TraceText.{array_of, lists_in, fitting_call, calls_of, threads_of}
 
 -- what was read before, and what is still read
 abbrev pub with_front : {A F : Type 0} → List A → Result (List A) F → Result (List A) F
@@ -67,25 +68,25 @@ lists_are_done front vs i total le so_far =
 
 -- ---- calls
 
-calls_step : (first : ℕ) (d : Data) (ds : List Data) → calls_of first (d ∷ ds) ≡ one_and_rest (at_call first (call_of d)) (calls_of (first + 1) ds)
+calls_step : (settings : Settings) (first : ℕ) (d : Data) (ds : List Data) → calls_of settings first (d ∷ ds) ≡ one_and_rest (at_call first (fitting_call settings d)) (calls_of settings (first + 1) ds)
 unfolding calls_of
-calls_step first d ds = rw add-one refl
+calls_step settings first d ds = rw add-one refl
 
-pub calls_go_on : (front : List Call) (vs : List Value) (i first : ℕ) (v : Value) (call : Call) (total : Result (List Call) TraceFault) → i < length vs → v ≡ get_or vs i v → at_call first (call_of (view v)) ≡ Ok call
-    → with_front front (calls_of first (map view (drop i vs))) ≡ total → with_front (front ++ call ∷ []) (calls_of (first + 1) (map view (drop (i + 1) vs))) ≡ total
-calls_go_on front vs i first v call total lt at is so_far =
-    sym (ap (λ ds. with_front front (calls_of first ds)) (here view vs i v lt at) ∙ ap (with_front front) (calls_step first (view v) _) ∙ regroup front _ _ call is) ∙ so_far
+pub calls_go_on : (settings : Settings) (front : List Call) (vs : List Value) (i first : ℕ) (v : Value) (call : Call) (total : Result (List Call) TraceFault) → i < length vs → v ≡ get_or vs i v → at_call first (fitting_call settings (view v)) ≡ Ok call
+    → with_front front (calls_of settings first (map view (drop i vs))) ≡ total → with_front (front ++ call ∷ []) (calls_of settings (first + 1) (map view (drop (i + 1) vs))) ≡ total
+calls_go_on settings front vs i first v call total lt at is so_far =
+    sym (ap (λ ds. with_front front (calls_of settings first ds)) (here view vs i v lt at) ∙ ap (with_front front) (calls_step settings first (view v) _) ∙ regroup front _ _ call is) ∙ so_far
 
-pub calls_end : (fault : TraceFault) (front : List Call) (vs : List Value) (i first : ℕ) (v : Value) (total : Result (List Call) TraceFault) → i < length vs → v ≡ get_or vs i v
-    → (fault ≡ NoMemory) ⊎ (at_call first (call_of (view v)) ≡ Err fault) → with_front front (calls_of first (map view (drop i vs))) ≡ total → (fault ≡ NoMemory) ⊎ (total ≡ Err fault)
-calls_end fault front vs i first v total lt at (inl memory) so_far = inl memory
-calls_end fault front vs i first v total lt at (inr is) so_far =
-    inr (sym so_far ∙ ap (λ ds. with_front front (calls_of first ds)) (here view vs i v lt at) ∙ ap (with_front front) (calls_step first (view v) _) ∙ refused front _ _ fault is)
+pub calls_end : (settings : Settings) (fault : TraceFault) (front : List Call) (vs : List Value) (i first : ℕ) (v : Value) (total : Result (List Call) TraceFault) → i < length vs → v ≡ get_or vs i v
+    → (fault ≡ NoMemory) ⊎ (at_call first (fitting_call settings (view v)) ≡ Err fault) → with_front front (calls_of settings first (map view (drop i vs))) ≡ total → (fault ≡ NoMemory) ⊎ (total ≡ Err fault)
+calls_end settings fault front vs i first v total lt at (inl memory) so_far = inl memory
+calls_end settings fault front vs i first v total lt at (inr is) so_far =
+    inr (sym so_far ∙ ap (λ ds. with_front front (calls_of settings first ds)) (here view vs i v lt at) ∙ ap (with_front front) (calls_step settings first (view v) _) ∙ refused front _ _ fault is)
 
-pub calls_are_done : (front : List Call) (vs : List Value) (i first : ℕ) (total : Result (List Call) TraceFault) → length vs ≤ i → with_front front (calls_of first (map view (drop i vs))) ≡ total → total ≡ Ok front
+pub calls_are_done : (settings : Settings) (front : List Call) (vs : List Value) (i first : ℕ) (total : Result (List Call) TraceFault) → length vs ≤ i → with_front front (calls_of settings first (map view (drop i vs))) ≡ total → total ≡ Ok front
 unfolding calls_of
-calls_are_done front vs i first total le so_far =
-    let none : with_front front (calls_of first (map view (drop i vs))) ≡ Ok front = rw (past view vs i le) (ap (λ (cs : List Call). Ok cs) (append-nil front)) in
+calls_are_done settings front vs i first total le so_far =
+    let none : with_front front (calls_of settings first (map view (drop i vs))) ≡ Ok front = rw (past view vs i le) (ap (λ (cs : List Call). Ok cs) (append-nil front)) in
     sym so_far ∙ none
 
 -- ---- the calls of lists
@@ -94,29 +95,29 @@ calls_are_done front vs i first total le so_far =
 abbrev pub row : Bor (List Value) → List Data
 row r = map view r.now
 
-threads_step : (first : ℕ) (ds : List Data) (lists : List (List Data)) → threads_of first (ds ∷ lists) ≡ one_and_rest (calls_of first ds) (threads_of (first + length ds) lists)
+threads_step : (settings : Settings) (first : ℕ) (ds : List Data) (lists : List (List Data)) → threads_of settings first (ds ∷ lists) ≡ one_and_rest (calls_of settings first ds) (threads_of settings (first + length ds) lists)
 unfolding threads_of
-threads_step first ds lists = refl
+threads_step settings first ds lists = refl
 
-pub threads_go_on : (front : List (List Call)) (rows : List (Bor (List Value))) (i first : ℕ) (r : Bor (List Value)) (calls : List Call) (total : Result (List (List Call)) TraceFault) → i < length rows → r ≡ get_or rows i r
-    → calls_of first (row r) ≡ Ok calls
-    → with_front front (threads_of first (rows_view (drop i rows))) ≡ total → with_front (front ++ calls ∷ []) (threads_of (first + length r.now) (rows_view (drop (i + 1) rows))) ≡ total
-threads_go_on front rows i first r calls total lt at is so_far =
+pub threads_go_on : (settings : Settings) (front : List (List Call)) (rows : List (Bor (List Value))) (i first : ℕ) (r : Bor (List Value)) (calls : List Call) (total : Result (List (List Call)) TraceFault) → i < length rows → r ≡ get_or rows i r
+    → calls_of settings first (row r) ≡ Ok calls
+    → with_front front (threads_of settings first (rows_view (drop i rows))) ≡ total → with_front (front ++ calls ∷ []) (threads_of settings (first + length r.now) (rows_view (drop (i + 1) rows))) ≡ total
+threads_go_on settings front rows i first r calls total lt at is so_far =
     let more = with_front (front ++ calls ∷ []) in
-    ap (λ n. more (threads_of (first + n) (map row (drop (i + 1) rows)))) (sym (length-map r.now view))
-    ∙ sym (ap (λ ls. with_front front (threads_of first ls)) (here row rows i r lt at) ∙ ap (with_front front) (threads_step first (row r) _) ∙ regroup front _ _ calls is) ∙ so_far
+    ap (λ n. more (threads_of settings (first + n) (map row (drop (i + 1) rows)))) (sym (length-map r.now view))
+    ∙ sym (ap (λ ls. with_front front (threads_of settings first ls)) (here row rows i r lt at) ∙ ap (with_front front) (threads_step settings first (row r) _) ∙ regroup front _ _ calls is) ∙ so_far
 
-pub threads_end : (fault : TraceFault) (front : List (List Call)) (rows : List (Bor (List Value))) (i first : ℕ) (r : Bor (List Value)) (total : Result (List (List Call)) TraceFault) → i < length rows → r ≡ get_or rows i r
-    → (fault ≡ NoMemory) ⊎ (calls_of first (row r) ≡ Err fault) → with_front front (threads_of first (rows_view (drop i rows))) ≡ total → (fault ≡ NoMemory) ⊎ (total ≡ Err fault)
-threads_end fault front rows i first r total lt at (inl memory) so_far = inl memory
-threads_end fault front rows i first r total lt at (inr is) so_far =
-    inr (sym so_far ∙ ap (λ ls. with_front front (threads_of first ls)) (here row rows i r lt at) ∙ ap (with_front front) (threads_step first (row r) _) ∙ refused front _ _ fault is)
+pub threads_end : (settings : Settings) (fault : TraceFault) (front : List (List Call)) (rows : List (Bor (List Value))) (i first : ℕ) (r : Bor (List Value)) (total : Result (List (List Call)) TraceFault) → i < length rows → r ≡ get_or rows i r
+    → (fault ≡ NoMemory) ⊎ (calls_of settings first (row r) ≡ Err fault) → with_front front (threads_of settings first (rows_view (drop i rows))) ≡ total → (fault ≡ NoMemory) ⊎ (total ≡ Err fault)
+threads_end settings fault front rows i first r total lt at (inl memory) so_far = inl memory
+threads_end settings fault front rows i first r total lt at (inr is) so_far =
+    inr (sym so_far ∙ ap (λ ls. with_front front (threads_of settings first ls)) (here row rows i r lt at) ∙ ap (with_front front) (threads_step settings first (row r) _) ∙ refused front _ _ fault is)
 
-pub threads_are_done : (front : List (List Call)) (rows : List (Bor (List Value))) (i first : ℕ) (total : Result (List (List Call)) TraceFault) → length rows ≤ i
-    → with_front front (threads_of first (rows_view (drop i rows))) ≡ total → total ≡ Ok front
+pub threads_are_done : (settings : Settings) (front : List (List Call)) (rows : List (Bor (List Value))) (i first : ℕ) (total : Result (List (List Call)) TraceFault) → length rows ≤ i
+    → with_front front (threads_of settings first (rows_view (drop i rows))) ≡ total → total ≡ Ok front
 unfolding threads_of
-threads_are_done front rows i first total le so_far =
-    let none : with_front front (threads_of first (rows_view (drop i rows))) ≡ Ok front = rw (past row rows i le) (ap (λ (cs : List (List Call)). Ok cs) (append-nil front)) in
+threads_are_done settings front rows i first total le so_far =
+    let none : with_front front (threads_of settings first (rows_view (drop i rows))) ≡ Ok front = rw (past row rows i le) (ap (λ (cs : List (List Call)). Ok cs) (append-nil front)) in
     sym so_far ∙ none
 
 -- the calls of the lists that are left, of which the first is this one
@@ -132,10 +133,10 @@ one_longer (Ok x) (Err fault) xs n h many = absurd cc
 one_longer (Err fault) rest xs n h many = absurd cc
 
 -- there are as many calls as JSON values
-as_many_calls : (first : ℕ) (ds : List Data) (calls : List Call) → calls_of first ds ≡ Ok calls → length calls ≡ length ds
+as_many_calls : (settings : Settings) (first : ℕ) (ds : List Data) (calls : List Call) → calls_of settings first ds ≡ Ok calls → length calls ≡ length ds
 unfolding calls_of
-as_many_calls first [] calls is = let e : [] ≡ calls = cc in ap length (sym e)
-as_many_calls first (d ∷ ds) calls is = one_longer (at_call first (call_of d)) (calls_of (suc first) ds) calls (length ds) is (λ ys. as_many_calls (suc first) ds ys)
+as_many_calls settings first [] calls is = let e : [] ≡ calls = cc in ap length (sym e)
+as_many_calls settings first (d ∷ ds) calls is = one_longer (at_call first (fitting_call settings d)) (calls_of settings (suc first) ds) calls (length ds) is (λ ys. as_many_calls settings (suc first) ds ys)
 
 lengths_of : {F : Type 0} (one : Result (List Call) F) (rest : Result (List (List Call)) F) (threads : List (List Call)) (n : ℕ) (ns : List ℕ) → one_and_rest one rest ≡ Ok threads
     → ((calls : List Call) → one ≡ Ok calls → length calls ≡ n) → ((ts : List (List Call)) → rest ≡ Ok ts → map length ts ≡ ns) → map length threads ≡ n ∷ ns
@@ -144,16 +145,16 @@ lengths_of (Ok calls) (Err fault) threads n ns h first then = absurd cc
 lengths_of (Err fault) rest threads n ns h first then = absurd cc
 
 -- the lists of calls are as long as those of JSON values
-same_lengths : (first : ℕ) (lists : List (List Data)) (threads : List (List Call)) → threads_of first lists ≡ Ok threads → map length threads ≡ map length lists
+same_lengths : (settings : Settings) (first : ℕ) (lists : List (List Data)) (threads : List (List Call)) → threads_of settings first lists ≡ Ok threads → map length threads ≡ map length lists
 unfolding threads_of
-same_lengths first [] threads is = let e : [] ≡ threads = cc in ap (map length) (sym e)
-same_lengths first (ds ∷ lists) threads is =
-    lengths_of (calls_of first ds) (threads_of (first + length ds) lists) threads (length ds) (map length lists) is (λ calls. as_many_calls first ds calls) (λ ts. same_lengths (first + length ds) lists ts)
+same_lengths settings first [] threads is = let e : [] ≡ threads = cc in ap (map length) (sym e)
+same_lengths settings first (ds ∷ lists) threads is =
+    lengths_of (calls_of settings first ds) (threads_of settings (first + length ds) lists) threads (length ds) (map length lists) is (λ calls. as_many_calls settings first ds calls) (λ ts. same_lengths settings (first + length ds) lists ts)
 
 -- so a trace may have the ones where it may have the others
-pub threads_fit : (first : ℕ) (lists : List (List Data)) (threads : List (List Call)) → threads_of first lists ≡ Ok threads → fits_trace lists ≡ true → fits_trace threads ≡ true
-threads_fit first lists threads is fit =
-    let lengths : map length threads ≡ map length lists = same_lengths first lists threads is in
+pub threads_fit : (settings : Settings) (first : ℕ) (lists : List (List Data)) (threads : List (List Call)) → threads_of settings first lists ≡ Ok threads → fits_trace lists ≡ true → fits_trace threads ≡ true
+threads_fit settings first lists threads is fit =
+    let lengths : map length threads ≡ map length lists = same_lengths settings first lists threads is in
     let many : length threads ≡ length lists = sym (length-map threads length) ∙ ap length lengths ∙ length-map lists length in
     let calls : sum_by length threads ≡ sum_by length lists = sym (sum-map length threads) ∙ ap sum lengths ∙ sum-map length lists in
     rw (many, calls) fit

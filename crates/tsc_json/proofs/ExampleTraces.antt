@@ -4,7 +4,7 @@ use Rattle.tsc_span.specs.Span.{point}
 use Rattle.tsc_cache.proofs.ExampleSettings.{of_first, of_second, usual, twenty, without_end}
 use Rattle.tsc_json.specs.declared.trace.Call.{Call}
 use Rattle.tsc_json.specs.declared.trace.Call.TheVariants.{Add, Get, Low}
-use Rattle.tsc_json.specs.declared.trace.Trace.{Trace}
+use Rattle.tsc_json.specs.Traces.{Trace}
 
 -- a range of one transaction, a point of the other inside it, and lookups
 abbrev pub example_calls : List Call

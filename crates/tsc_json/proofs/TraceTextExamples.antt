@@ -9,10 +9,10 @@ use Rattle.tsc_time.specs.Time.{Time}
 use Rattle.tsc_time.specs.OwnedTime.{unowned}
 use Rattle.tsc_span.specs.Span.{nothing, between, before, after, last, point}
 use Rattle.tsc_json.specs.declared.trace.Call.TheVariants.{Add, Get}
-use Rattle.tsc_json.specs.declared.read.TraceFault.TheVariants.{NotJson, Shape, Number, Hex, Config}
+use Rattle.tsc_json.specs.declared.read.TraceFault.TheVariants.{NotJson, Shape, Number, Hex, Uuid, Config, TooLarge}
 use Rattle.tsc_json.specs.declared.read.part.PartFault.TheVariants as part
 use Rattle.tsc_json.specs.TraceText.{json_of, trace_of_bytes}
-use Rattle.tsc_json.specs.TraceText.{array_of, object_of, text_of, unsigned_of, number_below, needed, two_of, time_in_range, time_of, key_of, owner_in, owner_member, ends_in, ends_of, excluded_in, excluded_of, start_form, start_to_end_form, range_form, onward_form, form_of, span_form, span_of_form, added_span, looked_up_span, add_of, get_of, low_of, call_by_name, call_of, numbers_in, lists_in, lists_of, head_of, settings_in, calls_of, threads_of, trace_of}
+use Rattle.tsc_json.specs.TraceText.{array_of, object_of, text_of, unsigned_of, number_below, needed, two_of, time_in_range, time_of, key_of, owner_in, owner_member, ends_in, ends_of, excluded_in, excluded_of, start_form, start_to_end_form, range_form, onward_form, form_of, span_form, span_of_form, added_span, looked_up_span, add_of, get_of, low_of, call_by_name, call_of, fitting_call, numbers_in, lists_in, lists_of, head_of, settings_in, calls_of, threads_of, trace_of}
 use Rattle.tsc_json.proofs.ExampleTraces.{ended, example_trace}
 
 -- a time: its wall time and its logical count
@@ -70,17 +70,18 @@ calls_data =
     (item low_call no_items)))))
 
 -- the members of a trace, in the order of their names
-abbrev pub trace_on_pages : ℕ → Items → Data
-trace_on_pages page_nodes threads =
+abbrev pub trace_on_pages : ℕ → ℕ → Items → Data
+trace_on_pages page_first page_max threads =
     object
     (member (codes "low_water") (time 5 0)
     (member (codes "min_pages") (number (unsigned 2))
-    (member (codes "page_nodes") (number (unsigned page_nodes))
+    (member (codes "page_first") (number (unsigned page_first))
+    (member (codes "page_max") (number (unsigned page_max))
     (member (codes "retention") (number (unsigned 10))
-    (member (codes "threads") (array threads) no_members)))))
+    (member (codes "threads") (array threads) no_members))))))
 
 abbrev pub trace_data : Items → Data
-trace_data threads = trace_on_pages 4 threads
+trace_data threads = trace_on_pages 132 132 threads
 
 abbrev pub one_list : Items → Items
 one_list calls = item (array calls) no_items
@@ -93,7 +94,7 @@ abbrev pub twenty : Time
 twenty = record { wall = 20; logical = 0 }
 
 pub the_trace_of_a_json_value : trace_of (trace_data (one_list calls_data)) ≡ Ok example_trace
-unfolding array_of object_of text_of unsigned_of number_below needed two_of time_in_range time_of key_of owner_in owner_member ends_in ends_of excluded_in excluded_of start_form start_to_end_form range_form onward_form form_of span_form span_of_form added_span looked_up_span add_of get_of low_of call_by_name call_of numbers_in lists_in lists_of head_of settings_in calls_of threads_of trace_of hex_on_literals uuid_on_literals
+unfolding array_of object_of text_of unsigned_of number_below needed two_of time_in_range time_of key_of owner_in owner_member ends_in ends_of excluded_in excluded_of start_form start_to_end_form range_form onward_form form_of span_form span_of_form added_span looked_up_span add_of get_of low_of call_by_name call_of fitting_call numbers_in lists_in lists_of head_of settings_in calls_of threads_of trace_of hex_on_literals uuid_on_literals
 the_trace_of_a_json_value = refl
 
 -- ---- spans
@@ -145,22 +146,40 @@ the_nil_owner_is_none = refl
 
 -- calls are numbered on through all lists, and the first that has a fault decides
 pub the_first_wrong_call : trace_of (trace_data (item (array (one_call low_call)) (one_list (item low_call (item (get_call (point_span (codes "6g"))) (one_call low_call_and_more)))))) ≡ Err (Hex 3)
-unfolding array_of object_of text_of unsigned_of number_below needed two_of time_in_range time_of key_of start_form form_of span_form span_of_form looked_up_span get_of low_of call_by_name call_of numbers_in lists_in lists_of head_of settings_in calls_of threads_of trace_of hex_on_literals
+unfolding array_of object_of text_of unsigned_of number_below needed two_of time_in_range time_of key_of start_form form_of span_form span_of_form looked_up_span get_of low_of call_by_name call_of fitting_call numbers_in lists_in lists_of head_of settings_in calls_of threads_of trace_of hex_on_literals
 the_first_wrong_call = refl
 
 -- the configuration is tested before the calls
-pub a_configuration_before_calls : trace_of (trace_on_pages 1 (one_list (one_call low_call_and_more))) ≡ Err Config
+pub a_configuration_before_calls : trace_of (trace_on_pages 63 132 (one_list (one_call low_call_and_more))) ≡ Err Config
 unfolding array_of object_of text_of unsigned_of number_below needed two_of time_in_range time_of numbers_in lists_in lists_of head_of settings_in trace_of
 a_configuration_before_calls = refl
 
-pub a_number_of_the_head : trace_of (trace_on_pages 4294967296 (one_list no_items)) ≡ Err (Number 0)
+pub a_number_of_the_head : trace_of (trace_on_pages 4294967296 132 (one_list no_items)) ≡ Err (Number 0)
 unfolding array_of object_of text_of unsigned_of number_below needed two_of time_in_range time_of numbers_in lists_in lists_of head_of settings_in trace_of
 a_number_of_the_head = refl
 
 -- in the head too the shape comes before the numbers
-pub a_shape_of_the_head : trace_of (trace_on_pages 4294967296 (one_call low_call)) ≡ Err (Shape 0)
+pub a_shape_of_the_head : trace_of (trace_on_pages 4294967296 132 (one_call low_call)) ≡ Err (Shape 0)
 unfolding array_of object_of text_of unsigned_of number_below needed two_of time_in_range time_of numbers_in lists_in lists_of head_of settings_in trace_of
 a_shape_of_the_head = refl
+
+-- pages on which two keys of one byte have no place together
+abbrev pub narrow_trace : Data → Data
+narrow_trace call = trace_on_pages 64 64 (one_list (one_call call))
+
+pub an_add_that_is_too_large : trace_of (narrow_trace (add_call (range_span (codes "61") (codes "63")) first_owner)) ≡ Err (TooLarge 1)
+unfolding array_of object_of text_of unsigned_of number_below needed two_of time_in_range time_of key_of owner_in owner_member start_form start_to_end_form form_of span_form span_of_form added_span looked_up_span add_of get_of call_by_name call_of fitting_call numbers_in lists_in lists_of head_of settings_in calls_of threads_of trace_of hex_on_literals uuid_on_literals
+an_add_that_is_too_large = refl
+
+-- what else is wrong with a call comes before that
+pub a_wrong_owner_of_one_that_is_too_large : trace_of (narrow_trace (add_call (range_span (codes "61") (codes "63")) (codes "xyz"))) ≡ Err (Uuid 1)
+unfolding array_of object_of text_of unsigned_of number_below needed two_of time_in_range time_of key_of owner_in owner_member start_form start_to_end_form form_of span_form span_of_form added_span looked_up_span add_of get_of call_by_name call_of fitting_call numbers_in lists_in lists_of head_of settings_in calls_of threads_of trace_of hex_on_literals uuid_on_literals
+a_wrong_owner_of_one_that_is_too_large = refl
+
+-- of any size
+pub a_lookup_is_never_too_large : trace_of (narrow_trace (get_call (range_span (codes "61") (codes "63")))) ≡ Ok (record { config = record { page_first = 64; page_max = 64; min_pages = 2; retention = 10; low_water = record { wall = 5; logical = 0 } }; threads = (Get (between (before (97 ∷ [])) (before (99 ∷ []))) ∷ []) ∷ [] })
+unfolding array_of object_of text_of unsigned_of number_below needed two_of time_in_range time_of key_of owner_in owner_member start_form start_to_end_form form_of span_form span_of_form added_span looked_up_span add_of get_of call_by_name call_of fitting_call numbers_in lists_in lists_of head_of settings_in calls_of threads_of trace_of hex_on_literals uuid_on_literals
+a_lookup_is_never_too_large = refl
 
 pub no_list : trace_of (trace_data no_items) ≡ Err Config
 unfolding array_of object_of text_of unsigned_of number_below needed two_of time_in_range time_of numbers_in lists_in lists_of head_of settings_in trace_of
@@ -170,7 +189,7 @@ no_list = refl
 
 abbrev pub example_trace_text : List ℕ
 example_trace_text =
-    ended (codes "{\"page_nodes\":4,\"min_pages\":2,\"retention\":10,\"low_water\":[5,0],\"threads\":[[")
+    ended (codes "{\"page_first\":132,\"page_max\":132,\"min_pages\":2,\"retention\":10,\"low_water\":[5,0],\"threads\":[[")
     ++ ended (codes "{\"op\":\"add\",\"span\":{\"start\":\"61\",\"end\":\"63\"},\"time\":[20,0],\"owner\":\"11111111-1111-4111-8111-111111111111\",\"now\":[20,0]},")
     ++ ended (codes "{\"op\":\"get\",\"span\":{\"start\":\"62\"}},")
     ++ ended (codes "{\"op\":\"get\",\"span\":{\"start\":\"63\"}},")
@@ -183,10 +202,10 @@ unfolding serde_json_on_literals is_utf8 chars
 the_json_value_of_a_file = refl
 
 pub the_trace_of_a_file : trace_of_bytes example_trace_text ≡ Ok example_trace
-unfolding array_of object_of text_of unsigned_of number_below needed two_of time_in_range time_of key_of owner_in owner_member ends_in ends_of excluded_in excluded_of start_form start_to_end_form range_form onward_form form_of span_form span_of_form added_span looked_up_span add_of get_of low_of call_by_name call_of numbers_in lists_in lists_of head_of settings_in calls_of threads_of trace_of serde_json_on_literals hex_on_literals uuid_on_literals is_utf8 chars
+unfolding array_of object_of text_of unsigned_of number_below needed two_of time_in_range time_of key_of owner_in owner_member ends_in ends_of excluded_in excluded_of start_form start_to_end_form range_form onward_form form_of span_form span_of_form added_span looked_up_span add_of get_of low_of call_by_name call_of fitting_call numbers_in lists_in lists_of head_of settings_in calls_of threads_of trace_of serde_json_on_literals hex_on_literals uuid_on_literals is_utf8 chars
 the_trace_of_a_file = refl
 
-pub a_text_that_stops_early_is_not_json : trace_of_bytes (codes "{\"page_nodes\":4") ≡ Err NotJson
+pub a_text_that_stops_early_is_not_json : trace_of_bytes (codes "{\"page_first\":132") ≡ Err NotJson
 unfolding serde_json_on_literals is_utf8 chars
 a_text_that_stops_early_is_not_json = refl
 

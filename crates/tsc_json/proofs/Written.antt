@@ -19,17 +19,18 @@ use Rattle.tsc_span.specs.Span.{KeyBytes, key_cmp, before, after, last, Interval
 use Rattle.tsc_span.specs.MadeSpan.{IsKey, IsMadeSpan}
 use Rattle.tsc_span.proofs.CutOrder.{key_cmp-same}
 use Rattle.tsc_span.proofs.Ranges.{range_of_less, range_of_equal}
-use Rattle.tsc_nodes.specs.declared.TheConstants.{LEAST_NODES, MOST_NODES}
+use Rattle.tsc_nodes.specs.declared.TheConstants.{LEAST_SIZE, MOST_SIZE}
 use Rattle.tsc_cache.specs.declared.config.TheConstants.{LEAST_MIN_PAGES, MOST_MIN_PAGES, LONGEST_RETENTION}
-use Rattle.tsc_cache.specs.Settings.{Settings, IsWithinLimits}
+use Rattle.tsc_cache.specs.Settings.{Settings, are_page_sizes, IsWithinLimits}
 use Rattle.tsc_json.specs.Lists.{fits_trace}
 use Rattle.tsc_json.specs.declared.trace.Call.{Call}
 use Rattle.tsc_json.specs.declared.trace.Call.TheVariants.{Add, Get, Low}
-use Rattle.tsc_json.specs.declared.trace.Trace.{Trace}
+use Rattle.tsc_json.specs.Calls.{call_fits}
+use Rattle.tsc_json.specs.Traces.{Trace, EachFits, AllFit}
 use Rattle.tsc_json.specs.declared.read.head.Numbers.{Numbers}
 use Rattle.tsc_json.specs.declared.read.span.SpanForm.{SpanForm}
 use Rattle.tsc_json.specs.declared.read.span.SpanForm.TheVariants.{Range, Onward}
-use Rattle.tsc_json.specs.TraceText.{listed, array_of, object_of, text_of, unsigned_of, number_below, needed, two_of, time_in_range, time_of, key_of, owner_in, owner_member, ends_in, ends_of, excluded_in, excluded_of, range_form, onward_form, form_of, span_form, span_of_form, added_span, looked_up_span, add_of, get_of, low_of, call_by_name, call_of, numbers_in, lists_in, lists_of, head_of, settings_in, calls_of, threads_of, trace_of}
+use Rattle.tsc_json.specs.TraceText.{listed, array_of, object_of, text_of, unsigned_of, number_below, needed, two_of, time_in_range, time_of, key_of, owner_in, owner_member, ends_in, ends_of, excluded_in, excluded_of, range_form, onward_form, form_of, span_form, span_of_form, added_span, looked_up_span, add_of, get_of, low_of, call_by_name, call_of, fitting_call, numbers_in, lists_in, lists_of, head_of, settings_in, calls_of, threads_of, trace_of}
 use Rattle.tsc_json.specs.TraceData.{list_data, key_data, time_data, owner_data, start_bracket, end_bracket, range_data, onward_data, span_data, call_data, trace_data, IsMadeCall, IsMadeTrace}
 use Rattle.tsc_json.specs.TraceLaws.{ReadsWhatIsWritten}
 
@@ -140,10 +141,15 @@ call_back (Add span value now) made = rw (added_back span made.0, time_back valu
 call_back (Get span) made = rw (looked_up_back span made) refl
 call_back Low made = refl
 
-calls_back : (first : ℕ) (cs : List Call) → All IsMadeCall cs → calls_of first (map call_data cs) ≡ Ok cs
+fitting_back : (settings : Settings) (c : Call) → IsMadeCall c → call_fits settings c ≡ true → fitting_call settings (call_data c) ≡ Ok c
+unfolding fitting_call
+fitting_back settings c made fit = rw (call_back c made, fit) refl
+
+calls_back : (settings : Settings) (first : ℕ) (cs : List Call) → All IsMadeCall cs → EachFits settings cs → calls_of settings first (map call_data cs) ≡ Ok cs
 unfolding calls_of
-calls_back first [] made = refl
-calls_back first (c ∷ cs) made = rw (call_back c (made 0 c (omega arith)), calls_back (suc first) cs (λ k d lt. made (suc k) d (omega arith))) refl
+calls_back settings first [] made fit = refl
+calls_back settings first (c ∷ cs) made fit =
+    rw (fitting_back settings c (made 0 c (omega arith)) (fit 0 c (omega arith)), calls_back settings (suc first) cs (λ k d lt. made (suc k) d (omega arith)) (λ k d lt. fit (suc k) d (omega arith))) refl
 
 listed_back : (ds : List Data) → listed (items_of ds) ≡ ds
 listed_back [] = refl
@@ -162,11 +168,12 @@ unfolding lists_in
 lists_back [] = refl
 lists_back (calls ∷ threads) = rw (array_back (map call_data calls), lists_back threads) refl
 
-threads_back : (first : ℕ) (threads : List (List Call)) → All (λ calls. All IsMadeCall calls) threads → threads_of first (rows_of threads) ≡ Ok threads
+threads_back : (settings : Settings) (first : ℕ) (threads : List (List Call)) → All (λ calls. All IsMadeCall calls) threads → AllFit settings threads → threads_of settings first (rows_of threads) ≡ Ok threads
 unfolding threads_of
-threads_back first [] made = refl
-threads_back first (calls ∷ threads) made =
-    rw (calls_back first calls (made 0 calls (omega arith)), threads_back (first + length (map call_data calls)) threads (λ k d lt. made (suc k) d (omega arith))) refl
+threads_back settings first [] made fit = refl
+threads_back settings first (calls ∷ threads) made fit =
+    let others = threads_back settings (first + length (map call_data calls)) threads (λ k d lt. made (suc k) d (omega arith)) (λ k d lt. fit (suc k) d (omega arith)) in
+    rw (calls_back settings first calls (made 0 calls (omega arith)) (fit 0 calls (omega arith)), others) refl
 
 same_lengths : (threads : List (List Call)) → map length (rows_of threads) ≡ map length threads
 same_lengths [] = refl
@@ -190,6 +197,19 @@ fits_32_bits least n most within small =
     let most_at : n ≤ most = leb-true n most (and_parts (nat_le least n) (nat_le n most) within).1 in
     lt-ltb n (2 ^ 32) (omega arith)
 
+-- the sizes of pages, of which the first is no larger than the largest
+record AreOf32Bits (first most : ℕ) : Type 0 where
+  first_below : nat_lt first (2 ^ 32) ≡ true
+  most_below : nat_lt most (2 ^ 32) ≡ true
+
+sizes_fit : (first most : ℕ) → are_page_sizes first most ≡ true → AreOf32Bits first most
+sizes_fit first most within =
+    let parts = and_parts (nat_le LEAST_SIZE first) (nat_le first most && nat_le most MOST_SIZE) within in
+    let others = and_parts (nat_le first most) (nat_le most MOST_SIZE) parts.1 in
+    let below : first ≤ most = leb-true first most others.0 in
+    let largest : most ≤ MOST_SIZE = leb-true most MOST_SIZE others.1 in
+    record { first_below = lt-ltb first (2 ^ 32) (omega arith); most_below = lt-ltb most (2 ^ 32) (omega arith) }
+
 fits_64_bits : (n most : ℕ) → nat_le n most ≡ true → most < 2 ^ 64 → nat_lt n (2 ^ 64) ≡ true
 fits_64_bits n most within small =
     let most_at : n ≤ most = leb-true n most within in
@@ -197,21 +217,23 @@ fits_64_bits n most within small =
 
 -- the numbers of a configuration
 abbrev pub numbers_of : Settings → Numbers
-numbers_of s = record { page_nodes = s.page_nodes; min_pages = s.min_pages; retention = s.retention; low_water = s.low_water }
+numbers_of s = record { page_first = s.page_first; page_max = s.page_max; min_pages = s.min_pages; retention = s.retention; low_water = s.low_water }
 
 head_back : (t : Trace) → IsMadeTrace t → head_of (trace_data t) ≡ Ok (numbers_of t.config, rows_of t.threads)
 unfolding head_of object_of needed numbers_in lists_of
 head_back t made =
     let limits = made.limits in
-    let page_nodes : number_below (2 ^ 32) (number (unsigned t.config.page_nodes)) ≡ Ok t.config.page_nodes = number_back _ _ (fits_32_bits LEAST_NODES t.config.page_nodes MOST_NODES limits.page_nodes (omega arith)) in
+    let sizes = sizes_fit t.config.page_first t.config.page_max limits.sizes in
+    let page_first : number_below (2 ^ 32) (number (unsigned t.config.page_first)) ≡ Ok t.config.page_first = number_back _ _ sizes.first_below in
+    let page_max : number_below (2 ^ 32) (number (unsigned t.config.page_max)) ≡ Ok t.config.page_max = number_back _ _ sizes.most_below in
     let min_pages : number_below (2 ^ 32) (number (unsigned t.config.min_pages)) ≡ Ok t.config.min_pages = number_back _ _ (fits_32_bits LEAST_MIN_PAGES t.config.min_pages MOST_MIN_PAGES limits.min_pages (omega arith)) in
     let retention : number_below (2 ^ 64) (number (unsigned t.config.retention)) ≡ Ok t.config.retention = number_back _ _ (fits_64_bits t.config.retention LONGEST_RETENTION limits.retention (omega arith)) in
-    rw (page_nodes, min_pages, retention, time_back t.config.low_water made.low_water, array_back (map (λ calls. list_data (map call_data calls)) t.threads), lists_back t.threads) refl
+    rw (page_first, page_max, min_pages, retention, time_back t.config.low_water made.low_water, array_back (map (λ calls. list_data (map call_data calls)) t.threads), lists_back t.threads) refl
 
 config_back : (s : Settings) → IsWithinLimits s → settings_in (numbers_of s) ≡ Ok s
 unfolding settings_in
-config_back s limits = rw (limits.page_nodes, limits.min_pages, limits.retention) refl
+config_back s limits = rw (limits.sizes, limits.min_pages, limits.retention) refl
 
 pub written_is_read : ReadsWhatIsWritten
 unfolding trace_of
-written_is_read t made = rw (head_back t made, config_back t.config made.limits, rows_fit t.threads made.fits, threads_back 1 t.threads made.calls) refl
+written_is_read t made = rw (head_back t made, config_back t.config made.limits, rows_fit t.threads made.fits, threads_back t.config 1 t.threads made.calls made.each_fits) refl

@@ -1,4 +1,6 @@
 pub mod Lists
+pub mod Calls
+pub mod Traces
 pub mod TraceParts
 pub mod TraceText
 pub mod TraceData

@@ -12,7 +12,7 @@ use Rattle.tsc_cache.specs.Settings.{IsWithinLimits}
 use Rattle.tsc_json.specs.Lists.{fits_trace}
 use Rattle.tsc_json.specs.declared.trace.Call.{Call}
 use Rattle.tsc_json.specs.declared.trace.Call.TheVariants.{Add, Get, Low}
-use Rattle.tsc_json.specs.declared.trace.Trace.{Trace}
+use Rattle.tsc_json.specs.Traces.{Trace, AllFit}
 
 -- a list of JSON values
 abbrev pub list_data : List Data → Data
@@ -83,9 +83,10 @@ trace_data trace =
     object
     (member (codes "low_water") (time_data trace.config.low_water)
     (member (codes "min_pages") (number (unsigned trace.config.min_pages))
-    (member (codes "page_nodes") (number (unsigned trace.config.page_nodes))
+    (member (codes "page_first") (number (unsigned trace.config.page_first))
+    (member (codes "page_max") (number (unsigned trace.config.page_max))
     (member (codes "retention") (number (unsigned trace.config.retention))
-    (member (codes "threads") (list_data (map (λ calls. list_data (map call_data calls)) trace.threads)) no_members)))))
+    (member (codes "threads") (list_data (map (λ calls. list_data (map call_data calls)) trace.threads)) no_members))))))
 
 -- a call whose parts can be made
 abbrev pub IsMadeCall : Call → Type 0
@@ -93,9 +94,10 @@ IsMadeCall (Add span value now) = IsMadeSpan span × IsMadeValue value × (is_in
 IsMadeCall (Get span) = IsMadeSpan span
 IsMadeCall Low = Unit {0}
 
--- a trace whose parts can be made, and which is not too large
+-- a trace whose parts can be made, whose calls fit its pages, and which is not too large
 pub record IsMadeTrace (trace : Trace) : Type 0 where
   pub limits : IsWithinLimits trace.config
   pub low_water : is_in_range trace.config.low_water ≡ true
   pub fits : fits_trace trace.threads ≡ true
   pub calls : All (λ calls. All IsMadeCall calls) trace.threads
+  pub each_fits : AllFit trace.config trace.threads

@@ -2,7 +2,7 @@
 use Rattle.std.specs.Prelude.{◌≡◌, ℕ, List, Some, Ok}
 use Rattle.serde_json.specs.Data.{Data, object, Members}
 use Rattle.serde_json.specs.Find.{get_member}
-use Rattle.tsc_json.specs.declared.trace.Trace.{Trace}
+use Rattle.tsc_json.specs.Traces.{Trace}
 use Rattle.tsc_json.specs.MemberOrder.{IsReordered}
 use Rattle.tsc_json.specs.TraceText.{span_form, call_of, trace_of, json_of, trace_of_bytes}
 use Rattle.tsc_json.specs.TraceData.{trace_data, IsMadeTrace}

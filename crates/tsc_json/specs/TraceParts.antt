@@ -1,7 +1,7 @@
 -- What a part of a trace is read as: a value, or the least of the faults that the part has.
 use Rattle.std.specs.Prelude.{ℕ, nat_le, Bool, Result, Ok, Err, if◌then◌else◌}
 use Rattle.tsc_json.specs.declared.read.part.PartFault.{PartFault}
-use Rattle.tsc_json.specs.declared.read.part.PartFault.TheVariants.{Shape, Number, Hex, Uuid, Span}
+use Rattle.tsc_json.specs.declared.read.part.PartFault.TheVariants.{Shape, Number, Hex, Uuid, Span, TooLarge}
 use Rattle.tsc_json.specs.declared.read.TraceFault.{TraceFault}
 use Rattle.tsc_json.specs.declared.read.TraceFault.TheVariants as trace_fault
 
@@ -12,6 +12,7 @@ fault_number Number = 3
 fault_number Hex = 4
 fault_number Uuid = 5
 fault_number Span = 6
+fault_number TooLarge = 9
 
 -- the fault of the lesser number
 abbrev pub lesser_fault : PartFault → PartFault → PartFault
@@ -45,6 +46,7 @@ fault_at call Number = trace_fault.Number call
 fault_at call Hex = trace_fault.Hex call
 fault_at call Uuid = trace_fault.Uuid call
 fault_at call Span = trace_fault.Span call
+fault_at call TooLarge = trace_fault.TooLarge call
 
 -- a part of the call with this number
 abbrev pub at_call : {A : Type 0} → ℕ → Part A → Result A TraceFault

@@ -17,10 +17,11 @@ use Rattle.tsc_json.specs.Lists.{fits_trace}
 use Rattle.tsc_json.specs.TraceParts.{Part, both, ◌>>=◌, where_holds, at_call}
 use Rattle.tsc_json.specs.declared.trace.Call.{Call}
 use Rattle.tsc_json.specs.declared.trace.Call.TheVariants.{Add, Get, Low}
-use Rattle.tsc_json.specs.declared.trace.Trace.{Trace}
+use Rattle.tsc_json.specs.Calls.{call_fits}
+use Rattle.tsc_json.specs.Traces.{Trace}
 use Rattle.tsc_json.specs.declared.read.TraceFault.{TraceFault}
 use Rattle.tsc_json.specs.declared.read.TraceFault.TheVariants.{NotJson, Config}
-use Rattle.tsc_json.specs.declared.read.part.PartFault.TheVariants.{Shape, Number, Hex, Uuid, Span}
+use Rattle.tsc_json.specs.declared.read.part.PartFault.TheVariants.{Shape, Number, Hex, Uuid, Span, TooLarge}
 use Rattle.tsc_json.specs.declared.read.head.Numbers.{Numbers}
 use Rattle.tsc_json.specs.declared.read.span.SpanForm.{SpanForm}
 use Rattle.tsc_json.specs.declared.read.span.SpanForm.TheVariants.{Start, StartToEnd, Range, Onward}
@@ -276,11 +277,21 @@ call_of d = do
   op ← needed_as (codes "op") text_of ms
   call_by_name op ms
 
+-- A call, all of which has to fit a page. Nothing else of it may be wrong where that is looked at.
+unfoldable pub fitting_call : Settings → Data → Part Call
+fitting_call settings d = do
+  call ← call_of d
+  where_holds TooLarge (call_fits settings call) call
+
 -- ---- the head
 
--- `page_nodes` and `min_pages`
-abbrev pub page_numbers : Members → Part (ℕ × ℕ)
-page_numbers ms = both (needed_as (codes "page_nodes") (number_below (2 ^ 32)) ms) (needed_as (codes "min_pages") (number_below (2 ^ 32)) ms)
+-- `page_first` and `page_max`
+abbrev pub page_sizes : Members → Part (ℕ × ℕ)
+page_sizes ms = both (needed_as (codes "page_first") (number_below (2 ^ 32)) ms) (needed_as (codes "page_max") (number_below (2 ^ 32)) ms)
+
+-- these two, and `min_pages`
+abbrev pub page_numbers : Members → Part ((ℕ × ℕ) × ℕ)
+page_numbers ms = both (page_sizes ms) (needed_as (codes "min_pages") (number_below (2 ^ 32)) ms)
 
 -- `retention` and `low_water`
 abbrev pub head_times : Members → Part (ℕ × Time)
@@ -290,7 +301,7 @@ head_times ms = both (needed_as (codes "retention") (number_below (2 ^ 64)) ms) 
 unfoldable pub numbers_in : Members → Part Numbers
 numbers_in ms = do
   parts ← both (page_numbers ms) (head_times ms)
-  Ok (record { page_nodes = parts.0.0; min_pages = parts.0.1; retention = parts.1.0; low_water = parts.1.1 })
+  Ok (record { page_first = parts.0.0.0; page_max = parts.0.0.1; min_pages = parts.0.1; retention = parts.1.0; low_water = parts.1.1 })
 
 -- lists of which each has to be one
 unfoldable pub lists_in : List Data → Part (List (List Data))
@@ -306,7 +317,7 @@ lists_of d = array_of d >>= lists_in
 
 -- the members that a head may have
 abbrev pub head_names : List (List ℕ)
-head_names = codes "page_nodes" ∷ codes "min_pages" ∷ codes "retention" ∷ codes "low_water" ∷ codes "threads" ∷ []
+head_names = codes "page_first" ∷ codes "page_max" ∷ codes "min_pages" ∷ codes "retention" ∷ codes "low_water" ∷ codes "threads" ∷ []
 
 -- the head with these members: its numbers, and its lists of what should be calls
 abbrev pub head_in : Members → Part (Numbers × List (List Data))
@@ -321,24 +332,24 @@ head_of d = do
 
 -- the configuration of the numbers of a head
 unfoldable pub settings_in : Numbers → Result Settings TraceFault
-settings_in numbers = ok_or (result_ok (settings_of numbers.page_nodes numbers.min_pages numbers.retention numbers.low_water)) Config
+settings_in numbers = ok_or (result_ok (settings_of numbers.page_first numbers.page_max numbers.min_pages numbers.retention numbers.low_water)) Config
 
 -- ---- the trace
 
 -- the calls of a list, of which the first has this number
-unfoldable pub calls_of : ℕ → List Data → Result (List Call) TraceFault
-calls_of first [] = Ok []
-calls_of first (d ∷ ds) = do
-  call ← at_call first (call_of d)
-  calls ← calls_of (suc first) ds
+unfoldable pub calls_of : Settings → ℕ → List Data → Result (List Call) TraceFault
+calls_of settings first [] = Ok []
+calls_of settings first (d ∷ ds) = do
+  call ← at_call first (fitting_call settings d)
+  calls ← calls_of settings (suc first) ds
   Ok (call ∷ calls)
 
 -- the calls of lists, of which the first call has this number
-unfoldable pub threads_of : ℕ → List (List Data) → Result (List (List Call)) TraceFault
-threads_of first [] = Ok []
-threads_of first (ds ∷ lists) = do
-  calls ← calls_of first ds
-  threads ← threads_of (first + length ds) lists
+unfoldable pub threads_of : Settings → ℕ → List (List Data) → Result (List (List Call)) TraceFault
+threads_of settings first [] = Ok []
+threads_of settings first (ds ∷ lists) = do
+  calls ← calls_of settings first ds
+  threads ← threads_of settings (first + length ds) lists
   Ok (calls ∷ threads)
 
 -- The trace of a JSON value: the head comes first, and counts as call 0, then its bounds, and then the calls in their order.
@@ -347,7 +358,7 @@ trace_of d = do
   head ← at_call 0 (head_of d)
   settings ← settings_in head.0
   lists ← where_holds Config (fits_trace head.1) head.1
-  threads ← threads_of 1 lists
+  threads ← threads_of settings 1 lists
   Ok (record { config = settings; threads = threads })
 
 -- the JSON value that bytes are

@@ -19,7 +19,7 @@ use thiserror::Error;
 ///
 /// The number is that of the call that has the fault, counted from 1 on through all lists, or 0 for the
 /// head. The head comes before all calls, and then the first call that has a fault decides. In the head, or
-/// in a call, the fault that stands first here is told.
+/// in a call, the fault that stands first here is told, and [`TraceFault::TooLarge`] last.
 #[derive(Clone, Copy, Debug, PartialEq, Eq, Error)]
 pub enum TraceFault {
     /// The bytes are not one JSON text, or one that `serde_json` does not read, as where it nests too deep.
@@ -48,6 +48,9 @@ pub enum TraceFault {
     /// A growth was refused. It may come in place of any other fault.
     #[error("out of memory")]
     NoMemory,
+    /// An Add whose span costs more than `page_max`, also one that would not be kept.
+    #[error("a span too large for a page at call {0}")]
+    TooLarge(u64),
 }
 
 impl From<AllocError> for TraceFault {

@@ -1,4 +1,5 @@
 ghost use Rattle.std.specs.Prelude.{◌≡◌, ◌≤◌, true, map, length, option_map, slice_get, IfSome};
+ghost use Rattle.tsc_json.specs.Calls.{adds, call_fits, kind_of};
 ghost use Rattle.tsc_json.specs.Lists.{most_lists, most_calls, fits_trace};
 
 use std::marker::Model;
@@ -7,10 +8,22 @@ use tsc_span::Span;
 use tsc_time::{Timestamp, Value};
 
 /// A recorded run: a configuration, and lists of calls.
+///
+/// All that its calls add fits the pages of its configuration, as [`Call::fits`] tells.
 #[derive(Debug, Drop)]
 pub struct Trace {
     pub config: Config,
     pub threads: Lists,
+}
+
+impl Model for Trace {
+    ghost use Rattle.tsc_json.specs.Traces.{Trace, AllFit};
+
+    ghost Value = { Trace };
+
+    ghost view = { λ t. record { config = t.config; threads = t.threads } };
+
+    ghost invariant = { λ t. AllFit t.config t.threads };
 }
 
 /// One call of a trace.
@@ -28,6 +41,47 @@ pub enum Call {
     },
     /// Asks where the floor stands.
     Low,
+}
+
+/// The kind of a call, which the line of its answer has too.
+#[derive(Clone, Copy, Debug, PartialEq, Eq)]
+pub enum Kind {
+    Add,
+    Get,
+    Low,
+}
+
+impl Call {
+    /// Of what kind the call is.
+    pub fn kind(&self) -> Kind
+        ensures { result ≡ kind_of self.now }
+    {
+        match self {
+            Call::Add { .. } => Kind::Add,
+            Call::Get { .. } => Kind::Get,
+            Call::Low => Kind::Low,
+        }
+    }
+
+    /// Whether the call adds anything.
+    pub fn adds(&self) -> bool
+        ensures { result ≡ adds self.now }
+    {
+        match self {
+            Call::Add { .. } => true,
+            Call::Get { .. } | Call::Low => false,
+        }
+    }
+
+    /// Whether all that the call adds fits the pages of a configuration. A lookup adds nothing.
+    pub fn fits(&self, config: &Config) -> bool
+        ensures { result ≡ call_fits config.now self.now }
+    {
+        match self {
+            Call::Add { span, .. } => config.fits(span),
+            Call::Get { .. } | Call::Low => true,
+        }
+    }
 }
 
 /// The lists of a trace: 1 to 64 lists of calls, with at most 65,536 calls in all.

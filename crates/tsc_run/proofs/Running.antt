@@ -2,7 +2,7 @@
 use Rattle.std.proofs.Common.{◌≡◌, ◌∙◌, refl, sym, ap, subst, ℕ, zero, suc, ◌+◌, ◌<◌, ◌≤◌, List, [], ◌∷◌, ◌++◌, length, drop, get_or, drop-cons, append_assoc, append-nil, length-append, add-one, arith, All, map, Vec, Global}
 use Rattle.std.specs.List.{sum_by}
 use Rattle.std.proofs.lemmas.List.Sums.{sum_by-append, sum_by-cons}
-use Rattle.std.proofs.lemmas.List.Elements.{All-cons, All-nil}
+use Rattle.std.proofs.lemmas.List.Elements.{All-cons, All-nil, All-head, All-tail}
 use Rattle.tsc_json.specs.Lists.{most_calls}
 use Rattle.std.proofs.lemmas.List.{drop_all, length-map}
 use Rattle.tsc_shared.specs.Seats.{SharedView, SeatView, new_seat, new_seats}
@@ -95,6 +95,16 @@ run_added cache lists others calls lines more whole seats seats' from seat parte
 -- the last list has no more calls than all
 pub last_fits : (lists others : List (List Call)) (calls : List Call) → lists ≡ others ++ calls ∷ [] → sum_by length lists ≤ most_calls → length calls ≤ most_calls
 last_fits lists others calls parted few = omega (arith, ap (sum_by length) parted, sum_by-append length others (calls ∷ []), sum_by-cons length calls [])
+
+-- what holds of each list holds of those before the last
+pub first_all : {X : Type 0} (P : X → Type 0) (xs : List X) (y : X) → All P (xs ++ y ∷ []) → All P xs
+first_all P [] y all = All-nil P
+first_all P (x ∷ xs) y all = All-cons P x xs (All-head P x (xs ++ y ∷ []) all) (first_all P xs y (All-tail P x (xs ++ y ∷ []) all))
+
+-- and of the last
+pub last_all : {X : Type 0} (P : X → Type 0) (xs : List X) (y : X) → All P (xs ++ y ∷ []) → P y
+last_all P [] y all = All-head P y [] all
+last_all P (x ∷ xs) y all = last_all P xs y (All-tail P x (xs ++ y ∷ []) all)
 
 -- a seat is of its cache all along
 stays : (start seat : SeatView) (index : ℕ) (calls : List Call) (lines : List Line) → Runs start index calls lines seat → seat.cache ≡ start.cache

@@ -1,23 +1,30 @@
 -- The lines of lists' runs are a run of the trace, where one legal history begins with all that the seats have seen, and has just their Adds.
-use Rattle.std.proofs.Common.{◌≡◌, ◌≢◌, ◌⊎◌, ◌∙◌, inl, inr, refl, sym, ap, subst, Bool, true, false, ℕ, zero, suc, ◌+◌, ◌<◌, ◌≤◌, List, [], ◌∷◌, ◌++◌, length, append_assoc, append-nil, length-append, arith, All}
+use Rattle.std.proofs.Common.{◌≡◌, ◌≢◌, ◌⊎◌, ◌∙◌, inl, inr, refl, sym, ap, subst, Bool, true, false, ℕ, zero, suc, ◌+◌, ◌<◌, ◌≤◌, List, [], ◌∷◌, ◌++◌, length, append_assoc, append-nil, length-append, Some, arith, All}
 use Rattle.std.specs.Prelude.{◌==◌, cond}
 use Rattle.std.proofs.lemmas.Bool.Decides.{nat_tests}
 use Rattle.std.proofs.lemmas.List.Sums.{sum_by-cons}
 use Rattle.std.proofs.lemmas.List.Elements.{All-head, All-tail}
+use Rattle.tsc_time.specs.Time.{Time}
+use Rattle.tsc_time.specs.OwnedTime.{OwnedTime}
+use Rattle.tsc_span.specs.Span.{Interval}
 use Rattle.tsc_cache.specs.Settings.{Settings}
 use Rattle.tsc_cache.specs.declared.history.Entry.{Entry}
-use Rattle.tsc_cache.specs.History.{History, own_count, BeginsWith, IsLegal}
+use Rattle.tsc_cache.specs.State.{Stepped}
+use Rattle.tsc_cache.specs.History.{History, own_count, state_of, BeginsWith, IsLegal}
+use Rattle.tsc_cache.proofs.Steps.{one_mark_is_a_step}
+use Rattle.tsc_json.specs.Calls.{Addition, one_mark, adds}
 use Rattle.tsc_json.specs.declared.trace.Call.{Call}
 use Rattle.tsc_json.specs.declared.trace.Call.TheVariants.{Add, Get, Low}
-use Rattle.tsc_json.specs.declared.trace.Trace.{Trace}
-use Rattle.tsc_trace.specs.Log.{said_after, after_call}
+use Rattle.tsc_json.specs.Traces.{Trace}
+use Rattle.tsc_trace.specs.Log.{made, said_after, entry_after, with_addition, after_call}
 use Rattle.tsc_trace.specs.declared.log.Line.{Line}
 use Rattle.tsc_trace.specs.declared.log.Said.{Said}
 use Rattle.tsc_trace.specs.declared.log.Said.TheVariants as said
 use Rattle.tsc_check.specs.Verdict.{reach}
-use Rattle.tsc_check.specs.TrueLog.{AreTrueLines, AreTrueLists, IsRunOf, is_add_call, adds_of_list, adds_of_lists}
+use Rattle.tsc_check.specs.TrueLog.{AreTrueLines, AreTrueLists, IsRunOf, adds_of_list, adds_of_lists}
 use Rattle.tsc_shared.specs.Seats.{SharedView, SeatView, new_seat}
-use Rattle.tsc_shared.specs.Answers.{GoesOn, Closes, entry_by}
+use Rattle.tsc_shared.specs.Answers.{GoesOn, Accepts, Closes, entry_by}
+use Rattle.tsc_shared.specs.declared.answers.Receipt.{Receipt}
 use Rattle.tsc_shared.specs.declared.answers.Closed.{Closed}
 use Rattle.tsc_cache.proofs.Beginnings.{begins_itself, begins_on}
 use Rattle.tsc_shared.proofs.Prefixes.{begins_length, own_append, own_of_one, own_of_other}
@@ -30,45 +37,64 @@ same_line line thread index answer a b c =
     ap (λ (t : ℕ). record { thread = t; index = line.index; said = line.said }) a ∙ ap (λ (i : ℕ). record { thread = thread; index = i; said = line.said }) b
     ∙ ap (λ (s : Said). record { thread = thread; index = index; said = s }) c
 
--- what a line reaches is what its seat has seen then
-reaches : (old mid : SeatView) (call : Call) (answer : Said) → Says old mid call answer → reach answer ≡ length mid.seen
-reaches old mid (Add span value now) (said.Add place added) says = omega (arith, says.1.place, ap length says.1.seen, length-append says.1.before (entry_by old span value now ∷ []))
-reaches old mid (Add span value now) (said.Get front value') says = absurd says
-reaches old mid (Add span value now) (said.Low front time) says = absurd says
-reaches old mid (Get span) (said.Add place added) says = absurd says
-reaches old mid (Get span) (said.Get front value) says = says.front
-reaches old mid (Get span) (said.Low front time) says = absurd says
-reaches old mid Low (said.Add place added) says = absurd says
-reaches old mid Low (said.Get front value) says = absurd says
-reaches old mid Low (said.Low front time) says = says.front
+-- an addition whose answer has this place, after a first part of what its seat has seen then
+record IsTaken (old mid : SeatView) (a : Addition) (receipt : Receipt) : Type 0 where
+  before : History
+  place : receipt.place ≡ length before
+  added : receipt.added ≡ (made old.cache.config (state_of old.cache.config before) a).added
+  part : BeginsWith mid.seen (with_addition old.number before (Some a))
+  later : length old.seen ≤ length before
+  reached : suc receipt.place ≡ length mid.seen
 
--- what a call was answered is what it answers after a first part of what its seat has seen then
+taken : (old mid : SeatView) (span : Interval) (value : OwnedTime) (now : Time) (receipt : Receipt) → GoesOn old mid → Accepts old mid (record { span = span; value = value }) now receipt
+    → IsTaken old mid (one_mark span value now) receipt
+taken old mid span value now receipt goes acc =
+    let a : Addition = one_mark span value now in
+    let e : Entry = entry_by old (record { span = span; value = value }) now in
+    let state = state_of old.cache.config acc.before in
+    let next = goes.is_seat.legal acc.before e ([], acc.seen ∙ sym (append-nil (acc.before ++ e ∷ []))) in
+    let own : Entry = entry_after old.number acc.before a in
+    record {
+      before = acc.before;
+      place = acc.place;
+      added = acc.added ∙ ap (λ (t : Stepped). t.added) (sym (one_mark_is_a_step old.cache.config state (record { span = span; value = value }) now));
+      part = ([], acc.seen ∙ ap (λ (n : ℕ). acc.before ++ record { seat = old.number; number = n; marks = a.marks; now = a.now } ∷ []) next.number ∙ sym (append-nil (acc.before ++ own ∷ [])));
+      later = begins_length acc.before old.seen acc.begins;
+      reached = omega (arith, acc.place, ap length acc.seen, length-append acc.before (e ∷ []));
+    }
+
+-- What a call was answered is what it answers after a first part of what its seat has seen then, and reaches just what it has seen then.
 record IsTold (old mid : SeatView) (call : Call) (answer : Said) : Type 0 where
   before : History
   told : answer ≡ said_after old.cache.config before call
   part : BeginsWith mid.seen (after_call old.number before call)
   later : length old.seen ≤ length before
+  reached : reach answer ≡ length mid.seen
+  count : mid.count ≡ old.count + cond (adds call) 1 0
 
 is_told : (old mid : SeatView) (call : Call) (answer : Said) → GoesOn old mid → Says old mid call answer → IsTold old mid call answer
 is_told old mid (Add span value now) (said.Add place added) goes says =
-    let acc = says.1 in
-    let e : Entry = record { seat = old.number; number = old.count; span = span; value = value; now = now } in
-    let next = goes.is_seat.legal acc.before e ([], acc.seen ∙ sym (append-nil (acc.before ++ e ∷ []))) in
-    let own : Entry = record { seat = old.number; number = own_count old.number acc.before; span = span; value = value; now = now } in
-    record {
-      before = acc.before;
-      told = ap (λ n. said.Add n added) acc.place ∙ ap (said.Add (length acc.before)) acc.added;
-      part = ([], acc.seen ∙ ap (λ (n : ℕ). acc.before ++ record { seat = old.number; number = n; span = span; value = value; now = now } ∷ []) next.number ∙ sym (append-nil (acc.before ++ own ∷ [])));
-      later = begins_length acc.before old.seen acc.begins;
-    }
-is_told old mid (Add span value now) (said.Get front value') goes says = absurd says
-is_told old mid (Add span value now) (said.Low front time) goes says = absurd says
-is_told old mid (Get span) (said.Add place added) goes says = absurd says
-is_told old mid (Get span) (said.Get front value) goes says = record { before = mid.seen; told = ap (λ n. said.Get n value) says.front ∙ ap (said.Get (length mid.seen)) says.value; part = begins_itself mid.seen; later = begins_length mid.seen old.seen goes.begins }
-is_told old mid (Get span) (said.Low front time) goes says = absurd says
-is_told old mid Low (said.Add place added) goes says = absurd says
-is_told old mid Low (said.Get front value) goes says = absurd says
-is_told old mid Low (said.Low front time) goes says = record { before = mid.seen; told = ap (λ n. said.Low n time) says.front ∙ ap (said.Low (length mid.seen)) says.time; part = begins_itself mid.seen; later = begins_length mid.seen old.seen goes.begins }
+    let t = taken old mid span value now (record { place = place; added = added; front = says.0 }) goes says.1 in
+    let at = t.place in
+    let what = t.added in
+    record { before = t.before; told = λ i. said.Add (at i) (what i); part = t.part; later = t.later; reached = t.reached; count = says.1.count }
+is_told old mid (Get span) (said.Get front value) goes says = record {
+  before = mid.seen;
+  told = ap (λ n. said.Get n value) says.front ∙ ap (said.Get (length mid.seen)) says.value;
+  part = begins_itself mid.seen;
+  later = begins_length mid.seen old.seen goes.begins;
+  reached = says.front;
+  count = omega (arith, says.count);
+}
+is_told old mid Low (said.Low front time) goes says = record {
+  before = mid.seen;
+  told = ap (λ n. said.Low n time) says.front ∙ ap (said.Low (length mid.seen)) says.time;
+  part = begins_itself mid.seen;
+  later = begins_length mid.seen old.seen goes.begins;
+  reached = says.front;
+  count = omega (arith, says.count);
+}
+is_told old mid call answer goes says = absurd says
 
 -- ---- each list
 
@@ -94,7 +120,7 @@ true_lines settings h start seat thread index (call ∷ calls) (line ∷ lines) 
         part = begins_on h mid.seen (after_call thread told.before call) seen (subst (λ n. BeginsWith mid.seen (after_call n told.before call)) num told.part);
         later = told.later;
       },
-      subst (λ n. AreTrueLines settings h thread (suc index) n calls lines) (sym (reaches start mid call line.said run.4)) rest,
+      subst (λ n. AreTrueLines settings h thread (suc index) n calls lines) (sym told.reached) rest,
     )
 
 true_lists : (cache : SharedView) (h : History) (thread : ℕ) (lists : List (List Call)) (lines : List Line) (seats : List SeatView) → All (λ (seat : SeatView). BeginsWith h seat.seen) seats
@@ -142,11 +168,11 @@ of_one_of_them from (suc n) e h low high =
     ]
 
 -- a legal history has no entries but those of its seats
-all_are_of_seats : (seats : ℕ) (done left : History) → IsLegal seats (done ++ left) → length left ≡ of_seats 0 seats left
-all_are_of_seats seats done [] legal = sym (none_at_all 0 seats)
-all_are_of_seats seats done (e ∷ left) legal =
+all_are_of_seats : (settings : Settings) (seats : ℕ) (done left : History) → IsLegal settings seats (done ++ left) → length left ≡ of_seats 0 seats left
+all_are_of_seats settings seats done [] legal = sym (none_at_all 0 seats)
+all_are_of_seats settings seats done (e ∷ left) legal =
     let next = legal done e (left, sym (append_assoc done (e ∷ []) left)) in
-    let rest = all_are_of_seats seats (done ++ e ∷ []) left (subst (IsLegal seats) (sym (append_assoc done (e ∷ []) left)) legal) in
+    let rest = all_are_of_seats settings seats (done ++ e ∷ []) left (subst (IsLegal settings seats) (sym (append_assoc done (e ∷ []) left)) legal) in
     omega (arith, rest, of_one_of_them 0 seats e left (omega arith) (omega (arith, next.seat)))
 
 counted : (start seat : SeatView) (index : ℕ) (calls : List Call) (lines : List Line) → Runs start index calls lines seat → (seat.number ≡ start.number) × (seat.count ≡ start.count + adds_of_list calls)
@@ -155,18 +181,7 @@ counted start seat index [] (line ∷ lines) run = absurd run
 counted start seat index (call ∷ calls) [] run = absurd run
 counted start seat index (call ∷ calls) (line ∷ lines) run =
     let rest = counted run.2 seat (suc index) calls lines run.5 in
-    (rest.0 ∙ run.3.number, omega (arith, rest.1, one call line.said run.4, sum_by-cons (λ (c : Call). cond (is_add_call c) 1 0) call calls))
-  where
-    one : (call : Call) (answer : Said) → Says start run.2 call answer → run.2.count ≡ start.count + (cond (is_add_call call) 1 0)
-    one (Add span value now) (said.Add place added) says = says.1.count
-    one (Add span value now) (said.Get front value') says = absurd says
-    one (Add span value now) (said.Low front time) says = absurd says
-    one (Get span) (said.Add place added) says = absurd says
-    one (Get span) (said.Get front value) says = omega (arith, says.count)
-    one (Get span) (said.Low front time) says = absurd says
-    one Low (said.Add place added) says = absurd says
-    one Low (said.Get front value) says = absurd says
-    one Low (said.Low front time) says = omega (arith, says.count)
+    (rest.0 ∙ run.3.number, omega (arith, rest.1, (is_told start run.2 call line.said run.3 run.4).count, sum_by-cons (λ (c : Call). cond (adds c) 1 0) call calls))
 
 adds_of_seats : (cache : SharedView) (h : History) (thread : ℕ) (lists : List (List Call)) (lines : List Line) (seats : List SeatView) → All (λ (seat : SeatView). own_count seat.number h ≡ seat.count) seats
     → RunsAll cache thread lists lines seats → of_seats thread (length lists) h ≡ adds_of_lists lists
@@ -185,7 +200,7 @@ pub run_of : (trace : Trace) (cache : SharedView) (lines : List Line) (seats : L
 run_of trace cache lines seats closed config count runs closes = (
   closes.history,
   record {
-    size = all_are_of_seats (length trace.threads) [] closes.history (subst (λ n. IsLegal n closes.history) count closes.legal) ∙ adds_of_seats cache closes.history 0 trace.threads lines seats closes.own runs;
+    size = all_are_of_seats cache.config (length trace.threads) [] closes.history (subst (λ n. IsLegal cache.config n closes.history) count closes.legal) ∙ adds_of_seats cache closes.history 0 trace.threads lines seats closes.own runs;
     lines_are_true = subst (λ s. AreTrueLists s closes.history 0 trace.threads lines) config (true_lists cache closes.history 0 trace.threads lines seats closes.begins runs);
   },
 )

@@ -12,7 +12,7 @@ use Rattle.tsc_run.specs.declared.fault.RunFault.TheVariants as fault
 
 -- What is said of a call is what the shared cache answered, where the seat was as the first before and is as the second then.
 abbrev pub Says : SeatView → SeatView → Call → Said → Type 0
-Says old new (Add span value now) (said.Add place added) = (front : FrontView) × Accepts old new span value now (record { place = place; added = added; front = front })
+Says old new (Add span value now) (said.Add place added) = (front : FrontView) × Accepts old new (record { span = span; value = value }) now (record { place = place; added = added; front = front })
 Says old new (Get span) (said.Get front value) = Looks old new span (record { value = value; front = front })
 Says old new Low (said.Low front time) = ReadsFloor old new (record { time = time; front = front })
 Says old new call said = ⊥

@@ -1,5 +1,7 @@
 //! One list of a trace, at a seat of the shared cache.
-ghost use Rattle.std.specs.Prelude.{◌≡◌, ◌≤◌, IfOk, IfErr, length};
+ghost use Rattle.std.specs.Prelude.{◌≡◌, ◌≤◌, true, IfOk, IfErr, length};
+ghost use Rattle.tsc_json.specs.Calls.{call_fits};
+ghost use Rattle.tsc_json.specs.Traces.{EachFits};
 ghost use Rattle.tsc_json.specs.Lists.{most_calls};
 ghost use Rattle.tsc_shared.specs.Answers.{GoesOn};
 ghost use Rattle.tsc_run.specs.Runs.{Says, IsRefusedAs, Runs};
@@ -18,7 +20,7 @@ pub(crate) struct ListRun {
     pub lines: Vec<Line>,
 }
 
-/// Makes a call at this seat, and gives its answer. The gate is told before an Add is published.
+/// Makes a call at this seat, which fits a page, and gives its answer. The gate is told before an Add is published.
 fn answer<R: Wait, G: Gate>(
     rt: &R,
     cache: &SharedCache,
@@ -27,6 +29,7 @@ fn answer<R: Wait, G: Gate>(
     gate: &G,
 ) -> Result<Said, RunFault>
     requires cache { seat.old.cache ≡ cache.now }
+    requires fits { call_fits seat.old.cache.config call.now ≡ true }
     ensures seat { GoesOn seat.old seat.new }
     ensures said { IfOk result (λ said. Says seat.old seat.new call.now said) }
     ensures refused { IfErr result (λ fault. IsRefusedAs fault seat.old seat.new) }
@@ -41,6 +44,7 @@ fn answer<R: Wait, G: Gate>(
                 }),
                 Err(AddFault::HistoryFull(_)) => Err(RunFault::HistoryFull),
                 Err(AddFault::NoMemory) => Err(RunFault::NoMemory),
+                Err(AddFault::TooLarge) => unreachable!(),
             }
         }
         Call::Get { span } => {
@@ -72,6 +76,7 @@ pub(crate) fn run_list<R: Wait, G: Gate>(
 ) -> Result<ListRun, RunFault>
     requires cache { seat.cache ≡ cache.now }
     requires calls { length calls.now ≤ most_calls }
+    requires fits { EachFits cache.now.config calls.now }
     ensures ran { IfOk result (λ ran. Runs seat 0 calls.now ran.lines.items ran.seat) }
     ensures why { IfErr result CanEndRun }
 {

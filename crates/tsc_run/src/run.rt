@@ -23,7 +23,7 @@ fn count_adds(calls: &[Call]) -> u64
 {
     let mut adds = 0;
     for call in calls {
-        if let Call::Add { .. } = call {
+        if call.adds() {
             adds += 1;
         }
     }

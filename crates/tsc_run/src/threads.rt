@@ -1,6 +1,7 @@
 //! A thread for each list.
 ghost use Rattle.std.specs.Prelude.{◌≡◌, ◌≤◌, ◌++◌, ◌∷◌, [], IfOk, IfErr, IfSome, IfNone, length, map};
 ghost use Rattle.std.specs.List.{sum_by};
+ghost use Rattle.tsc_json.specs.Traces.{AllFit, EachFits};
 ghost use Rattle.tsc_json.specs.Lists.{most_calls};
 ghost use Rattle.tsc_shared.specs.Seats.{new_seats};
 ghost use Rattle.tsc_run.specs.Runs.{Runs, RunsAll};
@@ -60,6 +61,7 @@ fn run_in<'s, E, R: Threads + Wait + Sync, G: Gate + Sync>(
 ) -> Result<AllRuns, RunFault>
     requires seats { seats.items ≡ new_seats cache.now 0 (length lists.now) }
     requires calls { sum_by length (map (λ calls. calls.items) lists.now) ≤ most_calls }
+    requires fits { AllFit cache.now.config (map (λ calls. calls.items) lists.now) }
     ensures runs { IfOk result (λ runs. RunsAll cache.now 0 (map (λ calls. calls.items) lists.now) runs.lines.items runs.seats.items) }
     ensures why { IfErr result CanEndRun }
 {
@@ -79,7 +81,7 @@ fn run_in<'s, E, R: Threads + Wait + Sync, G: Gate + Sync>(
     let Ok(child) = scope.spawn_with(
         promise,
         move || -> Result<ListRun, RunFault>
-            requires { (seat.cache ≡ cache.now) × (length calls.now ≤ most_calls) }
+            requires { (seat.cache ≡ cache.now) × (length calls.now ≤ most_calls) × EachFits cache.now.config calls.now }
             ensures { IfOk result (λ ran. Runs seat 0 calls.entry.now ran.lines.items ran.seat) × IfErr result CanEndRun }
         { run_list(rt, alloc, cache, seat, calls, gate) },
     ) else {
@@ -111,6 +113,7 @@ pub(crate) fn run_lists<R: Threads + Wait + Sync, G: Gate + Sync>(
 ) -> Result<AllRuns, RunFault>
     requires seats { seats.items ≡ new_seats cache.now 0 (length lists.now) }
     requires calls { sum_by length (map (λ calls. calls.items) lists.now) ≤ most_calls }
+    requires fits { AllFit cache.now.config (map (λ calls. calls.items) lists.now) }
     ensures runs { IfOk result (λ runs. RunsAll cache.now 0 (map (λ calls. calls.items) lists.now) runs.lines.items runs.seats.items) }
     ensures why { IfErr result CanEndRun }
 {
@@ -118,7 +121,7 @@ pub(crate) fn run_lists<R: Threads + Wait + Sync, G: Gate + Sync>(
         thread::scope_env(),
         rt,
         |scope| -> Result<AllRuns, RunFault>
-            requires { (seats.items ≡ new_seats cache.now 0 (length lists.now)) × (sum_by length (map (λ calls. calls.items) lists.now) ≤ most_calls) }
+            requires { (seats.items ≡ new_seats cache.now 0 (length lists.now)) × (sum_by length (map (λ calls. calls.items) lists.now) ≤ most_calls) × AllFit cache.now.config (map (λ calls. calls.items) lists.now) }
             ensures { IfOk result (λ runs. RunsAll cache.entry.now 0 (map (λ calls. calls.items) lists.entry.now) runs.lines.items runs.seats.items) × IfErr result CanEndRun }
         { run_in(scope, rt, alloc, cache, seats, lists, gate) },
     )

@@ -1,4 +1,6 @@
 pub mod LogExamples
+pub mod Additions
+pub mod SaidOfCalls
 pub mod Playing
 pub mod ListSteps
 pub mod Cuts

@@ -7,7 +7,7 @@ use Rattle.tsc_json.proofs.ExampleTraces.{ended, example_trace}
 use Rattle.tsc_trace.specs.Log.{log_of}
 use Rattle.tsc_trace.specs.LogText.{log_text}
 use Rattle.tsc_json.specs.declared.trace.Call.TheVariants.{Add, Get}
-use Rattle.tsc_json.specs.declared.trace.Trace.{Trace}
+use Rattle.tsc_json.specs.Traces.{Trace}
 use Rattle.tsc_trace.specs.declared.log.Line.{Line}
 use Rattle.tsc_trace.specs.declared.log.Said.TheVariants as said
 use Rattle.std.specs.Fmt.{digits}

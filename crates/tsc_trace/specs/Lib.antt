@@ -1,3 +1,4 @@
+pub mod Sayings
 pub mod Log
 pub mod LogText
 pub mod LogReading

@@ -1,26 +1,43 @@
 -- The log of a trace: what each call answers where one thread takes list after list.
-use Rattle.std.specs.Prelude.{ℕ, suc, List, [], ◌∷◌, ◌++◌, length}
+use Rattle.std.specs.Prelude.{ℕ, suc, List, [], ◌∷◌, ◌++◌, length, Option, Some, None}
 use Rattle.tsc_cache.specs.Settings.{Settings}
-use Rattle.tsc_cache.specs.State.{step, look}
+use Rattle.tsc_cache.specs.State.{CacheState, Stepped, step_all, look}
+use Rattle.tsc_cache.specs.declared.history.Entry.{Entry}
 use Rattle.tsc_cache.specs.History.{History, own_count, state_of}
+use Rattle.tsc_json.specs.Calls.{Addition, one_mark, addition_of}
 use Rattle.tsc_json.specs.declared.trace.Call.{Call}
 use Rattle.tsc_json.specs.declared.trace.Call.TheVariants.{Add, Get, Low}
-use Rattle.tsc_json.specs.declared.trace.Trace.{Trace}
+use Rattle.tsc_json.specs.Traces.{Trace}
 use Rattle.tsc_trace.specs.declared.log.Line.{Line}
 use Rattle.tsc_trace.specs.declared.log.Said.{Said}
 use Rattle.tsc_trace.specs.declared.log.Said.TheVariants as said
 
+-- what an addition makes of a state, and what it answers
+abbrev pub made : Settings → CacheState → Addition → Stepped
+made settings s a = step_all settings s a.marks a.now
+
+-- what a call answers in a state, where so many Adds came before
+abbrev pub said_in : Settings → CacheState → ℕ → Call → Said
+said_in settings s front (Add span value now) = said.Add front (made settings s (one_mark span value now)).added
+said_in settings s front (Get span) = said.Get front (look s span)
+said_in settings s front Low = said.Low front s.floor
+
 -- what a call answers after a history, from the state that the history leaves of the opening one
 abbrev pub said_after : Settings → History → Call → Said
-said_after settings h (Add span value now) = said.Add (length h) (step settings (state_of settings h) (record { span = span; value = value }) now).added
-said_after settings h (Get span) = said.Get (length h) (look (state_of settings h) span)
-said_after settings h Low = said.Low (length h) (state_of settings h).floor
+said_after settings h call = said_in settings (state_of settings h) (length h) call
 
--- the history after a call of the list with this number, which is the seat of its Adds
+-- the entry that an addition makes after a history, by the list with this number, which is its seat
+abbrev pub entry_after : ℕ → History → Addition → Entry
+entry_after thread h a = record { seat = thread; number = own_count thread h; marks = a.marks; now = a.now }
+
+-- a history with the entry of what may be added
+abbrev pub with_addition : ℕ → History → Option Addition → History
+with_addition thread h None = h
+with_addition thread h (Some a) = h ++ entry_after thread h a ∷ []
+
+-- the history after a call of the list with this number
 abbrev pub after_call : ℕ → History → Call → History
-after_call thread h (Add span value now) = h ++ record { seat = thread; number = own_count thread h; span = span; value = value; now = now } ∷ []
-after_call thread h (Get span) = h
-after_call thread h Low = h
+after_call thread h call = with_addition thread h (addition_of call)
 
 -- the history after some calls of one list
 abbrev pub after_calls : ℕ → History → List Call → History

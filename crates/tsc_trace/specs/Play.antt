@@ -1,12 +1,12 @@
 -- A replay that goes on from where it stands, in place of making each state anew.
-use Rattle.std.specs.Prelude.{ℕ, suc, List, [], ◌∷◌, ◌++◌}
+use Rattle.std.specs.Prelude.{ℕ, suc, List, [], ◌∷◌, ◌++◌, Option, Some, None}
 use Rattle.tsc_cache.specs.Settings.{Settings}
-use Rattle.tsc_cache.specs.State.{CacheState, step, look}
+use Rattle.tsc_cache.specs.State.{CacheState}
+use Rattle.tsc_json.specs.Calls.{Addition, addition_of}
 use Rattle.tsc_json.specs.declared.trace.Call.{Call}
-use Rattle.tsc_json.specs.declared.trace.Call.TheVariants.{Add, Get, Low}
+use Rattle.tsc_trace.specs.Log.{made, said_in}
 use Rattle.tsc_trace.specs.declared.log.Line.{Line}
 use Rattle.tsc_trace.specs.declared.log.Said.{Said}
-use Rattle.tsc_trace.specs.declared.log.Said.TheVariants as said
 
 -- where a replay stands: the state of the cache, and how many Adds there were
 pub record Standing : Type 0 where
@@ -15,15 +15,16 @@ pub record Standing : Type 0 where
 
 -- what a call answers there
 abbrev pub said_at : Settings → Standing → Call → Said
-said_at settings at (Add span value now) = said.Add at.adds (step settings at.state (record { span = span; value = value }) now).added
-said_at settings at (Get span) = said.Get at.adds (look at.state span)
-said_at settings at Low = said.Low at.adds at.state.floor
+said_at settings at call = said_in settings at.state at.adds call
 
--- where the replay stands after a call
+-- where the replay stands with what may be added
+abbrev pub with_made : Settings → Standing → Option Addition → Standing
+with_made settings at None = at
+with_made settings at (Some a) = record { state = (made settings at.state a).state; adds = suc at.adds }
+
+-- after a call
 abbrev pub next : Settings → Standing → Call → Standing
-next settings at (Add span value now) = record { state = (step settings at.state (record { span = span; value = value }) now).state; adds = suc at.adds }
-next settings at (Get span) = at
-next settings at Low = at
+next settings at call = with_made settings at (addition_of call)
 
 -- after some calls
 abbrev pub next_all : Settings → Standing → List Call → Standing

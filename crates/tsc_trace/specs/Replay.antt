@@ -4,7 +4,7 @@ use Rattle.tsc_json.specs.TraceText.{trace_of_bytes}
 use Rattle.tsc_trace.specs.Log.{log_of}
 use Rattle.tsc_trace.specs.LogText.{log_text}
 use Rattle.tsc_stream.specs.Stream.{KnownReader, KnownWriter, HasRead, CouldNotRead, HasReadTooMuch, RanOutReading, HasWritten, CouldNotWrite}
-use Rattle.tsc_json.specs.declared.trace.Trace.{Trace}
+use Rattle.tsc_json.specs.Traces.{Trace}
 use Rattle.tsc_json.specs.declared.read.TraceFault.{TraceFault}
 use Rattle.tsc_json.specs.declared.read.TraceFault.TheVariants as trace_fault
 use Rattle.tsc_stream.specs.declared.input.InputFault.{InputFault}
@@ -88,6 +88,7 @@ fault_of_trace (trace_fault.Uuid call) = Refused (trace_fault.Uuid call)
 fault_of_trace (trace_fault.Span call) = Refused (trace_fault.Span call)
 fault_of_trace trace_fault.Config = Refused trace_fault.Config
 fault_of_trace trace_fault.NoMemory = NoMemory
+fault_of_trace (trace_fault.TooLarge call) = Refused (trace_fault.TooLarge call)
 
 -- how a fault of an output ends a replay
 abbrev pub fault_of_output : OutFault → ReplayFault
@@ -106,5 +107,6 @@ fault_text (Refused (trace_fault.Uuid call)) = codes "trace refused: fault 5 at 
 fault_text (Refused (trace_fault.Span call)) = codes "trace refused: fault 6 at call " ++ decimal call
 fault_text (Refused trace_fault.Config) = codes "trace refused: fault 7"
 fault_text (Refused trace_fault.NoMemory) = codes "out of memory"
+fault_text (Refused (trace_fault.TooLarge call)) = codes "trace refused: fault 9 at call " ++ decimal call
 fault_text Write = codes "write failed"
 fault_text NoMemory = codes "out of memory"

@@ -12,9 +12,9 @@ mod log_reader;
 mod player;
 mod replays;
 
-pub use log::{Line, Lines, Log, Said, log_text};
+pub use log::{Line, Lines, Log, Said, Told, log_text};
 pub use log_reader::{LogFault, read_log};
-pub use player::play;
+pub use player::{add_fitting, play};
 pub use replays::{OutFault, ReplayFault, replay, replay_stream, write_log};
-pub use tsc_json::{Call, Lists, Trace, TraceFault, read_trace};
+pub use tsc_json::{Call, Kind, Lists, Trace, TraceFault, read_trace};
 pub use tsc_stream::{Metered, Sink, Source};

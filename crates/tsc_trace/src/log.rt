@@ -1,4 +1,5 @@
 ghost use Rattle.std.specs.Prelude.{◌≡◌, All, IfOk};
+ghost use Rattle.tsc_trace.specs.Sayings.{front_of, kind_of_said, told_of};
 ghost use Rattle.tsc_trace.specs.LogText.{bit_text, log_text};
 ghost use Rattle.tsc_trace.specs.LogReading.{IsWritable};
 
@@ -7,6 +8,7 @@ use std::fmt;
 use std::fmt::Write;
 use std::marker::Model;
 use tsc_cache::Added;
+use tsc_json::Kind;
 use tsc_time::{NoMemory, Timestamp, Value};
 
 /// What a call answered.
@@ -18,6 +20,46 @@ pub enum Said {
     Get { front: u64, value: Value },
     /// How many Adds came before, and where the floor stood.
     Low { front: u64, time: Timestamp },
+}
+
+/// What the answer of an Add says: its place among all Adds, counted from 0, and what it did.
+#[derive(Clone, Copy, Debug, PartialEq, Eq)]
+pub struct Told {
+    pub place: u64,
+    pub added: Added,
+}
+
+impl Said {
+    /// Of what kind the call is that was answered so.
+    pub fn kind(self) -> Kind
+        ensures { result ≡ kind_of_said self }
+    {
+        match self {
+            Said::Add { .. } => Kind::Add,
+            Said::Get { .. } => Kind::Get,
+            Said::Low { .. } => Kind::Low,
+        }
+    }
+
+    /// What it says was added.
+    pub fn told(self) -> Option<Told>
+        ensures { result ≡ told_of self }
+    {
+        match self {
+            Said::Add { place, added } => Some(Told { place, added }),
+            Said::Get { .. } | Said::Low { .. } => None,
+        }
+    }
+
+    /// The place of an Add, or the front of a lookup.
+    pub fn front(self) -> u64
+        ensures { result ≡ front_of self }
+    {
+        match self {
+            Said::Add { place, .. } => place,
+            Said::Get { front, .. } | Said::Low { front, .. } => front,
+        }
+    }
 }
 
 /// One line of a log: the list and the place in it of a call, both counted from 0, and its answer.

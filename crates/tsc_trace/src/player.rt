@@ -1,14 +1,41 @@
-ghost use Rattle.std.specs.Prelude.{◌≡◌, ◌++◌, ◌+◌, ◌<◌, ◌≤◌, ◌^◌, length, IfOk, OnOk};
-ghost use Rattle.tsc_cache.specs.Settings.{Settings};
+ghost use Rattle.std.specs.Prelude.{◌≡◌, ◌++◌, ◌+◌, ◌<◌, ◌≤◌, ◌^◌, length, true, IfOk, OnOk};
+ghost use Rattle.tsc_cache.specs.Settings.{Settings, fits};
+ghost use Rattle.tsc_cache.specs.State.{CacheState};
+ghost use Rattle.tsc_cache.specs.CacheView.{StandsForState};
+ghost use Rattle.tsc_json.specs.Calls.{call_fits, one_mark};
+ghost use Rattle.tsc_json.specs.Traces.{EachFits};
 ghost use Rattle.tsc_json.specs.Lists.{most_calls};
-ghost use Rattle.tsc_trace.specs.Log.{log_of};
+ghost use Rattle.tsc_trace.specs.Log.{log_of, made};
 ghost use Rattle.tsc_trace.specs.Play.{Standing, said_at, next, next_all, played};
 
 use crate::log::{Line, Lines, Log, Said};
 use std::alloc::Global;
-use tsc_cache::Cache;
+use tsc_cache::{Added, Cache, CacheFault};
 use tsc_json::{Call, Trace};
-use tsc_time::NoMemory;
+use tsc_span::Span;
+use tsc_time::{NoMemory, Timestamp, Value};
+
+/// Adds a span that fits the cache's pages, as each does that a call of a [`Trace`] adds. So memory alone may be
+/// wanting.
+pub fn add_fitting(
+    cache: &mut Cache,
+    span: &Span,
+    value: Value,
+    now: Timestamp,
+) -> Result<Added, NoMemory>
+    requires { fits cache.old.settings span.now ≡ true }
+    ensures added { IfOk result (λ added. (settings : Settings) (s : CacheState) → StandsForState cache.old settings s
+        → added ≡ (made settings s (one_mark span.now value now)).added) }
+    ensures stands { OnOk result ((settings : Settings) (s : CacheState) → StandsForState cache.old settings s
+        → StandsForState cache.new settings (made settings s (one_mark span.now value now)).state) }
+    ensures settings { OnOk result (cache.new.settings ≡ cache.old.settings) }
+{
+    match cache.add(span, value, now) {
+        Ok(added) => Ok(added),
+        Err(CacheFault::NoMemory) => Err(NoMemory),
+        Err(CacheFault::TooLarge) => unreachable!(),
+    }
+}
 
 /// A replay under way: the cache, how many Adds there were, and the lines so far.
 #[derive(Drop)]
@@ -24,17 +51,19 @@ impl Player {
     /// Makes a call, and gives its answer.
     fn answer(&mut self, call: &Call) -> Result<Said, NoMemory>
         requires count { self.old.adds + 1 < 2 ^ 64 }
+        requires fits { call_fits self.old.cache.settings call.now ≡ true }
         ensures said { IfOk result (λ said. (settings : Settings) (at : Standing) → StandsAt self.old settings at
             → said ≡ said_at settings at call.now) }
         ensures stands { OnOk result ((settings : Settings) (at : Standing) → StandsAt self.old settings at
             → StandsAt self.new settings (next settings at call.now)) }
         ensures count { OnOk result (self.new.adds ≤ self.old.adds + 1) }
+        ensures settings { OnOk result (self.new.cache.settings ≡ self.old.cache.settings) }
         ensures lines { self.new.lines ≡ self.old.lines }
     {
         let front = self.adds;
         match call {
             Call::Add { span, value, now } => {
-                let added = self.cache.add(span, *value, *now)?;
+                let added = add_fitting(&mut self.cache, span, *value, *now)?;
                 self.adds += 1;
                 Ok(Said::Add {
                     place: front,
@@ -56,11 +85,13 @@ impl Player {
     fn play_list(&mut self, thread: u32, calls: &[Call]) -> Result<(), NoMemory>
         requires count { self.old.adds + length calls.now < 2 ^ 64 }
         requires index { length calls.now ≤ most_calls }
+        requires fits { EachFits self.old.cache.settings calls.now }
         ensures lines { OnOk result ((settings : Settings) (at : Standing) → StandsAt self.old settings at
             → self.new.lines.items ≡ self.old.lines.items ++ played settings thread 0 at calls.now) }
         ensures stands { OnOk result ((settings : Settings) (at : Standing) → StandsAt self.old settings at
             → StandsAt self.new settings (next_all settings at calls.now)) }
         ensures count { OnOk result (self.new.adds ≤ self.old.adds + length calls.now) }
+        ensures settings { OnOk result (self.new.cache.settings ≡ self.old.cache.settings) }
     {
         for (index, call) in calls.iter().enumerate() {
             let said = self.answer(call)?;

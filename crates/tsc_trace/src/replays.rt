@@ -95,6 +95,9 @@ impl ReplayFault {
                 ("trace refused: fault 6 at call ", digits.format(call))
             }
             ReplayFault::Trace(TraceFault::Config) => ("trace refused: fault 7", ""),
+            ReplayFault::Trace(TraceFault::TooLarge(call)) => {
+                ("trace refused: fault 9 at call ", digits.format(call))
+            }
             ReplayFault::Write => ("write failed", ""),
             ReplayFault::NoMemory | ReplayFault::Trace(TraceFault::NoMemory) => {
                 ("out of memory", "")
@@ -139,7 +142,8 @@ impl From<TraceFault> for ReplayFault {
             | TraceFault::Hex(_)
             | TraceFault::Uuid(_)
             | TraceFault::Span(_)
-            | TraceFault::Config => ReplayFault::Trace(fault),
+            | TraceFault::Config
+            | TraceFault::TooLarge(_) => ReplayFault::Trace(fault),
         }
     }
 }

@@ -107,6 +107,7 @@ fn add_once<R: Wait>(
         }
         Err(AddFault::HistoryFull(front)) => Ok(Some(Told::Full(front.len()))),
         Err(AddFault::NoMemory) => Ok(None),
+        Err(AddFault::TooLarge) => Err(Fail::from("an Add that is too large")),
     }
 }
 

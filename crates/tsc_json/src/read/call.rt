@@ -5,7 +5,7 @@ ghost use Rattle.serde_json.specs.View.{view, members_view};
 ghost use Rattle.tsc_time.specs.OwnedTime.{owner_of};
 ghost use Rattle.tsc_json.specs.Reading.{Gives, Tells};
 ghost use Rattle.tsc_json.specs.TraceParts.{both, at_call};
-ghost use Rattle.tsc_json.specs.TraceText.{unsigned_of, needed_as, time_in_range, time_of, owner_in, owner_member, added_span, looked_up_span, span_and_time, owner_and_now, add_of, get_of, low_of, call_by_name, call_of, calls_of};
+ghost use Rattle.tsc_json.specs.TraceText.{unsigned_of, needed_as, time_in_range, time_of, owner_in, owner_member, added_span, looked_up_span, span_and_time, owner_and_now, add_of, get_of, low_of, call_by_name, call_of, fitting_call, calls_of};
 
 use super::TraceFault;
 use super::json::{array, has_only, needed, object, optional, text, two, unsigned};
@@ -14,12 +14,16 @@ use super::span::{added_span, looked_up_span};
 use crate::trace::Call;
 use serde_json::{Map, Value};
 use std::alloc::Global;
+use tsc_cache::Config;
 use tsc_span::Span;
 use tsc_time::Timestamp;
 use uuid::Uuid;
 
 /// A text that is no UUID.
 const UUID: Refusal = Refusal::Fault(PartFault::Uuid);
+
+/// A span of an Add that no page is large enough for.
+const TOO_LARGE: Refusal = Refusal::Fault(PartFault::TooLarge);
 
 /// Two unsigned integers.
 fn two_numbers(first: &Value, second: &Value) -> Result<(u64, u64), Refusal>
@@ -175,22 +179,39 @@ fn call(alloc: Global, value: &Value) -> Result<Call, Refusal>
     named_call(alloc, name, members)
 }
 
-/// The call with this number.
-fn call_at(alloc: Global, number: u64, value: &Value) -> Result<Call, TraceFault>
-    ensures { Tells (λ call. call) result (at_call number (call_of (view value.now))) }
+/// A call, all of which has to fit a page.
+#[tactic(auto, unfolding(crate::specs::TraceText::fitting_call))]
+fn fitting_call(alloc: Global, config: &Config, value: &Value) -> Result<Call, Refusal>
+    ensures { Gives (λ call. call) result (fitting_call config.now (view value.now)) }
 {
-    at_call(number, call(alloc, value))
+    let call = call(alloc, value)?;
+    if !call.fits(config) {
+        return Err(TOO_LARGE);
+    }
+    Ok(call)
+}
+
+/// The call with this number.
+fn call_at(alloc: Global, config: &Config, number: u64, value: &Value) -> Result<Call, TraceFault>
+    ensures { Tells (λ call. call) result (at_call number (fitting_call config.now (view value.now))) }
+{
+    at_call(number, fitting_call(alloc, config, value))
 }
 
 /// The calls of a list, of which the first has this number.
-pub(super) fn calls(alloc: Global, first: u64, values: &[Value]) -> Result<Vec<Call>, TraceFault>
+pub(super) fn calls(
+    alloc: Global,
+    config: &Config,
+    first: u64,
+    values: &[Value],
+) -> Result<Vec<Call>, TraceFault>
     requires { first + length values.now < 2 ^ 64 }
-    ensures { Tells (λ calls. calls.items) result (calls_of first (map view values.now)) }
+    ensures { Tells (λ calls. calls.items) result (calls_of config.now first (map view values.now)) }
 {
     let mut calls = Vec::new(alloc);
     let mut number = first;
     for value in values {
-        calls.push(call_at(alloc, number, value)?)?;
+        calls.push(call_at(alloc, config, number, value)?)?;
         number += 1;
     }
     Ok(calls)

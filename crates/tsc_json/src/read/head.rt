@@ -7,7 +7,7 @@ ghost use Rattle.tsc_json.specs.Lists.{most_calls, fits_trace};
 ghost use Rattle.tsc_json.specs.Reading.{Gives, Tells};
 ghost use Rattle.tsc_json.specs.Rows.{rows_view};
 ghost use Rattle.tsc_json.specs.TraceParts.{at_call};
-ghost use Rattle.tsc_json.specs.TraceText.{needed_as, number_below, page_numbers, head_times, numbers_in, lists_in, lists_of, head_of, settings_in, threads_of, trace_of};
+ghost use Rattle.tsc_json.specs.TraceText.{needed_as, number_below, page_sizes, page_numbers, head_times, numbers_in, lists_in, lists_of, head_of, settings_in, threads_of, trace_of};
 
 use super::TraceFault;
 use super::call::{calls, time_in};
@@ -28,7 +28,8 @@ const MOST_CALLS: usize = 65_536;
 /// The numbers of a head, which a [`Config`] may be made of.
 #[derive(Clone, Copy, Debug, PartialEq, Eq)]
 pub(crate) struct Numbers {
-    page_nodes: u32,
+    page_first: u32,
+    page_max: u32,
     min_pages: u32,
     retention: u64,
     low_water: Timestamp,
@@ -50,14 +51,21 @@ fn number_64_in(members: &Map<String, Value>, name: &str) -> Result<u64, Refusal
     number_64(needed(members, name)?)
 }
 
-/// `page_nodes` and `min_pages`.
-fn page_numbers(members: &Map<String, Value>) -> Result<(u32, u32), Refusal>
-    ensures { Gives (λ pair. pair) result (page_numbers (members_view members.now.entries)) }
+/// `page_first` and `page_max`.
+fn page_sizes(members: &Map<String, Value>) -> Result<(u32, u32), Refusal>
+    ensures { Gives (λ pair. pair) result (page_sizes (members_view members.now.entries)) }
 {
     both(
-        number_32_in(members, "page_nodes"),
-        number_32_in(members, "min_pages"),
+        number_32_in(members, "page_first"),
+        number_32_in(members, "page_max"),
     )
+}
+
+/// These two, and `min_pages`.
+fn page_numbers(members: &Map<String, Value>) -> Result<((u32, u32), u32), Refusal>
+    ensures { Gives (λ parts. parts) result (page_numbers (members_view members.now.entries)) }
+{
+    both(page_sizes(members), number_32_in(members, "min_pages"))
 }
 
 /// `retention` and `low_water`.
@@ -75,12 +83,13 @@ fn head_times(members: &Map<String, Value>) -> Result<(u64, Timestamp), Refusal>
 fn head_numbers(members: &Map<String, Value>) -> Result<Numbers, Refusal>
     ensures { Gives (λ numbers. numbers) result (numbers_in (members_view members.now.entries)) }
 {
-    let ((page_nodes, min_pages), (retention, low_water)) = both(
+    let (((page_first, page_max), min_pages), (retention, low_water)) = both(
         page_numbers(members),
         head_times(members),
     )?;
     Ok(Numbers {
-        page_nodes,
+        page_first,
+        page_max,
         min_pages,
         retention,
         low_water,
@@ -116,7 +125,8 @@ fn head<'v>(alloc: Global, value: &'v Value) -> Result<(Numbers, Vec<&'v [Value]
     if !has_only(
         members,
         &[
-            "page_nodes",
+            "page_first",
+            "page_max",
             "min_pages",
             "retention",
             "low_water",
@@ -142,7 +152,8 @@ fn config(numbers: Numbers) -> Result<Config, TraceFault>
     ensures { Tells (λ config. config) result (settings_in numbers) }
 {
     Config::new(
-        numbers.page_nodes,
+        numbers.page_first,
+        numbers.page_max,
         numbers.min_pages,
         numbers.retention,
         numbers.low_water,
@@ -172,15 +183,15 @@ fn fits(lists: &[&[Value]]) -> bool
 }
 
 /// The calls of lists, numbered from 1 on.
-fn threads(alloc: Global, lists: &[&[Value]]) -> Result<Vec<Vec<Call>>, TraceFault>
+fn threads(alloc: Global, config: &Config, lists: &[&[Value]]) -> Result<Vec<Vec<Call>>, TraceFault>
     requires { sum_by length (rows_view lists.now) ≤ most_calls }
     ensures { Tells (λ threads. map (λ calls. calls.items) threads.items) result
-        (threads_of 1 (rows_view lists.now)) }
+        (threads_of config.now 1 (rows_view lists.now)) }
 {
     let mut threads = Vec::new(alloc);
     let mut number = 1;
     for list in lists {
-        threads.push(calls(alloc, number, list)?)?;
+        threads.push(calls(alloc, config, number, list)?)?;
         number += list.len() as u64;
     }
     Ok(threads)
@@ -196,6 +207,6 @@ pub(super) fn trace(alloc: Global, value: &Value) -> Result<Trace, TraceFault>
     if !fits(&lists) {
         return Err(TraceFault::Config);
     }
-    let threads = Lists::of(threads(alloc, &lists)?);
+    let threads = Lists::of(threads(alloc, &config, &lists)?);
     Ok(Trace { config, threads })
 }

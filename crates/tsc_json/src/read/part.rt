@@ -21,6 +21,8 @@ pub(crate) enum PartFault {
     Uuid,
     /// A key that is too long, or an inverted span of an Add.
     Span,
+    /// A span of an Add that no page is large enough for.
+    TooLarge,
 }
 
 impl PartFault {
@@ -34,6 +36,7 @@ impl PartFault {
             PartFault::Hex => 4,
             PartFault::Uuid => 5,
             PartFault::Span => 6,
+            PartFault::TooLarge => 9,
         }
     }
 
@@ -47,6 +50,7 @@ impl PartFault {
             PartFault::Hex => TraceFault::Hex(call),
             PartFault::Uuid => TraceFault::Uuid(call),
             PartFault::Span => TraceFault::Span(call),
+            PartFault::TooLarge => TraceFault::TooLarge(call),
         }
     }
 }

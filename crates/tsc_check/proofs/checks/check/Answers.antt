@@ -1,5 +1,6 @@
 -- The first test that a line fails decides.
-use Rattle.std.proofs.Common.{◌≡◌, ◌∙◌, sym, subst, ◌+◌, length, None, arith}
+use Rattle.std.proofs.Common.{◌≡◌, ◌∙◌, sym, ap, subst, ◌+◌, length, None, arith}
+use Rattle.tsc_json.specs.Traces.{Trace}
 use Rattle.tsc_check.specs.declared.verdict.Verdict.TheVariants.{Right, WrongCall, WrongPlace, WrongAnswer}
 use Rattle.tsc_check.specs.Verdict.{is_wrong_place, named_or, least, verdict_of}
 use Rattle.tsc_check.proofs.Verdicts.{wrong_call, wrong_place, by_answers, few_answers, least_below, none_is, in_lists_bound}
@@ -12,7 +13,7 @@ returns-in-Some c =
 
 pub new-requires-clause-lists : goal.new-requires-clause-lists
 new-requires-clause-lists c = λ j line at.
-    omega (arith, c.len.ensures.value, in_lists_bound c.args.trace.now c.slice-lines.result.now (sym c.in_default.ensures.first) j line at)
+    omega (arith, c.len.ensures.value, ap (λ (t : Trace). length t.threads) c.trace.view_is, in_lists_bound c.args.trace.now c.slice-lines.result.now (sym c.in_default.ensures.first) j line at)
 
 pub overflow_add-result-in-Some-2 : goal.overflow_add-result-in-Some-2
 overflow_add-result-in-Some-2 c =

@@ -5,7 +5,8 @@ use Rattle.tsc_shared.proofs.Crossing.{seat_sends, shared_cache_syncs}
 use Rattle.tsc_shared.specs.Seats.{SeatView}
 use Rattle.tsc_run.specs.Runs.{Runs}
 use Rattle.tsc_run.proofs.Crossing.{call_syncs, fault_sends, list_run_sends}
-use Rattle.tsc_run.proofs.Running.{calls_in, seat_taken, run_added, last_fits}
+use Rattle.tsc_json.specs.Traces.{AllFit, EachFits}
+use Rattle.tsc_run.proofs.Running.{calls_in, seat_taken, run_added, last_fits, first_all, last_all}
 use Rattle.tsc_run.proofs.threads.+run_in.Goals as goal
 
 pub spawn_with-requires-send-F : goal.spawn_with-requires-send-F
@@ -18,12 +19,20 @@ pub spawn_with-requires-clause-runs : goal.spawn_with-requires-clause-runs
 spawn_with-requires-clause-runs g t c κs within =
     let others = c.in-Some-split_last.others.now in let calls = c.in-Some-split_last.calls.now in let parted = c.in-Some-split_last.ensures.some in
     let taken = seat_taken c.args.cache.now c.args.seats.items c.pop.new.self.items c.in-Some.seat c.args.lists.now others calls c.requires.seats c.in-Some.ensures.items parted in
-    (ap (λ (s : SeatView). s.cache) taken.1, last_fits (calls_in c.args.lists.now) (calls_in others) calls parted c.requires.calls)
+    let settings = c.args.cache.now.config in
+    let fit = last_all (EachFits settings) (calls_in others) calls (subst (AllFit settings) parted c.requires.fits) in
+    (ap (λ (s : SeatView). s.cache) taken.1, last_fits (calls_in c.args.lists.now) (calls_in others) calls parted c.requires.calls, fit)
 
 pub run_in-runs-requires-clause-seats : goal.run_in-runs-requires-clause-seats
 run_in-runs-requires-clause-seats g t c κs within =
     (seat_taken c.args.cache.now c.args.seats.items c.pop.new.self.items c.in-Some.seat c.args.lists.now c.in-Some-split_last.others.now c.in-Some-split_last.calls.now c.requires.seats c.in-Some.ensures.items
     c.in-Some-split_last.ensures.some).0
+
+pub run_in-runs-requires-clause-fits : goal.run_in-runs-requires-clause-fits
+run_in-runs-requires-clause-fits g t c κs within =
+    let others = c.in-Some-split_last.others.now in let calls = c.in-Some-split_last.calls.now in let parted = c.in-Some-split_last.ensures.some in
+    let settings = c.args.cache.now.config in
+    first_all (EachFits settings) (calls_in others) calls (subst (AllFit settings) parted c.requires.fits)
 
 pub returns-clause-runs : goal.returns-clause-runs
 returns-clause-runs g t c =

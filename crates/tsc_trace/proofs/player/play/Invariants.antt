@@ -12,4 +12,5 @@ invariant-loop-thread l =
       stands : StandsAt l.player l.trace.config at;
       told : l.player.lines.items ++ played_lists l.trace.config l.thread at (drop l.thread l.trace.threads) ≡ log_of l.trace;
       counted : l.player.adds ≤ l.thread * 65536;
+      settings : l.player.cache.settings ≡ l.trace.config;
     }

@@ -11,8 +11,8 @@ returns-then-is_add c =
     let lines = c.args.lines.now in
     let line = c.index-lines-i.result in
     let at : slice_get lines c.args.i ≡ Some line = slice_get_read lines (length lines) c.args.i line refl c.requires.index c.index-lines-i.is in
-    let is = c.index-before.ensures ∙ ap (λ k. get_or o.lookups.items k c.index-before.result.now) c.front_of-slot.ensures in
-    rw (c.front_of-slot.ensures, c.in_ok-push.ensures.items, c.reach.ensures)
+    let is = c.index-before.ensures ∙ ap (λ k. get_or o.lookups.items k c.index-before.result.now) c.front-slot.ensures in
+    rw (c.front-slot.ensures, c.in_ok-push.ensures.items, c.reach.ensures)
     (more_add o.adds.items o.lookups.items o.earlier.items o.reached.items lines c.args.i line c.requires.placed at c.requires.fine (sym c.if-is_add.ensures) c.index-before.result.now is)
 
 pub returns-else-is_add : goal.returns-else-is_add
@@ -21,6 +21,6 @@ returns-else-is_add c =
     let lines = c.args.lines.now in
     let line = c.index-lines-i.result in
     let at : slice_get lines c.args.i ≡ Some line = slice_get_read lines (length lines) c.args.i line refl c.requires.index c.index-lines-i.is in
-    let is = c.index-before.ensures ∙ ap (λ k. get_or o.lookups.items k c.index-before.result.now) c.front_of-slot.ensures in
-    rw (c.front_of-slot.ensures, c.in_ok-push.ensures.items, c.reach.ensures)
+    let is = c.index-before.ensures ∙ ap (λ k. get_or o.lookups.items k c.index-before.result.now) c.front-slot.ensures in
+    rw (c.front-slot.ensures, c.in_ok-push.ensures.items, c.reach.ensures)
     (more_lookup o.adds.items o.lookups.items o.earlier.items o.reached.items lines c.args.i line c.requires.placed at c.requires.fine (sym c.if-is_add.ensures) c.index-before.result.now is)

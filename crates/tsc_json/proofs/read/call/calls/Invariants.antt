@@ -9,5 +9,5 @@ abbrev pub invariant-loop-value : goal.invariant-loop-value
 invariant-loop-value l =
     record {
       counted : l.number ≡ l.fn.first + l.value-index;
-      left : with_front l.calls.items (calls_of l.number (map view (drop l.value-index l.values))) ≡ calls_of l.fn.first (map view l.values);
+      left : with_front l.calls.items (calls_of l.config l.number (map view (drop l.value-index l.values))) ≡ calls_of l.config l.fn.first (map view l.values);
     }

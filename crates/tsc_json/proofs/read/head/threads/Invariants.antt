@@ -11,5 +11,5 @@ abbrev pub invariant-loop-list : goal.invariant-loop-list
 invariant-loop-list l =
     record {
       small : l.number + sum_by length (rows_view (drop l.list-index l.lists)) ≤ 1 + most_calls;
-      left : with_front (map (λ calls. calls.items) l.threads.items) (threads_of l.number (rows_view (drop l.list-index l.lists))) ≡ threads_of 1 (rows_view l.lists);
+      left : with_front (map (λ calls. calls.items) l.threads.items) (threads_of l.config l.number (rows_view (drop l.list-index l.lists))) ≡ threads_of l.config 1 (rows_view l.lists);
     }

@@ -1,4 +1,4 @@
-use Rattle.std.proofs.Common.{◌+◌, ◌≤◌, drop}
+use Rattle.std.proofs.Common.{◌≡◌, ◌+◌, ◌≤◌, drop}
 use Rattle.tsc_cache.specs.Settings.{Settings}
 use Rattle.tsc_trace.specs.Play.{Standing}
 use Rattle.tsc_trace.specs.PlayerParts.{StandsAt}
@@ -11,4 +11,5 @@ invariant-loop-index l =
     record {
       under_way : (settings : Settings) (from : Standing) → StandsAt l.fn.self settings from → IsUnderWay l.fn.self l.self settings l.thread l.index l.calls (drop l.index l.calls) from;
       counted : l.self.adds ≤ l.fn.self.adds + l.index;
+      settings : l.self.cache.settings ≡ l.fn.self.cache.settings;
     }
