@@ -15,5 +15,7 @@ pub mod PartLists
 pub mod Weights
 pub mod PartAcross
 pub mod TreeLists
+pub mod TreeAcross
+pub mod OverParts
 pub mod Wholes
 pub mod Refusals

@@ -6,7 +6,7 @@ ghost use Rattle.tsc_nodes.specs.Numbers.{IsCutNumber};
 ghost use Rattle.tsc_nodes.specs.PageView.{is_in};
 ghost use Rattle.tsc_nodes.specs.Nodes.{Node, IsSorted, node_keys, answer_of, raise_nodes};
 ghost use Rattle.tsc_page.specs.Leaves.{AreParts, HasNode, IsLeafAt, nodes_of, start_of};
-ghost use Rattle.tsc_page.specs.Pending.{everything, all_joint, sizes_of, AreSizesOf, TellsSize, IsAddTold, before_second};
+ghost use Rattle.tsc_page.specs.Pending.{everything, all_joint, sizes_of, AreSizesOf, TellsSize, AddsSome, IsAddTold, before_second};
 ghost use Rattle.tsc_page.specs.Copies.{IsSameAs};
 ghost use Rattle.tsc_page.specs.Across.{IsAcrossTold, IsLastReached};
 
@@ -88,7 +88,8 @@ pub(crate) trait Part: Clone + Drop {
         ensures upper { IfOk result (λ upper. IfSome upper IsWhole) };
 
     /// Adds in place, and tells how many nodes came in: where the span lies in one leaf to which nobody else holds a way, which
-    /// need not be cut, and no more than `room` come in. Else nothing changes, nor where memory is refused.
+    /// need not be cut, and no more than `room` come in; or where both end keys have nodes, and nobody else holds a way to the
+    /// leaves in which the span starts and stops. Else nothing changes, nor where memory is refused.
     fn add_within(&mut self, add: &Addition<'_>, room: usize) -> Result<Option<usize>, NoMemory>
         requires whole { IsWhole self.old }
         requires sorted { IsSorted (nodes self.old) }
@@ -351,7 +352,7 @@ pub(crate) fn leaf_len<P: Part>(parts: &[P], place: usize) -> Result<usize, usiz
     Err(place)
 }
 
-/// Adds in place to the part in which the span lies, if it lies in one.
+/// Adds in place to the part in which the span lies, or over several parts where the end keys have nodes.
 pub(crate) fn add_within<P: Part>(
     parts: &mut [P],
     add: &Addition<'_>,
@@ -363,8 +364,11 @@ pub(crate) fn add_within<P: Part>(
     ensures len { length parts.new ≡ length parts.old }
 {
     let place = part_at(parts, add.from);
-    if place >= parts.len() || goes_on(parts, place, add.to) {
+    if place >= parts.len() {
         return Ok(None);
+    }
+    if goes_on(parts, place, add.to) {
+        return Ok(raise_over(parts, place, add).then_some(0));
     }
     if stops_at_next(parts, place, add.to) {
         parts[place].add_within(&add.before_second(), room)
@@ -445,5 +449,29 @@ pub(crate) fn raise_two<P: Part>(low: &mut [P], high: &mut [P], add: &Addition<'
     }
     raise_all(mid, add.value);
     raise_all(others, add.value);
+    true
+}
+
+/// Ratchets a value in place over several parts of one list, from the one in which the span starts. Says whether it did, as
+/// [`Part::raise_across`]; else nothing changes.
+fn raise_over<P: Part>(parts: &mut [P], first: usize, add: &Addition<'_>) -> bool
+    requires parts { AreParts P.nodes P.IsWhole parts.old }
+    requires bound { first < length parts.old }
+    requires first { IsLeafAt (map P.nodes parts.old) add.now.from first }
+    requires beyond { is_below (start_of (nodes_of (drop (suc first) (map P.nodes parts.old)))) add.now.to ≡ true }
+    ensures raised { result ≡ true → AddsSome (nodes_of (map P.nodes parts.old)) (nodes_of (map P.nodes parts.new)) add.now 0 0 }
+    ensures left { result ≡ false → nodes_of (map P.nodes parts.new) ≡ nodes_of (map P.nodes parts.old) }
+    ensures sizes { map P.sizes parts.new ≡ map P.sizes parts.old }
+    ensures whole { All P.IsWhole parts.new }
+    ensures len { length parts.new ≡ length parts.old }
+{
+    let last = last_reached(parts, add.to);
+    let stops = stops_at_next(parts, last, add.to);
+    let (below, rest) = parts.split_at_mut(first + 1);
+    let (mid, above) = rest.split_at_mut(last - first - 1);
+    if !raise_ends(&mut below[first], &mut above[0], add, stops) {
+        return false;
+    }
+    raise_all(mid, add.value);
     true
 }
