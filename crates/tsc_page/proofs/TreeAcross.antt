@@ -32,10 +32,10 @@ pub told_raised_below : (n : ℕ) (all v : OwnedTime) (p : Option OwnedTime) (f 
 told_raised_below n all v p f t ns b sorted up reached told = elim (cases_Bool (is_below (start_of ns) t)) [
   | inl h ↦ subst (λ (q : Bool). IsToldOf n (cond q (joint all (v ∷ [])) all) p (raise_nodes (between f t) v ns)) (sym (same ∙ h)) (told_reached n all v p f t ns sorted up (subst (λ (c : Cut). Lt c t) (sym (pending-start p ns)) h) told)
   | inr h ↦ subst (λ (q : Bool). IsToldOf n (cond q (joint all (v ∷ [])) all) p (raise_nodes (between f t) v ns)) (sym (same ∙ h)) (record {
-      some = omega (arith, told.some, raise_nodes-length (between f t) v ns);
-      start = subst (IsCutNumber n) (sym (raise_nodes-start (between f t) v ns)) told.start;
-      joint = told.joint ∙ sym (ap (λ (ms : List Node). all_joint ms) (raise_pending p (between f t) v ns) ∙ all_joint_kept f t v (with_pending p ns) sorted (subst (λ (c : Cut). Le t c) (sym (pending-start p ns)) h));
-    })
+    some = omega (arith, told.some, raise_nodes-length (between f t) v ns);
+    start = subst (IsCutNumber n) (sym (raise_nodes-start (between f t) v ns)) told.start;
+    joint = told.joint ∙ sym (ap (λ (ms : List Node). all_joint ms) (raise_pending p (between f t) v ns) ∙ all_joint_kept f t v (with_pending p ns) sorted (subst (λ (c : Cut). Le t c) (sym (pending-start p ns)) h));
+  })
 ]
   where
     same : b ≡ is_below (start_of ns) t
