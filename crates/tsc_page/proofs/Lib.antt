@@ -15,6 +15,8 @@ pub mod PartLists
 pub mod Weights
 pub mod PartAcross
 pub mod TreeLists
+pub mod TreeAcross
+pub mod OverParts
 pub mod Wholes
 pub mod Refusals
 pub mod Costs

@@ -12,12 +12,12 @@ use Rattle.tsc_nodes.specs.Numbers.{IsCutNumber}
 use Rattle.tsc_page.specs.Leaves.{nodes_of, AreSome, start_of, IsLeafAt, LiesAt}
 use Rattle.tsc_page.specs.Pending.{everything, with_pending, all_joint, IsToldOf, Addend, AddsSome}
 use Rattle.tsc_page.specs.Across.{HasKey, AreRaisedAcross, IsLastReached}
-use Rattle.tsc_nodes.proofs.CutOrder.{Lt, Le, Le-from_Lt, Le-itself, Lt-chain, Le-chain, Le_Lt-chain, Lt_Le-chain, before-after, none_above_last}
+use Rattle.tsc_nodes.proofs.CutOrder.{Lt, Le, Lt-not_Le, Le-from_Lt, Le-itself, Lt-chain, Le-chain, Le_Lt-chain, Lt_Le-chain, before-after, none_above_last}
 use Rattle.tsc_nodes.proofs.Cuts.{lowest}
 use Rattle.tsc_nodes.proofs.Places.{before_or_past}
 use Rattle.tsc_nodes.proofs.Edits.{raise_nodes-start, raise_nodes-length}
 use Rattle.tsc_page.proofs.Joins.{sorted_left, sorted_right, below_next, up_to_last, raises_left, raises_right, raises_both}
-use Rattle.tsc_page.proofs.LeafLists.{leaf_first, sorted_from, start_at, start_past, some_nodes}
+use Rattle.tsc_page.proofs.LeafLists.{parted_at, leaf_first, sorted_from, start_at, start_past, some_nodes}
 use Rattle.tsc_page.proofs.LeafAdds.{known_high}
 use Rattle.tsc_page.proofs.LeafKeys.{is_in-append, known_within}
 use Rattle.tsc_page.proofs.Pending.{raise_pending}
@@ -173,3 +173,17 @@ reached_before ls t p some sorted inside at within not_reached = record {
       Lt_Le-chain (start_of (get_or ls p [])) (start_of (nodes_of (drop (suc p) ls))) t below (subst (λ (c : Cut). Le c t) (sym (start_at ls some (suc p) [] within)) (at.low (omega arith)));
   stops = subst (λ (c : Cut). Le t c) (sym (start_at ls some (suc p) [] within)) not_reached;
 }
+
+-- what comes after a place begins no later than what comes after a later one
+pub starts_drop : (ls : List (List Node)) (i j : ℕ) → i ≤ j → IsSorted (nodes_of ls) → Le (start_of (nodes_of (drop i ls))) (start_of (nodes_of (drop j ls)))
+starts_drop ls zero j up sorted = subst (λ (ns : List Node). Le (start_of ns) (start_of (nodes_of (drop j ls)))) (sym (parted_at ls j)) (starts_first (nodes_of (take j ls)) (nodes_of (drop j ls)) (subst IsSorted (parted_at ls j) sorted))
+starts_drop ls (suc i) zero up sorted = absurd (omega (arith, up))
+starts_drop [] (suc i) (suc j) up sorted = Le-itself last
+starts_drop (l ∷ ls) (suc i) (suc j) up sorted = starts_drop ls i j (omega (arith, up)) (sorted_right l (nodes_of ls) sorted)
+
+-- a span that goes on beyond a part stops behind it
+pub last_beyond : (ls : List (List Node)) (t : Cut) (p q : ℕ) → IsSorted (nodes_of ls) → Lt (start_of (nodes_of (drop (suc p) ls))) t → IsLastReached ls t q → suc p ≤ q
+last_beyond ls t p q sorted goes at = elim (before_or_past q (suc p)) [
+  | inl h ↦ absurd (Lt-not_Le (start_of (nodes_of (drop (suc q) ls))) t (Le_Lt-chain (start_of (nodes_of (drop (suc q) ls))) (start_of (nodes_of (drop (suc p) ls))) t (starts_drop ls (suc q) (suc p) (omega (arith, h)) sorted) goes) at.stops)
+  | inr h ↦ h
+]
