@@ -1,16 +1,15 @@
-ghost use Rattle.std.specs.Prelude.{sum, slice_get, ◌≡◌, ◌≤◌, ◌*◌, nat_le, ◌||◌, ◌∷◌, [], true, false, IsOk, IfOk, OnOk, OnErr, option_map, if◌then◌else◌};
+ghost use Rattle.std.specs.Prelude.{sum, slice_get, ◌≡◌, ◌≤◌, ◌*◌, nat_le, ◌||◌, ◌∷◌, [], true, false, IsOk, IfOk, OnOk, OnErr, if◌then◌else◌};
 ghost use Rattle.tsc_time.specs.Joint.{joint, joint_above};
 ghost use Rattle.tsc_time.specs.Time.{zero_time, is_before, later};
-ghost use Rattle.tsc_span.specs.Span.{KeyBytes, Interval, is_empty_span, overlaps, end_keys, key_cost, span_cost};
+ghost use Rattle.tsc_span.specs.Span.{KeyBytes, Interval, is_empty_span, overlaps, end_keys, span_cost};
 ghost use Rattle.tsc_nodes.specs.declared.TheConstants.{LEAST_SIZE, MOST_SIZE};
 ghost use Rattle.tsc_nodes.specs.Page.{PageMarks, Mark, empty_page, with_mark, top, values_on, marked_keys, count_distinct, cost_distinct, has_room};
-ghost use Rattle.tsc_nodes.specs.PageView.{AreLeafSizes, StandsFor, NoAnswerAboveTop, answer, is_in, bytes_of, has_room_for, new_weight};
+ghost use Rattle.tsc_nodes.specs.PageView.{AreLeafSizes, StandsFor, NoAnswerAboveTop, answer, is_in, bytes_of, has_room_for};
 
 use crate::tree::Tree;
 use std::alloc::Global;
 use std::marker::Model;
-use tsc_nodes::MOST_NODES;
-use tsc_span::{Key, Span};
+use tsc_span::Span;
 use tsc_time::{NoMemory, Timestamp, Value};
 
 /// One page of the cache: what was added to it, as sorted nodes.
@@ -20,24 +19,22 @@ use tsc_time::{NoMemory, Timestamp, Value};
 #[derive(Debug, Drop)]
 pub struct Page {
     size: u32,
-    bytes: u32,
     top: Timestamp,
     tree: Tree,
 }
 
 impl Model for Page {
     ghost use Rattle.std.specs.Prelude.{◌≡◌, ◌≤◌};
-    ghost use Rattle.tsc_span.specs.Span.{cost_of};
     ghost use Rattle.tsc_nodes.specs.declared.TheConstants.{LEAST_SIZE, MOST_SIZE};
     ghost use Rattle.tsc_nodes.specs.PageView.{PageView, NoAnswerAboveTop};
-    ghost use Rattle.tsc_nodes.specs.Nodes.{node_keys, page_of};
+    ghost use Rattle.tsc_nodes.specs.Nodes.{page_of};
     ghost use Rattle.tsc_page.specs.Trees.{tree_nodes, tree_sizes, IsCounted};
 
     ghost Value = { PageView };
 
     ghost view = { λ p. page_of p.size p.top (tree_nodes p.tree) (tree_sizes p.tree) };
 
-    ghost invariant = { λ p. IsCounted p.tree × (p.bytes ≡ cost_of (node_keys (tree_nodes p.tree))) × (p.bytes ≤ p.size) × (LEAST_SIZE ≤ p.size) × (p.size ≤ MOST_SIZE)
+    ghost invariant = { λ p. IsCounted p.tree × (p.tree.bytes ≤ p.size) × (LEAST_SIZE ≤ p.size) × (p.size ≤ MOST_SIZE)
         × NoAnswerAboveTop (page_of p.size p.top (tree_nodes p.tree) (tree_sizes p.tree)) };
 }
 
@@ -54,7 +51,6 @@ impl Page {
     {
         Ok(Page {
             size,
-            bytes: 0,
             top: base,
             tree: Tree::new(alloc),
         })
@@ -77,7 +73,7 @@ impl Page {
         ensures stands { (p : PageMarks) → StandsFor self.now p → result ≡ cost_distinct (marked_keys p.marks) }
         ensures most { result ≤ self.now.size }
     {
-        self.bytes
+        self.tree.bytes()
     }
 
     /// Whether the page has room for a span: whether the end keys of all that was added and of the span, each of them
@@ -87,7 +83,7 @@ impl Page {
         ensures stands { (p : PageMarks) → StandsFor self.now p → result ≡ has_room p span.now }
     {
         let (first, second) = span.end_keys();
-        self.bytes + self.new_cost(first) + self.new_cost(second) <= self.size
+        self.tree.has_room(first, second, self.size)
     }
 
     /// Adds a span with its value. The span is not empty, and the page has room for it. Where memory is
@@ -137,13 +133,12 @@ impl Page {
             return Ok(true);
         };
         let (first, second) = span.end_keys();
-        let cost = self.new_cost(first) + self.new_cost(second);
-        if cost > self.size - self.bytes {
+        if !self
+            .tree
+            .try_add(first, second, from, to, value, self.size)?
+        {
             return Ok(false);
         }
-        self.tree
-            .try_add(first, second, from, to, value, MOST_NODES as usize)?;
-        self.bytes += cost;
         self.top = self.top.max(value.time());
         Ok(true)
     }
@@ -201,20 +196,8 @@ impl Page {
     {
         Ok(Page {
             size: self.size,
-            bytes: self.bytes,
             top: self.top,
             tree: self.tree.try_copy()?,
         })
-    }
-
-    /// What a key costs, where this is one and has no node.
-    fn new_cost(&self, key: Option<&Key>) -> u32
-        ensures value { result ≡ new_weight key_cost self.now.keys (option_map (λ k. k.now) key.entry) }
-        ensures most { result ≤ 4128 }
-    {
-        match key {
-            Some(key) if self.tree.is_new(Some(key)) => key.cost(),
-            _ => 0,
-        }
     }
 }
