@@ -19,7 +19,6 @@
 #![tactic(auto)]
 
 mod addition;
-mod cost;
 mod fork;
 mod leaf;
 mod page;

@@ -11,7 +11,7 @@ ghost use Rattle.tsc_page.specs.Copies.{IsSameAs};
 
 use crate::addition::Addition;
 use std::alloc::Global;
-use tsc_nodes::{KeyNumber, NumberedCut};
+use tsc_nodes::{Grown, KeyNumber, NumberedCut};
 use tsc_span::{Cut, Key};
 use tsc_time::{NoMemory, Timestamp, Value, ratchet};
 
@@ -86,9 +86,9 @@ pub(crate) trait Part: Clone + Drop {
         ensures whole { OnOk result (IsWhole self.new) }
         ensures upper { IfOk result (λ upper. IfSome upper IsWhole) };
 
-    /// Adds in place, and tells how many nodes came in: where the span lies in one leaf to which nobody else holds a way, which
-    /// need not be cut, and no more than `room` come in. Else nothing changes, nor where memory is refused.
-    fn add_within(&mut self, add: &Addition<'_>, room: usize) -> Result<Option<usize>, NoMemory>
+    /// Adds in place, and tells what came in: where the span lies in one leaf to which nobody else holds a way, which
+    /// need not be cut, and what comes in costs no more than `room`. Else nothing changes, nor where memory is refused.
+    fn add_within(&mut self, add: &Addition<'_>, room: u32) -> Result<Option<Grown>, NoMemory>
         requires whole { IsWhole self.old }
         requires sorted { IsSorted (nodes self.old) }
         ensures told { IsAddTold (nodes self.old) (nodes self.new) (sizes self.old) (sizes self.new) add.now room result }
@@ -339,8 +339,8 @@ pub(crate) fn leaf_len<P: Part>(parts: &[P], place: usize) -> Result<usize, usiz
 pub(crate) fn add_within<P: Part>(
     parts: &mut [P],
     add: &Addition<'_>,
-    room: usize,
-) -> Result<Option<usize>, NoMemory>
+    room: u32,
+) -> Result<Option<Grown>, NoMemory>
     requires parts { AreParts P.nodes P.IsWhole parts.old }
     ensures told { IsAddTold (nodes_of (map P.nodes parts.old)) (nodes_of (map P.nodes parts.new)) (sizes_of (map P.sizes parts.old)) (sizes_of (map P.sizes parts.new)) add.now room result }
     ensures whole { All P.IsWhole parts.new }
