@@ -10,7 +10,7 @@ use Rattle.tsc_nodes.proofs.Costs.{cost-raised, cost-made}
 use Rattle.tsc_nodes.proofs.NewKeys.{made_length, made_ready}
 use Rattle.tsc_nodes.proofs.nodes.Nodes.add_owned.Goals as goal
 
-pub returns-then-made-eq0-clause-grown : goal.returns-then-made-nodes-eq0-clause-grown
+pub returns-then-made-eq0-clause-grown : goal.returns-then-made-eq0-clause-grown
 returns-then-made-eq0-clause-grown c = record {
   count = omega (arith, ap length c.raise_near.ensures, raise_nodes-length (between c.args.from.now c.args.to.now) c.args.value c.args.self.now);
   cost = omega (arith, ap nodes_cost c.raise_near.ensures, cost-raised (between c.args.from.now c.args.to.now) c.args.value c.args.self.now);
