@@ -74,22 +74,22 @@ summary_syncs : IsSync summary
 summary_syncs = search (sendable, crosses, key_number_syncs, value_syncs) depth 20
 
 leaf_sends : IsSend leaf
-leaf_sends = search (sendable, crosses, summary_sends, nodes_send, nodes_sync) depth 20
+leaf_sends = search (sendable, crosses, declared_send, as_row_send, summary_sends, nodes_send, nodes_sync) depth 20
 
 leaf_syncs : IsSync leaf
-leaf_syncs = search (sendable, crosses, summary_syncs, nodes_send, nodes_sync) depth 20
+leaf_syncs = search (sendable, crosses, declared_sync, as_row_sync, summary_syncs, nodes_send, nodes_sync) depth 20
 
 fork_sends : IsSend (fork leaf)
-fork_sends = search (sendable, crosses, summary_sends, leaf_sends, leaf_syncs) depth 20
+fork_sends = search (sendable, crosses, declared_send, as_row_send, summary_sends, leaf_sends, leaf_syncs) depth 20
 
 fork_syncs : IsSync (fork leaf)
-fork_syncs = search (sendable, crosses, summary_syncs, leaf_sends, leaf_syncs) depth 20
+fork_syncs = search (sendable, crosses, declared_sync, as_row_sync, summary_syncs, leaf_sends, leaf_syncs) depth 20
 
 top_sends : IsSend (fork (fork leaf))
-top_sends = search (sendable, crosses, summary_sends, fork_sends, fork_syncs) depth 20
+top_sends = search (sendable, crosses, declared_send, as_row_send, summary_sends, fork_sends, fork_syncs) depth 20
 
 top_syncs : IsSync (fork (fork leaf))
-top_syncs = search (sendable, crosses, summary_syncs, fork_sends, fork_syncs) depth 20
+top_syncs = search (sendable, crosses, declared_sync, as_row_sync, summary_syncs, fork_sends, fork_syncs) depth 20
 
 tree_sends : IsSend tree
 tree_sends = search (sendable, crosses, top_sends, top_syncs) depth 20

@@ -49,7 +49,7 @@ from_first ((n ∷ ns) ∷ ls) sizes sorted (suc j) d h =
     (from_first ls sizes.1 (sorted_right (n ∷ ns) (nodes_of ls) sorted) j d (omega arith))
 
 -- leaves begin in their order
-starts_rise : (ls : List (List Node)) → AreSome ls → IsSorted (nodes_of ls) → (i j : ℕ) (d : List Node) → i ≤ j → j < length ls → Le (start_of (get_or ls i d)) (start_of (get_or ls j d))
+pub starts_rise : (ls : List (List Node)) → AreSome ls → IsSorted (nodes_of ls) → (i j : ℕ) (d : List Node) → i ≤ j → j < length ls → Le (start_of (get_or ls i d)) (start_of (get_or ls j d))
 starts_rise [] sizes sorted i j d h g = absurd (omega arith)
 starts_rise ([] ∷ ls) sizes sorted zero j d h g = absurd (omega (arith, sizes.0))
 starts_rise ((n ∷ ns) ∷ ls) sizes sorted zero j d h g = from_first ((n ∷ ns) ∷ ls) sizes sorted j d g

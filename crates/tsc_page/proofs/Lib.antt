@@ -14,6 +14,8 @@ pub mod PartAdds
 pub mod PartLists
 pub mod PartAcross
 pub mod TreeLists
+pub mod TreeAcross
+pub mod OverParts
 pub mod Wholes
 pub mod Refusals
 pub mod Costs

@@ -71,6 +71,10 @@ pub record AddsSome (old new : List Node) (a : Addend) (room : ℕ) (more : Grow
   pub grown : GrowsBy old new more
   pub within : more.bytes ≤ room
 
+-- nothing comes in
+abbrev pub nothing_grown : Grown
+nothing_grown = record { nodes = 0; bytes = 0 }
+
 -- what a call tells that adds, or leaves all as it is
 abbrev pub IsAddTold : {E : Type 0} → (old new : List Node) (was now : List ℕ) → Addend → ℕ → Result (Option Grown) E → Type 0
 IsAddTold old new was now a room (Ok (Some more)) = AddsSome old new a room more

@@ -112,9 +112,9 @@ impl<P: Part> Part for Fork<P> {
 
     fn raise_between(&mut self, from: Cut<'_>, to: Cut<'_>, value: Value) -> Result<(), NoMemory> {
         let parts = Arc::make_mut(&mut self.parts)?;
-        push_down(parts, &self.summary);
         parts::raise_between(parts, from, to, value)?;
-        self.summary = summary_of(parts);
+        let reached = parts::start_below(parts, &NumberedCut::new(to));
+        self.summary.reach(reached, value);
         Ok(())
     }
 
@@ -140,6 +140,19 @@ impl<P: Part> Part for Fork<P> {
         self.summary
             .heed(&made, parts::start_number(parts), reached, add.value);
         made
+    }
+
+    fn raise_across(low: &mut Fork<P>, high: &mut Fork<P>, add: &Addition<'_>) -> bool {
+        let Some(below) = Arc::get_mut(&mut low.parts) else {
+            return false
+        };
+        let Some(above) = Arc::get_mut(&mut high.parts) else {
+            return false
+        };
+        let raised = parts::raise_two(below, above, add);
+        low.summary.reach(raised, add.value);
+        high.summary.reach(raised, add.value);
+        raised
     }
 
     ghost some = { λ f is. is.some };

@@ -1,7 +1,8 @@
-ghost use Rattle.std.specs.Prelude.{◌≡◌, ◌≤◌, ◌++◌, length, None, IfOk, OnOk, IfSome};
+ghost use Rattle.std.specs.Prelude.{◌≡◌, ◌≤◌, ◌++◌, length, true, option_map, None, IfOk, OnOk, IfSome};
 ghost use Rattle.tsc_nodes.specs.Nodes.{IsSorted};
 ghost use Rattle.tsc_page.specs.Leaves.{IsLeaf, HasNode};
 ghost use Rattle.tsc_page.specs.Pending.{with_pending};
+ghost use Rattle.tsc_page.specs.Across.{HasKey};
 ghost use Rattle.tsc_page.specs.Trees.{nodes_in, leaf_nodes, leaf_sizes, leaf_copied, IsWholeLeaf, IsLeafCopy, IsTold};
 
 use crate::addition::Addition;
@@ -101,9 +102,8 @@ impl Part for Leaf {
     fn raise_between(&mut self, from: Cut<'_>, to: Cut<'_>, value: Value) -> Result<(), NoMemory> {
         let (from, to) = (NumberedCut::new(from), NumberedCut::new(to));
         let nodes = Arc::make_mut(&mut self.nodes)?;
-        push_down(nodes, &self.summary);
         nodes.raise_between(&from, &to, value);
-        self.summary = summary_of(nodes);
+        self.summary.reach(nodes.starts_below(&to), value);
         Ok(())
     }
 
@@ -133,6 +133,26 @@ impl Part for Leaf {
         self.summary
             .heed(&made, nodes.start_number(), reached, add.value);
         made
+    }
+
+    fn raise_across(low: &mut Leaf, high: &mut Leaf, add: &Addition<'_>) -> bool {
+        let Some(below) = Arc::get_mut(&mut low.nodes) else {
+            return false
+        };
+        let Some(above) = Arc::get_mut(&mut high.nodes) else {
+            return false
+        };
+        if !has_key(below, add.first) {
+            return false;
+        }
+        if !has_key(above, add.second) {
+            return false;
+        }
+        below.raise_between(add.from, &NumberedCut::new(Cut::Last), add.value);
+        above.raise_between(&NumberedCut::new(Cut::Before(&[])), add.to, add.value);
+        low.summary.reach(true, add.value);
+        high.summary.reach(true, add.value);
+        true
     }
 
     ghost some = { λ l is. is.some };
@@ -183,5 +203,16 @@ fn grow(nodes: &mut Nodes, key: &Key) -> Result<Option<Nodes>, NoMemory>
         Ok(Some(nodes.cut()?))
     } else {
         Ok(None)
+    }
+}
+
+/// Whether a key has a node, where it is one.
+fn has_key(nodes: &Nodes, key: Option<&Key>) -> bool
+    requires sorted { IsSorted nodes.now }
+    ensures { result ≡ true → HasKey (option_map (λ k. k.now) key.entry) nodes.now }
+{
+    match key {
+        Some(key) => nodes.place_for(key).is_none(),
+        None => true,
     }
 }

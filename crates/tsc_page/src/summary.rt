@@ -1,4 +1,4 @@
-ghost use Rattle.std.specs.Prelude.{◌≡◌, ◌∷◌, [], Some};
+ghost use Rattle.std.specs.Prelude.{◌≡◌, ◌∷◌, [], Some, if◌then◌else◌};
 ghost use Rattle.tsc_time.specs.Joint.{joint};
 ghost use Rattle.tsc_page.specs.Pending.{merged, seen_with, joint_after};
 
@@ -57,6 +57,17 @@ impl Summary {
             if reached {
                 self.joint = ratchet(self.joint, value).0;
             }
+        }
+    }
+
+    /// Heeds that a value was ratcheted into keys and gaps below, where these reach the first node.
+    pub(crate) fn reach(&mut self, reached: bool, value: Value)
+        ensures start { self.new.start ≡ self.old.start }
+        ensures joint { self.new.joint ≡ (if reached then joint self.old.joint (value ∷ []) else self.old.joint) }
+        ensures pending { self.new.pending ≡ self.old.pending }
+    {
+        if reached {
+            self.joint = ratchet(self.joint, value).0;
         }
     }
 }
