@@ -15,3 +15,4 @@ pub mod ExampleSettings
 pub mod RatchetExamples
 pub mod SpanExamples
 pub mod RotationExamples
+pub mod SizeExamples
