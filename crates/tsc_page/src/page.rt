@@ -1,4 +1,4 @@
-ghost use Rattle.std.specs.Prelude.{sum, slice_get, ◌≡◌, ◌≤◌, ◌||◌, ◌∷◌, [], true, false, IsOk, IfOk, OnOk, OnErr, if◌then◌else◌};
+ghost use Rattle.std.specs.Prelude.{sum, slice_get, is_some, ◌≡◌, ◌≤◌, ◌||◌, ◌∷◌, [], true, false, IsOk, IfOk, IfSome, OnOk, OnErr, if◌then◌else◌};
 ghost use Rattle.tsc_time.specs.Joint.{joint, joint_above};
 ghost use Rattle.tsc_time.specs.Time.{zero_time, is_before, later};
 ghost use Rattle.tsc_span.specs.Span.{KeyBytes, Interval, is_empty_span, overlaps, end_keys};
@@ -120,6 +120,37 @@ impl Page {
         }
         self.top = self.top.max(value.time());
         Ok(true)
+    }
+
+    /// The page with one more span and its value, where it has room for that; `None` where it has not. The span is not empty,
+    /// and this page stays as it is.
+    ///
+    /// It is for a page that others go on to read: it copies the list at the top and the way to each leaf that changes, shares all
+    /// else, and never tries to add in place.
+    pub fn added(&self, span: &Span, value: Value) -> Result<Option<Page>, NoMemory>
+        requires not_empty { is_empty_span span.now ≡ false }
+        ensures room { IfOk result (λ made. is_some made ≡ has_room_for self.now span.now) }
+        ensures stands { IfOk result (λ made. IfSome made (λ page. (p : PageMarks) → StandsFor self.now p
+            → StandsFor page (with_mark p (record { span = span.now; value = value })))) }
+        ensures limit { IfOk result (λ made. IfSome made (λ page. page.page_nodes ≡ self.now.page_nodes)) }
+        ensures top { IfOk result (λ made. IfSome made (λ page. page.top ≡ later self.now.top value.time)) }
+        ensures keys { IfOk result (λ made. IfSome made (λ page. (k : KeyBytes) → is_in k page.keys ≡ (is_in k self.now.keys || is_in k (end_keys span.now)))) }
+        ensures answers { IfOk result (λ made. IfSome made (λ page. (s : Interval) → answer page s
+            ≡ (if overlaps span.now s then joint (answer self.now s) (value ∷ []) else answer self.now s))) }
+    {
+        let Some((from, to)) = span.cuts() else {
+            return Ok(None);
+        };
+        let (first, second) = span.end_keys();
+        let most = self.page_nodes as usize;
+        let Some(tree) = self.tree.added(first, second, from, to, value, most)? else {
+            return Ok(None);
+        };
+        Ok(Some(Page {
+            page_nodes: self.page_nodes,
+            top: self.top.max(value.time()),
+            tree,
+        }))
     }
 
     /// The joint value of time zero without an owner and of all that was added and overlaps the span. It

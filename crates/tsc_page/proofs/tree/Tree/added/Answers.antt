@@ -14,22 +14,21 @@ use Rattle.tsc_nodes.proofs.Standing.{one_if, count_with_ends, added_length}
 use Rattle.tsc_nodes.proofs.Edits.{raise_nodes-sorted, raise_nodes-length}
 use Rattle.tsc_page.proofs.PartLists.{copies_sorted}
 use Rattle.tsc_page.proofs.TreeLists.{copied_tops, counted_with}
-use Rattle.tsc_page.proofs.tree.Tree.try_add.Goals as goal
+use Rattle.tsc_page.proofs.tree.Tree.added.Goals as goal
 
 pub returns-then-count-most-clause-full : goal.returns-then-count-most-clause-full
 returns-then-count-most-clause-full c e =
     let old : List Node = tree_nodes c.args.self.now in
     let o : Option KeyBytes = option_map (λ k. k.now) c.args.first in
     let q : Option KeyBytes = option_map (λ k. k.now) c.args.second in
-    let same = c.in_ok-add_in_place.ensures.left c.if-branch.false in
-    let new = c.new_among.ensures ∙ ap (λ (ns : List Node). one_if (is_new_among (node_keys ns) o) + one_if (is_new_among (node_keys ns) q)) same.0 in
+    let new = c.new_among.ensures in
     let all = count_with_ends old o q (between (cut_of c.args.from) (cut_of c.args.to)) c.requires.counted.parts.sorted c.requires.keys in
-    omega (arith, c.if-count-most.true, new, all, same.2, c.requires.counted.count)
+    omega (arith, c.if-count-most.true, new, all, c.requires.counted.count)
 
 pub make_node-requires : goal.make_node-requires
 make_node-requires c =
-    let copy = copied_tops c.add_in_place.new.self.list.items c.in_ok-list.list.items c.in_ok-list.ensures.cases.0 in
-    record { whole = copies_sorted top_nodes top_sizes IsWholeTop c.add_in_place.new.self.list.items c.in_ok-list.list.items copy c.add_in_place.ensures.counted.parts }
+    let copy = copied_tops c.args.self.now.list.items c.in_ok-list.list.items c.in_ok-list.ensures.cases.0 in
+    record { whole = copies_sorted top_nodes top_sizes IsWholeTop c.args.self.now.list.items c.in_ok-list.list.items copy c.requires.counted.parts }
 
 pub raise_between-requires-clause-parts : goal.raise_between-requires-clause-parts
 raise_between-requires-clause-parts c = subst (AreParts top_nodes IsWholeTop) (sym c.deref_mut.ensures.value) c.in_ok-make_node-2.ensures.whole
@@ -41,17 +40,16 @@ returns-clause-added c =
     let t : Cut = cut_of c.args.to in
     let o : Option KeyBytes = option_map (λ k. k.now) c.args.first in
     let q : Option KeyBytes = option_map (λ k. k.now) c.args.second in
-    let same = c.in_ok-add_in_place.ensures.left c.if-branch.false in
-    let copy = copied_tops c.add_in_place.new.self.list.items c.in_ok-list.list.items c.in_ok-list.ensures.cases.0 in
+    let copy = copied_tops c.args.self.now.list.items c.in_ok-list.list.items c.in_ok-list.ensures.cases.0 in
     let mid : List Node = nodes_of (map top_nodes c.make_node-2.new.list.items) in
     let made = splits_chain _ _ mid (option_to_list q) (option_to_list o) c.in_ok-make_node.ensures.split c.in_ok-make_node-2.ensures.split in
     let from_old : IsSplitAt old mid (option_to_list o ++ option_to_list q) =
-    subst (λ (ns : List Node). IsSplitAt ns mid (option_to_list o ++ option_to_list q)) (ap (λ (ls : List (List Node)). nodes_of ls) copy.nodes ∙ same.0) made in
+    subst (λ (ns : List Node). IsSplitAt ns mid (option_to_list o ++ option_to_list q)) (ap (λ (ls : List (List Node)). nodes_of ls) copy.nodes) made in
     let split : IsSplitAt old mid (end_keys (between f t)) = subst (λ ks. IsSplitAt old mid ks) c.requires.keys from_old in
     let new = c.raise_between.new.parts in
     let kept = with_items_is c.make_node-2.new.list new (omega (arith, c.in_ok-raise_between.ensures.len, ap length c.deref_mut.ensures.value, c.make_node-2.new.list.ok.0)) in
     let raised = c.in_ok-raise_between.ensures.raised ∙ ap (λ (ps : List Top). raise_nodes (between f t) c.args.value (nodes_of (map top_nodes ps))) c.deref_mut.ensures.value in
-    λ e. record { mid = mid; split = split; raised = ap (λ (ps : List Top). nodes_of (map top_nodes ps)) kept ∙ raised }
+    record { mid = mid; split = split; raised = ap (λ (ps : List Top). nodes_of (map top_nodes ps)) kept ∙ raised }
 
 pub returns-clause-counted : goal.returns-clause-counted
 returns-clause-counted c =
@@ -60,18 +58,17 @@ returns-clause-counted c =
     let t : Cut = cut_of c.args.to in
     let o : Option KeyBytes = option_map (λ k. k.now) c.args.first in
     let q : Option KeyBytes = option_map (λ k. k.now) c.args.second in
-    let same = c.in_ok-add_in_place.ensures.left c.if-branch.false in
-    let copy = copied_tops c.add_in_place.new.self.list.items c.in_ok-list.list.items c.in_ok-list.ensures.cases.0 in
+    let copy = copied_tops c.args.self.now.list.items c.in_ok-list.list.items c.in_ok-list.ensures.cases.0 in
     let mid : List Node = nodes_of (map top_nodes c.make_node-2.new.list.items) in
     let made = splits_chain _ _ mid (option_to_list q) (option_to_list o) c.in_ok-make_node.ensures.split c.in_ok-make_node-2.ensures.split in
     let from_old : IsSplitAt old mid (option_to_list o ++ option_to_list q) =
-    subst (λ (ns : List Node). IsSplitAt ns mid (option_to_list o ++ option_to_list q)) (ap (λ (ls : List (List Node)). nodes_of ls) copy.nodes ∙ same.0) made in
+    subst (λ (ns : List Node). IsSplitAt ns mid (option_to_list o ++ option_to_list q)) (ap (λ (ls : List (List Node)). nodes_of ls) copy.nodes) made in
     let split : IsSplitAt old mid (end_keys (between f t)) = subst (λ ks. IsSplitAt old mid ks) c.requires.keys from_old in
     let new = c.raise_between.new.parts in
     let raised = c.in_ok-raise_between.ensures.raised ∙ ap (λ (ps : List Top). raise_nodes (between f t) c.args.value (nodes_of (map top_nodes ps))) c.deref_mut.ensures.value in
-    let more = c.new_among.ensures ∙ ap (λ (ns : List Node). one_if (is_new_among (node_keys ns) o) + one_if (is_new_among (node_keys ns) q)) same.0 in
+    let more = c.new_among.ensures in
     let all = count_with_ends old o q (between f t) c.requires.counted.parts.sorted c.requires.keys in
     let long = added_length old mid f t c.requires.order c.args.value split in
     counted_with c.make_node-2.new.list new _ (omega (arith, c.in_ok-raise_between.ensures.len, ap length c.deref_mut.ensures.value))
     (record { whole = c.in_ok-raise_between.ensures.whole; sorted = subst IsSorted (sym raised) (raise_nodes-sorted (between f t) c.args.value mid split.sorted) })
-    (omega (arith, more, all, long, same.2, c.requires.counted.count, ap length raised, raise_nodes-length (between f t) c.args.value mid))
+    (omega (arith, more, all, long, c.requires.counted.count, ap length raised, raise_nodes-length (between f t) c.args.value mid))
