@@ -69,13 +69,14 @@ impl Page {
     /// Adds a span with its value. The span is not empty, and the page has room for it. Where memory is
     /// refused the page is as before, and so are its leaves.
     ///
-    /// Where no copy of the page shares the blocks and leaves that the span meets, nor the keys of a leaf that gets a
-    /// new one, and no leaf would come to have 65 nodes, they are changed in place. That costs a search among the
-    /// blocks, one among the leaves of a block and one for each end key in its leaf, a copy of each end key that is new
-    /// to the page, a move of a leaf's nodes above a new one, and a step for each node within the span; a span whose end
-    /// keys the page holds already takes no memory then. So it is for 256 leaves at the most. Any other Add copies the
-    /// list of blocks, and of the blocks and leaves themselves those that it changes; a leaf that comes to have 65 nodes
-    /// is cut into its first 32 and its last 33, and so is a block of 65 leaves.
+    /// It is made in place where no copy of the page shares the way to the leaves in which the span starts and stops, nor the
+    /// keys of a leaf that gets a new one, no leaf would come to have 65 nodes, and the span lies in one leaf or both its end
+    /// keys have nodes. That costs a search in each part on the way and one for each end key, a copy of each end key that is
+    /// new to the page, a move of a leaf's nodes above a new one, and a step for each node within the span in the leaves in
+    /// which it starts and stops, and for each part between these; a span whose end keys the page holds already takes no memory
+    /// then. What is pending on the way is ratcheted into the parts below it. Any other Add copies the list at the top and the
+    /// way to each leaf that it changes; a leaf that comes to have 65 nodes is cut into its first 32 and its last 33, and so is
+    /// a fork of 65 parts.
     pub fn add(&mut self, span: &Span, value: Value) -> Result<(), NoMemory>
         requires not_empty { is_empty_span span.now ≡ false }
         requires room { has_room_for self.old span.now ≡ true }
@@ -153,9 +154,9 @@ impl Page {
         }))
     }
 
-    /// The joint value of time zero without an owner and of all that was added and overlaps the span. It
-    /// costs a search among the leaves, one in each leaf that the span meets, and a step for each node within
-    /// the span. A search compares keys by their first twenty-four bytes, and reads what is behind these only
+    /// The joint value of time zero without an owner and of all that was added and overlaps the span. It costs a search in
+    /// each part on the way to the leaves in which the span starts and stops, a step for each node within it there, and one for
+    /// each part between these. A search compares keys by their first twenty-four bytes, and reads what is behind these only
     /// where they are the same.
     pub fn lookup(&self, span: &Span) -> Value
         ensures value { result ≡ answer self.now span.now }
@@ -199,7 +200,7 @@ impl Page {
         }
     }
 
-    /// A copy of the page, which shares its leaves. It takes the memory of the list of their blocks.
+    /// A copy of the page, which shares its leaves. It takes the memory of the list of parts at the top of their tree.
     pub fn try_copy(&self) -> Result<Page, NoMemory>
         ensures value { IfOk result (λ copy. copy ≡ self.now) }
         ensures stands { IfOk result (λ copy. (p : PageMarks) → StandsFor self.now p → StandsFor copy p) }
