@@ -23,10 +23,9 @@ pub cost_with_ends : (ns : List Node) (o p : Option KeyBytes) (s : Interval) (by
 cost_with_ends ns o p s bytes sorted keys is = omega (arith, is, weigh_with_ends key_cost ns o p s sorted keys)
 
 -- so what is told of the room for two keys holds of the span
-pub room_told : (ns old : List Node) (o p : Option KeyBytes) (s : Interval) (bytes most : ℕ) (has : Bool) → IsSorted old → option_to_list o ++ option_to_list p ≡ end_keys s → ns ≡ old → bytes ≡ nodes_cost old
-    → has ≡ nat_le (bytes + new_weight key_cost (node_keys ns) o + new_weight key_cost (node_keys ns) p) most → has ≡ nat_le (cost_distinct (node_keys old ++ end_keys s)) most
-room_told ns old o p s bytes most has sorted keys same is told =
-    told ∙ ap (λ (ms : List Node). nat_le (bytes + new_weight key_cost (node_keys ms) o + new_weight key_cost (node_keys ms) p) most) same ∙ ap (λ (n : ℕ). nat_le n most) (cost_with_ends old o p s bytes sorted keys is)
+pub room_told : (ns : List Node) (o p : Option KeyBytes) (s : Interval) (bytes most : ℕ) (has : Bool) → IsSorted ns → option_to_list o ++ option_to_list p ≡ end_keys s → bytes ≡ nodes_cost ns
+    → has ≡ nat_le (bytes + new_weight key_cost (node_keys ns) o + new_weight key_cost (node_keys ns) p) most → has ≡ nat_le (cost_distinct (node_keys ns ++ end_keys s)) most
+room_told ns o p s bytes most has sorted keys is told = told ∙ ap (λ (n : ℕ). nat_le n most) (cost_with_ends ns o p s bytes sorted keys is)
 
 -- a key costs no more where it may be known
 new_up_to : (ks : List KeyBytes) (o : Option KeyBytes) → new_weight key_cost ks o ≤ new_weight key_cost [] o

@@ -1,4 +1,4 @@
-ghost use Rattle.std.specs.Prelude.{sum, slice_get, ◌≡◌, ◌≤◌, ◌*◌, nat_le, ◌||◌, ◌∷◌, [], true, false, IsOk, IfOk, OnOk, OnErr, if◌then◌else◌};
+ghost use Rattle.std.specs.Prelude.{sum, slice_get, is_some, ◌≡◌, ◌≤◌, ◌*◌, nat_le, ◌||◌, ◌∷◌, [], true, false, IsOk, IfOk, IfSome, OnOk, OnErr, if◌then◌else◌};
 ghost use Rattle.tsc_time.specs.Joint.{joint, joint_above};
 ghost use Rattle.tsc_time.specs.Time.{zero_time, is_before, later};
 ghost use Rattle.tsc_span.specs.Span.{KeyBytes, Interval, is_empty_span, overlaps, end_keys, span_cost};
@@ -89,14 +89,14 @@ impl Page {
     /// Adds a span with its value. The span is not empty, and the page has room for it. Where memory is
     /// refused the page is as before, and so are its leaves.
     ///
-    /// Where the span lies in one leaf, no copy of the page shares the way to it, nor its keys where it gets a new one, and it
-    /// would not come to have 65 nodes, it is changed in place. That costs a search among the parts at each step down to
-    /// the leaf and one for each end key there, a copy of each end key that is new to the page, a move of the leaf's
-    /// nodes above a new one, and a step for each node within the span; a span whose end keys the page holds already takes
-    /// no memory then. Any other Add searches for each end key twice and copies the list at the top, and of the parts below
-    /// those that it changes; what lies wholly within the span is not looked into. A leaf that comes to have 65 nodes is cut
-    /// into its first 32 and its last 33, and so is a part of 65 parts. Where there may be no room for both end keys, each is
-    /// searched for once more.
+    /// It is made in place where no copy of the page shares the way to the leaves in which the span starts and stops, nor the
+    /// keys of a leaf that gets a new one, no leaf would come to have 65 nodes, and the span lies in one leaf or both its end
+    /// keys have nodes. That costs a search in each part on the way and one for each end key, a copy of each end key that is
+    /// new to the page, a move of a leaf's nodes above a new one, and a step for each node within the span in the leaves in
+    /// which it starts and stops, and for each part between these; a span whose end keys the page holds already takes no memory
+    /// then. What is pending on the way is ratcheted into the parts below it. Any other Add copies the list at the top and the
+    /// way to each leaf that it changes; a leaf that comes to have 65 nodes is cut into its first 32 and its last 33, and so is
+    /// a fork of 65 parts. Where there may be no room for both end keys, each is searched for once more.
     pub fn add(&mut self, span: &Span, value: Value) -> Result<(), NoMemory>
         requires not_empty { is_empty_span span.now ≡ false }
         requires room { has_room_for self.old span.now ≡ true }
@@ -144,9 +144,39 @@ impl Page {
         Ok(true)
     }
 
-    /// The joint value of time zero without an owner and of all that was added and overlaps the span. It
-    /// costs a search among the leaves, one in each leaf that the span meets, and a step for each node within
-    /// the span. A search compares keys by their first twenty-four bytes, and reads what is behind these only
+    /// The page with one more span and its value, where it has room for that; `None` where it has not. The span is not empty,
+    /// and this page stays as it is.
+    ///
+    /// It is for a page that others go on to read: it copies the list at the top and the way to each leaf that changes, shares all
+    /// else, and never tries to add in place.
+    pub fn added(&self, span: &Span, value: Value) -> Result<Option<Page>, NoMemory>
+        requires not_empty { is_empty_span span.now ≡ false }
+        ensures room { IfOk result (λ made. is_some made ≡ has_room_for self.now span.now) }
+        ensures stands { IfOk result (λ made. IfSome made (λ page. (p : PageMarks) → StandsFor self.now p
+            → StandsFor page (with_mark p (record { span = span.now; value = value })))) }
+        ensures size { IfOk result (λ made. IfSome made (λ page. page.size ≡ self.now.size)) }
+        ensures top { IfOk result (λ made. IfSome made (λ page. page.top ≡ later self.now.top value.time)) }
+        ensures keys { IfOk result (λ made. IfSome made (λ page. (k : KeyBytes) → is_in k page.keys ≡ (is_in k self.now.keys || is_in k (end_keys span.now)))) }
+        ensures answers { IfOk result (λ made. IfSome made (λ page. (s : Interval) → answer page s
+            ≡ (if overlaps span.now s then joint (answer self.now s) (value ∷ []) else answer self.now s))) }
+    {
+        let Some((from, to)) = span.cuts() else {
+            return Ok(None);
+        };
+        let (first, second) = span.end_keys();
+        let Some(tree) = self.tree.added(first, second, from, to, value, self.size)? else {
+            return Ok(None);
+        };
+        Ok(Some(Page {
+            size: self.size,
+            top: self.top.max(value.time()),
+            tree,
+        }))
+    }
+
+    /// The joint value of time zero without an owner and of all that was added and overlaps the span. It costs a search in
+    /// each part on the way to the leaves in which the span starts and stops, a step for each node within it there, and one for
+    /// each part between these. A search compares keys by their first twenty-four bytes, and reads what is behind these only
     /// where they are the same.
     pub fn lookup(&self, span: &Span) -> Value
         ensures value { result ≡ answer self.now span.now }
@@ -190,7 +220,7 @@ impl Page {
         }
     }
 
-    /// A copy of the page, which shares its leaves. It takes the memory of the list at the top.
+    /// A copy of the page, which shares its leaves. It takes the memory of the list of parts at the top of their tree.
     pub fn try_copy(&self) -> Result<Page, NoMemory>
         ensures value { IfOk result (λ copy. copy ≡ self.now) }
         ensures stands { IfOk result (λ copy. (p : PageMarks) → StandsFor self.now p → StandsFor copy p) }

@@ -157,8 +157,38 @@ impl Tree {
         if self.add_in_place(first, second, &low, &high, value, most)? {
             return Ok(true);
         }
+        match self.added(first, second, from, to, value, most)? {
+            Some(tree) => {
+                *self = tree;
+                Ok(true)
+            }
+            None => Ok(false),
+        }
+    }
+
+    /// The tree with one more Add, as `try_add` makes it; `None` where the nodes would then cost more than `most`. What the Add
+    /// doesn't reach is shared.
+    pub(crate) fn added(
+        &self,
+        first: Option<&Key>,
+        second: Option<&Key>,
+        from: Cut<'_>,
+        to: Cut<'_>,
+        value: Value,
+        most: u32,
+    ) -> Result<Option<Tree>, NoMemory>
+        requires counted { IsCounted self.now }
+        requires within { self.now.bytes ≤ most }
+        requires small { most ≤ MOST_SIZE }
+        requires order { is_below (cut_of from) (cut_of to) ≡ true }
+        requires keys { option_to_list (option_map (λ k. k.now) first) ++ option_to_list (option_map (λ k. k.now) second) ≡ end_keys (between (cut_of from) (cut_of to)) }
+        ensures added { IfOk result (λ made. IfSome made (λ tree. AddsTo (tree_nodes self.now) (tree_nodes tree) (between (cut_of from.entry) (cut_of to.entry)) value)) }
+        ensures within { IfOk result (λ made. IfSome made (λ tree. tree.bytes ≤ most)) }
+        ensures counted { IfOk result (λ made. IfSome made IsCounted) }
+        ensures full { IfOk result (λ made. made ≡ None → most < cost_distinct (node_keys (tree_nodes self.now) ++ end_keys (between (cut_of from.entry) (cut_of to.entry)))) }
+    {
         if !self.has_room(first, second, most) {
-            return Ok(false);
+            return Ok(None);
         }
         let mut list = self.list.clone()?;
         let upper = make_node(&mut list, second)?;
@@ -166,8 +196,7 @@ impl Tree {
         parts::raise_between(&mut list, from, to, value)?;
         let count = self.count + upper.nodes + lower.nodes;
         let bytes = self.bytes + upper.bytes + lower.bytes;
-        *self = Tree { list, count, bytes };
-        Ok(true)
+        Ok(Some(Tree { list, count, bytes }))
     }
 
     /// The same in place, where the span lies in one leaf to which nobody else holds a way, which need not be cut, and there
