@@ -46,8 +46,8 @@ found_for : (ns : List Node) (k : KeyBytes) (f : Option (ℕ × KeyBytes)) → I
 found_for ns k None new fresh = absurd (differ (is_in k (node_keys ns)) new fresh)
   where
     differ : (b : Bool) → b ≡ true → not b ≡ true → ⊥
-    differ true is no = true≢false (sym no)
-    differ false is no = true≢false (sym is)
+    differ true g h = true≢false (sym h)
+    differ false g h = true≢false (sym g)
 found_for ns k (Some f) new fresh = (with_new-length ns (Some f) (new_fits ns (Some k) (Some f) new), ap key_cost new.0)
 
 -- what the node of a new key makes of nodes

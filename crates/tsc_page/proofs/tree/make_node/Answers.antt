@@ -25,19 +25,16 @@ returns-then-len-eq0-clause-whole c =
     let none : old ≡ [] = nil_from_length old (omega (arith, c.if-len-eq0.true, c.len.ensures, c.args.list.now.ok.0)) in
     (first_part top_nodes IsWholeTop old c.push.new.self.items c.in_ok-top_of.field-0 c.in-Some.key.now none c.in_ok-push.ensures.items c.in_ok-top_of.ensures.whole c.in_ok-top_of.ensures.nodes).1
 
-pub returns-in_ok-make_node-clause-split : goal.returns-in_ok-make_node-clause-split
-returns-in_ok-make_node-clause-split c =
+pub returns-then-is_new-clause-split : goal.returns-then-is_new-clause-split
+returns-then-is_new-clause-split c =
     let old = c.args.list.now.items in
     let new = c.make_node.new.parts.items in
     subst (λ o. IsSplitAt (nodes_of (map top_nodes old)) (nodes_of (map top_nodes new)) (option_to_list (option_map (λ k. k.now) o))) (sym c.in-Some.is)
     (made_parts top_nodes IsWholeTop old new c.in-Some.key.now c.requires.whole.sorted c.in_ok-make_node.ensures.whole c.in_ok-make_node.ensures.made).0
 
-pub returns-in_ok-make_node-clause-whole : goal.returns-in_ok-make_node-clause-whole
-returns-in_ok-make_node-clause-whole c =
+pub returns-then-is_new-clause-whole : goal.returns-then-is_new-clause-whole
+returns-then-is_new-clause-whole c =
     (made_parts top_nodes IsWholeTop c.args.list.now.items c.make_node.new.parts.items c.in-Some.key.now c.requires.whole.sorted c.in_ok-make_node.ensures.whole c.in_ok-make_node.ensures.made).1
-
-pub returns-in_else-clause-grown : goal.returns-in_else-clause-grown
-returns-in_else-clause-grown c = grown_by_none (nodes_of (map top_nodes c.args.list.now.items))
 
 pub returns-then-len-eq0-clause-grown : goal.returns-then-len-eq0-clause-grown
 returns-then-len-eq0-clause-grown c =

@@ -12,7 +12,7 @@ use Rattle.tsc_page.specs.Leaves.{nodes_of, AreParts}
 use Rattle.tsc_page.specs.Trees.{Top, top_nodes, top_sizes, IsWholeTop, tree_nodes}
 use Rattle.tsc_nodes.proofs.NewKeys.{splits_chain}
 use Rattle.tsc_nodes.proofs.Standing.{split_weight}
-use Rattle.tsc_nodes.proofs.Costs.{cost-raised}
+use Rattle.tsc_nodes.proofs.Costs.{cost-raised, node_costs}
 use Rattle.tsc_nodes.proofs.Edits.{raise_nodes-sorted, raise_nodes-length}
 use Rattle.tsc_page.proofs.Costs.{room_told}
 use Rattle.tsc_page.proofs.PartLists.{copies_sorted}
@@ -84,3 +84,11 @@ returns-clause-counted c =
     (record { whole = c.in_ok-raise_between.ensures.whole; sorted = subst IsSorted (sym raised) (raise_nodes-sorted (between f t) c.args.value mid c.in_ok-lower.ensures.whole.sorted) })
     (omega (arith, counted.count, ap (λ (ls : List (List Node)). length (nodes_of ls)) copy.nodes, c.in_ok-upper.ensures.grown.count, c.in_ok-lower.ensures.grown.count, ap length raised, raise_nodes-length (between f t) c.args.value mid))
     (omega (arith, counted.bytes, ap (λ (ls : List (List Node)). nodes_cost (nodes_of ls)) copy.nodes, c.in_ok-upper.ensures.grown.cost, c.in_ok-lower.ensures.grown.cost, ap nodes_cost raised, cost-raised (between f t) c.args.value mid))
+
+pub overflow_add-count : goal.overflow_add-count
+overflow_add-count c =
+    omega (arith, c.requires.counted.count, c.requires.counted.bytes, node_costs (tree_nodes c.args.self.now), c.requires.within, c.requires.small, c.in_ok-upper.ensures.few.0, c.in_ok-lower.ensures.few.0)
+
+pub overflow_add-count-2 : goal.overflow_add-count-2
+overflow_add-count-2 c =
+    omega (arith, c.requires.counted.count, c.requires.counted.bytes, node_costs (tree_nodes c.args.self.now), c.requires.within, c.requires.small, c.in_ok-upper.ensures.few.0, c.in_ok-lower.ensures.few.0)
