@@ -18,3 +18,4 @@ pub mod Ends
 pub mod Standing
 pub mod PlainMarks
 pub mod Tops
+pub mod Costs

@@ -4,9 +4,10 @@ use Rattle.std.specs.List.{insert}
 use Rattle.tsc_time.specs.Time.{Time, zero_time}
 use Rattle.tsc_time.specs.OwnedTime.{OwnedTime, unowned}
 use Rattle.tsc_time.specs.Joint.{joint, joint_above}
-use Rattle.tsc_span.specs.Span.{KeyBytes, Cut, before, after, last, Interval, between, overlaps, is_below}
+use Rattle.tsc_span.specs.Span.{KeyBytes, Cut, before, after, last, Interval, between, overlaps, is_below, key_cost, cost_of}
 use Rattle.tsc_nodes.specs.Page.{Mark, values_on}
 use Rattle.tsc_nodes.specs.declared.nodes.Values.{Values}
+use Rattle.tsc_nodes.specs.declared.nodes.Grown.{Grown}
 use Rattle.tsc_nodes.specs.PageView.{PageView, is_in, is_new_among}
 
 -- a key with its value, and the value of the open gap up to the next node
@@ -208,6 +209,24 @@ IsInOrder (Some k) (Some m) = is_below (after k) (before m) ≡ true
 -- how many of two keys there are
 abbrev pub new_count : Option (ℕ × KeyBytes) → Option (ℕ × KeyBytes) → ℕ
 new_count lower upper = (if is_some lower then 1 else 0) + (if is_some upper then 1 else 0)
+
+-- what a new key costs
+abbrev pub found_cost : Option (ℕ × KeyBytes) → ℕ
+found_cost None = 0
+found_cost (Some new) = key_cost new.1
+
+-- and two of them
+abbrev pub new_cost : Option (ℕ × KeyBytes) → Option (ℕ × KeyBytes) → ℕ
+new_cost lower upper = found_cost lower + found_cost upper
+
+-- what the keys of nodes cost together
+abbrev pub nodes_cost : List Node → ℕ
+nodes_cost nodes = cost_of (node_keys nodes)
+
+-- Nodes that are more by so many, and cost so much more.
+pub record GrowsBy (old new : List Node) (more : Grown) : Type 0 where
+  pub count : length new ≡ length old + more.nodes
+  pub cost : nodes_cost new ≡ nodes_cost old + more.bytes
 
 -- of two keys each has a node, where it is one
 abbrev pub HasNodes : List Node → Option KeyBytes → Option KeyBytes → Type 0

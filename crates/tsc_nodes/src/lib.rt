@@ -18,7 +18,7 @@ mod nodes;
 mod number;
 mod plain;
 
-pub use nodes::Nodes;
+pub use nodes::{Grown, Nodes};
 pub use number::{KeyNumber, NumberedCut, NumberedKey};
 pub use plain::PlainPage;
 

@@ -8,7 +8,7 @@ ghost use Rattle.tsc_span.specs.Span.{is_below, between};
 ghost use Rattle.tsc_span.specs.Cuts.{cut_of};
 ghost use Rattle.tsc_nodes.specs.Numbers.{IsCutNumber};
 ghost use Rattle.tsc_nodes.specs.PageView.{is_new_among};
-ghost use Rattle.tsc_nodes.specs.Nodes.{paired, IsSorted, FitsAt, IsPlaceFor, IsFoundAt, IsPlaceOf, HasKeysBelow, StandsAt, LiesFrom, index_of, key_above, first_gap, IsNewKey, FitsIn, with_new, IsInOrder, HasNodes, MakesNodes, AddsNodes, new_count, HoldsKeysOn, HoldsGapsOn, node_keys, answer_of, raise_nodes, node_in_gap, gap_value, next_cut, node_stretches};
+ghost use Rattle.tsc_nodes.specs.Nodes.{paired, IsSorted, FitsAt, IsPlaceFor, IsFoundAt, IsPlaceOf, HasKeysBelow, StandsAt, LiesFrom, index_of, key_above, first_gap, IsNewKey, FitsIn, with_new, IsInOrder, HasNodes, MakesNodes, AddsNodes, GrowsBy, new_count, found_cost, new_cost, HoldsKeysOn, HoldsGapsOn, node_keys, answer_of, raise_nodes, node_in_gap, gap_value, next_cut, node_stretches};
 
 use crate::number::{KeyNumber, NumberedBytes, NumberedCut, NumberedKey};
 use std::alloc::{AllocError, Global};
@@ -21,6 +21,15 @@ use tsc_time::{NoMemory, Timestamp, Value, ratchet};
 
 /// How many nodes of a leaf that is cut stay in it.
 const LOWER_HALF: usize = 32;
+
+/// How much nodes grow: how many come in, and what their keys cost together.
+#[derive(Clone, Copy, Debug)]
+pub struct Grown {
+    /// How many nodes come in.
+    pub nodes: usize,
+    /// What their keys cost together.
+    pub bytes: u32,
+}
 
 /// The value of a key, and that of the open gap up to the next node.
 #[derive(Clone, Copy, Debug)]
@@ -223,7 +232,7 @@ impl Nodes {
     }
 
     /// Makes nodes of the keys that have none, of which the first is the smaller, and ratchets a value into the keys and
-    /// gaps between two cuts; tells how many nodes came in. Where that would be more than `room`, or where one would and
+    /// gaps between two cuts; tells what came in. Where that would be more than `room`, or where something would and
     /// others hold the list of keys too, nothing changes, and `None` says so; nor where memory is refused. Where both keys
     /// have nodes no memory is asked for.
     pub fn add_owned(
@@ -233,24 +242,25 @@ impl Nodes {
         from: &NumberedCut<'_>,
         to: &NumberedCut<'_>,
         value: Value,
-        room: usize,
-    ) -> Result<Option<usize>, NoMemory>
+        room: Grown,
+    ) -> Result<Option<Grown>, NoMemory>
         requires sorted { IsSorted self.old }
         requires order { is_below from.now to.now ≡ true }
         requires in_order { IsInOrder (option_map (λ k. k.now) first) (option_map (λ k. k.now) second) }
         ensures added { IfOk result (λ done. IfSome done (λ more. AddsNodes self.old self.new (option_map (λ k. k.now) first.entry) (option_map (λ k. k.now) second.entry) (between from.now to.now) value)) }
-        ensures count { IfOk result (λ done. IfSome done (λ more. (length self.new ≡ length self.old + more) × (more ≤ room))) }
+        ensures grown { IfOk result (λ done. IfSome done (λ more. GrowsBy self.old self.new more)) }
+        ensures within { IfOk result (λ done. IfSome done (λ more. (more.nodes ≤ room.nodes) × (more.bytes ≤ room.bytes))) }
         ensures left { IfOk result (λ done. done ≡ None → self.new ≡ self.old) }
         ensures unchanged { OnErr result (self.new ≡ self.old) }
     {
         let new = self.new_keys(first, second)?;
-        let made = new.len();
-        if made > room {
+        let made = new.grown();
+        if made.nodes > room.nodes || made.bytes > room.bytes {
             return Ok(None);
         }
-        if made == 0 {
+        if made.nodes == 0 {
             self.raise_near(from, to, new.near, value);
-            return Ok(Some(0));
+            return Ok(Some(Grown { nodes: 0, bytes: 0 }));
         }
         let Some(keys) = Arc::get_mut(&mut self.keys) else {
             return Ok(None)
@@ -618,5 +628,27 @@ impl NewKeys {
         ensures { result ≡ new_count self.now.first self.now.second }
     {
         usize::from(self.first.is_some()) + usize::from(self.second.is_some())
+    }
+
+    /// How many there are, and what they cost together.
+    fn grown(&self) -> Grown
+        ensures nodes { result.nodes ≡ new_count self.now.first self.now.second }
+        ensures bytes { result.bytes ≡ new_cost self.now.first self.now.second }
+    {
+        Grown {
+            nodes: self.len(),
+            bytes: found_cost(&self.first) + found_cost(&self.second),
+        }
+    }
+}
+
+/// What a new key costs, where this is one.
+fn found_cost(new: &Option<(usize, NumberedKey)>) -> u32
+    ensures value { result ≡ found_cost new.now }
+    ensures most { result ≤ 4128 }
+{
+    match new {
+        Some((_, key)) => key.cost(),
+        None => 0,
     }
 }

@@ -1,6 +1,6 @@
 ghost use Rattle.std.specs.Prelude.{◌≡◌, ◌≤◌, ◌+◌, ◌-◌, ◌^◌, length, drop, IfOk};
 ghost use Rattle.std.specs.Ordering.{nat_cmp};
-ghost use Rattle.tsc_span.specs.Span.{key_cmp, before, last, is_below};
+ghost use Rattle.tsc_span.specs.Span.{key_cmp, key_cost, before, last, is_below};
 ghost use Rattle.tsc_span.specs.Cuts.{cut_of};
 ghost use Rattle.tsc_nodes.specs.Numbers.{spelled, IsNumberOf, IsKeyAt, AreTied, TellsBelow, TellsAbove};
 
@@ -106,6 +106,14 @@ impl NumberedKey {
         ensures { result.now ≡ self.now }
     {
         self.key.bytes()
+    }
+
+    /// What the key costs on a page: as many bytes as it has, and 32 more.
+    pub(crate) fn cost(&self) -> u32
+        ensures value { result ≡ key_cost self.now }
+        ensures most { result ≤ 4128 }
+    {
+        self.key.cost()
     }
 
     /// The number of the key.

@@ -8,7 +8,7 @@ use Rattle.std.proofs.lemmas.List.Sums.{sum-map, sum_by-cons}
 use Rattle.tsc_span.specs.Span.{Cut, before, after, last, is_below}
 use Rattle.tsc_nodes.specs.PageView.{AreLeafSizes}
 use Rattle.tsc_nodes.specs.Nodes.{Node, IsSorted}
-use Rattle.tsc_page.specs.Leaves.{nodes_of, leaf_sizes, AreSome, start_of, IsLeafAt}
+use Rattle.tsc_page.specs.Leaves.{nodes_of, AreSome, start_of, IsLeafAt}
 use Rattle.tsc_nodes.proofs.CutOrder.{Lt, Le, Le-from_Lt, Le-itself, Lt-chain, Le-chain, Le_Lt-chain, before-after}
 use Rattle.tsc_nodes.proofs.Cuts.{lowest}
 use Rattle.tsc_nodes.proofs.Places.{before_or_past}
@@ -77,46 +77,16 @@ lowest_below ([] ∷ ls) sizes sorted p = absurd (omega (arith, sizes.0))
 lowest_below ((n ∷ ns) ∷ ls) sizes sorted zero = Le_Lt-chain (before []) (before n.key) (start_of (nodes_of ls)) (lowest (before n.key)) (Lt-chain (before n.key) (after n.key) (start_of (nodes_of ls)) (before-after n.key) (below_next n ns (nodes_of ls) sorted))
 lowest_below (l ∷ ls) sizes sorted (suc p) = lowest_below ls sizes.1 (sorted_right l (nodes_of ls) sorted) p
 
--- reading through a map
-map_read : {X : Type 0} (f : X → List Node) (xs : List X) (i : ℕ) → i < length xs → (d : X) × (get_or (map f xs) i [] ≡ f (get_or xs i d))
-map_read f [] i h = absurd (omega arith)
-map_read f (x ∷ xs) zero h = (x, refl)
-map_read f (x ∷ xs) (suc i) h = map_read f xs i (omega arith)
-
-map_at : {X : Type 0} (f : X → List Node) (xs : List X) (i : ℕ) (d : X) → get_or (map f xs) i (f d) ≡ f (get_or xs i d)
-map_at f [] i d = refl
-map_at f (x ∷ xs) zero d = refl
-map_at f (x ∷ xs) (suc i) d = map_at f xs i d
-
 -- a leaf that is read
 pub read_leaf : {X : Type 0} (f : X → List Node) (xs : List X) (i : ℕ) (x : X) → i < length xs → x ≡ get_or xs i x → f x ≡ get_or (map f xs) i []
 read_leaf f [] i x h e = absurd (omega arith)
 read_leaf f (y ∷ ys) zero x h e = ap f e
 read_leaf f (y ∷ ys) (suc i) x h e = read_leaf f ys i x (omega arith) e
 
--- and its size
-pub size_at : {X : Type 0} (f : X → List Node) (xs : List X) (i : ℕ) (x : X) → i < length xs → x ≡ get_or xs i x → Some (length (f x)) ≡ slice_get (leaf_sizes (map f xs)) i
-size_at f [] i x h e = absurd (omega arith)
-size_at f (y ∷ ys) zero x h e = ap (λ z. Some (length (f z))) e
-size_at f (y ∷ ys) (suc i) x h e = size_at f ys i x (omega arith) e
-
-pub no_size : {X : Type 0} (f : X → List Node) (xs : List X) (i : ℕ) → length xs ≤ i → None ≡ slice_get (leaf_sizes (map f xs)) i
-no_size f [] zero h = refl
-no_size f [] (suc i) h = refl
-no_size f (y ∷ ys) zero h = absurd (omega arith)
-no_size f (y ∷ ys) (suc i) h = no_size f ys i (omega arith)
-
 pub some_nodes : (ls : List (List Node)) → AreSome ls → (p : ℕ) (d : List Node) → p < length ls → 1 ≤ length (get_or ls p d)
 some_nodes [] sizes p d h = absurd (omega arith)
 some_nodes (l ∷ ls) sizes zero d h = sizes.0
 some_nodes (l ∷ ls) sizes (suc p) d h = some_nodes ls sizes.1 p d (omega arith)
-
--- the sizes add up to the number of nodes
-pub sizes_sum : (ls : List (List Node)) → sum (leaf_sizes ls) ≡ length (nodes_of ls)
-sizes_sum [] = refl
-sizes_sum (l ∷ ls) =
-    sum-map (λ (m : List Node). length m) (l ∷ ls) ∙ sum_by-cons (λ (m : List Node). length m) l ls
-    ∙ ap (λ (n : ℕ). length l + n) (sym (sum-map (λ (m : List Node). length m) ls) ∙ sizes_sum ls) ∙ sym (length-append l (nodes_of ls))
 
 -- and none is above 64
 pub size_small : (ns : List ℕ) (i n : ℕ) → AreLeafSizes ns → Some n ≡ slice_get ns i → n ≤ 64
@@ -130,57 +100,6 @@ size_small [] (suc i) n sizes e = absurd (differs e)
     differs c = cc
 size_small (m ∷ ns) zero n sizes e = let same : n ≡ m = cc in omega (arith, sizes.1)
 size_small (m ∷ ns) (suc i) n sizes e = size_small ns i n sizes.2 e
-
--- leaves that begin above a cut come last
-pub starts_part : {X : Type 0} (f : X → List Node) (xs : List X) (c : Cut) → AreSome (map f xs) → IsSorted (nodes_of (map f xs)) → IsPartitionedBy (λ (x : X). not (is_below c (start_of (f x)))) xs
-starts_part f xs c sizes sorted i j d h g e =
-    let in_map : j < length (map f xs) = omega (arith, length-map xs f) in
-    let rise = starts_rise (map f xs) sizes sorted i j (f d) h in_map in
-    let low = subst (λ (l : List Node). Le (start_of l) (start_of (f (get_or xs j d)))) (map_at f xs i d) (subst (λ (l : List Node). Le (start_of (get_or (map f xs) i (f d))) (start_of l)) (map_at f xs j d) rise) in
-    ap not (Le-chain (start_of (f (get_or xs i d))) (start_of (f (get_or xs j d))) c low (not_true (is_below c (start_of (f (get_or xs j d)))) e))
-  where
-    not_true : (b : Bool) → not b ≡ true → b ≡ false
-    not_true true q = sym q
-    not_true false q = refl
-
--- the same by where each of them is said to begin
-pub said_part : {X : Type 0} (f : X → List Node) (s : X → Cut) (Q : X → Type 0) (xs : List X) (c : Cut) → ((x : X) → Q x → s x ≡ start_of (f x)) → All Q xs → AreSome (map f xs) → IsSorted (nodes_of (map f xs)) → IsPartitionedBy (λ (x : X). not (is_below c (s x))) xs
-said_part f s Q xs c law all sizes sorted i j d h g e =
-    ap (λ (x : Cut). not (is_below c x)) (law (get_or xs i d) (all i d (omega arith)))
-    ∙ starts_part f xs c sizes sorted i j d h g (ap (λ (x : Cut). not (is_below c x)) (sym (law (get_or xs j d) (all j d g))) ∙ e)
-
-pub said_point : {X : Type 0} (f : X → List Node) (s : X → Cut) (Q : X → Type 0) (xs : List X) (c : Cut) (r : ℕ) → ((x : X) → Q x → s x ≡ start_of (f x)) → All Q xs → r ≤ length xs
-    → IsPartitionPoint (λ (y : X). not (is_below c (s y)) ≡ true) (λ y. not (is_below c (s y)) ≡ false) xs r → IsPartitionPoint (λ (y : X). not (is_below c (start_of (f y))) ≡ true) (λ y. not (is_below c (start_of (f y))) ≡ false) xs r
-said_point f s Q xs c r law all within parts = (
-  λ i d h g. ap (λ (x : Cut). not (is_below c x)) (sym (law (get_or xs i d) (all i d (omega (arith, g, within))))) ∙ parts.0 i d h g,
-  λ i d h g. ap (λ (x : Cut). not (is_below c x)) (sym (law (get_or xs i d) (all i d g))) ∙ parts.1 i d h g,
-)
-
--- where a search for a cut among the leaves behind the first one ends
-pub leaf_found : {X : Type 0} (f : X → List Node) (x : X) (xs : List X) (c : Cut) (r : ℕ) → r ≤ length xs
-    → IsPartitionPoint (λ (y : X). not (is_below c (start_of (f y))) ≡ true) (λ y. not (is_below c (start_of (f y))) ≡ false) xs r → IsLeafAt (f x ∷ map f xs) c r
-leaf_found {X = X} f x xs c r within parts = record {
-  bound = omega (arith, length-map xs f, within);
-  low = λ h. below r h within parts.0;
-  high = λ h.
-      let inside : r < length xs = omega (arith, length-map xs f, h) in
-      let read = map_read f xs r inside in
-      subst (λ (l : List Node). is_below c (start_of l) ≡ true) (sym read.1) (not_false (is_below c (start_of (f (get_or xs r read.0)))) (parts.1 r read.0 (omega arith) inside));
-}
-  where
-    not_true : (b : Bool) → not b ≡ true → b ≡ false
-    not_true true q = sym q
-    not_true false q = refl
-
-    not_false : (b : Bool) → not b ≡ false → b ≡ true
-    not_false true q = refl
-    not_false false q = sym q
-
-    below : (q : ℕ) → 1 ≤ q → q ≤ length xs → ((i : ℕ) (d : X) → 0 ≤ i → i < q → not (is_below c (start_of (f (get_or xs i d)))) ≡ true) → is_below c (start_of (get_or (f x ∷ map f xs) q [])) ≡ false
-    below zero h within low = absurd (omega (arith, h))
-    below (suc q) h within low =
-        let read = map_read f xs q (omega (arith, within)) in
-        subst (λ (l : List Node). is_below c (start_of l) ≡ false) (sym read.1) (not_true (is_below c (start_of (f (get_or xs q read.0)))) (low q read.0 (omega arith) (omega (arith, within))))
 
 -- what stands before the leaf of a cut stands below the cut
 pub starts_low : (ls : List (List Node)) (c : Cut) (p : ℕ) → AreSome ls → IsLeafAt ls c p → (nodes_of (take p ls) ≡ []) ⊎ Le (start_of (nodes_of (drop p ls))) c

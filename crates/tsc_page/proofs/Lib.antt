@@ -12,7 +12,6 @@ pub mod PartLoops
 pub mod PartSizes
 pub mod PartAdds
 pub mod PartLists
-pub mod Weights
 pub mod PartAcross
 pub mod TreeLists
 pub mod TreeAcross

@@ -6,7 +6,7 @@ use Rattle.std.proofs.lemmas.List.{append_assoc, length-append, map-append}
 use Rattle.tsc_span.specs.Span.{Cut, last, is_below}
 use Rattle.tsc_nodes.specs.Nodes.{Node, IsSorted, raise_nodes}
 use Rattle.tsc_page.specs.Leaves.{nodes_of, start_of, AreSome, AreParts, IsLeafAt}
-use Rattle.tsc_page.specs.Pending.{everything, Addend, AddsSome, before_second}
+use Rattle.tsc_page.specs.Pending.{everything, Addend, AddsSome, nothing_grown, before_second}
 use Rattle.tsc_page.specs.Across.{AreRaisedAcross, IsAcrossTold, IsLastReached}
 use Rattle.tsc_nodes.proofs.CutOrder.{Lt, Le}
 use Rattle.tsc_page.proofs.Joins.{up_to_last, sorted_left, sorted_right}
@@ -179,10 +179,10 @@ module _ {X : Type 0} (f : X → List Node) (bl md ab : List X) (p : ℕ) (d x e
 
     pub raises_over : (mn : List X) (stop : Bool) → IsSorted (nodes_of (map f all)) → stop ≡ not (is_below a.to (start_of (nodes_of (drop (suc (length bl + length md)) (map f all)))))
         → IsAcrossTold (f (get_or bl p d)) (f x) (f (get_or ab 0 e)) (f y) (cond stop (before_second a) a) true → nodes_of (map f mn) ≡ raise_nodes everything a.value (nodes_of (map f md))
-        → AddsSome (nodes_of (map f all)) (nodes_of (map f (set bl p x ++ (mn ++ set ab 0 y)))) a 0 0
+        → AddsSome (nodes_of (map f all)) (nodes_of (map f (set bl p x ++ (mn ++ set ab 0 y)))) a 0 nothing_grown
     raises_over mn stop sorted is told wholly =
-        subst (λ (ns : List Node). AddsSome ns (nodes_of (map f (set bl p x ++ (mn ++ set ab 0 y)))) a 0 0) (sym whole)
-        (subst (λ (ns : List Node). AddsSome (nodes_of (map f (take p bl)) ++ (f (get_or bl p d) ++ (nodes_of (map f md) ++ (f (get_or ab 0 e) ++ behind)))) ns a 0 0) (sym (changed mn)) (by stop here told))
+        subst (λ (ns : List Node). AddsSome ns (nodes_of (map f (set bl p x ++ (mn ++ set ab 0 y)))) a 0 nothing_grown) (sym whole)
+        (subst (λ (ns : List Node). AddsSome (nodes_of (map f (take p bl)) ++ (f (get_or bl p d) ++ (nodes_of (map f md) ++ (f (get_or ab 0 e) ++ behind)))) ns a 0 nothing_grown) (sym (changed mn)) (by stop here told))
       where
         here : stop ≡ not (is_below a.to (start_of behind))
         here = is ∙ ap (λ (ns : List Node). not (is_below a.to (start_of ns))) behind_over
@@ -197,7 +197,7 @@ module _ {X : Type 0} (f : X → List Node) (bl md ab : List X) (p : ℕ) (d x e
         below = subst (λ (ns : List Node). Lt a.from (start_of ns)) inner starts.below
 
         by : (b : Bool) → b ≡ not (is_below a.to (start_of behind)) → IsAcrossTold (f (get_or bl p d)) (f x) (f (get_or ab 0 e)) (f y) (cond b (before_second a) a) true
-            → AddsSome (nodes_of (map f (take p bl)) ++ (f (get_or bl p d) ++ (nodes_of (map f md) ++ (f (get_or ab 0 e) ++ behind)))) (nodes_of (map f (take p bl)) ++ (f x ++ (nodes_of (map f mn) ++ (f y ++ behind)))) a 0 0
+            → AddsSome (nodes_of (map f (take p bl)) ++ (f (get_or bl p d) ++ (nodes_of (map f md) ++ (f (get_or ab 0 e) ++ behind)))) (nodes_of (map f (take p bl)) ++ (f x ++ (nodes_of (map f mn) ++ (f y ++ behind)))) a 0 nothing_grown
         by true h g = told_over (nodes_of (map f (take p bl))) (f (get_or bl p d)) (nodes_of (map f md)) (f (get_or ab 0 e)) behind (f x) (nodes_of (map f mn)) (f y) a None 0 (subst IsSorted whole sorted) start below stops_over.reaches stops_over.stops fits.2
             (ap (λ (c : Bool). cond c a.second None) (sym (not_true (is_below a.to (start_of behind)) (sym h)))) g wholly
         by false h g = told_over (nodes_of (map f (take p bl))) (f (get_or bl p d)) (nodes_of (map f md)) (f (get_or ab 0 e)) behind (f x) (nodes_of (map f mn)) (f y) a a.second 0 (subst IsSorted whole sorted) start below stops_over.reaches stops_over.stops fits.2

@@ -7,12 +7,13 @@ use Rattle.tsc_time.specs.OwnedTime.{OwnedTime}
 use Rattle.tsc_time.specs.Joint.{joint}
 use Rattle.tsc_span.specs.Span.{KeyBytes, Cut, before, after, last, between, is_below}
 use Rattle.tsc_nodes.specs.PageView.{is_in}
-use Rattle.tsc_nodes.specs.Nodes.{Node, node_keys, IsSorted, IsNewKey, raise_nodes}
+use Rattle.tsc_nodes.specs.Nodes.{Node, node_keys, nodes_cost, IsSorted, IsNewKey, raise_nodes}
 use Rattle.tsc_nodes.specs.Numbers.{IsCutNumber}
 use Rattle.tsc_page.specs.Leaves.{nodes_of, AreSome, start_of, IsLeafAt, LiesAt}
-use Rattle.tsc_page.specs.Pending.{everything, with_pending, all_joint, IsToldOf, Addend, AddsSome}
+use Rattle.tsc_page.specs.Pending.{everything, with_pending, all_joint, IsToldOf, Addend, AddsSome, nothing_grown}
 use Rattle.tsc_page.specs.Across.{HasKey, AreRaisedAcross, IsLastReached}
 use Rattle.tsc_nodes.proofs.CutOrder.{Lt, Le, Lt-not_Le, Le-from_Lt, Le-itself, Lt-chain, Le-chain, Le_Lt-chain, Lt_Le-chain, before-after, none_above_last}
+use Rattle.tsc_nodes.proofs.Costs.{cost-raised}
 use Rattle.tsc_nodes.proofs.Cuts.{lowest}
 use Rattle.tsc_nodes.proofs.Places.{before_or_past}
 use Rattle.tsc_nodes.proofs.Edits.{raise_nodes-start, raise_nodes-length}
@@ -90,10 +91,13 @@ not_new None ns has = tt
 not_new (Some k) ns has = has
 
 -- An Add whose keys have nodes only raises.
-pub adds_known : (old new : List Node) (a : Addend) (room : ℕ) → HasKey a.first old → HasKey a.second old → new ≡ raise_nodes (between a.from a.to) a.value old → AddsSome old new a room 0
+pub adds_known : (old new : List Node) (a : Addend) (room : ℕ) → HasKey a.first old → HasKey a.second old → new ≡ raise_nodes (between a.from a.to) a.value old → AddsSome old new a room nothing_grown
 adds_known old new a room first second raised = record {
   adds = record { mid = old; made = record { lower = None; upper = None; has_upper = not_new a.second old second; has_lower = not_new a.first old first; nodes = refl }; raised = raised };
-  count = omega (arith, ap length raised, raise_nodes-length (between a.from a.to) a.value old);
+  grown = record {
+    count = omega (arith, ap length raised, raise_nodes-length (between a.from a.to) a.value old);
+    cost = omega (arith, ap nodes_cost raised, cost-raised (between a.from a.to) a.value old);
+  };
   within = omega arith;
 }
 
@@ -121,7 +125,7 @@ second_has a q high behind false h is lies stops has = has_right a.second high b
 -- An Add over several parts of one list, whose end keys have nodes in the first and in the last of them.
 pub told_over : (front low mid high behind new_low new_mid new_high : List Node) (a : Addend) (q : Option KeyBytes) (room : ℕ) → IsSorted (front ++ (low ++ (mid ++ (high ++ behind)))) → (front ≡ []) ⊎ Le (start_of (low ++ (mid ++ (high ++ behind)))) a.from
     → Lt a.from (start_of (mid ++ (high ++ behind))) → Lt (start_of (high ++ behind)) a.to → Le a.to (start_of behind) → LiesAt a.second a.to → q ≡ cond (is_below a.to (start_of behind)) a.second None
-    → AreRaisedAcross low new_low high new_high (handed_on a q) → new_mid ≡ raise_nodes everything a.value mid → AddsSome (front ++ (low ++ (mid ++ (high ++ behind)))) (front ++ (new_low ++ (new_mid ++ (new_high ++ behind)))) a room 0
+    → AreRaisedAcross low new_low high new_high (handed_on a q) → new_mid ≡ raise_nodes everything a.value mid → AddsSome (front ++ (low ++ (mid ++ (high ++ behind)))) (front ++ (new_low ++ (new_mid ++ (new_high ++ behind)))) a room nothing_grown
 told_over front low mid high behind new_low new_mid new_high a q room sorted start below reaches stops lies is told wholly = adds_known (front ++ (low ++ (mid ++ (high ++ behind)))) (front ++ (new_low ++ (new_mid ++ (new_high ++ behind)))) a room
     (has_within a.first front low (mid ++ (high ++ behind)) told.first)
     (has_right a.second front (low ++ (mid ++ (high ++ behind))) (has_right a.second low (mid ++ (high ++ behind)) (has_right a.second mid (high ++ behind) (second_has a q high behind (is_below a.to (start_of behind)) refl is lies stops told.second))))

@@ -3,10 +3,12 @@ use Rattle.std.proofs.Common.{◌≡◌, ◌⊎◌, ◌∙◌, refl, sym, ap, su
 use Rattle.std.specs.Prelude.{Option, Some, None, Result, Ok, Err, not}
 use Rattle.std.proofs.lemmas.List.{length-map, length-append, map-set}
 use Rattle.tsc_span.specs.Span.{KeyBytes, between, is_below}
-use Rattle.tsc_nodes.specs.Nodes.{Node, IsSorted, IsInOrder, IsNewKey, AddsNodes, raise_nodes}
+use Rattle.tsc_nodes.specs.declared.nodes.Grown.{Grown}
+use Rattle.tsc_nodes.specs.Nodes.{Node, IsSorted, IsInOrder, IsNewKey, AddsNodes, raise_nodes, nodes_cost}
 use Rattle.tsc_page.specs.Leaves.{nodes_of, AreSome, start_of, IsLeafAt, LiesAt}
 use Rattle.tsc_page.specs.Pending.{sizes_of, Addend, before_second, IsAddTold}
 use Rattle.tsc_nodes.proofs.CutOrder.{Lt, Le}
+use Rattle.tsc_nodes.proofs.Costs.{cost-append}
 use Rattle.tsc_page.proofs.Joins.{up_to_last}
 use Rattle.tsc_page.proofs.LeafLists.{parted_at, leaf_first, leaf_set, leaf_sorted, sorted_from, starts_low, ends_high, part_read}
 use Rattle.tsc_page.proofs.LeafAdds.{adds_left, adds_right, all_below, told_below}
@@ -69,7 +71,7 @@ module _ {X : Type 0} (f : X → List Node) (xs : List X) (p : ℕ) (d y : X) (a
       subst (λ (ns : List Node). AddsNodes ns (nodes_of (map f (set xs p y))) a.first a.second (between a.from a.to) a.value) (sym whole)
       (subst (λ (ns : List Node). AddsNodes (front ++ (part ++ behind)) ns a.first a.second (between a.from a.to) a.value) (sym made) all)
 
-  told_here : {E : Type 0} (s : X → List ℕ) (r : Result (Option ℕ) E) (room : ℕ) (q : Option KeyBytes) → q ≡ cond (is_below a.to (start_of behind)) a.second None
+  told_here : {E : Type 0} (s : X → List ℕ) (r : Result (Option Grown) E) (room : ℕ) (q : Option KeyBytes) → q ≡ cond (is_below a.to (start_of behind)) a.second None
       → IsAddTold (f (get_or xs p d)) (f y) (s (get_or xs p d)) (s y) (record { first = a.first; second = q; from = a.from; to = a.to; value = a.value }) room r → IsAddTold (nodes_of ls) (nodes_of (map f (set xs p y))) (sizes_of (map s xs)) (sizes_of (map s (set xs p y))) a room r
   told_here s (Ok (Some more)) room q is told =
       let read : f (get_or xs p d) ≡ part = part_read f xs p d inside in
@@ -79,18 +81,21 @@ module _ {X : Type 0} (f : X → List Node) (xs : List X) (p : ℕ) (d y : X) (a
       let four = length-append (f y) behind in
       record {
         adds = adds_here q is (subst (λ (ns : List Node). AddsNodes ns (f y) a.first q (between a.from a.to) a.value) read told.adds);
-        count = omega (arith, one, two, three, four, told.count, ap length read, ap length whole, ap length made);
+        grown = record {
+          count = omega (arith, one, two, three, four, told.grown.count, ap length read, ap length whole, ap length made);
+          cost = omega (arith, cost-append front (part ++ behind), cost-append part behind, cost-append front (f y ++ behind), cost-append (f y) behind, told.grown.cost, ap nodes_cost read, ap nodes_cost whole, ap nodes_cost made);
+        };
         within = told.within;
       }
   told_here s (Ok None) room q is told = (ap (λ (ms : List (List Node)). nodes_of ms) (same_by f xs p d y inside told.0), ap (λ (ns : List (List ℕ)). sizes_of ns) (same_by s xs p d y inside told.1))
   told_here s (Err e) room q is told = (ap (λ (ms : List (List Node)). nodes_of ms) (same_by f xs p d y inside told.0), ap (λ (ns : List (List ℕ)). sizes_of ns) (same_by s xs p d y inside told.1))
 
   -- the span stops below what comes behind
-  pub told_in_part : {E : Type 0} (s : X → List ℕ) (r : Result (Option ℕ) E) (room : ℕ) → is_below a.to (start_of behind) ≡ true
+  pub told_in_part : {E : Type 0} (s : X → List ℕ) (r : Result (Option Grown) E) (room : ℕ) → is_below a.to (start_of behind) ≡ true
       → IsAddTold (f (get_or xs p d)) (f y) (s (get_or xs p d)) (s y) a room r → IsAddTold (nodes_of ls) (nodes_of (map f (set xs p y))) (sizes_of (map s xs)) (sizes_of (map s (set xs p y))) a room r
   told_in_part s r room below told = told_here s r room a.second (ap (λ (b : Bool). cond b a.second None) (sym below)) told
 
   -- or right where that begins
-  pub told_before_next : {E : Type 0} (s : X → List ℕ) (r : Result (Option ℕ) E) (room : ℕ) → is_below a.to (start_of behind) ≡ false
+  pub told_before_next : {E : Type 0} (s : X → List ℕ) (r : Result (Option Grown) E) (room : ℕ) → is_below a.to (start_of behind) ≡ false
       → IsAddTold (f (get_or xs p d)) (f y) (s (get_or xs p d)) (s y) (before_second a) room r → IsAddTold (nodes_of ls) (nodes_of (map f (set xs p y))) (sizes_of (map s xs)) (sizes_of (map s (set xs p y))) a room r
   told_before_next s r room below told = told_here s r room None (ap (λ (b : Bool). cond b a.second None) (sym below)) told

@@ -6,6 +6,7 @@ use Rattle.std.proofs.lemmas.List.{map-append, take-append-drop}
 use Rattle.tsc_time.specs.Time.{zero_time}
 use Rattle.tsc_time.specs.OwnedTime.{OwnedTime, unowned}
 use Rattle.tsc_span.specs.Span.{KeyBytes, Interval, between}
+use Rattle.tsc_nodes.specs.declared.nodes.Grown.{Grown}
 use Rattle.tsc_nodes.specs.Nodes.{Node, IsSorted, IsInOrder, IsSplitAt, AddsNodes, node_in_gap}
 use Rattle.tsc_page.specs.Leaves.{nodes_of, AreParts, HasNode}
 use Rattle.tsc_page.specs.Pending.{sizes_of, Addend, AddsSome}
@@ -96,7 +97,7 @@ pub adds_sorted : (old new : List Node) (o q : Option KeyBytes) (s : Interval) (
 adds_sorted old new o q s v sorted order adds = subst IsSorted (sym adds.raised) (raise_nodes-sorted s v adds.mid (makes_sorted old adds.mid o q sorted order adds.made))
 
 -- what an Add makes of parts in order
-pub parts_added : {X : Type 0} (f : X → List Node) (Q : X → Type 0) (old new : List X) (a : Addend) (room more : ℕ) → AreParts f Q old → All Q new → IsInOrder a.first a.second → AddsSome (nodes_of (map f old)) (nodes_of (map f new)) a room more → AreParts f Q new
+pub parts_added : {X : Type 0} (f : X → List Node) (Q : X → Type 0) (old new : List X) (a : Addend) (room : ℕ) (more : Grown) → AreParts f Q old → All Q new → IsInOrder a.first a.second → AddsSome (nodes_of (map f old)) (nodes_of (map f new)) a room more → AreParts f Q new
 parts_added f Q old new a room more parts all order adds = record { whole = all; sorted = adds_sorted (nodes_of (map f old)) (nodes_of (map f new)) a.first a.second (between a.from a.to) a.value parts.sorted order adds.adds }
 
 -- and others that stand for the same

@@ -5,6 +5,7 @@ use Rattle.tsc_time.specs.OwnedTime.{OwnedTime}
 use Rattle.tsc_time.specs.Joint.{joint}
 use Rattle.tsc_span.specs.Span.{is_below}
 use Rattle.tsc_nodes.specs.Numbers.{IsCutNumber}
+use Rattle.tsc_nodes.specs.declared.nodes.Grown.{Grown}
 use Rattle.tsc_nodes.specs.Nodes.{Node, IsSorted, IsInOrder}
 use Rattle.tsc_page.specs.Leaves.{start_of}
 use Rattle.tsc_page.specs.Pending.{with_pending, merged, all_joint, IsToldOf, Addend, IsAddTold, joint_after}
@@ -33,10 +34,10 @@ pub told_pushed : (n : ℕ) (all : OwnedTime) (p : Option OwnedTime) (ns : List 
 told_pushed n all p ns told = record { some = told_some n all p ns told; start = told_start n all p ns told; joint = told.joint }
 
 -- an Add below, where it was made
-pub told_added : {E : Type 0} (r : Result (Option ℕ) E) (n m : ℕ) (all : OwnedTime) (old new : List Node) (was now : List ℕ) (a : Addend) (room : ℕ) → IsSorted old → IsInOrder a.first a.second → Lt a.from a.to
+pub told_added : {E : Type 0} (r : Result (Option Grown) E) (n m : ℕ) (all : OwnedTime) (old new : List Node) (was now : List ℕ) (a : Addend) (room : ℕ) → IsSorted old → IsInOrder a.first a.second → Lt a.from a.to
     → IsCutNumber m (start_of new) → IsAddTold old new was now a room r → IsToldOf n all None old → IsToldOf m (joint_after r (is_below (start_of new) a.to) a.value all) None new
 told_added (Ok (Some more)) n m all old new was now a room sorted order up start made told = record {
-  some = omega (arith, told.some, made.count);
+  some = omega (arith, told.some, made.grown.count);
   start = start;
   joint = ap (λ (w : OwnedTime). cond (is_below (start_of new) a.to) (joint w (a.value ∷ [])) w) told.joint ∙ sym (all_joint_added old new a.first a.second a.from a.to a.value sorted order up made.adds);
 }

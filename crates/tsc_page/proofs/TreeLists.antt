@@ -6,7 +6,8 @@ use Rattle.std.specs.Vec.{with_items}
 use Rattle.std.proofs.lemmas.List.{with_items_is}
 use Rattle.tsc_span.specs.Span.{KeyBytes}
 use Rattle.tsc_nodes.specs.PageView.{is_in}
-use Rattle.tsc_nodes.specs.Nodes.{Node, IsSorted, IsInOrder, IsSplitAt, node_keys}
+use Rattle.tsc_nodes.specs.declared.nodes.Grown.{Grown}
+use Rattle.tsc_nodes.specs.Nodes.{Node, IsSorted, IsInOrder, IsSplitAt, node_keys, nodes_cost}
 use Rattle.tsc_page.specs.Leaves.{nodes_of, AreParts}
 use Rattle.tsc_page.specs.Pending.{sizes_of, AreSizesOf, Addend, AddsSome}
 use Rattle.tsc_page.specs.Trees.{Top, IsForkCopy, top_nodes, top_sizes, IsWholeTop, IsWholeLeaf, IsWholeFork, fork_nodes, fork_sizes, leaf_nodes, leaf_sizes, fork_copied, IsCounted, tree_nodes, tree_sizes}
@@ -24,28 +25,31 @@ copied_tops xs ys all = copies_same top_nodes top_sizes IsWholeTop (λ (x y : To
 pub sizes_of_tops : (xs : List Top) → All IsWholeTop xs → AreSizesOf (sizes_of (map top_sizes xs)) (nodes_of (map top_nodes xs))
 sizes_of_tops xs all = sizes_of_parts top_nodes top_sizes IsWholeTop xs (λ x w. w.sizes) all
 
-pub counted_tops : (t : Tree) → AreParts top_nodes IsWholeTop t.list.items → t.count ≡ length (tree_nodes t) → IsCounted t
-counted_tops t parts count = record { parts = parts; sizes = sizes_of_tops t.list.items parts.whole; count = count }
+pub counted_tops : (t : Tree) → AreParts top_nodes IsWholeTop t.list.items → t.count ≡ length (tree_nodes t) → t.bytes ≡ nodes_cost (tree_nodes t) → IsCounted t
+counted_tops t parts count bytes = record { parts = parts; sizes = sizes_of_tops t.list.items parts.whole; count = count; bytes = bytes }
 
 -- a copy of a tree
-pub counted_copy : (t u : Tree) → AreSameAs top_nodes top_sizes IsWholeTop t.list.items u.list.items → u.count ≡ t.count → IsCounted t → IsCounted u
-counted_copy t u same count counted = counted_tops u (copies_sorted top_nodes top_sizes IsWholeTop t.list.items u.list.items same counted.parts) (count ∙ counted.count ∙ ap (λ (ls : List (List Node)). length (nodes_of ls)) (sym same.nodes))
+pub counted_copy : (t u : Tree) → AreSameAs top_nodes top_sizes IsWholeTop t.list.items u.list.items → u.count ≡ t.count → u.bytes ≡ t.bytes → IsCounted t → IsCounted u
+counted_copy t u same count bytes counted = counted_tops u (copies_sorted top_nodes top_sizes IsWholeTop t.list.items u.list.items same counted.parts) (count ∙ counted.count ∙ ap (λ (ls : List (List Node)). length (nodes_of ls)) (sym same.nodes))
+    (bytes ∙ counted.bytes ∙ ap (λ (ls : List (List Node)). nodes_cost (nodes_of ls)) (sym same.nodes))
 
 -- others in the place of those in a list
-pub counted_with : (v : Vec Top Global) (xs : List Top) (n : ℕ) → length xs ≡ length v.items → AreParts top_nodes IsWholeTop xs → n ≡ length (nodes_of (map top_nodes xs)) → IsCounted (record { list = with_items v xs; count = n })
-counted_with v xs n same parts count =
+pub counted_with : (v : Vec Top Global) (xs : List Top) (n b : ℕ) → length xs ≡ length v.items → AreParts top_nodes IsWholeTop xs → n ≡ length (nodes_of (map top_nodes xs)) → b ≡ nodes_cost (nodes_of (map top_nodes xs))
+    → IsCounted (record { list = with_items v xs; count = n; bytes = b })
+counted_with v xs n b same parts count bytes =
     let kept = with_items_is v xs (omega (arith, same, v.ok.0)) in
-    counted_tops (record { list = with_items v xs; count = n }) (subst (AreParts top_nodes IsWholeTop) (sym kept) parts) (count ∙ ap (λ (ys : List Top). length (nodes_of (map top_nodes ys))) (sym kept))
+    counted_tops (record { list = with_items v xs; count = n; bytes = b }) (subst (AreParts top_nodes IsWholeTop) (sym kept) parts) (count ∙ ap (λ (ys : List Top). length (nodes_of (map top_nodes ys))) (sym kept))
+    (bytes ∙ ap (λ (ys : List Top). nodes_cost (nodes_of (map top_nodes ys))) (sym kept))
 
 -- after an Add in place
-pub counted_added : (v : Vec Top Global) (xs : List Top) (n more room : ℕ) (a : Addend) → length xs ≡ length v.items → IsCounted (record { list = v; count = n }) → All IsWholeTop xs → IsInOrder a.first a.second
-    → AddsSome (nodes_of (map top_nodes v.items)) (nodes_of (map top_nodes xs)) a room more → IsCounted (record { list = with_items v xs; count = n + more })
-counted_added v xs n more room a same counted all order adds =
-    counted_with v xs (n + more) same (parts_added top_nodes IsWholeTop v.items xs a room more counted.parts all order adds) (omega (arith, counted.count, adds.count))
+pub counted_added : (v : Vec Top Global) (xs : List Top) (n b room : ℕ) (more : Grown) (a : Addend) → length xs ≡ length v.items → IsCounted (record { list = v; count = n; bytes = b }) → All IsWholeTop xs → IsInOrder a.first a.second
+    → AddsSome (nodes_of (map top_nodes v.items)) (nodes_of (map top_nodes xs)) a room more → IsCounted (record { list = with_items v xs; count = n + more.nodes; bytes = b + more.bytes })
+counted_added v xs n b room more a same counted all order adds =
+    counted_with v xs (n + more.nodes) (b + more.bytes) same (parts_added top_nodes IsWholeTop v.items xs a room more counted.parts all order adds) (omega (arith, counted.count, adds.grown.count)) (omega (arith, counted.bytes, adds.grown.cost))
 
 -- and where nothing changed
-pub counted_kept : (v : Vec Top Global) (xs : List Top) (n : ℕ) → length xs ≡ length v.items → IsCounted (record { list = v; count = n }) → All IsWholeTop xs → nodes_of (map top_nodes xs) ≡ nodes_of (map top_nodes v.items) → IsCounted (record { list = with_items v xs; count = n })
-counted_kept v xs n same counted all is = counted_with v xs n same (parts_kept top_nodes IsWholeTop v.items xs counted.parts all is) (counted.count ∙ ap length (sym is))
+pub counted_kept : (v : Vec Top Global) (xs : List Top) (n b : ℕ) → length xs ≡ length v.items → IsCounted (record { list = v; count = n; bytes = b }) → All IsWholeTop xs → nodes_of (map top_nodes xs) ≡ nodes_of (map top_nodes v.items) → IsCounted (record { list = with_items v xs; count = n; bytes = b })
+counted_kept v xs n b same counted all is = counted_with v xs n b same (parts_kept top_nodes IsWholeTop v.items xs counted.parts all is) (counted.count ∙ ap length (sym is)) (counted.bytes ∙ ap nodes_cost (sym is))
 
 -- a key that has a node needs none
 pub known_splits : (ns : List Node) (k : KeyBytes) → IsSorted ns → not (is_in k (node_keys ns)) ≡ false → IsSplitAt ns ns (k ∷ [])

@@ -7,7 +7,8 @@ use Rattle.std.specs.Option.{IfSome}
 use Rattle.std.specs.List.{All}
 use Rattle.tsc_time.specs.OwnedTime.{OwnedTime}
 use Rattle.tsc_span.specs.Span.{between}
-use Rattle.tsc_nodes.specs.Nodes.{Node, IsSorted, AddsNodes}
+use Rattle.tsc_nodes.specs.declared.nodes.Grown.{Grown}
+use Rattle.tsc_nodes.specs.Nodes.{Node, IsSorted, AddsNodes, GrowsBy}
 use Rattle.tsc_page.specs.Leaves.{nodes_of, IsLeaf, AreParts}
 use Rattle.std.proofs.lemmas.List.{length-append}
 use Rattle.tsc_page.proofs.Pending.{sorted_without}
@@ -41,21 +42,23 @@ told_as n m a b p q ns start joint pending told =
     subst (λ (k : ℕ). IsToldOf k b q ns) (sym start) (subst (λ (w : OwnedTime). IsToldOf n w q ns) (sym joint) (subst (λ (o : Option OwnedTime). IsToldOf n a o ns) (sym pending) told))
 
 -- what the clauses of an Add to nodes say in one
-pub add_told : {E : Type 0} (r : Result (Option ℕ) E) (old new : List Node) (a : Addend) (room : ℕ)
+pub add_told : {E : Type 0} (r : Result (Option Grown) E) (old new : List Node) (a : Addend) (places room : ℕ)
     → IfOk r (λ d. IfSome d (λ more. AddsNodes old new a.first a.second (between a.from a.to) a.value))
-    → IfOk r (λ d. IfSome d (λ more. (length new ≡ length old + more) × (more ≤ room)))
+    → IfOk r (λ d. IfSome d (λ more. GrowsBy old new more))
+    → IfOk r (λ d. IfSome d (λ more. (more.nodes ≤ places) × (more.bytes ≤ room)))
     → IfOk r (λ d. d ≡ None → new ≡ old)
     → OnErr r (new ≡ old)
     → IsAddTold old new (length old ∷ []) (length new ∷ []) a room r
-add_told (Ok (Some more)) old new a room adds count left unchanged = record { adds = adds; count = count.0; within = count.1 }
-add_told (Ok None) old new a room adds count left unchanged = (left refl, ap (λ (ns : List Node). length ns ∷ []) (left refl))
-add_told (Err e) old new a room adds count left unchanged = (unchanged, ap (λ (ns : List Node). length ns ∷ []) unchanged)
+add_told (Ok (Some more)) old new a places room adds grown within left unchanged = record { adds = adds; grown = grown; within = within.1 }
+add_told (Ok None) old new a places room adds grown within left unchanged = (left refl, ap (λ (ns : List Node). length ns ∷ []) (left refl))
+add_told (Err e) old new a places room adds grown within left unchanged = (unchanged, ap (λ (ns : List Node). length ns ∷ []) unchanged)
 
 -- a leaf takes no more than it has room for
-pub leaf_added : {E : Type 0} (r : Result (Option ℕ) E) (old new : List Node) (was now : List ℕ) (a : Addend) (room : ℕ) → IsLeaf old → room + length old ≤ 64 → IsAddTold old new was now a room r → IsLeaf new
-leaf_added (Ok (Some more)) old new was now a room leaf few made = (omega (arith, leaf.0, made.count), omega (arith, few, made.count, made.within))
-leaf_added (Ok None) old new was now a room leaf few left = subst (λ (ns : List Node). IsLeaf ns) (sym left.0) leaf
-leaf_added (Err e) old new was now a room leaf few left = subst (λ (ns : List Node). IsLeaf ns) (sym left.0) leaf
+pub leaf_added : {E : Type 0} (r : Result (Option Grown) E) (old new : List Node) (was now : List ℕ) (a : Addend) (places room : ℕ) → IsLeaf old → places + length old ≤ 64
+    → IfOk r (λ d. IfSome d (λ more. (more.nodes ≤ places) × (more.bytes ≤ room))) → IsAddTold old new was now a room r → IsLeaf new
+leaf_added (Ok (Some more)) old new was now a places room leaf few within made = (omega (arith, leaf.0, made.grown.count), omega (arith, few, made.grown.count, within.0))
+leaf_added (Ok None) old new was now a places room leaf few within left = subst (λ (ns : List Node). IsLeaf ns) (sym left.0) leaf
+leaf_added (Err e) old new was now a places room leaf few within left = subst (λ (ns : List Node). IsLeaf ns) (sym left.0) leaf
 
 -- parts have nodes
 pub some_in : {P : Type 0} (nodes : P → List Node) (IsWhole : P → Type 0) (ps : List P) → ((p : P) → IsWhole p → 1 ≤ length (nodes p)) → AreFewParts IsWhole ps → 1 ≤ length (nodes_of (map nodes ps))
@@ -67,11 +70,11 @@ pub fork_parts : {P : Type 0} (nodes : P → List Node) (sizes : P → List ℕ)
 fork_parts nodes sizes IsWhole s ps whole sorted = record { whole = whole.parts.each; sorted = sorted_without s.pending (nodes_of (map nodes ps)) sorted }
 
 -- what such a call tells where it told something
-pub tells_some : (E : Type 0) (d : Option ℕ) (more : ℕ) (old new : List Node) (was now : List ℕ) (a : Addend) (room : ℕ) → d ≡ Some more → IsAddTold {E = E} old new was now a room (Ok d) → AddsSome old new a room more
-tells_some E d more old new was now a room is told = subst (λ (o : Option ℕ). IsAddTold {E = E} old new was now a room (Ok o)) is told
+pub tells_some : (E : Type 0) (d : Option Grown) (more : Grown) (old new : List Node) (was now : List ℕ) (a : Addend) (room : ℕ) → d ≡ Some more → IsAddTold {E = E} old new was now a room (Ok d) → AddsSome old new a room more
+tells_some E d more old new was now a room is told = subst (λ (o : Option Grown). IsAddTold {E = E} old new was now a room (Ok o)) is told
 
-pub tells_none : (E : Type 0) (d : Option ℕ) (old new : List Node) (was now : List ℕ) (a : Addend) (room : ℕ) → d ≡ None → IsAddTold {E = E} old new was now a room (Ok d) → (new ≡ old) × (now ≡ was)
-tells_none E d old new was now a room is told = subst (λ (o : Option ℕ). IsAddTold {E = E} old new was now a room (Ok o)) is told
+pub tells_none : (E : Type 0) (d : Option Grown) (old new : List Node) (was now : List ℕ) (a : Addend) (room : ℕ) → d ≡ None → IsAddTold {E = E} old new was now a room (Ok d) → (new ≡ old) × (now ≡ was)
+tells_none E d old new was now a room is told = subst (λ (o : Option Grown). IsAddTold {E = E} old new was now a room (Ok o)) is told
 
 -- no leaf is larger than 64
 pub few_told : (sizes : List ℕ) (place : ℕ) (o : Option ℕ) → AreLeafSizes sizes → o ≡ slice_get sizes place → IfSome o (λ n. n ≤ 64)

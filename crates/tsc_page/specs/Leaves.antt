@@ -33,35 +33,6 @@ IsLeaf l = (1 ≤ length l) × (length l ≤ 64)
 abbrev pub start_of : List Node → Cut
 start_of ns = next_cut (node_stretches ns)
 
--- the leaves of all blocks, in their order
-abbrev pub rows_of : List (List (List Node)) → List (List Node)
-rows_of [] = []
-rows_of (b ∷ bs) = b ++ rows_of bs
-
--- where the first of leaves begins
-abbrev pub first_start : List (List Node) → Cut
-first_start [] = last
-first_start (l ∷ ls) = start_of l
-
--- 1 to 64 leaves, and what follows for their nodes.
-pub record IsBlock (b : List (List Node)) : Type 0 where
-  pub leaves : All IsLeaf b
-  pub some : 1 ≤ length b
-  pub few : length b ≤ 64
-  pub nodes : 1 ≤ length (nodes_of b)
-  pub begins : first_start b ≡ start_of (nodes_of b)
-
--- Blocks of leaves in order.
-pub record AreBlocks (bs : List (List (List Node))) : Type 0 where
-  pub each : All IsBlock bs
-  pub sizes : AreLeafSizes (leaf_sizes (rows_of bs))
-  pub sorted : IsSorted (nodes_of (rows_of bs))
-
--- what stands behind the first of leaves that stand before blocks, or else behind the first block
-abbrev pub rows_behind : List (List Node) → List (List (List Node)) → List (List Node)
-rows_behind [] bs = rows_of (drop 1 bs)
-rows_behind (l ∷ ls) bs = ls ++ rows_of bs
-
 -- Nodes with that of a key, which they have already or which is new.
 pub record HasNode (old new : List Node) (k : KeyBytes) : Type 0 where
   pub found : Option (ℕ × KeyBytes)
@@ -94,10 +65,3 @@ key_below c (Some k) = if is_below (after k) c then Some k else None
 abbrev pub LiesAt : Option KeyBytes → Cut → Type 0
 LiesAt None c = Unit {0}
 LiesAt (Some k) c = (c ≡ before k) ⊎ (c ≡ after k)
-
--- What an Add makes of leaves in place: it adds to their nodes, and as many come in as are told.
-pub record AddsLeaves (old new : List (List Node)) (first second : Option KeyBytes) (span : Interval) (value : OwnedTime) (more : ℕ) : Type 0 where
-  pub adds : AddsNodes (nodes_of old) (nodes_of new) first second span value
-  pub sizes : AreLeafSizes (leaf_sizes new)
-  pub count : length (nodes_of new) ≡ length (nodes_of old) + more
-  pub few : more ≤ 2

@@ -10,4 +10,3 @@ pub use Rattle.tsc_nodes.specs.Page
 pub use Rattle.tsc_nodes.specs.PageView
 pub use Rattle.tsc_nodes.specs.Nodes
 pub use Rattle.tsc_nodes.specs.Numbers
-pub mod Costs

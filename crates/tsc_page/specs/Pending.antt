@@ -5,7 +5,8 @@ use Rattle.tsc_time.specs.Joint.{joint}
 use Rattle.tsc_span.specs.Span.{KeyBytes, Cut, before, last, Interval, between}
 use Rattle.tsc_nodes.specs.PageView.{AreLeafSizes}
 use Rattle.tsc_nodes.specs.Numbers.{IsCutNumber}
-use Rattle.tsc_nodes.specs.Nodes.{Node, IsSorted, AddsNodes, answer_of, raise_nodes}
+use Rattle.tsc_nodes.specs.Nodes.{Node, IsSorted, AddsNodes, GrowsBy, answer_of, raise_nodes}
+use Rattle.tsc_nodes.specs.declared.nodes.Grown.{Grown}
 use Rattle.tsc_page.specs.Leaves.{nodes_of, start_of, HasNode}
 
 -- all keys and gaps
@@ -64,20 +65,24 @@ pub record Addend : Type 0 where
 abbrev pub before_second : Addend → Addend
 before_second a = record { first = a.first; second = None; from = a.from; to = a.to; value = a.value }
 
--- What an Add makes of nodes, with how many come in.
-pub record AddsSome (old new : List Node) (a : Addend) (room more : ℕ) : Type 0 where
+-- What an Add makes of nodes, with what comes in, which costs no more than there is room for.
+pub record AddsSome (old new : List Node) (a : Addend) (room : ℕ) (more : Grown) : Type 0 where
   pub adds : AddsNodes old new a.first a.second (between a.from a.to) a.value
-  pub count : length new ≡ length old + more
-  pub within : more ≤ room
+  pub grown : GrowsBy old new more
+  pub within : more.bytes ≤ room
+
+-- nothing comes in
+abbrev pub nothing_grown : Grown
+nothing_grown = record { nodes = 0; bytes = 0 }
 
 -- what a call tells that adds, or leaves all as it is
-abbrev pub IsAddTold : {E : Type 0} → (old new : List Node) (was now : List ℕ) → Addend → ℕ → Result (Option ℕ) E → Type 0
+abbrev pub IsAddTold : {E : Type 0} → (old new : List Node) (was now : List ℕ) → Addend → ℕ → Result (Option Grown) E → Type 0
 IsAddTold old new was now a room (Ok (Some more)) = AddsSome old new a room more
 IsAddTold old new was now a room (Ok None) = (new ≡ old) × (now ≡ was)
 IsAddTold old new was now a room (Err e) = (new ≡ old) × (now ≡ was)
 
 -- the joint value of all, once such a call is done
-abbrev pub joint_after : {E : Type 0} → Result (Option ℕ) E → Bool → OwnedTime → OwnedTime → OwnedTime
+abbrev pub joint_after : {E : Type 0} → Result (Option Grown) E → Bool → OwnedTime → OwnedTime → OwnedTime
 joint_after (Ok (Some more)) reached v w = if reached then joint w (v ∷ []) else w
 joint_after (Ok None) reached v w = w
 joint_after (Err e) reached v w = w

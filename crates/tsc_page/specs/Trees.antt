@@ -4,7 +4,7 @@ use Rattle.std.proofs.Common.{◌∙◌, sym, ap, subst}
 use Rattle.std.specs.Arc.{arc_value}
 use Rattle.std.specs.List.{All}
 use Rattle.std.specs.declared.vec.Vec.{Vec}
-use Rattle.tsc_nodes.specs.Nodes.{Node, IsSorted}
+use Rattle.tsc_nodes.specs.Nodes.{Node, IsSorted, nodes_cost}
 use Rattle.tsc_page.specs.Leaves.{nodes_of, IsLeaf, AreParts}
 use Rattle.tsc_page.specs.Pending.{with_pending, IsToldOf, sizes_of, AreSizesOf}
 use Rattle.tsc_page.specs.Copies.{IsSameAs}
@@ -114,8 +114,9 @@ tree_nodes t = nodes_of (map top_nodes t.list.items)
 abbrev pub tree_sizes : Tree → List ℕ
 tree_sizes t = sizes_of (map top_sizes t.list.items)
 
--- Parts in order, and how many nodes they have.
+-- Parts in order, how many nodes they have, and what these cost.
 pub record IsCounted (t : Tree) : Type 0 where
   pub parts : AreParts top_nodes IsWholeTop t.list.items
   pub sizes : AreSizesOf (tree_sizes t) (tree_nodes t)
   pub count : t.count ≡ length (tree_nodes t)
+  pub bytes : t.bytes ≡ nodes_cost (tree_nodes t)

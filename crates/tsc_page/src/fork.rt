@@ -11,7 +11,7 @@ use crate::parts::Part;
 use crate::summary::Summary;
 use std::alloc::{AllocError, Global};
 use std::sync::Arc;
-use tsc_nodes::{KeyNumber, NumberedCut};
+use tsc_nodes::{Grown, KeyNumber, NumberedCut};
 use tsc_span::{Cut, Key};
 use tsc_time::{NoMemory, Value};
 
@@ -129,7 +129,7 @@ impl<P: Part> Part for Fork<P> {
         }
     }
 
-    fn add_within(&mut self, add: &Addition<'_>, room: usize) -> Result<Option<usize>, NoMemory> {
+    fn add_within(&mut self, add: &Addition<'_>, room: u32) -> Result<Option<Grown>, NoMemory> {
         let Some(parts) = Arc::get_mut(&mut self.parts) else {
             return Ok(None)
         };

@@ -10,7 +10,7 @@ use crate::parts::Part;
 use crate::summary::Summary;
 use std::alloc::{AllocError, Global};
 use std::sync::Arc;
-use tsc_nodes::{KeyNumber, Nodes, NumberedCut};
+use tsc_nodes::{Grown, KeyNumber, Nodes, NumberedCut};
 use tsc_span::{Cut, Key};
 use tsc_time::{NoMemory, Value};
 
@@ -118,13 +118,16 @@ impl Part for Leaf {
         }
     }
 
-    fn add_within(&mut self, add: &Addition<'_>, room: usize) -> Result<Option<usize>, NoMemory> {
+    fn add_within(&mut self, add: &Addition<'_>, room: u32) -> Result<Option<Grown>, NoMemory> {
         let Some(nodes) = Arc::get_mut(&mut self.nodes) else {
             return Ok(None)
         };
         push_down(nodes, &self.summary);
         self.summary.pending = None;
-        let room = room.min(LEAF_NODES - nodes.len());
+        let room = Grown {
+            nodes: LEAF_NODES - nodes.len(),
+            bytes: room,
+        };
         let made = nodes.add_owned(add.first, add.second, add.from, add.to, add.value, room);
         let reached = nodes.starts_below(add.to);
         self.summary

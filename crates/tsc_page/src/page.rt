@@ -1,18 +1,15 @@
-ghost use Rattle.std.specs.Prelude.{sum, slice_get, ◌≡◌, ◌≤◌, ◌*◌, nat_le, ◌||◌, ◌∷◌, [], true, false, IsOk, IfOk, OnOk, OnErr, option_map, if◌then◌else◌};
+ghost use Rattle.std.specs.Prelude.{sum, slice_get, is_some, ◌≡◌, ◌≤◌, ◌*◌, nat_le, ◌||◌, ◌∷◌, [], true, false, IsOk, IfOk, IfSome, OnOk, OnErr, if◌then◌else◌};
 ghost use Rattle.tsc_time.specs.Joint.{joint, joint_above};
 ghost use Rattle.tsc_time.specs.Time.{zero_time, is_before, later};
-ghost use Rattle.tsc_span.specs.Span.{KeyBytes, Interval, is_empty_span, overlaps, end_keys, key_cost, span_cost};
+ghost use Rattle.tsc_span.specs.Span.{KeyBytes, Interval, is_empty_span, overlaps, end_keys, span_cost};
 ghost use Rattle.tsc_nodes.specs.declared.TheConstants.{LEAST_SIZE, MOST_SIZE};
 ghost use Rattle.tsc_nodes.specs.Page.{PageMarks, Mark, empty_page, with_mark, top, values_on, marked_keys, count_distinct, cost_distinct, has_room};
-ghost use Rattle.tsc_page.specs.Costs.{IsRoomTold};
-ghost use Rattle.tsc_nodes.specs.PageView.{AreLeafSizes, StandsFor, NoAnswerAboveTop, answer, is_in, bytes_of, has_room_for, new_weight};
+ghost use Rattle.tsc_nodes.specs.PageView.{AreLeafSizes, StandsFor, NoAnswerAboveTop, answer, is_in, bytes_of, has_room_for};
 
-use crate::cost::{Cost, cost_of};
 use crate::tree::Tree;
 use std::alloc::Global;
 use std::marker::Model;
-use tsc_nodes::MOST_NODES;
-use tsc_span::{Key, Span};
+use tsc_span::Span;
 use tsc_time::{NoMemory, Timestamp, Value};
 
 /// One page of the cache: what was added to it, as sorted nodes.
@@ -22,24 +19,22 @@ use tsc_time::{NoMemory, Timestamp, Value};
 #[derive(Debug, Drop)]
 pub struct Page {
     size: u32,
-    bytes: u32,
     top: Timestamp,
     tree: Tree,
 }
 
 impl Model for Page {
     ghost use Rattle.std.specs.Prelude.{◌≡◌, ◌≤◌};
-    ghost use Rattle.tsc_span.specs.Span.{cost_of};
     ghost use Rattle.tsc_nodes.specs.declared.TheConstants.{LEAST_SIZE, MOST_SIZE};
     ghost use Rattle.tsc_nodes.specs.PageView.{PageView, NoAnswerAboveTop};
-    ghost use Rattle.tsc_nodes.specs.Nodes.{node_keys, page_of};
+    ghost use Rattle.tsc_nodes.specs.Nodes.{page_of};
     ghost use Rattle.tsc_page.specs.Trees.{tree_nodes, tree_sizes, IsCounted};
 
     ghost Value = { PageView };
 
     ghost view = { λ p. page_of p.size p.top (tree_nodes p.tree) (tree_sizes p.tree) };
 
-    ghost invariant = { λ p. IsCounted p.tree × (p.bytes ≡ cost_of (node_keys (tree_nodes p.tree))) × (p.bytes ≤ p.size) × (LEAST_SIZE ≤ p.size) × (p.size ≤ MOST_SIZE)
+    ghost invariant = { λ p. IsCounted p.tree × (p.tree.bytes ≤ p.size) × (LEAST_SIZE ≤ p.size) × (p.size ≤ MOST_SIZE)
         × NoAnswerAboveTop (page_of p.size p.top (tree_nodes p.tree) (tree_sizes p.tree)) };
 }
 
@@ -56,7 +51,6 @@ impl Page {
     {
         Ok(Page {
             size,
-            bytes: 0,
             top: base,
             tree: Tree::new(alloc),
         })
@@ -79,7 +73,7 @@ impl Page {
         ensures stands { (p : PageMarks) → StandsFor self.now p → result ≡ cost_distinct (marked_keys p.marks) }
         ensures most { result ≤ self.now.size }
     {
-        self.bytes
+        self.tree.bytes()
     }
 
     /// Whether the page has room for a span: whether the end keys of all that was added and of the span, each of them
@@ -89,19 +83,20 @@ impl Page {
         ensures stands { (p : PageMarks) → StandsFor self.now p → result ≡ has_room p span.now }
     {
         let (first, second) = span.end_keys();
-        self.bytes + self.new_cost(first) + self.new_cost(second) <= self.size
+        self.tree.has_room(first, second, self.size)
     }
 
     /// Adds a span with its value. The span is not empty, and the page has room for it. Where memory is
     /// refused the page is as before, and so are its leaves.
     ///
-    /// Where no copy of the page shares the blocks and leaves that the span meets, nor the keys of a leaf that gets a
-    /// new one, and no leaf would come to have 65 nodes, they are changed in place. That costs a search among the
-    /// blocks, one among the leaves of a block and one for each end key in its leaf, a copy of each end key that is new
-    /// to the page, a move of a leaf's nodes above a new one, and a step for each node within the span; a span whose end
-    /// keys the page holds already takes no memory then. So it is for 256 leaves at the most. Any other Add copies the
-    /// list of blocks, and of the blocks and leaves themselves those that it changes; a leaf that comes to have 65 nodes
-    /// is cut into its first 32 and its last 33, and so is a block of 65 leaves.
+    /// It is made in place where no copy of the page shares the way to the leaves in which the span starts and stops, nor the
+    /// keys of a leaf that gets a new one, no leaf would come to have 65 nodes, and the span lies in one leaf or both its end
+    /// keys have nodes. That costs a search in each part on the way and one for each end key, a copy of each end key that is
+    /// new to the page, a move of a leaf's nodes above a new one, and a step for each node within the span in the leaves in
+    /// which it starts and stops, and for each part between these; a span whose end keys the page holds already takes no memory
+    /// then. What is pending on the way is ratcheted into the parts below it. Any other Add copies the list at the top and the
+    /// way to each leaf that it changes; a leaf that comes to have 65 nodes is cut into its first 32 and its last 33, and so is
+    /// a fork of 65 parts. Where there may be no room for both end keys, each is searched for once more.
     pub fn add(&mut self, span: &Span, value: Value) -> Result<(), NoMemory>
         requires not_empty { is_empty_span span.now ≡ false }
         requires room { has_room_for self.old span.now ≡ true }
@@ -139,20 +134,49 @@ impl Page {
             return Ok(true);
         };
         let (first, second) = span.end_keys();
-        let Some(cost) = self.cost_within(first, second, self.size - self.bytes) else {
+        if !self
+            .tree
+            .try_add(first, second, from, to, value, self.size)?
+        {
             return Ok(false);
-        };
-        let nodes = self.tree.len();
-        self.tree
-            .try_add(first, second, from, to, value, MOST_NODES as usize)?;
-        self.bytes += cost.paid_for(self.tree.len() - nodes);
+        }
         self.top = self.top.max(value.time());
         Ok(true)
     }
 
-    /// The joint value of time zero without an owner and of all that was added and overlaps the span. It
-    /// costs a search among the leaves, one in each leaf that the span meets, and a step for each node within
-    /// the span. A search compares keys by their first twenty-four bytes, and reads what is behind these only
+    /// The page with one more span and its value, where it has room for that; `None` where it has not. The span is not empty,
+    /// and this page stays as it is.
+    ///
+    /// It is for a page that others go on to read: it copies the list at the top and the way to each leaf that changes, shares all
+    /// else, and never tries to add in place.
+    pub fn added(&self, span: &Span, value: Value) -> Result<Option<Page>, NoMemory>
+        requires not_empty { is_empty_span span.now ≡ false }
+        ensures room { IfOk result (λ made. is_some made ≡ has_room_for self.now span.now) }
+        ensures stands { IfOk result (λ made. IfSome made (λ page. (p : PageMarks) → StandsFor self.now p
+            → StandsFor page (with_mark p (record { span = span.now; value = value })))) }
+        ensures size { IfOk result (λ made. IfSome made (λ page. page.size ≡ self.now.size)) }
+        ensures top { IfOk result (λ made. IfSome made (λ page. page.top ≡ later self.now.top value.time)) }
+        ensures keys { IfOk result (λ made. IfSome made (λ page. (k : KeyBytes) → is_in k page.keys ≡ (is_in k self.now.keys || is_in k (end_keys span.now)))) }
+        ensures answers { IfOk result (λ made. IfSome made (λ page. (s : Interval) → answer page s
+            ≡ (if overlaps span.now s then joint (answer self.now s) (value ∷ []) else answer self.now s))) }
+    {
+        let Some((from, to)) = span.cuts() else {
+            return Ok(None);
+        };
+        let (first, second) = span.end_keys();
+        let Some(tree) = self.tree.added(first, second, from, to, value, self.size)? else {
+            return Ok(None);
+        };
+        Ok(Some(Page {
+            size: self.size,
+            top: self.top.max(value.time()),
+            tree,
+        }))
+    }
+
+    /// The joint value of time zero without an owner and of all that was added and overlaps the span. It costs a search in
+    /// each part on the way to the leaves in which the span starts and stops, a step for each node within it there, and one for
+    /// each part between these. A search compares keys by their first twenty-four bytes, and reads what is behind these only
     /// where they are the same.
     pub fn lookup(&self, span: &Span) -> Value
         ensures value { result ≡ answer self.now span.now }
@@ -196,47 +220,15 @@ impl Page {
         }
     }
 
-    /// A copy of the page, which shares its leaves. It takes the memory of the list of their blocks.
+    /// A copy of the page, which shares its leaves. It takes the memory of the list of parts at the top of their tree.
     pub fn try_copy(&self) -> Result<Page, NoMemory>
         ensures value { IfOk result (λ copy. copy ≡ self.now) }
         ensures stands { IfOk result (λ copy. (p : PageMarks) → StandsFor self.now p → StandsFor copy p) }
     {
         Ok(Page {
             size: self.size,
-            bytes: self.bytes,
             top: self.top,
             tree: self.tree.try_copy()?,
         })
-    }
-
-    /// What those of two keys cost that have no node, or `None` where that is more than `room`. It looks for them only
-    /// where how many they are would not tell, or where there is not room for both.
-    fn cost_within(&self, first: Option<&Key>, second: Option<&Key>, room: u32) -> Option<Cost>
-        ensures { IsRoomTold self.now.keys (option_map (λ k. k.now) first.entry) (option_map (λ k. k.now) second.entry) room result }
-    {
-        let (one, other) = (cost_of(first), cost_of(second));
-        if one + other <= room && (other == 0 || other == one) {
-            return Some(Cost::Alike {
-                one,
-                both: one + other,
-            });
-        }
-        let cost = self.new_cost(first) + self.new_cost(second);
-        if cost <= room {
-            Some(Cost::Known(cost))
-        } else {
-            None
-        }
-    }
-
-    /// What a key costs, where this is one and has no node.
-    fn new_cost(&self, key: Option<&Key>) -> u32
-        ensures value { result ≡ new_weight key_cost self.now.keys (option_map (λ k. k.now) key.entry) }
-        ensures most { result ≤ 4128 }
-    {
-        match key {
-            Some(key) if self.tree.is_new(Some(key)) => key.cost(),
-            _ => 0,
-        }
     }
 }

@@ -6,13 +6,13 @@ ghost use Rattle.tsc_nodes.specs.Numbers.{IsCutNumber};
 ghost use Rattle.tsc_nodes.specs.PageView.{is_in};
 ghost use Rattle.tsc_nodes.specs.Nodes.{Node, IsSorted, node_keys, answer_of, raise_nodes};
 ghost use Rattle.tsc_page.specs.Leaves.{AreParts, HasNode, IsLeafAt, nodes_of, start_of};
-ghost use Rattle.tsc_page.specs.Pending.{everything, all_joint, sizes_of, AreSizesOf, TellsSize, AddsSome, IsAddTold, before_second};
+ghost use Rattle.tsc_page.specs.Pending.{everything, all_joint, sizes_of, AreSizesOf, TellsSize, AddsSome, nothing_grown, IsAddTold, before_second};
 ghost use Rattle.tsc_page.specs.Copies.{IsSameAs};
 ghost use Rattle.tsc_page.specs.Across.{IsAcrossTold, IsLastReached};
 
 use crate::addition::Addition;
 use std::alloc::Global;
-use tsc_nodes::{KeyNumber, NumberedCut};
+use tsc_nodes::{Grown, KeyNumber, NumberedCut};
 use tsc_span::{Cut, Key};
 use tsc_time::{NoMemory, Timestamp, Value, ratchet};
 
@@ -87,10 +87,10 @@ pub(crate) trait Part: Clone + Drop {
         ensures whole { OnOk result (IsWhole self.new) }
         ensures upper { IfOk result (λ upper. IfSome upper IsWhole) };
 
-    /// Adds in place, and tells how many nodes came in: where the span lies in one leaf to which nobody else holds a way, which
-    /// need not be cut, and no more than `room` come in; or where both end keys have nodes, and nobody else holds a way to the
-    /// leaves in which the span starts and stops. Else nothing changes, nor where memory is refused.
-    fn add_within(&mut self, add: &Addition<'_>, room: usize) -> Result<Option<usize>, NoMemory>
+    /// Adds in place, and tells what came in: where the span lies in one leaf to which nobody else holds a way, which
+    /// need not be cut, and what comes in costs no more than `room`; or where both end keys have nodes, and nobody else holds a
+    /// way to the leaves in which the span starts and stops. Else nothing changes, nor where memory is refused.
+    fn add_within(&mut self, add: &Addition<'_>, room: u32) -> Result<Option<Grown>, NoMemory>
         requires whole { IsWhole self.old }
         requires sorted { IsSorted (nodes self.old) }
         ensures told { IsAddTold (nodes self.old) (nodes self.new) (sizes self.old) (sizes self.new) add.now room result }
@@ -356,8 +356,8 @@ pub(crate) fn leaf_len<P: Part>(parts: &[P], place: usize) -> Result<usize, usiz
 pub(crate) fn add_within<P: Part>(
     parts: &mut [P],
     add: &Addition<'_>,
-    room: usize,
-) -> Result<Option<usize>, NoMemory>
+    room: u32,
+) -> Result<Option<Grown>, NoMemory>
     requires parts { AreParts P.nodes P.IsWhole parts.old }
     ensures told { IsAddTold (nodes_of (map P.nodes parts.old)) (nodes_of (map P.nodes parts.new)) (sizes_of (map P.sizes parts.old)) (sizes_of (map P.sizes parts.new)) add.now room result }
     ensures whole { All P.IsWhole parts.new }
@@ -368,7 +368,8 @@ pub(crate) fn add_within<P: Part>(
         return Ok(None);
     }
     if goes_on(parts, place, add.to) {
-        return Ok(raise_over(parts, place, add).then_some(0));
+        let nothing = Grown { nodes: 0, bytes: 0 };
+        return Ok(raise_over(parts, place, add).then_some(nothing));
     }
     if stops_at_next(parts, place, add.to) {
         parts[place].add_within(&add.before_second(), room)
@@ -459,7 +460,7 @@ fn raise_over<P: Part>(parts: &mut [P], first: usize, add: &Addition<'_>) -> boo
     requires bound { first < length parts.old }
     requires first { IsLeafAt (map P.nodes parts.old) add.now.from first }
     requires beyond { is_below (start_of (nodes_of (drop (suc first) (map P.nodes parts.old)))) add.now.to ≡ true }
-    ensures raised { result ≡ true → AddsSome (nodes_of (map P.nodes parts.old)) (nodes_of (map P.nodes parts.new)) add.now 0 0 }
+    ensures raised { result ≡ true → AddsSome (nodes_of (map P.nodes parts.old)) (nodes_of (map P.nodes parts.new)) add.now 0 nothing_grown }
     ensures left { result ≡ false → nodes_of (map P.nodes parts.new) ≡ nodes_of (map P.nodes parts.old) }
     ensures sizes { map P.sizes parts.new ≡ map P.sizes parts.old }
     ensures whole { All P.IsWhole parts.new }

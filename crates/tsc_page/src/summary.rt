@@ -2,7 +2,7 @@ ghost use Rattle.std.specs.Prelude.{◌≡◌, ◌∷◌, [], Some, if◌then◌
 ghost use Rattle.tsc_time.specs.Joint.{joint};
 ghost use Rattle.tsc_page.specs.Pending.{merged, seen_with, joint_after};
 
-use tsc_nodes::KeyNumber;
+use tsc_nodes::{Grown, KeyNumber};
 use tsc_time::{NoMemory, Value, ratchet};
 
 /// What is known of all nodes below a part of the tree, so that they need not be looked into.
@@ -43,7 +43,7 @@ impl Summary {
     /// Heeds an Add below, where it was made: whether it reached the first node.
     pub(crate) fn heed(
         &mut self,
-        made: &Result<Option<usize>, NoMemory>,
+        made: &Result<Option<Grown>, NoMemory>,
         start: KeyNumber,
         reached: bool,
         value: Value,

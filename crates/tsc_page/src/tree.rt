@@ -1,13 +1,13 @@
-ghost use Rattle.std.specs.Prelude.{◌≡◌, None, ◌<◌, ◌≤◌, ◌+◌, [], ◌∷◌, ◌++◌, slice_get, map, true, false, IfOk, IfSome, OnOk, OnErr, option_map, option_to_list, if◌then◌else◌};
+ghost use Rattle.std.specs.Prelude.{◌≡◌, None, ◌<◌, ◌≤◌, ◌+◌, [], ◌∷◌, ◌++◌, slice_get, map, true, false, nat_le, IfOk, IfSome, OnOk, OnErr, option_map, option_to_list, if◌then◌else◌};
 ghost use Rattle.std.specs.List.{All};
-ghost use Rattle.tsc_span.specs.Span.{is_below, after, between, end_keys};
+ghost use Rattle.tsc_span.specs.Span.{is_below, after, between, end_keys, key_cost};
 ghost use Rattle.tsc_span.specs.Cuts.{cut_of};
-ghost use Rattle.tsc_nodes.specs.declared.TheConstants.{MOST_NODES};
-ghost use Rattle.tsc_nodes.specs.Page.{count_distinct};
-ghost use Rattle.tsc_nodes.specs.PageView.{is_new_among};
+ghost use Rattle.tsc_nodes.specs.declared.TheConstants.{MOST_SIZE};
+ghost use Rattle.tsc_nodes.specs.Page.{cost_distinct};
+ghost use Rattle.tsc_nodes.specs.PageView.{is_new_among, new_weight};
 ghost use Rattle.tsc_time.specs.Time.{zero_time};
 ghost use Rattle.tsc_time.specs.OwnedTime.{unowned};
-ghost use Rattle.tsc_nodes.specs.Nodes.{IsSplitAt, IsSorted, node_in_gap, node_keys, answer_of};
+ghost use Rattle.tsc_nodes.specs.Nodes.{IsSplitAt, IsSorted, GrowsBy, node_in_gap, node_keys, answer_of};
 ghost use Rattle.tsc_page.specs.Leaves.{LiesAt, AreParts, nodes_of, AddsTo};
 ghost use Rattle.tsc_page.specs.Trees.{Top, top_nodes, IsWholeTop, tree_nodes, tree_sizes, IsCounted};
 
@@ -16,27 +16,30 @@ use crate::fork::Fork;
 use crate::leaf::Leaf;
 use crate::parts;
 use std::alloc::Global;
-use tsc_nodes::{Nodes, NumberedCut};
+use tsc_nodes::{Grown, Nodes, NumberedCut};
 use tsc_span::{Cut, Key};
 use tsc_time::{NoMemory, Value};
 
-/// The nodes of a page in leaves that are all equally deep below the parts of a list, and how many there are. What others
-/// hold too is never changed. A part has 1 to 64 of the next kind, so three steps lead to each of 262,144 nodes, and the list
-/// stays short however many there are.
+/// The nodes of a page in leaves that are all equally deep below the parts of a list, with how many there are and what
+/// their keys cost. What others hold too is never changed. A part has 1 to 64 of the next kind, so three steps lead to each
+/// of 262,144 nodes, and the list stays short however many there are.
 #[derive(Debug, Drop)]
 pub(crate) struct Tree {
     list: Vec<Fork<Fork<Leaf>>>,
     count: usize,
+    bytes: u32,
 }
 
 impl Tree {
     pub(crate) fn new(alloc: Global) -> Tree
         ensures nodes { tree_nodes result ≡ [] }
         ensures counted { IsCounted result }
+        ensures bytes { result.bytes ≡ 0 }
     {
         Tree {
             list: Vec::new(alloc),
             count: 0,
+            bytes: 0,
         }
     }
 
@@ -45,6 +48,13 @@ impl Tree {
         ensures { result ≡ self.now.count }
     {
         self.count
+    }
+
+    /// What their keys cost together.
+    pub(crate) fn bytes(&self) -> u32
+        ensures { result ≡ self.now.bytes }
+    {
+        self.bytes
     }
 
     /// How many nodes a leaf has.
@@ -57,7 +67,7 @@ impl Tree {
     }
 
     /// Whether this is a key that has no node.
-    pub(crate) fn is_new(&self, key: Option<&Key>) -> bool
+    fn is_new(&self, key: Option<&Key>) -> bool
         requires counted { IsCounted self.now }
         ensures { result ≡ is_new_among (node_keys (tree_nodes self.now)) (option_map (λ k. k.now) key.entry) }
     {
@@ -67,13 +77,30 @@ impl Tree {
         }
     }
 
-    /// How many of two keys have no node.
-    pub(crate) fn new_among(&self, first: Option<&Key>, second: Option<&Key>) -> usize
+    /// What a key costs, where this is one and has no node.
+    fn new_cost(&self, key: Option<&Key>) -> u32
         requires counted { IsCounted self.now }
-        ensures { result ≡ (if is_new_among (node_keys (tree_nodes self.now)) (option_map (λ k. k.now) first.entry) then 1 else 0)
-            + (if is_new_among (node_keys (tree_nodes self.now)) (option_map (λ k. k.now) second.entry) then 1 else 0) }
+        ensures value { result ≡ new_weight key_cost (node_keys (tree_nodes self.now)) (option_map (λ k. k.now) key.entry) }
+        ensures most { result ≤ 4128 }
     {
-        usize::from(self.is_new(first)) + usize::from(self.is_new(second))
+        match key {
+            Some(key) if self.is_new(Some(key)) => key.cost(),
+            _ => 0,
+        }
+    }
+
+    /// Whether the nodes cost no more than `most` with those of two keys that have none. The keys are searched for only where
+    /// that depends on whether they have nodes.
+    pub(crate) fn has_room(&self, first: Option<&Key>, second: Option<&Key>, most: u32) -> bool
+        requires counted { IsCounted self.now }
+        requires within { self.now.bytes ≤ MOST_SIZE }
+        ensures { result ≡ nat_le (self.now.bytes + new_weight key_cost (node_keys (tree_nodes self.now)) (option_map (λ k. k.now) first.entry)
+            + new_weight key_cost (node_keys (tree_nodes self.now)) (option_map (λ k. k.now) second.entry)) most }
+    {
+        if self.bytes + cost(first) + cost(second) <= most {
+            return true;
+        }
+        self.bytes + self.new_cost(first) + self.new_cost(second) <= most
     }
 
     /// The joint value of the keys and gaps between two cuts.
@@ -90,17 +117,19 @@ impl Tree {
     pub(crate) fn try_copy(&self) -> Result<Tree, NoMemory>
         ensures nodes { IfOk result (λ copy. tree_nodes copy ≡ tree_nodes self.now) }
         ensures sizes { IfOk result (λ copy. tree_sizes copy ≡ tree_sizes self.now) }
+        ensures bytes { IfOk result (λ copy. copy.bytes ≡ self.now.bytes) }
         ensures counted { IfOk result (λ copy. IsCounted self.now → IsCounted copy) }
     {
         Ok(Tree {
             list: self.list.clone()?,
             count: self.count,
+            bytes: self.bytes,
         })
     }
 
     /// Makes nodes of the keys that have none, of which the first is the smaller, and ratchets a value into
-    /// the keys and gaps between two cuts, which lie at these keys. Says whether it did: where there would then be
-    /// more than `most` nodes it doesn't. Nothing changes then, nor where memory is refused.
+    /// the keys and gaps between two cuts, which lie at these keys. Says whether it did: where the nodes would then
+    /// cost more than `most` it doesn't. Nothing changes then, nor where memory is refused.
     pub(crate) fn try_add(
         &mut self,
         first: Option<&Key>,
@@ -108,36 +137,66 @@ impl Tree {
         from: Cut<'_>,
         to: Cut<'_>,
         value: Value,
-        most: usize,
+        most: u32,
     ) -> Result<bool, NoMemory>
         requires counted { IsCounted self.old }
-        requires within { self.old.count ≤ most }
-        requires small { most ≤ MOST_NODES }
+        requires within { self.old.bytes ≤ most }
+        requires small { most ≤ MOST_SIZE }
         requires order { is_below (cut_of from) (cut_of to) ≡ true }
         requires first { LiesAt (option_map (λ k. k.now) first) (cut_of from) }
         requires second { LiesAt (option_map (λ k. k.now) second) (cut_of to) }
         requires keys { option_to_list (option_map (λ k. k.now) first) ++ option_to_list (option_map (λ k. k.now) second) ≡ end_keys (between (cut_of from) (cut_of to)) }
         ensures added { IfOk result (λ done. done ≡ true → AddsTo (tree_nodes self.old) (tree_nodes self.new) (between (cut_of from.entry) (cut_of to.entry)) value) }
-        ensures within { IfOk result (λ done. done ≡ true → self.new.count ≤ most) }
-        ensures full { IfOk result (λ done. done ≡ false → most < count_distinct (node_keys (tree_nodes self.old) ++ end_keys (between (cut_of from.entry) (cut_of to.entry)))) }
-        ensures left { IfOk result (λ done. done ≡ false → (tree_nodes self.new ≡ tree_nodes self.old) × (tree_sizes self.new ≡ tree_sizes self.old)) }
+        ensures within { IfOk result (λ done. done ≡ true → self.new.bytes ≤ most) }
+        ensures full { IfOk result (λ done. done ≡ false → most < cost_distinct (node_keys (tree_nodes self.old) ++ end_keys (between (cut_of from.entry) (cut_of to.entry)))) }
+        ensures left { IfOk result (λ done. done ≡ false → (tree_nodes self.new ≡ tree_nodes self.old) × (tree_sizes self.new ≡ tree_sizes self.old) × (self.new.bytes ≡ self.old.bytes)) }
         ensures counted { IsCounted self.new }
-        ensures unchanged { OnErr result ((tree_nodes self.new ≡ tree_nodes self.old) × (tree_sizes self.new ≡ tree_sizes self.old)) }
+        ensures unchanged { OnErr result ((tree_nodes self.new ≡ tree_nodes self.old) × (tree_sizes self.new ≡ tree_sizes self.old) × (self.new.bytes ≡ self.old.bytes)) }
     {
         let (low, high) = (NumberedCut::new(from), NumberedCut::new(to));
         if self.add_in_place(first, second, &low, &high, value, most)? {
             return Ok(true);
         }
-        let count = self.count + self.new_among(first, second);
-        if count > most {
-            return Ok(false);
+        match self.added(first, second, from, to, value, most)? {
+            Some(tree) => {
+                *self = tree;
+                Ok(true)
+            }
+            None => Ok(false),
+        }
+    }
+
+    /// The tree with one more Add, as `try_add` makes it; `None` where the nodes would then cost more than `most`. What the Add
+    /// doesn't reach is shared.
+    pub(crate) fn added(
+        &self,
+        first: Option<&Key>,
+        second: Option<&Key>,
+        from: Cut<'_>,
+        to: Cut<'_>,
+        value: Value,
+        most: u32,
+    ) -> Result<Option<Tree>, NoMemory>
+        requires counted { IsCounted self.now }
+        requires within { self.now.bytes ≤ most }
+        requires small { most ≤ MOST_SIZE }
+        requires order { is_below (cut_of from) (cut_of to) ≡ true }
+        requires keys { option_to_list (option_map (λ k. k.now) first) ++ option_to_list (option_map (λ k. k.now) second) ≡ end_keys (between (cut_of from) (cut_of to)) }
+        ensures added { IfOk result (λ made. IfSome made (λ tree. AddsTo (tree_nodes self.now) (tree_nodes tree) (between (cut_of from.entry) (cut_of to.entry)) value)) }
+        ensures within { IfOk result (λ made. IfSome made (λ tree. tree.bytes ≤ most)) }
+        ensures counted { IfOk result (λ made. IfSome made IsCounted) }
+        ensures full { IfOk result (λ made. made ≡ None → most < cost_distinct (node_keys (tree_nodes self.now) ++ end_keys (between (cut_of from.entry) (cut_of to.entry)))) }
+    {
+        if !self.has_room(first, second, most) {
+            return Ok(None);
         }
         let mut list = self.list.clone()?;
-        make_node(&mut list, second)?;
-        make_node(&mut list, first)?;
+        let upper = make_node(&mut list, second)?;
+        let lower = make_node(&mut list, first)?;
         parts::raise_between(&mut list, from, to, value)?;
-        *self = Tree { list, count };
-        Ok(true)
+        let count = self.count + upper.nodes + lower.nodes;
+        let bytes = self.bytes + upper.bytes + lower.bytes;
+        Ok(Some(Tree { list, count, bytes }))
     }
 
     /// The same in place, where the span lies in one leaf to which nobody else holds a way, which need not be cut, and there
@@ -149,22 +208,22 @@ impl Tree {
         from: &NumberedCut<'_>,
         to: &NumberedCut<'_>,
         value: Value,
-        most: usize,
+        most: u32,
     ) -> Result<bool, NoMemory>
         requires counted { IsCounted self.old }
-        requires within { self.old.count ≤ most }
-        requires small { most ≤ MOST_NODES }
+        requires within { self.old.bytes ≤ most }
+        requires small { most ≤ MOST_SIZE }
         requires order { is_below from.now to.now ≡ true }
         requires first { LiesAt (option_map (λ k. k.now) first) from.now }
         requires second { LiesAt (option_map (λ k. k.now) second) to.now }
         requires keys { option_to_list (option_map (λ k. k.now) first) ++ option_to_list (option_map (λ k. k.now) second) ≡ end_keys (between from.now to.now) }
         ensures added { IfOk result (λ done. done ≡ true → AddsTo (tree_nodes self.old) (tree_nodes self.new) (between from.now to.now) value) }
-        ensures within { IfOk result (λ done. done ≡ true → self.new.count ≤ most) }
-        ensures left { IfOk result (λ done. done ≡ false → (tree_nodes self.new ≡ tree_nodes self.old) × (tree_sizes self.new ≡ tree_sizes self.old) × (self.new.count ≡ self.old.count)) }
+        ensures within { IfOk result (λ done. done ≡ true → self.new.bytes ≤ most) }
+        ensures left { IfOk result (λ done. done ≡ false → (tree_nodes self.new ≡ tree_nodes self.old) × (tree_sizes self.new ≡ tree_sizes self.old) × (self.new.count ≡ self.old.count) × (self.new.bytes ≡ self.old.bytes)) }
         ensures counted { IsCounted self.new }
-        ensures unchanged { OnErr result ((tree_nodes self.new ≡ tree_nodes self.old) × (tree_sizes self.new ≡ tree_sizes self.old)) }
+        ensures unchanged { OnErr result ((tree_nodes self.new ≡ tree_nodes self.old) × (tree_sizes self.new ≡ tree_sizes self.old) × (self.new.bytes ≡ self.old.bytes)) }
     {
-        let room = most - self.count;
+        let room = most - self.bytes;
         let add = Addition {
             first,
             second,
@@ -174,7 +233,8 @@ impl Tree {
         };
         match parts::add_within(&mut self.list, &add, room)? {
             Some(more) => {
-                self.count += more;
+                self.count += more.nodes;
+                self.bytes += more.bytes;
                 Ok(true)
             }
             None => Ok(false),
@@ -182,22 +242,38 @@ impl Tree {
     }
 }
 
-/// Makes a node of a key, where there is one and it has none.
-fn make_node(list: &mut Vec<Fork<Fork<Leaf>>>, key: Option<&Key>) -> Result<(), NoMemory>
+/// Makes a node of a key, where there is one and it has none, and tells what came in.
+fn make_node(list: &mut Vec<Fork<Fork<Leaf>>>, key: Option<&Key>) -> Result<Grown, NoMemory>
     requires whole { AreParts top_nodes IsWholeTop list.old.items }
     ensures split { OnOk result (IsSplitAt (nodes_of (map top_nodes list.old.items)) (nodes_of (map top_nodes list.new.items)) (option_to_list (option_map (λ k. k.now) key.entry))) }
     ensures whole { OnOk result (AreParts top_nodes IsWholeTop list.new.items) }
+    ensures grown { IfOk result (λ more. GrowsBy (nodes_of (map top_nodes list.old.items)) (nodes_of (map top_nodes list.new.items)) more) }
+    ensures few { IfOk result (λ more. (more.nodes ≤ 1) × (more.bytes ≤ 4128)) }
 {
-    let Some(key) = key else { return Ok(()) };
+    let nothing = Grown { nodes: 0, bytes: 0 };
+    let Some(key) = key else { return Ok(nothing) };
     let alloc = *list.allocator();
+    let bytes = key.cost();
     if list.len() == 0 {
         list.push(top_of(alloc, key)?)?;
-        return Ok(());
+        return Ok(Grown { nodes: 1, bytes });
     }
     if parts::is_new(list, key) {
         parts::make_node(list, alloc, key)?;
+        return Ok(Grown { nodes: 1, bytes });
     }
-    Ok(())
+    Ok(nothing)
+}
+
+/// What a key costs, where there is one.
+fn cost(key: Option<&Key>) -> u32
+    ensures value { result ≡ new_weight key_cost [] (option_map (λ k. k.now) key.entry) }
+    ensures most { result ≤ 4128 }
+{
+    match key {
+        Some(key) => key.cost(),
+        None => 0,
+    }
 }
 
 /// A part of the list with a node of a key alone.

@@ -7,7 +7,7 @@ use Rattle.tsc_time.specs.OwnedTime.{OwnedTime}
 use Rattle.tsc_span.specs.Span.{Cut, is_below}
 use Rattle.tsc_nodes.specs.Nodes.{Node, raise_nodes}
 use Rattle.tsc_page.specs.Leaves.{nodes_of, start_of, AreSome, AreParts, IsLeafAt}
-use Rattle.tsc_page.specs.Pending.{everything, Addend, AddsSome}
+use Rattle.tsc_page.specs.Pending.{everything, Addend, AddsSome, nothing_grown}
 use Rattle.tsc_page.specs.Across.{AreRaisedAcross, IsLastReached}
 use Rattle.tsc_page.proofs.LeafLists.{all_some}
 use Rattle.tsc_page.proofs.PartAdds.{IsAddend}
@@ -311,7 +311,7 @@ returns-clause-raised g c h =
     c.stops_at_next-stops.ensures ∙ ap (λ (z : Cut). not (is_below z (start_of (nodes_of (drop (suc r) ls))))) to ∙ ap (λ (n : ℕ). not (is_below a.to (start_of (nodes_of (drop (suc n) ls))))) (sym sum)
     ∙ ap (λ (xs : List g.row.P.Denot). not (is_below a.to (start_of (nodes_of (drop (suc (length bl + length md)) (map f xs)))))) shape in
     let wholly : nodes_of (map f mn) ≡ raise_nodes everything a.value (nodes_of (map f md)) = c.raise_all.ensures.raised ∙ ap (λ (v : Addend). raise_nodes everything v.value (nodes_of (map f md))) c.add.view_is in
-    subst (λ (xs : List g.row.P.Denot). AddsSome (nodes_of (map f xs)) (nodes_of (map f (set bl p x ++ (mn ++ set ab 0 y)))) a 0 0) (sym shape)
+    subst (λ (xs : List g.row.P.Denot). AddsSome (nodes_of (map f xs)) (nodes_of (map f (set bl p x ++ (mn ++ set ab 0 y)))) a 0 nothing_grown) (sym shape)
     (raises_over f bl md ab p d x e y long one a some fits at here mn stop parts.sorted is c.if-not-raise_ends.ensures.told wholly)
 
 pub returns-clause-sizes : goal.returns-clause-sizes

@@ -1,16 +1,7 @@
 -- Nothing is later than time zero on a page without nodes, and it costs nothing.
-use Rattle.std.proofs.Common.{sym, ap, List, arith}
-use Rattle.tsc_span.specs.Span.{cost_of}
-use Rattle.tsc_nodes.specs.Nodes.{Node, node_keys}
+use Rattle.std.proofs.Common.{arith}
 use Rattle.tsc_nodes.proofs.Tops.{none_covers}
 use Rattle.tsc_page.proofs.page.Page.new.Goals as goal
 
 pub invariant_of-result : goal.invariant_of-result
-invariant_of-result c = (
-  c.new.ensures.counted,
-  sym (ap (λ (ns : List Node). cost_of (node_keys ns)) c.new.ensures.nodes),
-  omega arith,
-  c.requires.at_least,
-  c.requires.at_most,
-  none_covers _ _ c.new.ensures.nodes,
-)
+invariant_of-result c = (c.new.ensures.counted, omega (arith, c.new.ensures.bytes), c.requires.at_least, c.requires.at_most, none_covers _ _ c.new.ensures.nodes)

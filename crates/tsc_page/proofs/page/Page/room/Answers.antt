@@ -1,23 +1,17 @@
 -- What the nodes cost, and each end key that is new.
-use Rattle.std.proofs.Common.{◌≡◌, ◌∙◌, sym, ap, nat_le, ℕ, List}
-use Rattle.std.specs.Prelude.{Option, option_map}
-use Rattle.tsc_span.specs.Span.{KeyBytes, key_cost}
-use Rattle.tsc_nodes.specs.PageView.{PageView, has_room_for, new_weight}
-use Rattle.tsc_nodes.specs.Nodes.{Node}
+use Rattle.std.proofs.Common.{◌∙◌, ap}
+use Rattle.std.specs.Prelude.{option_map}
+use Rattle.tsc_nodes.specs.PageView.{PageView, has_room_for}
 use Rattle.tsc_page.specs.Trees.{tree_nodes}
 use Rattle.tsc_nodes.proofs.Standing.{same_room}
-use Rattle.tsc_page.proofs.Costs.{cost_with_ends}
+use Rattle.tsc_page.proofs.Costs.{room_told}
 use Rattle.tsc_page.proofs.page.Page.room.Goals as goal
 
 value : goal.returns-clause-value
 value c =
-    let nodes : List Node = tree_nodes c.self.inside.tree in
-    let first : Option KeyBytes = option_map (λ k. k.now) c.end_keys.result.0 in
-    let second : Option KeyBytes = option_map (λ k. k.now) c.end_keys.result.1 in
-    let one = c.new_cost.ensures.value ∙ ap (λ (v : PageView). new_weight key_cost v.keys first) (sym c.self.view_is) in
-    let two = c.new_cost-2.ensures.value ∙ ap (λ (v : PageView). new_weight key_cost v.keys second) (sym c.self.view_is) in
-    let sum = cost_with_ends nodes first second c.args.span.now c.self.inside.bytes c.new_cost.result c.new_cost-2.result c.self.invariant.0.parts.sorted c.end_keys.ensures.keys c.self.invariant.1 one two in
-    ap (λ (n : ℕ). nat_le n c.self.inside.size) sum ∙ ap (λ (v : PageView). has_room_for v c.args.span.now) c.self.view_is
+    let nodes = tree_nodes c.self.inside.tree in
+    room_told nodes (option_map (λ k. k.now) c.end_keys.result.0) (option_map (λ k. k.now) c.end_keys.result.1) c.args.span.now c.self.inside.tree.bytes c.self.inside.size c.has_room.result
+    c.self.invariant.0.parts.sorted c.end_keys.ensures.keys c.self.invariant.0.bytes c.has_room.ensures ∙ ap (λ (v : PageView). has_room_for v c.args.span.now) c.self.view_is
 
 pub returns-clause-value : goal.returns-clause-value
 returns-clause-value = value

@@ -13,4 +13,4 @@ pub returns-clause-sizes : goal.returns-clause-sizes
 returns-clause-sizes c = ap (λ (ls : List (List ℕ)). sizes_of ls) (copied_tops c.args.self.now.list.items c.in_ok-clone.field-0.items c.in_ok-clone.ensures.cases.0).sizes
 
 pub returns-clause-counted : goal.returns-clause-counted
-returns-clause-counted c counted = counted_copy c.args.self.now _ (copied_tops c.args.self.now.list.items c.in_ok-clone.field-0.items c.in_ok-clone.ensures.cases.0) refl counted
+returns-clause-counted c counted = counted_copy c.args.self.now _ (copied_tops c.args.self.now.list.items c.in_ok-clone.field-0.items c.in_ok-clone.ensures.cases.0) refl refl counted

@@ -1,6 +1,0 @@
--- Each of two keys counts where it is new.
-use Rattle.std.proofs.Common.{rules}
-use Rattle.tsc_page.proofs.tree.Tree.new_among.Goals as goal
-
-pub returns : goal.returns
-returns c = search rules
