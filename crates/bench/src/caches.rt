@@ -114,7 +114,8 @@ fn add_both(
 /// A cache of so many full pages, each with keys of its own. All that is on them has one time, or that of a
 /// newer page is later.
 pub fn filled(alloc: Global, nodes: u32, pages: u32, rising: bool) -> Result<Cache> {
-    let config = Config::new(nodes, pages, 0, Timestamp::ZERO)?;
+    let size = Keys::new(nodes, 0, &[]).page_size(alloc)?;
+    let config = Config::new(size, size, pages, 0, Timestamp::ZERO)?;
     let mut cache = Cache::new(alloc, config)?;
     for page in 0..pages {
         let wall = if rising { u64::from(page) + 1 } else { 1 };

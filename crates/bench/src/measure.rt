@@ -1,9 +1,9 @@
-ghost use Rattle.std.specs.Prelude.{◌≡◌, ◌≤◌};
+ghost use Rattle.std.specs.Prelude.{◌≡◌, ◌≤◌, IfOk};
 
 use crate::watch::Watch;
 use anyhow::{Context, Result, ensure};
 use std::alloc::Global;
-use tsc_page::Page;
+use tsc_page::{LEAST_SIZE, MOST_SIZE, Page};
 use tsc_span::{Ends, Key, Span};
 use tsc_time::{Timestamp, Value, ratchet};
 
@@ -123,6 +123,16 @@ impl Keys {
         bytes.extend_from_slice(self.front)?;
         bytes.extend_from_slice(&number.to_be_bytes())?;
         Ok(Key::new(alloc, &bytes)?)
+    }
+
+    /// The size of a page that has room for so many of these keys and no more.
+    pub fn page_size(self, alloc: Global) -> Result<u32>
+        ensures at_least { IfOk result (λ size. 64 ≤ size) }
+        ensures at_most { IfOk result (λ size. size ≤ 1073741824) }
+    {
+        let each = self.span(alloc, 0, 0)?.cost();
+        let size = each.saturating_mul(self.nodes);
+        Ok(size.max(LEAST_SIZE).min(MOST_SIZE))
     }
 
     /// So many spans all over the page: single keys, or ranges of `width` nodes.
@@ -253,7 +263,7 @@ fn fill_page(rt: &HostRuntime, here: Keys) -> Result<Filled>
 {
     let between = Keys { page: 1, ..here }.spans(rt.alloc(), COPIES, 0)?;
     let all = here.spans(rt.alloc(), here.nodes, 0)?;
-    let page = Page::new(rt.alloc(), here.nodes, Timestamp::ZERO)?;
+    let page = Page::new(rt.alloc(), here.page_size(rt.alloc())?, Timestamp::ZERO)?;
     let filled = add_all(rt, page, &all, &between)?;
     ensure!(filled.page.nodes() == here.nodes, "not as many nodes");
     Ok(filled)

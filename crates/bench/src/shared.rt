@@ -162,7 +162,8 @@ fn sum_of(times: &[Option<AddTimes>]) -> Option<AddTimes> {
 fn open_filled<R: Wait>(rt: &R, alloc: Global, trial: Trial) -> Result<(SharedCache, Vec<Seat>)>
     ensures { IfOk result (λ made. All (λ seat. seat.cache ≡ made.0) made.1.items) }
 {
-    let config = Config::new(trial.nodes, 1, 0, Timestamp::ZERO)?;
+    let size = Keys::new(trial.nodes, 0, &[]).page_size(alloc)?;
+    let config = Config::new(size, size, 1, 0, Timestamp::ZERO)?;
     let number = trial.seats.saturating_add(trial.idle);
     let (shared, mut seats) = SharedCache::open(alloc, config, number, u64::MAX)?;
     seats.truncate(trial.seats as usize);
