@@ -3,7 +3,8 @@ use std::test::Fail;
 use tsc_check::{Verdict, check};
 use tsc_trace::{read_log, read_trace};
 
-const HEAD: &str = r#"{"page_first":132,"page_max":132,"min_pages":2,"retention":10,"low_water":[5,0],"threads":"#;
+const HEAD: &str =
+    r#"{"page_first":132,"page_max":132,"min_pages":2,"retention":10,"low_water":[5,0],"threads":"#;
 
 const THREE_LISTS: &str =
     r#"[[{"op":"add","span":{"start":"61"},"time":[20,0],"owner":"11111111-1111-4111-8111-111111111111","now":[20,0]}],

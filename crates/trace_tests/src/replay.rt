@@ -7,7 +7,8 @@ use tsc_trace::log_laws::reads_again;
 use tsc_trace::*;
 
 /// The head of most traces, up to their lists.
-const HEAD: &str = r#"{"page_first":132,"page_max":132,"min_pages":2,"retention":10,"low_water":[5,0],"threads":"#;
+const HEAD: &str =
+    r#"{"page_first":132,"page_max":132,"min_pages":2,"retention":10,"low_water":[5,0],"threads":"#;
 
 const OVERLAPPING_READS: &str = r#"[[
 {"op":"add","span":{"start":"61","end":"63"},"time":[20,0],"owner":"11111111-1111-4111-8111-111111111111","now":[20,0]},
