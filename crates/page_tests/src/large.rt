@@ -25,7 +25,7 @@ static FILLS: [(Order, bool); 6] = [
 ];
 
 /// Adds a value to a span of both pages.
-fn add_to_both(
+pub(crate) fn add_to_both(
     page: &mut Page,
     plain: &mut PlainPage,
     span: &Span,
@@ -67,7 +67,7 @@ fn fill(alloc: Global, page: &mut Page, order: Order, alike: bool) -> Result<Vec
 }
 
 /// What plain pages answer together.
-fn joint_answer(plain: &[PlainPage], span: &Span) -> Value {
+pub(crate) fn joint_answer(plain: &[PlainPage], span: &Span) -> Value {
     let mut best = Value::unowned(Timestamp::ZERO);
     for page in plain {
         best = ratchet(best, page.lookup(span)).0;

@@ -11,3 +11,5 @@ mod page;
 mod span;
 #[cfg(test)]
 mod time;
+#[cfg(test)]
+mod tree;

@@ -702,7 +702,7 @@ fn byte_range(alloc: Global, from: u8, to: u8, ends: Ends) -> Result<Span, Fail>
 }
 
 /// The sizes of a page's first leaves, and nothing past the last.
-fn has_leaves(page: &Page, sizes: &[u32]) -> bool {
+pub(crate) fn has_leaves(page: &Page, sizes: &[u32]) -> bool {
     let mut alike = true;
     for place in 0..8 {
         alike &= page.leaf_nodes(place) == sizes.get(place as usize).copied();
