@@ -65,7 +65,7 @@ MarksFront [] new m = ⊥
 MarksFront (front ∷ older) [] m = ⊥
 MarksFront (front ∷ older) (marked ∷ others) m = IsMarked front marked m × (others ≡ older)
 
--- the page that comes to the front for a mark: one that is larger than the front page before it, takes its top as its base, and has that mark
+-- the page that comes to the front for a mark: one of the next size behind the front page before it, which takes its top as its base, with that mark on it
 abbrev pub front_marked : Settings → List PageView → Mark → PageMarks
 front_marked settings pages m = with_mark (empty_page (next_size settings.page_max (front_view_size pages) (span_cost m.span)) (front_view_top pages)) m
 

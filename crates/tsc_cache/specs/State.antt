@@ -78,7 +78,7 @@ pub record Rotation : Type 0 where
   pub state : CacheState
   pub evicted : ℕ
 
--- the page that comes to the front for a span: an empty one that is larger than the front page before it, and takes its top as its base
+-- the page that comes to the front for a span: an empty one of the next size behind the front page before it, which takes its top as its base
 abbrev pub new_front : Settings → List PageMarks → Interval → PageMarks
 new_front settings pages span = empty_page (next_size settings.page_max (front_size pages) (span_cost span)) (front_top pages)
 

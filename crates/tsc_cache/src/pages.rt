@@ -78,11 +78,9 @@ impl Pages {
         match Arc::get_mut(&mut self.front) {
             Some(front) => front.try_add(span, value),
             None => {
-                if !self.front.room(span) {
-                    return Ok(false);
-                }
-                let mut front = self.front.try_copy()?;
-                front.add(span, value)?;
+                let Some(front) = self.front.added(span, value)? else {
+                    return Ok(false)
+                };
                 self.front = Arc::new(self.alloc(), front)?;
                 Ok(true)
             }

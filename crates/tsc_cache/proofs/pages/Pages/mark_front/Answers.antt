@@ -1,6 +1,6 @@
--- A copy of the front page takes its place.
+-- The front page with one more mark takes its place.
 use Rattle.std.proofs.Common.{◌≡◌, ◌∙◌, refl, sym, subst, cond, Bool, true, ◌||◌, ◌∷◌, []}
-use Rattle.std.specs.Prelude.{Result, Ok, Err, IfOk}
+use Rattle.std.specs.Prelude.{Result, Ok, Err, IfOk, Option, Some, None, IfSome}
 use Rattle.tsc_time.specs.Time.{later}
 use Rattle.tsc_time.specs.Joint.{joint}
 use Rattle.tsc_span.specs.Span.{KeyBytes, Interval, end_keys, overlaps}
@@ -10,18 +10,29 @@ use Rattle.tsc_cache.specs.CacheView.{IsMarked}
 use Rattle.tsc_cache.specs.CacheParts.{front_of}
 use Rattle.tsc_cache.proofs.pages.Pages.mark_front.Goals as goal
 
+-- what a page tells of one that has one mark more
+marked_in : (made : Option PageView) (old new : PageView) (m : Mark) → made ≡ Some new
+    → IfSome made (λ page. page.size ≡ old.size)
+    → IfSome made (λ page. page.top ≡ later old.top m.value.time)
+    → IfSome made (λ page. (k : KeyBytes) → is_in k page.keys ≡ (is_in k old.keys || is_in k (end_keys m.span)))
+    → IfSome made (λ page. (s : Interval) → answer page s ≡ cond (overlaps m.span s) (joint (answer old s) (m.value ∷ [])) (answer old s))
+    → IsMarked old new m
+marked_in (Some page) old new m is size top keys answers =
+    let same : page ≡ new = cc in
+    subst (λ (v : PageView). IsMarked old v m) same (record { size = size; top = top; keys = keys; answers = answers })
+marked_in None old new m is size top keys answers = absurd (none is)
+  where
+    none : None ≡ Some new → ⊥
+    none h = cc
+
 pub returns-in_ok-self-in-None-clause-marked : goal.returns-in_ok-self-in-None-clause-marked
 returns-in_ok-self-in-None-clause-marked c e =
     let m : Mark = record { span = c.args.span.now; value = c.args.value } in
-    let copied : c.in_ok-front-in-None.front ≡ front_of c.args.self.now = c.in_ok-front-in-None.ensures.value ∙ c.deref-in-None.ensures in
-    let marked : IsMarked c.in_ok-front-in-None.front c.add.new.self m = record {
-      size = c.in_ok-add-in-None.ensures.size;
-      top = c.in_ok-add-in-None.ensures.top;
-      keys = c.in_ok-add-in-None.ensures.keys;
-      answers = c.in_ok-add-in-None.ensures.answers;
-    } in (
-      subst (λ (v : PageView). IsMarked v (front_of (record { front = c.in_ok-self-in-None.field-0; older = c.args.self.now.older })) m) copied
-          (subst (λ (v : PageView). IsMarked c.in_ok-front-in-None.front v m) (sym c.in_ok-self-in-None.ensures.ok) marked),
+    let told = c.in_ok-front-in-None.ensures in
+    let old : PageView = c.deref.result.now in
+    let marked : IsMarked old c.in-Some-2.front m = marked_in c.in_ok-front-in-None.field-0 old c.in-Some-2.front m c.in-Some-2.is told.size told.top told.keys told.answers in (
+      subst (λ (v : PageView). IsMarked v (front_of (record { front = c.in_ok-self-in-None.field-0; older = c.args.self.now.older })) m) c.deref.ensures
+          (subst (λ (v : PageView). IsMarked old v m) (sym c.in_ok-self-in-None.ensures.ok) marked),
       refl,
     )
 
