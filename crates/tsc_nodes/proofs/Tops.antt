@@ -1,5 +1,5 @@
 -- No answer of a page is later than its top.
-use Rattle.std.proofs.Common.{◌≡◌, ◌∙◌, ap, subst, ℕ, Bool, true, false, cond, List, [], ◌∷◌, map, arith}
+use Rattle.std.proofs.Common.{◌≡◌, ◌∙◌, ap, subst, Bool, true, false, cond, List, [], ◌∷◌, map, arith}
 use Rattle.std.specs.Prelude.{filter}
 use Rattle.tsc_time.specs.Time.{Time, zero_time, is_before, later}
 use Rattle.tsc_time.specs.OwnedTime.{OwnedTime}

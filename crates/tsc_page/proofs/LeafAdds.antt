@@ -1,9 +1,9 @@
 -- An Add over leaves that change in place, one leaf after another.
-use Rattle.std.proofs.Common.{◌≡◌, ◌⊎◌, inl, inr, ◌∙◌, refl, sym, ap, subst, Bool, true, false, cond, ℕ, zero, suc, ◌+◌, ◌≤◌, List, [], ◌∷◌, ◌++◌, length, map, take, drop, get_or, set, arith}
+use Rattle.std.proofs.Common.{◌≡◌, ◌⊎◌, inl, inr, ◌∙◌, refl, sym, ap, subst, Bool, true, false, cond, ℕ, zero, suc, ◌+◌, ◌≤◌, List, [], ◌∷◌, ◌++◌, length, drop, arith}
 use mathlib.Core.Bool.{true≢false}
 use Rattle.std.specs.Prelude.{Option, Some, None, is_some, slice_get}
 use Rattle.std.specs.Option.{option_to_list}
-use Rattle.std.specs.List.{All, insert}
+use Rattle.std.specs.List.{insert}
 use Rattle.std.specs.Str.{bytes_eq}
 use Rattle.std.specs.declared.cmp.Ordering.{Ordering}
 use Rattle.std.specs.declared.cmp.Ordering.TheVariants.{Less, Equal, Greater}
@@ -11,7 +11,6 @@ use Rattle.std.specs.Ordering.{is_lt, is_eq, ordering_reverse}
 use Rattle.std.proofs.Math.Bool.{or-true}
 use Rattle.std.proofs.lemmas.Bool.{cases_Bool}
 use Rattle.std.proofs.lemmas.List.{append_assoc, length-append}
-use Rattle.std.proofs.lemmas.List.Edits.{length-insert}
 use Rattle.std.proofs.lemmas.Map.Text.{is_eq-slice_cmp}
 use Rattle.std.proofs.lemmas.Slice.Eq.{bytes_eq-Decides}
 use Rattle.tsc_time.specs.Time.{zero_time}
@@ -19,9 +18,9 @@ use Rattle.tsc_time.specs.OwnedTime.{OwnedTime, unowned}
 use Rattle.tsc_span.specs.Span.{KeyBytes, key_cmp, Cut, before, after, last, Interval, between, end_keys, is_below}
 use Rattle.tsc_span.proofs.CutOrder.{key_cmp_back}
 use Rattle.tsc_nodes.specs.PageView.{AreLeafSizes, is_in}
-use Rattle.tsc_nodes.specs.Nodes.{Node, node_keys, IsSorted, FitsAt, FitsIn, IsNewKey, IsInOrder, IsSplitAt, MakesNodes, AddsNodes, new_count, with_new, node_in_gap, gap_value, raise_nodes}
+use Rattle.tsc_nodes.specs.Nodes.{Node, node_keys, IsSorted, FitsAt, IsNewKey, IsInOrder, IsSplitAt, MakesNodes, AddsNodes, with_new, node_in_gap, gap_value, raise_nodes}
 use Rattle.tsc_page.specs.Leaves.{nodes_of, leaf_sizes, AreLeaves, AreSome, start_of, AddsTo, LiesAt, key_below}
-use Rattle.tsc_nodes.proofs.CutOrder.{Lt, Le, Lt-or_Le, Lt-not_Le, Le-chain, Le-from_Lt, Lt-chain, Lt-from_Le_sides, none_above_last, before-after}
+use Rattle.tsc_nodes.proofs.CutOrder.{Lt, Le, Lt-or_Le, Lt-not_Le, Le-chain, Le-from_Lt, Lt-from_Le_sides, none_above_last, before-after}
 use Rattle.tsc_nodes.proofs.Edits.{raise_nodes-length, raise_nodes-sorted}
 use Rattle.tsc_nodes.proofs.NewKeys.{with_new_splits, with_new-length, new_fits, still_new, splits_chain, makes_sorted}
 use Rattle.tsc_page.proofs.Joins.{sorted_left, sorted_right, raises_left, raises_right, up_to_last}

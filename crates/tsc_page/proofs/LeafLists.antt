@@ -1,11 +1,9 @@
 -- Lists of leaves, and where a cut falls among them.
-use Rattle.std.proofs.Common.{◌≡◌, ◌⊎◌, inl, inr, ◌∙◌, refl, sym, ap, subst, Bool, true, false, ℕ, zero, suc, ◌+◌, ◌<◌, ◌≤◌, List, [], ◌∷◌, ◌++◌, length, map, take, drop, get_or, set, arith}
-use Rattle.std.specs.Prelude.{not, Some, None, sum, slice_get}
+use Rattle.std.proofs.Common.{◌≡◌, ◌⊎◌, inl, inr, ◌∙◌, refl, sym, ap, subst, ℕ, zero, suc, ◌<◌, ◌≤◌, List, [], ◌∷◌, ◌++◌, length, map, take, drop, get_or, set, arith}
+use Rattle.std.specs.Prelude.{Some, None, slice_get}
 use Rattle.std.specs.List.{All, insert}
-use Rattle.std.specs.List.Sorted.{IsPartitionPoint, IsPartitionedBy}
-use Rattle.std.proofs.lemmas.List.{append_assoc, length-map, length-append}
-use Rattle.std.proofs.lemmas.List.Sums.{sum-map, sum_by-cons}
-use Rattle.tsc_span.specs.Span.{Cut, before, after, last, is_below}
+use Rattle.std.proofs.lemmas.List.{append_assoc}
+use Rattle.tsc_span.specs.Span.{Cut, before, after, last}
 use Rattle.tsc_nodes.specs.PageView.{AreLeafSizes}
 use Rattle.tsc_nodes.specs.Nodes.{Node, IsSorted}
 use Rattle.tsc_page.specs.Leaves.{nodes_of, AreSome, start_of, IsLeafAt}

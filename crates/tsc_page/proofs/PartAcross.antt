@@ -1,5 +1,5 @@
 -- A value raised over several parts, of which the first and the last are looked into.
-use Rattle.std.proofs.Common.{◌≡◌, ◌⊎◌, inl, inr, ◌∙◌, refl, sym, ap, subst, Bool, true, false, cond, ℕ, zero, suc, ◌+◌, ◌<◌, ◌≤◌, List, [], ◌∷◌, ◌++◌, length, map, take, drop, get_or, append-nil, arith}
+use Rattle.std.proofs.Common.{◌≡◌, ◌⊎◌, inl, inr, ◌∙◌, refl, sym, ap, subst, Bool, true, false, cond, ℕ, zero, suc, ◌<◌, ◌≤◌, List, [], ◌∷◌, ◌++◌, length, map, take, drop, get_or, append-nil, arith}
 use Rattle.std.proofs.Math.Bool.{or-true}
 use Rattle.std.proofs.lemmas.List.{append_assoc}
 use Rattle.std.specs.Prelude.{Option, Some, None}
@@ -17,7 +17,7 @@ use Rattle.tsc_nodes.proofs.Costs.{cost-raised}
 use Rattle.tsc_nodes.proofs.Cuts.{lowest}
 use Rattle.tsc_nodes.proofs.Places.{before_or_past}
 use Rattle.tsc_nodes.proofs.Edits.{raise_nodes-start, raise_nodes-length}
-use Rattle.tsc_page.proofs.Joins.{sorted_left, sorted_right, below_next, up_to_last, raises_left, raises_right, raises_both}
+use Rattle.tsc_page.proofs.Joins.{sorted_right, below_next, raises_left, raises_right, raises_both}
 use Rattle.tsc_page.proofs.LeafLists.{parted_at, leaf_first, sorted_from, start_at, start_past, some_nodes}
 use Rattle.tsc_page.proofs.LeafAdds.{known_high}
 use Rattle.tsc_page.proofs.LeafKeys.{is_in-append, known_within}

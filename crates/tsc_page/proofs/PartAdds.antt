@@ -1,5 +1,5 @@
 -- An Add in one of several parts, beyond which the span doesn't go on.
-use Rattle.std.proofs.Common.{◌≡◌, ◌⊎◌, ◌∙◌, refl, sym, ap, subst, Bool, true, false, cond, ℕ, suc, ◌<◌, ◌≤◌, List, [], ◌++◌, length, map, take, drop, get_or, set, arith}
+use Rattle.std.proofs.Common.{◌≡◌, ◌⊎◌, ◌∙◌, refl, sym, ap, subst, Bool, true, false, cond, ℕ, suc, ◌<◌, List, [], ◌++◌, length, map, take, drop, get_or, set, arith}
 use Rattle.std.specs.Prelude.{Option, Some, None, Result, Ok, Err, not}
 use Rattle.std.proofs.lemmas.List.{length-map, length-append, map-set}
 use Rattle.tsc_span.specs.Span.{KeyBytes, between, is_below}
@@ -10,7 +10,7 @@ use Rattle.tsc_page.specs.Pending.{sizes_of, Addend, before_second, IsAddTold}
 use Rattle.tsc_nodes.proofs.CutOrder.{Lt, Le}
 use Rattle.tsc_nodes.proofs.Costs.{cost-append}
 use Rattle.tsc_page.proofs.Joins.{up_to_last}
-use Rattle.tsc_page.proofs.LeafLists.{parted_at, leaf_first, leaf_set, leaf_sorted, sorted_from, starts_low, ends_high, part_read}
+use Rattle.tsc_page.proofs.LeafLists.{parted_at, leaf_first, leaf_set, sorted_from, starts_low, ends_high, part_read}
 use Rattle.tsc_page.proofs.LeafAdds.{adds_left, adds_right, all_below, told_below}
 use Rattle.tsc_page.proofs.PartLoops.{same_by}
 

@@ -1,5 +1,5 @@
 -- A value ratcheted into all nodes, at once or still pending.
-use Rattle.std.proofs.Common.{◌≡◌, ◌⊎◌, inl, inr, ◌∙◌, refl, sym, ap, subst, Bool, true, false, cond, ℕ, zero, suc, ◌<◌, ◌≤◌, List, [], ◌∷◌, ◌++◌, length, map, get_or, arith}
+use Rattle.std.proofs.Common.{◌≡◌, inl, ◌∙◌, refl, sym, ap, subst, Bool, true, false, cond, ℕ, suc, ◌<◌, List, [], ◌∷◌, ◌++◌, length, map, get_or, arith}
 use Rattle.std.specs.Prelude.{Option, Some, None}
 use Rattle.std.proofs.lemmas.List.{map-append}
 use Rattle.tsc_time.specs.Time.{zero_time}
@@ -11,7 +11,7 @@ use Rattle.tsc_nodes.specs.PageView.{is_in}
 use Rattle.tsc_nodes.specs.Nodes.{Node, node_keys, node_stretches, IsSorted, answer_of, raise_nodes}
 use Rattle.tsc_page.specs.Leaves.{nodes_of, start_of}
 use Rattle.tsc_page.specs.Pending.{everything, with_pending, merged, seen_with}
-use Rattle.tsc_nodes.proofs.CutOrder.{Lt, Le, Lt-not_Le, Le-from_Lt, Le-itself, Lt-chain, Le-chain, Le_Lt-chain, before-after, below_last, none_above_last, overlaps-from}
+use Rattle.tsc_nodes.proofs.CutOrder.{Lt, Le, Lt-not_Le, Le-from_Lt, Le-itself, Lt-chain, Le_Lt-chain, before-after, below_last, none_above_last, overlaps-from}
 use Rattle.tsc_nodes.proofs.Cuts.{lowest, raise_nodes_answers}
 use Rattle.tsc_nodes.proofs.Edits.{raise_nodes-keys, raise_nodes-start, raise_nodes-length, raise_nodes-sorted}
 use Rattle.tsc_nodes.proofs.Answers.{Meets}

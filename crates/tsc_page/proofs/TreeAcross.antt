@@ -1,30 +1,26 @@
 -- Parts of two lists, of which a span starts in one and stops in the other.
-use Rattle.std.proofs.Common.{◌≡◌, ◌⊎◌, inl, inr, ◌∙◌, refl, sym, ap, subst, Bool, true, false, cond, ℕ, zero, suc, ◌+◌, ◌<◌, ◌≤◌, List, [], ◌∷◌, ◌++◌, length, map, take, drop, get_or, set, arith}
+use Rattle.std.proofs.Common.{◌≡◌, inl, inr, ◌∙◌, sym, ap, subst, Bool, true, false, cond, ℕ, suc, ◌<◌, List, [], ◌∷◌, length, drop, get_or, arith}
 use mathlib.Core.Bool.{true≢false}
 use Rattle.std.specs.Prelude.{Option, Some, None}
-use Rattle.std.specs.List.{All}
-use Rattle.std.proofs.lemmas.List.{append_assoc, length-append, length-map, map-append, map-set}
 use Rattle.tsc_time.specs.OwnedTime.{OwnedTime}
 use Rattle.tsc_time.specs.Joint.{joint}
 use Rattle.tsc_span.specs.Span.{KeyBytes, Cut, before, last, between, is_below}
-use Rattle.tsc_nodes.specs.Nodes.{Node, IsSorted, raise_nodes, node_keys}
+use Rattle.tsc_nodes.specs.Nodes.{Node, IsSorted, raise_nodes}
 use Rattle.tsc_nodes.specs.Numbers.{IsCutNumber}
-use Rattle.tsc_nodes.specs.PageView.{is_in}
-use Rattle.tsc_page.specs.Leaves.{nodes_of, start_of, AreSome, IsLeafAt}
+use Rattle.tsc_page.specs.Leaves.{nodes_of, start_of, AreSome}
 use Rattle.tsc_page.specs.Pending.{with_pending, all_joint, IsToldOf, Addend}
-use Rattle.tsc_page.specs.Across.{HasKey, AreRaisedAcross, IsAcrossTold, IsLastReached}
+use Rattle.tsc_page.specs.Across.{HasKey, IsAcrossTold}
 use Rattle.tsc_nodes.proofs.CutOrder.{Lt, Le, Lt-not_Le, Le_Lt-chain, none_above_last}
 use Rattle.tsc_nodes.proofs.Cuts.{lowest}
 use Rattle.tsc_nodes.proofs.Edits.{raise_nodes-start, raise_nodes-length}
 use Rattle.std.proofs.lemmas.Bool.{cases_Bool}
 use Rattle.tsc_page.proofs.Joins.{up_to_last}
-use Rattle.tsc_page.proofs.LeafLists.{starts_low, ends_high, starts_rise, start_at, start_past}
+use Rattle.tsc_page.proofs.LeafLists.{starts_rise, start_at, start_past}
 use Rattle.tsc_nodes.proofs.Places.{before_or_past}
 use Rattle.tsc_page.proofs.Pending.{raise_pending, pending-start, pending-is_in}
 use Rattle.tsc_page.proofs.AllJoint.{all_joint_kept, starts_below_last}
 use Rattle.tsc_page.proofs.Told.{told_some}
 use Rattle.tsc_page.proofs.PartAcross.{told_reached}
-use Rattle.tsc_page.proofs.PartLists.{nodes_of_both}
 
 -- what is told of nodes that are raised below what is pending
 pub told_raised_below : (n : ℕ) (all v : OwnedTime) (p : Option OwnedTime) (f t : Cut) (ns : List Node) (b : Bool) → IsSorted (with_pending p ns) → Lt f t → b ≡ is_below (start_of (raise_nodes (between f t) v ns)) t → IsToldOf n all p ns

@@ -1,6 +1,6 @@
 -- The list of parts at the top of a tree.
-use Rattle.std.proofs.Common.{◌≡◌, ◌∙◌, refl, sym, ap, subst, true, false, ℕ, ◌+◌, ◌≤◌, List, [], ◌∷◌, ◌++◌, length, map, Vec, Global, arith}
-use Rattle.std.specs.Prelude.{Option, Some, None, not}
+use Rattle.std.proofs.Common.{◌≡◌, ◌∙◌, sym, ap, subst, false, ℕ, ◌+◌, List, [], ◌∷◌, length, map, Vec, Global, arith}
+use Rattle.std.specs.Prelude.{Some, None, not}
 use Rattle.std.specs.List.{All, AllZip}
 use Rattle.std.specs.Vec.{with_items}
 use Rattle.std.proofs.lemmas.List.{with_items_is}
@@ -10,7 +10,7 @@ use Rattle.tsc_nodes.specs.declared.nodes.Grown.{Grown}
 use Rattle.tsc_nodes.specs.Nodes.{Node, IsSorted, IsInOrder, IsSplitAt, node_keys, nodes_cost}
 use Rattle.tsc_page.specs.Leaves.{nodes_of, AreParts}
 use Rattle.tsc_page.specs.Pending.{sizes_of, AreSizesOf, Addend, AddsSome}
-use Rattle.tsc_page.specs.Trees.{Top, IsForkCopy, top_nodes, top_sizes, IsWholeTop, IsWholeLeaf, IsWholeFork, fork_nodes, fork_sizes, leaf_nodes, leaf_sizes, fork_copied, IsCounted, tree_nodes, tree_sizes}
+use Rattle.tsc_page.specs.Trees.{Top, IsForkCopy, top_nodes, top_sizes, IsWholeTop, IsWholeLeaf, IsWholeFork, fork_nodes, fork_sizes, leaf_nodes, leaf_sizes, fork_copied, IsCounted, tree_nodes}
 use Rattle.tsc_page.specs.declared.tree.Tree.{Tree}
 use Rattle.tsc_nodes.proofs.NewKeys.{with_new_splits}
 use Rattle.tsc_page.proofs.PartSizes.{sizes_of_parts}

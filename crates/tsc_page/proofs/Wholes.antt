@@ -1,10 +1,9 @@
 -- When a leaf and a fork are whole.
-use Rattle.std.proofs.Common.{◌≡◌, ◌∙◌, refl, sym, ap, subst, ℕ, ◌+◌, ◌-◌, ◌≤◌, List, [], ◌∷◌, length, map, arith}
+use Rattle.std.proofs.Common.{◌≡◌, ◌∙◌, refl, sym, ap, subst, ℕ, ◌+◌, ◌≤◌, List, [], ◌∷◌, length, map, arith}
 use Rattle.std.specs.Prelude.{Option, Some, None, Result, Ok, Err, OnErr, slice_get}
 use Rattle.tsc_nodes.specs.PageView.{AreLeafSizes}
 use Rattle.std.specs.Result.{IfOk, result_ok}
 use Rattle.std.specs.Option.{IfSome}
-use Rattle.std.specs.List.{All}
 use Rattle.tsc_time.specs.OwnedTime.{OwnedTime}
 use Rattle.tsc_span.specs.Span.{between}
 use Rattle.tsc_nodes.specs.declared.nodes.Grown.{Grown}

@@ -1,13 +1,13 @@
 -- A value that is held back above nodes, and the joint value of all of them.
-use Rattle.std.specs.Prelude.{◌≡◌, List, [], ◌∷◌, ◌++◌, ℕ, ◌≤◌, ◌+◌, length, Bool, Option, Some, None, Result, Ok, Err, slice_get, sum, map, if◌then◌else◌}
+use Rattle.std.specs.Prelude.{◌≡◌, List, [], ◌∷◌, ◌++◌, ℕ, ◌≤◌, ◌+◌, length, Bool, Option, Some, None, Result, Ok, Err, slice_get, sum, if◌then◌else◌}
 use Rattle.tsc_time.specs.OwnedTime.{OwnedTime}
 use Rattle.tsc_time.specs.Joint.{joint}
 use Rattle.tsc_span.specs.Span.{KeyBytes, Cut, before, last, Interval, between}
 use Rattle.tsc_nodes.specs.PageView.{AreLeafSizes}
 use Rattle.tsc_nodes.specs.Numbers.{IsCutNumber}
-use Rattle.tsc_nodes.specs.Nodes.{Node, IsSorted, AddsNodes, GrowsBy, answer_of, raise_nodes}
+use Rattle.tsc_nodes.specs.Nodes.{Node, AddsNodes, GrowsBy, answer_of, raise_nodes}
 use Rattle.tsc_nodes.specs.declared.nodes.Grown.{Grown}
-use Rattle.tsc_page.specs.Leaves.{nodes_of, start_of, HasNode}
+use Rattle.tsc_page.specs.Leaves.{start_of}
 
 -- all keys and gaps
 abbrev pub everything : Interval

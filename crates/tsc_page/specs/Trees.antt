@@ -4,7 +4,7 @@ use Rattle.std.proofs.Common.{◌∙◌, sym, ap, subst}
 use Rattle.std.specs.Arc.{arc_value}
 use Rattle.std.specs.List.{All}
 use Rattle.std.specs.declared.vec.Vec.{Vec}
-use Rattle.tsc_nodes.specs.Nodes.{Node, IsSorted, nodes_cost}
+use Rattle.tsc_nodes.specs.Nodes.{Node, nodes_cost}
 use Rattle.tsc_page.specs.Leaves.{nodes_of, IsLeaf, AreParts}
 use Rattle.tsc_page.specs.Pending.{with_pending, IsToldOf, sizes_of, AreSizesOf}
 use Rattle.tsc_page.specs.Copies.{IsSameAs}

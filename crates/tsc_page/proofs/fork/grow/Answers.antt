@@ -1,5 +1,5 @@
 -- Of 65 parts the first 32 stay, and 33 come off.
-use Rattle.std.proofs.Common.{◌≡◌, ◌∙◌, ap, sym, subst, List, ◌++◌, map, take, drop, arith}
+use Rattle.std.proofs.Common.{◌∙◌, ap, sym, subst, List, ◌++◌, map, take, arith}
 use Rattle.std.proofs.lemmas.List.{length-take-le, length-drop}
 use Rattle.tsc_span.specs.Span.{KeyBytes}
 use Rattle.tsc_nodes.specs.Nodes.{Node}

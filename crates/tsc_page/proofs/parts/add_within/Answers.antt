@@ -4,7 +4,7 @@ use Rattle.std.proofs.lemmas.List.{length-map}
 use Rattle.tsc_span.specs.Span.{Cut, is_below}
 use Rattle.tsc_nodes.specs.Nodes.{Node, IsSorted}
 use Rattle.tsc_page.specs.Leaves.{nodes_of, start_of, IsLeafAt}
-use Rattle.tsc_page.specs.Pending.{Addend, before_second, IsAddTold}
+use Rattle.tsc_page.specs.Pending.{Addend, IsAddTold}
 use Rattle.tsc_nodes.proofs.CutOrder.{Le}
 use Rattle.tsc_page.proofs.LeafLists.{all_some, leaf_sorted, part_read}
 use Rattle.tsc_page.proofs.PartAdds.{IsAddend, not_true, not_false, told_in_part, told_before_next}

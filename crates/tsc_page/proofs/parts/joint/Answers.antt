@@ -1,5 +1,5 @@
 -- The joint value of one part after another.
-use Rattle.std.proofs.Common.{sym, subst, ◌+◌, List, ◌∷◌, [], map, drop}
+use Rattle.std.proofs.Common.{sym, subst, ◌+◌, List, map, drop}
 use Rattle.tsc_time.specs.OwnedTime.{OwnedTime}
 use Rattle.tsc_nodes.specs.Nodes.{Node}
 use Rattle.tsc_page.specs.Leaves.{nodes_of}

@@ -1,4 +1,4 @@
-use Rattle.std.proofs.Common.{◌-◌, ◌≤◌, length, map}
+use Rattle.std.proofs.Common.{◌-◌, map}
 use Rattle.tsc_page.proofs.PartLoops.{IsLeafWithin}
 use Rattle.tsc_page.proofs.parts.part_at.Given as goal
 

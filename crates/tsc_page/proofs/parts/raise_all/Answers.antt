@@ -1,5 +1,5 @@
 -- One part after another is raised.
-use Rattle.std.proofs.Common.{◌∙◌, ◌<◌, ◌≤◌, length, arith}
+use Rattle.std.proofs.Common.{◌∙◌, ◌<◌, length, arith}
 use Rattle.tsc_page.proofs.LeafLists.{all_set}
 use Rattle.tsc_page.proofs.PartLoops.{next_sorted, one_raised, all_raised, same_by}
 use Rattle.tsc_page.proofs.parts.raise_all.Goals as goal

@@ -1,14 +1,12 @@
 -- The first part reached and the last one are raised by themselves, and those between as a whole.
-use Rattle.std.proofs.Common.{◌≡◌, ◌∙◌, ◌+◌, ◌-◌, ◌<◌, ◌≤◌, refl, sym, ap, subst, Bool, true, false, ℕ, suc, List, ◌++◌, map, drop, set, length, arith}
+use Rattle.std.proofs.Common.{◌≡◌, ◌∙◌, ◌+◌, ◌<◌, ◌≤◌, refl, sym, ap, subst, Bool, ℕ, suc, List, ◌++◌, map, drop, set, length, arith}
 use Rattle.std.specs.Prelude.{not}
-use Rattle.std.specs.List.{All}
 use Rattle.std.proofs.lemmas.List.{length-map, length-append}
-use Rattle.tsc_time.specs.OwnedTime.{OwnedTime}
 use Rattle.tsc_span.specs.Span.{Cut, is_below}
 use Rattle.tsc_nodes.specs.Nodes.{Node, raise_nodes}
 use Rattle.tsc_page.specs.Leaves.{nodes_of, start_of, AreSome, AreParts, IsLeafAt}
 use Rattle.tsc_page.specs.Pending.{everything, Addend, AddsSome, nothing_grown}
-use Rattle.tsc_page.specs.Across.{AreRaisedAcross, IsLastReached}
+use Rattle.tsc_page.specs.Across.{IsLastReached}
 use Rattle.tsc_page.proofs.LeafLists.{all_some}
 use Rattle.tsc_page.proofs.PartAdds.{IsAddend}
 use Rattle.tsc_page.proofs.TreeAcross.{later_reached}

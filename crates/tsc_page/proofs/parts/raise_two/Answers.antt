@@ -1,18 +1,16 @@
 -- The first list is raised from the part of the lower cut on, and the second up to that of the upper one.
-use Rattle.std.proofs.Common.{◌≡◌, ◌∙◌, ◌+◌, ◌-◌, ◌<◌, ◌≤◌, refl, sym, ap, subst, Bool, true, false, ℕ, suc, List, ◌++◌, map, drop, set, length, arith}
+use Rattle.std.proofs.Common.{◌≡◌, ◌∙◌, ◌≤◌, refl, sym, ap, subst, Bool, true, ℕ, suc, List, ◌++◌, map, drop, set, length, arith}
 use Rattle.std.specs.Prelude.{not}
-use Rattle.std.specs.List.{All}
 use Rattle.std.proofs.lemmas.List.{length-map, length-append}
-use Rattle.tsc_time.specs.OwnedTime.{OwnedTime}
 use Rattle.tsc_span.specs.Span.{Cut, is_below}
-use Rattle.tsc_nodes.specs.Nodes.{Node, raise_nodes}
+use Rattle.tsc_nodes.specs.Nodes.{raise_nodes}
 use Rattle.tsc_page.specs.Leaves.{nodes_of, start_of, AreSome, AreParts, IsLeafAt}
-use Rattle.tsc_page.specs.Pending.{everything, Addend, AddsSome}
+use Rattle.tsc_page.specs.Pending.{everything, Addend}
 use Rattle.tsc_page.specs.Across.{AreRaisedAcross, IsLastReached}
 use Rattle.tsc_page.proofs.LeafLists.{all_some}
 use Rattle.tsc_page.proofs.PartAdds.{IsAddend}
 use Rattle.tsc_page.proofs.LeafLists.{all_set}
-use Rattle.tsc_page.proofs.OverParts.{stays_low, stays_high, raises_two, stops_two, sizes_low, sizes_high, all_two, parts_first, parts_second, part_sorted}
+use Rattle.tsc_page.proofs.OverParts.{stays_low, stays_high, raises_two, stops_two, sizes_low, all_two, parts_first, parts_second, part_sorted}
 use Rattle.tsc_page.proofs.parts.raise_two.Goals as goal
 
 pub raise_ends-requires-clause-sorted_low : goal.raise_ends-requires-clause-sorted_low

@@ -1,9 +1,8 @@
 -- The new keys fit in the nodes, and as many come in.
-use Rattle.std.proofs.Common.{◌≡◌, ◌∙◌, ap, sym, subst, ◌+◌, List, length, arith}
-use Rattle.std.specs.Prelude.{Option, option_map}
-use Rattle.tsc_span.specs.Span.{KeyBytes}
+use Rattle.std.proofs.Common.{◌∙◌, ap, sym, subst, ◌+◌, List, length, arith}
+use Rattle.std.specs.Prelude.{option_map}
 use Rattle.tsc_span.specs.Span.{between}
-use Rattle.tsc_nodes.specs.Nodes.{Node, paired, IsSorted, FitsIn, with_new, nodes_cost, raise_nodes}
+use Rattle.tsc_nodes.specs.Nodes.{Node, paired, IsSorted, FitsIn, with_new, nodes_cost}
 use Rattle.tsc_nodes.proofs.Apart.{kept_pair}
 use Rattle.tsc_nodes.proofs.Edits.{raise_nodes-length}
 use Rattle.tsc_nodes.proofs.Costs.{cost-raised, cost-made}

@@ -1,7 +1,7 @@
 -- Lists with the same keys cost the same.
 use Rattle.std.proofs.Common.{◌∙◌, ap}
 use Rattle.tsc_nodes.specs.Page.{marked_keys, cost_distinct}
-use Rattle.tsc_nodes.specs.PageView.{PageView, bytes_of}
+use Rattle.tsc_nodes.specs.PageView.{bytes_of}
 use Rattle.tsc_nodes.proofs.Standing.{same_bytes}
 use Rattle.tsc_nodes.proofs.plain.PlainPage.bytes.Goals as goal
 

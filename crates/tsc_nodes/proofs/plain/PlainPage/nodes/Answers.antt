@@ -1,6 +1,6 @@
 -- Lists with the same keys have as many different ones, each of which costs 32 bytes at the least.
-use Rattle.std.proofs.Common.{◌≡◌, ◌≤◌, ◌∙◌, ap, arith}
-use Rattle.tsc_nodes.specs.Page.{marked_keys, count_distinct, cost_distinct}
+use Rattle.std.proofs.Common.{◌∙◌, ap, arith}
+use Rattle.tsc_nodes.specs.Page.{marked_keys, count_distinct}
 use Rattle.tsc_nodes.specs.PageView.{PageView}
 use Rattle.tsc_nodes.proofs.DistinctKeys.{count-costs}
 use Rattle.tsc_nodes.proofs.Standing.{same_count}

@@ -1,5 +1,5 @@
 -- The parts are asked, whatever is pending.
-use Rattle.std.proofs.Common.{◌≡◌, ◌∙◌, ap, sym, subst, map, List}
+use Rattle.std.proofs.Common.{◌∙◌, ap, sym, subst, map, List}
 use Rattle.std.specs.Prelude.{not}
 use Rattle.std.specs.Arc.{arc_value}
 use Rattle.tsc_nodes.specs.PageView.{is_in}

@@ -1,5 +1,5 @@
 -- The parts of both forks are raised below what is pending.
-use Rattle.std.proofs.Common.{◌≡◌, ◌∙◌, ◌∷◌, [], sym, ap, subst, cond, true, map, ℕ, ◌≤◌, List, length, arith}
+use Rattle.std.proofs.Common.{◌≡◌, ◌∙◌, ◌∷◌, [], sym, ap, subst, cond, map, ℕ, ◌≤◌, List, length, arith}
 use Rattle.std.specs.Prelude.{Option}
 use Rattle.std.specs.Arc.{arc_value}
 use Rattle.std.specs.Vec.{with_items}

@@ -1,11 +1,11 @@
 -- An Add to the nodes leaves a leaf, and is heeded.
-use Rattle.std.proofs.Common.{◌≡◌, ◌∙◌, ◌-◌, ◌∷◌, [], sym, ap, subst, ℕ, Bool, List, length, arith, refl}
+use Rattle.std.proofs.Common.{◌≡◌, ◌∙◌, ◌-◌, ◌∷◌, [], sym, ap, subst, Bool, List, length, arith}
 use Rattle.std.specs.Prelude.{None}
 use Rattle.std.specs.Arc.{arc_value}
-use Rattle.tsc_span.specs.Span.{Cut, is_below}
+use Rattle.tsc_span.specs.Span.{is_below}
 use Rattle.tsc_nodes.specs.Nodes.{Node, IsSorted, IsInOrder}
 use Rattle.tsc_page.specs.Leaves.{IsLeaf, start_of}
-use Rattle.tsc_page.specs.Pending.{with_pending, IsToldOf, Addend, IsAddTold, joint_after}
+use Rattle.tsc_page.specs.Pending.{with_pending, Addend, IsAddTold, joint_after}
 use Rattle.tsc_nodes.proofs.CutOrder.{Lt}
 use Rattle.tsc_page.proofs.Pending.{sorted_without, pending-length}
 use Rattle.tsc_page.proofs.Told.{told_pushed, told_added}

@@ -1,5 +1,5 @@
 -- A key is new where the nodes have a place for it.
-use Rattle.std.proofs.Common.{◌≡◌, ◌∙◌, ap, sym, subst, List}
+use Rattle.std.proofs.Common.{◌∙◌, ap, sym, subst, List}
 use Rattle.std.specs.Prelude.{not}
 use Rattle.std.specs.Arc.{arc_value}
 use Rattle.tsc_nodes.specs.PageView.{is_in}

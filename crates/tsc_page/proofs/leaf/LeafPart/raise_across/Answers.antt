@@ -1,5 +1,5 @@
 -- Both leaves are raised below what is pending.
-use Rattle.std.proofs.Common.{◌≡◌, ◌∙◌, ◌∷◌, [], sym, ap, subst, true, List, length, arith}
+use Rattle.std.proofs.Common.{◌∙◌, ◌∷◌, [], sym, ap, subst, true, List, arith}
 use Rattle.std.specs.Prelude.{Option, option_map}
 use Rattle.std.specs.Arc.{arc_value}
 use Rattle.tsc_time.specs.OwnedTime.{OwnedTime}

@@ -1,10 +1,10 @@
 -- A raise commutes with what is pending.
-use Rattle.std.proofs.Common.{◌≡◌, ◌∙◌, inl, inr, sym, ap, subst, Bool, List, length, arith, rules}
+use Rattle.std.proofs.Common.{◌≡◌, ◌∙◌, inl, inr, sym, ap, subst, List, arith, rules}
 use Rattle.std.specs.Prelude.{Option}
 use Rattle.std.specs.Arc.{arc_value}
 use Rattle.tsc_time.specs.OwnedTime.{OwnedTime}
 use Rattle.tsc_span.specs.Cuts.{cut_of}
-use Rattle.tsc_span.specs.Span.{Cut, Interval, between, is_below}
+use Rattle.tsc_span.specs.Span.{Cut, between, is_below}
 use Rattle.tsc_nodes.specs.Nodes.{Node, IsSorted, raise_nodes}
 use Rattle.tsc_nodes.proofs.Edits.{raise_nodes-length}
 use Rattle.tsc_page.specs.Leaves.{start_of}

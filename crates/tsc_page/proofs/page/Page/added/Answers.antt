@@ -5,7 +5,7 @@ use Rattle.std.specs.Ordering.{ord_max}
 use Rattle.std.proofs.lemmas.Bool.{le-leb}
 use Rattle.tsc_time.specs.Time.{Time, time_cmp}
 use Rattle.tsc_time.specs.Joint.{joint}
-use Rattle.tsc_span.specs.Span.{KeyBytes, Cut, Interval, between, overlaps, end_keys, key_cost}
+use Rattle.tsc_span.specs.Span.{Cut, Interval, between, overlaps, end_keys, key_cost}
 use Rattle.tsc_span.specs.Cuts.{cut_of}
 use Rattle.tsc_nodes.specs.Page.{with_mark, cost_distinct}
 use Rattle.tsc_nodes.specs.PageView.{PageView, StandsFor, NoAnswerAboveTop, answer, is_in, has_room_for}

@@ -1,5 +1,5 @@
 -- What the parts tell of an Add holds of the tree.
-use Rattle.std.proofs.Common.{◌≡◌, ◌∙◌, ◌-◌, ap, sym, subst, map, List, length, arith}
+use Rattle.std.proofs.Common.{◌∙◌, ◌-◌, ap, sym, subst, map, List, length, arith}
 use Rattle.std.specs.Prelude.{option_map}
 use Rattle.std.proofs.lemmas.List.{with_items_is}
 use Rattle.tsc_time.specs.declared.memory.NoMemory.{NoMemory}

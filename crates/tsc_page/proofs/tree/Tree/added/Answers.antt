@@ -1,5 +1,5 @@
 -- There is room for what the span's keys cost with those of the nodes, without repeats.
-use Rattle.std.proofs.Common.{◌≡◌, ◌∙◌, ap, sym, subst, ◌+◌, ◌++◌, List, length, map, arith}
+use Rattle.std.proofs.Common.{◌∙◌, ap, sym, subst, ◌++◌, List, length, map, arith}
 use Rattle.std.specs.Prelude.{Option, option_map}
 use Rattle.std.specs.Option.{option_to_list}
 use Rattle.std.proofs.lemmas.Bool.{leb-true, leb-false}

@@ -1,5 +1,4 @@
 -- Where there is room for both keys, there is for the new ones.
-use Rattle.std.proofs.Common.{◌∙◌, sym, ap}
 use Rattle.std.specs.Prelude.{option_map}
 use Rattle.tsc_nodes.specs.Nodes.{node_keys}
 use Rattle.tsc_page.specs.Trees.{tree_nodes}
