@@ -15,7 +15,7 @@ const OWNER: u128 = 7;
 const COST: u32 = 36;
 
 /// How many spans a plain page gets, which compares each end key with all others to see whether there is room.
-const SOME: u32 = 64;
+const SOME: u32 = 32;
 
 /// A span by the numbers of its end keys. A page is filled with the keys of the numbers 4, 8, 12, ..: those between are new.
 #[derive(Clone, Copy)]
@@ -261,18 +261,18 @@ static MANY_LEAVES: [Row; 4] = [
             Step::Many(2627, 65),
         ],
     ),
-    // 127 leaves in lists of 32, 32 and 63: a value over all, and then new keys in the middle list
+    // 99 leaves in lists of 32, 32 and 35: a value over all, and then new keys in the middle list
     (
         Order::Rising,
-        4096,
+        3200,
         40,
         &[
-            Step::Many(4096, 127),
-            Step::Add(Over::Through(4, 16_384), 70),
+            Step::Many(3200, 99),
+            Step::Add(Over::Through(4, 12_800), 70),
             Step::Add(Over::Key(6000), 65),
             Step::Add(Over::Key(6001), 60),
             Step::Each(5894, 6020, 75),
-            Step::Many(4129, 128),
+            Step::Many(3233, 100),
             Step::Add(Over::Key(3), 60),
             Step::Add(Over::Through(4100, 8192), 80),
         ],
@@ -346,18 +346,18 @@ static COPIES: [CopyRow; 4] = [
     // several lists of leaves, of which the copy changes the middle one
     (
         Order::Rising,
-        4096,
+        3200,
         40,
         &[Step::Add(Over::From(4), 70)],
         &[
             Step::Add(Over::Key(6000), 90),
             Step::Add(Over::Key(6001), 60),
-            Step::Add(Over::Through(4, 16_384), 80),
+            Step::Add(Over::Through(4, 12_800), 80),
         ],
         &[
             Step::Add(Over::Key(6002), 60),
-            Step::Add(Over::Through(8, 16_380), 75),
-            Step::Many(4097, 127),
+            Step::Add(Over::Through(8, 12_796), 75),
+            Step::Many(3201, 99),
         ],
     ),
 ];
@@ -430,7 +430,7 @@ fn fill_some(
 /// Fills a page with so many keys, and as many plain pages as that takes.
 fn fill(alloc: Global, page: &mut Page, order: Order, count: u32) -> Result<Vec<PlainPage>, Fail> {
     let mut plain = Vec::new(alloc);
-    for first in (0..count).step_by(64) {
+    for first in (0..count).step_by(32) {
         plain.push(fill_some(alloc, page, order, first, count)?)?;
     }
     Ok(plain)
