@@ -455,7 +455,7 @@ fn alike_from(
     Ok(alike)
 }
 
-/// Whether a page answers as plain pages do together, from each third number on where the nodes are few, and else from some.
+/// Whether a page answers as plain pages do together, from numbers all over the page on.
 fn answers_alike(
     alloc: Global,
     page: &Page,
@@ -463,10 +463,37 @@ fn answers_alike(
     last: &PlainPage,
 ) -> Result<bool, Fail> {
     let count = page.nodes().min(100_000);
-    let stride = if count < 200 { 3 } else { 389 };
+    let stride = if count < 200 { 13 } else { 1171 };
     let mut alike = true;
     for at in (0..count * 4 + 8).step_by(stride) {
         alike &= alike_from(alloc, page, plain, last, at)?;
+    }
+    Ok(alike)
+}
+
+/// The numbers of the end keys of what a step adds to, where both can be the same.
+fn ends_of(step: Step) -> [u32; 2] {
+    match step {
+        Step::Add(Over::Key(at) | Over::From(at), _) => [at, at],
+        Step::Add(Over::UpTo(from, to) | Over::Through(from, to), _) => [from, to],
+        Step::Each(from, to, _) => [from, to],
+        Step::Refused(_) | Step::Leaves(_) | Step::Many(_, _) => [0, 0],
+    }
+}
+
+/// Whether it does so from the numbers beside those on, and from these.
+fn alike_at_ends(
+    alloc: Global,
+    page: &Page,
+    plain: &[PlainPage],
+    last: &PlainPage,
+    ends: [u32; 2],
+) -> Result<bool, Fail> {
+    let mut alike = true;
+    for end in &ends {
+        for at in end.saturating_sub(1)..end.saturating_add(2) {
+            alike &= alike_from(alloc, page, plain, last, at)?;
+        }
     }
     Ok(alike)
 }
@@ -547,7 +574,11 @@ fn take_alike(
     step: Step,
 ) -> Result<bool, Fail> {
     let shown = take(alloc, page, last, step)?;
-    Ok(shown && (only_looks(step) || answers_alike(alloc, page, plain, last)?))
+    if !shown || only_looks(step) {
+        return Ok(shown);
+    }
+    let alike = answers_alike(alloc, page, plain, last)?;
+    Ok(alike && alike_at_ends(alloc, page, plain, last, ends_of(step))?)
 }
 
 /// The first of some steps, from 0, after which the page doesn't show what it tells, or doesn't answer as the plain pages do.
