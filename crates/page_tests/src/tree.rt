@@ -290,7 +290,7 @@ type CopyRow = (
     &'static [Step],
 );
 
-static COPIES: [CopyRow; 4] = [
+static COPIES: [CopyRow; 3] = [
     // each changes a leaf of its own, and each the same one
     (
         Order::Rising,
@@ -343,24 +343,25 @@ static COPIES: [CopyRow; 4] = [
             Step::Add(Over::UpTo(4, 388), 85),
         ],
     ),
-    // several lists of leaves, of which the copy changes the middle one
-    (
-        Order::Rising,
-        3200,
-        40,
-        &[Step::Add(Over::From(4), 70)],
-        &[
-            Step::Add(Over::Key(6000), 90),
-            Step::Add(Over::Key(6001), 60),
-            Step::Add(Over::Through(4, 12_800), 80),
-        ],
-        &[
-            Step::Add(Over::Key(6002), 60),
-            Step::Add(Over::Through(8, 12_796), 75),
-            Step::Many(3201, 99),
-        ],
-    ),
 ];
+
+/// Several lists of leaves, of which the copy changes the middle one.
+static COPIES_OF_MANY: [CopyRow; 1] = [(
+    Order::Rising,
+    3200,
+    40,
+    &[Step::Add(Over::From(4), 70)],
+    &[
+        Step::Add(Over::Key(6000), 90),
+        Step::Add(Over::Key(6001), 60),
+        Step::Add(Over::Through(4, 12_800), 80),
+    ],
+    &[
+        Step::Add(Over::Key(6002), 60),
+        Step::Add(Over::Through(8, 12_796), 75),
+        Step::Many(3201, 99),
+    ],
+)];
 
 /// Adds of known keys, and whether each lies in one leaf.
 static KNOWN: [(Over, bool); 6] = [
@@ -671,6 +672,12 @@ fn wrong_copy(alloc: Global, rows: &[CopyRow]) -> Result<Option<usize>, Fail> {
 #[test]
 fn copies_go_their_own_ways(rt: HostRuntime) -> Result<(), Fail> {
     assert_eq!(rt; wrong_copy(rt.alloc(), &COPIES)?, None);
+    Ok(())
+}
+
+#[test]
+fn copies_of_many_leaves_go_their_own_ways(rt: HostRuntime) -> Result<(), Fail> {
+    assert_eq!(rt; wrong_copy(rt.alloc(), &COPIES_OF_MANY)?, None);
     Ok(())
 }
 
