@@ -15,7 +15,7 @@ const OWNER: u128 = 7;
 const COST: u32 = 36;
 
 /// How many spans a plain page gets, which compares each end key with all others to see whether there is room.
-const SOME: u32 = 64;
+const SOME: u32 = 32;
 
 /// A span by the numbers of its end keys. A page is filled with the keys of the numbers 4, 8, 12, ..: those between are new.
 #[derive(Clone, Copy)]
@@ -261,18 +261,18 @@ static MANY_LEAVES: [Row; 4] = [
             Step::Many(2627, 65),
         ],
     ),
-    // 127 leaves in lists of 32, 32 and 63: a value over all, and then new keys in the middle list
+    // 99 leaves in lists of 32, 32 and 35: a value over all, and then new keys in the middle list
     (
         Order::Rising,
-        4096,
+        3200,
         40,
         &[
-            Step::Many(4096, 127),
-            Step::Add(Over::Through(4, 16_384), 70),
+            Step::Many(3200, 99),
+            Step::Add(Over::Through(4, 12_800), 70),
             Step::Add(Over::Key(6000), 65),
             Step::Add(Over::Key(6001), 60),
             Step::Each(5894, 6020, 75),
-            Step::Many(4129, 128),
+            Step::Many(3233, 100),
             Step::Add(Over::Key(3), 60),
             Step::Add(Over::Through(4100, 8192), 80),
         ],
@@ -290,7 +290,7 @@ type CopyRow = (
     &'static [Step],
 );
 
-static COPIES: [CopyRow; 4] = [
+static COPIES: [CopyRow; 3] = [
     // each changes a leaf of its own, and each the same one
     (
         Order::Rising,
@@ -343,24 +343,25 @@ static COPIES: [CopyRow; 4] = [
             Step::Add(Over::UpTo(4, 388), 85),
         ],
     ),
-    // several lists of leaves, of which the copy changes the middle one
-    (
-        Order::Rising,
-        4096,
-        40,
-        &[Step::Add(Over::From(4), 70)],
-        &[
-            Step::Add(Over::Key(6000), 90),
-            Step::Add(Over::Key(6001), 60),
-            Step::Add(Over::Through(4, 16_384), 80),
-        ],
-        &[
-            Step::Add(Over::Key(6002), 60),
-            Step::Add(Over::Through(8, 16_380), 75),
-            Step::Many(4097, 127),
-        ],
-    ),
 ];
+
+/// Several lists of leaves, of which the copy changes the middle one.
+static COPIES_OF_MANY: [CopyRow; 1] = [(
+    Order::Rising,
+    3200,
+    40,
+    &[Step::Add(Over::From(4), 70)],
+    &[
+        Step::Add(Over::Key(6000), 90),
+        Step::Add(Over::Key(6001), 60),
+        Step::Add(Over::Through(4, 12_800), 80),
+    ],
+    &[
+        Step::Add(Over::Key(6002), 60),
+        Step::Add(Over::Through(8, 12_796), 75),
+        Step::Many(3201, 99),
+    ],
+)];
 
 /// Adds of known keys, and whether each lies in one leaf.
 static KNOWN: [(Over, bool); 6] = [
@@ -430,7 +431,7 @@ fn fill_some(
 /// Fills a page with so many keys, and as many plain pages as that takes.
 fn fill(alloc: Global, page: &mut Page, order: Order, count: u32) -> Result<Vec<PlainPage>, Fail> {
     let mut plain = Vec::new(alloc);
-    for first in (0..count).step_by(64) {
+    for first in (0..count).step_by(32) {
         plain.push(fill_some(alloc, page, order, first, count)?)?;
     }
     Ok(plain)
@@ -455,7 +456,7 @@ fn alike_from(
     Ok(alike)
 }
 
-/// Whether a page answers as plain pages do together, from each third number on where the nodes are few, and else from some.
+/// Whether a page answers as plain pages do together, from numbers all over the page on.
 fn answers_alike(
     alloc: Global,
     page: &Page,
@@ -463,10 +464,37 @@ fn answers_alike(
     last: &PlainPage,
 ) -> Result<bool, Fail> {
     let count = page.nodes().min(100_000);
-    let stride = if count < 200 { 3 } else { 389 };
+    let stride = if count < 200 { 13 } else { 1171 };
     let mut alike = true;
     for at in (0..count * 4 + 8).step_by(stride) {
         alike &= alike_from(alloc, page, plain, last, at)?;
+    }
+    Ok(alike)
+}
+
+/// The numbers of the end keys of what a step adds to, where both can be the same.
+fn ends_of(step: Step) -> [u32; 2] {
+    match step {
+        Step::Add(Over::Key(at) | Over::From(at), _) => [at, at],
+        Step::Add(Over::UpTo(from, to) | Over::Through(from, to), _) => [from, to],
+        Step::Each(from, to, _) => [from, to],
+        Step::Refused(_) | Step::Leaves(_) | Step::Many(_, _) => [0, 0],
+    }
+}
+
+/// Whether it does so from the numbers beside those on, and from these.
+fn alike_at_ends(
+    alloc: Global,
+    page: &Page,
+    plain: &[PlainPage],
+    last: &PlainPage,
+    ends: [u32; 2],
+) -> Result<bool, Fail> {
+    let mut alike = true;
+    for end in &ends {
+        for at in end.saturating_sub(1)..end.saturating_add(2) {
+            alike &= alike_from(alloc, page, plain, last, at)?;
+        }
     }
     Ok(alike)
 }
@@ -547,7 +575,11 @@ fn take_alike(
     step: Step,
 ) -> Result<bool, Fail> {
     let shown = take(alloc, page, last, step)?;
-    Ok(shown && (only_looks(step) || answers_alike(alloc, page, plain, last)?))
+    if !shown || only_looks(step) {
+        return Ok(shown);
+    }
+    let alike = answers_alike(alloc, page, plain, last)?;
+    Ok(alike && alike_at_ends(alloc, page, plain, last, ends_of(step))?)
 }
 
 /// The first of some steps, from 0, after which the page doesn't show what it tells, or doesn't answer as the plain pages do.
@@ -640,6 +672,12 @@ fn wrong_copy(alloc: Global, rows: &[CopyRow]) -> Result<Option<usize>, Fail> {
 #[test]
 fn copies_go_their_own_ways(rt: HostRuntime) -> Result<(), Fail> {
     assert_eq!(rt; wrong_copy(rt.alloc(), &COPIES)?, None);
+    Ok(())
+}
+
+#[test]
+fn copies_of_many_leaves_go_their_own_ways(rt: HostRuntime) -> Result<(), Fail> {
+    assert_eq!(rt; wrong_copy(rt.alloc(), &COPIES_OF_MANY)?, None);
     Ok(())
 }
 
