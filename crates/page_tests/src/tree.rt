@@ -5,7 +5,7 @@ use crate::large::{add_to_both, joint_answer};
 use crate::page::{Order, has_leaves, number, numbered_key, range_of, step_value, value};
 use std::alloc::Global;
 use std::test::Fail;
-use tsc_page::{Page, PlainPage};
+use tsc_page::{LEAST_SIZE, MOST_SIZE, Page, PlainPage};
 use tsc_span::{Ends, Span};
 use tsc_time::{NoMemory, Timestamp, Value, ratchet};
 
@@ -601,7 +601,11 @@ fn wrong_step(
 /// The first step of a row, from 0, that goes wrong.
 fn wrong_step_of(alloc: Global, row: &Row) -> Result<Option<usize>, Fail> {
     let (order, count, more, steps) = row;
-    let mut page = Page::new(alloc, room_for(*count, *more).max(100), Timestamp::ZERO)?;
+    let mut page = Page::new(
+        alloc,
+        room_for(*count, *more).clamp(LEAST_SIZE, MOST_SIZE),
+        Timestamp::ZERO,
+    )?;
     let plain = fill(alloc, &mut page, *order, *count)?;
     let mut last = plain_page(alloc)?;
     wrong_step(alloc, &mut page, &plain, &mut last, steps)
@@ -649,7 +653,11 @@ fn go_apart(
 /// Whether a page and its copy go their own ways as a row tells.
 fn goes_apart(alloc: Global, row: &CopyRow) -> Result<bool, Fail> {
     let (order, count, more, before, copied, after) = row;
-    let mut page = Page::new(alloc, room_for(*count, *more).max(100), Timestamp::ZERO)?;
+    let mut page = Page::new(
+        alloc,
+        room_for(*count, *more).clamp(LEAST_SIZE, MOST_SIZE),
+        Timestamp::ZERO,
+    )?;
     let mut plain = fill(alloc, &mut page, *order, *count)?;
     let mut last = plain_page(alloc)?;
     if wrong_step(alloc, &mut page, &plain, &mut last, before)?.is_some() {
@@ -718,7 +726,11 @@ fn adds_known(
 /// error of a test but want of memory for a failure. One over two leaves copies the ways to both.
 #[test]
 fn known_keys_take_no_memory(rt: HostRuntime) -> Result<(), Fail> {
-    let mut page = Page::new(rt.alloc(), room_for(130, 0).max(100), Timestamp::ZERO)?;
+    let mut page = Page::new(
+        rt.alloc(),
+        room_for(130, 0).clamp(LEAST_SIZE, MOST_SIZE),
+        Timestamp::ZERO,
+    )?;
     let plain = fill(rt.alloc(), &mut page, Order::Rising, 130)?;
     assert!(rt; adds_known(rt.alloc(), &mut page, &plain, &KNOWN)?);
     Ok(())

@@ -85,17 +85,11 @@ fork_sends = search (sendable, crosses, declared_send, as_row_send, summary_send
 fork_syncs : IsSync (fork leaf)
 fork_syncs = search (sendable, crosses, declared_sync, as_row_sync, summary_syncs, leaf_sends, leaf_syncs) depth 20
 
-top_sends : IsSend (fork (fork leaf))
-top_sends = search (sendable, crosses, declared_send, as_row_send, summary_sends, fork_sends, fork_syncs) depth 20
-
-top_syncs : IsSync (fork (fork leaf))
-top_syncs = search (sendable, crosses, declared_sync, as_row_sync, summary_syncs, fork_sends, fork_syncs) depth 20
-
 tree_sends : IsSend tree
-tree_sends = search (sendable, crosses, top_sends, top_syncs) depth 20
+tree_sends = search (sendable, crosses, fork_sends, fork_syncs) depth 20
 
 tree_syncs : IsSync tree
-tree_syncs = search (sendable, crosses, top_sends, top_syncs) depth 20
+tree_syncs = search (sendable, crosses, fork_sends, fork_syncs) depth 20
 
 page_sends : IsSend page
 page_sends = search (sendable, declared_send, as_row_send, timestamp_sends, tree_sends) depth 20

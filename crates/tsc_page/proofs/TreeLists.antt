@@ -10,7 +10,7 @@ use Rattle.tsc_nodes.specs.declared.nodes.Grown.{Grown}
 use Rattle.tsc_nodes.specs.Nodes.{Node, IsSorted, IsInOrder, IsSplitAt, node_keys, nodes_cost}
 use Rattle.tsc_page.specs.Leaves.{nodes_of, AreParts}
 use Rattle.tsc_page.specs.Pending.{sizes_of, AreSizesOf, Addend, AddsSome}
-use Rattle.tsc_page.specs.Trees.{Top, IsForkCopy, top_nodes, top_sizes, IsWholeTop, IsWholeLeaf, IsWholeFork, fork_nodes, fork_sizes, leaf_nodes, leaf_sizes, fork_copied, IsCounted, tree_nodes}
+use Rattle.tsc_page.specs.Trees.{Top, IsForkCopy, top_nodes, top_sizes, IsWholeTop, IsWholeLeaf, leaf_nodes, leaf_sizes, fork_copied, IsCounted, tree_nodes}
 use Rattle.tsc_page.specs.declared.tree.Tree.{Tree}
 use Rattle.tsc_nodes.proofs.NewKeys.{with_new_splits}
 use Rattle.tsc_page.proofs.PartSizes.{sizes_of_parts}
@@ -19,7 +19,7 @@ use Rattle.tsc_page.proofs.PartAdds.{not_false}
 
 -- copies of the parts at the top
 pub copied_tops : (xs ys : List Top) → AllZip (λ (x y : Top). IsForkCopy x y) xs ys → AreSameAs top_nodes top_sizes IsWholeTop xs ys
-copied_tops xs ys all = copies_same top_nodes top_sizes IsWholeTop (λ (x y : Top). IsForkCopy x y) xs ys (λ x y same. fork_copied (fork_nodes leaf_nodes) (fork_sizes leaf_sizes) (IsWholeFork leaf_nodes leaf_sizes IsWholeLeaf) x y same) all
+copied_tops xs ys all = copies_same top_nodes top_sizes IsWholeTop (λ (x y : Top). IsForkCopy x y) xs ys (λ x y same. fork_copied leaf_nodes leaf_sizes IsWholeLeaf x y same) all
 
 -- parts in order have the sizes of their leaves
 pub sizes_of_tops : (xs : List Top) → All IsWholeTop xs → AreSizesOf (sizes_of (map top_sizes xs)) (nodes_of (map top_nodes xs))

@@ -95,16 +95,16 @@ fork_copied {P = P} nodes sizes IsWhole f g same = record {
 
 -- the parts at the top
 abbrev pub Top : Type 0
-Top = Fork (Fork Leaf)
+Top = Fork Leaf
 
 abbrev pub top_nodes : Top → List Node
-top_nodes = fork_nodes (fork_nodes leaf_nodes)
+top_nodes = fork_nodes leaf_nodes
 
 abbrev pub top_sizes : Top → List ℕ
-top_sizes = fork_sizes (fork_sizes leaf_sizes)
+top_sizes = fork_sizes leaf_sizes
 
 abbrev pub IsWholeTop : Top → Type 0
-IsWholeTop = IsWholeFork (fork_nodes leaf_nodes) (fork_sizes leaf_sizes) (IsWholeFork leaf_nodes leaf_sizes IsWholeLeaf)
+IsWholeTop = IsWholeFork leaf_nodes leaf_sizes IsWholeLeaf
 
 -- all nodes
 abbrev pub tree_nodes : Tree → List Node

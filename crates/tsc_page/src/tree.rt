@@ -21,11 +21,11 @@ use tsc_span::{Cut, Key};
 use tsc_time::{NoMemory, Value};
 
 /// The nodes of a page in leaves that are all equally deep below the parts of a list, with how many there are and what
-/// their keys cost. What others hold too is never changed. A part has 1 to 64 of the next kind, so three steps lead to each
-/// of 262,144 nodes, and the list stays short however many there are.
+/// their keys cost. What others hold too is never changed. A part of the list has 1 to 64 leaves, and at least 32 once the list has been
+/// cut, so with 65,536 nodes there are 16 to 64 parts; the list has no bound.
 #[derive(Debug, Drop)]
 pub(crate) struct Tree {
-    list: Vec<Fork<Fork<Leaf>>>,
+    list: Vec<Fork<Leaf>>,
     count: usize,
     bytes: u32,
 }
@@ -243,7 +243,7 @@ impl Tree {
 }
 
 /// Makes a node of a key, where there is one and it has none, and tells what came in.
-fn make_node(list: &mut Vec<Fork<Fork<Leaf>>>, key: Option<&Key>) -> Result<Grown, NoMemory>
+fn make_node(list: &mut Vec<Fork<Leaf>>, key: Option<&Key>) -> Result<Grown, NoMemory>
     requires whole { AreParts top_nodes IsWholeTop list.old.items }
     ensures split { OnOk result (IsSplitAt (nodes_of (map top_nodes list.old.items)) (nodes_of (map top_nodes list.new.items)) (option_to_list (option_map (λ k. k.now) key.entry))) }
     ensures whole { OnOk result (AreParts top_nodes IsWholeTop list.new.items) }
@@ -277,10 +277,10 @@ fn cost(key: Option<&Key>) -> u32
 }
 
 /// A part of the list with a node of a key alone.
-fn top_of(alloc: Global, key: &Key) -> Result<Fork<Fork<Leaf>>, NoMemory>
+fn top_of(alloc: Global, key: &Key) -> Result<Fork<Leaf>, NoMemory>
     ensures nodes { IfOk result (λ top. top_nodes top ≡ node_in_gap key.now (unowned zero_time) ∷ []) }
     ensures whole { IfOk result IsWholeTop }
 {
     let leaf = Leaf::new(alloc, Nodes::of_key(alloc, key)?)?;
-    Fork::of_one(alloc, Fork::of_one(alloc, leaf)?)
+    Fork::of_one(alloc, leaf)
 }
