@@ -1,6 +1,6 @@
 -- The types of this crate can go to another thread, and be looked at from several.
 use denote.Param.Send.{IsSend, IsSync, sendable}
-use denote.Param.SendFields.{declared_send, declared_sync, as_row_send, as_row_sync}
+use denote.Param.SendFields.{declared_send, declared_sync, as_row_send, as_row_sync, variants_send, variants_sync}
 use Rattle.std.proofs.Crossing.{crosses}
 use Rattle.tsc_time.specs.contracts.timestamp.Timestamp.{the_row as timestamp}
 use Rattle.tsc_time.specs.contracts.value.Value.{the_row as value}
@@ -12,6 +12,7 @@ use Rattle.tsc_nodes.specs.contracts.nodes.Nodes.{the_row as nodes}
 use Rattle.tsc_page.specs.contracts.summary.Summary.{the_row as summary}
 use Rattle.tsc_page.specs.contracts.leaf.Leaf.{the_row as leaf}
 use Rattle.tsc_page.specs.contracts.fork.Fork.{the_row as fork}
+use Rattle.tsc_page.specs.contracts.root.Root.{the_row as root}
 use Rattle.tsc_page.specs.contracts.tree.Tree.{the_row as tree}
 use Rattle.tsc_page.specs.contracts.page.Page.{the_row as page}
 use Rattle.tsc_span.specs.contracts.span.Shape.{the_row as shape}
@@ -85,11 +86,29 @@ fork_sends = search (sendable, crosses, declared_send, as_row_send, summary_send
 fork_syncs : IsSync (fork leaf)
 fork_syncs = search (sendable, crosses, declared_sync, as_row_sync, summary_syncs, leaf_sends, leaf_syncs) depth 20
 
+fork_of_forks_sends : IsSend (fork (fork leaf))
+fork_of_forks_sends = search (sendable, crosses, declared_send, as_row_send, summary_sends, fork_sends, fork_syncs) depth 20
+
+fork_of_forks_syncs : IsSync (fork (fork leaf))
+fork_of_forks_syncs = search (sendable, crosses, declared_sync, as_row_sync, summary_syncs, fork_sends, fork_syncs) depth 20
+
+high_fork_sends : IsSend (fork (fork (fork leaf)))
+high_fork_sends = search (sendable, crosses, declared_send, as_row_send, summary_sends, fork_of_forks_sends, fork_of_forks_syncs) depth 20
+
+high_fork_syncs : IsSync (fork (fork (fork leaf)))
+high_fork_syncs = search (sendable, crosses, declared_sync, as_row_sync, summary_syncs, fork_of_forks_sends, fork_of_forks_syncs) depth 20
+
+root_sends : IsSend root
+root_sends = search (sendable, crosses, variants_send, as_row_send, leaf_sends, leaf_syncs, fork_sends, fork_syncs, fork_of_forks_sends, fork_of_forks_syncs, high_fork_sends, high_fork_syncs) depth 20
+
+root_syncs : IsSync root
+root_syncs = search (sendable, crosses, variants_sync, as_row_sync, leaf_sends, leaf_syncs, fork_sends, fork_syncs, fork_of_forks_sends, fork_of_forks_syncs, high_fork_sends, high_fork_syncs) depth 20
+
 tree_sends : IsSend tree
-tree_sends = search (sendable, crosses, fork_sends, fork_syncs) depth 20
+tree_sends = search (sendable, declared_send, as_row_send, root_sends) depth 20
 
 tree_syncs : IsSync tree
-tree_syncs = search (sendable, crosses, fork_sends, fork_syncs) depth 20
+tree_syncs = search (sendable, declared_sync, as_row_sync, root_syncs) depth 20
 
 page_sends : IsSend page
 page_sends = search (sendable, declared_send, as_row_send, timestamp_sends, tree_sends) depth 20

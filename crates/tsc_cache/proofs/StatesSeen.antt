@@ -1,5 +1,5 @@
 -- What a cache stands for, before and after an Add, and what it answers.
-use Rattle.std.proofs.Common.{◌≡◌, ◌⊎◌, inl, inr, ◌∙◌, refl, sym, ap, subst, Bool, true, false, cond, ◌||◌, ℕ, suc, List, [], ◌∷◌, ◌++◌, length, map, append-nil, arith}
+use Rattle.std.proofs.Common.{◌≡◌, ◌⊎◌, inl, inr, ◌∙◌, refl, sym, ap, subst, Bool, true, false, cond, ◌||◌, ◌&&◌, not, ℕ, suc, List, [], ◌∷◌, ◌++◌, length, map, append-nil, arith}
 use Rattle.std.specs.Prelude.{reverse, Result, Ok, Err, IfOk, OnOk}
 use Rattle.std.specs.List.{flat_map}
 use Rattle.std.specs.Str.{bytes_eq}
@@ -445,3 +445,17 @@ on_ok (Err e) Q P q f = tt
 pub if_ok : {T E : Type 0} (r : Result T E) (Q P : T → Type 0) → IfOk r Q → ((x : T) → Q x → P x) → IfOk r P
 if_ok (Ok x) Q P q f = f x q
 if_ok (Err e) Q P q f = tt
+
+-- whether an Add rotates the pages is what can be seen of the front page
+pub rotates_as_seen : (v : CacheView) (settings : Settings) (s : CacheState) (m : Mark) (now : Time) → StandsForState v settings s
+    → (is_kept v.floor m && not (front_has_room_for v.pages m.span)) ≡ (step settings s m now).added.rotated
+rotates_as_seen v settings s m now stands =
+    let kept : is_kept v.floor m ≡ is_kept s.floor m = ap (λ f. is_kept f m) stands.floor in
+    let room = same_front_room s v.pages m.span stands.pages in
+    rw (kept, room) (elim (cases_Bool (is_kept s.floor m)) [
+      | inr h ↦ rw h refl
+      | inl h ↦ elim (cases_Bool (front_has_room s m.span)) [
+        | inl r ↦ rw (h, r) refl
+        | inr r ↦ rw (h, r) refl
+      ]
+    ])

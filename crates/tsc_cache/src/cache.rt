@@ -1,9 +1,10 @@
-ghost use Rattle.std.specs.Prelude.{◌≡◌, ◌↔◌, length, true, false, IsOk, IfOk, IsErrOf, OnOk, OnErr};
+ghost use Rattle.std.specs.Prelude.{◌≡◌, ◌↔◌, ◌&&◌, not, length, true, false, IsOk, IfOk, IsErrOf, OnOk, OnErr};
+ghost use Rattle.tsc_time.specs.Time.{Time};
 ghost use Rattle.tsc_span.specs.Span.{is_empty_span};
 ghost use Rattle.tsc_cache.specs.Settings.{Settings, fits};
 ghost use Rattle.tsc_cache.specs.State.{CacheState, opening, step, look, is_kept, kept_after_rotation};
 ghost use Rattle.tsc_cache.specs.Lookup.{LooksIntoPages};
-ghost use Rattle.tsc_cache.specs.CacheView.{StandsForState, Adds, RotatesWith, cache_answer, LooksIntoViews};
+ghost use Rattle.tsc_cache.specs.CacheView.{StandsForState, Adds, RotatesWith, front_has_room_for, cache_answer, LooksIntoViews};
 
 use crate::config::counted_on;
 use crate::pages::Pages;
@@ -152,6 +153,16 @@ impl Cache {
         ensures stands { (settings : Settings) (s : CacheState) → StandsForState self.now settings s → result ≡ s.rotations }
     {
         self.rotations
+    }
+
+    /// Whether an Add of this span and value would rotate the pages, at whatever moment. It costs a search for each end key
+    /// where the front page is nearly full.
+    pub fn would_rotate(&self, span: &Span, value: Value) -> bool
+        ensures value { result ≡ (is_kept self.now.floor (record { span = span.now; value = value }) && not (front_has_room_for self.now.pages span.now)) }
+        ensures stands { (settings : Settings) (s : CacheState) (now : Time) → StandsForState self.now settings s
+            → result ≡ (step settings s (record { span = span.now; value = value }) now).added.rotated }
+    {
+        self.keeps(span, value) && !self.pages.has_room(span)
     }
 
     /// Adds a span that fits.

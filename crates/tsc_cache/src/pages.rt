@@ -66,6 +66,13 @@ impl Pages {
         })
     }
 
+    /// Whether the front page has room for a span.
+    pub(crate) fn has_room(&self, span: &Span) -> bool
+        ensures { result ≡ has_room_for (front_of self.now) span.now }
+    {
+        self.front.room(span)
+    }
+
     /// Adds a span with its value to the front page, or to a copy of it where others hold it too, and says
     /// whether that page has room. Without room nothing changes.
     pub(crate) fn mark_front(&mut self, span: &Span, value: Value) -> Result<bool, NoMemory>

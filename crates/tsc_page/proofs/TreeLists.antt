@@ -1,5 +1,5 @@
--- The list of parts at the top of a tree.
-use Rattle.std.proofs.Common.{◌≡◌, ◌∙◌, sym, ap, subst, false, ℕ, ◌+◌, List, [], ◌∷◌, length, map, Vec, Global, arith}
+-- The root of a tree, whichever list of parts it has.
+use Rattle.std.proofs.Common.{◌≡◌, ◌∙◌, sym, ap, subst, false, ℕ, ◌+◌, List, [], ◌∷◌, length, Vec, Global, arith}
 use Rattle.std.specs.Prelude.{Some, None, not}
 use Rattle.std.specs.List.{All, AllZip}
 use Rattle.std.specs.Vec.{with_items}
@@ -8,48 +8,73 @@ use Rattle.tsc_span.specs.Span.{KeyBytes}
 use Rattle.tsc_nodes.specs.PageView.{is_in}
 use Rattle.tsc_nodes.specs.declared.nodes.Grown.{Grown}
 use Rattle.tsc_nodes.specs.Nodes.{Node, IsSorted, IsInOrder, IsSplitAt, node_keys, nodes_cost}
-use Rattle.tsc_page.specs.Leaves.{nodes_of, AreParts}
+use Rattle.tsc_page.specs.Leaves.{nodes_of}
+use Rattle.tsc_page.specs.Copies.{IsSameAs}
 use Rattle.tsc_page.specs.Pending.{sizes_of, AreSizesOf, Addend, AddsSome}
-use Rattle.tsc_page.specs.Trees.{Top, IsForkCopy, top_nodes, top_sizes, IsWholeTop, IsWholeLeaf, leaf_nodes, leaf_sizes, fork_copied, IsCounted, tree_nodes}
+use Rattle.tsc_page.specs.Trees.{IsLeafCopy, IsForkCopy, IsWholeLeaf, leaf_nodes, leaf_sizes, leaf_copied, fork_copied, AreFewParts, two_nodes, two_sizes, IsWholeTwo, three_nodes, three_sizes, IsWholeThree, four_nodes, four_sizes, IsWholeFour, root_nodes, root_sizes, IsWholeRoot, IsCounted, tree_nodes}
+use Rattle.tsc_page.specs.declared.leaf.Leaf.{Leaf}
+use Rattle.tsc_page.specs.declared.fork.Fork.{Fork}
+use Rattle.tsc_page.specs.declared.root.Root.{Root}
+use Rattle.tsc_page.specs.declared.root.Root.TheVariants.{One, Two, Three, Four}
 use Rattle.tsc_page.specs.declared.tree.Tree.{Tree}
 use Rattle.tsc_nodes.proofs.NewKeys.{with_new_splits}
 use Rattle.tsc_page.proofs.PartSizes.{sizes_of_parts}
-use Rattle.tsc_page.proofs.PartLists.{AreSameAs, copies_same, copies_sorted, parts_added, parts_kept}
+use Rattle.tsc_page.proofs.PartLists.{AreSameAs, copies_same, adds_sorted}
 use Rattle.tsc_page.proofs.PartAdds.{not_false}
 
--- copies of the parts at the top
-pub copied_tops : (xs ys : List Top) → AllZip (λ (x y : Top). IsForkCopy x y) xs ys → AreSameAs top_nodes top_sizes IsWholeTop xs ys
-copied_tops xs ys all = copies_same top_nodes top_sizes IsWholeTop (λ (x y : Top). IsForkCopy x y) xs ys (λ x y same. fork_copied leaf_nodes leaf_sizes IsWholeLeaf x y same) all
+-- a root has the sizes of its leaves
+pub root_counted : (r : Root) → IsWholeRoot r → AreSizesOf (root_sizes r) (root_nodes r)
+root_counted (One ps) whole = sizes_of_parts leaf_nodes leaf_sizes IsWholeLeaf ps.items (λ x w. w.sizes) whole.0
+root_counted (Two ps) whole = sizes_of_parts two_nodes two_sizes IsWholeTwo ps.items (λ x w. w.sizes) whole.each
+root_counted (Three ps) whole = sizes_of_parts three_nodes three_sizes IsWholeThree ps.items (λ x w. w.sizes) whole.each
+root_counted (Four ps) whole = sizes_of_parts four_nodes four_sizes IsWholeFour ps.items (λ x w. w.sizes) whole.0
 
--- parts in order have the sizes of their leaves
-pub sizes_of_tops : (xs : List Top) → All IsWholeTop xs → AreSizesOf (sizes_of (map top_sizes xs)) (nodes_of (map top_nodes xs))
-sizes_of_tops xs all = sizes_of_parts top_nodes top_sizes IsWholeTop xs (λ x w. w.sizes) all
+-- copies of parts, of which there are as many
+few_same : {X : Type 0} (f : X → List Node) (s : X → List ℕ) (Q : X → Type 0) (xs ys : List X) → AreSameAs f s Q xs ys → AreFewParts Q xs → AreFewParts Q ys
+few_same f s Q xs ys same few = record { each = same.whole few.each; some = omega (arith, same.long, few.some); few = omega (arith, same.long, few.few) }
 
-pub counted_tops : (t : Tree) → AreParts top_nodes IsWholeTop t.list.items → t.count ≡ length (tree_nodes t) → t.bytes ≡ nodes_cost (tree_nodes t) → IsCounted t
-counted_tops t parts count bytes = record { parts = parts; sizes = sizes_of_tops t.list.items parts.whole; count = count; bytes = bytes }
+-- as many others in the place of those in a list
+pub few_with : {X : Type 0} (Q : X → Type 0) (v : Vec X Global) (xs : List X) → length xs ≡ length v.items → All Q xs → AreFewParts Q v.items → AreFewParts Q (with_items v xs).items
+few_with Q v xs same all few = subst (AreFewParts Q) (sym (with_items_is v xs (omega (arith, same, v.ok.0)))) (record { each = all; some = omega (arith, same, few.some); few = omega (arith, same, few.few) })
+
+-- a root of copies is a copy
+pub copied_one : (ps qs : Vec Leaf Global) → AllZip (λ (x y : Leaf). IsLeafCopy x y) ps.items qs.items → IsSameAs root_nodes root_sizes IsWholeRoot (One ps) (One qs)
+copied_one ps qs all =
+    let same = copies_same leaf_nodes leaf_sizes IsWholeLeaf (λ (x y : Leaf). IsLeafCopy x y) ps.items qs.items leaf_copied all in
+    record { nodes = ap (λ (ls : List (List Node)). nodes_of ls) same.nodes; sizes = ap (λ (ls : List (List ℕ)). sizes_of ls) same.sizes; whole = λ w. (same.whole w.0, omega (arith, same.long, w.1)) }
+
+pub copied_two : (ps qs : Vec (Fork Leaf) Global) → AllZip (λ (x y : Fork Leaf). IsForkCopy x y) ps.items qs.items → IsSameAs root_nodes root_sizes IsWholeRoot (Two ps) (Two qs)
+copied_two ps qs all =
+    let same = copies_same two_nodes two_sizes IsWholeTwo (λ (x y : Fork Leaf). IsForkCopy x y) ps.items qs.items (λ x y h. fork_copied leaf_nodes leaf_sizes IsWholeLeaf x y h) all in
+    record { nodes = ap (λ (ls : List (List Node)). nodes_of ls) same.nodes; sizes = ap (λ (ls : List (List ℕ)). sizes_of ls) same.sizes; whole = few_same two_nodes two_sizes IsWholeTwo ps.items qs.items same }
+
+pub copied_three : (ps qs : Vec (Fork (Fork Leaf)) Global) → AllZip (λ (x y : Fork (Fork Leaf)). IsForkCopy x y) ps.items qs.items → IsSameAs root_nodes root_sizes IsWholeRoot (Three ps) (Three qs)
+copied_three ps qs all =
+    let same = copies_same three_nodes three_sizes IsWholeThree (λ (x y : Fork (Fork Leaf)). IsForkCopy x y) ps.items qs.items (λ x y h. fork_copied two_nodes two_sizes IsWholeTwo x y h) all in
+    record { nodes = ap (λ (ls : List (List Node)). nodes_of ls) same.nodes; sizes = ap (λ (ls : List (List ℕ)). sizes_of ls) same.sizes; whole = few_same three_nodes three_sizes IsWholeThree ps.items qs.items same }
+
+pub copied_four : (ps qs : Vec (Fork (Fork (Fork Leaf))) Global) → AllZip (λ (x y : Fork (Fork (Fork Leaf))). IsForkCopy x y) ps.items qs.items → IsSameAs root_nodes root_sizes IsWholeRoot (Four ps) (Four qs)
+copied_four ps qs all =
+    let same = copies_same four_nodes four_sizes IsWholeFour (λ (x y : Fork (Fork (Fork Leaf))). IsForkCopy x y) ps.items qs.items (λ x y h. fork_copied three_nodes three_sizes IsWholeThree x y h) all in
+    record { nodes = ap (λ (ls : List (List Node)). nodes_of ls) same.nodes; sizes = ap (λ (ls : List (List ℕ)). sizes_of ls) same.sizes; whole = λ w. (same.whole w.0, omega (arith, same.long, w.1)) }
+
+pub counted_tree : (t : Tree) → IsWholeRoot t.root → IsSorted (tree_nodes t) → t.count ≡ length (tree_nodes t) → t.bytes ≡ nodes_cost (tree_nodes t) → IsCounted t
+counted_tree t whole sorted count bytes = record { whole = whole; sorted = sorted; sizes = root_counted t.root whole; count = count; bytes = bytes }
 
 -- a copy of a tree
-pub counted_copy : (t u : Tree) → AreSameAs top_nodes top_sizes IsWholeTop t.list.items u.list.items → u.count ≡ t.count → u.bytes ≡ t.bytes → IsCounted t → IsCounted u
-counted_copy t u same count bytes counted = counted_tops u (copies_sorted top_nodes top_sizes IsWholeTop t.list.items u.list.items same counted.parts) (count ∙ counted.count ∙ ap (λ (ls : List (List Node)). length (nodes_of ls)) (sym same.nodes))
-    (bytes ∙ counted.bytes ∙ ap (λ (ls : List (List Node)). nodes_cost (nodes_of ls)) (sym same.nodes))
-
--- others in the place of those in a list
-pub counted_with : (v : Vec Top Global) (xs : List Top) (n b : ℕ) → length xs ≡ length v.items → AreParts top_nodes IsWholeTop xs → n ≡ length (nodes_of (map top_nodes xs)) → b ≡ nodes_cost (nodes_of (map top_nodes xs))
-    → IsCounted (record { list = with_items v xs; count = n; bytes = b })
-counted_with v xs n b same parts count bytes =
-    let kept = with_items_is v xs (omega (arith, same, v.ok.0)) in
-    counted_tops (record { list = with_items v xs; count = n; bytes = b }) (subst (AreParts top_nodes IsWholeTop) (sym kept) parts) (count ∙ ap (λ (ys : List Top). length (nodes_of (map top_nodes ys))) (sym kept))
-    (bytes ∙ ap (λ (ys : List Top). nodes_cost (nodes_of (map top_nodes ys))) (sym kept))
+pub counted_copy : (t u : Tree) → IsSameAs root_nodes root_sizes IsWholeRoot t.root u.root → u.count ≡ t.count → u.bytes ≡ t.bytes → IsCounted t → IsCounted u
+counted_copy t u same count bytes counted = counted_tree u (same.whole counted.whole) (subst IsSorted (sym same.nodes) counted.sorted) (count ∙ counted.count ∙ ap (λ (ns : List Node). length ns) (sym same.nodes))
+    (bytes ∙ counted.bytes ∙ ap nodes_cost (sym same.nodes))
 
 -- after an Add in place
-pub counted_added : (v : Vec Top Global) (xs : List Top) (n b room : ℕ) (more : Grown) (a : Addend) → length xs ≡ length v.items → IsCounted (record { list = v; count = n; bytes = b }) → All IsWholeTop xs → IsInOrder a.first a.second
-    → AddsSome (nodes_of (map top_nodes v.items)) (nodes_of (map top_nodes xs)) a room more → IsCounted (record { list = with_items v xs; count = n + more.nodes; bytes = b + more.bytes })
-counted_added v xs n b room more a same counted all order adds =
-    counted_with v xs (n + more.nodes) (b + more.bytes) same (parts_added top_nodes IsWholeTop v.items xs a room more counted.parts all order adds) (omega (arith, counted.count, adds.grown.count)) (omega (arith, counted.bytes, adds.grown.cost))
+pub counted_added : (r q : Root) (n b room : ℕ) (more : Grown) (a : Addend) → IsCounted (record { root = r; count = n; bytes = b }) → IsWholeRoot q → IsInOrder a.first a.second → AddsSome (root_nodes r) (root_nodes q) a room more
+    → IsCounted (record { root = q; count = n + more.nodes; bytes = b + more.bytes })
+counted_added r q n b room more a counted whole order adds =
+    counted_tree (record { root = q; count = n + more.nodes; bytes = b + more.bytes }) whole (adds_sorted (root_nodes r) (root_nodes q) a.first a.second _ a.value counted.sorted order adds.adds) (omega (arith, counted.count, adds.grown.count)) (omega (arith, counted.bytes, adds.grown.cost))
 
 -- and where nothing changed
-pub counted_kept : (v : Vec Top Global) (xs : List Top) (n b : ℕ) → length xs ≡ length v.items → IsCounted (record { list = v; count = n; bytes = b }) → All IsWholeTop xs → nodes_of (map top_nodes xs) ≡ nodes_of (map top_nodes v.items) → IsCounted (record { list = with_items v xs; count = n; bytes = b })
-counted_kept v xs n b same counted all is = counted_with v xs n b same (parts_kept top_nodes IsWholeTop v.items xs counted.parts all is) (counted.count ∙ ap length (sym is)) (counted.bytes ∙ ap nodes_cost (sym is))
+pub counted_kept : (r q : Root) (n b : ℕ) → IsCounted (record { root = r; count = n; bytes = b }) → IsWholeRoot q → root_nodes q ≡ root_nodes r → IsCounted (record { root = q; count = n; bytes = b })
+counted_kept r q n b counted whole is = counted_tree (record { root = q; count = n; bytes = b }) whole (subst IsSorted (sym is) counted.sorted) (counted.count ∙ ap (λ (ns : List Node). length ns) (sym is)) (counted.bytes ∙ ap nodes_cost (sym is))
 
 -- a key that has a node needs none
 pub known_splits : (ns : List Node) (k : KeyBytes) → IsSorted ns → not (is_in k (node_keys ns)) ≡ false → IsSplitAt ns ns (k ∷ [])

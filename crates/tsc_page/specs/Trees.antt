@@ -4,13 +4,17 @@ use Rattle.std.proofs.Common.{◌∙◌, sym, ap, subst}
 use Rattle.std.specs.Arc.{arc_value}
 use Rattle.std.specs.List.{All}
 use Rattle.std.specs.declared.vec.Vec.{Vec}
-use Rattle.tsc_nodes.specs.Nodes.{Node, nodes_cost}
-use Rattle.tsc_page.specs.Leaves.{nodes_of, IsLeaf, AreParts}
+use Rattle.tsc_nodes.specs.Nodes.{Node, IsSorted, nodes_cost}
+use Rattle.tsc_page.specs.Leaves.{nodes_of, IsLeaf}
 use Rattle.tsc_page.specs.Pending.{with_pending, IsToldOf, sizes_of, AreSizesOf}
 use Rattle.tsc_page.specs.Copies.{IsSameAs}
 use Rattle.tsc_page.specs.declared.summary.Summary.{Summary}
 use Rattle.tsc_page.specs.declared.leaf.Leaf.{Leaf}
 use Rattle.tsc_page.specs.declared.fork.Fork.{Fork}
+use Rattle.tsc_page.specs.declared.fork.Level.{Level}
+use Rattle.tsc_page.specs.declared.fork.Level.TheVariants.{Parts, Forks}
+use Rattle.tsc_page.specs.declared.root.Root.{Root}
+use Rattle.tsc_page.specs.declared.root.Root.TheVariants.{One, Two, Three, Four}
 use Rattle.tsc_page.specs.declared.tree.Tree.{Tree}
 
 -- nodes, where there are some
@@ -93,30 +97,79 @@ fork_copied {P = P} nodes sizes IsWhole f g same = record {
   whole = λ w. subst (λ (s : Summary). IsForkOf nodes sizes IsWhole s (arc_value g.parts).items) (sym same.0) (subst (λ (ps : List P). IsForkOf nodes sizes IsWhole f.summary ps) (sym same.1) w);
 }
 
--- the parts at the top
-abbrev pub Top : Type 0
-Top = Fork Leaf
+-- the nodes of parts, or of forks of them
+abbrev pub level_nodes : {P : Type 0} → (P → List Node) → Level P → List Node
+level_nodes nodes (Parts ps) = nodes_of (map nodes ps.items)
+level_nodes nodes (Forks fs) = nodes_of (map (fork_nodes nodes) fs.items)
 
-abbrev pub top_nodes : Top → List Node
-top_nodes = fork_nodes leaf_nodes
+-- 1 to 64 parts, or forks of them
+abbrev pub IsWholeLevel : {P : Type 0} → (P → List Node) → (P → List ℕ) → (P → Type 0) → Level P → Type 0
+IsWholeLevel nodes sizes IsWhole (Parts ps) = AreFewParts IsWhole ps.items
+IsWholeLevel nodes sizes IsWhole (Forks fs) = AreFewParts (IsWholeFork nodes sizes IsWhole) fs.items
 
-abbrev pub top_sizes : Top → List ℕ
-top_sizes = fork_sizes leaf_sizes
+-- forks of leaves
+abbrev pub two_nodes : Fork Leaf → List Node
+two_nodes = fork_nodes leaf_nodes
 
-abbrev pub IsWholeTop : Top → Type 0
-IsWholeTop = IsWholeFork leaf_nodes leaf_sizes IsWholeLeaf
+abbrev pub two_sizes : Fork Leaf → List ℕ
+two_sizes = fork_sizes leaf_sizes
+
+abbrev pub IsWholeTwo : Fork Leaf → Type 0
+IsWholeTwo = IsWholeFork leaf_nodes leaf_sizes IsWholeLeaf
+
+-- forks of these
+abbrev pub three_nodes : Fork (Fork Leaf) → List Node
+three_nodes = fork_nodes two_nodes
+
+abbrev pub three_sizes : Fork (Fork Leaf) → List ℕ
+three_sizes = fork_sizes two_sizes
+
+abbrev pub IsWholeThree : Fork (Fork Leaf) → Type 0
+IsWholeThree = IsWholeFork two_nodes two_sizes IsWholeTwo
+
+-- and of these
+abbrev pub four_nodes : Fork (Fork (Fork Leaf)) → List Node
+four_nodes = fork_nodes three_nodes
+
+abbrev pub four_sizes : Fork (Fork (Fork Leaf)) → List ℕ
+four_sizes = fork_sizes three_sizes
+
+abbrev pub IsWholeFour : Fork (Fork (Fork Leaf)) → Type 0
+IsWholeFour = IsWholeFork three_nodes three_sizes IsWholeThree
+
+-- the nodes of a root's parts
+abbrev pub root_nodes : Root → List Node
+root_nodes (One ps) = nodes_of (map leaf_nodes ps.items)
+root_nodes (Two ps) = nodes_of (map two_nodes ps.items)
+root_nodes (Three ps) = nodes_of (map three_nodes ps.items)
+root_nodes (Four ps) = nodes_of (map four_nodes ps.items)
+
+-- and the sizes of their leaves
+abbrev pub root_sizes : Root → List ℕ
+root_sizes (One ps) = sizes_of (map leaf_sizes ps.items)
+root_sizes (Two ps) = sizes_of (map two_sizes ps.items)
+root_sizes (Three ps) = sizes_of (map three_sizes ps.items)
+root_sizes (Four ps) = sizes_of (map four_sizes ps.items)
+
+-- A root of 1 to 64 parts: leaves may also be none, and the highest parts may be more.
+abbrev pub IsWholeRoot : Root → Type 0
+IsWholeRoot (One ps) = All IsWholeLeaf ps.items × (length ps.items ≤ 64)
+IsWholeRoot (Two ps) = AreFewParts IsWholeTwo ps.items
+IsWholeRoot (Three ps) = AreFewParts IsWholeThree ps.items
+IsWholeRoot (Four ps) = All IsWholeFour ps.items × (1 ≤ length ps.items)
 
 -- all nodes
 abbrev pub tree_nodes : Tree → List Node
-tree_nodes t = nodes_of (map top_nodes t.list.items)
+tree_nodes t = root_nodes t.root
 
 -- and the sizes of their leaves
 abbrev pub tree_sizes : Tree → List ℕ
-tree_sizes t = sizes_of (map top_sizes t.list.items)
+tree_sizes t = root_sizes t.root
 
 -- Parts in order, how many nodes they have, and what these cost.
 pub record IsCounted (t : Tree) : Type 0 where
-  pub parts : AreParts top_nodes IsWholeTop t.list.items
+  pub whole : IsWholeRoot t.root
+  pub sorted : IsSorted (tree_nodes t)
   pub sizes : AreSizesOf (tree_sizes t) (tree_nodes t)
   pub count : t.count ≡ length (tree_nodes t)
   pub bytes : t.bytes ≡ nodes_cost (tree_nodes t)

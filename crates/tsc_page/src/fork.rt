@@ -3,7 +3,7 @@ ghost use Rattle.std.specs.List.{All};
 ghost use Rattle.tsc_nodes.specs.Nodes.{IsSorted};
 ghost use Rattle.tsc_page.specs.Leaves.{AreParts, HasNode, nodes_of};
 ghost use Rattle.tsc_page.specs.Pending.{with_pending};
-ghost use Rattle.tsc_page.specs.Trees.{fork_nodes, fork_sizes, fork_copied, AreFewParts, IsWholeFork, IsForkCopy, IsTold, items_in};
+ghost use Rattle.tsc_page.specs.Trees.{fork_nodes, fork_sizes, fork_copied, AreFewParts, IsWholeFork, IsForkCopy, IsTold, items_in, level_nodes, IsWholeLevel};
 
 use crate::addition::Addition;
 use crate::parts;
@@ -39,16 +39,40 @@ impl<P: Part> Fork<P> {
         })
     }
 
-    /// A fork of one part.
-    pub(crate) fn of_one(alloc: Global, part: P) -> Result<Fork<P>, NoMemory>
-        requires whole { P.IsWhole part }
-        requires sorted { IsSorted (P.nodes part) }
-        ensures nodes { IfOk result (λ fork. fork_nodes P.nodes fork ≡ P.nodes part) }
-        ensures whole { IfOk result (IsWholeFork P.nodes P.sizes P.IsWhole) }
+    /// Two forks, one after the other.
+    fn pair(alloc: Global, lower: Vec<P>, upper: Vec<P>) -> Result<Vec<Fork<P>>, NoMemory>
+        requires lower { AreFewParts P.IsWhole lower.items }
+        requires upper { AreFewParts P.IsWhole upper.items }
+        requires sorted { IsSorted (nodes_of (map P.nodes lower.items) ++ nodes_of (map P.nodes upper.items)) }
+        ensures nodes { IfOk result (λ forks. nodes_of (map (fork_nodes P.nodes) forks.items) ≡ nodes_of (map P.nodes lower.items) ++ nodes_of (map P.nodes upper.items)) }
+        ensures whole { IfOk result (λ forks. AreFewParts (IsWholeFork P.nodes P.sizes P.IsWhole) forks.items) }
     {
-        let mut parts = Vec::with_capacity(alloc, 1)?;
-        parts.push(part)?;
-        Fork::new(alloc, parts)
+        let mut forks = Vec::with_capacity(alloc, 2)?;
+        forks.push(Fork::new(alloc, lower)?)?;
+        forks.push(Fork::new(alloc, upper)?)?;
+        Ok(forks)
+    }
+}
+
+/// Parts of one kind, or forks of these.
+#[derive(Drop)]
+pub(crate) enum Level<P> {
+    Parts(Vec<P>),
+    Forks(Vec<Fork<P>>),
+}
+
+/// Makes a node of a key among parts, where it has none. Where there would then be more parts than a fork has, they come into two forks.
+pub(crate) fn with_node<P: Part>(parts: Vec<P>, key: &Key) -> Result<Level<P>, NoMemory>
+    requires few { AreFewParts P.IsWhole parts.items }
+    requires sorted { IsSorted (nodes_of (map P.nodes parts.items)) }
+    ensures made { IfOk result (λ level. HasNode (nodes_of (map P.nodes parts.items)) (level_nodes P.nodes level) key.now) }
+    ensures whole { IfOk result (IsWholeLevel P.nodes P.sizes P.IsWhole) }
+{
+    let mut parts = parts;
+    let alloc = *parts.allocator();
+    match grow(&mut parts, alloc, key)? {
+        Some(upper) => Ok(Level::Forks(Fork::pair(alloc, parts, upper)?)),
+        None => Ok(Level::Parts(parts)),
     }
 }
 

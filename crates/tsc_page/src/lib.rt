@@ -26,6 +26,7 @@ mod fork;
 mod leaf;
 mod page;
 mod parts;
+mod root;
 mod summary;
 mod tree;
 

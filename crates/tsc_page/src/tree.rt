@@ -8,24 +8,21 @@ ghost use Rattle.tsc_nodes.specs.PageView.{is_new_among, new_weight};
 ghost use Rattle.tsc_time.specs.Time.{zero_time};
 ghost use Rattle.tsc_time.specs.OwnedTime.{unowned};
 ghost use Rattle.tsc_nodes.specs.Nodes.{IsSplitAt, IsSorted, GrowsBy, node_in_gap, node_keys, answer_of};
-ghost use Rattle.tsc_page.specs.Leaves.{LiesAt, AreParts, nodes_of, AddsTo};
-ghost use Rattle.tsc_page.specs.Trees.{Top, top_nodes, IsWholeTop, tree_nodes, tree_sizes, IsCounted};
+ghost use Rattle.tsc_page.specs.Leaves.{LiesAt, AddsTo};
+ghost use Rattle.tsc_page.specs.Trees.{root_nodes, IsWholeRoot, tree_nodes, tree_sizes, IsCounted};
 
 use crate::addition::Addition;
-use crate::fork::Fork;
-use crate::leaf::Leaf;
-use crate::parts;
+use crate::root::Root;
 use std::alloc::Global;
-use tsc_nodes::{Grown, Nodes, NumberedCut};
+use tsc_nodes::{Grown, NumberedCut};
 use tsc_span::{Cut, Key};
 use tsc_time::{NoMemory, Value};
 
-/// The nodes of a page in leaves that are all equally deep below the parts of a list, with how many there are and what
-/// their keys cost. What others hold too is never changed. A part of the list has 1 to 64 leaves, and at least 32 once the list has been
-/// cut, so with 65,536 nodes there are 16 to 64 parts; the list has no bound.
+/// The nodes of a page in leaves that are all equally deep below a root, with how many there are and what their keys cost.
+/// What others hold too is never changed.
 #[derive(Debug, Drop)]
 pub(crate) struct Tree {
-    list: Vec<Fork<Leaf>>,
+    root: Root,
     count: usize,
     bytes: u32,
 }
@@ -37,7 +34,7 @@ impl Tree {
         ensures bytes { result.bytes ≡ 0 }
     {
         Tree {
-            list: Vec::new(alloc),
+            root: Root::new(alloc),
             count: 0,
             bytes: 0,
         }
@@ -63,7 +60,7 @@ impl Tree {
         ensures value { result ≡ slice_get (tree_sizes self.now) place }
         ensures few { IfSome result (λ len. len ≤ 64) }
     {
-        parts::leaf_len(&self.list, place).ok()
+        self.root.leaf_len(place).ok()
     }
 
     /// Whether this is a key that has no node.
@@ -72,7 +69,7 @@ impl Tree {
         ensures { result ≡ is_new_among (node_keys (tree_nodes self.now)) (option_map (λ k. k.now) key.entry) }
     {
         match key {
-            Some(key) => parts::is_new(&self.list, key),
+            Some(key) => self.root.is_new(key),
             None => false,
         }
     }
@@ -110,10 +107,10 @@ impl Tree {
         ensures { result ≡ answer_of (tree_nodes self.now) (between (cut_of from.entry) (cut_of to.entry)) }
     {
         let (from, to) = (NumberedCut::new(from), NumberedCut::new(to));
-        parts::joint_between(&self.list, &from, &to)
+        self.root.joint_between(&from, &to)
     }
 
-    /// The same tree once more, which shares all below the list.
+    /// The same tree once more, which shares all below the root.
     pub(crate) fn try_copy(&self) -> Result<Tree, NoMemory>
         ensures nodes { IfOk result (λ copy. tree_nodes copy ≡ tree_nodes self.now) }
         ensures sizes { IfOk result (λ copy. tree_sizes copy ≡ tree_sizes self.now) }
@@ -121,7 +118,7 @@ impl Tree {
         ensures counted { IfOk result (λ copy. IsCounted self.now → IsCounted copy) }
     {
         Ok(Tree {
-            list: self.list.clone()?,
+            root: self.root.try_copy()?,
             count: self.count,
             bytes: self.bytes,
         })
@@ -190,13 +187,13 @@ impl Tree {
         if !self.has_room(first, second, most) {
             return Ok(None);
         }
-        let mut list = self.list.clone()?;
-        let upper = make_node(&mut list, second)?;
-        let lower = make_node(&mut list, first)?;
-        parts::raise_between(&mut list, from, to, value)?;
-        let count = self.count + upper.nodes + lower.nodes;
-        let bytes = self.bytes + upper.bytes + lower.bytes;
-        Ok(Some(Tree { list, count, bytes }))
+        let upper = with_node(self.root.try_copy()?, second)?;
+        let lower = with_node(upper.root, first)?;
+        let mut root = lower.root;
+        root.raise_between(from, to, value)?;
+        let count = self.count + upper.more.nodes + lower.more.nodes;
+        let bytes = self.bytes + upper.more.bytes + lower.more.bytes;
+        Ok(Some(Tree { root, count, bytes }))
     }
 
     /// The same in place, where the span lies in one leaf to which nobody else holds a way, which need not be cut, and there
@@ -231,7 +228,7 @@ impl Tree {
             to,
             value,
         };
-        match parts::add_within(&mut self.list, &add, room)? {
+        match self.root.add_within(&add, room)? {
             Some(more) => {
                 self.count += more.nodes;
                 self.bytes += more.bytes;
@@ -242,27 +239,35 @@ impl Tree {
     }
 }
 
-/// Makes a node of a key, where there is one and it has none, and tells what came in.
-fn make_node(list: &mut Vec<Fork<Leaf>>, key: Option<&Key>) -> Result<Grown, NoMemory>
-    requires whole { AreParts top_nodes IsWholeTop list.old.items }
-    ensures split { OnOk result (IsSplitAt (nodes_of (map top_nodes list.old.items)) (nodes_of (map top_nodes list.new.items)) (option_to_list (option_map (λ k. k.now) key.entry))) }
-    ensures whole { OnOk result (AreParts top_nodes IsWholeTop list.new.items) }
-    ensures grown { IfOk result (λ more. GrowsBy (nodes_of (map top_nodes list.old.items)) (nodes_of (map top_nodes list.new.items)) more) }
-    ensures few { IfOk result (λ more. (more.nodes ≤ 1) × (more.bytes ≤ 4128)) }
+/// A root in which nodes were made, and what came in.
+#[derive(Drop)]
+struct Made {
+    root: Root,
+    more: Grown,
+}
+
+/// Makes a node of a key, where there is one and it has none.
+fn with_node(root: Root, key: Option<&Key>) -> Result<Made, NoMemory>
+    requires whole { IsWholeRoot root }
+    requires sorted { IsSorted (root_nodes root) }
+    ensures split { IfOk result (λ made. IsSplitAt (root_nodes root) (root_nodes made.root) (option_to_list (option_map (λ k. k.now) key.entry))) }
+    ensures whole { IfOk result (λ made. IsWholeRoot made.root) }
+    ensures grown { IfOk result (λ made. GrowsBy (root_nodes root) (root_nodes made.root) made.more) }
+    ensures few { IfOk result (λ made. (made.more.nodes ≤ 1) × (made.more.bytes ≤ 4128)) }
 {
-    let nothing = Grown { nodes: 0, bytes: 0 };
-    let Some(key) = key else { return Ok(nothing) };
-    let alloc = *list.allocator();
-    let bytes = key.cost();
-    if list.len() == 0 {
-        list.push(top_of(alloc, key)?)?;
-        return Ok(Grown { nodes: 1, bytes });
+    match key {
+        Some(key) if root.is_new(key) => Ok(Made {
+            root: root.with_node(key)?,
+            more: Grown {
+                nodes: 1,
+                bytes: key.cost(),
+            },
+        }),
+        _ => Ok(Made {
+            root,
+            more: Grown { nodes: 0, bytes: 0 },
+        }),
     }
-    if parts::is_new(list, key) {
-        parts::make_node(list, alloc, key)?;
-        return Ok(Grown { nodes: 1, bytes });
-    }
-    Ok(nothing)
 }
 
 /// What a key costs, where there is one.
@@ -274,13 +279,4 @@ fn cost(key: Option<&Key>) -> u32
         Some(key) => key.cost(),
         None => 0,
     }
-}
-
-/// A part of the list with a node of a key alone.
-fn top_of(alloc: Global, key: &Key) -> Result<Fork<Leaf>, NoMemory>
-    ensures nodes { IfOk result (λ top. top_nodes top ≡ node_in_gap key.now (unowned zero_time) ∷ []) }
-    ensures whole { IfOk result IsWholeTop }
-{
-    let leaf = Leaf::new(alloc, Nodes::of_key(alloc, key)?)?;
-    Fork::of_one(alloc, leaf)
 }

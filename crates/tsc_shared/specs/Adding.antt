@@ -5,8 +5,8 @@ use Rattle.std.specs.declared.sync.Arc.{Arc}
 use Rattle.std.specs.declared.alloc.Global.{Global}
 use Rattle.tsc_cache.specs.Settings.{fits}
 use Rattle.tsc_cache.specs.CacheView.{CacheView}
-use Rattle.tsc_shared.specs.declared.board.Pending.{Pending}
-use Rattle.tsc_shared.specs.declared.board.Held.{Held}
+use Rattle.tsc_desk.specs.declared.board.Pending.{Pending}
+use Rattle.tsc_desk.specs.declared.board.Held.{Held}
 
 -- an Add that a cache has not had yet, where there is one, fits a page of it
 abbrev pub LagFits : CacheView → Option Pending → Type 0

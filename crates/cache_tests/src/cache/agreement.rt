@@ -96,10 +96,12 @@ impl Caches {
         if !self.config.fits(span) {
             return Ok(self.refuse(span, value, now));
         }
+        let rotates = self.newest.would_rotate(span, value);
         let added = self.plain.add(span, value, now)?;
         let (next, by_next) = self.newest.next(span, value, now)?;
         self.newest = next;
-        Ok(self.in_place.add(span, value, now)? == added && by_next == added)
+        let alike = rotates == added.rotated && by_next == added;
+        Ok(alike && self.in_place.add(span, value, now)? == added)
     }
 
     /// Makes an Add that is too large in each way, and says whether it is refused as such.

@@ -7,7 +7,7 @@ use Rattle.tsc_nodes.proofs.Standing.{weigh_of_nodes, same_bytes}
 use Rattle.tsc_page.proofs.page.Page.bytes.Goals as goal
 
 value : goal.returns-clause-value
-value c = c.bytes.ensures ∙ c.self.invariant.0.bytes ∙ sym (weigh_of_nodes key_cost (tree_nodes c.self.inside.tree) c.self.invariant.0.parts.sorted) ∙ ap bytes_of c.self.view_is
+value c = c.bytes.ensures ∙ c.self.invariant.0.bytes ∙ sym (weigh_of_nodes key_cost (tree_nodes c.self.inside.tree) c.self.invariant.0.sorted) ∙ ap bytes_of c.self.view_is
 
 pub returns-clause-value : goal.returns-clause-value
 returns-clause-value = value

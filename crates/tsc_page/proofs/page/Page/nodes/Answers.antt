@@ -8,10 +8,10 @@ use Rattle.tsc_nodes.proofs.Costs.{node_costs}
 use Rattle.tsc_page.proofs.page.Page.nodes.Goals as goal
 
 pub returns-clause-value : goal.returns-clause-value
-returns-clause-value c = c.len.ensures ∙ c.self.invariant.0.count ∙ sym (count_of_nodes (tree_nodes c.self.inside.tree) c.self.invariant.0.parts.sorted) ∙ ap (λ (v : PageView). count_distinct v.keys) c.self.view_is
+returns-clause-value c = c.len.ensures ∙ c.self.invariant.0.count ∙ sym (count_of_nodes (tree_nodes c.self.inside.tree) c.self.invariant.0.sorted) ∙ ap (λ (v : PageView). count_distinct v.keys) c.self.view_is
 
 pub returns-clause-stands : goal.returns-clause-stands
-returns-clause-stands c p stands = c.len.ensures ∙ c.self.invariant.0.count ∙ sym (count_of_nodes (tree_nodes c.self.inside.tree) c.self.invariant.0.parts.sorted) ∙ ap (λ (v : PageView). count_distinct v.keys) c.self.view_is ∙ same_count c.args.self.now p stands
+returns-clause-stands c p stands = c.len.ensures ∙ c.self.invariant.0.count ∙ sym (count_of_nodes (tree_nodes c.self.inside.tree) c.self.invariant.0.sorted) ∙ ap (λ (v : PageView). count_distinct v.keys) c.self.view_is ∙ same_count c.args.self.now p stands
 
 pub overflow_cast-result : goal.overflow_cast-result
 overflow_cast-result c = omega (arith, c.len.ensures, c.self.invariant.0.count, node_costs (tree_nodes c.self.inside.tree), c.self.invariant.0.bytes, c.self.invariant.1, c.self.invariant.3)

@@ -11,7 +11,7 @@ value : goal.returns-clause-value
 value c =
     let nodes = tree_nodes c.self.inside.tree in
     room_told nodes (option_map (λ k. k.now) c.end_keys.result.0) (option_map (λ k. k.now) c.end_keys.result.1) c.args.span.now c.self.inside.tree.bytes c.self.inside.size c.has_room.result
-    c.self.invariant.0.parts.sorted c.end_keys.ensures.keys c.self.invariant.0.bytes c.has_room.ensures ∙ ap (λ (v : PageView). has_room_for v c.args.span.now) c.self.view_is
+    c.self.invariant.0.sorted c.end_keys.ensures.keys c.self.invariant.0.bytes c.has_room.ensures ∙ ap (λ (v : PageView). has_room_for v c.args.span.now) c.self.view_is
 
 pub returns-clause-value : goal.returns-clause-value
 returns-clause-value = value

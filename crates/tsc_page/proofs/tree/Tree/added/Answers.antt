@@ -1,22 +1,19 @@
 -- There is room for what the span's keys cost with those of the nodes, without repeats.
-use Rattle.std.proofs.Common.{◌∙◌, ap, sym, subst, ◌++◌, List, length, map, arith}
+use Rattle.std.proofs.Common.{◌∙◌, ap, sym, subst, ◌++◌, List, length, arith}
 use Rattle.std.specs.Prelude.{Option, option_map}
 use Rattle.std.specs.Option.{option_to_list}
 use Rattle.std.proofs.lemmas.Bool.{leb-true, leb-false}
-use Rattle.std.proofs.lemmas.List.{with_items_is}
 use Rattle.tsc_span.specs.Span.{KeyBytes, Cut, between, end_keys, key_cost}
 use Rattle.tsc_span.specs.Cuts.{cut_of}
 use Rattle.tsc_nodes.specs.Page.{cost_distinct}
-use Rattle.tsc_nodes.specs.Nodes.{Node, IsSorted, IsSplitAt, node_keys, nodes_cost, raise_nodes}
-use Rattle.tsc_page.specs.Leaves.{nodes_of, AreParts}
-use Rattle.tsc_page.specs.Trees.{Top, top_nodes, top_sizes, IsWholeTop, tree_nodes}
+use Rattle.tsc_nodes.specs.Nodes.{Node, IsSorted, IsSplitAt, node_keys, nodes_cost}
+use Rattle.tsc_page.specs.Trees.{root_nodes, tree_nodes}
 use Rattle.tsc_nodes.proofs.NewKeys.{splits_chain}
 use Rattle.tsc_nodes.proofs.Standing.{split_weight}
 use Rattle.tsc_nodes.proofs.Costs.{cost-raised, node_costs}
 use Rattle.tsc_nodes.proofs.Edits.{raise_nodes-sorted, raise_nodes-length}
 use Rattle.tsc_page.proofs.Costs.{room_told}
-use Rattle.tsc_page.proofs.PartLists.{copies_sorted}
-use Rattle.tsc_page.proofs.TreeLists.{copied_tops, counted_with}
+use Rattle.tsc_page.proofs.TreeLists.{counted_tree}
 use Rattle.tsc_page.proofs.tree.Tree.added.Goals as goal
 
 pub returns-then-not-has_room-clause-full : goal.returns-then-not-has_room-clause-full
@@ -25,16 +22,8 @@ returns-then-not-has_room-clause-full c e =
     let o : Option KeyBytes = option_map (λ k. k.now) c.args.first in
     let q : Option KeyBytes = option_map (λ k. k.now) c.args.second in
     let all = between (cut_of c.args.from) (cut_of c.args.to) in
-    let told = room_told old o q all c.args.self.now.bytes c.args.most c.has_room.result c.requires.counted.parts.sorted c.requires.keys c.requires.counted.bytes c.has_room.ensures in
+    let told = room_told old o q all c.args.self.now.bytes c.args.most c.has_room.result c.requires.counted.sorted c.requires.keys c.requires.counted.bytes c.has_room.ensures in
     leb-false (cost_distinct (node_keys old ++ end_keys all)) c.args.most (sym told ∙ c.if-not-has_room.true)
-
-pub make_node-requires : goal.make_node-requires
-make_node-requires c =
-    let copy = copied_tops c.args.self.now.list.items c.in_ok-list.list.items c.in_ok-list.ensures.cases.0 in
-    record { whole = copies_sorted top_nodes top_sizes IsWholeTop c.args.self.now.list.items c.in_ok-list.list.items copy c.requires.counted.parts }
-
-pub raise_between-requires-clause-parts : goal.raise_between-requires-clause-parts
-raise_between-requires-clause-parts c = subst (AreParts top_nodes IsWholeTop) (sym c.deref_mut.ensures.value) c.in_ok-lower.ensures.whole
 
 pub returns-clause-added : goal.returns-clause-added
 returns-clause-added c =
@@ -43,16 +32,11 @@ returns-clause-added c =
     let t : Cut = cut_of c.args.to in
     let o : Option KeyBytes = option_map (λ k. k.now) c.args.first in
     let q : Option KeyBytes = option_map (λ k. k.now) c.args.second in
-    let copy = copied_tops c.args.self.now.list.items c.in_ok-list.list.items c.in_ok-list.ensures.cases.0 in
-    let mid : List Node = nodes_of (map top_nodes c.make_node-2.new.list.items) in
+    let mid : List Node = root_nodes c.in_ok-lower.lower.root in
     let made = splits_chain _ _ mid (option_to_list q) (option_to_list o) c.in_ok-upper.ensures.split c.in_ok-lower.ensures.split in
-    let from_old : IsSplitAt old mid (option_to_list o ++ option_to_list q) =
-    subst (λ (ns : List Node). IsSplitAt ns mid (option_to_list o ++ option_to_list q)) (ap (λ (ls : List (List Node)). nodes_of ls) copy.nodes) made in
+    let from_old : IsSplitAt old mid (option_to_list o ++ option_to_list q) = subst (λ (ns : List Node). IsSplitAt ns mid (option_to_list o ++ option_to_list q)) c.in_ok-try_copy.ensures.nodes made in
     let split : IsSplitAt old mid (end_keys (between f t)) = subst (λ ks. IsSplitAt old mid ks) c.requires.keys from_old in
-    let new = c.raise_between.new.parts in
-    let kept = with_items_is c.make_node-2.new.list new (omega (arith, c.in_ok-raise_between.ensures.len, ap length c.deref_mut.ensures.value, c.make_node-2.new.list.ok.0)) in
-    let raised = c.in_ok-raise_between.ensures.raised ∙ ap (λ (ps : List Top). raise_nodes (between f t) c.args.value (nodes_of (map top_nodes ps))) c.deref_mut.ensures.value in
-    record { mid = mid; split = split; raised = ap (λ (ps : List Top). nodes_of (map top_nodes ps)) kept ∙ raised }
+    record { mid = mid; split = split; raised = c.in_ok-raise_between.ensures.raised }
 
 pub returns-clause-within : goal.returns-clause-within
 returns-clause-within c =
@@ -61,29 +45,24 @@ returns-clause-within c =
     let t : Cut = cut_of c.args.to in
     let o : Option KeyBytes = option_map (λ k. k.now) c.args.first in
     let q : Option KeyBytes = option_map (λ k. k.now) c.args.second in
-    let copy = copied_tops c.args.self.now.list.items c.in_ok-list.list.items c.in_ok-list.ensures.cases.0 in
-    let mid : List Node = nodes_of (map top_nodes c.make_node-2.new.list.items) in
+    let mid : List Node = root_nodes c.in_ok-lower.lower.root in
     let made = splits_chain _ _ mid (option_to_list q) (option_to_list o) c.in_ok-upper.ensures.split c.in_ok-lower.ensures.split in
-    let from_old : IsSplitAt old mid (option_to_list o ++ option_to_list q) =
-    subst (λ (ns : List Node). IsSplitAt ns mid (option_to_list o ++ option_to_list q)) (ap (λ (ls : List (List Node)). nodes_of ls) copy.nodes) made in
+    let from_old : IsSplitAt old mid (option_to_list o ++ option_to_list q) = subst (λ (ns : List Node). IsSplitAt ns mid (option_to_list o ++ option_to_list q)) c.in_ok-try_copy.ensures.nodes made in
     let split : IsSplitAt old mid (end_keys (between f t)) = subst (λ ks. IsSplitAt old mid ks) c.requires.keys from_old in
-    let told = room_told old o q (between f t) c.args.self.now.bytes c.args.most c.has_room.result c.requires.counted.parts.sorted c.requires.keys c.requires.counted.bytes c.has_room.ensures in
+    let told = room_told old o q (between f t) c.args.self.now.bytes c.args.most c.has_room.result c.requires.counted.sorted c.requires.keys c.requires.counted.bytes c.has_room.ensures in
     let few = leb-true (cost_distinct (node_keys old ++ end_keys (between f t))) c.args.most (sym told ∙ c.if-not-has_room.false) in
-    omega (arith, few, split_weight key_cost old mid (between f t) split, c.in_ok-upper.ensures.grown.cost, c.in_ok-lower.ensures.grown.cost, ap (λ (ls : List (List Node)). nodes_cost (nodes_of ls)) copy.nodes, c.requires.counted.bytes)
+    omega (arith, few, split_weight key_cost old mid (between f t) split, c.in_ok-upper.ensures.grown.cost, c.in_ok-lower.ensures.grown.cost, ap nodes_cost c.in_ok-try_copy.ensures.nodes, c.requires.counted.bytes)
 
 pub returns-clause-counted : goal.returns-clause-counted
 returns-clause-counted c =
     let f : Cut = cut_of c.args.from in
     let t : Cut = cut_of c.args.to in
-    let copy = copied_tops c.args.self.now.list.items c.in_ok-list.list.items c.in_ok-list.ensures.cases.0 in
-    let mid : List Node = nodes_of (map top_nodes c.make_node-2.new.list.items) in
-    let new = c.raise_between.new.parts in
-    let raised = c.in_ok-raise_between.ensures.raised ∙ ap (λ (ps : List Top). raise_nodes (between f t) c.args.value (nodes_of (map top_nodes ps))) c.deref_mut.ensures.value in
+    let mid : List Node = root_nodes c.in_ok-lower.lower.root in
+    let raised = c.in_ok-raise_between.ensures.raised in
     let counted = c.requires.counted in
-    counted_with c.make_node-2.new.list new _ _ (omega (arith, c.in_ok-raise_between.ensures.len, ap length c.deref_mut.ensures.value))
-    (record { whole = c.in_ok-raise_between.ensures.whole; sorted = subst IsSorted (sym raised) (raise_nodes-sorted (between f t) c.args.value mid c.in_ok-lower.ensures.whole.sorted) })
-    (omega (arith, counted.count, ap (λ (ls : List (List Node)). length (nodes_of ls)) copy.nodes, c.in_ok-upper.ensures.grown.count, c.in_ok-lower.ensures.grown.count, ap length raised, raise_nodes-length (between f t) c.args.value mid))
-    (omega (arith, counted.bytes, ap (λ (ls : List (List Node)). nodes_cost (nodes_of ls)) copy.nodes, c.in_ok-upper.ensures.grown.cost, c.in_ok-lower.ensures.grown.cost, ap nodes_cost raised, cost-raised (between f t) c.args.value mid))
+    counted_tree _ c.in_ok-raise_between.ensures.whole (subst IsSorted (sym raised) (raise_nodes-sorted (between f t) c.args.value mid c.in_ok-lower.ensures.split.sorted))
+    (omega (arith, counted.count, ap (λ (ns : List Node). length ns) c.in_ok-try_copy.ensures.nodes, c.in_ok-upper.ensures.grown.count, c.in_ok-lower.ensures.grown.count, ap length raised, raise_nodes-length (between f t) c.args.value mid))
+    (omega (arith, counted.bytes, ap nodes_cost c.in_ok-try_copy.ensures.nodes, c.in_ok-upper.ensures.grown.cost, c.in_ok-lower.ensures.grown.cost, ap nodes_cost raised, cost-raised (between f t) c.args.value mid))
 
 pub overflow_add-count : goal.overflow_add-count
 overflow_add-count c =

@@ -1,11 +1,7 @@
 -- No leaf is larger than 64.
-use Rattle.std.proofs.Common.{subst, map, List}
-use Rattle.tsc_page.specs.Pending.{sizes_of, TellsSize}
-use Rattle.tsc_page.specs.Trees.{Top, top_sizes, tree_sizes}
+use Rattle.tsc_page.specs.Trees.{tree_sizes}
 use Rattle.tsc_page.proofs.Wholes.{few_of_told}
 use Rattle.tsc_page.proofs.tree.Tree.leaf_len.Goals as goal
 
 pub returns-clause-few : goal.returns-clause-few
-returns-clause-few c =
-    few_of_told (tree_sizes c.args.self.now) c.args.place c.leaf_len.result c.ok.result c.requires.counted.sizes.few c.ok.ensures.value
-    (subst (λ (ps : List Top). TellsSize (sizes_of (map top_sizes ps)) c.args.place c.leaf_len.result) c.deref.ensures.value c.leaf_len.ensures)
+returns-clause-few c = few_of_told (tree_sizes c.args.self.now) c.args.place c.leaf_len.result c.ok.result c.requires.counted.sizes.few c.ok.ensures.value c.leaf_len.ensures

@@ -1,0 +1,14 @@
+pub mod Prefixes
+pub mod Totals
+pub mod Stages
+pub mod Hands
+pub mod DeskMoves
+pub mod Lookers
+pub mod Taking
+pub mod Giving
+pub mod Meeting
+pub mod Posts
+pub mod Ends
+pub mod AsCalled
+pub mod Openings
+pub mod Crossing

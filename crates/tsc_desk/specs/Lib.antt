@@ -1,0 +1,5 @@
+pub mod Desk
+pub mod DeskSteps
+pub mod AtDesk
+pub mod Closing
+pub mod Opening

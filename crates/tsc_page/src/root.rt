@@ -1,0 +1,190 @@
+ghost use Rattle.std.specs.Prelude.{◌≡◌, ◌≤◌, [], ◌∷◌, length, map, true, not, IfOk, OnOk};
+ghost use Rattle.std.specs.List.{All};
+ghost use Rattle.tsc_span.specs.Span.{is_below, between};
+ghost use Rattle.tsc_span.specs.Cuts.{cut_of};
+ghost use Rattle.tsc_time.specs.Time.{zero_time};
+ghost use Rattle.tsc_time.specs.OwnedTime.{unowned};
+ghost use Rattle.tsc_nodes.specs.PageView.{is_in};
+ghost use Rattle.tsc_nodes.specs.Nodes.{IsSorted, node_in_gap, node_keys, answer_of, raise_nodes};
+ghost use Rattle.tsc_page.specs.Leaves.{HasNode, nodes_of};
+ghost use Rattle.tsc_page.specs.Pending.{TellsSize, IsAddTold};
+ghost use Rattle.tsc_page.specs.Copies.{IsSameAs};
+ghost use Rattle.tsc_page.specs.Trees.{leaf_nodes, leaf_sizes, IsWholeLeaf, level_nodes, IsWholeLevel, AreFewParts, root_nodes, root_sizes, IsWholeRoot};
+
+use crate::addition::Addition;
+use crate::fork::{Fork, Level};
+use crate::leaf::Leaf;
+use crate::{fork, parts};
+use std::alloc::Global;
+use tsc_nodes::{Grown, Nodes, NumberedCut};
+use tsc_span::{Cut, Key};
+use tsc_time::{NoMemory, Value};
+
+/// The top of a tree: a list of parts, which are as high as it takes to have 64 of them at the most. Only that of the highest
+/// kind has no bound. A part has at least 32 of the next kind, so the greatest page fills it with some 30.
+#[derive(Debug, Drop)]
+pub(crate) enum Root {
+    One(Vec<Leaf>),
+    Two(Vec<Fork<Leaf>>),
+    Three(Vec<Fork<Fork<Leaf>>>),
+    Four(Vec<Fork<Fork<Fork<Leaf>>>>),
+}
+
+impl Root {
+    /// A root without leaves.
+    pub(crate) fn new(alloc: Global) -> Root
+        ensures nodes { root_nodes result ≡ [] }
+        ensures sizes { root_sizes result ≡ [] }
+        ensures whole { IsWholeRoot result }
+    {
+        Root::One(Vec::new(alloc))
+    }
+
+    /// How many nodes a leaf has; `Err` tells how many places behind the last leaf this is.
+    pub(crate) fn leaf_len(&self, place: usize) -> Result<usize, usize>
+        ensures { TellsSize (root_sizes self.now) place result }
+    {
+        match self {
+            Root::One(parts) => parts::leaf_len(parts, place),
+            Root::Two(parts) => parts::leaf_len(parts, place),
+            Root::Three(parts) => parts::leaf_len(parts, place),
+            Root::Four(parts) => parts::leaf_len(parts, place),
+        }
+    }
+
+    /// Whether this is a key that has no node.
+    pub(crate) fn is_new(&self, key: &Key) -> bool
+        requires whole { IsWholeRoot self.now }
+        requires sorted { IsSorted (root_nodes self.now) }
+        ensures { result ≡ not (is_in key.now (node_keys (root_nodes self.now))) }
+    {
+        match self {
+            Root::One(parts) => parts::is_new(parts, key),
+            Root::Two(parts) => parts::is_new(parts, key),
+            Root::Three(parts) => parts::is_new(parts, key),
+            Root::Four(parts) => parts::is_new(parts, key),
+        }
+    }
+
+    /// The joint value of the keys and gaps between two cuts.
+    pub(crate) fn joint_between(&self, from: &NumberedCut<'_>, to: &NumberedCut<'_>) -> Value
+        requires whole { IsWholeRoot self.now }
+        requires sorted { IsSorted (root_nodes self.now) }
+        requires order { is_below from.now to.now ≡ true }
+        ensures { result ≡ answer_of (root_nodes self.now) (between from.now to.now) }
+    {
+        match self {
+            Root::One(parts) => parts::joint_between(parts, from, to),
+            Root::Two(parts) => parts::joint_between(parts, from, to),
+            Root::Three(parts) => parts::joint_between(parts, from, to),
+            Root::Four(parts) => parts::joint_between(parts, from, to),
+        }
+    }
+
+    /// The same root once more, which shares all below the list.
+    pub(crate) fn try_copy(&self) -> Result<Root, NoMemory>
+        ensures { IfOk result (λ copy. IsSameAs root_nodes root_sizes IsWholeRoot self.now copy) }
+    {
+        match self {
+            Root::One(parts) => Ok(Root::One(parts.clone()?)),
+            Root::Two(parts) => Ok(Root::Two(parts.clone()?)),
+            Root::Three(parts) => Ok(Root::Three(parts.clone()?)),
+            Root::Four(parts) => Ok(Root::Four(parts.clone()?)),
+        }
+    }
+
+    /// The root with a node of a key, where it has none. Where the parts would then be more than a fork has, they come into two forks, of
+    /// which the root then is.
+    pub(crate) fn with_node(self, key: &Key) -> Result<Root, NoMemory>
+        requires whole { IsWholeRoot self }
+        requires sorted { IsSorted (root_nodes self) }
+        ensures made { IfOk result (λ root. HasNode (root_nodes self) (root_nodes root) key.now) }
+        ensures whole { IfOk result IsWholeRoot }
+    {
+        match self {
+            Root::One(parts) => match leaves_with_node(parts, key)? {
+                Level::Parts(parts) => Ok(Root::One(parts)),
+                Level::Forks(forks) => Ok(Root::Two(forks)),
+            },
+            Root::Two(parts) => match fork::with_node(parts, key)? {
+                Level::Parts(parts) => Ok(Root::Two(parts)),
+                Level::Forks(forks) => Ok(Root::Three(forks)),
+            },
+            Root::Three(parts) => match fork::with_node(parts, key)? {
+                Level::Parts(parts) => Ok(Root::Three(parts)),
+                Level::Forks(forks) => Ok(Root::Four(forks)),
+            },
+            Root::Four(mut parts) => {
+                let alloc = *parts.allocator();
+                parts::make_node(&mut parts, alloc, key)?;
+                Ok(Root::Four(parts))
+            }
+        }
+    }
+
+    /// Ratchets a value into the keys and gaps between two cuts, and changes nothing that others hold. Where memory is refused
+    /// nothing is known of the root.
+    pub(crate) fn raise_between(
+        &mut self,
+        from: Cut<'_>,
+        to: Cut<'_>,
+        value: Value,
+    ) -> Result<(), NoMemory>
+        requires whole { IsWholeRoot self.old }
+        requires sorted { IsSorted (root_nodes self.old) }
+        requires order { is_below (cut_of from) (cut_of to) ≡ true }
+        ensures raised { OnOk result (root_nodes self.new ≡ raise_nodes (between (cut_of from.entry) (cut_of to.entry)) value (root_nodes self.old)) }
+        ensures whole { OnOk result (IsWholeRoot self.new) }
+    {
+        match self {
+            Root::One(parts) => parts::raise_between(parts, from, to, value),
+            Root::Two(parts) => parts::raise_between(parts, from, to, value),
+            Root::Three(parts) => parts::raise_between(parts, from, to, value),
+            Root::Four(parts) => parts::raise_between(parts, from, to, value),
+        }
+    }
+
+    /// Adds in place, as [`parts::Part::add_within`] tells.
+    pub(crate) fn add_within(
+        &mut self,
+        add: &Addition<'_>,
+        room: u32,
+    ) -> Result<Option<Grown>, NoMemory>
+        requires whole { IsWholeRoot self.old }
+        requires sorted { IsSorted (root_nodes self.old) }
+        ensures told { IsAddTold (root_nodes self.old) (root_nodes self.new) (root_sizes self.old) (root_sizes self.new) add.now room result }
+        ensures whole { IsWholeRoot self.new }
+    {
+        match self {
+            Root::One(parts) => parts::add_within(parts, add, room),
+            Root::Two(parts) => parts::add_within(parts, add, room),
+            Root::Three(parts) => parts::add_within(parts, add, room),
+            Root::Four(parts) => parts::add_within(parts, add, room),
+        }
+    }
+}
+
+/// Makes a node of a key among leaves, of which it may be the first, where it has none.
+fn leaves_with_node(leaves: Vec<Leaf>, key: &Key) -> Result<Level<Leaf>, NoMemory>
+    requires whole { All IsWholeLeaf leaves.items }
+    requires few { length leaves.items ≤ 64 }
+    requires sorted { IsSorted (nodes_of (map leaf_nodes leaves.items)) }
+    ensures made { IfOk result (λ level. HasNode (nodes_of (map leaf_nodes leaves.items)) (level_nodes leaf_nodes level) key.now) }
+    ensures whole { IfOk result (IsWholeLevel leaf_nodes leaf_sizes IsWholeLeaf) }
+{
+    if leaves.len() == 0 {
+        Ok(Level::Parts(first_leaf(*leaves.allocator(), key)?))
+    } else {
+        fork::with_node(leaves, key)
+    }
+}
+
+/// A list of one leaf, which has a node of a key alone.
+fn first_leaf(alloc: Global, key: &Key) -> Result<Vec<Leaf>, NoMemory>
+    ensures nodes { IfOk result (λ leaves. nodes_of (map leaf_nodes leaves.items) ≡ node_in_gap key.now (unowned zero_time) ∷ []) }
+    ensures whole { IfOk result (λ leaves. AreFewParts IsWholeLeaf leaves.items) }
+{
+    let mut leaves = Vec::with_capacity(alloc, 1)?;
+    leaves.push(Leaf::new(alloc, Nodes::of_key(alloc, key)?)?)?;
+    Ok(leaves)
+}

@@ -1,0 +1,10 @@
+use Rattle.std.proofs.Common.{◌≡◌, ◌++◌, ◌-◌}
+use Rattle.tsc_shared.specs.Seats.{new_seats}
+use Rattle.tsc_shared.specs.Keeping.{shared_view}
+use Rattle.tsc_shared.proofs.Dealing.{left_over}
+use Rattle.tsc_shared.proofs.seating.seat_all.Given as goal
+
+abbrev pub invariant-loop-number : goal.invariant-loop-number
+invariant-loop-number l =
+    (l.all.table_id ≡ l.fn.all.table_id) × (l.all.me ≡ left_over l.fn.terms l.number l.fn.terms.seats)
+    × (l.seats.items ++ new_seats (shared_view l.fn.desk.table_id l.fn.terms) l.number (l.fn.terms.seats - l.number) ≡ new_seats (shared_view l.fn.desk.table_id l.fn.terms) 0 l.fn.terms.seats)
