@@ -13,9 +13,9 @@ use tsc_time::{Timestamp, Value, ratchet};
 pub const CACHE_OPERATIONS: [(&str, usize); 8] = [
     ("lookup of a key in all pages", 1),
     ("lookup of 16 nodes in all pages", 2),
-    ("add of a key", 3),
-    ("add of 16 nodes", 4),
-    ("next with a key", 5),
+    ("add of a key", 5),
+    ("add of 16 nodes", 6),
+    ("next with a key", 9),
     ("lookup of a key later than all older pages", 1),
     ("lookup of 16 nodes later than all older pages", 2),
     ("add of a new key, with rotations", 0),
@@ -30,7 +30,7 @@ const ROTATIONS: u32 = 2;
 /// Measures caches of so many pages in [`ROUNDS`] rounds.
 pub fn measure_caches(rt: &HostRuntime, nodes: u32, pages: u32, turns: u32) -> Result<[Figure; 8]>
     requires at_least { 64 ≤ nodes }
-    requires at_most { nodes ≤ 65536 }
+    requires at_most { nodes ≤ 1048576 }
 {
     let mut all = [Figure::NONE; 8];
     for _ in 0..ROUNDS {
@@ -43,7 +43,7 @@ pub fn measure_caches(rt: &HostRuntime, nodes: u32, pages: u32, turns: u32) -> R
 /// [`PLACES`](crate::measure::PLACES) places, `turns` times.
 fn measure_round(rt: &HostRuntime, nodes: u32, pages: u32, turns: u32) -> Result<Vec<Figure>>
     requires at_least { 64 ≤ nodes }
-    requires at_most { nodes ≤ 65536 }
+    requires at_most { nodes ≤ 1048576 }
 {
     let front = Keys::new(nodes, pages.saturating_sub(1), &[]);
     let places = Places::of(rt.alloc(), front)?;

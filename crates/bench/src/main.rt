@@ -1,10 +1,12 @@
-//! `bench NODES..` fills a page with so many nodes, from 64 to 65,536, and then looks up and adds single keys, and
-//! ranges of 16 nodes, and adds keys to copies of the page; first with keys of 8 bytes, and then with keys whose
-//! first 16 bytes are the same. It prints how many operations it made in a turn and the nanoseconds of one, in
-//! that turn of many in which they took least. Then it does so to the caches, and prints too what each took as a
-//! percentage of what it took on the page, and compares lookups that stop at the newest of 17 pages with those
-//! in a single page, turn by turn. Then it measures a shared cache, as `bench shared NODES..` does alone. For two
-//! sizes and more it prints by how much each operation of a page grew from the first size to the last.
+//! `bench pages NODES..` fills a page with so many nodes, from 64 to 1,048,576, and then looks up and adds single keys,
+//! ranges of 16 and of 1,000 nodes and the whole page, and adds keys to copies of the page; first with keys of 8 bytes,
+//! and then with keys whose first 16 bytes are the same. It prints how many operations it made in a turn and the
+//! nanoseconds of one, in that turn of many in which they took least. For two sizes and more it prints by how much
+//! each operation grew from the first size to the last.
+//!
+//! `bench NODES..` does that, and then the same to caches, and prints too what each took as a percentage of what it
+//! took on the page, and compares lookups that stop at the newest of 17 pages with those in a single page, turn by
+//! turn. Then it measures a shared cache, as `bench shared NODES..` does alone.
 //!
 //! `bench shared NODES..` has 1, 2 and 4 seats of a shared cache look up and add on threads, and prints how many
 //! calls they made in a second; then one seat add beside seats that nobody uses, and prints the nanoseconds of an Add
@@ -57,6 +59,7 @@ fn main(rt: HostRuntime) -> Result<()> {
     match first.as_str() {
         "shared" => measure_sharing(&rt, sizes, false),
         "longest" => measure_sharing(&rt, sizes, true),
+        "pages" => measure_pages(&rt, sizes),
         _ => measure_all(&rt, &rt, &words),
     }
 }
@@ -64,7 +67,7 @@ fn main(rt: HostRuntime) -> Result<()> {
 /// How many nodes a word says.
 fn nodes_of(word: &str) -> Result<u32>
     ensures at_least { IfOk result (λ nodes. 64 ≤ nodes) }
-    ensures at_most { IfOk result (λ nodes. nodes ≤ 65536) }
+    ensures at_most { IfOk result (λ nodes. nodes ≤ 1048576) }
 {
     let nodes = word.parse()?;
     ensure!(
@@ -91,6 +94,25 @@ fn measure_sharing<R: Threads + Wait + Sync + Clock + AllocGlobal + Print>(
     Ok(())
 }
 
+/// Measures a page of each size.
+fn measure_pages(rt: &HostRuntime, sizes: &[String]) -> Result<()> {
+    let mut all: Vec<Vec<Row>> = Vec::new(rt.alloc());
+    for word in sizes {
+        all.push(measure_page_of(rt, nodes_of(word)?)?)?;
+    }
+    print_growth(rt, &all)
+}
+
+/// Measures a page, and prints it. Gives what its operations took.
+fn measure_page_of(rt: &HostRuntime, nodes: u32) -> Result<Vec<Row>>
+    requires at_least { 64 ≤ nodes }
+    requires at_most { nodes ≤ 1048576 }
+{
+    let rows = measure(rt, nodes, TURNS)?;
+    print_page(rt, nodes, &rows)?;
+    Ok(rows)
+}
+
 /// Measures all with each size.
 fn measure_all<R: Threads + Wait + Sync + Clock + AllocGlobal + Print>(
     host: &HostRuntime,
@@ -109,10 +131,9 @@ fn measure_all<R: Threads + Wait + Sync + Clock + AllocGlobal + Print>(
 /// Measures pages and caches, and prints it. Gives what operations on a page took.
 fn measure_size(rt: &HostRuntime, nodes: u32) -> Result<Vec<Row>>
     requires at_least { 64 ≤ nodes }
-    requires at_most { nodes ≤ 65536 }
+    requires at_most { nodes ≤ 1048576 }
 {
-    let rows = measure(rt, nodes, TURNS)?;
-    print_page(rt, nodes, &rows)?;
+    let rows = measure_page_of(rt, nodes)?;
     print_caches(rt, nodes, &rows)?;
     print_stops(rt, nodes)?;
     Ok(rows)
@@ -145,7 +166,7 @@ fn print_growth(rt: &HostRuntime, all: &[Vec<Row>]) -> Result<()> {
 /// Prints what operations on caches take beside those on a page of the same size.
 fn print_caches(rt: &HostRuntime, nodes: u32, page: &[Row]) -> Result<()>
     requires at_least { 64 ≤ nodes }
-    requires at_most { nodes ≤ 65536 }
+    requires at_most { nodes ≤ 1048576 }
 {
     for pages in PAGES {
         let figures = measure_caches(rt, nodes, pages, CACHE_TURNS)?;

@@ -1,4 +1,4 @@
-ghost use Rattle.std.specs.Prelude.{◌≡◌, ◌≤◌, IfOk};
+ghost use Rattle.std.specs.Prelude.{◌≡◌, ◌<◌, ◌≤◌, IfOk};
 
 use crate::watch::Watch;
 use anyhow::{Context, Result, ensure};
@@ -8,12 +8,16 @@ use tsc_span::{Ends, Key, Span};
 use tsc_time::{Timestamp, Value, ratchet};
 
 /// What is measured on a page.
-pub const OPERATIONS: [&str; 7] = [
+pub const OPERATIONS: [&str; 11] = [
     "add of a new key",
     "lookup of a key",
     "lookup of 16 nodes",
+    "lookup of 1,000 nodes",
+    "lookup of the whole page",
     "add of a key",
     "add of 16 nodes",
+    "add of 1,000 nodes",
+    "add of the whole page",
     "next with a key",
     "next with a new key",
 ];
@@ -29,7 +33,7 @@ pub const ROUNDS: u32 = 9;
 pub const SMALLEST: u32 = 64;
 
 /// How many nodes a page has at the most.
-pub const LARGEST: u32 = 65536;
+pub const LARGEST: u32 = 1_048_576;
 
 /// At how many places of a full page each operation is made.
 pub const PLACES: u32 = 1024;
@@ -40,12 +44,18 @@ pub const COPIES: u32 = 16;
 /// How many nodes a range has.
 pub const WIDTH: u32 = 16;
 
+/// How many nodes a wide range has, or half of the page where it has fewer.
+const WIDE: u32 = 1000;
+
+/// At how many places an operation over a wide range is made, and how often one over the whole page.
+const WIDE_PLACES: u32 = 16;
+
 /// How far apart the keys of two places are, so that each page of a cache has keys of its own.
 const APART: u64 = 64;
 
 /// Multiplied by this, numbers go about all places of a page, far from one to the next: a prime above the
 /// number of places.
-const STRIDE: u64 = 119_533;
+const STRIDE: u64 = 1_696_631;
 
 /// What an operation on a page took with keys of one kind.
 #[derive(Clone, Copy)]
@@ -138,12 +148,12 @@ impl Keys {
     /// So many spans all over the page: single keys, or ranges of `width` nodes.
     pub fn spans(self, alloc: Global, count: u32, width: u32) -> Result<Vec<Span>>
         requires at_least { 64 ≤ self.nodes }
-        requires width { width ≤ 16 }
+        requires width { width < self.nodes }
     {
+        let starts = u64::from(self.nodes - width);
         let mut spans = Vec::with_capacity(alloc, count as usize)?;
         for i in 0..u64::from(count) {
-            let from = i * STRIDE % u64::from(self.nodes - width);
-            spans.push(self.span(alloc, from, width)?)?;
+            spans.push(self.span(alloc, i * STRIDE % starts, width)?)?;
         }
         Ok(spans)
     }
@@ -165,7 +175,7 @@ impl Keys {
 /// Measures pages in [`ROUNDS`] rounds: all operations with keys of 8 bytes, and then with longer ones.
 pub fn measure(rt: &HostRuntime, nodes: u32, turns: u32) -> Result<Vec<Row>>
     requires at_least { 64 ≤ nodes }
-    requires at_most { nodes ≤ 65536 }
+    requires at_most { nodes ≤ 1048576 }
 {
     let mut rows = Vec::new(rt.alloc());
     for (keys, front) in KINDS {
@@ -176,11 +186,11 @@ pub fn measure(rt: &HostRuntime, nodes: u32, turns: u32) -> Result<Vec<Row>>
 }
 
 /// Measures pages with keys of one kind.
-fn measure_kind(rt: &HostRuntime, keys: Keys, turns: u32) -> Result<[Figure; 7]>
+fn measure_kind(rt: &HostRuntime, keys: Keys, turns: u32) -> Result<[Figure; 11]>
     requires at_least { 64 ≤ keys.nodes }
-    requires at_most { keys.nodes ≤ 65536 }
+    requires at_most { keys.nodes ≤ 1048576 }
 {
-    let mut all = [Figure::NONE; 7];
+    let mut all = [Figure::NONE; 11];
     for _ in 0..ROUNDS {
         keep_least(&mut all, &measure_page(rt, keys, turns)?);
     }
@@ -209,11 +219,14 @@ pub fn keep_least(all: &mut [Figure], round: &[Figure]) {
     }
 }
 
-/// The places of a page at which operations are made: [`PLACES`] keys, and as many ranges of [`WIDTH`] nodes.
+/// The places of a page at which operations are made: [`PLACES`] keys, and as many ranges of [`WIDTH`] nodes; a few
+/// wide ranges, and as often the whole page.
 #[derive(Drop)]
 pub struct Places {
     pub keys: Vec<Span>,
     pub ranges: Vec<Span>,
+    wide: Vec<Span>,
+    whole: Vec<Span>,
 }
 
 impl Places {
@@ -223,6 +236,8 @@ impl Places {
         Ok(Places {
             keys: here.spans(alloc, PLACES, 0)?,
             ranges: here.spans(alloc, PLACES, WIDTH)?,
+            wide: here.spans(alloc, WIDE_PLACES, WIDE.min(here.nodes / 2))?,
+            whole: here.spans(alloc, WIDE_PLACES, here.nodes - 1)?,
         })
     }
 
@@ -242,14 +257,18 @@ struct Filled {
 
 impl Filled {
     /// The figures of a page in the order of [`OPERATIONS`], with those of Adds to copies and of the turns.
-    fn figures(&self, next: Figure, turns: [Figure; 4]) -> [Figure; 7] {
-        let [of_key, of_range, to_key, to_range] = turns;
+    fn figures(&self, next: Figure, turns: [Figure; 8]) -> [Figure; 11] {
+        let [of_key, of_range, of_wide, of_whole, to_key, to_range, to_wide, to_whole] = turns;
         [
             self.adds,
             of_key,
             of_range,
+            of_wide,
+            of_whole,
             to_key,
             to_range,
+            to_wide,
+            to_whole,
             next,
             self.next_new,
         ]
@@ -259,7 +278,7 @@ impl Filled {
 /// Fills a page with nodes.
 fn fill_page(rt: &HostRuntime, here: Keys) -> Result<Filled>
     requires at_least { 64 ≤ here.nodes }
-    requires at_most { here.nodes ≤ 65536 }
+    requires at_most { here.nodes ≤ 1048576 }
 {
     let between = Keys { page: 1, ..here }.spans(rt.alloc(), COPIES, 0)?;
     let all = here.spans(rt.alloc(), here.nodes, 0)?;
@@ -272,9 +291,9 @@ fn fill_page(rt: &HostRuntime, here: Keys) -> Result<Filled>
 /// Adds keys to a page. New ones are added to copies before it has its last key, when there is room for one.
 fn add_all(rt: &HostRuntime, mut page: Page, all: &[Span], between: &[Span]) -> Result<Filled> {
     let (most, last) = all.split_at(all.len().saturating_sub(1));
-    let adds = add(rt, &mut page, most, 0)?;
+    let adds = add(rt, &mut page, most)?;
     let next_new = add_to_copies(rt, &page, between)?;
-    let adds = adds.and(add(rt, &mut page, last, 0)?);
+    let adds = adds.and(add(rt, &mut page, last)?);
     Ok(Filled {
         page,
         adds,
@@ -285,9 +304,9 @@ fn add_all(rt: &HostRuntime, mut page: Page, all: &[Span], between: &[Span]) -> 
 /// Fills a page with nodes, and then makes each operation at its places in each of so many turns, of which that
 /// counts in which it took least: in a short time others seldom come in between. The figures stand in the order
 /// of [`OPERATIONS`].
-fn measure_page(rt: &HostRuntime, here: Keys, turns: u32) -> Result<[Figure; 7]>
+fn measure_page(rt: &HostRuntime, here: Keys, turns: u32) -> Result<[Figure; 11]>
     requires at_least { 64 ≤ here.nodes }
-    requires at_most { here.nodes ≤ 65536 }
+    requires at_most { here.nodes ≤ 1048576 }
 {
     let places = Places::of(rt.alloc(), here)?;
     let mut filled = fill_page(rt, here)?;
@@ -302,21 +321,27 @@ fn measure_turns(
     page: &mut Page,
     places: &Places,
     turns: u32,
-) -> Result<[Figure; 4]> {
-    let mut least = [Figure::NONE; 4];
-    for turn in 0..turns {
-        keep_least(&mut least, &make_turn(rt, page, places, turn)?);
+) -> Result<[Figure; 8]> {
+    let mut least = [Figure::NONE; 8];
+    for _ in 0..turns {
+        keep_least(&mut least, &make_turn(rt, page, places)?);
     }
     Ok(least)
 }
 
 /// Looks up the keys and the ranges of a page, and then adds them.
-fn make_turn(rt: &HostRuntime, page: &mut Page, places: &Places, turn: u32) -> Result<[Figure; 4]> {
+fn make_turn(rt: &HostRuntime, page: &mut Page, places: &Places) -> Result<[Figure; 8]> {
     let of_key = look_up(rt, page, &places.keys)?;
     let of_range = look_up(rt, page, &places.ranges)?;
-    let to_key = add(rt, page, &places.keys, turn)?;
-    let to_range = add(rt, page, &places.ranges, turn)?;
-    Ok([of_key, of_range, to_key, to_range])
+    let of_wide = look_up(rt, page, &places.wide)?;
+    let of_whole = look_up(rt, page, &places.whole)?;
+    let to_key = add(rt, page, &places.keys)?;
+    let to_range = add(rt, page, &places.ranges)?;
+    let to_wide = add(rt, page, &places.wide)?;
+    let to_whole = add(rt, page, &places.whole)?;
+    Ok([
+        of_key, of_range, of_wide, of_whole, to_key, to_range, to_wide, to_whole,
+    ])
 }
 
 /// Looks up each of the spans.
@@ -335,11 +360,12 @@ fn look_up(rt: &HostRuntime, page: &Page, spans: &[Span]) -> Result<Figure> {
     Ok(figure)
 }
 
-/// Adds each of the spans, in each turn a nanosecond later.
-fn add(rt: &HostRuntime, page: &mut Page, spans: &[Span], turn: u32) -> Result<Figure> {
+/// Adds each of the spans, each a nanosecond later than the one before it and than all that is there.
+fn add(rt: &HostRuntime, page: &mut Page, spans: &[Span]) -> Result<Figure> {
+    let first = page.top().wall().saturating_add(1);
     let watch = Watch::start(rt)?;
     for (i, span) in spans.iter().enumerate() {
-        add_at(page, span, u64::from(turn).saturating_add(i as u64))?;
+        add_at(page, span, first.saturating_add(i as u64))?;
     }
     watch.stop(rt, spans.len() as u64)
 }
