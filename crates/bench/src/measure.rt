@@ -258,7 +258,16 @@ struct Filled {
 impl Filled {
     /// The figures of a page in the order of [`OPERATIONS`], with those of Adds to copies and of the turns.
     fn figures(&self, next: Figure, turns: [Figure; 8]) -> [Figure; 11] {
-        let [of_key, of_range, of_wide, of_whole, to_key, to_range, to_wide, to_whole] = turns;
+        let [
+            of_key,
+            of_range,
+            of_wide,
+            of_whole,
+            to_key,
+            to_range,
+            to_wide,
+            to_whole,
+        ] = turns;
         [
             self.adds,
             of_key,
