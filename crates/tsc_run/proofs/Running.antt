@@ -96,6 +96,10 @@ run_added cache lists others calls lines more whole seats seats' from seat parte
 pub last_fits : (lists others : List (List Call)) (calls : List Call) → lists ≡ others ++ calls ∷ [] → sum_by length lists ≤ most_calls → length calls ≤ most_calls
 last_fits lists others calls parted few = omega (arith, ap (sum_by length) parted, sum_by-append length others (calls ∷ []), sum_by-cons length calls [])
 
+-- and those before the last are no more than all
+pub first_fits : (lists others : List (List Call)) (calls : List Call) → lists ≡ others ++ calls ∷ [] → sum_by length lists ≤ most_calls → sum_by length others ≤ most_calls
+first_fits lists others calls parted few = omega (arith, ap (sum_by length) parted, sum_by-append length others (calls ∷ []))
+
 -- what holds of each list holds of those before the last
 pub first_all : {X : Type 0} (P : X → Type 0) (xs : List X) (y : X) → All P (xs ++ y ∷ []) → All P xs
 first_all P [] y all = All-nil P

@@ -6,7 +6,7 @@ use Rattle.tsc_shared.specs.Seats.{SeatView}
 use Rattle.tsc_run.specs.Runs.{Runs}
 use Rattle.tsc_run.proofs.Crossing.{call_syncs, fault_sends, list_run_sends}
 use Rattle.tsc_json.specs.Traces.{AllFit, EachFits}
-use Rattle.tsc_run.proofs.Running.{calls_in, seat_taken, run_added, last_fits, first_all, last_all}
+use Rattle.tsc_run.proofs.Running.{calls_in, seat_taken, run_added, last_fits, first_fits, first_all, last_all}
 use Rattle.tsc_run.proofs.threads.+run_in.Goals as goal
 
 pub spawn_with-requires-send-F : goal.spawn_with-requires-send-F
@@ -27,6 +27,10 @@ pub run_in-runs-requires-clause-seats : goal.run_in-runs-requires-clause-seats
 run_in-runs-requires-clause-seats g t c κs within =
     (seat_taken c.args.cache.now c.args.seats.items c.pop.new.self.items c.in-Some.seat c.args.lists.now c.in-Some-split_last.others.now c.in-Some-split_last.calls.now c.requires.seats c.in-Some.ensures.items
     c.in-Some-split_last.ensures.some).0
+
+pub run_in-runs-requires-clause-calls : goal.run_in-runs-requires-clause-calls
+run_in-runs-requires-clause-calls g t c κs within =
+    first_fits (calls_in c.args.lists.now) (calls_in c.in-Some-split_last.others.now) c.in-Some-split_last.calls.now c.in-Some-split_last.ensures.some c.requires.calls
 
 pub run_in-runs-requires-clause-fits : goal.run_in-runs-requires-clause-fits
 run_in-runs-requires-clause-fits g t c κs within =
