@@ -83,6 +83,11 @@ seat_taken cache seats rest seat lists others calls new last parted =
     let both = same_ends rest (new_seats cache 0 (length others)) seat (new_seat cache (0 + length others)) (sym last ∙ new ∙ ap (new_seats cache 0) long ∙ last_seat cache 0 (length others)) in
     (both.0, both.1 ∙ ap (new_seat cache) (omega arith))
 
+-- there is one list more than those before the last
+pub fewer : (lists others : List (Vec Call Global)) (calls : List Call) → calls_in lists ≡ calls_in others ++ calls ∷ [] → length others < length lists
+fewer lists others calls parted =
+    omega (arith, ap length parted, length-append (calls_in others) (calls ∷ []), length-map lists (λ (calls : Vec Call Global). calls.items), length-map others (λ (calls : Vec Call Global). calls.items))
+
 -- the runs with that of the last list
 pub run_added : (cache : SharedView) (lists others : List (Vec Call Global)) (calls : List Call) (lines more whole : List Line) (seats seats' : List SeatView) (from seat : SeatView)
     → calls_in lists ≡ calls_in others ++ calls ∷ [] → from ≡ new_seat cache (length others) → RunsAll cache 0 (calls_in others) lines seats → Runs from 0 calls more seat

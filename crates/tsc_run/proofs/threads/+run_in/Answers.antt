@@ -6,7 +6,7 @@ use Rattle.tsc_shared.specs.Seats.{SeatView}
 use Rattle.tsc_run.specs.Runs.{Runs}
 use Rattle.tsc_run.proofs.Crossing.{call_syncs, fault_sends, list_run_sends}
 use Rattle.tsc_json.specs.Traces.{AllFit, EachFits}
-use Rattle.tsc_run.proofs.Running.{calls_in, seat_taken, run_added, last_fits, first_fits, first_all, last_all}
+use Rattle.tsc_run.proofs.Running.{calls_in, seat_taken, run_added, last_fits, first_fits, fewer, first_all, last_all}
 use Rattle.tsc_run.proofs.threads.+run_in.Goals as goal
 
 pub spawn_with-requires-send-F : goal.spawn_with-requires-send-F
@@ -37,6 +37,9 @@ run_in-runs-requires-clause-fits g t c κs within =
     let others = c.in-Some-split_last.others.now in let calls = c.in-Some-split_last.calls.now in let parted = c.in-Some-split_last.ensures.some in
     let settings = c.args.cache.now.config in
     first_all (EachFits settings) (calls_in others) calls (subst (AllFit settings) parted c.requires.fits)
+
+pub run_in-runs-requires : goal.run_in-runs-requires
+run_in-runs-requires g t c κs within = fewer c.args.lists.now c.in-Some-split_last.others.now c.in-Some-split_last.calls.now c.in-Some-split_last.ensures.some
 
 pub returns-clause-runs : goal.returns-clause-runs
 returns-clause-runs g t c =
