@@ -1,4 +1,4 @@
-use Rattle.std.proofs.Common.{◌≡◌, ◌∙◌, ap, subst, ◌++◌, ◌∷◌, []}
+use Rattle.std.proofs.Common.{◌≡◌, ◌∙◌, ap, subst, ◌<◌, ◌++◌, ◌∷◌, [], length, rules}
 use Rattle.std.proofs.Crossing.{crosses}
 use denote.Param.Send.{sendable}
 use Rattle.tsc_shared.proofs.Crossing.{seat_sends, shared_cache_syncs}
@@ -23,23 +23,15 @@ spawn_with-requires-clause-runs g t c κs within =
     let fit = last_all (EachFits settings) (calls_in others) calls (subst (AllFit settings) parted c.requires.fits) in
     (ap (λ (s : SeatView). s.cache) taken.1, last_fits (calls_in c.args.lists.now) (calls_in others) calls parted c.requires.calls, fit)
 
-pub run_in-runs-requires-clause-seats : goal.run_in-runs-requires-clause-seats
-run_in-runs-requires-clause-seats g t c κs within =
-    (seat_taken c.args.cache.now c.args.seats.items c.pop.new.self.items c.in-Some.seat c.args.lists.now c.in-Some-split_last.others.now c.in-Some-split_last.calls.now c.requires.seats c.in-Some.ensures.items
-    c.in-Some-split_last.ensures.some).0
-
-pub run_in-runs-requires-clause-calls : goal.run_in-runs-requires-clause-calls
-run_in-runs-requires-clause-calls g t c κs within =
-    first_fits (calls_in c.args.lists.now) (calls_in c.in-Some-split_last.others.now) c.in-Some-split_last.calls.now c.in-Some-split_last.ensures.some c.requires.calls
-
-pub run_in-runs-requires-clause-fits : goal.run_in-runs-requires-clause-fits
-run_in-runs-requires-clause-fits g t c κs within =
-    let others = c.in-Some-split_last.others.now in let calls = c.in-Some-split_last.calls.now in let parted = c.in-Some-split_last.ensures.some in
-    let settings = c.args.cache.now.config in
-    first_all (EachFits settings) (calls_in others) calls (subst (AllFit settings) parted c.requires.fits)
-
 pub run_in-runs-requires : goal.run_in-runs-requires
-run_in-runs-requires g t c κs within = fewer c.args.lists.now c.in-Some-split_last.others.now c.in-Some-split_last.calls.now c.in-Some-split_last.ensures.some
+run_in-runs-requires g t c κs within =
+    let lists = c.args.lists.now in let others = c.in-Some-split_last.others.now in let calls = c.in-Some-split_last.calls.now in let parted = c.in-Some-split_last.ensures.some in
+    let taken = seat_taken c.args.cache.now c.args.seats.items c.pop.new.self.items c.in-Some.seat lists others calls c.requires.seats c.in-Some.ensures.items parted in
+    let settings = c.args.cache.now.config in
+    let few = first_fits (calls_in lists) (calls_in others) calls parted c.requires.calls in
+    let fit = first_all (EachFits settings) (calls_in others) calls (subst (AllFit settings) parted c.requires.fits) in
+    let less = subst (λ n. length others < n) c.decreases (fewer lists others calls parted) in
+    (less, (search rules, (search rules, (search rules, (search rules, (search rules, (taken.0, (few, fit))))))))
 
 pub returns-clause-runs : goal.returns-clause-runs
 returns-clause-runs g t c =
