@@ -15,3 +15,6 @@ loop-input-preserved-else-filled-gt-LONGEST_INPUT g c =
 pub returns-then-filled-gt-LONGEST_INPUT-clause-err : goal.returns-then-filled-gt-LONGEST_INPUT-clause-err
 returns-then-filled-gt-LONGEST_INPUT-clause-err g c =
     HasReadTooMuch-filled _ _ _ _ c.read.new.buf _ _ c.loop-input.invariant c.in-Ok.ensures.bound c.in-Ok.ensures.bytes.0 (omega arith) (search rules)
+
+pub returns-in-Err-Failed-clause-err : goal.returns-in-Err-Failed-clause-err
+returns-in-Err-Failed-clause-err g c = search rules

@@ -4,3 +4,6 @@ use Rattle.tsc_time.proofs.value.ratchet.Goals as goal
 
 pub returns-clause-value : goal.returns-clause-value
 returns-clause-value c = search rules
+
+pub returns-clause-updated : goal.returns-clause-updated
+returns-clause-updated c = search rules
