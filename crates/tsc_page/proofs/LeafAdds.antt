@@ -133,10 +133,6 @@ start_with ys (Some k) (Some f) low some new = by ys f.0 some (low k refl) new.1
     by (n ∷ ns) zero much high fits = absurd (Lt-not_Le (after k) (before n.key) fits.1 (Le-chain (before n.key) (before k) (after k) high (Le-from_Lt (before k) (after k) (before-after k))))
     by (n ∷ ns) (suc i) much high fits = refl
 
-pub start_append : (l ys : List Node) → 1 ≤ length l → start_of (l ++ ys) ≡ start_of l
-start_append [] ys h = absurd (omega arith)
-start_append (n ∷ l) ys h = refl
-
 -- a key at a cut that is not below where nodes begin, and is not below them itself
 low_end : (c : Cut) (o : Option KeyBytes) (ys : List Node) → Le (start_of ys) c → LiesAt o c → (k : KeyBytes) → o ≡ Some k → Le (start_of ys) (before k)
 low_end c None ys low lies k e = absurd (none e)

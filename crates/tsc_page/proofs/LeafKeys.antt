@@ -184,8 +184,5 @@ pub has_one : (old new : List Node) (k : KeyBytes) (h g : Option (ℕ × KeyByte
 has_one old new k h None at none is = record { found = h; at = at; nodes = is }
 has_one old new k h (Some f) at none is = absurd none
 
-pub made_first : (k : KeyBytes) → IsSplitAt [] (node_in_gap k (unowned zero_time) ∷ []) (k ∷ [])
-made_first k = with_new_splits [] (Some k) (Some (0, k)) tt (refl, (lowest (before k), below_last k), omega arith)
-
 pub has_first : (k : KeyBytes) → HasNode [] (node_in_gap k (unowned zero_time) ∷ []) k
 has_first k = record { found = Some (0, k); at = (refl, (lowest (before k), below_last k), omega arith); nodes = refl }

@@ -1,21 +1,20 @@
 -- Lists of parts: copies of them, cut in two, and with a node more.
-use Rattle.std.proofs.Common.{◌≡◌, ◌∙◌, refl, sym, ap, subst, ℕ, zero, suc, List, [], ◌∷◌, ◌++◌, length, map, take, drop, append-nil, arith}
+use Rattle.std.proofs.Common.{◌≡◌, ◌∙◌, refl, sym, ap, subst, ℕ, zero, suc, List, [], ◌∷◌, ◌++◌, length, map, take, drop, arith}
 use Rattle.std.specs.Prelude.{Option}
 use Rattle.std.specs.List.{All, AllZip}
 use Rattle.std.proofs.lemmas.List.{map-append, take-append-drop}
-use Rattle.tsc_time.specs.Time.{zero_time}
-use Rattle.tsc_time.specs.OwnedTime.{OwnedTime, unowned}
-use Rattle.tsc_span.specs.Span.{KeyBytes, Interval, between}
+use Rattle.tsc_time.specs.OwnedTime.{OwnedTime}
+use Rattle.tsc_span.specs.Span.{KeyBytes, Interval}
 use Rattle.tsc_nodes.specs.declared.nodes.Grown.{Grown}
-use Rattle.tsc_nodes.specs.Nodes.{Node, IsSorted, IsInOrder, IsSplitAt, AddsNodes, node_in_gap}
+use Rattle.tsc_nodes.specs.Nodes.{Node, IsSorted, IsInOrder, AddsNodes}
 use Rattle.tsc_page.specs.Leaves.{nodes_of, AreParts, HasNode}
-use Rattle.tsc_page.specs.Pending.{sizes_of, Addend, AddsSome}
+use Rattle.tsc_page.specs.Pending.{sizes_of}
 use Rattle.tsc_page.specs.Copies.{IsSameAs}
 use Rattle.tsc_nodes.proofs.Edits.{raise_nodes-sorted}
 use Rattle.tsc_nodes.proofs.NewKeys.{makes_sorted}
 use Rattle.tsc_page.proofs.Joins.{sorted_left, sorted_right}
 use Rattle.tsc_page.proofs.LeafAdds.{nodes_append}
-use Rattle.tsc_page.proofs.LeafKeys.{made_first, has_node_splits}
+use Rattle.tsc_page.proofs.LeafKeys.{has_node_splits}
 
 -- What copies have in common with what they are copies of.
 pub record AreSameAs {X : Type 0} (f : X → List Node) (s : X → List ℕ) (Q : X → Type 0) (xs ys : List X) : Type 0 where
@@ -84,10 +83,6 @@ sorted_take f n xs sorted = sorted_left (nodes_of (map f (take n xs))) (nodes_of
 pub sorted_drop : {X : Type 0} (f : X → List Node) (n : ℕ) (xs : List X) → IsSorted (nodes_of (map f xs)) → IsSorted (nodes_of (map f (drop n xs)))
 sorted_drop f n xs sorted = sorted_right (nodes_of (map f (take n xs))) (nodes_of (map f (drop n xs))) (subst IsSorted (nodes_cut f n xs) sorted)
 
--- one part alone
-pub one_part : {X : Type 0} (f : X → List Node) (x : X) → nodes_of (map f (x ∷ [])) ≡ f x
-one_part f x = append-nil (f x)
-
 -- nodes with that of a key are in order, in whatever parts they stand
 pub made_sorted : (old new : List Node) (k : KeyBytes) → IsSorted old → HasNode old new k → IsSorted new
 made_sorted old new k sorted made = (has_node_splits old new k sorted made).sorted
@@ -96,32 +91,6 @@ made_sorted old new k sorted made = (has_node_splits old new k sorted made).sort
 pub adds_sorted : (old new : List Node) (o q : Option KeyBytes) (s : Interval) (v : OwnedTime) → IsSorted old → IsInOrder o q → AddsNodes old new o q s v → IsSorted new
 adds_sorted old new o q s v sorted order adds = subst IsSorted (sym adds.raised) (raise_nodes-sorted s v adds.mid (makes_sorted old adds.mid o q sorted order adds.made))
 
--- what an Add makes of parts in order
-pub parts_added : {X : Type 0} (f : X → List Node) (Q : X → Type 0) (old new : List X) (a : Addend) (room : ℕ) (more : Grown) → AreParts f Q old → All Q new → IsInOrder a.first a.second → AddsSome (nodes_of (map f old)) (nodes_of (map f new)) a room more → AreParts f Q new
-parts_added f Q old new a room more parts all order adds = record { whole = all; sorted = adds_sorted (nodes_of (map f old)) (nodes_of (map f new)) a.first a.second (between a.from a.to) a.value parts.sorted order adds.adds }
-
 -- and others that stand for the same
 pub parts_kept : {X : Type 0} (f : X → List Node) (Q : X → Type 0) (old new : List X) → AreParts f Q old → All Q new → nodes_of (map f new) ≡ nodes_of (map f old) → AreParts f Q new
 parts_kept f Q old new parts all same = record { whole = all; sorted = subst IsSorted (sym same) parts.sorted }
-
--- a node made in parts
-pub made_parts : {X : Type 0} (f : X → List Node) (Q : X → Type 0) (old new : List X) (k : KeyBytes) → IsSorted (nodes_of (map f old)) → All Q new → HasNode (nodes_of (map f old)) (nodes_of (map f new)) k
-    → IsSplitAt (nodes_of (map f old)) (nodes_of (map f new)) (k ∷ []) × AreParts f Q new
-made_parts f Q old new k sorted all made =
-    let split = has_node_splits (nodes_of (map f old)) (nodes_of (map f new)) k sorted made in
-    (split, record { whole = all; sorted = split.sorted })
-
--- and the first of all
-pub first_part : {X : Type 0} (f : X → List Node) (Q : X → Type 0) (old new : List X) (x : X) (k : KeyBytes) → old ≡ [] → new ≡ old ++ x ∷ [] → Q x → f x ≡ node_in_gap k (unowned zero_time) ∷ []
-    → IsSplitAt (nodes_of (map f old)) (nodes_of (map f new)) (k ∷ []) × AreParts f Q new
-first_part {X = X} f Q old new x k none is whole one =
-    let all : new ≡ x ∷ [] = is ∙ ap (λ (xs : List X). xs ++ x ∷ []) none in
-    let nodes : nodes_of (map f new) ≡ node_in_gap k (unowned zero_time) ∷ [] = ap (λ (xs : List X). nodes_of (map f xs)) all ∙ one_part f x ∙ one in
-    let made = made_first k in (
-      subst (λ (xs : List X). IsSplitAt (nodes_of (map f xs)) (nodes_of (map f new)) (k ∷ [])) (sym none) (subst (λ (ns : List Node). IsSplitAt [] ns (k ∷ [])) (sym nodes) made),
-      record { whole = subst (All Q) (sym all) each; sorted = subst IsSorted (sym nodes) made.sorted },
-    )
-  where
-    each : All Q (x ∷ [])
-    each zero d h = whole
-    each (suc i) d h = absurd (omega (arith, h))

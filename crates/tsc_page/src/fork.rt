@@ -6,9 +6,9 @@ ghost use Rattle.tsc_page.specs.Pending.{with_pending};
 ghost use Rattle.tsc_page.specs.Trees.{fork_nodes, fork_sizes, fork_copied, AreFewParts, IsWholeFork, IsForkCopy, IsTold, items_in, level_nodes, IsWholeLevel};
 
 use crate::addition::Addition;
-use crate::parts;
 use crate::parts::Part;
 use crate::summary::Summary;
+use crate::{across, parts};
 use std::alloc::{AllocError, Global};
 use std::sync::Arc;
 use tsc_nodes::{Grown, KeyNumber, NumberedCut};
@@ -98,14 +98,14 @@ impl<P: Part> Part for Fork<P> {
     fn starts_above(&self, cut: &NumberedCut<'_>) -> bool {
         match cut.is_below_number(&self.summary.start) {
             Some(below) => below,
-            None => parts::start_above(&self.parts, cut),
+            None => parts::first_starts_above(&self.parts, cut),
         }
     }
 
     fn starts_below(&self, cut: &NumberedCut<'_>) -> bool {
         match cut.is_above_number(&self.summary.start) {
             Some(above) => above,
-            None => parts::start_below(&self.parts, cut),
+            None => parts::first_starts_below(&self.parts, cut),
         }
     }
 
@@ -137,7 +137,7 @@ impl<P: Part> Part for Fork<P> {
     fn raise_between(&mut self, from: Cut<'_>, to: Cut<'_>, value: Value) -> Result<(), NoMemory> {
         let parts = Arc::make_mut(&mut self.parts)?;
         parts::raise_between(parts, from, to, value)?;
-        let reached = parts::start_below(parts, &NumberedCut::new(to));
+        let reached = parts::first_starts_below(parts, &NumberedCut::new(to));
         self.summary.reach(reached, value);
         Ok(())
     }
@@ -160,7 +160,7 @@ impl<P: Part> Part for Fork<P> {
         push_down(parts, &self.summary);
         self.summary.pending = None;
         let made = parts::add_within(parts, add, room);
-        let reached = parts::start_below(parts, add.to);
+        let reached = parts::first_starts_below(parts, add.to);
         self.summary
             .heed(&made, parts::start_number(parts), reached, add.value);
         made
@@ -173,7 +173,7 @@ impl<P: Part> Part for Fork<P> {
         let Some(above) = Arc::get_mut(&mut high.parts) else {
             return false
         };
-        let raised = parts::raise_two(below, above, add);
+        let raised = across::raise_two(below, above, add);
         low.summary.reach(raised, add.value);
         high.summary.reach(raised, add.value);
         raised

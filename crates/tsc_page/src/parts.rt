@@ -1,4 +1,4 @@
-ghost use Rattle.std.specs.Prelude.{◌≡◌, ℕ, List, ◌≤◌, ◌<◌, ◌+◌, ◌++◌, ◌∷◌, [], suc, map, length, drop, option_to_list, OnOk, IfOk, IfSome, not, true, false, if◌then◌else◌};
+ghost use Rattle.std.specs.Prelude.{◌≡◌, ℕ, List, ◌≤◌, ◌<◌, ◌+◌, ◌++◌, suc, map, length, drop, option_to_list, OnOk, IfOk, IfSome, not, true};
 ghost use Rattle.std.specs.List.{All};
 ghost use Rattle.tsc_span.specs.Span.{is_below, between};
 ghost use Rattle.tsc_span.specs.Cuts.{cut_of};
@@ -6,10 +6,11 @@ ghost use Rattle.tsc_nodes.specs.Numbers.{IsCutNumber};
 ghost use Rattle.tsc_nodes.specs.PageView.{is_in};
 ghost use Rattle.tsc_nodes.specs.Nodes.{Node, IsSorted, node_keys, answer_of, raise_nodes};
 ghost use Rattle.tsc_page.specs.Leaves.{AreParts, HasNode, IsLeafAt, nodes_of, start_of};
-ghost use Rattle.tsc_page.specs.Pending.{everything, all_joint, sizes_of, AreSizesOf, TellsSize, AddsSome, nothing_grown, IsAddTold, before_second};
+ghost use Rattle.tsc_page.specs.Pending.{everything, all_joint, sizes_of, AreSizesOf, TellsSize, IsAddTold};
 ghost use Rattle.tsc_page.specs.Copies.{IsSameAs};
-ghost use Rattle.tsc_page.specs.Across.{IsAcrossTold, IsLastReached};
+ghost use Rattle.tsc_page.specs.Across.{IsAcrossTold};
 
+use crate::across;
 use crate::addition::Addition;
 use std::alloc::Global;
 use tsc_nodes::{Grown, KeyNumber, NumberedCut};
@@ -137,7 +138,7 @@ pub(crate) fn part_at<P: Part>(parts: &[P], cut: &NumberedCut<'_>) -> usize
 }
 
 /// Whether a cut lies below where parts begin.
-pub(crate) fn start_above<P: Part>(parts: &[P], cut: &NumberedCut<'_>) -> bool
+pub(crate) fn first_starts_above<P: Part>(parts: &[P], cut: &NumberedCut<'_>) -> bool
     requires whole { All P.IsWhole parts.now }
     ensures { result ≡ is_below cut.now (start_of (nodes_of (map P.nodes parts.now))) }
 {
@@ -148,7 +149,7 @@ pub(crate) fn start_above<P: Part>(parts: &[P], cut: &NumberedCut<'_>) -> bool
 }
 
 /// Whether a cut lies above where parts begin.
-pub(crate) fn start_below<P: Part>(parts: &[P], cut: &NumberedCut<'_>) -> bool
+pub(crate) fn first_starts_below<P: Part>(parts: &[P], cut: &NumberedCut<'_>) -> bool
     requires whole { All P.IsWhole parts.now }
     ensures { result ≡ is_below (start_of (nodes_of (map P.nodes parts.now))) cut.now }
 {
@@ -369,7 +370,7 @@ pub(crate) fn add_within<P: Part>(
     }
     if goes_on(parts, place, add.to) {
         let nothing = Grown { nodes: 0, bytes: 0 };
-        return Ok(raise_over(parts, place, add).then_some(nothing));
+        return Ok(across::raise_over(parts, place, add).then_some(nothing));
     }
     if stops_at_next(parts, place, add.to) {
         parts[place].add_within(&add.before_second(), room)
@@ -379,7 +380,7 @@ pub(crate) fn add_within<P: Part>(
 }
 
 /// Whether what doesn't go on beyond a part stops right where the next one begins.
-fn stops_at_next<P: Part>(parts: &[P], place: usize, to: &NumberedCut<'_>) -> bool
+pub(crate) fn stops_at_next<P: Part>(parts: &[P], place: usize, to: &NumberedCut<'_>) -> bool
     requires whole { All P.IsWhole parts.now }
     requires bound { place < length parts.now }
     ensures { result ≡ not (is_below to.now (start_of (nodes_of (drop (suc place) (map P.nodes parts.now))))) }
@@ -388,91 +389,4 @@ fn stops_at_next<P: Part>(parts: &[P], place: usize, to: &NumberedCut<'_>) -> bo
         Some(next) => !next.starts_above(to),
         None => !to.is_below_last(),
     }
-}
-
-/// The last part that a span reaches which stops at a cut, or the first one.
-pub(crate) fn last_reached<P: Part>(parts: &[P], to: &NumberedCut<'_>) -> usize
-    requires parts { AreParts P.nodes P.IsWhole parts.now }
-    requires some { 1 ≤ length parts.now }
-    ensures { IsLastReached (map P.nodes parts.now) to.now result }
-{
-    let place = part_at(parts, to);
-    if place > 0 && !parts[place].starts_below(to) {
-        place - 1
-    } else {
-        place
-    }
-}
-
-/// Raises over two parts, where what stops right behind the second one keeps its end key from it.
-fn raise_ends<P: Part>(low: &mut P, high: &mut P, add: &Addition<'_>, stops: bool) -> bool
-    requires whole_low { P.IsWhole low.old }
-    requires whole_high { P.IsWhole high.old }
-    requires sorted_low { IsSorted (P.nodes low.old) }
-    requires sorted_high { IsSorted (P.nodes high.old) }
-    requires reaches { is_below (start_of (P.nodes high.old)) add.now.to ≡ true }
-    ensures told { IsAcrossTold (P.nodes low.old) (P.nodes low.new) (P.nodes high.old) (P.nodes high.new) (if stops then before_second add.now else add.now) result }
-    ensures sizes_low { P.sizes low.new ≡ P.sizes low.old }
-    ensures sizes_high { P.sizes high.new ≡ P.sizes high.old }
-    ensures low { P.IsWhole low.new }
-    ensures high { P.IsWhole high.new }
-{
-    if stops {
-        P::raise_across(low, high, &add.before_second())
-    } else {
-        P::raise_across(low, high, add)
-    }
-}
-
-/// Ratchets a value in place over two lists of parts: from the part of the first one in which the span starts up to that of the
-/// second one in which it stops. Says whether it did, as [`Part::raise_across`]; else nothing changes.
-pub(crate) fn raise_two<P: Part>(low: &mut [P], high: &mut [P], add: &Addition<'_>) -> bool
-    requires parts_low { AreParts P.nodes P.IsWhole low.old }
-    requires parts_high { AreParts P.nodes P.IsWhole high.old }
-    requires some_low { 1 ≤ length low.old }
-    requires some_high { 1 ≤ length high.old }
-    requires reaches { is_below (start_of (nodes_of (map P.nodes high.old))) add.now.to ≡ true }
-    ensures told { IsAcrossTold (nodes_of (map P.nodes low.old)) (nodes_of (map P.nodes low.new)) (nodes_of (map P.nodes high.old)) (nodes_of (map P.nodes high.new)) add.now result }
-    ensures sizes_low { map P.sizes low.new ≡ map P.sizes low.old }
-    ensures sizes_high { map P.sizes high.new ≡ map P.sizes high.old }
-    ensures low { All P.IsWhole low.new }
-    ensures high { All P.IsWhole high.new }
-    ensures len_low { length low.new ≡ length low.old }
-    ensures len_high { length high.new ≡ length high.old }
-{
-    let first = part_at(low, add.from);
-    let last = last_reached(high, add.to);
-    let stops = stops_at_next(high, last, add.to);
-    let (below, mid) = low.split_at_mut(first + 1);
-    let (others, above) = high.split_at_mut(last);
-    if !raise_ends(&mut below[first], &mut above[0], add, stops) {
-        return false;
-    }
-    raise_all(mid, add.value);
-    raise_all(others, add.value);
-    true
-}
-
-/// Ratchets a value in place over several parts of one list, from the one in which the span starts. Says whether it did, as
-/// [`Part::raise_across`]; else nothing changes.
-fn raise_over<P: Part>(parts: &mut [P], first: usize, add: &Addition<'_>) -> bool
-    requires parts { AreParts P.nodes P.IsWhole parts.old }
-    requires bound { first < length parts.old }
-    requires first { IsLeafAt (map P.nodes parts.old) add.now.from first }
-    requires beyond { is_below (start_of (nodes_of (drop (suc first) (map P.nodes parts.old)))) add.now.to ≡ true }
-    ensures raised { result ≡ true → AddsSome (nodes_of (map P.nodes parts.old)) (nodes_of (map P.nodes parts.new)) add.now 0 nothing_grown }
-    ensures left { result ≡ false → nodes_of (map P.nodes parts.new) ≡ nodes_of (map P.nodes parts.old) }
-    ensures sizes { map P.sizes parts.new ≡ map P.sizes parts.old }
-    ensures whole { All P.IsWhole parts.new }
-    ensures len { length parts.new ≡ length parts.old }
-{
-    let last = last_reached(parts, add.to);
-    let stops = stops_at_next(parts, last, add.to);
-    let (below, rest) = parts.split_at_mut(first + 1);
-    let (mid, above) = rest.split_at_mut(last - first - 1);
-    if !raise_ends(&mut below[first], &mut above[0], add, stops) {
-        return false;
-    }
-    raise_all(mid, add.value);
-    true
 }

@@ -52,8 +52,8 @@ returns-clause-whole g c =
     let seen = c.deref.ensures.value ∙ kept_now in
     let seen_start = c.deref-2.ensures.value ∙ kept_now in
     let start : IsCutNumber c.start_number.result (start_of new) = subst (λ (ps : List g.row.P.Denot). IsCutNumber c.start_number.result (start_of (nodes_of (map f ps)))) seen_start c.start_number.ensures in
-    let reached : c.start_below-reached.result ≡ is_below (start_of new) a.to =
-    c.start_below-reached.ensures ∙ ap (λ (ps : List g.row.P.Denot). is_below (start_of (nodes_of (map f ps))) c.add.inside.to.now) seen ∙ ap (λ (b : Addend). is_below (start_of new) b.to) c.add.view_is in
+    let reached : c.first_starts_below-reached.result ≡ is_below (start_of new) a.to =
+    c.first_starts_below-reached.ensures ∙ ap (λ (ps : List g.row.P.Denot). is_below (start_of (nodes_of (map f ps))) c.add.inside.to.now) seen ∙ ap (λ (b : Addend). is_below (start_of new) b.to) c.add.view_is in
     let value : c.add.inside.value ≡ a.value = ap (λ (b : Addend). b.value) c.add.view_is in
     let after_it = told_added r sum.start c.start_number.result sum.joint (with_pending p ns) new _ _ a c.args.room c.requires.sorted order up start told (told_pushed sum.start sum.joint p ns c.requires.whole.told) in
     let few = c.requires.whole.parts in

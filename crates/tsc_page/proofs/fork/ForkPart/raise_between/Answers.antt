@@ -70,9 +70,9 @@ returns-clause-whole g c =
     c.in_ok-raise_between.ensures.raised ∙ ap (λ (is : List g.row.P.Denot). raise_nodes (between from to) c.args.value (nodes_of (map f is))) c.deref_mut.ensures.value
     ∙ ap (λ (ls : List (List Node)). raise_nodes (between from to) c.args.value (nodes_of ls)) same.nodes in
     let held = ap (λ u. u.items) (c.make_mut.follows.holds w (search rules)) ∙ kept in
-    let reached : c.start_below-reached.result ≡ is_below (start_of (raise_nodes (between from to) c.args.value ns)) to =
-    c.start_below-reached.ensures ∙ ap (λ (is : List g.row.P.Denot). is_below (start_of (nodes_of (map f is))) c.new.result) (c.deref.ensures.value ∙ kept) ∙ ap (λ (x : Cut). is_below (start_of (nodes_of (map f ws))) x) c.new.ensures ∙ ap (λ (ms : List Node). is_below (start_of ms) to) raised in
-    let told = told_raised_below sum.start sum.joint c.args.value p from to ns c.start_below-reached.result c.requires.sorted c.requires.order reached c.requires.whole.told in
+    let reached : c.first_starts_below-reached.result ≡ is_below (start_of (raise_nodes (between from to) c.args.value ns)) to =
+    c.first_starts_below-reached.ensures ∙ ap (λ (is : List g.row.P.Denot). is_below (start_of (nodes_of (map f is))) c.new.result) (c.deref.ensures.value ∙ kept) ∙ ap (λ (x : Cut). is_below (start_of (nodes_of (map f ws))) x) c.new.ensures ∙ ap (λ (ms : List Node). is_below (start_of ms) to) raised in
+    let told = told_raised_below sum.start sum.joint c.args.value p from to ns c.first_starts_below-reached.result c.requires.sorted c.requires.order reached c.requires.whole.told in
     let told_now : IsTold c.reach.new.self (nodes_of (map f ws)) =
     subst (λ (ms : List Node). IsTold c.reach.new.self ms) (sym raised) (told_as sum.start c.reach.new.self.start _ c.reach.new.self.joint _ c.reach.new.self.pending (raise_nodes (between from to) c.args.value ns) c.reach.ensures.start c.reach.ensures.joint c.reach.ensures.pending told) in
     let long : length ws ≡ length xs = omega (arith, c.raise_between.ensures.len, ap length c.deref_mut.ensures.value, same.long) in

@@ -16,5 +16,5 @@ pub returns-in-None : goal.returns-in-None
 returns-in-None g c =
     let read = g.P.Part.nodes in
     let cut : Cut = c.args.cut.now in
-    c.start_above.ensures ∙ ap (λ (xs : List g.row.P.Denot). is_below cut (start_of (nodes_of (map read xs)))) (c.deref-in-None.ensures.value ∙ ap (λ v. v.items) c.deref.ensures)
+    c.first_starts_above.ensures ∙ ap (λ (xs : List g.row.P.Denot). is_below cut (start_of (nodes_of (map read xs)))) (c.deref-in-None.ensures.value ∙ ap (λ v. v.items) c.deref.ensures)
     ∙ ap (λ (x : Cut). is_below cut x) (sym (pending-start c.args.self.now.summary.pending (nodes_of (map read (arc_value c.args.self.now.parts).items))))

@@ -11,7 +11,7 @@ use Rattle.tsc_page.proofs.LeafLists.{all_some}
 use Rattle.tsc_page.proofs.PartAdds.{IsAddend}
 use Rattle.tsc_page.proofs.TreeAcross.{later_reached}
 use Rattle.tsc_page.proofs.OverParts.{stays_over, raises_over, stops_over, sizes_over, whole_over, parts_first, parts_second, part_sorted}
-use Rattle.tsc_page.proofs.parts.raise_over.Goals as goal
+use Rattle.tsc_page.proofs.across.raise_over.Goals as goal
 
 pub overflow_sub-last : goal.overflow_sub-last
 overflow_sub-last g c =

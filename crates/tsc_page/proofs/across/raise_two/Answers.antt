@@ -11,7 +11,7 @@ use Rattle.tsc_page.proofs.LeafLists.{all_some}
 use Rattle.tsc_page.proofs.PartAdds.{IsAddend}
 use Rattle.tsc_page.proofs.LeafLists.{all_set}
 use Rattle.tsc_page.proofs.OverParts.{stays_low, stays_high, raises_two, stops_two, sizes_low, all_two, parts_first, parts_second, part_sorted}
-use Rattle.tsc_page.proofs.parts.raise_two.Goals as goal
+use Rattle.tsc_page.proofs.across.raise_two.Goals as goal
 
 pub raise_ends-requires-clause-sorted_low : goal.raise_ends-requires-clause-sorted_low
 raise_ends-requires-clause-sorted_low g c =

@@ -7,8 +7,8 @@ use Rattle.tsc_page.specs.Leaves.{start_of}
 use Rattle.tsc_page.proofs.LeafLists.{read_leaf, all_some}
 use Rattle.tsc_page.proofs.PartAcross.{reached_here}
 use Rattle.tsc_page.proofs.OverParts.{last_before}
-use Rattle.tsc_page.proofs.parts.last_reached.Goals as goal
-use Rattle.tsc_page.proofs.parts.last_reached.Goals.{else-place-gt0-via-then-place-gt0+else-not-starts_below, else-place-gt0-via-else-place-gt0}
+use Rattle.tsc_page.proofs.across.last_reached.Goals as goal
+use Rattle.tsc_page.proofs.across.last_reached.Goals.{else-place-gt0-via-then-place-gt0+else-not-starts_below, else-place-gt0-via-else-place-gt0}
 
 pub returns-then-not-starts_below : goal.returns-then-not-starts_below
 returns-then-not-starts_below g c =
