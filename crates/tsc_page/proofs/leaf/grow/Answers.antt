@@ -36,3 +36,13 @@ returns-in_ok-cut-clause-upper c =
     let rest : length c.in_ok-cut.field-0 ≡ length new - 32 = ap length c.in_ok-cut.ensures.rest ∙ length-drop 32 new in
     let few : IsLeaf old = c.requires.leaf in
     (omega (arith, rest, many, c.len.ensures), omega (arith, rest, long.1, few.1))
+
+pub returns-else-len-gt-LEAF_NODES-clause-leaf : goal.returns-else-len-gt-LEAF_NODES-clause-leaf
+returns-else-len-gt-LEAF_NODES-clause-leaf c =
+    let k : KeyBytes = c.args.key.now in
+    let old : List Node = c.args.nodes.now in
+    let new : List Node = c.make_node.new.self in
+    let makes = c.in_ok-make_node.ensures in
+    let long = has_node-length old new k (has_one old new k makes.lower makes.upper makes.has_lower makes.has_upper makes.nodes) in
+    let few : IsLeaf old = c.requires.leaf in
+    (omega (arith, long.0, few.0), omega (arith, c.if-len-gt-LEAF_NODES.false, c.len.ensures))

@@ -1,5 +1,5 @@
 -- What is in order together is in order in each fork.
-use Rattle.std.proofs.Common.{map}
+use Rattle.std.proofs.Common.{map, rules}
 use Rattle.tsc_page.specs.Leaves.{nodes_of}
 use Rattle.tsc_page.proofs.Joins.{sorted_left, sorted_right}
 use Rattle.tsc_page.proofs.fork.Fork.pair.Goals as goal
@@ -9,3 +9,6 @@ new-requires-clause-sorted g c = sorted_left (nodes_of (map g.P.Part.nodes c.arg
 
 pub new-requires-2-clause-sorted : goal.new-requires-2-clause-sorted
 new-requires-2-clause-sorted g c = sorted_right (nodes_of (map g.P.Part.nodes c.args.lower.items)) (nodes_of (map g.P.Part.nodes c.args.upper.items)) c.requires.sorted
+
+pub returns-clause-nodes : goal.returns-clause-nodes
+returns-clause-nodes g c = search rules

@@ -4,3 +4,6 @@ use Rattle.tsc_page.proofs.summary.Summary.raise.Goals as goal
 
 pub returns-clause-pending : goal.returns-clause-pending
 returns-clause-pending c = search rules
+
+pub returns-clause-joint : goal.returns-clause-joint
+returns-clause-joint c = search rules
