@@ -9,9 +9,9 @@ use Rattle.tsc_nodes.specs.contracts.number.KeyNumber.{the_row as key_number}
 use Rattle.tsc_nodes.specs.contracts.number.NumberedKey.{the_row as numbered_key}
 use Rattle.tsc_nodes.specs.contracts.nodes.Values.{the_row as values}
 use Rattle.tsc_nodes.specs.contracts.nodes.Nodes.{the_row as nodes}
-use Rattle.tsc_page.specs.contracts.summary.Summary.{the_row as summary}
-use Rattle.tsc_page.specs.contracts.leaf.Leaf.{the_row as leaf}
-use Rattle.tsc_page.specs.contracts.fork.Fork.{the_row as fork}
+use Rattle.tsc_tree.specs.contracts.summary.Summary.{the_row as summary}
+use Rattle.tsc_tree.specs.contracts.leaf.Leaf.{the_row as leaf}
+use Rattle.tsc_tree.specs.contracts.fork.Fork.{the_row as fork}
 use Rattle.tsc_page.specs.contracts.root.Root.{the_row as root}
 use Rattle.tsc_page.specs.contracts.tree.Tree.{the_row as tree}
 use Rattle.tsc_page.specs.contracts.page.Page.{the_row as page}

@@ -102,10 +102,6 @@ weigh_distinct-same weight ks ms same =
 pub count_distinct-same : (ks ms : List KeyBytes) → ((k : KeyBytes) → is_in k ks ≡ is_in k ms) → count_distinct ks ≡ count_distinct ms
 count_distinct-same ks ms same = weigh_distinct-same (λ k. 1) ks ms same
 
--- The different keys of a list weigh no less than those of its beginning.
-pub weigh_distinct-front : (weight : KeyBytes → ℕ) (ks ms : List KeyBytes) → weigh_distinct weight ks ≤ weigh_distinct weight (ks ++ ms)
-weigh_distinct-front weight ks ms = weigh_distinct-within weight ks (ks ++ ms) (λ k h. list_any-append (bytes_eq k) ks ms ∙ rw h refl)
-
 swapped : (b c : Bool) → (c || (b || false)) ≡ (b || c)
 swapped true true = refl
 swapped true false = refl

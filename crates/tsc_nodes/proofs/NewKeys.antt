@@ -81,13 +81,6 @@ known_not_new ns o None sorted new known = refl
 known_not_new ns None (Some f) sorted new known = absurd new
 known_not_new ns (Some k) (Some f) sorted new known = absurd (true≢false (sym (ap not (FitsAt-absent k ns f.0 (before []) sorted new.1)) ∙ known))
 
--- the keys of a span of which a page knows each
-pub known_keys : (ks : List KeyBytes) (o p : Option KeyBytes) → ((k : KeyBytes) → is_in k (option_to_list o ++ option_to_list p) ≡ true → is_in k ks ≡ true) → (is_new_among ks o ≡ false) × (is_new_among ks p ≡ false)
-known_keys ks None None all = (refl, refl)
-known_keys ks None (Some m) all = (refl, ap not (all m (rw ((bytes_eq-Decides m m).1 refl) refl)))
-known_keys ks (Some k) None all = (ap not (all k (rw ((bytes_eq-Decides k k).1 refl) refl)), refl)
-known_keys ks (Some k) (Some m) all = (ap not (all k (rw ((bytes_eq-Decides k k).1 refl) refl)), ap not (all m (rw ((bytes_eq-Decides m m).1 refl) (or-true (bytes_eq m k)))))
-
 joined : (a b c : Bool) → ((a || b) || c) ≡ (a || (c || b))
 joined true b c = refl
 joined false true true = refl

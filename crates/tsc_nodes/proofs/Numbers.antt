@@ -3,11 +3,11 @@ use Rattle.std.proofs.Common.{◌≡◌, ◌⊎◌, inl, inr, ◌∙◌, refl, s
 use Rattle.std.specs.declared.cmp.Ordering.{Ordering}
 use Rattle.std.specs.declared.cmp.Ordering.TheVariants.{Less, Equal, Greater}
 use Rattle.std.specs.Ordering.{nat_cmp, is_lt, ordering_then, ordering_reverse}
-use Rattle.std.specs.Cmp.{nat_cmp_is, ranked}
+use Rattle.std.specs.Cmp.{nat_cmp_is}
 use Rattle.std.specs.List.{All}
 use Rattle.std.proofs.lemmas.List.{take_all}
 use Rattle.tsc_span.specs.Span.{KeyBytes, key_cmp, Cut, before, after, last, is_below}
-use Rattle.tsc_nodes.specs.Numbers.{spelled, number_of, IsNumberOf, AreTied, IsCutNumber}
+use Rattle.tsc_nodes.specs.Numbers.{spelled, number_of, IsNumberOf, IsCutNumber}
 use Rattle.tsc_span.proofs.CutOrder.{key_cmp_back}
 use Rattle.tsc_nodes.proofs.CutOrder.{Lt, Le-from_Lt}
 
@@ -127,10 +127,6 @@ comparison_told m n j k o at_j at_k e apart = elim (which m n) [
     | inr l ↦ e ∙ sym (nat_cmp_is m n Greater l) ∙ sym (key_cmp_back k j ∙ ap ordering_reverse (number_order n m k j at_k at_j l))
   ]
 ]
-
--- keys with one number are tied
-pub tied_where : (m n : ℕ) (j k : KeyBytes) → IsNumberOf m j → IsNumberOf n k → Equal ≡ nat_cmp m n → AreTied j k
-tied_where m n j k at_j at_k e = record { number = sym at_j.number ∙ ranked m n Equal e ∙ at_k.number; first = at_j.small; second = at_k.small }
 
 -- and so of cuts
 cut_order : (m n : ℕ) (a b : Cut) → IsCutNumber m a → IsCutNumber n b → m < n → Lt a b

@@ -18,7 +18,7 @@ use Rattle.tsc_time.specs.Joint.{joint, joint_above, latest}
 use Rattle.tsc_time.proofs.TimeOrder.{later-tells, is_before-opposite, is_before-transitive, no_earlier-transitive, same_from_neither_before}
 use Rattle.tsc_time.proofs.JointLemmas.{joint-append, joint-singleton}
 use Rattle.std.proofs.lemmas.Bool.{cases_Bool}
-use Rattle.tsc_span.specs.Span.{KeyBytes, Cut, before, after, last, Interval, nothing, between, overlaps, end_keys, key_cost, span_cost}
+use Rattle.tsc_span.specs.Span.{KeyBytes, Cut, before, after, last, Interval, nothing, between, overlaps, end_keys, key_cost}
 use Rattle.tsc_nodes.specs.Page.{Mark, PageMarks, with_mark, top, values_on, marked_keys, weigh_distinct, count_distinct, cost_distinct, has_room}
 use Rattle.tsc_nodes.specs.PageView.{PageView, StandsFor, NoAnswerAboveTop, answer, is_in, bytes_of, has_room_for, new_weight, is_new_among}
 use Rattle.tsc_nodes.specs.Nodes.{Node, next_cut, node_stretches, node_keys, IsSorted, IsSplitAt, raise_nodes, answer_of, page_of}
@@ -130,11 +130,6 @@ new_one ks (Some k) = by (is_in k ks)
     by true = refl
     by false = refl
 
--- so with the end keys of a span keys are as many more as are new
-pub count_with : (ks : List KeyBytes) (o p : Option KeyBytes) → has_no_repeats (option_to_list o ++ option_to_list p) ≡ true
-    → count_distinct (ks ++ (option_to_list o ++ option_to_list p)) ≡ count_distinct ks + one_if (is_new_among ks o) + one_if (is_new_among ks p)
-count_with ks o p once = weigh_with (λ k. 1) ks o p once ∙ rw (new_one ks o, new_one ks p) refl
-
 pub count_before : (ks : List KeyBytes) (o p : Option KeyBytes) → has_no_repeats (option_to_list o ++ option_to_list p) ≡ true
     → count_distinct ((option_to_list o ++ option_to_list p) ++ ks) ≡ one_if (is_new_among ks o) + one_if (is_new_among ks p) + count_distinct ks
 count_before ks o p once = weigh_before (λ k. 1) ks o p once ∙ rw (new_one ks o, new_one ks p) refl
@@ -152,23 +147,12 @@ same_count v p stands = count_distinct-same v.keys (marked_keys p.marks) stands.
 pub same_bytes : (v : PageView) (p : PageMarks) → StandsFor v p → bytes_of v ≡ cost_distinct (marked_keys p.marks)
 same_bytes v p stands = weigh_distinct-same key_cost v.keys (marked_keys p.marks) stands.keys
 
--- the end keys of a span are all different
-pub end_keys-cost : (s : Interval) → cost_distinct (end_keys s) ≡ span_cost s
-end_keys-cost s = weigh_distinct-no_repeats key_cost (end_keys s) (end_keys_once s)
-
 -- the nodes, and the weight of each end key that is new, weigh as the keys without repeats
 pub weigh_with_ends : (weight : KeyBytes → ℕ) (ns : List Node) (o p : Option KeyBytes) (s : Interval) → IsSorted ns → option_to_list o ++ option_to_list p ≡ end_keys s
     → sum_by weight (node_keys ns) + (new_weight weight (node_keys ns) o + new_weight weight (node_keys ns) p) ≡ weigh_distinct weight (node_keys ns ++ end_keys s)
 weigh_with_ends weight ns o p s sorted keys =
     let all = weigh_with weight (node_keys ns) o p (subst (λ ks. has_no_repeats ks ≡ true) (sym keys) (end_keys_once s)) in
     omega (arith, all, weigh_of_nodes weight ns sorted, ap (λ ks. weigh_distinct weight (node_keys ns ++ ks)) keys)
-
--- the nodes, and one for each end key that is new, are as many as the keys without repeats
-pub count_with_ends : (ns : List Node) (o p : Option KeyBytes) (s : Interval) → IsSorted ns → option_to_list o ++ option_to_list p ≡ end_keys s
-    → length ns + (one_if (is_new_among (node_keys ns) o) + one_if (is_new_among (node_keys ns) p)) ≡ count_distinct (node_keys ns ++ end_keys s)
-count_with_ends ns o p s sorted keys =
-    let count = count_with (node_keys ns) o p (subst (λ ks. has_no_repeats ks ≡ true) (sym keys) (end_keys_once s)) in
-    omega (arith, count, count_of_nodes ns sorted, ap (λ ks. count_distinct (node_keys ns ++ ks)) keys)
 
 -- the nodes after a split are as many as the page's keys with those of the span
 pub split_count : (old new : List Node) (span : Interval) → IsSplitAt old new (end_keys span) → length new ≡ count_distinct (node_keys old ++ end_keys span)

@@ -27,6 +27,3 @@ pub const LEAST_SIZE: u32 = 64;
 
 /// How many bytes a page may have at the most.
 pub const MOST_SIZE: u32 = 1_073_741_824;
-
-/// How many nodes a page may have at the most: each costs 32 bytes and those of its key.
-pub const MOST_NODES: u32 = 33_554_432;

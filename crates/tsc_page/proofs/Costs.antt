@@ -11,7 +11,7 @@ use Rattle.tsc_span.specs.Span.{KeyBytes, Interval, key_cost, end_keys}
 use Rattle.tsc_nodes.specs.Page.{cost_distinct}
 use Rattle.tsc_nodes.specs.PageView.{is_in, new_weight}
 use Rattle.tsc_nodes.specs.Nodes.{Node, node_keys, nodes_cost, found_cost, GrowsBy, IsSorted, IsNewKey, with_new, node_in_gap}
-use Rattle.tsc_page.specs.Leaves.{HasNode}
+use Rattle.tsc_tree.specs.Leaves.{HasNode}
 use Rattle.tsc_nodes.proofs.Costs.{cost-new}
 use Rattle.tsc_nodes.proofs.NewKeys.{with_new-length, new_fits}
 use Rattle.tsc_nodes.proofs.Standing.{weigh_with_ends}

@@ -1,8 +1,4 @@
-pub mod Leaves
-pub mod Pending
-pub mod Copies
-pub mod Across
-pub mod Trees
+pub mod Roots
 pub use Rattle.tsc_time.specs.Time
 pub use Rattle.tsc_time.specs.Joint
 pub use Rattle.tsc_span.specs.Span

@@ -21,13 +21,8 @@
 //! A [`PlainPage`] is the same thing as the list of what was added: slow, and easy to believe.
 #![tactic(auto)]
 
-mod addition;
-mod fork;
-mod leaf;
 mod page;
-mod parts;
 mod root;
-mod summary;
 mod tree;
 
 pub use page::Page;

@@ -28,7 +28,7 @@ impl Model for Page {
     ghost use Rattle.tsc_nodes.specs.declared.TheConstants.{LEAST_SIZE, MOST_SIZE};
     ghost use Rattle.tsc_nodes.specs.PageView.{PageView, NoAnswerAboveTop};
     ghost use Rattle.tsc_nodes.specs.Nodes.{page_of};
-    ghost use Rattle.tsc_page.specs.Trees.{tree_nodes, tree_sizes, IsCounted};
+    ghost use Rattle.tsc_page.specs.Roots.{tree_nodes, tree_sizes, IsCounted};
 
     ghost Value = { PageView };
 

@@ -8,15 +8,15 @@ ghost use Rattle.tsc_nodes.specs.PageView.{is_new_among, new_weight};
 ghost use Rattle.tsc_time.specs.Time.{zero_time};
 ghost use Rattle.tsc_time.specs.OwnedTime.{unowned};
 ghost use Rattle.tsc_nodes.specs.Nodes.{IsSplitAt, IsSorted, GrowsBy, node_in_gap, node_keys, answer_of};
-ghost use Rattle.tsc_page.specs.Leaves.{LiesAt, AddsTo};
-ghost use Rattle.tsc_page.specs.Trees.{root_nodes, IsWholeRoot, tree_nodes, tree_sizes, IsCounted};
+ghost use Rattle.tsc_tree.specs.Leaves.{LiesAt, AddsTo};
+ghost use Rattle.tsc_page.specs.Roots.{root_nodes, IsWholeRoot, tree_nodes, tree_sizes, IsCounted};
 
-use crate::addition::Addition;
 use crate::root::Root;
 use std::alloc::Global;
 use tsc_nodes::{Grown, NumberedCut};
 use tsc_span::{Cut, Key};
 use tsc_time::{NoMemory, Value};
+use tsc_tree::Addition;
 
 /// The nodes of a page in leaves that are all equally deep below a root, with how many there are and what their keys cost.
 /// What others hold too is never changed.

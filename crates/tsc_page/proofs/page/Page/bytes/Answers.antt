@@ -2,7 +2,7 @@
 use Rattle.std.proofs.Common.{◌∙◌, sym, ap}
 use Rattle.tsc_span.specs.Span.{key_cost}
 use Rattle.tsc_nodes.specs.PageView.{bytes_of}
-use Rattle.tsc_page.specs.Trees.{tree_nodes}
+use Rattle.tsc_page.specs.Roots.{tree_nodes}
 use Rattle.tsc_nodes.proofs.Standing.{weigh_of_nodes, same_bytes}
 use Rattle.tsc_page.proofs.page.Page.bytes.Goals as goal
 

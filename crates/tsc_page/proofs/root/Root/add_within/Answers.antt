@@ -1,6 +1,6 @@
 -- The list has as many parts as before.
 use Rattle.std.proofs.Common.{◌∙◌, ap, subst, length}
-use Rattle.tsc_page.specs.Trees.{IsWholeThree, IsWholeRoot}
+use Rattle.tsc_page.specs.Roots.{IsWholeThree, IsWholeRoot}
 use Rattle.tsc_page.proofs.TreeLists.{few_with}
 use Rattle.tsc_page.proofs.root.Root.add_within.Goals as goal
 

@@ -1,7 +1,7 @@
 -- Copies of the parts stand for the same.
 use Rattle.std.proofs.Common.{sym, subst}
-use Rattle.tsc_page.specs.Copies.{IsSameAs}
-use Rattle.tsc_page.specs.Trees.{root_nodes, root_sizes, IsWholeRoot}
+use Rattle.tsc_tree.specs.Copies.{IsSameAs}
+use Rattle.tsc_page.specs.Roots.{root_nodes, root_sizes, IsWholeRoot}
 use Rattle.tsc_page.specs.declared.root.Root.{Root}
 use Rattle.tsc_page.specs.declared.root.Root.TheVariants.{One, Two, Three, Four}
 use Rattle.tsc_page.proofs.TreeLists.{copied_one, copied_two, copied_three, copied_four}

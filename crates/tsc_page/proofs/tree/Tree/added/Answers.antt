@@ -7,7 +7,7 @@ use Rattle.tsc_span.specs.Span.{KeyBytes, Cut, between, end_keys, key_cost}
 use Rattle.tsc_span.specs.Cuts.{cut_of}
 use Rattle.tsc_nodes.specs.Page.{cost_distinct}
 use Rattle.tsc_nodes.specs.Nodes.{Node, IsSorted, IsSplitAt, node_keys, nodes_cost}
-use Rattle.tsc_page.specs.Trees.{root_nodes, tree_nodes}
+use Rattle.tsc_page.specs.Roots.{root_nodes, tree_nodes}
 use Rattle.tsc_nodes.proofs.NewKeys.{splits_chain}
 use Rattle.tsc_nodes.proofs.Standing.{split_weight}
 use Rattle.tsc_nodes.proofs.Costs.{cost-raised, node_costs}

@@ -1,0 +1,12 @@
+pub mod Leaves
+pub mod Pending
+pub mod Copies
+pub mod Across
+pub mod Trees
+pub use Rattle.tsc_time.specs.Time
+pub use Rattle.tsc_time.specs.Joint
+pub use Rattle.tsc_span.specs.Span
+pub use Rattle.tsc_nodes.specs.Page
+pub use Rattle.tsc_nodes.specs.PageView
+pub use Rattle.tsc_nodes.specs.Nodes
+pub use Rattle.tsc_nodes.specs.Numbers
