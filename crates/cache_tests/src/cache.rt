@@ -1,6 +1,6 @@
-mod agreement;
-mod rows;
-mod runner;
+pub mod agreement;
+pub mod rows;
+pub mod runner;
 
 use self::agreement::first_difference;
 use self::rows::{COUNTED, FLOOR, GROWING, ROTATING, Row, TIGHT, USUAL};

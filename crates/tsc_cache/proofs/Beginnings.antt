@@ -1,5 +1,5 @@
 -- Beginnings of histories.
-use Rattle.std.proofs.Common.{◌≡◌, ◌∙◌, sym, ap, subst, ℕ, [], ◌∷◌, ◌++◌, append_assoc, append-nil}
+use Rattle.std.proofs.Common.{◌∙◌, sym, ap, subst, ℕ, [], ◌∷◌, ◌++◌, append_assoc, append-nil}
 use Rattle.std.specs.List.{Contains}
 use Rattle.std.proofs.lemmas.List.Elements.{Contains-append_left}
 use Rattle.tsc_cache.specs.Settings.{Settings}

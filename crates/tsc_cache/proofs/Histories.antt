@@ -8,7 +8,7 @@ use Rattle.tsc_time.specs.Time.{Time, is_before, time_minus}
 use Rattle.tsc_time.specs.OwnedTime.{Owner, OwnedTime}
 use Rattle.tsc_time.specs.Joint.{joint_above, IsAtMost}
 use Rattle.tsc_time.proofs.TimeOrder.{is_before-itself, is_before-transitive, no_earlier-transitive}
-use Rattle.tsc_time.proofs.Members.{IsIn, IsIn-from_Contains, Contains-from_IsIn}
+use Rattle.tsc_time.proofs.Members.{IsIn, IsIn-from_Contains}
 use Rattle.tsc_span.specs.Span.{Interval}
 use Rattle.tsc_nodes.specs.Page.{Mark}
 use Rattle.tsc_cache.specs.Settings.{Settings}

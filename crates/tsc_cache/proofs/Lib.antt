@@ -9,6 +9,7 @@ pub mod KeptMarks
 pub mod Beginnings
 pub mod Histories
 pub mod StatesSeen
+pub mod Batches
 pub mod Droppings
 pub mod Crossing
 pub mod ExampleSettings
@@ -16,3 +17,4 @@ pub mod RatchetExamples
 pub mod SpanExamples
 pub mod RotationExamples
 pub mod SizeExamples
+pub mod BatchExamples

@@ -1,5 +1,5 @@
 -- Pages that grow: each new one is twice as large as the one before it, or larger where its first span wants that.
-use Rattle.std.specs.Prelude.{◌≡◌, ℕ, List, [], ◌∷◌, ◌++◌, length, true, false, codes, refl, replicate}
+use Rattle.std.specs.Prelude.{◌≡◌, ℕ, [], ◌∷◌, true, false, codes, refl, replicate}
 use Rattle.tsc_span.specs.Span.{KeyBytes, point, span_cost, between, before, after}
 use Rattle.tsc_cache.specs.Settings.{Settings, fits}
 use Rattle.tsc_cache.specs.State.{next_size}

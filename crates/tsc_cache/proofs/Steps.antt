@@ -83,9 +83,12 @@ step_all-lifts settings s (m ∷ ms) now = elim (step_all-lifts settings (step s
   ]
 ]
 
--- An Add of a list of one mark is the Add of that mark.
-pub one_mark_is_a_step : OneMarkIsAStep
-one_mark_is_a_step settings s m now = ap (λ (a : Added). record { state = (step settings s m now).state; added = a }) (alone (step settings s m now).added)
+-- what one Add answers alone
+pub answer_alone : (a : Added) → added_with a not_kept ≡ a
+answer_alone a =
+    ap (λ b. told b (a.rotated || false) (a.evicted + 0)) (or_false a.kept)
+    ∙ ap (λ b. told a.kept b (a.evicted + 0)) (or_false a.rotated)
+    ∙ ap (told a.kept a.rotated) (omega arith)
   where
     or_false : (b : Bool) → (b || false) ≡ b
     or_false true = refl
@@ -94,8 +97,6 @@ one_mark_is_a_step settings s m now = ap (λ (a : Added). record { state = (step
     told : Bool → Bool → ℕ → Added
     told kept rotated evicted = record { kept = kept; rotated = rotated; evicted = evicted }
 
-    alone : (a : Added) → added_with a not_kept ≡ a
-    alone a =
-        ap (λ b. told b (a.rotated || false) (a.evicted + 0)) (or_false a.kept)
-        ∙ ap (λ b. told a.kept b (a.evicted + 0)) (or_false a.rotated)
-        ∙ ap (told a.kept a.rotated) (omega arith)
+-- An Add of a list of one mark is the Add of that mark.
+pub one_mark_is_a_step : OneMarkIsAStep
+one_mark_is_a_step settings s m now = ap (λ (a : Added). record { state = (step settings s m now).state; added = a }) (answer_alone (step settings s m now).added)

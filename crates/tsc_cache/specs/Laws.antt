@@ -6,8 +6,11 @@ use Rattle.tsc_time.specs.Joint.{joint_above, IsAtMost}
 use Rattle.tsc_span.specs.Span.{Interval, overlaps}
 use Rattle.tsc_nodes.specs.Page.{Mark, PageMarks, top}
 use Rattle.tsc_cache.specs.Settings.{Settings}
-use Rattle.tsc_cache.specs.State.{CacheState, look, evict, doubled, next_size, step, step_all}
+use Rattle.tsc_cache.specs.declared.added.Added.{Added}
+use Rattle.tsc_cache.specs.State.{CacheState, look, evict, doubled, next_size, added_with, step, step_all}
 use Rattle.tsc_cache.specs.Eviction.{highest, Evicts}
+use Rattle.tsc_cache.specs.CacheView.{CacheView, Adds}
+use Rattle.tsc_cache.specs.Batch.{AddsAll}
 use Rattle.tsc_cache.specs.History.{Entry, History, state_of, marks_on, BeginsWith, IsLegal}
 
 -- A mark of an entry is at most what a lookup of a span that it overlaps answers, in the ratchet order, whether its page is still there or not.
@@ -63,6 +66,15 @@ EvictsExpired = (settings : Settings) (now floor : Time) (pages : List PageMarks
 -- An Add of a list of one mark is the Add of that mark.
 abbrev pub OneMarkIsAStep : Type 0
 OneMarkIsAStep = (settings : Settings) (s : CacheState) (m : Mark) (now : Time) → step_all settings s (m ∷ []) now ≡ step settings s m now
+
+-- So it is for all that can be seen of a cache.
+abbrev pub OneMarkIsAnAdd : Type 0
+OneMarkIsAnAdd = (old new : CacheView) (m : Mark) (now : Time) (added : Added) → AddsAll old new (m ∷ []) now added → Adds old new m now added
+
+-- Two lists of marks that are added at one moment, one behind the other, leave what their joined list leaves, and answer together what that one answers.
+abbrev pub ListsJoin : Type 0
+ListsJoin = (settings : Settings) (s : CacheState) (ms ns : List Mark) (now : Time) → (let first = step_all settings s ms now in let second = step_all settings first.state ns now in
+    step_all settings s (ms ++ ns) now ≡ record { state = second.state; added = added_with first.added second.added })
 
 -- The size of a page for a cost behind a page of some size: that size, doubled so often and no more than the most, is at least the cost, and doubled less often it is not.
 pub record IsFirstDoubled (most size cost next : ℕ) : Type 0 where

@@ -4,6 +4,7 @@ pub mod Eviction
 pub mod History
 pub mod Lookup
 pub mod CacheView
+pub mod Batch
 pub mod Stacks
 pub mod CacheParts
 pub mod Laws

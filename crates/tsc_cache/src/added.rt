@@ -10,8 +10,8 @@ pub struct Added {
 }
 
 impl Added {
-    ghost use Rattle.std.specs.Prelude.{◌≡◌};
-    ghost use Rattle.tsc_cache.specs.State.{not_kept, kept_without_rotation, kept_after_rotation};
+    ghost use Rattle.std.specs.Prelude.{◌≡◌, ◌<◌, ◌+◌, ◌^◌};
+    ghost use Rattle.tsc_cache.specs.State.{not_kept, kept_without_rotation, kept_after_rotation, added_with};
 
     /// An Add that is not kept.
     pub(crate) fn nothing() -> Added
@@ -43,6 +43,18 @@ impl Added {
             kept: true,
             rotated: true,
             evicted,
+        }
+    }
+
+    /// What this Add and others after it did together.
+    pub(crate) fn with(self, others: Added) -> Added
+        requires few { self.evicted + others.evicted < 2 ^ 64 }
+        ensures { result ≡ added_with self others }
+    {
+        Added {
+            kept: self.kept || others.kept,
+            rotated: self.rotated || others.rotated,
+            evicted: self.evicted + others.evicted,
         }
     }
 }

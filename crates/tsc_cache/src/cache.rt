@@ -1,14 +1,16 @@
-ghost use Rattle.std.specs.Prelude.{◌≡◌, ◌↔◌, ◌&&◌, not, length, true, false, IsOk, IfOk, IsErrOf, OnOk, OnErr};
+ghost use Rattle.std.specs.Prelude.{◌≡◌, ◌↔◌, ◌<◌, ◌+◌, ◌^◌, ◌&&◌, not, length, true, false, IsOk, IfOk, IsErrOf, OnOk, OnErr};
 ghost use Rattle.tsc_time.specs.Time.{Time};
 ghost use Rattle.tsc_span.specs.Span.{is_empty_span};
 ghost use Rattle.tsc_cache.specs.Settings.{Settings, fits};
-ghost use Rattle.tsc_cache.specs.State.{CacheState, opening, step, look, is_kept, kept_after_rotation};
+ghost use Rattle.tsc_cache.specs.State.{CacheState, opening, step, step_all, look, is_kept, kept_after_rotation};
 ghost use Rattle.tsc_cache.specs.Lookup.{LooksIntoPages};
 ghost use Rattle.tsc_cache.specs.CacheView.{StandsForState, Adds, RotatesWith, front_has_room_for, cache_answer, LooksIntoViews};
+ghost use Rattle.tsc_cache.specs.Batch.{all_fit, is_any_kept, AddsAll};
 
 use crate::config::counted_on;
+use crate::mark::is_any_kept;
 use crate::pages::Pages;
-use crate::{Added, CacheFault, Config};
+use crate::{Added, CacheFault, Config, Mark};
 use std::alloc::Global;
 use std::marker::Model;
 use tsc_page::Page;
@@ -98,13 +100,51 @@ impl Cache {
         if !self.config.fits(span) {
             return Err(CacheFault::TooLarge);
         }
-        let mut next = Cache {
-            config: self.config,
-            floor: self.floor,
-            pages: self.pages.share()?,
-            rotations: self.rotations,
-        };
+        let mut next = self.share()?;
         let added = next.add_fitting(span, value, now)?;
+        Ok((next, added))
+    }
+
+    /// Adds all of these marks at the moment `now`, one after another, or none: where one is too large or memory is
+    /// refused, the cache is as before.
+    ///
+    /// Where none is kept nothing changes, and no memory is taken. Any other batch is made as by
+    /// [`next_all`](Cache::next_all), and then takes the cache's place.
+    pub fn add_all(&mut self, marks: &[Mark], now: Timestamp) -> Result<Added, CacheFault>
+        ensures stands { OnOk result ((settings : Settings) (s : CacheState) → StandsForState self.old settings s
+            → StandsForState self.new settings (step_all settings s marks.now now).state) }
+        ensures added { IfOk result (λ added. (settings : Settings) (s : CacheState) → StandsForState self.old settings s
+            → added ≡ (step_all settings s marks.now now).added) }
+        ensures seen { IfOk result (λ added. AddsAll self.old self.new marks.now now added) }
+        ensures too_large { IsErrOf result CacheFault.TooLarge ↔ (all_fit self.old.settings marks.now ≡ false) }
+        ensures unchanged { OnErr result (self.new ≡ self.old) }
+        ensures memory { all_fit self.old.settings marks.now ≡ true → is_any_kept self.old.floor marks.now ≡ false → IsOk result }
+    {
+        if self.config.fits_all(marks) && !is_any_kept(self.floor, marks) {
+            return Ok(Added::nothing());
+        }
+        let (next, added) = self.next_all(marks, now)?;
+        *self = next;
+        Ok(added)
+    }
+
+    /// The cache after all of these marks, one after another at the moment `now`, beside this one, which stays as it
+    /// is. The two share the pages that the marks leave as they are.
+    ///
+    /// It costs a step for each page, and one copy of the front page, however many marks go there.
+    pub fn next_all(&self, marks: &[Mark], now: Timestamp) -> Result<(Cache, Added), CacheFault>
+        ensures stands { IfOk result (λ next. (settings : Settings) (s : CacheState) → StandsForState self.now settings s
+            → StandsForState next.0 settings (step_all settings s marks.now now).state) }
+        ensures added { IfOk result (λ next. (settings : Settings) (s : CacheState) → StandsForState self.now settings s
+            → next.1 ≡ (step_all settings s marks.now now).added) }
+        ensures seen { IfOk result (λ next. AddsAll self.now next.0 marks.now now next.1) }
+        ensures too_large { IsErrOf result CacheFault.TooLarge ↔ (all_fit self.now.settings marks.now ≡ false) }
+    {
+        if !self.config.fits_all(marks) {
+            return Err(CacheFault::TooLarge);
+        }
+        let mut next = self.share()?;
+        let added = next.add_each(marks, now)?;
         Ok((next, added))
     }
 
@@ -183,6 +223,31 @@ impl Cache {
             return Ok(Added::without_rotation());
         }
         self.rotate(span, value, now)
+    }
+
+    /// Adds marks that fit. Where memory is refused, those before stay.
+    fn add_each(&mut self, marks: &[Mark], now: Timestamp) -> Result<Added, NoMemory>
+        requires fits { all_fit self.old.settings marks.now ≡ true }
+        requires few { length self.old.pages + length marks.now < 2 ^ 64 }
+        ensures { IfOk result (λ added. AddsAll self.old self.new marks.now now added) }
+    {
+        let mut added = Added::nothing();
+        for mark in marks {
+            added = added.with(self.add_fitting(&mark.span, mark.value, now)?);
+        }
+        Ok(added)
+    }
+
+    /// The same cache once more, which shares the pages.
+    fn share(&self) -> Result<Cache, NoMemory>
+        ensures { IfOk result (λ same. same ≡ self.now) }
+    {
+        Ok(Cache {
+            config: self.config,
+            floor: self.floor,
+            pages: self.pages.share()?,
+            rotations: self.rotations,
+        })
     }
 
     /// Whether an Add is kept.

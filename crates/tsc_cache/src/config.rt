@@ -1,8 +1,10 @@
-ghost use Rattle.std.specs.Prelude.{◌≡◌, ◌≤◌, ◌*◌, min};
+ghost use Rattle.std.specs.Prelude.{◌≡◌, ◌≤◌, ◌<◌, ◌*◌, ◌^◌, length, min};
 ghost use Rattle.tsc_nodes.specs.declared.TheConstants.{LEAST_SIZE, MOST_SIZE};
 ghost use Rattle.tsc_cache.specs.Settings.{Settings, settings_of, fits, IsWithinLimits};
 ghost use Rattle.tsc_cache.specs.State.{is_past_retention, next_size, counted_on};
+ghost use Rattle.tsc_cache.specs.Batch.{all_fit};
 
+use crate::Mark;
 use std::marker::Model;
 use thiserror::Error;
 use tsc_page::{LEAST_SIZE, MOST_SIZE};
@@ -117,6 +119,19 @@ impl Config {
         ensures { result ≡ fits self.now span.now }
     {
         span.cost() <= self.page_max
+    }
+
+    /// Whether the span of each of some marks fits.
+    pub(crate) fn fits_all(&self, marks: &[Mark]) -> bool
+        ensures value { result ≡ all_fit self.now marks.now }
+        ensures few { length marks.now < 2 ^ 63 }
+    {
+        for mark in marks {
+            if !self.fits(&mark.span) {
+                return false;
+            }
+        }
+        true
     }
 
     /// The size of a page for a span of this cost, behind one of this size: the first of twice that size, four times that

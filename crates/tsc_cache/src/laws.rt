@@ -2,7 +2,7 @@
 //!
 //! No program needs to call these functions: their contracts are the laws. Whoever keeps a history, as a
 //! ghost, calls [`can_be_added`] to know of an Add that it may stand there.
-ghost use Rattle.tsc_cache.specs.Laws.{KeptUp, Rising, Beginnings, FloorBehind, Real, NoWriteBelowARead, EvictsExpired, OneMarkIsAStep, SizesDouble};
+ghost use Rattle.tsc_cache.specs.Laws.{KeptUp, Rising, Beginnings, FloorBehind, Real, NoWriteBelowARead, EvictsExpired, OneMarkIsAStep, OneMarkIsAnAdd, ListsJoin, SizesDouble};
 ghost use Rattle.tsc_cache.specs.Settings.{fits};
 ghost use Rattle.tsc_cache.specs.History.{CanBeAdded};
 ghost use Rattle.std.specs.Prelude.{◌≡◌, true};
@@ -59,6 +59,17 @@ pub fn evicts_the_expired()
 /// An Add of a list of one mark is the Add of that mark.
 pub fn one_mark_is_a_step()
     ensures { OneMarkIsAStep }
+{}
+
+/// Adding a list of one mark makes of all that can be seen of a cache what an Add of that mark makes, and answers the same.
+pub fn one_mark_is_an_add()
+    ensures { OneMarkIsAnAdd }
+{}
+
+/// Two lists of marks that are added one behind the other, at one moment, do together what their joined list does. Only
+/// the entries of a history are two there, and one here.
+pub fn lists_join()
+    ensures { ListsJoin }
 {}
 
 /// A new page is the first of twice, four times, eight times the size and so on of the one before it, each no larger than

@@ -1,12 +1,14 @@
-ghost use Rattle.std.specs.Prelude.{◌≡◌, ◌↔◌, length, true, false, IsOk, IfOk, IsErrOf, OnOk, OnErr};
+ghost use Rattle.std.specs.Prelude.{◌≡◌, ◌↔◌, ◌<◌, ◌+◌, ◌^◌, length, true, false, IsOk, IfOk, IsErrOf, OnOk, OnErr};
 ghost use Rattle.tsc_span.specs.Span.{is_empty_span};
 ghost use Rattle.tsc_cache.specs.Settings.{Settings, fits};
-ghost use Rattle.tsc_cache.specs.State.{CacheState, opening, step, look, is_kept, kept_after_rotation};
+ghost use Rattle.tsc_cache.specs.State.{CacheState, opening, step, step_all, look, is_kept, kept_after_rotation};
 ghost use Rattle.tsc_cache.specs.CacheView.{StandsForState, Adds, RotatesWith, cache_answer};
+ghost use Rattle.tsc_cache.specs.Batch.{all_fit, is_any_kept, AddsAll};
 
 use crate::config::counted_on;
+use crate::mark::is_any_kept;
 use crate::plain_pages::PlainPages;
-use crate::{Added, CacheFault, Config};
+use crate::{Added, CacheFault, Config, Mark};
 use std::alloc::Global;
 use std::marker::Model;
 use tsc_page::PlainPage;
@@ -15,7 +17,7 @@ use tsc_time::{NoMemory, Timestamp, Value, ratchet};
 
 /// The cache over plain lists of what was added.
 ///
-/// It makes the same promises as [`Cache`](crate::Cache), word for word, but has no `next` and no
+/// It makes the same promises as [`Cache`](crate::Cache), word for word, but has no `next`, no `next_all` and no
 /// `get_max_counted`. It is slow: a lookup looks at all that stands on its pages, and an Add compares all end
 /// keys of the front page with one another.
 #[derive(Debug, Drop)]
@@ -71,6 +73,31 @@ impl PlainCache {
         Ok(self.add_fitting(span, value, now)?)
     }
 
+    /// Adds all of these marks at the moment `now`, one after another, or none: where one is too large or memory is
+    /// refused, the cache is as before. Where none is kept nothing changes, and no memory is taken. Any other batch
+    /// costs a copy of the whole cache.
+    pub fn add_all(&mut self, marks: &[Mark], now: Timestamp) -> Result<Added, CacheFault>
+        ensures stands { OnOk result ((settings : Settings) (s : CacheState) → StandsForState self.old settings s
+            → StandsForState self.new settings (step_all settings s marks.now now).state) }
+        ensures added { IfOk result (λ added. (settings : Settings) (s : CacheState) → StandsForState self.old settings s
+            → added ≡ (step_all settings s marks.now now).added) }
+        ensures seen { IfOk result (λ added. AddsAll self.old self.new marks.now now added) }
+        ensures too_large { IsErrOf result CacheFault.TooLarge ↔ (all_fit self.old.settings marks.now ≡ false) }
+        ensures unchanged { OnErr result (self.new ≡ self.old) }
+        ensures memory { all_fit self.old.settings marks.now ≡ true → is_any_kept self.old.floor marks.now ≡ false → IsOk result }
+    {
+        if !self.config.fits_all(marks) {
+            return Err(CacheFault::TooLarge);
+        }
+        if !is_any_kept(self.floor, marks) {
+            return Ok(Added::nothing());
+        }
+        let mut next = self.try_copy()?;
+        let added = next.add_each(marks, now)?;
+        *self = next;
+        Ok(added)
+    }
+
     /// What the floor, and each Add that overlaps the span, come to together.
     pub fn get_max(&self, span: &Span) -> Value
         ensures value { result ≡ cache_answer self.now span.now }
@@ -122,6 +149,31 @@ impl PlainCache {
             return Ok(Added::without_rotation());
         }
         self.rotate(span, value, now)
+    }
+
+    /// Adds marks that fit. Where memory is refused, those before stay.
+    fn add_each(&mut self, marks: &[Mark], now: Timestamp) -> Result<Added, NoMemory>
+        requires fits { all_fit self.old.settings marks.now ≡ true }
+        requires few { length self.old.pages + length marks.now < 2 ^ 64 }
+        ensures { IfOk result (λ added. AddsAll self.old self.new marks.now now added) }
+    {
+        let mut added = Added::nothing();
+        for mark in marks {
+            added = added.with(self.add_fitting(&mark.span, mark.value, now)?);
+        }
+        Ok(added)
+    }
+
+    /// A copy of the cache.
+    fn try_copy(&self) -> Result<PlainCache, NoMemory>
+        ensures { IfOk result (λ copy. copy ≡ self.now) }
+    {
+        Ok(PlainCache {
+            config: self.config,
+            floor: self.floor,
+            pages: self.pages.try_copy()?,
+            rotations: self.rotations,
+        })
     }
 
     /// Whether an Add is kept.

@@ -1,4 +1,4 @@
-ghost use Rattle.std.specs.Prelude.{◌≡◌, ◌∷◌, [], length, true, false, OnOk, OnErr};
+ghost use Rattle.std.specs.Prelude.{◌≡◌, ◌∷◌, [], length, true, false, IfOk, OnOk, OnErr};
 ghost use Rattle.tsc_span.specs.Span.{is_empty_span};
 ghost use Rattle.tsc_nodes.specs.PageView.{has_room_for};
 ghost use Rattle.tsc_cache.specs.CacheView.{MarksFront};
@@ -34,6 +34,20 @@ impl PlainPages {
     /// Where the pages have their memory from.
     pub(crate) fn alloc(&self) -> Global {
         *self.older.allocator()
+    }
+
+    /// A copy of the pages.
+    pub(crate) fn try_copy(&self) -> Result<PlainPages, NoMemory>
+        ensures { IfOk result (λ copy. plain_pages_of copy ≡ plain_pages_of self.now) }
+    {
+        let mut older = Vec::with_capacity(self.alloc(), self.older.len())?;
+        for page in &self.older {
+            older.push(page.try_copy()?)?;
+        }
+        Ok(PlainPages {
+            front: self.front.try_copy()?,
+            older,
+        })
     }
 
     /// How many there are.

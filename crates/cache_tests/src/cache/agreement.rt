@@ -35,13 +35,18 @@ static CHOICES: [Ends; 4] = [
 
 /// A sequence of numbers that look random.
 #[derive(Drop)]
-struct Sequence {
+pub struct Sequence {
     state: u64,
 }
 
 impl Sequence {
+    /// The sequence, from its beginning.
+    pub fn new() -> Sequence {
+        Sequence { state: 1 }
+    }
+
     /// The next number, from 0 to below `end`.
-    fn below(&mut self, end: u32) -> u32 {
+    pub fn below(&mut self, end: u32) -> u32 {
         self.state = self
             .state
             .wrapping_mul(6_364_136_223_846_793_005)
@@ -50,19 +55,19 @@ impl Sequence {
     }
 
     /// One of some spans.
-    fn one_of<'s>(&mut self, spans: &'s [Span]) -> Result<&'s Span, Fail> {
+    pub fn one_of<'s>(&mut self, spans: &'s [Span]) -> Result<&'s Span, Fail> {
         let place = self.below(u32::try_from(spans.len())?) as usize;
         Ok(spans.get(place).ok_or("no span")?)
     }
 
     /// A value whose time goes on with the turn, on the whole.
-    fn value(&mut self, turn: u64) -> Result<Value, Fail> {
+    pub fn value(&mut self, turn: u64) -> Result<Value, Fail> {
         let wall = 2 + turn / 6 + u64::from(self.below(12));
         value((wall, self.below(2)), u128::from(self.below(3)))
     }
 
     /// A moment that goes on with the turn, on the whole.
-    fn moment(&mut self, turn: u64) -> Result<Timestamp, Fail> {
+    pub fn moment(&mut self, turn: u64) -> Result<Timestamp, Fail> {
         let wall = turn / 6 + u64::from(self.below(16));
         at((wall, self.below(2)))
     }
@@ -197,7 +202,7 @@ impl Caches {
         spans: &[Span],
         nothing: &Span,
     ) -> Result<Option<u64>, Fail> {
-        let mut sequence = Sequence { state: 1 };
+        let mut sequence = Sequence::new();
         for turn in 0..adds {
             let told_alike = self.add_some(&mut sequence, turn, spans)?;
             if !told_alike || !self.agree_in_turn(turn, spans, nothing)? {
@@ -208,7 +213,7 @@ impl Caches {
     }
 }
 
-fn stand_of(cache: &Cache) -> (usize, u64, Timestamp) {
+pub fn stand_of(cache: &Cache) -> (usize, u64, Timestamp) {
     (cache.pages(), cache.rotations(), cache.low_water())
 }
 
@@ -222,7 +227,7 @@ fn push_ranges(alloc: Global, spans: &mut Vec<Span>, from: &[u8], to: &[u8]) -> 
 }
 
 /// Each span over the keys.
-fn spans(alloc: Global) -> Result<Vec<Span>, Fail> {
+pub fn spans(alloc: Global) -> Result<Vec<Span>, Fail> {
     let mut spans = Vec::new(alloc);
     for from in &KEYS {
         spans.push(Span::onward(Key::new(alloc, from)?, false))?;

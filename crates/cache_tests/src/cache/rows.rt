@@ -62,19 +62,19 @@ pub const RETENTION: u64 = 10;
 /// Kept in place.
 pub const KEPT: Told = (true, false, 0);
 
-const NOT_KEPT: Told = (false, false, 0);
+pub const NOT_KEPT: Told = (false, false, 0);
 
 /// Kept after a rotation that dropped nothing.
-const ROTATED: Told = (true, true, 0);
+pub const ROTATED: Told = (true, true, 0);
 
 /// Kept after a rotation that dropped one page.
-const DROPPED: Told = (true, true, 1);
+pub const DROPPED: Told = (true, true, 1);
 
-const AT_20: Time = (20, 0);
+pub const AT_20: Time = (20, 0);
 
 const AT_30: Time = (30, 0);
 
-const AT_40: Time = (40, 0);
+pub const AT_40: Time = (40, 0);
 
 const AT_41: Time = (41, 0);
 

@@ -1,5 +1,5 @@
 -- The front page with one more mark takes its place.
-use Rattle.std.proofs.Common.{◌≡◌, ◌∙◌, refl, sym, subst, cond, Bool, true, ◌||◌, ◌∷◌, []}
+use Rattle.std.proofs.Common.{◌≡◌, refl, sym, subst, cond, Bool, true, ◌||◌, ◌∷◌, []}
 use Rattle.std.specs.Prelude.{Result, Ok, Err, IfOk, Option, Some, None, IfSome}
 use Rattle.tsc_time.specs.Time.{later}
 use Rattle.tsc_time.specs.Joint.{joint}

@@ -1,0 +1,5 @@
+use Rattle.tsc_cache.proofs.Batches.{lists_join}
+use Rattle.tsc_cache.proofs.laws.lists_join.Goals as goal
+
+pub returns : goal.returns
+returns c = lists_join

@@ -1,0 +1,5 @@
+use Rattle.tsc_cache.proofs.Batches.{one_mark_is_an_add}
+use Rattle.tsc_cache.proofs.laws.one_mark_is_an_add.Goals as goal
+
+pub returns : goal.returns
+returns c = one_mark_is_an_add

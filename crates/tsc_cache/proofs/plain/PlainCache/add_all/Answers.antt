@@ -1,0 +1,39 @@
+-- Where no mark is kept nothing changes, and else the copy takes the cache's place.
+use Rattle.std.proofs.Common.{◌≡◌, ◌∙◌, sym, ap, subst, suc, length, arith, false}
+use Rattle.tsc_cache.specs.declared.added.Added.{Added}
+use Rattle.tsc_cache.specs.CacheView.{CacheView}
+use Rattle.tsc_cache.specs.Batch.{all_fit, is_any_kept, AddsAll}
+use Rattle.tsc_cache.proofs.Batches.{none_adds, adds_all_stands}
+use Rattle.tsc_cache.proofs.plain.PlainCache.add_all.Goals as goal
+
+pub returns-then-not-is_any_kept-clause-seen : goal.returns-then-not-is_any_kept-clause-seen
+returns-then-not-is_any_kept-clause-seen c =
+    let none : is_any_kept c.args.self.now.floor c.args.marks.now ≡ false = ap (λ (v : CacheView). is_any_kept v.floor c.args.marks.now) (sym c.self.view_is) ∙ sym c.if-not-is_any_kept.ensures in
+    subst (λ (a : Added). AddsAll c.args.self.now c.args.self.now c.args.marks.now c.args.now a) (sym c.nothing.ensures) (none_adds c.args.self.now c.args.marks.now c.args.now none)
+
+pub returns-then-not-is_any_kept-clause-stands : goal.returns-then-not-is_any_kept-clause-stands
+returns-then-not-is_any_kept-clause-stands c settings s stands =
+    (adds_all_stands c.args.self.now c.args.self.now c.args.marks.now c.args.now c.nothing.result (returns-then-not-is_any_kept-clause-seen c) settings s stands).0
+
+pub returns-then-not-is_any_kept-clause-added : goal.returns-then-not-is_any_kept-clause-added
+returns-then-not-is_any_kept-clause-added c settings s stands =
+    (adds_all_stands c.args.self.now c.args.self.now c.args.marks.now c.args.now c.nothing.result (returns-then-not-is_any_kept-clause-seen c) settings s stands).1
+
+pub add_each-requires : goal.add_each-requires
+add_each-requires c =
+    let same = c.in_ok-next.ensures ∙ sym c.self.view_is in
+    let many : length c.in_ok-next.next.pages ≡ suc (length c.self.inside.pages.older.items) = ap (λ (v : CacheView). length v.pages) same in
+    let older = c.self.inside.pages.older.ok.0 in
+    let few = c.fits_all.ensures.few in
+    record { fits = ap (λ (v : CacheView). all_fit v.settings c.args.marks.now) same ∙ sym c.if-not-fits_all.ensures.value; few = omega arith }
+
+pub returns-clause-seen : goal.returns-clause-seen
+returns-clause-seen c =
+    subst (λ (v : CacheView). AddsAll c.args.self.now v c.args.marks.now c.args.now c.in_ok-added.added) (sym c.next.view_is)
+    (subst (λ (v : CacheView). AddsAll v c.add_each.new.self c.args.marks.now c.args.now c.in_ok-added.added) c.in_ok-next.ensures c.in_ok-added.ensures)
+
+pub returns-clause-stands : goal.returns-clause-stands
+returns-clause-stands c settings s stands = (adds_all_stands c.args.self.now _ c.args.marks.now c.args.now c.in_ok-added.added (returns-clause-seen c) settings s stands).0
+
+pub returns-clause-added : goal.returns-clause-added
+returns-clause-added c settings s stands = (adds_all_stands c.args.self.now _ c.args.marks.now c.args.now c.in_ok-added.added (returns-clause-seen c) settings s stands).1
