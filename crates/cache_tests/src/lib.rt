@@ -5,3 +5,5 @@
 
 #[cfg(test)]
 mod cache;
+#[cfg(test)]
+mod growths;
