@@ -7,3 +7,5 @@
 mod batches;
 #[cfg(test)]
 mod cache;
+#[cfg(test)]
+mod growths;

@@ -1,4 +1,4 @@
-use crate::page::{Order, range_of, step_span, step_value};
+use crate::filled::{Order, range_of, step_span, step_value};
 use std::alloc::Global;
 use std::test::Fail;
 use tsc_page::{Page, PlainPage};

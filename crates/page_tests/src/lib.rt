@@ -4,9 +4,19 @@
 #![tactic(auto)]
 
 #[cfg(test)]
+mod filled;
+#[cfg(test)]
+mod full;
+#[cfg(test)]
 mod large;
 #[cfg(test)]
-mod page;
+mod pages;
+#[cfg(test)]
+mod refused;
+#[cfg(test)]
+mod rows;
+#[cfg(test)]
+mod shared;
 #[cfg(test)]
 mod span;
 #[cfg(test)]

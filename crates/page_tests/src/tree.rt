@@ -1,8 +1,9 @@
 //! Tests of how a page keeps its nodes as a tree: leaves and lists of leaves that are cut, values that are still to be ratcheted into all
 //! that lies below, and copies that share all but what one of them changed.
 
+use crate::filled::{Order, number, numbered_key, range_of, step_value};
 use crate::large::{add_to_both, joint_answer};
-use crate::page::{Order, has_leaves, number, numbered_key, range_of, step_value, value};
+use crate::pages::{added, has_leaves, same_leaves, value};
 use std::alloc::Global;
 use std::test::Fail;
 use tsc_page::{LEAST_SIZE, MOST_SIZE, Page, PlainPage};
@@ -37,6 +38,8 @@ enum Step {
     Add(Over, u64),
     /// Adds a value at a wall time to each fourth key, from one number on and below another.
     Each(u32, u32, u64),
+    /// Makes a page with such a value beside this one, which stays as it is, and goes on with that.
+    Added(Over, u64),
     /// There is no room for a span, and nothing changes.
     Refused(Over),
     /// The sizes of all leaves, of which there are 8 at the most.
@@ -49,7 +52,7 @@ enum Step {
 type Row = (Order, u32, u32, &'static [Step]);
 
 /// Pages of a few leaves. Filled rising, 130 keys make leaves from 4, 132, 260 and 388 on; falling, from 4, 260 and 392 on.
-static FEW_LEAVES: [Row; 12] = [
+static FEW_LEAVES: [Row; 13] = [
     // a leaf is cut as soon as it has 65 nodes: behind the last key, below the first one, and in the middle
     (
         Order::Rising,
@@ -191,6 +194,25 @@ static FEW_LEAVES: [Row; 12] = [
             Step::Leaves(&[32, 33, 32, 33, 33]),
         ],
     ),
+    // by pages that are made beside: in one leaf, over several, a leaf that is cut, and a new first and a new last key
+    (
+        Order::Falling,
+        130,
+        40,
+        &[
+            Step::Leaves(&[64, 33, 33]),
+            Step::Added(Over::Key(200), 65),
+            Step::Added(Over::Through(128, 392), 70),
+            Step::Added(Over::Key(202), 60),
+            Step::Leaves(&[32, 33, 33, 33]),
+            Step::Added(Over::UpTo(1, 524), 75),
+            Step::Leaves(&[33, 33, 33, 34]),
+            Step::Added(Over::From(4), 72),
+            Step::Add(Over::Key(200), 80),
+            Step::Added(Over::Key(200), 78),
+            Step::Leaves(&[33, 33, 33, 34]),
+        ],
+    ),
     // a full page takes known keys, and no new one
     (
         Order::Rising,
@@ -223,7 +245,7 @@ static FEW_LEAVES: [Row; 12] = [
 ];
 
 /// Pages of so many leaves that a list of them is cut: as soon as it has 65.
-static MANY_LEAVES: [Row; 4] = [
+static MANY_LEAVES: [Row; 5] = [
     (
         Order::Rising,
         2080,
@@ -259,6 +281,20 @@ static MANY_LEAVES: [Row; 4] = [
             Step::Add(Over::UpTo(4, 10_504), 70),
             Step::Add(Over::Key(8465), 60),
             Step::Many(2627, 65),
+        ],
+    ),
+    // a list of leaves is cut in a page that is made beside
+    (
+        Order::Rising,
+        2080,
+        40,
+        &[
+            Step::Many(2080, 64),
+            Step::Added(Over::Through(128, 8324), 70),
+            Step::Many(2081, 65),
+            Step::Added(Over::Key(8328), 60),
+            Step::Added(Over::From(4), 65),
+            Step::Many(2082, 65),
         ],
     ),
     // 99 leaves in lists of 32, 32 and 35: a value over all, and then new keys in the middle list
@@ -363,14 +399,14 @@ static COPIES_OF_MANY: [CopyRow; 1] = [(
     ],
 )];
 
-/// Adds of known keys, and whether each lies in one leaf.
-static KNOWN: [(Over, bool); 6] = [
-    (Over::Key(200), true),
-    (Over::UpTo(132, 256), true),
-    (Over::From(388), true),
-    (Over::Through(128, 132), false),
-    (Over::Through(4, 520), false),
-    (Over::Key(264), true),
+/// Adds of known keys: some in one leaf, and some over several.
+static KNOWN: [Over; 6] = [
+    Over::Key(200),
+    Over::UpTo(132, 256),
+    Over::From(388),
+    Over::Through(128, 132),
+    Over::Through(4, 520),
+    Over::Key(264),
 ];
 
 /// The range between the keys of two numbers, with the first one.
@@ -472,11 +508,18 @@ fn answers_alike(
     Ok(alike)
 }
 
-/// The numbers of the end keys of what a step adds to, where both can be the same.
+/// The numbers of a span's end keys, where both can be the same.
+fn ends_of_span(over: Over) -> [u32; 2] {
+    match over {
+        Over::Key(at) | Over::From(at) => [at, at],
+        Over::UpTo(from, to) | Over::Through(from, to) => [from, to],
+    }
+}
+
+/// And those of what a step adds to.
 fn ends_of(step: Step) -> [u32; 2] {
     match step {
-        Step::Add(Over::Key(at) | Over::From(at), _) => [at, at],
-        Step::Add(Over::UpTo(from, to) | Over::Through(from, to), _) => [from, to],
+        Step::Add(over, _) | Step::Added(over, _) => ends_of_span(over),
         Step::Each(from, to, _) => [from, to],
         Step::Refused(_) | Step::Leaves(_) | Step::Many(_, _) => [0, 0],
     }
@@ -547,10 +590,46 @@ fn is_refused(alloc: Global, page: &mut Page, over: Over) -> Result<bool, Fail> 
     Ok(!done && page.nodes() == nodes && page.bytes() == bytes)
 }
 
+/// Makes a page with one more value beside this one, and whether that has the leaves that an Add leaves in a copy.
+fn page_beside(page: &Page, span: &Span, told: Value) -> Result<(Page, bool), Fail> {
+    let made = added(page, span, told)?;
+    let mut copy = page.try_copy()?;
+    if span.is_empty() || !copy.room(span) {
+        return Err(Fail::new("an Add of an empty span, or without room"));
+    }
+    copy.add(span, told)?;
+    let alike = same_leaves(&made, &copy);
+    Ok((made, alike))
+}
+
+/// Makes a page with one more value beside this one, and goes on with it where this one answers as before.
+fn add_beside(
+    alloc: Global,
+    page: &mut Page,
+    plain: &[PlainPage],
+    last: &mut PlainPage,
+    over: Over,
+    wall: u64,
+) -> Result<bool, Fail> {
+    let (span, told) = (span_of(alloc, over)?, value(wall, 0, OWNER)?);
+    let (made, alike) = page_beside(page, &span, told)?;
+    let stays = answers_alike(alloc, page, plain, last)?;
+    let added = last.room(&span) && !span.is_empty() && last.try_add(&span, told)?;
+    *page = made;
+    Ok(alike && stays && added)
+}
+
 /// Adds what a step adds, or says whether the page shows what it tells.
-fn take(alloc: Global, page: &mut Page, last: &mut PlainPage, step: Step) -> Result<bool, Fail> {
+fn take(
+    alloc: Global,
+    page: &mut Page,
+    plain: &[PlainPage],
+    last: &mut PlainPage,
+    step: Step,
+) -> Result<bool, Fail> {
     match step {
         Step::Add(over, wall) => add_over(alloc, page, last, over, wall),
+        Step::Added(over, wall) => add_beside(alloc, page, plain, last, over, wall),
         Step::Each(from, to, wall) => add_each(alloc, page, last, from, to, wall),
         Step::Refused(over) => is_refused(alloc, page, over),
         Step::Leaves(sizes) => Ok(has_leaves(page, sizes)),
@@ -562,7 +641,7 @@ fn take(alloc: Global, page: &mut Page, last: &mut PlainPage, step: Step) -> Res
 fn only_looks(step: Step) -> bool {
     match step {
         Step::Leaves(_) | Step::Many(_, _) => true,
-        Step::Add(_, _) | Step::Each(_, _, _) | Step::Refused(_) => false,
+        Step::Add(_, _) | Step::Added(_, _) | Step::Each(_, _, _) | Step::Refused(_) => false,
     }
 }
 
@@ -574,7 +653,7 @@ fn take_alike(
     last: &mut PlainPage,
     step: Step,
 ) -> Result<bool, Fail> {
-    let shown = take(alloc, page, last, step)?;
+    let shown = take(alloc, page, plain, last, step)?;
     if !shown || only_looks(step) {
         return Ok(shown);
     }
@@ -689,41 +768,39 @@ fn copies_of_many_leaves_go_their_own_ways(rt: HostRuntime) -> Result<(), Fail> 
     Ok(())
 }
 
-/// Adds a value to a span whose end keys the page holds. Where it lies in one leaf that takes no memory; else a refused
-/// Add is made again.
-fn add_known(page: &mut Page, span: &Span, value: Value, in_one_leaf: bool) -> Result<bool, Fail> {
+/// Adds a value to a span whose end keys the page holds, for which it asks for no memory.
+fn add_known(page: &mut Page, span: &Span, value: Value) -> Result<bool, Fail> {
     if span.is_empty() {
         return Err(Fail::new("an Add of an empty span"));
     }
     match page.try_add(span, value) {
         Ok(done) => Ok(done),
-        Err(NoMemory) if in_one_leaf => Err(Fail::new("an Add of known keys asked for memory")),
-        Err(NoMemory) => Ok(page.try_add(span, value)?),
+        Err(NoMemory) => Err(Fail::new("an Add of known keys asked for memory")),
     }
 }
 
-/// Adds values of rising times to the spans of rows, and says whether the page then tells the last one of each.
+/// Adds values of rising times to spans, and says whether the page then answers as the plain pages do.
 fn adds_known(
     alloc: Global,
     page: &mut Page,
     plain: &[PlainPage],
-    rows: &[(Over, bool)],
+    spans: &[Over],
 ) -> Result<bool, Fail> {
     let mut last = plain_page(alloc)?;
     let mut alike = true;
-    for (i, (over, in_one_leaf)) in rows.iter().enumerate() {
+    for (i, over) in spans.iter().enumerate() {
         let (span, told) = (
             span_of(alloc, *over)?,
             value(60 + i as u64 % 100, 0, OWNER)?,
         );
-        alike &= add_known(page, &span, told, *in_one_leaf)?;
+        alike &= add_known(page, &span, told)?;
         alike &= last.room(&span) && !span.is_empty() && last.try_add(&span, told)?;
     }
     Ok(alike && answers_alike(alloc, page, plain, &last)?)
 }
 
-/// Adds of known keys in one leaf ask for no memory: `scripts/refuse-each-growth tests page_tests` shows it, which takes any
-/// error of a test but want of memory for a failure. One over two leaves copies the ways to both.
+/// Adds of known keys ask for no memory, also over several leaves: `scripts/refuse-each-growth tests page_tests` shows it, which
+/// takes any error of a test but want of memory for a failure.
 #[test]
 fn known_keys_take_no_memory(rt: HostRuntime) -> Result<(), Fail> {
     let mut page = Page::new(
