@@ -58,12 +58,6 @@ joint_between-requires-clause-sorted g c =
     let is = read_leaf read items p c.index-parts-place.result here c.index-parts-place.is in
     subst IsSorted (sym is) (leaf_sorted (map read items) p [] (omega (arith, here, length-map items read)) c.requires.parts.sorted)
 
-pub joint_between-requires-clause-order : goal.joint_between-requires-clause-order
-joint_between-requires-clause-order g c =
-    let from : Cut = c.args.from.now in
-    let to : Cut = c.args.to.now in
-    subst (λ (x : Cut). Lt x to) (sym c.new-least.ensures) (Le_Lt-chain (before []) from to (lowest from) c.requires.order)
-
 pub returns-then-not-goes_on : goal.returns-then-not-goes_on
 returns-then-not-goes_on g c =
     let read = g.P.Part.nodes in
@@ -111,3 +105,9 @@ returns g c =
     let ls : List (List Node) = map g.P.Part.nodes c.args.parts.now in
     let past : length ls ≤ c.loop-place.place = omega (arith, c.loop-place-test.false, length-map c.args.parts.now g.P.Part.nodes) in
     answers_at_end (nodes_of ls) (nodes_of (drop c.loop-place.place ls)) c.args.from.now c.args.to.now (before []) c.loop-place.best (ap nodes_of (drop_all c.loop-place.place ls past)) c.loop-place.invariant
+
+pub joint_between-requires-clause-order : goal.joint_between-requires-clause-order
+joint_between-requires-clause-order g c =
+    let from : Cut = c.args.from.now in
+    let to : Cut = c.args.to.now in
+    subst (λ (x : Cut). Lt x to) (sym c.new-least.ensures) (Le_Lt-chain (before []) from to (lowest from) c.requires.order)
