@@ -8,6 +8,8 @@ mod crowd;
 #[cfg(test)]
 mod fronts;
 #[cfg(test)]
+mod growths;
+#[cfg(test)]
 mod held;
 #[cfg(test)]
 mod large;

@@ -48,7 +48,7 @@ static AGAIN: Again = Again(&[
     (("a", 21, 40), Told::Place(11, (false, false, 0), 12)),
 ]);
 
-fn add_key_again<C: Of, R: Wait>(
+pub fn add_key_again<C: Of, R: Wait>(
     rt: &R,
     alloc: Global,
     home: &Home<C>,
