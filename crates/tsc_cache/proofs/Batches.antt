@@ -1,8 +1,8 @@
 -- Several marks, one after another: what they leave and answer together, and how many pages they drop.
-use Rattle.std.proofs.Common.{◌≡◌, ◌∙◌, inl, inr, refl, sym, ap, subst, ℕ, ◌+◌, ◌≤◌, ◌<◌, ◌||◌, Bool, List, [], ◌∷◌, ◌++◌, length, take, drop, get_or, true, false, arith, suc}
-use Rattle.std.specs.Prelude.{Result, IfOk, OnOk}
+use Rattle.std.proofs.Common.{◌≡◌, ◌∙◌, inl, inr, refl, sym, ap, subst, ℕ, ◌+◌, ◌≤◌, ◌<◌, ◌||◌, Bool, List, [], ◌∷◌, ◌++◌, length, All, take, drop, get_or, true, false, arith, suc}
 use Rattle.std.proofs.lemmas.Bool.{cases_Bool, and_parts}
 use Rattle.std.proofs.lemmas.List.{length-append, length-take-le, take_more, drop_more, take_all}
+use Rattle.std.proofs.lemmas.List.Elements.{All-push}
 use Rattle.tsc_time.specs.Time.{Time}
 use Rattle.tsc_nodes.specs.Page.{Mark}
 use Rattle.tsc_nodes.specs.PageView.{PageView}
@@ -11,8 +11,9 @@ use Rattle.tsc_cache.specs.Settings.{Settings, fits}
 use Rattle.tsc_cache.specs.State.{CacheState, Stepped, is_kept, not_kept, added_with, step, step_all}
 use Rattle.tsc_cache.specs.CacheView.{CacheView, StandsForState, Adds, MarksFront, front_has_room_for}
 use Rattle.tsc_cache.specs.Batch.{all_fit, is_any_kept, AddsAll}
+use Rattle.tsc_cache.specs.History.{IsMadeMark, CanBeAdded}
 use Rattle.tsc_cache.specs.Laws.{OneMarkIsAnAdd, ListsJoin}
-use Rattle.tsc_cache.proofs.StatesSeen.{adds_stands, on_ok}
+use Rattle.tsc_cache.proofs.StatesSeen.{adds_stands}
 use Rattle.tsc_cache.proofs.Steps.{answer_alone}
 
 -- ---- answers together
@@ -185,10 +186,24 @@ one_more old middle new ms now a b i m way within at one = record {
 pub all_added : (old new : CacheView) (ms : List Mark) (now : Time) (added : Added) (i : ℕ) → IsUnderWay old new ms now added i → length ms ≤ i → AddsAll old new ms now added
 all_added old new ms now added i way past = subst (λ (ns : List Mark). AddsAll old new ns now added) (take_all i ms past) way.adds
 
--- ---- what a call promises of the states that a cache stood for
+-- ---- which entries can be made
 
-pub all_stand : {E : Type 0} (r : Result Added E) (old new : CacheView) (ms : List Mark) (now : Time) → IfOk r (λ added. AddsAll old new ms now added)
-    → OnOk r ((settings : Settings) (s : CacheState) → StandsForState old settings s → StandsForState new settings (step_all settings s ms now).state)
-all_stand r old new ms now all =
-    on_ok r (λ added. AddsAll old new ms now added) ((settings : Settings) (s : CacheState) → StandsForState old settings s → StandsForState new settings (step_all settings s ms now).state) all
-    (λ added adds settings s stands. (adds_all_stands old new ms now added adds settings s stands).0)
+-- Of marks that fit, so many can be made, and those that are left fit.
+pub record CanBeMade (settings : Settings) (ms : List Mark) (i : ℕ) : Type 0 where
+  pub made : All (λ m. IsMadeMark settings m) (take i ms)
+  pub fit : all_fit settings (drop i ms) ≡ true
+
+-- one more
+pub one_more_made : (settings : Settings) (ms : List Mark) (now : Time) (i : ℕ) (m : Mark) → CanBeMade settings ms i → i < length ms → get_or ms i m ≡ m → (fits settings m.span ≡ true → CanBeAdded settings m now) → CanBeMade settings ms (i + 1)
+one_more_made settings ms now i m so_far within at can =
+    let left = first_fits settings m (drop (i + 1) ms) (subst (λ (ns : List Mark). all_fit settings ns ≡ true) (drop_more ms i m within ∙ ap (λ (n : Mark). n ∷ drop (i + 1) ms) at) so_far.fit) in
+    let entry = can left.0 0 0 in
+    record {
+      made = subst (All (λ n. IsMadeMark settings n)) (sym (take_more ms i m within ∙ ap (λ (n : Mark). take i ms ++ n ∷ []) at))
+          (All-push (λ n. IsMadeMark settings n) (take i ms) m so_far.made (entry.marks 0 m (omega arith)));
+      fit = left.1;
+    }
+
+-- until none is left
+pub all_made : (settings : Settings) (ms : List Mark) (i : ℕ) → CanBeMade settings ms i → length ms ≤ i → All (λ m. IsMadeMark settings m) ms
+all_made settings ms i so_far past = subst (All (λ m. IsMadeMark settings m)) (take_all i ms past) so_far.made

@@ -58,6 +58,10 @@ pub record IsMadeEntry (settings : Settings) (e : Entry) : Type 0 where
 abbrev pub CanBeAdded : Settings → Mark → Time → Type 0
 CanBeAdded settings m now = (seat number : ℕ) → IsMadeEntry settings (entry_of_mark seat number m now)
 
+-- The entry of these marks can be made, whatever its seat and its number.
+abbrev pub CanAllBeAdded : Settings → List Mark → Time → Type 0
+CanAllBeAdded settings ms now = (seat number : ℕ) → IsMadeEntry settings (record { seat = seat; number = number; marks = ms; now = now })
+
 -- The next entry of a seat after a history: its seat is one of so many, its number is how many entries of that seat stand before it, and a caller can make it.
 pub record IsNext (settings : Settings) (seats : ℕ) (h : History) (e : Entry) : Type 0 where
   pub seat : e.seat < seats

@@ -1,13 +1,14 @@
 //! Laws of histories of Adds, over the definitions alone: for every configuration, history and span.
 //!
 //! No program needs to call these functions: their contracts are the laws. Whoever keeps a history, as a
-//! ghost, calls [`can_be_added`] to know of an Add that it may stand there.
+//! ghost, calls [`can_be_added`] or [`can_all_be_added`] to know of an Add that it may stand there.
 ghost use Rattle.tsc_cache.specs.Laws.{KeptUp, Rising, Beginnings, FloorBehind, Real, NoWriteBelowARead, EvictsExpired, OneMarkIsAStep, OneMarkIsAnAdd, ListsJoin, SizesDouble};
 ghost use Rattle.tsc_cache.specs.Settings.{fits};
-ghost use Rattle.tsc_cache.specs.History.{CanBeAdded};
+ghost use Rattle.tsc_cache.specs.Batch.{all_fit};
+ghost use Rattle.tsc_cache.specs.History.{CanBeAdded, CanAllBeAdded};
 ghost use Rattle.std.specs.Prelude.{◌≡◌, true};
 
-use crate::Config;
+use crate::{Config, Mark};
 use tsc_span::Span;
 use tsc_time::{Timestamp, Value};
 
@@ -84,4 +85,13 @@ pub fn can_be_added(config: &Config, span: &Span, value: Value, now: Timestamp)
     ensures { fits config.now span.now ≡ true → CanBeAdded config.now (record { span = span.now; value = value }) now }
 {
     let _cuts = span.cuts();
+}
+
+/// Whatever a program holds as marks that fit a page and a moment can be added: the entry is one that a caller can make.
+pub fn can_all_be_added(config: &Config, marks: &[Mark], now: Timestamp)
+    ensures { all_fit config.now marks.now ≡ true → CanAllBeAdded config.now marks.now now }
+{
+    for mark in marks {
+        can_be_added(config, &mark.span, mark.value, now);
+    }
 }

@@ -10,7 +10,8 @@
 //! It restates `intervalSkl` and `Cache` of CockroachDB's `pkg/kv/kvserver/tscache` (`interval_skl.go` and
 //! `cache.go`), where many threads add at once to a front page that is a skiplist. Here a call has the cache
 //! for itself, and [`Cache::next`] gives the cache after an Add beside the one before it: the two share
-//! their pages, which are never changed while another cache holds them.
+//! their pages, which are never changed while another cache holds them. [`Cache::add_all`] adds several
+//! marks, all of them or none.
 //!
 //! A [`PlainCache`] makes the same promises over plain lists of what was added: slow, and easy to believe.
 #![tactic(auto)]

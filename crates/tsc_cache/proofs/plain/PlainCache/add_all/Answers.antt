@@ -1,8 +1,8 @@
 -- Where no mark is kept nothing changes, and else the copy takes the cache's place.
-use Rattle.std.proofs.Common.{◌≡◌, ◌∙◌, sym, ap, subst, suc, length, arith, false}
+use Rattle.std.proofs.Common.{rules, ◌≡◌, ◌∙◌, sym, ap, subst, false}
 use Rattle.tsc_cache.specs.declared.added.Added.{Added}
-use Rattle.tsc_cache.specs.CacheView.{CacheView}
-use Rattle.tsc_cache.specs.Batch.{all_fit, is_any_kept, AddsAll}
+use Rattle.tsc_cache.specs.CacheView.{CacheView, StandsForState}
+use Rattle.tsc_cache.specs.Batch.{is_any_kept, AddsAll}
 use Rattle.tsc_cache.proofs.Batches.{none_adds, adds_all_stands}
 use Rattle.tsc_cache.proofs.plain.PlainCache.add_all.Goals as goal
 
@@ -19,21 +19,12 @@ pub returns-then-not-is_any_kept-clause-added : goal.returns-then-not-is_any_kep
 returns-then-not-is_any_kept-clause-added c settings s stands =
     (adds_all_stands c.args.self.now c.args.self.now c.args.marks.now c.args.now c.nothing.result (returns-then-not-is_any_kept-clause-seen c) settings s stands).1
 
-pub add_each-requires : goal.add_each-requires
-add_each-requires c =
-    let same = c.in_ok-next.ensures ∙ sym c.self.view_is in
-    let many : length c.in_ok-next.next.pages ≡ suc (length c.self.inside.pages.older.items) = ap (λ (v : CacheView). length v.pages) same in
-    let older = c.self.inside.pages.older.ok.0 in
-    let few = c.fits_all.ensures.few in
-    record { fits = ap (λ (v : CacheView). all_fit v.settings c.args.marks.now) same ∙ sym c.if-not-fits_all.ensures.value; few = omega arith }
-
-pub returns-clause-seen : goal.returns-clause-seen
-returns-clause-seen c =
-    subst (λ (v : CacheView). AddsAll c.args.self.now v c.args.marks.now c.args.now c.in_ok-added.added) (sym c.next.view_is)
-    (subst (λ (v : CacheView). AddsAll v c.add_each.new.self c.args.marks.now c.args.now c.in_ok-added.added) c.in_ok-next.ensures c.in_ok-added.ensures)
-
 pub returns-clause-stands : goal.returns-clause-stands
-returns-clause-stands c settings s stands = (adds_all_stands c.args.self.now _ c.args.marks.now c.args.now c.in_ok-added.added (returns-clause-seen c) settings s stands).0
+returns-clause-stands c settings s stands = (adds_all_stands c.args.self.now _ c.args.marks.now c.args.now c.in_ok-added.added (search rules) settings s stands).0
 
 pub returns-clause-added : goal.returns-clause-added
-returns-clause-added c settings s stands = (adds_all_stands c.args.self.now _ c.args.marks.now c.args.now c.in_ok-added.added (returns-clause-seen c) settings s stands).1
+returns-clause-added c settings s stands =
+    (adds_all_stands c.in_ok-next.next _ c.args.marks.now c.args.now c.in_ok-added.added c.in_ok-added.ensures settings s (subst (λ (v : CacheView). StandsForState v settings s) (sym c.in_ok-next.ensures) stands)).1
+
+pub returns-in_err-added-clause-unchanged : goal.returns-in_err-added-clause-unchanged
+returns-in_err-added-clause-unchanged c = search rules
