@@ -291,15 +291,23 @@ fn stands(tried: &Tried, row: &Row) -> Result<bool, Fail> {
     Ok(tried.stand() == (row.6.0, at(row.6.1)?))
 }
 
-/// Whether marks that are added to a new cache tell what a row says, and all that is said of it afterwards holds.
-fn holds(alloc: Global, way: Way, row: &Row) -> Result<bool, Fail> {
-    let mut tried = Tried::new(alloc, way, config(row.1)?)?;
-    let asked = marks_of(alloc, row.5)?;
-    if !tells(alloc, &mut tried, row, asked.as_slice())? || !stands(&tried, row)? {
-        return Ok(false);
-    }
+/// Whether the marks of a row tell what it says, and all that is said of the cache afterwards holds.
+fn comes_out(alloc: Global, tried: &mut Tried, row: &Row, asked: &[Mark]) -> Result<bool, Fail> {
+    let told = tells(alloc, tried, row, asked)? && stands(tried, row)?;
     let floor = at(FLOOR)?;
-    Ok(older_is_new(&tried, asked.as_slice(), floor) && answers(&tried, asked.as_slice()))
+    Ok(told && older_is_new(tried, asked, floor) && answers(tried, asked))
+}
+
+/// Whether what a row says holds of a new cache.
+fn holds(alloc: Global, way: Way, row: &Row) -> Result<bool, Fail> {
+    let config = config(row.1)?;
+    let asked = marks_of(alloc, row.5)?;
+    comes_out(
+        alloc,
+        &mut Tried::new(alloc, way, config)?,
+        row,
+        asked.as_slice(),
+    )
 }
 
 /// Plays rows in each way.
