@@ -280,14 +280,34 @@ fn add_again(
     Err(Fail::new("marks were refused again"))
 }
 
-/// Whether marks that are added to a new cache tell what a row says, and all that is said of it afterwards holds.
+/// Whether the marks of a row tell what it says.
+fn tells(alloc: Global, tried: &mut Tried, row: &Row, asked: &[Mark]) -> Result<bool, Fail> {
+    let marks = marks_of(alloc, row.2)?;
+    Ok(add_again(tried, marks.as_slice(), at(row.3)?, asked)? == row.4)
+}
+
+/// Whether a cache stands as a row says.
+fn stands(tried: &Tried, row: &Row) -> Result<bool, Fail> {
+    Ok(tried.stand() == (row.6.0, at(row.6.1)?))
+}
+
+/// Whether the marks of a row tell what it says, and all that is said of the cache afterwards holds.
+fn comes_out(alloc: Global, tried: &mut Tried, row: &Row, asked: &[Mark]) -> Result<bool, Fail> {
+    let told = tells(alloc, tried, row, asked)? && stands(tried, row)?;
+    let floor = at(FLOOR)?;
+    Ok(told && older_is_new(tried, asked, floor) && answers(tried, asked))
+}
+
+/// Whether what a row says holds of a new cache.
 fn holds(alloc: Global, way: Way, row: &Row) -> Result<bool, Fail> {
-    let mut tried = Tried::new(alloc, way, config(row.1)?)?;
-    let (marks, asked) = (marks_of(alloc, row.2)?, marks_of(alloc, row.5)?);
-    let told = add_again(&mut tried, marks.as_slice(), at(row.3)?, asked.as_slice())?;
-    let stands = tried.stand() == (row.6.0, at(row.6.1)?);
-    let older = older_is_new(&tried, asked.as_slice(), at(FLOOR)?);
-    Ok(told == row.4 && stands && older && answers(&tried, asked.as_slice()))
+    let config = config(row.1)?;
+    let asked = marks_of(alloc, row.5)?;
+    comes_out(
+        alloc,
+        &mut Tried::new(alloc, way, config)?,
+        row,
+        asked.as_slice(),
+    )
 }
 
 /// Plays rows in each way.
@@ -345,23 +365,59 @@ impl Caches {
         next && in_place && plain
     }
 
-    /// Whether all stand alike, and answer alike to each span.
-    fn agree(&self, spans: &[Span]) -> bool {
-        let stand = stand_of(&self.one_by_one);
+    /// Adds marks, of which each fits or not, and says whether all tell the same.
+    fn tell_alike(
+        &mut self,
+        marks: &[Mark],
+        now: Timestamp,
+        fit: bool,
+    ) -> Result<bool, CacheFault> {
+        if fit {
+            self.add_all(marks, now)
+        } else {
+            Ok(self.refuse_all(marks, now))
+        }
+    }
+
+    /// Whether all stand alike.
+    fn stand_alike(&self) -> bool {
         let plain = (
             self.plain.pages(),
             self.plain.rotations(),
             self.plain.low_water(),
         );
-        let mut alike = plain == stand
-            && stand_of(&self.newest) == stand
-            && stand_of(&self.in_place) == stand;
+        let newest = stand_of(&self.newest) == plain && stand_of(&self.in_place) == plain;
+        newest && stand_of(&self.one_by_one) == plain
+    }
+
+    /// Whether all answer alike to a span.
+    fn answer_alike(&self, span: &Span) -> bool {
+        let value = self.one_by_one.get_max(span);
+        let newest = self.newest.get_max(span) == value && self.in_place.get_max(span) == value;
+        newest && self.plain.get_max(span) == value
+    }
+
+    /// Whether all stand alike, and answer alike to each span.
+    fn agree(&self, spans: &[Span]) -> bool {
+        let mut alike = self.stand_alike();
         for span in spans {
-            let value = self.one_by_one.get_max(span);
-            alike &= self.plain.get_max(span) == value;
-            alike &= self.newest.get_max(span) == value && self.in_place.get_max(span) == value;
+            alike &= self.answer_alike(span);
         }
         alike
+    }
+
+    /// Adds marks that look random, and says whether all tell the same, and are alike afterwards.
+    fn alike_in_turn(
+        &mut self,
+        alloc: Global,
+        config: &Config,
+        sequence: &mut Sequence,
+        turn: u64,
+        spans: &[Span],
+    ) -> Result<bool, Fail> {
+        let (marks, fit) = some_marks(alloc, config, sequence, turn, spans)?;
+        let now = sequence.moment(turn)?;
+        Ok(self.tell_alike(marks.as_slice(), now, fit)? && self.agree(spans))
     }
 }
 
@@ -405,14 +461,7 @@ fn first_difference(alloc: Global, config: &Config, turns: u64) -> Result<Option
     let mut caches = Caches::new(alloc, *config)?;
     let (spans, mut sequence) = (spans(alloc)?, Sequence::new());
     for turn in 0..turns {
-        let (marks, fit) = some_marks(alloc, config, &mut sequence, turn, spans.as_slice())?;
-        let now = sequence.moment(turn)?;
-        let alike = if fit {
-            caches.add_all(marks.as_slice(), now)?
-        } else {
-            caches.refuse_all(marks.as_slice(), now)
-        };
-        if !alike || !caches.agree(spans.as_slice()) {
+        if !caches.alike_in_turn(alloc, config, &mut sequence, turn, spans.as_slice())? {
             return Ok(Some(turn));
         }
     }
