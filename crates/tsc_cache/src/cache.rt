@@ -131,7 +131,8 @@ impl Cache {
     /// The cache after all of these marks, one after another at the moment `now`, beside this one, which stays as it
     /// is. The two share the pages that the marks leave as they are.
     ///
-    /// It costs a step for each page, and one copy of the front page, however many marks go there.
+    /// It costs a step for each page, and for each mark what an Add to a copy of the front page does: the first one that comes to a leaf copies the list at
+    /// the top of the page once more, and that leaf. Others on that leaf are made in place.
     pub fn next_all(&self, marks: &[Mark], now: Timestamp) -> Result<(Cache, Added), CacheFault>
         ensures stands { IfOk result (λ next. (settings : Settings) (s : CacheState) → StandsForState self.now settings s
             → StandsForState next.0 settings (step_all settings s marks.now now).state) }
