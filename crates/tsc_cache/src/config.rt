@@ -121,8 +121,8 @@ impl Config {
         span.cost() <= self.page_max
     }
 
-    /// Whether the span of each of some marks fits.
-    pub(crate) fn fits_all(&self, marks: &[Mark]) -> bool
+    /// Whether the span of each of some marks fits. A list that is in memory has fewer than 2^63 marks.
+    pub fn fits_all(&self, marks: &[Mark]) -> bool
         ensures value { result ≡ all_fit self.now marks.now }
         ensures few { length marks.now < 2 ^ 63 }
     {
