@@ -1,6 +1,6 @@
 -- The order of members makes no difference, at any depth.
 use Rattle.std.proofs.Common.{◌≡◌, ◌∙◌, refl, sym, ap, subst, ℕ, ◌+◌, Bool, true, false, ◌&&◌, List, length, Option, Some, None, Result, Ok, Err}
-use Rattle.std.specs.Prelude.{codes, suc, ◌∷◌, [], ok_or}
+use Rattle.std.specs.Prelude.{codes, suc, ◌∷◌, [], nat_le, ok_or}
 use Rattle.std.specs.List.{list_any, sum_by}
 use Rattle.std.specs.Str.{bytes_eq}
 use Rattle.std.specs.declared.cmp.Ordering.{Ordering}
@@ -16,16 +16,17 @@ use Rattle.tsc_span.specs.Span.{Interval}
 use Rattle.tsc_cache.specs.Settings.{Settings}
 use Rattle.serde_json.specs.Data.{Data, object, Items, Members, no_members, member}
 use Rattle.serde_json.specs.Find.{get_member}
-use Rattle.tsc_json.specs.Lists.{fits_trace}
+use Rattle.tsc_nodes.specs.Page.{Mark}
+use Rattle.tsc_json.specs.Lists.{most_marks, fits_trace}
 use Rattle.tsc_json.specs.MemberOrder.{IsReordered, itself, arrays, objects, AreReordered, no_more, one_more, FindsReordered, neither, both_find}
-use Rattle.tsc_json.specs.TraceText.{listed, array_of, object_of, text_of, unsigned_of, number_below, names_only, only_named, needed, needed_as, two_of, time_in_range, time_of, key_of, owner_member, ends_of, excluded_of, start_form, start_to_end_form, range_form, onward_form, form_of, span_names, form_in, span_form, added_span, looked_up_span, add_names, add_in, add_of, get_names, get_in, get_of, low_of, call_by_name, call_of, fitting_call, numbers_in, lists_in, lists_of, head_names, head_in, head_of, settings_in, calls_of, threads_of, trace_of, json_of, trace_of_bytes}
+use Rattle.tsc_json.specs.TraceText.{listed, array_of, object_of, text_of, unsigned_of, number_below, names_only, only_named, needed, needed_as, two_of, time_in_range, time_of, key_of, owner_member, ends_of, excluded_of, start_form, start_to_end_form, range_form, onward_form, form_of, span_names, form_in, span_form, added_span, looked_up_span, add_names, add_in, add_of, mark_names, mark_in, mark_of, marks_in, few_of, marks_of, batch_names, batch_in, batch_of, get_names, get_in, get_of, low_of, call_by_name, call_of, fitting_call, numbers_in, lists_in, lists_of, head_names, head_in, head_of, settings_in, calls_of, threads_of, trace_of, json_of, trace_of_bytes}
 use Rattle.tsc_json.specs.declared.read.head.Numbers.{Numbers}
 use Rattle.tsc_json.specs.declared.read.TraceFault.{TraceFault}
 use Rattle.tsc_json.specs.declared.read.TraceFault.TheVariants.{NotJson, Config}
 use Rattle.tsc_json.specs.declared.read.part.PartFault.{PartFault}
 use Rattle.tsc_json.specs.declared.read.part.PartFault.TheVariants.{Shape}
 use Rattle.tsc_json.specs.declared.trace.Call.{Call}
-use Rattle.tsc_json.specs.declared.trace.Call.TheVariants.{Add, Get, Low}
+use Rattle.tsc_json.specs.declared.trace.Call.TheVariants.{Add, Batch, Get, Low}
 use Rattle.tsc_json.specs.Traces.{Trace}
 use Rattle.tsc_json.specs.TraceParts.{Part, both, lesser_fault, ◌>>=◌, where_holds, at_call}
 use Rattle.tsc_json.specs.TraceLaws.{ReadsInAnyOrder}
@@ -250,6 +251,61 @@ same_add ms ns finds =
     (same_add_with _ _ _ _ _ _ _ _ (same_needed (codes "span") added_span added_span ms ns same_added finds) (same_needed (codes "time") time_of time_of ms ns same_time finds)
     (same_owner (finds (codes "owner"))) (same_needed (codes "now") time_of time_of ms ns same_time finds))
 
+-- a mark of its parts
+abbrev mark_with : Part Interval → Part Time → Part (Option Owner) → Part Mark
+mark_with span time owner = both (both span time) owner >>= λ parts. Ok (record { span = parts.0.0; value = record { time = parts.0.1; owner = parts.1 } })
+
+same_mark_with : (a b : Part Interval) (c d : Part Time) (e f : Part (Option Owner)) → a ≡ b → c ≡ d → e ≡ f → mark_with a c e ≡ mark_with b d f
+same_mark_with a b c d e f p q r = rw (p, q, r) refl
+
+same_mark : (d e : Data) → IsReordered d e → mark_of d ≡ mark_of e
+unfolding mark_of object_of
+same_mark d e itself = refl
+same_mark d e (arrays same) = refl
+same_mark d e (objects {ms} {ns} finds) =
+    after_names mark_names ms ns mark_in finds
+    (same_mark_with _ _ _ _ _ _ (same_needed (codes "span") added_span added_span ms ns same_added finds) (same_needed (codes "time") time_of time_of ms ns same_time finds) (same_owner (finds (codes "owner"))))
+
+same_marks_in : (ds es : List Data) → RowReordered ds es → marks_in ds ≡ marks_in es
+unfolding marks_in
+same_marks_in ds es row_end = refl
+same_marks_in ds es (row_more d e ds' es' same rest) = rw (same_mark d e same, same_marks_in ds' es' rest) refl
+
+same_length : (ds es : List Data) → RowReordered ds es → length ds ≡ length es
+same_length ds es row_end = refl
+same_length ds es (row_more d e ds' es' same rest) = ap suc (same_length ds' es' rest)
+
+same_if_few : (b c : Bool) (ds es : List Data) → b ≡ c → marks_in ds ≡ marks_in es → (where_holds Shape b ds >>= marks_in) ≡ (where_holds Shape c es >>= marks_in)
+same_if_few true true ds es e same = same
+same_if_few true false ds es e same = absurd cc
+same_if_few false true ds es e same = absurd cc
+same_if_few false false ds es e same = refl
+
+-- the marks of a list, where they are not too many
+abbrev few_marks : List Data → Part (List Mark)
+few_marks ds = few_of ds >>= marks_in
+
+same_few_marks : (ds es : List Data) → RowReordered ds es → few_marks ds ≡ few_marks es
+unfolding few_of
+same_few_marks ds es same = same_if_few _ _ ds es (ap (λ n. nat_le n most_marks) (same_length ds es same)) (same_marks_in ds es same)
+
+same_marks : (d e : Data) → IsReordered d e → marks_of d ≡ marks_of e
+unfolding marks_of
+same_marks d e same = then_same RowReordered few_marks same_few_marks (same_array d e same)
+
+-- a batch of its parts
+abbrev batch_with : Part (List Mark) → Part Time → Part Call
+batch_with marks now = both marks now >>= λ parts. Ok (Batch parts.0 parts.1)
+
+same_batch_with : (a b : Part (List Mark)) (c d : Part Time) → a ≡ b → c ≡ d → batch_with a c ≡ batch_with b d
+same_batch_with a b c d p q = rw (p, q) refl
+
+same_batch : (ms ns : Members) → FindSame ms ns → batch_of ms ≡ batch_of ns
+unfolding batch_of
+same_batch ms ns finds =
+    after_names batch_names ms ns batch_in finds
+    (same_batch_with _ _ _ _ (same_needed (codes "marks") marks_of marks_of ms ns same_marks finds) (same_needed (codes "now") time_of time_of ms ns same_time finds))
+
 same_get_in : (ms ns : Members) → FindSame ms ns → get_in ms ≡ get_in ns
 same_get_in ms ns finds = ap (λ (span : Part Interval). span >>= λ span. Ok (Get span)) (same_needed (codes "span") looked_up_span looked_up_span ms ns same_looked_up finds)
 
@@ -263,7 +319,7 @@ same_low ms ns finds = after_names (codes "op" ∷ []) ms ns (λ (ms : Members).
 
 same_named : (op : List ℕ) (ms ns : Members) → FindSame ms ns → call_by_name op ms ≡ call_by_name op ns
 unfolding call_by_name
-same_named op ms ns finds = rw (same_add ms ns finds, same_get ms ns finds, same_low ms ns finds) refl
+same_named op ms ns finds = rw (same_add ms ns finds, same_batch ms ns finds, same_get ms ns finds, same_low ms ns finds) refl
 
 then_each : {A B : Type 0} (p q : Part A) (f g : A → Part B) → p ≡ q → ((x : A) → f x ≡ g x) → (p >>= f) ≡ (q >>= g)
 then_each (Ok x) (Ok y) f g is each = let here : x ≡ y = cc in ap f here ∙ each y
@@ -291,10 +347,6 @@ same_calls settings first ds es (row_more d e ds' es' same rest) = rw (same_fitt
 pub data RowsReordered : List (List Data) → List (List Data) → Type 0 where
   rows_end : RowsReordered [] []
   rows_more : (ds es : List Data) (ls ks : List (List Data)) → RowReordered ds es → RowsReordered ls ks → RowsReordered (ds ∷ ls) (es ∷ ks)
-
-same_length : (ds es : List Data) → RowReordered ds es → length ds ≡ length es
-same_length ds es row_end = refl
-same_length ds es (row_more d e ds' es' same rest) = ap suc (same_length ds' es' rest)
 
 same_count : (ls ks : List (List Data)) → RowsReordered ls ks → length ls ≡ length ks
 same_count ls ks rows_end = refl

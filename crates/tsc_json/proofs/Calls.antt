@@ -37,10 +37,10 @@ refused : {A F : Type 0} (front : List A) (one : Result A F) (rest : Result (Lis
 refused front one rest fault is = rw is refl
 
 -- what is left from a place on begins with what stands there
-here : {V D : Type 0} (f : V → D) (vs : List V) (i : ℕ) (v : V) → i < length vs → v ≡ get_or vs i v → map f (drop i vs) ≡ f v ∷ map f (drop (i + 1) vs)
+pub here : {V D : Type 0} (f : V → D) (vs : List V) (i : ℕ) (v : V) → i < length vs → v ≡ get_or vs i v → map f (drop i vs) ≡ f v ∷ map f (drop (i + 1) vs)
 here f vs i v lt is = ap (map f) (drop-cons vs i v lt) ∙ rw (add-one, ← is) refl
 
-past : {V D : Type 0} (f : V → D) (vs : List V) (i : ℕ) → length vs ≤ i → map f (drop i vs) ≡ []
+pub past : {V D : Type 0} (f : V → D) (vs : List V) (i : ℕ) → length vs ≤ i → map f (drop i vs) ≡ []
 past f vs i le = ap (map f) (drop_of_length-le vs le)
 
 -- ---- lists

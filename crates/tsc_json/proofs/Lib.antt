@@ -2,6 +2,7 @@ pub mod ExampleTraces
 pub mod TraceTextExamples
 pub mod Items
 pub mod Calls
+pub mod MarksReading
 pub mod Fitting
 pub mod Owners
 pub mod Texts

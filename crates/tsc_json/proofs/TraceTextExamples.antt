@@ -8,11 +8,11 @@ use Rattle.serde_json.specs.Data.{unsigned, Data, number, string, array, object,
 use Rattle.tsc_time.specs.Time.{Time}
 use Rattle.tsc_time.specs.OwnedTime.{unowned}
 use Rattle.tsc_span.specs.Span.{nothing, between, before, after, last, point}
-use Rattle.tsc_json.specs.declared.trace.Call.TheVariants.{Add, Get}
+use Rattle.tsc_json.specs.declared.trace.Call.TheVariants.{Add, Batch, Get}
 use Rattle.tsc_json.specs.declared.read.TraceFault.TheVariants.{NotJson, Shape, Number, Hex, Uuid, Config, TooLarge}
 use Rattle.tsc_json.specs.declared.read.part.PartFault.TheVariants as part
 use Rattle.tsc_json.specs.TraceText.{json_of, trace_of_bytes}
-use Rattle.tsc_json.specs.TraceText.{array_of, object_of, text_of, unsigned_of, number_below, needed, two_of, time_in_range, time_of, key_of, owner_in, owner_member, ends_in, ends_of, excluded_in, excluded_of, start_form, start_to_end_form, range_form, onward_form, form_of, span_form, span_of_form, added_span, looked_up_span, add_of, get_of, low_of, call_by_name, call_of, fitting_call, numbers_in, lists_in, lists_of, head_of, settings_in, calls_of, threads_of, trace_of}
+use Rattle.tsc_json.specs.TraceText.{array_of, object_of, text_of, unsigned_of, number_below, needed, two_of, time_in_range, time_of, key_of, owner_in, owner_member, ends_in, ends_of, excluded_in, excluded_of, start_form, start_to_end_form, range_form, onward_form, form_of, span_form, span_of_form, added_span, looked_up_span, add_of, mark_of, marks_in, few_of, marks_of, batch_of, get_of, low_of, call_by_name, call_of, fitting_call, numbers_in, lists_in, lists_of, head_of, settings_in, calls_of, threads_of, trace_of}
 use Rattle.tsc_json.proofs.ExampleTraces.{ended, example_trace}
 
 -- a time: its wall time and its logical count
@@ -49,6 +49,18 @@ get_call span = object (member (codes "op") (string (codes "get")) (member (code
 
 abbrev pub low_call : Data
 low_call = object (member (codes "op") (string (codes "low")) no_members)
+
+-- a batch of these marks
+abbrev pub batch_call : Items → Data
+batch_call marks =
+    object
+    (member (codes "marks") (array marks)
+    (member (codes "now") (time 20 0)
+    (member (codes "op") (string (codes "batch")) no_members)))
+
+-- a mark of a batch, without an owner
+abbrev pub batch_mark : Data → Data → Data
+batch_mark span at = object (member (codes "span") span (member (codes "time") at no_members))
 
 -- a call with a member that no call has
 abbrev pub low_call_and_more : Data
@@ -142,6 +154,21 @@ pub the_nil_owner_is_none : call_of (add_call (point_span (codes "61")) nil_owne
 unfolding array_of object_of text_of unsigned_of needed two_of time_in_range time_of key_of owner_in owner_member start_form form_of span_form span_of_form added_span add_of call_by_name call_of hex_on_literals uuid_on_literals
 the_nil_owner_is_none = refl
 
+-- ---- batches
+
+pub a_batch_of_one_mark : call_of (batch_call (item (batch_mark (point_span (codes "61")) (time 20 0)) no_items)) ≡ Ok (Batch (record { span = point (97 ∷ []); value = unowned twenty } ∷ []) twenty)
+unfolding array_of object_of text_of unsigned_of needed two_of time_in_range time_of key_of owner_member start_form form_of span_form span_of_form added_span mark_of marks_in few_of marks_of batch_of call_by_name call_of hex_on_literals
+a_batch_of_one_mark = refl
+
+pub a_batch_of_no_marks : call_of (batch_call no_items) ≡ Ok (Batch [] twenty)
+unfolding array_of object_of text_of unsigned_of needed two_of time_in_range time_of marks_in few_of marks_of batch_of call_by_name call_of
+a_batch_of_no_marks = refl
+
+-- of wrong digits in one mark and a number out of range in the next the number is told
+pub the_least_fault_of_a_batch : call_of (batch_call (item (batch_mark (point_span (codes "6g")) (time 20 0)) (item (batch_mark (point_span (codes "61")) (time 20 2147483648)) no_items))) ≡ Err part.Number
+unfolding array_of object_of text_of unsigned_of needed two_of time_in_range time_of key_of owner_member start_form form_of span_form span_of_form added_span mark_of marks_in few_of marks_of batch_of call_by_name call_of hex_on_literals
+the_least_fault_of_a_batch = refl
+
 -- ---- traces that are refused
 
 -- calls are numbered on through all lists, and the first that has a fault decides
@@ -170,6 +197,11 @@ narrow_trace call = trace_on_pages 64 64 (one_list (one_call call))
 pub an_add_that_is_too_large : trace_of (narrow_trace (add_call (range_span (codes "61") (codes "63")) first_owner)) ≡ Err (TooLarge 1)
 unfolding array_of object_of text_of unsigned_of number_below needed two_of time_in_range time_of key_of owner_in owner_member start_form start_to_end_form form_of span_form span_of_form added_span looked_up_span add_of get_of call_by_name call_of fitting_call numbers_in lists_in lists_of head_of settings_in calls_of threads_of trace_of hex_on_literals uuid_on_literals
 an_add_that_is_too_large = refl
+
+-- one mark of a batch is enough
+pub a_batch_with_a_mark_that_is_too_large : trace_of (narrow_trace (batch_call (item (batch_mark (point_span (codes "61")) (time 20 0)) (item (batch_mark (range_span (codes "61") (codes "63")) (time 20 0)) no_items)))) ≡ Err (TooLarge 1)
+unfolding array_of object_of text_of unsigned_of number_below needed two_of time_in_range time_of key_of owner_member start_form start_to_end_form form_of span_form span_of_form added_span mark_of marks_in few_of marks_of batch_of call_by_name call_of fitting_call numbers_in lists_in lists_of head_of settings_in calls_of threads_of trace_of hex_on_literals
+a_batch_with_a_mark_that_is_too_large = refl
 
 -- what else is wrong with a call comes before that
 pub a_wrong_owner_of_one_that_is_too_large : trace_of (narrow_trace (add_call (range_span (codes "61") (codes "63")) (codes "xyz"))) ≡ Err (Uuid 1)

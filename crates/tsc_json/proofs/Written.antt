@@ -3,6 +3,7 @@ use Rattle.std.proofs.Common.{◌≡◌, inl, inr, ◌∙◌, refl, sym, ap, ℕ
 use Rattle.std.specs.Prelude.{slice_index, sum, nat_lt, nat_le, All}
 use Rattle.std.specs.List.{sum_by}
 use Rattle.std.proofs.lemmas.Bool.{leb-true, lt-ltb, and_parts}
+use Rattle.std.proofs.lemmas.Bool.Decides.{nat_tests}
 use Rattle.std.proofs.lemmas.List.{length-map}
 use Rattle.std.proofs.lemmas.List.Elements.{All-nil}
 use Rattle.std.proofs.lemmas.List.Sums.{sum-map}
@@ -22,16 +23,17 @@ use Rattle.tsc_span.proofs.Ranges.{range_of_less, range_of_equal}
 use Rattle.tsc_nodes.specs.declared.TheConstants.{LEAST_SIZE, MOST_SIZE}
 use Rattle.tsc_cache.specs.declared.config.TheConstants.{LEAST_MIN_PAGES, MOST_MIN_PAGES, LONGEST_RETENTION}
 use Rattle.tsc_cache.specs.Settings.{Settings, are_page_sizes, IsWithinLimits}
-use Rattle.tsc_json.specs.Lists.{fits_trace}
+use Rattle.tsc_nodes.specs.Page.{Mark}
+use Rattle.tsc_json.specs.Lists.{most_marks, fits_trace}
 use Rattle.tsc_json.specs.declared.trace.Call.{Call}
-use Rattle.tsc_json.specs.declared.trace.Call.TheVariants.{Add, Get, Low}
+use Rattle.tsc_json.specs.declared.trace.Call.TheVariants.{Add, Batch, Get, Low}
 use Rattle.tsc_json.specs.Calls.{call_fits}
 use Rattle.tsc_json.specs.Traces.{Trace, EachFits, AllFit}
 use Rattle.tsc_json.specs.declared.read.head.Numbers.{Numbers}
 use Rattle.tsc_json.specs.declared.read.span.SpanForm.{SpanForm}
 use Rattle.tsc_json.specs.declared.read.span.SpanForm.TheVariants.{Range, Onward}
-use Rattle.tsc_json.specs.TraceText.{listed, array_of, object_of, text_of, unsigned_of, number_below, needed, two_of, time_in_range, time_of, key_of, owner_in, owner_member, ends_in, ends_of, excluded_in, excluded_of, range_form, onward_form, form_of, span_form, span_of_form, added_span, looked_up_span, add_of, get_of, low_of, call_by_name, call_of, fitting_call, numbers_in, lists_in, lists_of, head_of, settings_in, calls_of, threads_of, trace_of}
-use Rattle.tsc_json.specs.TraceData.{list_data, key_data, time_data, owner_data, start_bracket, end_bracket, range_data, onward_data, span_data, call_data, trace_data, IsMadeCall, IsMadeTrace}
+use Rattle.tsc_json.specs.TraceText.{listed, array_of, object_of, text_of, unsigned_of, number_below, needed, two_of, time_in_range, time_of, key_of, owner_in, owner_member, ends_in, ends_of, excluded_in, excluded_of, range_form, onward_form, form_of, span_form, span_of_form, added_span, looked_up_span, add_of, mark_of, marks_in, few_of, marks_of, batch_of, get_of, low_of, call_by_name, call_of, fitting_call, numbers_in, lists_in, lists_of, head_of, settings_in, calls_of, threads_of, trace_of}
+use Rattle.tsc_json.specs.TraceData.{list_data, key_data, time_data, owner_data, start_bracket, end_bracket, range_data, onward_data, span_data, mark_data, call_data, trace_data, IsTracedMark, IsMadeCall, IsMadeTrace}
 use Rattle.tsc_json.specs.TraceLaws.{ReadsWhatIsWritten}
 
 -- ---- keys, times and owners
@@ -133,11 +135,42 @@ looked_up_back : (s : Interval) → IsMadeSpan s → looked_up_span (span_data s
 unfolding looked_up_span
 looked_up_back s made = let back = span_back s made in rw (back.read, back.span) refl
 
+-- ---- lists
+
+listed_back : (ds : List Data) → listed (items_of ds) ≡ ds
+listed_back [] = refl
+listed_back (d ∷ ds) = ap (λ xs. d ∷ xs) (listed_back ds)
+
+array_back : (ds : List Data) → array_of (list_data ds) ≡ Ok ds
+unfolding array_of
+array_back ds = rw (listed_back ds) refl
+
+-- ---- batches
+
+mark_back : (m : Mark) → IsTracedMark m → mark_of (mark_data m) ≡ Ok m
+unfolding mark_of object_of needed
+mark_back m made = rw (added_back m.span made.span, time_back m.value.time made.value.time, owner_back m.value.owner made.value.owner) refl
+
+marks_in_back : (ms : List Mark) → All IsTracedMark ms → marks_in (map mark_data ms) ≡ Ok ms
+unfolding marks_in
+marks_in_back [] made = refl
+marks_in_back (m ∷ ms) made = rw (mark_back m (made 0 m (omega arith)), marks_in_back ms (λ k d lt. made (suc k) d (omega arith))) refl
+
+few_enough : (n most : ℕ) → n ≤ most → nat_le n most ≡ true
+few_enough n most few = grind (arith, nat_tests)
+
+marks_back : (ms : List Mark) → All IsTracedMark ms → length ms ≤ most_marks → marks_of (list_data (map mark_data ms)) ≡ Ok ms
+unfolding marks_of few_of
+marks_back ms made few =
+    let test : nat_le (length (map mark_data ms)) most_marks ≡ true = rw (length-map ms mark_data) (few_enough (length ms) most_marks few) in
+    rw (array_back (map mark_data ms), test, marks_in_back ms made) refl
+
 -- ---- calls
 
 call_back : (c : Call) → IsMadeCall c → call_of (call_data c) ≡ Ok c
-unfolding call_of object_of needed text_of call_by_name add_of get_of low_of
+unfolding call_of object_of needed text_of call_by_name add_of batch_of get_of low_of
 call_back (Add span value now) made = rw (added_back span made.0, time_back value.time made.1.time, owner_back value.owner made.1.owner, time_back now made.2) refl
+call_back (Batch marks now) made = rw (marks_back marks made.each made.few, time_back now made.moment) refl
 call_back (Get span) made = rw (looked_up_back span made) refl
 call_back Low made = refl
 
@@ -150,14 +183,6 @@ unfolding calls_of
 calls_back settings first [] made fit = refl
 calls_back settings first (c ∷ cs) made fit =
     rw (fitting_back settings c (made 0 c (omega arith)) (fit 0 c (omega arith)), calls_back settings (suc first) cs (λ k d lt. made (suc k) d (omega arith)) (λ k d lt. fit (suc k) d (omega arith))) refl
-
-listed_back : (ds : List Data) → listed (items_of ds) ≡ ds
-listed_back [] = refl
-listed_back (d ∷ ds) = ap (λ xs. d ∷ xs) (listed_back ds)
-
-array_back : (ds : List Data) → array_of (list_data ds) ≡ Ok ds
-unfolding array_of
-array_back ds = rw (listed_back ds) refl
 
 -- the calls of each list
 abbrev pub rows_of : List (List Call) → List (List Data)

@@ -1,5 +1,8 @@
 -- What the readers of a trace give.
-use Rattle.std.specs.Prelude.{◌≡◌, ◌⊎◌, ℕ, Result, Ok, Err}
+use Rattle.std.specs.Prelude.{◌≡◌, ◌⊎◌, ℕ, List, [], ◌∷◌, ◌++◌, Result, Ok, Err}
+use Rattle.std.specs.declared.alloc.Global.{Global}
+use Rattle.std.specs.declared.vec.Vec.{Vec}
+use Rattle.tsc_nodes.specs.Page.{Mark}
 use Rattle.tsc_json.specs.declared.read.TraceFault.{TraceFault}
 use Rattle.tsc_json.specs.declared.read.TraceFault.TheVariants.{NoMemory}
 use Rattle.tsc_json.specs.declared.read.part.Refusal.{Refusal}
@@ -39,3 +42,8 @@ abbrev pub told_at : {A : Type 0} → ℕ → Result A Refusal → Result A Trac
 told_at call (Ok x) = Ok x
 told_at call (Err refusal.Memory) = Err NoMemory
 told_at call (Err (refusal.Fault fault)) = Err (fault_at call fault)
+
+-- marks and one more, which both were read, or the lesser refusal of both, unless memory ran out
+abbrev pub AddsMark : Result (Vec Mark Global) Refusal → Result Mark Refusal → Result (Vec Mark Global) Refusal → Type 0
+AddsMark marks mark (Ok more) = (front : Vec Mark Global) × (one : Mark) × (joined marks mark ≡ Ok (front, one)) × (more.items ≡ front.items ++ one ∷ [])
+AddsMark marks mark (Err e) = (e ≡ refusal.Memory) ⊎ (joined marks mark ≡ Err e)

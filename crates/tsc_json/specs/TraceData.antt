@@ -1,5 +1,5 @@
 -- A trace as a JSON value, in one of the forms that it may have.
-use Rattle.std.specs.Prelude.{◌≡◌, ℕ, ◌++◌, List, [], ◌∷◌, map, Bool, true, false, All, Option, Some, None, codes, if◌then◌else◌}
+use Rattle.std.specs.Prelude.{◌≡◌, ℕ, ◌++◌, List, [], ◌∷◌, map, length, ◌≤◌, Bool, true, false, All, Option, Some, None, codes, if◌then◌else◌}
 use Rattle.hex.specs.Hex.{encode_lower}
 use Rattle.uuid.specs.Text.{hyphenated_text, lower}
 use Rattle.serde_json.specs.Data.{Data, null, unsigned, number, string, array, object, no_members, member}
@@ -9,9 +9,10 @@ use Rattle.tsc_time.specs.OwnedTime.{Owner, IsMadeValue}
 use Rattle.tsc_span.specs.Span.{KeyBytes, before, after, last, Interval, nothing, between}
 use Rattle.tsc_span.specs.MadeSpan.{IsMadeSpan}
 use Rattle.tsc_cache.specs.Settings.{IsWithinLimits}
-use Rattle.tsc_json.specs.Lists.{fits_trace}
+use Rattle.tsc_nodes.specs.Page.{Mark}
+use Rattle.tsc_json.specs.Lists.{most_marks, fits_trace}
 use Rattle.tsc_json.specs.declared.trace.Call.{Call}
-use Rattle.tsc_json.specs.declared.trace.Call.TheVariants.{Add, Get, Low}
+use Rattle.tsc_json.specs.declared.trace.Call.TheVariants.{Add, Batch, Get, Low}
 use Rattle.tsc_json.specs.Traces.{Trace, AllFit}
 
 -- a list of JSON values
@@ -65,6 +66,14 @@ span_data (between (before k) last) = onward_data k false
 span_data (between (after k) last) = onward_data k true
 span_data (between last to) = null
 
+-- a mark of a batch
+abbrev pub mark_data : Mark → Data
+mark_data m =
+    object
+    (member (codes "owner") (owner_data m.value.owner)
+    (member (codes "span") (span_data m.span)
+    (member (codes "time") (time_data m.value.time) no_members)))
+
 -- a call
 abbrev pub call_data : Call → Data
 call_data (Add span value now) =
@@ -74,6 +83,11 @@ call_data (Add span value now) =
     (member (codes "owner") (owner_data value.owner)
     (member (codes "span") (span_data span)
     (member (codes "time") (time_data value.time) no_members)))))
+call_data (Batch marks now) =
+    object
+    (member (codes "marks") (list_data (map mark_data marks))
+    (member (codes "now") (time_data now)
+    (member (codes "op") (string (codes "batch")) no_members)))
 call_data (Get span) = object (member (codes "op") (string (codes "get")) (member (codes "span") (span_data span) no_members))
 call_data Low = object (member (codes "op") (string (codes "low")) no_members)
 
@@ -88,9 +102,21 @@ trace_data trace =
     (member (codes "retention") (number (unsigned trace.config.retention))
     (member (codes "threads") (list_data (map (λ calls. list_data (map call_data calls)) trace.threads)) no_members))))))
 
+-- a mark whose parts can be made
+pub record IsTracedMark (m : Mark) : Type 0 where
+  pub span : IsMadeSpan m.span
+  pub value : IsMadeValue m.value
+
+-- a batch whose parts can be made, and which is not too large
+pub record IsMadeBatch (marks : List Mark) (now : Time) : Type 0 where
+  pub each : All IsTracedMark marks
+  pub few : length marks ≤ most_marks
+  pub moment : is_in_range now ≡ true
+
 -- a call whose parts can be made
 abbrev pub IsMadeCall : Call → Type 0
 IsMadeCall (Add span value now) = IsMadeSpan span × IsMadeValue value × (is_in_range now ≡ true)
+IsMadeCall (Batch marks now) = IsMadeBatch marks now
 IsMadeCall (Get span) = IsMadeSpan span
 IsMadeCall Low = Unit {0}
 

@@ -1,5 +1,5 @@
 -- The trace that a text is, or why it is none: one JSON text, in the form that docs/FORMATS.md describes.
-use Rattle.std.specs.Prelude.{ℕ, suc, ◌+◌, ◌^◌, ◌&&◌, List, [], ◌∷◌, length, nat_lt, Bool, true, false, Option, Some, None, option_map, unwrap_or, Result, Ok, Err, ok_or, codes, if◌then◌else◌}
+use Rattle.std.specs.Prelude.{ℕ, suc, ◌+◌, ◌^◌, ◌&&◌, List, [], ◌∷◌, length, nat_le, nat_lt, Bool, true, false, Option, Some, None, option_map, unwrap_or, Result, Ok, Err, ok_or, codes, if◌then◌else◌}
 use Rattle.std.specs.Result.{result_ok}
 use Rattle.std.specs.List.{list_any}
 use Rattle.std.specs.Str.{bytes_eq, is_utf8}
@@ -13,10 +13,11 @@ use Rattle.tsc_time.specs.OwnedTime.{Owner, owner_of}
 use Rattle.tsc_span.specs.declared.span.Ends.{Ends}
 use Rattle.tsc_span.specs.Span.{KeyBytes, Interval, nothing, point, range, onward, start_to_end, fits_key}
 use Rattle.tsc_cache.specs.Settings.{Settings, settings_of}
-use Rattle.tsc_json.specs.Lists.{fits_trace}
+use Rattle.tsc_nodes.specs.Page.{Mark}
+use Rattle.tsc_json.specs.Lists.{most_marks, fits_trace}
 use Rattle.tsc_json.specs.TraceParts.{Part, both, ◌>>=◌, where_holds, at_call}
 use Rattle.tsc_json.specs.declared.trace.Call.{Call}
-use Rattle.tsc_json.specs.declared.trace.Call.TheVariants.{Add, Get, Low}
+use Rattle.tsc_json.specs.declared.trace.Call.TheVariants.{Add, Batch, Get, Low}
 use Rattle.tsc_json.specs.Calls.{call_fits}
 use Rattle.tsc_json.specs.Traces.{Trace}
 use Rattle.tsc_json.specs.declared.read.TraceFault.{TraceFault}
@@ -240,6 +241,69 @@ add_of ms = do
   ms ← only_named add_names ms
   add_in ms
 
+-- the members that a mark of a batch may have
+abbrev pub mark_names : List (List ℕ)
+mark_names = codes "span" ∷ codes "time" ∷ codes "owner" ∷ []
+
+-- the span, the time and the owner of a mark
+abbrev pub mark_parts : Members → Part ((Interval × Time) × Option Owner)
+mark_parts ms = both (span_and_time ms) (owner_member (get_member (codes "owner") ms))
+
+-- the mark with these members
+abbrev pub mark_in : Members → Part Mark
+mark_in ms = do
+  parts ← mark_parts ms
+  Ok (record { span = parts.0.0; value = record { time = parts.0.1; owner = parts.1 } })
+
+-- a mark of a batch
+unfoldable pub mark_of : Data → Part Mark
+mark_of d = do
+  ms ← object_of d
+  ms ← only_named mark_names ms
+  mark_in ms
+
+-- a mark, and those after it
+abbrev pub with_others : Part Mark → Part (List Mark) → Part (List Mark)
+with_others mark others = do
+  parts ← both mark others
+  Ok (parts.0 ∷ parts.1)
+
+-- marks, of which each has to be one
+unfoldable pub marks_in : List Data → Part (List Mark)
+marks_in [] = Ok []
+marks_in (d ∷ ds) = with_others (mark_of d) (marks_in ds)
+
+-- a list of not too many
+unfoldable pub few_of : List Data → Part (List Data)
+few_of ds = where_holds Shape (nat_le (length ds) most_marks) ds
+
+-- the marks of a batch
+unfoldable pub marks_of : Data → Part (List Mark)
+marks_of d = do
+  ds ← array_of d
+  ds ← few_of ds
+  marks_in ds
+
+-- the members that a batch may have
+abbrev pub batch_names : List (List ℕ)
+batch_names = codes "op" ∷ codes "marks" ∷ codes "now" ∷ []
+
+-- the marks and the moment of a batch
+abbrev pub marks_and_now : Members → Part (List Mark × Time)
+marks_and_now ms = both (needed_as (codes "marks") marks_of ms) (needed_as (codes "now") time_of ms)
+
+-- the batch with these members
+abbrev pub batch_in : Members → Part Call
+batch_in ms = do
+  parts ← marks_and_now ms
+  Ok (Batch parts.0 parts.1)
+
+-- a batch, by its members
+unfoldable pub batch_of : Members → Part Call
+batch_of ms = do
+  ms ← only_named batch_names ms
+  batch_in ms
+
 -- the members that a lookup may have
 abbrev pub get_names : List (List ℕ)
 get_names = codes "op" ∷ codes "span" ∷ []
@@ -266,6 +330,7 @@ low_of ms = do
 unfoldable pub call_by_name : List ℕ → Members → Part Call
 call_by_name op ms =
     if bytes_eq op (codes "add") then add_of ms
+    else if bytes_eq op (codes "batch") then batch_of ms
     else if bytes_eq op (codes "get") then get_of ms
     else if bytes_eq op (codes "low") then low_of ms
     else Err Shape

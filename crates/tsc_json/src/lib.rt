@@ -10,4 +10,4 @@ mod read;
 mod trace;
 
 pub use read::{TraceFault, read_trace};
-pub use trace::{Call, Kind, Lists, Trace};
+pub use trace::{Call, Kind, Lists, Marks, Trace};

@@ -3,6 +3,7 @@ ghost use Rattle.serde_json.specs.View.{view};
 ghost use Rattle.tsc_json.specs.TraceText.{trace_of_bytes, json_of};
 ghost use Rattle.tsc_json.specs.declared.read.TraceFault.TheVariants.{NoMemory};
 
+mod batch;
 mod call;
 mod head;
 mod json;
@@ -26,7 +27,7 @@ pub enum TraceFault {
     #[error("not JSON")]
     NotJson,
     /// A JSON value of another kind than is wanted, a member that is missing or unknown, an unknown word, or
-    /// members that are no form of a span.
+    /// members that are no form of a span, or more than 1,024 marks in a batch.
     #[error("a wrong shape at call {0}")]
     Shape(u64),
     /// A number that is no unsigned integer, or out of its range.
@@ -38,7 +39,7 @@ pub enum TraceFault {
     /// An owner that is no UUID.
     #[error("a wrong UUID at call {0}")]
     Uuid(u64),
-    /// A key of more than 4096 bytes, or an inverted span of an Add.
+    /// A key of more than 4096 bytes, or an inverted span of an Add or a batch.
     #[error("a wrong span at call {0}")]
     Span(u64),
     /// Values that `Config::new` refuses, no list, more than 64 lists, or more than 65,536 calls. It comes
@@ -48,7 +49,7 @@ pub enum TraceFault {
     /// A growth was refused. It may come in place of any other fault.
     #[error("out of memory")]
     NoMemory,
-    /// An Add whose span costs more than `page_max`, also one that would not be kept.
+    /// An Add whose span costs more than `page_max`, also one that would not be kept, or a batch with such a span.
     #[error("a span too large for a page at call {0}")]
     TooLarge(u64),
 }

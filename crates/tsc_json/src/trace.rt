@@ -3,7 +3,7 @@ ghost use Rattle.tsc_json.specs.Calls.{adds, call_fits, kind_of};
 ghost use Rattle.tsc_json.specs.Lists.{most_lists, most_calls, fits_trace};
 
 use std::marker::Model;
-use tsc_cache::Config;
+use tsc_cache::{Config, Mark};
 use tsc_span::Span;
 use tsc_time::{Timestamp, Value};
 
@@ -35,6 +35,11 @@ pub enum Call {
         value: Value,
         now: Timestamp,
     },
+    /// Adds marks, one after another, at the moment `now`: all of them or none.
+    Batch {
+        marks: Marks,
+        now: Timestamp,
+    },
     /// Asks for the value of a span.
     Get {
         span: Span,
@@ -47,6 +52,7 @@ pub enum Call {
 #[derive(Clone, Copy, Debug, PartialEq, Eq)]
 pub enum Kind {
     Add,
+    Batch,
     Get,
     Low,
 }
@@ -58,17 +64,18 @@ impl Call {
     {
         match self {
             Call::Add { .. } => Kind::Add,
+            Call::Batch { .. } => Kind::Batch,
             Call::Get { .. } => Kind::Get,
             Call::Low => Kind::Low,
         }
     }
 
-    /// Whether the call adds anything.
+    /// Whether the call is one that adds: an Add or a batch.
     pub fn adds(&self) -> bool
         ensures { result ≡ adds self.now }
     {
         match self {
-            Call::Add { .. } => true,
+            Call::Add { .. } | Call::Batch { .. } => true,
             Call::Get { .. } | Call::Low => false,
         }
     }
@@ -79,8 +86,43 @@ impl Call {
     {
         match self {
             Call::Add { span, .. } => config.fits(span),
+            Call::Batch { marks, .. } => config.fits_all(marks.slice()),
             Call::Get { .. } | Call::Low => true,
         }
+    }
+}
+
+/// How many marks a batch of a trace has at the most.
+pub(crate) const MOST_MARKS: usize = 1_024;
+
+/// The marks of a batch, in the order in which they are added. One that was read has at most 1,024.
+#[derive(Debug, Drop)]
+pub struct Marks {
+    marks: Vec<Mark>,
+}
+
+impl Model for Marks {
+    ghost use Rattle.std.specs.Prelude.{List};
+    ghost use Rattle.tsc_nodes.specs.Page.{Mark};
+
+    ghost Value = { List Mark };
+
+    ghost view = { λ m. m.marks.items };
+}
+
+impl Marks {
+    /// These marks.
+    pub(crate) fn of(marks: Vec<Mark>) -> Marks
+        ensures { result ≡ marks.items }
+    {
+        Marks { marks }
+    }
+
+    /// The marks as a slice.
+    pub fn slice(&self) -> &[Mark]
+        ensures { result.now ≡ self.now }
+    {
+        self.marks.as_slice()
     }
 }
 

@@ -8,6 +8,7 @@ ghost use Rattle.tsc_json.specs.TraceParts.{both, at_call};
 ghost use Rattle.tsc_json.specs.TraceText.{unsigned_of, needed_as, time_in_range, time_of, owner_in, owner_member, added_span, looked_up_span, span_and_time, owner_and_now, add_of, get_of, low_of, call_by_name, call_of, fitting_call, calls_of};
 
 use super::TraceFault;
+use super::batch::batch;
 use super::json::{array, has_only, needed, object, optional, text, two, unsigned};
 use super::part::{NUMBER, PartFault, Refusal, SHAPE, at_call, both};
 use super::span::{added_span, looked_up_span};
@@ -75,7 +76,7 @@ fn owner_name(value: &Value) -> Result<Uuid, Refusal>
 
 /// The name of an owner, which may be left out.
 #[tactic(auto, unfolding(crate::specs::TraceText::owner_member))]
-fn owner(value: Option<&Value>) -> Result<Uuid, Refusal>
+pub(super) fn owner(value: Option<&Value>) -> Result<Uuid, Refusal>
     ensures { Gives (λ name. owner_of name) result
         (owner_member (option_map (λ value. view value.now) value.entry)) }
 {
@@ -85,7 +86,7 @@ fn owner(value: Option<&Value>) -> Result<Uuid, Refusal>
     }
 }
 
-/// The span of an Add, by the call's members.
+/// The span of an Add, by the members.
 fn span_in(alloc: Global, members: &Map<String, Value>) -> Result<Span, Refusal>
     ensures { Gives (λ span. span) result
         (needed_as (codes "span") added_span (members_view members.now.entries)) }
@@ -101,8 +102,11 @@ pub(super) fn time_in(members: &Map<String, Value>, name: &str) -> Result<Timest
     time(needed(members, name)?)
 }
 
-/// The span and the time of an Add.
-fn span_and_time(alloc: Global, members: &Map<String, Value>) -> Result<(Span, Timestamp), Refusal>
+/// The span and the time of an Add, or of a mark of a batch.
+pub(super) fn span_and_time(
+    alloc: Global,
+    members: &Map<String, Value>,
+) -> Result<(Span, Timestamp), Refusal>
     ensures { Gives (λ parts. parts) result (span_and_time (members_view members.now.entries)) }
 {
     both(span_in(alloc, members), time_in(members, "time"))
@@ -159,6 +163,9 @@ fn named_call(alloc: Global, name: &str, members: &Map<String, Value>) -> Result
 {
     if name == "add" {
         return add(alloc, members);
+    }
+    if name == "batch" {
+        return batch(alloc, members);
     }
     if name == "get" {
         return get(alloc, members);
