@@ -214,6 +214,7 @@ pub get_refused : (fields rest : List ℕ) (front : ℕ) → ReadsField (λ n. n
 get_refused fields rest front field none = refused where
   refused : (s : Said) → IsWritableSaid s → codes "get" ++ space ∷ fields ≢ said_text s
   refused (said.Add place added) h e = let heads : 103 ≡ 97 = ap (λ (bytes : List ℕ). get_or bytes 0 0) e in absurd (omega (arith, heads))
+  refused (said.Batch place added) h e = let heads : 103 ≡ 98 = ap (λ (bytes : List ℕ). get_or bytes 0 0) e in absurd (omega (arith, heads))
   refused (said.Get n value) h e =
       let tails : fields ≡ decimal n ++ space ∷ (time_text value.time ++ space ∷ owner_text value.owner) = cc in
       none value h.1 (field.1 n (time_text value.time ++ space ∷ owner_text value.owner) h.0 tails).1
@@ -238,6 +239,7 @@ get_read fields rest at name front time owner field cut first second =
       found : (s : Said) → IsWritableSaid s → codes "get" ++ space ∷ fields ≡ said_text s
           → said.Get front (record { time = time; owner = owner }) ≡ s
       found (said.Add place added) h e = let heads : 103 ≡ 97 = ap (λ (bytes : List ℕ). get_or bytes 0 0) e in absurd (omega (arith, heads))
+      found (said.Batch place added) h e = let heads : 103 ≡ 98 = ap (λ (bytes : List ℕ). get_or bytes 0 0) e in absurd (omega (arith, heads))
       found (said.Get n value) h e =
           let tails : fields ≡ decimal n ++ space ∷ (time_text value.time ++ space ∷ owner_text value.owner) = cc in
           let both = field.1 n (time_text value.time ++ space ∷ owner_text value.owner) h.0 tails in
@@ -253,15 +255,17 @@ pub said_needs_a_space : (text : List ℕ) → IsWithout space text → ReadsBac
 said_needs_a_space text without = refused where
   refused : (s : Said) → IsWritableSaid s → text ≢ said_text s
   refused (said.Add place added) h e = no_cut space (codes "add") _ text without e
+  refused (said.Batch place added) h e = no_cut space (codes "batch") _ text without e
   refused (said.Get front value) h e = no_cut space (codes "get") _ text without e
   refused (said.Low front time) h e = no_cut space (codes "low") _ text without e
 
 -- a text of another word
 pub wrong_word : (text word fields : List ℕ) → IsWithout space word × (text ≡ word ++ space ∷ fields)
-    → word ≢ codes "add" → word ≢ codes "get" → word ≢ codes "low" → ReadsBack IsWritableSaid said_text text None
-wrong_word text word fields cut no_add no_get no_low = refused where
+    → word ≢ codes "add" → word ≢ codes "batch" → word ≢ codes "get" → word ≢ codes "low" → ReadsBack IsWritableSaid said_text text None
+wrong_word text word fields cut no_add no_batch no_get no_low = refused where
   refused : (s : Said) → IsWritableSaid s → text ≢ said_text s
   refused (said.Add place added) h e = no_add (cut_same space word fields (codes "add") _ cut.0 (without_by_test (codes "add") refl) (sym cut.1 ∙ e)).0
+  refused (said.Batch place added) h e = no_batch (cut_same space word fields (codes "batch") _ cut.0 (without_by_test (codes "batch") refl) (sym cut.1 ∙ e)).0
   refused (said.Get front value) h e = no_get (cut_same space word fields (codes "get") _ cut.0 (without_by_test (codes "get") refl) (sym cut.1 ∙ e)).0
   refused (said.Low front time) h e = no_low (cut_same space word fields (codes "low") _ cut.0 (without_by_test (codes "low") refl) (sym cut.1 ∙ e)).0
 

@@ -105,6 +105,9 @@ said_plain : (s : Said) → IsWritableSaid s → IsPlainText (said_text s)
 said_plain (said.Add place added) h =
     spaced (word_plain (codes "add") refl)
     (spaced (decimal_plain place h.0) (spaced (bit_plain added.kept) (spaced (bit_plain added.rotated) (decimal_plain added.evicted h.1))))
+said_plain (said.Batch place added) h =
+    spaced (word_plain (codes "batch") refl)
+    (spaced (decimal_plain place h.0) (spaced (bit_plain added.kept) (spaced (bit_plain added.rotated) (decimal_plain added.evicted h.1))))
 said_plain (said.Get front value) h =
     spaced (word_plain (codes "get") refl) (spaced (decimal_plain front h.0) (spaced (time_plain value.time h.1.time) (owner_plain value.owner)))
 said_plain (said.Low front time) h =

@@ -78,9 +78,20 @@ same_said (said.Add place added) (said.Add place' added') h k e =
     let places : place ≡ place' = same.0 in
     let addeds : added ≡ added' = same_added added added' h.1 k.1 same.1 in
     cc
+same_said (said.Add place added) (said.Batch place' added') h k e = let heads : 97 ≡ 98 = ap (λ (bytes : List ℕ). get_or bytes 0 0) e in absurd (omega (arith, heads))
 same_said (said.Add place added) (said.Get front value) h k e = let heads : 97 ≡ 103 = ap (λ (bytes : List ℕ). get_or bytes 0 0) e in absurd (omega (arith, heads))
 same_said (said.Add place added) (said.Low front time) h k e = let heads : 97 ≡ 108 = ap (λ (bytes : List ℕ). get_or bytes 0 0) e in absurd (omega (arith, heads))
+same_said (said.Batch place added) (said.Add place' added') h k e = let heads : 98 ≡ 97 = ap (λ (bytes : List ℕ). get_or bytes 0 0) e in absurd (omega (arith, heads))
+same_said (said.Batch place added) (said.Batch place' added') h k e =
+    let same = number_then place place' (bit_text added.kept ++ space ∷ (bit_text added.rotated ++ space ∷ decimal added.evicted))
+    (bit_text added'.kept ++ space ∷ (bit_text added'.rotated ++ space ∷ decimal added'.evicted)) h.0 k.0 (ap (drop 6) e) in
+    let places : place ≡ place' = same.0 in
+    let addeds : added ≡ added' = same_added added added' h.1 k.1 same.1 in
+    cc
+same_said (said.Batch place added) (said.Get front value) h k e = let heads : 98 ≡ 103 = ap (λ (bytes : List ℕ). get_or bytes 0 0) e in absurd (omega (arith, heads))
+same_said (said.Batch place added) (said.Low front time) h k e = let heads : 98 ≡ 108 = ap (λ (bytes : List ℕ). get_or bytes 0 0) e in absurd (omega (arith, heads))
 same_said (said.Get front value) (said.Add place added) h k e = let heads : 103 ≡ 97 = ap (λ (bytes : List ℕ). get_or bytes 0 0) e in absurd (omega (arith, heads))
+same_said (said.Get front value) (said.Batch place added) h k e = let heads : 103 ≡ 98 = ap (λ (bytes : List ℕ). get_or bytes 0 0) e in absurd (omega (arith, heads))
 same_said (said.Get front value) (said.Get front' value') h k e =
     let same = number_then front front' (time_text value.time ++ space ∷ owner_text value.owner) (time_text value'.time ++ space ∷ owner_text value'.owner) h.0 k.0 (ap (drop 4) e) in
     let fronts : front ≡ front' = same.0 in
@@ -88,6 +99,7 @@ same_said (said.Get front value) (said.Get front' value') h k e =
     cc
 same_said (said.Get front value) (said.Low front' time) h k e = let heads : 103 ≡ 108 = ap (λ (bytes : List ℕ). get_or bytes 0 0) e in absurd (omega (arith, heads))
 same_said (said.Low front time) (said.Add place added) h k e = let heads : 108 ≡ 97 = ap (λ (bytes : List ℕ). get_or bytes 0 0) e in absurd (omega (arith, heads))
+same_said (said.Low front time) (said.Batch place added) h k e = let heads : 108 ≡ 98 = ap (λ (bytes : List ℕ). get_or bytes 0 0) e in absurd (omega (arith, heads))
 same_said (said.Low front time) (said.Get front' value) h k e = let heads : 108 ≡ 103 = ap (λ (bytes : List ℕ). get_or bytes 0 0) e in absurd (omega (arith, heads))
 same_said (said.Low front time) (said.Low front' time') h k e =
     let same = number_then front front' (time_text time) (time_text time') h.0 k.0 (ap (drop 4) e) in

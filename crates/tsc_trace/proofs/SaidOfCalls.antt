@@ -4,7 +4,7 @@ use Rattle.tsc_cache.specs.Settings.{Settings}
 use Rattle.tsc_cache.specs.State.{CacheState}
 use Rattle.tsc_json.specs.Calls.{kind_of, is_same_kind, addition_of, adds}
 use Rattle.tsc_json.specs.declared.trace.Call.{Call}
-use Rattle.tsc_json.specs.declared.trace.Call.TheVariants.{Add, Get, Low}
+use Rattle.tsc_json.specs.declared.trace.Call.TheVariants.{Add, Batch, Get, Low}
 use Rattle.tsc_json.specs.declared.trace.Kind.{Kind}
 use Rattle.tsc_json.specs.declared.trace.Kind.TheVariants as kind
 use Rattle.tsc_trace.specs.Log.{made, said_in}
@@ -16,11 +16,13 @@ use Rattle.tsc_trace.specs.declared.log.Said.TheVariants as said
 
 pub kind_itself : (k : Kind) → is_same_kind k k ≡ true
 kind_itself kind.Add = refl
+kind_itself kind.Batch = refl
 kind_itself kind.Get = refl
 kind_itself kind.Low = refl
 
 pub one_kind : (k l : Kind) → is_same_kind k l ≡ true → k ≡ l
 one_kind kind.Add kind.Add e = refl
+one_kind kind.Batch kind.Batch e = refl
 one_kind kind.Get kind.Get e = refl
 one_kind kind.Low kind.Low e = refl
 one_kind k l e = absurd (true≢false (sym e))
@@ -28,16 +30,19 @@ one_kind k l e = absurd (true≢false (sym e))
 -- whether calls of a kind add
 abbrev adds_by_kind : Kind → Bool
 adds_by_kind kind.Add = true
+adds_by_kind kind.Batch = true
 adds_by_kind kind.Get = false
 adds_by_kind kind.Low = false
 
 call_adds : (call : Call) → adds call ≡ adds_by_kind (kind_of call)
 call_adds (Add span value now) = refl
+call_adds (Batch marks now) = refl
 call_adds (Get span) = refl
 call_adds Low = refl
 
 said_adds : (s : Said) → is_some (told_of s) ≡ adds_by_kind (kind_of_said s)
 said_adds (said.Add place added) = refl
+said_adds (said.Batch place added) = refl
 said_adds (said.Get front value) = refl
 said_adds (said.Low front time) = refl
 
@@ -49,20 +54,24 @@ tells_where_adds call s same = said_adds s ∙ ap adds_by_kind (sym (one_kind (k
 
 pub kind_in : (settings : Settings) (s : CacheState) (front : ℕ) (call : Call) → kind_of_said (said_in settings s front call) ≡ kind_of call
 kind_in settings s front (Add span value now) = refl
+kind_in settings s front (Batch marks now) = refl
 kind_in settings s front (Get span) = refl
 kind_in settings s front Low = refl
 
 pub front_in : (settings : Settings) (s : CacheState) (front : ℕ) (call : Call) → front_of (said_in settings s front call) ≡ front
 front_in settings s front (Add span value now) = refl
+front_in settings s front (Batch marks now) = refl
 front_in settings s front (Get span) = refl
 front_in settings s front Low = refl
 
 pub tells_in : (settings : Settings) (s : CacheState) (front : ℕ) (call : Call) → is_some (told_of (said_in settings s front call)) ≡ adds call
 tells_in settings s front (Add span value now) = refl
+tells_in settings s front (Batch marks now) = refl
 tells_in settings s front (Get span) = refl
 tells_in settings s front Low = refl
 
 pub told_in : (settings : Settings) (s : CacheState) (front : ℕ) (call : Call) → told_of (said_in settings s front call) ≡ option_map (λ a. record { place = front; added = (made settings s a).added }) (addition_of call)
 told_in settings s front (Add span value now) = refl
+told_in settings s front (Batch marks now) = refl
 told_in settings s front (Get span) = refl
 told_in settings s front Low = refl

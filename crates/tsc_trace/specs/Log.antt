@@ -4,9 +4,9 @@ use Rattle.tsc_cache.specs.Settings.{Settings}
 use Rattle.tsc_cache.specs.State.{CacheState, Stepped, step_all, look}
 use Rattle.tsc_cache.specs.declared.history.Entry.{Entry}
 use Rattle.tsc_cache.specs.History.{History, own_count, state_of}
-use Rattle.tsc_json.specs.Calls.{Addition, one_mark, addition_of}
+use Rattle.tsc_json.specs.Calls.{Addition, one_mark, several_marks, addition_of}
 use Rattle.tsc_json.specs.declared.trace.Call.{Call}
-use Rattle.tsc_json.specs.declared.trace.Call.TheVariants.{Add, Get, Low}
+use Rattle.tsc_json.specs.declared.trace.Call.TheVariants.{Add, Batch, Get, Low}
 use Rattle.tsc_json.specs.Traces.{Trace}
 use Rattle.tsc_trace.specs.declared.log.Line.{Line}
 use Rattle.tsc_trace.specs.declared.log.Said.{Said}
@@ -19,6 +19,7 @@ made settings s a = step_all settings s a.marks a.now
 -- what a call answers in a state, where so many Adds came before
 abbrev pub said_in : Settings → CacheState → ℕ → Call → Said
 said_in settings s front (Add span value now) = said.Add front (made settings s (one_mark span value now)).added
+said_in settings s front (Batch marks now) = said.Batch front (made settings s (several_marks marks now)).added
 said_in settings s front (Get span) = said.Get front (look s span)
 said_in settings s front Low = said.Low front s.floor
 

@@ -17,6 +17,7 @@ most_lines = 65536
 -- An answer that a log can hold: its counts take 64 bits, and its time and owner can be made.
 abbrev pub IsWritableSaid : Said → Type 0
 IsWritableSaid (said.Add place added) = (place < 2 ^ 64) × (added.evicted < 2 ^ 64)
+IsWritableSaid (said.Batch place added) = (place < 2 ^ 64) × (added.evicted < 2 ^ 64)
 IsWritableSaid (said.Get front value) = (front < 2 ^ 64) × IsMadeValue value
 IsWritableSaid (said.Low front time) = (front < 2 ^ 64) × (is_in_range time ≡ true)
 

@@ -37,6 +37,8 @@ owner_text (Some uuid) = hyphenated_text lower uuid
 abbrev pub said_text : Said → List ℕ
 said_text (said.Add place added) =
     join_with_byte space (codes "add" ∷ decimal place ∷ bit_text added.kept ∷ bit_text added.rotated ∷ decimal added.evicted ∷ [])
+said_text (said.Batch place added) =
+    join_with_byte space (codes "batch" ∷ decimal place ∷ bit_text added.kept ∷ bit_text added.rotated ∷ decimal added.evicted ∷ [])
 said_text (said.Get front value) = join_with_byte space (codes "get" ∷ decimal front ∷ time_text value.time ∷ owner_text value.owner ∷ [])
 said_text (said.Low front time) = join_with_byte space (codes "low" ∷ decimal front ∷ time_text time ∷ [])
 

@@ -16,13 +16,15 @@ use tsc_time::{NoMemory, Timestamp, Value};
 pub enum Said {
     /// The place of the Add among all Adds, counted from 0, and what it did.
     Add { place: u64, added: Added },
+    /// The place of the batch among all Adds, counted from 0, and what its marks did together.
+    Batch { place: u64, added: Added },
     /// How many Adds came before the lookup, and its value.
     Get { front: u64, value: Value },
     /// How many Adds came before, and where the floor stood.
     Low { front: u64, time: Timestamp },
 }
 
-/// What the answer of an Add says: its place among all Adds, counted from 0, and what it did.
+/// What the answer of an Add or a batch says: its place among all Adds, counted from 0, and what it did.
 #[derive(Clone, Copy, Debug, PartialEq, Eq)]
 pub struct Told {
     pub place: u64,
@@ -36,6 +38,7 @@ impl Said {
     {
         match self {
             Said::Add { .. } => Kind::Add,
+            Said::Batch { .. } => Kind::Batch,
             Said::Get { .. } => Kind::Get,
             Said::Low { .. } => Kind::Low,
         }
@@ -46,17 +49,20 @@ impl Said {
         ensures { result ≡ told_of self }
     {
         match self {
-            Said::Add { place, added } => Some(Told { place, added }),
+            Said::Add { place, added } | Said::Batch { place, added } => Some(Told {
+                place,
+                added,
+            }),
             Said::Get { .. } | Said::Low { .. } => None,
         }
     }
 
-    /// The place of an Add, or the front of a lookup.
+    /// The place of an Add or a batch, or the front of a lookup.
     pub fn front(self) -> u64
         ensures { result ≡ front_of self }
     {
         match self {
-            Said::Add { place, .. } => place,
+            Said::Add { place, .. } | Said::Batch { place, .. } => place,
             Said::Get { front, .. } | Said::Low { front, .. } => front,
         }
     }
@@ -137,6 +143,12 @@ impl fmt::Display for Said {
                 let rotated = bit(added.rotated);
                 let evicted = added.evicted;
                 write!(f, "add {place} {kept} {rotated} {evicted}")
+            }
+            Said::Batch { place, added } => {
+                let kept = bit(added.kept);
+                let rotated = bit(added.rotated);
+                let evicted = added.evicted;
+                write!(f, "batch {place} {kept} {rotated} {evicted}")
             }
             Said::Get { front, value } => {
                 let time = value.time();

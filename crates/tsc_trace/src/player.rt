@@ -1,8 +1,9 @@
 ghost use Rattle.std.specs.Prelude.{◌≡◌, ◌++◌, ◌+◌, ◌<◌, ◌≤◌, ◌^◌, length, true, IfOk, OnOk};
 ghost use Rattle.tsc_cache.specs.Settings.{Settings, fits};
+ghost use Rattle.tsc_cache.specs.Batch.{all_fit};
 ghost use Rattle.tsc_cache.specs.State.{CacheState};
 ghost use Rattle.tsc_cache.specs.CacheView.{StandsForState};
-ghost use Rattle.tsc_json.specs.Calls.{call_fits, one_mark};
+ghost use Rattle.tsc_json.specs.Calls.{call_fits, one_mark, several_marks};
 ghost use Rattle.tsc_json.specs.Traces.{EachFits};
 ghost use Rattle.tsc_json.specs.Lists.{most_calls};
 ghost use Rattle.tsc_trace.specs.Log.{log_of, made};
@@ -10,7 +11,7 @@ ghost use Rattle.tsc_trace.specs.Play.{Standing, said_at, next, next_all, played
 
 use crate::log::{Line, Lines, Log, Said};
 use std::alloc::Global;
-use tsc_cache::{Added, Cache, CacheFault};
+use tsc_cache::{Added, Cache, CacheFault, Mark};
 use tsc_json::{Call, Trace};
 use tsc_span::Span;
 use tsc_time::{NoMemory, Timestamp, Value};
@@ -31,6 +32,23 @@ pub fn add_fitting(
     ensures settings { OnOk result (cache.new.settings ≡ cache.old.settings) }
 {
     match cache.add(span, value, now) {
+        Ok(added) => Ok(added),
+        Err(CacheFault::NoMemory) => Err(NoMemory),
+        Err(CacheFault::TooLarge) => unreachable!(),
+    }
+}
+
+/// Adds marks that fit the cache's pages, one after another, as each batch of a [`Trace`] does. So memory alone may be
+/// wanting, and then none of them is added.
+pub fn add_all_fitting(cache: &mut Cache, marks: &[Mark], now: Timestamp) -> Result<Added, NoMemory>
+    requires { all_fit cache.old.settings marks.now ≡ true }
+    ensures added { IfOk result (λ added. (settings : Settings) (s : CacheState) → StandsForState cache.old settings s
+        → added ≡ (made settings s (several_marks marks.now now)).added) }
+    ensures stands { OnOk result ((settings : Settings) (s : CacheState) → StandsForState cache.old settings s
+        → StandsForState cache.new settings (made settings s (several_marks marks.now now)).state) }
+    ensures settings { OnOk result (cache.new.settings ≡ cache.old.settings) }
+{
+    match cache.add_all(marks, now) {
         Ok(added) => Ok(added),
         Err(CacheFault::NoMemory) => Err(NoMemory),
         Err(CacheFault::TooLarge) => unreachable!(),
@@ -69,6 +87,12 @@ impl Player {
                     place: front,
                     added,
                 })
+            }
+            Call::Batch { marks, now } => {
+                let added = add_all_fitting(&mut self.cache, marks.slice(), *now)?;
+                self.adds += 1;
+                let place = front;
+                Ok(Said::Batch { place, added })
             }
             Call::Get { span } => Ok(Said::Get {
                 front,

@@ -36,6 +36,7 @@ fn said(text: &str) -> Option<Said>
     let (word, fields) = cut_field(text)?;
     match word {
         "add" => add(fields),
+        "batch" => batch(fields),
         "get" => get(fields),
         "low" => low(fields),
         _ => None,
@@ -56,6 +57,22 @@ fn add(fields: &str) -> Option<Said>
         evicted,
     };
     Some(Said::Add { place, added })
+}
+
+/// What a batch answered, by the fields behind its word.
+fn batch(fields: &str) -> Option<Said>
+    ensures { ReadsBack IsWritableSaid said_text (codes "batch" ++ space ∷ fields.now) result }
+{
+    let (place, rest) = number_field(fields)?;
+    let (kept, rest) = bit_field(rest)?;
+    let (rotated, rest) = bit_field(rest)?;
+    let evicted = number(rest)?;
+    let added = Added {
+        kept,
+        rotated,
+        evicted,
+    };
+    Some(Said::Batch { place, added })
 }
 
 /// What a lookup answered, by the fields behind its word.

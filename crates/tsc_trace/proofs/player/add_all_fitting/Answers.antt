@@ -1,0 +1,6 @@
+-- The settings stay through each of the marks.
+use Rattle.tsc_cache.proofs.Batches.{settings_stay}
+use Rattle.tsc_trace.proofs.player.add_all_fitting.Goals as goal
+
+pub returns-in-Ok-clause-settings : goal.returns-in-Ok-clause-settings
+returns-in-Ok-clause-settings c = settings_stay c.args.cache.now c.add_all.new.self c.args.marks.now c.args.now c.in-Ok.added c.in-Ok.ensures.seen
