@@ -300,6 +300,98 @@ static CALLS: [(&str, Told); 45] = [
     (r#"{"op":"get","span":{"start":"6","onward":"]"}}"#, SHAPE),
 ];
 
+/// A batch that is the only call of a trace. The least fault of all its marks is told, and of the moment.
+static BATCHES: [(&str, Told); 28] = [
+    (r#"{"op":"batch","marks":[],"now":[20,0]}"#, Ok(1)),
+    (
+        r#"{"op":"batch","marks":[{"span":{"start":"61"},"time":[20,0]}],"now":[20,0]}"#,
+        Ok(1),
+    ),
+    (
+        r#"{"op":"batch","marks":[{"span":{"start":"61"},"time":[20,0],"owner":null}],"now":[20,0]}"#,
+        Ok(1),
+    ),
+    (r#"{"op":"batch","now":[20,0]}"#, SHAPE),
+    (r#"{"op":"batch","marks":[]}"#, SHAPE),
+    (r#"{"op":"batch","marks":null,"now":[20,0]}"#, SHAPE),
+    (r#"{"op":"batch","marks":{},"now":[20,0]}"#, SHAPE),
+    (r#"{"op":"batch","marks":[],"now":[20]}"#, SHAPE),
+    (
+        r#"{"op":"batch","marks":[],"now":[20,0],"owner":null}"#,
+        SHAPE,
+    ),
+    (
+        r#"{"op":"batch","marks":[],"span":{"start":"61"},"time":[20,0],"now":[20,0]}"#,
+        SHAPE,
+    ),
+    (r#"{"op":"add","marks":[],"now":[20,0]}"#, SHAPE),
+    (r#"{"op":"batch","marks":[7],"now":[20,0]}"#, SHAPE),
+    (
+        r#"{"op":"batch","marks":[{"span":{"start":"61"},"time":[20,0]},null],"now":[20,0]}"#,
+        SHAPE,
+    ),
+    (
+        r#"{"op":"batch","marks":[{"span":{"start":"61"}}],"now":[20,0]}"#,
+        SHAPE,
+    ),
+    (
+        r#"{"op":"batch","marks":[{"time":[20,0]}],"now":[20,0]}"#,
+        SHAPE,
+    ),
+    (
+        r#"{"op":"batch","marks":[{"span":{"start":"61"},"time":[20,0],"now":[20,0]}],"now":[20,0]}"#,
+        SHAPE,
+    ),
+    (
+        r#"{"op":"batch","marks":[{"span":{"start":"61"},"time":[20,0],"owner":7}],"now":[20,0]}"#,
+        SHAPE,
+    ),
+    (
+        r#"{"op":"batch","marks":[{"span":{"start":"61","to":"62"},"time":[20,0]}],"now":[20,0]}"#,
+        SHAPE,
+    ),
+    (
+        r#"{"op":"batch","marks":[{"span":{"start":"61"},"time":[20,0]}],"now":[-1,0]}"#,
+        NUMBER,
+    ),
+    (
+        r#"{"op":"batch","marks":[{"span":{"start":"61"},"time":[20,2147483648]}],"now":[20,0]}"#,
+        NUMBER,
+    ),
+    (
+        r#"{"op":"batch","marks":[{"span":{"start":"6"},"time":[20,0]}],"now":[20,0]}"#,
+        HEX,
+    ),
+    (
+        r#"{"op":"batch","marks":[{"span":{"start":"61"},"time":[20,0],"owner":"xyz"}],"now":[20,0]}"#,
+        UUID,
+    ),
+    (
+        r#"{"op":"batch","marks":[{"span":{"start":"63","end":"61"},"time":[20,0]}],"now":[20,0]}"#,
+        SPAN,
+    ),
+    (
+        r#"{"op":"batch","marks":[{"span":{"start":"6"},"time":[20,0]},{"span":{"start":"61"},"time":[-1,0]}],"now":[20,0]}"#,
+        NUMBER,
+    ),
+    (
+        r#"{"op":"batch","marks":[{"span":{"start":"6"},"time":[20,0]}],"now":[-1,0]}"#,
+        NUMBER,
+    ),
+    (
+        r#"{"op":"batch","marks":[{"span":{"start":"6"},"time":[20,0]},{"span":{"start":"61"},"time":[-1,0]},{}],"now":[20,0]}"#,
+        SHAPE,
+    ),
+    (
+        r#"{"op":"batch","marks":[{"span":{"start":"63","end":"61"},"time":[20,0]},{"span":{"start":"61"},"time":[20,0],"owner":"xyz"}],"now":[20,0]}"#,
+        UUID,
+    ),
+    (
+        r#"{"op":"batch","marks":[{"span":{"start":"61"},"time":[20,0],"owner":"xyz"},{"span":{"start":"6"},"time":[20,0]},{"span":{"start":"63","end":"61"},"time":[20,0]}],"now":[20,0]}"#,
+        HEX,
+    ),
+];
+
 /// Lists of calls, which are numbered on through all of them; the first that has a fault decides.
 static THREADS: [(&str, Told); 10] = [
     ("[[]]", Ok(0)),
@@ -323,7 +415,7 @@ static THREADS: [(&str, Told); 10] = [
 /// The text of `threads` as a front, a piece with how often it comes, and a tail; and what is told of it.
 type Long = (&'static str, &'static str, usize, &'static str, Told);
 
-static LONG_TRACES: [Long; 11] = [
+static LONG_TRACES: [Long; 16] = [
     ("[", "[],", 63, "[]]", Ok(0)),
     ("[", "[],", 64, "[]]", CONFIG),
     ("[", "[],", 64, r#"[{"op":"x"}]]"#, CONFIG),
@@ -377,10 +469,45 @@ static LONG_TRACES: [Long; 11] = [
         r#""}}]]"#,
         SHAPE,
     ),
+    (
+        r#"[[{"op":"batch","now":[20,0],"marks":["#,
+        r#"{"span":{"start":"61"},"time":[20,0]},"#,
+        1023,
+        r#"{"span":{"start":"61"},"time":[20,0]}]}]]"#,
+        Ok(1),
+    ),
+    (
+        r#"[[{"op":"batch","now":[20,0],"marks":["#,
+        r#"{"span":{"start":"61"},"time":[20,0]},"#,
+        1024,
+        r#"{"span":{"start":"61"},"time":[20,0]}]}]]"#,
+        SHAPE,
+    ),
+    (
+        r#"[[{"op":"batch","now":[20,0],"marks":["#,
+        r#"7,"#,
+        1024,
+        r#"7]}]]"#,
+        SHAPE,
+    ),
+    (
+        r#"[[{"op":"batch","now":[-1,0],"marks":["#,
+        r#"{"span":{"start":"61"},"time":[20,0]},"#,
+        1024,
+        r#"{"span":{"start":"61"},"time":[20,0]}]}]]"#,
+        SHAPE,
+    ),
+    (
+        r#"[[{"op":"batch","now":[20,0],"marks":[{"span":{"start":""#,
+        r#"61"#,
+        4097,
+        r#""},"time":[20,0]}]}]]"#,
+        SPAN,
+    ),
 ];
 
 /// Calls that cost as much as the largest of small pages, or more. What else is wrong with a call comes first.
-static LARGE_SPANS: [Long; 11] = [
+static LARGE_SPANS: [Long; 16] = [
     (
         r#"[[{"op":"add","span":{"start":""#,
         "61",
@@ -457,6 +584,41 @@ static LARGE_SPANS: [Long; 11] = [
         233,
         r#""}}]]"#,
         Ok(1),
+    ),
+    (
+        r#"[[{"op":"batch","now":[20,0],"marks":[{"span":{"start":"61"},"time":[20,0]},{"span":{"start":""#,
+        r#"61"#,
+        232,
+        r#""},"time":[20,0]}]}]]"#,
+        Ok(1),
+    ),
+    (
+        r#"[[{"op":"batch","now":[20,0],"marks":[{"span":{"start":"61"},"time":[20,0]},{"span":{"start":""#,
+        r#"61"#,
+        233,
+        r#""},"time":[20,0]}]}]]"#,
+        TOO_LARGE,
+    ),
+    (
+        r#"[[{"op":"batch","now":[20,0],"marks":[{"span":{"start":""#,
+        r#"61"#,
+        233,
+        r#""},"time":[5,0]},{"span":{"start":"61"},"time":[20,0]}]}]]"#,
+        TOO_LARGE,
+    ),
+    (
+        r#"[[{"op":"batch","now":[20,0],"marks":[{"span":{"start":""#,
+        r#"61"#,
+        233,
+        r#""},"time":[20,0]},{"span":{"start":"6"},"time":[20,0]}]}]]"#,
+        HEX,
+    ),
+    (
+        r#"[[{"op":"low"},{"op":"batch","now":[20,0],"marks":[{"span":{"start":""#,
+        r#"61"#,
+        233,
+        r#""},"time":[20,0]}]},{"op":"x"}]]"#,
+        Err(TraceFault::TooLarge(2)),
     ),
 ];
 
@@ -577,6 +739,7 @@ fn tells_what_decides_in_the_head(rt: HostRuntime) -> Result<(), Fail> {
 fn tells_what_decides_in_calls(rt: HostRuntime) -> Result<(), Fail> {
     assert_eq!(rt; wrong_threads(rt.alloc(), &THREADS)?, None);
     assert_eq!(rt; wrong_call(rt.alloc(), &CALLS)?, None);
+    assert_eq!(rt; wrong_call(rt.alloc(), &BATCHES)?, None);
     assert_eq!(rt; wrong_long_trace(rt.alloc(), HEAD, &LONG_TRACES)?, None);
     assert_eq!(rt; wrong_long_trace(rt.alloc(), NARROW, &LARGE_SPANS)?, None);
     Ok(())

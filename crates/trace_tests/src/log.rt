@@ -11,7 +11,7 @@ const SIX_LINES: &[u8] = b"0 0 add 0 1 0 0\n\
     0 5 low 2 5.0\n";
 
 /// Texts, and how many lines each has, or why it is no log.
-static TEXTS: [(&[u8], Result<usize, LogFault>); 73] = [
+static TEXTS: [(&[u8], Result<usize, LogFault>); 84] = [
     // No lines.
     (b"", Ok(0)),
     // One list of six calls.
@@ -125,6 +125,30 @@ static TEXTS: [(&[u8], Result<usize, LogFault>); 73] = [
     (b"0 0 get 0 5.0\n", Err(LogFault::Text(1))),
     (b"0 0 add 0 1 0\n", Err(LogFault::Text(1))),
     (b"0 0 add 0 1 0 0 0\n", Err(LogFault::Text(1))),
+    // Batches.
+    (
+        b"0 0 batch 0 1 0 0\n0 1 batch 1 0 0 0\n0 2 get 2 20.0 none\n",
+        Ok(3),
+    ),
+    (
+        b"0 0 batch 18446744073709551615 1 1 18446744073709551615\n",
+        Ok(1),
+    ),
+    (
+        b"0 0 batch 18446744073709551616 1 0 0\n",
+        Err(LogFault::Text(1)),
+    ),
+    (
+        b"0 0 batch 0 1 0 18446744073709551616\n",
+        Err(LogFault::Text(1)),
+    ),
+    (b"0 0 batch 00 1 0 0\n", Err(LogFault::Text(1))),
+    (b"0 0 batch 0 01 0 0\n", Err(LogFault::Text(1))),
+    (b"0 0 batch 0 1 2 0\n", Err(LogFault::Text(1))),
+    (b"0 0 batch 0 1 0\n", Err(LogFault::Text(1))),
+    (b"0 0 batch 0 1 0 0 0\n", Err(LogFault::Text(1))),
+    (b"0 0 Batch 0 1 0 0\n", Err(LogFault::Text(1))),
+    (b"0 0 batches 0 1 0 0\n", Err(LogFault::Text(1))),
     // The first wrong line counts.
     (
         b"0 0 low 0 5.0\n0 1 low 0 x\n0 2 low 0 x\n",

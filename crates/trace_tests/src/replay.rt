@@ -28,7 +28,7 @@ const OVERLAPPING_READS_LOG: &str = "0 0 add 0 1 0 0
 ";
 
 /// What stands behind the head of a trace, and the log of its replay.
-static REPLAYS: [(&str, &str); 8] = [
+static REPLAYS: [(&str, &str); 12] = [
     (OVERLAPPING_READS, OVERLAPPING_READS_LOG),
     ("[[]]}", ""),
     ("[[],[]]}", ""),
@@ -104,6 +104,76 @@ static REPLAYS: [(&str, &str); 8] = [
         "0 0 get 0 5.0 none
 0 1 add 0 1 0 0
 0 2 get 1 9223372036854775807.2147483647 none
+",
+    ),
+    // a batch of three marks at one moment, of which the last two overlap the first or one another
+    (
+        r#"[[{"op":"batch","marks":[{"span":{"start":"61"},"time":[20,0],"owner":"11111111-1111-4111-8111-111111111111"},
+{"span":{"start":"62"},"time":[20,0],"owner":"22222222-2222-4222-8222-222222222222"},
+{"span":{"start":"61","end":"63"},"time":[20,0],"owner":"22222222-2222-4222-8222-222222222222"}],"now":[20,0]},
+{"op":"get","span":{"start":"61"}},
+{"op":"get","span":{"start":"62"}},
+{"op":"get","span":{"start":"63"}}]]}"#,
+        "0 0 batch 0 1 0 0
+0 1 get 1 20.0 none
+0 2 get 1 20.0 22222222-2222-4222-8222-222222222222
+0 3 get 1 5.0 none
+",
+    ),
+    // the pages rotate within a batch; one without marks, and one of which no mark is kept, count as Adds too
+    (
+        r#"[[{"op":"batch","marks":[{"span":{"start":"61"},"time":[20,0],"owner":"11111111-1111-4111-8111-111111111111"},
+{"span":{"start":"62"},"time":[20,0],"owner":"11111111-1111-4111-8111-111111111111"},
+{"span":{"start":"63"},"time":[20,0],"owner":"11111111-1111-4111-8111-111111111111"},
+{"span":{"start":"64"},"time":[20,0],"owner":"11111111-1111-4111-8111-111111111111"},
+{"span":{"start":"65"},"time":[20,0],"owner":"11111111-1111-4111-8111-111111111111"}],"now":[20,0]},
+{"op":"batch","marks":[],"now":[20,0]},
+{"op":"batch","marks":[{"span":{"start":"61"},"time":[5,0],"owner":"11111111-1111-4111-8111-111111111111"},
+{"span":{"start":"61","end":"61","ends":"()"},"time":[20,0],"owner":"11111111-1111-4111-8111-111111111111"}],"now":[20,0]},
+{"op":"low"}]]}"#,
+        "0 0 batch 0 1 1 0
+0 1 batch 1 0 0 0
+0 2 batch 2 0 0 0
+0 3 low 3 5.0
+",
+    ),
+    // a batch over three rotations, of which two drop a page, and a mark behind them
+    (
+        r#"[[{"op":"batch","marks":[{"span":{"start":"61"},"time":[20,0]},
+{"span":{"start":"62"},"time":[20,0]},
+{"span":{"start":"63"},"time":[20,0]},
+{"span":{"start":"64"},"time":[20,0]},
+{"span":{"start":"65"},"time":[20,0]},
+{"span":{"start":"66"},"time":[20,0]},
+{"span":{"start":"67"},"time":[20,0]},
+{"span":{"start":"68"},"time":[20,0]},
+{"span":{"start":"69"},"time":[41,0]},
+{"span":{"start":"6a"},"time":[41,0]},
+{"span":{"start":"6b"},"time":[41,0]},
+{"span":{"start":"6c"},"time":[41,0]},
+{"span":{"start":"6d"},"time":[41,0]},
+{"span":{"start":"6e"},"time":[41,0]}],"now":[40,0]},
+{"op":"get","span":{"start":"61"}},
+{"op":"get","span":{"start":"69"}},
+{"op":"low"}]]}"#,
+        "0 0 batch 0 1 1 2
+0 1 get 1 20.0 none
+0 2 get 1 41.0 none
+0 3 low 1 20.0
+",
+    ),
+    // a mark of an owner that is null, and batches beside Adds in another list
+    (
+        r#"[[{"op":"batch","marks":[{"span":{"start":"61"},"time":[20,0],"owner":null}],"now":[20,0]},
+{"op":"get","span":{"start":"61"}}],
+[{"op":"add","span":{"start":"61"},"time":[30,0],"now":[20,0]},
+{"op":"batch","marks":[],"now":[20,0]},
+{"op":"low"}]]}"#,
+        "0 0 batch 0 1 0 0
+0 1 get 1 20.0 none
+1 0 add 1 1 0 0
+1 1 batch 2 0 0 0
+1 2 low 3 5.0
 ",
     ),
 ];
@@ -306,13 +376,13 @@ fn replay_again(alloc: Global, trace: &Trace) -> Result<Vec<u8>, Fail> {
     Ok(again.into_inner())
 }
 
-/// A trace of three calls.
-const THREE_CALLS: &str =
-    r#"{"page_first":132,"page_max":132,"min_pages":2,"retention":10,"low_water":[5,0],"threads":[[{"op":"add","span":{"start":"61","end":"63"},"time":[20,0],"owner":"11111111-1111-4111-8111-111111111111","now":[20,0]},{"op":"get","span":{"start":"62"}},{"op":"low"}]]}"#;
+/// A trace of four calls.
+const FOUR_CALLS: &str =
+    r#"{"page_first":132,"page_max":132,"min_pages":2,"retention":10,"low_water":[5,0],"threads":[[{"op":"add","span":{"start":"61","end":"63"},"time":[20,0],"owner":"11111111-1111-4111-8111-111111111111","now":[20,0]},{"op":"batch","marks":[{"span":{"start":"62"},"time":[30,0]},{"span":{"start":"64"},"time":[20,0],"owner":"22222222-2222-4222-8222-222222222222"}],"now":[20,0]},{"op":"get","span":{"start":"62"}},{"op":"low"}]]}"#;
 
 /// And the log of its replay.
-const THREE_CALLS_LOG: &str =
-    "0 0 add 0 1 0 0\n0 1 get 1 20.0 11111111-1111-4111-8111-111111111111\n0 2 low 1 5.0\n";
+const FOUR_CALLS_LOG: &str =
+    "0 0 add 0 1 0 0\n0 1 batch 1 1 0 0\n0 2 get 2 30.0 none\n0 3 low 2 5.0\n";
 
 /// Whether this is the text of a log.
 fn is_text(alloc: Global, log: &Log, want: &str) -> Result<bool, Fail> {
@@ -329,17 +399,17 @@ fn is_replayed_once(alloc: Global, trace: &Trace, want: &str) -> Result<bool, Fa
     Ok(replay_again(alloc, trace)?.as_slice() == want.as_bytes())
 }
 
-/// What comes of the trace of three calls and of its log, where each call that is refused memory is made again.
+/// What comes of the trace of four calls and of its log, where each call that is refused memory is made again.
 fn gives_again(rt: &impl Abort, alloc: Global, trace: &Trace, log: &Log) -> Result<(), Fail> {
-    assert!(rt; is_text(alloc, log, THREE_CALLS_LOG)?);
-    assert!(rt; is_written_once(alloc, log, THREE_CALLS_LOG)?);
-    assert!(rt; is_replayed_once(alloc, trace, THREE_CALLS_LOG)?);
+    assert!(rt; is_text(alloc, log, FOUR_CALLS_LOG)?);
+    assert!(rt; is_written_once(alloc, log, FOUR_CALLS_LOG)?);
+    assert!(rt; is_replayed_once(alloc, trace, FOUR_CALLS_LOG)?);
     Ok(())
 }
 
 #[test]
 fn a_refused_growth_writes_nothing(rt: HostRuntime) -> Result<(), Fail> {
-    let trace = read_again(rt.alloc(), THREE_CALLS)?;
+    let trace = read_again(rt.alloc(), FOUR_CALLS)?;
     let log = play_again(rt.alloc(), &trace)?;
     gives_again(&rt, rt.alloc(), &trace, &log)
 }

@@ -197,6 +197,7 @@ same_value v w e =
 
 same_said : (a b : Said) → is_same_answer a b ≡ true → front_of a ≡ front_of b → a ≡ b
 same_said (said.Add p x) (said.Add q y) e f = let s = same_added x y e in λ i. said.Add (f i) (s i)
+same_said (said.Batch p x) (said.Batch q y) e f = let s = same_added x y e in λ i. said.Batch (f i) (s i)
 same_said (said.Get g v) (said.Get k w) e f = let s = same_value v w e in λ i. said.Get (f i) (s i)
 same_said (said.Low g t) (said.Low k u) e f = let s = (is_same_time-Decides t u).0 e in λ i. said.Low (f i) (s i)
 same_said a b e f = absurd (true≢false (sym e))

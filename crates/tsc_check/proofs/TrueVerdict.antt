@@ -174,6 +174,7 @@ same_bits false = refl
 
 same_answers : (s : Said) → is_same_answer s s ≡ true
 same_answers (said.Add place added) = rw (same_bits added.kept, same_bits added.rotated, same_number added.evicted) refl
+same_answers (said.Batch place added) = rw (same_bits added.kept, same_bits added.rotated, same_number added.evicted) refl
 same_answers (said.Get front value) = rw ((is_same_time-Decides value.time value.time).1 refl, (is_same_owner-Decides value.owner value.owner).1 refl) refl
 same_answers (said.Low front time) = (is_same_time-Decides time time).1 refl
 

@@ -121,6 +121,7 @@ is_same_value a b = is_same_time a.time b.time && is_same_owner a.owner b.owner
 -- whether two answers say the same, whatever their places and fronts
 abbrev pub is_same_answer : Said → Said → Bool
 is_same_answer (said.Add p a) (said.Add q b) = is_same_added a b
+is_same_answer (said.Batch p a) (said.Batch q b) = is_same_added a b
 is_same_answer (said.Get f v) (said.Get g w) = is_same_value v w
 is_same_answer (said.Low f t) (said.Low g u) = is_same_time t u
 is_same_answer a b = false

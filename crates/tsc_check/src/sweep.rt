@@ -13,7 +13,7 @@ use crate::order::Order;
 use std::alloc::Global;
 use tsc_cache::{Added, Cache};
 use tsc_time::{NoMemory, Value};
-use tsc_trace::{Call, Line, Said, Trace, add_fitting};
+use tsc_trace::{Call, Line, Said, Trace, add_all_fitting, add_fitting};
 
 /// Whether two values are not the same.
 fn differ(value: Value, other: Value) -> bool
@@ -45,7 +45,7 @@ fn is_other_added(said: Said, made: Added) -> bool
     }
 }
 
-/// Makes an Add, and tells whether its answer is another.
+/// Makes an Add or a batch, and tells whether its answer is another.
 fn is_other_add(cache: &mut Cache, call: &Call, said: Said) -> Result<bool, NoMemory>
     requires { call_fits cache.old.settings call.now ≡ true }
     ensures other { IfOk result (λ other. (settings : Settings) (h : History) → StandsForState cache.old settings (state_of settings h) → is_add said ≡ true
@@ -57,6 +57,10 @@ fn is_other_add(cache: &mut Cache, call: &Call, said: Said) -> Result<bool, NoMe
         Call::Add { span, value, now } => {
             let made = add_fitting(cache, span, *value, *now)?;
             Ok(is_other_added(said, made))
+        }
+        Call::Batch { marks, now } => {
+            let made_all = add_all_fitting(cache, marks.slice(), *now)?;
+            Ok(is_other_added(said, made_all))
         }
         Call::Get { .. } | Call::Low => Ok(true),
     }

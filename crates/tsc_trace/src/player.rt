@@ -49,7 +49,7 @@ pub fn add_all_fitting(cache: &mut Cache, marks: &[Mark], now: Timestamp) -> Res
     ensures settings { OnOk result (cache.new.settings ≡ cache.old.settings) }
 {
     match cache.add_all(marks, now) {
-        Ok(added) => Ok(added),
+        Ok(all) => Ok(all),
         Err(CacheFault::NoMemory) => Err(NoMemory),
         Err(CacheFault::TooLarge) => unreachable!(),
     }
@@ -90,8 +90,8 @@ impl Player {
             }
             Call::Batch { marks, now } => {
                 let added = add_all_fitting(&mut self.cache, marks.slice(), *now)?;
-                self.adds += 1;
                 let place = front;
+                self.adds = place + 1;
                 Ok(Said::Batch { place, added })
             }
             Call::Get { span } => Ok(Said::Get {
