@@ -1,4 +1,4 @@
-use Rattle.std.proofs.Common.{◌≡◌, ◌∙◌, true, sym, subst, List, OnOk, IfOk}
+use Rattle.std.proofs.Common.{◌≡◌, true, sym, subst, List, OnOk, IfOk}
 use Rattle.tsc_nodes.specs.Page.{Mark}
 use Rattle.tsc_cache.specs.Settings.{Settings}
 use Rattle.tsc_cache.specs.Batch.{all_fit}

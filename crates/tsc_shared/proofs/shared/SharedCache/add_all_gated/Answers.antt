@@ -1,4 +1,4 @@
-use Rattle.std.proofs.Common.{◌≡◌, ◌∙◌, ◌∷◌, [], true, false, refl, sym, ap, subst}
+use Rattle.std.proofs.Common.{◌≡◌, ◌∙◌, true, false, refl, sym, ap, subst}
 use Rattle.tsc_cache.specs.Batch.{all_fit}
 use Rattle.tsc_shared.specs.Seats.{SharedView}
 use Rattle.tsc_shared.proofs.SeatSteps.{goes_nowhere, not_where_it_fits, copy_added, accepts_where_copied}

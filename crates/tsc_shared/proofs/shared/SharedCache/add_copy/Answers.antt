@@ -1,4 +1,4 @@
-use Rattle.std.proofs.Common.{rules, ◌≡◌, true, false, ◌∙◌, ◌+◌, refl, sym, ap, subst, arith}
+use Rattle.std.proofs.Common.{rules, ◌∙◌, ◌+◌, sym, ap, subst, arith}
 use Rattle.std.specs.Prelude.{Result}
 use Rattle.tsc_time.specs.declared.memory.NoMemory.{NoMemory}
 use Rattle.tsc_desk.specs.declared.board.Slot.TheVariants.{Empty}
