@@ -1,4 +1,5 @@
 //! An Add that is held up where it holds the desk and nobody can see it, until lookups on other threads have answered.
+use crate::batches::{batch_at, span_of};
 use crate::party::{Guest, Home, Letter, Of, Owner, Told, add_all, mark_at, point};
 use crate::threads::{Scene, Script, TURNS, at_once, play};
 use std::alloc::Global;
@@ -10,33 +11,54 @@ use std::thread;
 use std::thread::Threads;
 use tsc_shared::Gate;
 
-/// The first seat makes Adds, and then one that is held up until each other seat has asked for `a` so often.
+/// The first seat makes Adds, and then one that is held up until each other seat has asked for `a` and `b` so often.
 pub struct Plan {
     seats: u32,
     /// Keys with their wall times and their moments.
     before: &'static [(&'static str, u64, u64)],
-    held: (&'static str, u64, u64),
+    /// Its keys: one is added by itself, and several are as a batch.
+    held: (&'static [&'static str], u64, u64),
     /// What the held Add is told.
     told: Told,
     looks: u32,
-    /// What the others are told of `a` meanwhile.
+    /// What the others are told of `a` and `b` together meanwhile.
     meanwhile: Told,
     /// And of the floor.
     floor: Told,
-    /// What the last one is told when it learns the front of the held Add, and of `a` then.
-    learnt: (Told, Told),
+    /// What the last one is told when it learns the front of the held Add, and of `a` and `b` then.
+    learnt: (Told, Told, Told),
 }
 
 /// The first Add of all.
 static FIRST: Plan = Plan {
     seats: 2,
     before: &[],
-    held: ("a", 20, 20),
+    held: (&["a"], 20, 20),
     told: Told::Place(0, (true, false, 0), 1),
     looks: 1,
     meanwhile: Told::Value((5, 0), Owner::None, 0),
     floor: Told::Value((5, 0), Owner::None, 0),
-    learnt: (Told::Long(1), Told::Value((20, 0), Owner::First, 1)),
+    learnt: (
+        Told::Long(1),
+        Told::Value((20, 0), Owner::First, 1),
+        Told::Value((5, 0), Owner::None, 1),
+    ),
+};
+
+/// Two keys, as a batch.
+static BATCH: Plan = Plan {
+    seats: 2,
+    before: &[],
+    held: (&["a", "b"], 20, 20),
+    told: Told::Place(0, (true, false, 0), 1),
+    looks: 1,
+    meanwhile: Told::Value((5, 0), Owner::None, 0),
+    floor: Told::Value((5, 0), Owner::None, 0),
+    learnt: (
+        Told::Long(1),
+        Told::Value((20, 0), Owner::First, 1),
+        Told::Value((20, 0), Owner::First, 1),
+    ),
 };
 
 /// One that rotates the pages, and drops the oldest: its floor rises to 20.0, which has no owner.
@@ -52,24 +74,32 @@ static ROTATING: Plan = Plan {
         ("g", 41, 40),
         ("h", 41, 40),
     ],
-    held: ("i", 41, 40),
+    held: (&["i"], 41, 40),
     told: Told::Place(8, (true, true, 1), 9),
     looks: 1,
     meanwhile: Told::Value((20, 0), Owner::First, 8),
     floor: Told::Value((5, 0), Owner::None, 8),
-    learnt: (Told::Long(9), Told::Value((20, 0), Owner::None, 9)),
+    learnt: (
+        Told::Long(9),
+        Told::Value((20, 0), Owner::None, 9),
+        Told::Value((20, 0), Owner::None, 9),
+    ),
 };
 
 /// All lookups of four other seats answer meanwhile.
 static MANY: Plan = Plan {
     seats: 5,
     before: &[("a", 20, 20)],
-    held: ("a", 30, 20),
+    held: (&["a"], 30, 20),
     told: Told::Place(1, (true, false, 0), 2),
     looks: 1000,
     meanwhile: Told::Value((20, 0), Owner::First, 1),
     floor: Told::Value((5, 0), Owner::None, 1),
-    learnt: (Told::Long(2), Told::Value((30, 0), Owner::First, 2)),
+    learnt: (
+        Told::Long(2),
+        Told::Value((30, 0), Owner::First, 2),
+        Told::Value((5, 0), Owner::None, 2),
+    ),
 };
 
 /// A plan under way.
@@ -119,9 +149,12 @@ impl Held<'_> {
         guest: &mut Guest<C>,
     ) -> Option<Told> {
         let plan = self.plan;
-        let (key, wall, now) = plan.held;
-        let mark = mark_at(alloc, key, wall, now).ok()?;
-        home.add_gated(rt, guest, &mark, self)
+        let (keys, wall, now) = plan.held;
+        if let [key] = keys {
+            let mark = mark_at(alloc, key, wall, now).ok()?;
+            return home.add_gated(rt, guest, &mark, self);
+        }
+        home.add_batch(rt, guest, &batch_at(alloc, keys, wall, now)?, self)
     }
 }
 
@@ -150,7 +183,7 @@ fn look<C: Of, R: Abort>(
     guest: &mut Guest<C>,
     plan: &Plan,
 ) -> Option<()> {
-    let span = point(alloc, "a").ok()?;
+    let span = span_of(alloc, "a", "c").ok()?;
     for _ in 0..plan.looks {
         assert_eq!(rt; home.get(guest, &span), plan.meanwhile);
         assert_eq!(rt; home.low(guest), plan.floor);
@@ -183,16 +216,17 @@ fn first_letter<C: Of>(guests: &mut [Guest<C>]) -> Option<Letter<C>> {
     guests.first_mut()?.letter.take()
 }
 
-/// What the last of these seats is told when it learns the front that the first was told, and of `a` then.
+/// What the last of these seats is told when it learns the front that the first was told, and of `a` and `b` then.
 fn learn<C: Of>(
     alloc: Global,
     home: &Home<C>,
     mut guests: Vec<Guest<C>>,
-) -> Result<(Told, Told), Fail> {
+) -> Result<(Told, Told, Told), Fail> {
     let letter = first_letter(guests.as_mut_slice()).ok_or("a front")?;
     let last = guests.last_mut().ok_or("the last seat")?;
     let long = home.learn(last, letter);
-    Ok((long, home.get(last, &point(alloc, "a")?)))
+    let (a, b) = (point(alloc, "a")?, point(alloc, "b")?);
+    Ok((long, home.get(last, &a), home.get(last, &b)))
 }
 
 /// Holds the Add up, and tells whether it saw all others look.
@@ -226,6 +260,11 @@ pub fn hold<C: Of + Send + Sync, R: Threads + Wait + Abort + Sync>(
 #[test]
 fn a_lookup_answers_while_the_first_add_is_held_up(rt: HostRuntime) -> Result<(), Fail> {
     play(&rt, rt.alloc(), FIRST.seats, 100, &Scene::Held(&FIRST))
+}
+
+#[test]
+fn a_lookup_answers_while_a_batch_is_held_up(rt: HostRuntime) -> Result<(), Fail> {
+    play(&rt, rt.alloc(), BATCH.seats, 10, &Scene::Held(&BATCH))
 }
 
 #[test]

@@ -3,13 +3,14 @@
 ghost use Rattle.std.specs.Prelude.{◌≡◌, [], All, IfOk};
 ghost use Rattle.tsc_shared.specs.Answers.{Opens};
 
+use crate::batches::Batch;
 use std::alloc::Global;
 use std::marker::{Brand, PhantomData};
 use std::process::Abort;
 use std::sync::Wait;
 use std::test::Fail;
 use tsc_cache::{Config, ConfigFault};
-use tsc_shared::{AddFault, Closed, Front, Gate, NoGate, OpenFault, Seat, SharedCache};
+use tsc_shared::{AddFault, Closed, Front, Gate, NoGate, OpenFault, Receipt, Seat, SharedCache};
 use tsc_span::{Key, Span, SpanFault};
 use tsc_time::{NoMemory, Timestamp, Value};
 use uuid::Uuid;
@@ -129,6 +130,13 @@ pub fn told_of(value: Value, front: u64) -> Told {
     Told::Value((time.wall(), time.logical()), owner_of(value), front)
 }
 
+/// What an accepted Add tells.
+fn place_of(receipt: &Receipt) -> Told {
+    let added = receipt.added;
+    let what = (added.kept, added.rotated, added.evicted);
+    Told::Place(receipt.place, what, receipt.front.len())
+}
+
 impl<C: Of> Letter<C> {
     /// How long the history is.
     pub fn len(&self) -> u64 {
@@ -169,14 +177,34 @@ impl<C: Of> Home<C> {
             mark.now,
             gate,
         ) {
-            Ok(receipt) => {
-                let added = receipt.added;
-                let what = (added.kept, added.rotated, added.evicted);
-                (
-                    Told::Place(receipt.place, what, receipt.front.len()),
-                    receipt.front,
-                )
-            }
+            Ok(receipt) => (place_of(&receipt), receipt.front),
+            Err(AddFault::HistoryFull(front)) => (Told::Full(front.len()), front),
+            Err(AddFault::NoMemory) => return None,
+            Err(AddFault::TooLarge) => return Some(Told::TooLarge),
+        };
+        guest.letter = Some(Letter {
+            front,
+            of: PhantomData,
+        });
+        Some(told)
+    }
+
+    /// The same of several marks, as one Add.
+    pub fn add_batch<R: Wait, G: Gate>(
+        &self,
+        rt: &R,
+        guest: &mut Guest<C>,
+        batch: &Batch,
+        gate: &G,
+    ) -> Option<Told> {
+        let (told, front) = match self.cache.add_all_gated(
+            rt,
+            &mut guest.seat,
+            batch.marks.as_slice(),
+            at(batch.now),
+            gate,
+        ) {
+            Ok(receipt) => (place_of(&receipt), receipt.front),
             Err(AddFault::HistoryFull(front)) => (Told::Full(front.len()), front),
             Err(AddFault::NoMemory) => return None,
             Err(AddFault::TooLarge) => return Some(Told::TooLarge),

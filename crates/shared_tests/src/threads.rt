@@ -2,7 +2,7 @@
 ghost use Rattle.std.specs.Prelude.{◌≡◌, All};
 
 use crate::party::{Guest, Home, Of, config, together};
-use crate::{crowd, fronts, held, returned};
+use crate::{batches, crowd, fronts, held, returned};
 use std::alloc::{AllocError, Global};
 use std::marker::Brand;
 use std::process::Abort;
@@ -66,6 +66,8 @@ pub enum Scene {
     Returned,
     /// Fronts that go from each seat to the next.
     Ring,
+    /// Batches of two keys, and lookups of both.
+    Both,
 }
 
 fn enter<C: Of + Send + Sync, R: Threads + Wait + Abort + Sync>(
@@ -84,6 +86,7 @@ fn enter<C: Of + Send + Sync, R: Threads + Wait + Abort + Sync>(
         Scene::Crowd(limit) => crowd::add_at_once(rt, alloc, home, guests, *limit),
         Scene::Returned => returned::look_after(rt, alloc, home, guests),
         Scene::Ring => fronts::send_round(rt, alloc, home, guests),
+        Scene::Both => batches::look_at_both(rt, alloc, home, guests),
     }
 }
 

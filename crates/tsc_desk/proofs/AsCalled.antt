@@ -6,14 +6,14 @@ use prog.Atomic.{either}
 use Rattle.atomic_table.specs.Table.{Step, Allows, rest, turned}
 use Rattle.atomic_table.specs.Seated.{TableId}
 use Rattle.tsc_cache.specs.CacheView.{CacheView}
-use Rattle.tsc_cache.specs.History.{CanBeAdded}
+use Rattle.tsc_cache.specs.History.{CanAllBeAdded}
 use Rattle.tsc_desk.specs.declared.board.Terms.{Terms}
 use Rattle.tsc_desk.specs.declared.board.Pending.{Pending}
 use Rattle.tsc_desk.specs.declared.board.Held.{Held}
 use Rattle.tsc_desk.specs.declared.board.Slot.{Slot}
 use Rattle.tsc_desk.specs.declared.board.Slot.TheVariants.{Empty, Desk, Side}
 use Rattle.tsc_desk.specs.declared.board.View.{View}
-use Rattle.tsc_desk.specs.Desk.{OnDesk, DeskRule, Shows, IsState, IsAfter, hidden_at, shown_at, epoch_word, side_slot, entry_of}
+use Rattle.tsc_desk.specs.Desk.{marks_in, OnDesk, DeskRule, Shows, IsState, IsAfter, hidden_at, shown_at, epoch_word, side_slot, entry_of}
 use Rattle.tsc_desk.specs.DeskSteps.{At, number_of, seen_of, count_of, cleared_of, seated, clearing, looking, takes, gives, clears, flips, enters, picks_up, leaves, Sees, SeesAll, HasLooked, HasHandle, IsSide, LaidAs, new_entries, has_left, Filled, Anything, IsHandleOn, added, given, holding, IsMade, Holds}
 use Rattle.tsc_desk.specs.AtDesk.{DeskSeat, IsAtRest, IsSized, IsSeatAt, HasCleared, HasFilled, IsLooking}
 use Rattle.tsc_desk.proofs.Hands.{Hand, filled_le, filled_push, filled_weaker}
@@ -263,7 +263,7 @@ pub flip_after : (v : View) (me : At) (desk : Slot) (n : ℕ) (lag : Option Pend
 flip_after v me desk n lag p made h is after =
     subst (λ (m : At). IsAfter m.0.terms (added m.0 lag) made) (sym h.is) (subst (λ (l : Option Pending). IsAfter v.terms (added v l) made) (sym is) after)
 
-pub flip_made : (u v : View) (held : Held) (me : At) (desk : Slot) (n : ℕ) (lag : Option Pending) (p : Pending) → Holds u v held → HasCleared v me desk n → lag ≡ Some p → CanBeAdded u.terms.config p.mark p.moment → IsMade me.0.terms.config lag
+pub flip_made : (u v : View) (held : Held) (me : At) (desk : Slot) (n : ℕ) (lag : Option Pending) (p : Pending) → Holds u v held → HasCleared v me desk n → lag ≡ Some p → CanAllBeAdded u.terms.config (marks_in p.marks) p.moment → IsMade me.0.terms.config lag
 flip_made u v held me desk n lag p h cleared is made =
     let same : me.0.terms ≡ u.terms = ap (λ (m : At). m.0.terms) cleared.is ∙ ap (λ (x : View). x.terms) h.after in
     subst (λ (x : Terms). IsMade x.config lag) (sym same) (subst (IsMade u.terms.config) (sym is) made)

@@ -17,6 +17,7 @@ use denote.Struct.Struct.{Struct}
 use denote.Struct.Owning.{shape}
 use Rattle.atomic_table.specs.contracts.send_lease.SendLease.{the_row as send_lease}
 use Rattle.tsc_desk.specs.contracts.board.Terms.{the_row as terms}
+use Rattle.tsc_desk.specs.contracts.board.Marks.{the_row as marks}
 use Rattle.tsc_desk.specs.contracts.board.Pending.{the_row as pending}
 use Rattle.tsc_desk.specs.contracts.board.Held.{the_row as held}
 use Rattle.tsc_desk.specs.contracts.board.Slot.{the_row as slot_row}
@@ -48,8 +49,11 @@ span_sends = search (sendable, crosses, shape_sends) depth 20
 mark_sends : IsSend mark
 mark_sends = search (sendable, crosses, declared_send, value_sends, span_sends) depth 20
 
+marks_sends : IsSend marks
+marks_sends = search (sendable, crosses, variants_send, mark_sends) depth 20
+
 pending_sends : IsSend pending
-pending_sends = search (sendable, crosses, declared_send, timestamp_sends, mark_sends) depth 20
+pending_sends = search (sendable, crosses, declared_send, timestamp_sends, marks_sends) depth 20
 
 held_sends : IsSend held
 held_sends = search (sendable, crosses, declared_send, as_row_send, cache_sends, cache_syncs, pending_sends) depth 20

@@ -10,13 +10,13 @@ use Rattle.std.proofs.lemmas.List.{length_push}
 use Rattle.atomic_table.proofs.Lists.{set_here, set_else}
 use Rattle.atomic_table.specs.Table.{Step, takes as act_takes, chain as act_chain, Allows}
 use Rattle.tsc_cache.specs.declared.history.Entry.{Entry}
-use Rattle.tsc_cache.specs.History.{History, own_count, IsLegal, CanBeAdded}
+use Rattle.tsc_cache.specs.History.{History, own_count, IsLegal, CanAllBeAdded}
 use Rattle.tsc_desk.specs.declared.board.Terms.{Terms}
 use Rattle.tsc_desk.specs.declared.board.Pending.{Pending}
 use Rattle.tsc_desk.specs.declared.board.Slot.{Slot}
 use Rattle.tsc_desk.specs.declared.board.Slot.TheVariants.{Empty, Desk, Side}
 use Rattle.tsc_desk.specs.declared.board.View.{View}
-use Rattle.tsc_desk.specs.Desk.{OnDesk, post, DeskRule, ViewFits, IsAfter, shown_at, hidden_at, epoch_word, side_slot, Shows, IsState, entry_of}
+use Rattle.tsc_desk.specs.Desk.{marks_in, OnDesk, post, DeskRule, ViewFits, IsAfter, shown_at, hidden_at, epoch_word, side_slot, Shows, IsState, entry_of}
 use Rattle.tsc_desk.specs.DeskSteps.{seated, clearing, gives, flips, Filled, Anything, IsHandleOn, holding}
 use Rattle.tsc_cache.proofs.Beginnings.{begins_itself}
 use Rattle.tsc_desk.proofs.Prefixes.{own_append, own_of_one, own_of_other, legal_push}
@@ -99,7 +99,7 @@ module _ (terms : Terms) (slots : ℕ) (st : Step Slot) (id : ℕ) (t : Terms) (
   handle_shows h' (Side cache) stands on = subst (IsState terms h') (sym on) stands
 
   -- the Add is made
-  pub flip_allowed : (p : Pending) → held.value.lag ≡ Some p → Filled (IsHandleOn (arc_value held.value.shown)) (hidden_at (length h)) 0 xs cleared → cleared ≡ t.seats → CanBeAdded t.config p.mark p.moment
+  pub flip_allowed : (p : Pending) → held.value.lag ≡ Some p → Filled (IsHandleOn (arc_value held.value.shown)) (hidden_at (length h)) 0 xs cleared → cleared ≡ t.seats → CanAllBeAdded t.config (marks_in p.marks) p.moment
       → length h < t.limit → IsAfter t (h ++ entry_of number count p ∷ []) held.value
       → Allows (DeskRule terms) slots id (v, hand) 16 (λ _. held.value.length) (λ _. flips st (v, hand) held.value.length)
   flip_allowed p lag filled full made room after s k deep at small =
@@ -125,7 +125,7 @@ module _ (terms : Terms) (slots : ℕ) (st : Step Slot) (id : ℕ) (t : Terms) (
       let stands : IsState terms h' (arc_value held.value.shown) = subst (λ (x : Terms). IsState x h' (arc_value held.value.shown)) all.same after.stands in
       let moved : Moved terms s id v w h' (suc number) k.stage_of 0 None words homes = record {
         at = at;
-        legal = legal_push terms.config terms.seats h e legal (record { seat = all.low; number = sym all.mine.own_seen; made = subst (λ (x : Terms). CanBeAdded x.config p.mark p.moment) all.same made number count });
+        legal = legal_push terms.config terms.seats h e legal (record { seat = all.low; number = sym all.mine.own_seen; made = subst (λ (x : Terms). CanAllBeAdded x.config (marks_in p.marks) p.moment) all.same made number count });
         limit = omega (arith, longer, room, ap (λ (x : Terms). x.limit) all.same);
         wide = length-set s.words 16 n ∙ k.wide;
         deep = length-set (back s) 0 maybe.none ∙ put_length (set s.homes 0 (maybe.some (Desk held))) xs ∙ length-set s.homes 0 (maybe.some (Desk held)) ∙ k.deep;

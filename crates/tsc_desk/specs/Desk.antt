@@ -9,8 +9,11 @@ use lib.ListN.{get_elem?}
 use Rattle.atomic_table.specs.Table.{State}
 use Rattle.tsc_cache.specs.CacheView.{CacheView, StandsForState}
 use Rattle.tsc_cache.specs.declared.history.Entry.{Entry}
-use Rattle.tsc_cache.specs.History.{History, entry_of_mark, own_count, state_of, BeginsWith, IsLegal}
+use Rattle.tsc_nodes.specs.Page.{Mark}
+use Rattle.tsc_cache.specs.History.{History, own_count, state_of, BeginsWith, IsLegal}
 use Rattle.tsc_desk.specs.declared.board.Terms.{Terms}
+use Rattle.tsc_desk.specs.declared.board.Marks.{Marks}
+use Rattle.tsc_desk.specs.declared.board.Marks.TheVariants.{One, Many}
 use Rattle.tsc_desk.specs.declared.board.Pending.{Pending}
 use Rattle.tsc_desk.specs.declared.board.Held.{Held}
 use Rattle.tsc_desk.specs.declared.board.Slot.{Slot}
@@ -96,9 +99,14 @@ pub record SeatFits (terms : Terms) (h : History) (side hidden : ℕ) (words : L
   pub away : seat < cleared → stage ≢ hidden + 2
   pub late : (e : ℕ) → seat ≡ cleared → watched ≡ Some e → stage ≡ hidden + 2 → slice_index words (epoch_word seat) ≡ e
 
+-- the marks of an Add as a list
+abbrev pub marks_in : Marks → List Mark
+marks_in (One m) = m ∷ []
+marks_in (Many ms) = ms.items
+
 -- the entry of an Add of a seat
 abbrev pub entry_of : ℕ → ℕ → Pending → Entry
-entry_of number count p = entry_of_mark number count p.mark p.moment
+entry_of number count p = record { seat = number; number = count; marks = marks_in p.marks; now = p.moment }
 
 -- a cache stands for the state of a history without its last entry where that is still to come, and else of all of it
 abbrev pub Lags : Terms → History → Option Pending → CacheView → Type 0

@@ -3,7 +3,7 @@ use Rattle.std.specs.Prelude.{◌≡◌, ◌≢◌, ℕ, suc, ◌+◌, ◌%◌, 
 use Rattle.atomic_table.specs.Table.{Me, Step}
 use Rattle.tsc_time.specs.Time.{zero_time}
 use Rattle.tsc_cache.specs.Settings.{Settings}
-use Rattle.tsc_cache.specs.History.{History, own_count, BeginsWith, IsLegal, CanBeAdded}
+use Rattle.tsc_cache.specs.History.{History, own_count, BeginsWith, IsLegal, CanAllBeAdded}
 use Rattle.tsc_desk.specs.declared.board.Terms.{Terms}
 use Rattle.tsc_desk.specs.declared.board.Pending.{Pending}
 use Rattle.tsc_desk.specs.declared.board.Held.{Held}
@@ -13,7 +13,7 @@ use Rattle.tsc_desk.specs.declared.board.Slot.{Slot}
 use Rattle.tsc_desk.specs.declared.board.Slot.TheVariants.{Empty, Desk, Side}
 use Rattle.std.specs.Arc.{arc_value}
 use Rattle.tsc_cache.specs.CacheView.{CacheView}
-use Rattle.tsc_desk.specs.Desk.{post, keeping, entry_of, side_slot, shown_at, hidden_at, IsState, OnDesk, IsAfter}
+use Rattle.tsc_desk.specs.Desk.{post, keeping, marks_in, entry_of, side_slot, shown_at, hidden_at, IsState, OnDesk, IsAfter}
 
 -- what a desk seat knows, and what it has in hand
 abbrev pub At : Type 0
@@ -59,7 +59,7 @@ new_entries number count (Some p) = entry_of number count p ∷ []
 -- an Add that the holder has made is one that a caller can make under these settings
 abbrev pub IsMade : Settings → Option Pending → Type 0
 IsMade settings None = Unit {0}
-IsMade settings (Some p) = CanBeAdded settings p.mark p.moment
+IsMade settings (Some p) = CanAllBeAdded settings (marks_in p.marks) p.moment
 
 -- the longer of two histories
 abbrev pub longer : History → History → History

@@ -34,10 +34,17 @@ pub struct Terms {
     pub limit: u64,
 }
 
+/// The marks of an Add: one, which takes no memory beside its own, or a list of them.
+#[derive(Drop)]
+pub enum Marks {
+    One(Mark),
+    Many(Vec<Mark>),
+}
+
 /// An Add that the hidden cache has not had yet.
 #[derive(Drop)]
 pub struct Pending {
-    pub mark: Mark,
+    pub marks: Marks,
     pub moment: Timestamp,
 }
 

@@ -22,7 +22,7 @@ mod opening;
 mod places;
 mod steps;
 
-pub use board::{Desk, DeskSeat, Held, Pending, Post, SharedDesk, Slot, Terms, Turns, View};
+pub use board::{Desk, DeskSeat, Held, Marks, Pending, Post, SharedDesk, Slot, Terms, Turns, View};
 pub use closing::{end_desk, gather};
 pub use desk::{clear_all, fill, flip, give_back, take};
 pub use looking::{read_floor, read_max};

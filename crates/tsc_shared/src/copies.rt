@@ -1,0 +1,41 @@
+//! Copies of what is to be added: both sides have it in turn, and the caller keeps its own.
+ghost use Rattle.std.specs.Prelude.{◌∷◌, [], IfOk};
+ghost use Rattle.tsc_shared.specs.Adding.{IsCopyOf};
+
+use std::alloc::Global;
+use tsc_cache::Mark;
+use tsc_desk::{Marks, Pending};
+use tsc_span::Span;
+use tsc_time::{NoMemory, Timestamp, Value};
+
+/// A copy of a mark, to be added at this moment.
+pub(crate) fn copy_of_one(span: &Span, value: Value, now: Timestamp) -> Result<Pending, NoMemory>
+    ensures { IfOk result (IsCopyOf (record { span = span.now; value = value } ∷ []) now) }
+{
+    let span = span.try_copy()?;
+    Ok(Pending {
+        marks: Marks::One(Mark { span, value }),
+        moment: now,
+    })
+}
+
+/// A copy of some marks, to be added at this moment.
+pub(crate) fn copy_of_all(
+    alloc: Global,
+    marks: &[Mark],
+    now: Timestamp,
+) -> Result<Pending, NoMemory>
+    ensures { IfOk result (IsCopyOf marks.now now) }
+{
+    let mut copies = Vec::with_capacity(alloc, marks.len())?;
+    for mark in marks {
+        copies.push(Mark {
+            span: mark.span.try_copy()?,
+            value: mark.value,
+        })?;
+    }
+    Ok(Pending {
+        marks: Marks::Many(copies),
+        moment: now,
+    })
+}
