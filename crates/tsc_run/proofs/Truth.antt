@@ -4,17 +4,12 @@ use Rattle.std.specs.Prelude.{◌==◌, cond}
 use Rattle.std.proofs.lemmas.Bool.Decides.{nat_tests}
 use Rattle.std.proofs.lemmas.List.Sums.{sum_by-cons}
 use Rattle.std.proofs.lemmas.List.Elements.{All-head, All-tail}
-use Rattle.tsc_time.specs.Time.{Time}
-use Rattle.tsc_time.specs.OwnedTime.{OwnedTime}
-use Rattle.tsc_span.specs.Span.{Interval}
 use Rattle.tsc_cache.specs.Settings.{Settings}
 use Rattle.tsc_cache.specs.declared.history.Entry.{Entry}
-use Rattle.tsc_cache.specs.State.{Stepped}
 use Rattle.tsc_cache.specs.History.{History, own_count, state_of, BeginsWith, IsLegal}
-use Rattle.tsc_cache.proofs.Steps.{one_mark_is_a_step}
-use Rattle.tsc_json.specs.Calls.{Addition, one_mark, adds}
+use Rattle.tsc_json.specs.Calls.{Addition, one_mark, several_marks, adds}
 use Rattle.tsc_json.specs.declared.trace.Call.{Call}
-use Rattle.tsc_json.specs.declared.trace.Call.TheVariants.{Add, Get, Low}
+use Rattle.tsc_json.specs.declared.trace.Call.TheVariants.{Add, Batch, Get, Low}
 use Rattle.tsc_json.specs.Traces.{Trace}
 use Rattle.tsc_trace.specs.Log.{made, said_after, entry_after, with_addition, after_call}
 use Rattle.tsc_trace.specs.declared.log.Line.{Line}
@@ -46,18 +41,15 @@ record IsTaken (old mid : SeatView) (a : Addition) (receipt : Receipt) : Type 0 
   later : length old.seen ≤ length before
   reached : suc receipt.place ≡ length mid.seen
 
-taken : (old mid : SeatView) (span : Interval) (value : OwnedTime) (now : Time) (receipt : Receipt) → GoesOn old mid → Accepts old mid (record { span = span; value = value }) now receipt
-    → IsTaken old mid (one_mark span value now) receipt
-taken old mid span value now receipt goes acc =
-    let a : Addition = one_mark span value now in
-    let e : Entry = entry_by old (record { span = span; value = value }) now in
-    let state = state_of old.cache.config acc.before in
+taken : (old mid : SeatView) (a : Addition) (receipt : Receipt) → GoesOn old mid → Accepts old mid a.marks a.now receipt → IsTaken old mid a receipt
+taken old mid a receipt goes acc =
+    let e : Entry = entry_by old a.marks a.now in
     let next = goes.is_seat.legal acc.before e ([], acc.seen ∙ sym (append-nil (acc.before ++ e ∷ []))) in
     let own : Entry = entry_after old.number acc.before a in
     record {
       before = acc.before;
       place = acc.place;
-      added = acc.added ∙ ap (λ (t : Stepped). t.added) (sym (one_mark_is_a_step old.cache.config state (record { span = span; value = value }) now));
+      added = acc.added;
       part = ([], acc.seen ∙ ap (λ (n : ℕ). acc.before ++ record { seat = old.number; number = n; marks = a.marks; now = a.now } ∷ []) next.number ∙ sym (append-nil (acc.before ++ own ∷ [])));
       later = begins_length acc.before old.seen acc.begins;
       reached = omega (arith, acc.place, ap length acc.seen, length-append acc.before (e ∷ []));
@@ -74,10 +66,15 @@ record IsTold (old mid : SeatView) (call : Call) (answer : Said) : Type 0 where
 
 is_told : (old mid : SeatView) (call : Call) (answer : Said) → GoesOn old mid → Says old mid call answer → IsTold old mid call answer
 is_told old mid (Add span value now) (said.Add place added) goes says =
-    let t = taken old mid span value now (record { place = place; added = added; front = says.0 }) goes says.1 in
+    let t = taken old mid (one_mark span value now) (record { place = place; added = added; front = says.0 }) goes says.1 in
     let at = t.place in
     let what = t.added in
     record { before = t.before; told = λ i. said.Add (at i) (what i); part = t.part; later = t.later; reached = t.reached; count = says.1.count }
+is_told old mid (Batch marks now) (said.Batch place added) goes says =
+    let t = taken old mid (several_marks marks now) (record { place = place; added = added; front = says.0 }) goes says.1 in
+    let at = t.place in
+    let what = t.added in
+    record { before = t.before; told = λ i. said.Batch (at i) (what i); part = t.part; later = t.later; reached = t.reached; count = says.1.count }
 is_told old mid (Get span) (said.Get front value) goes says = record {
   before = mid.seen;
   told = ap (λ n. said.Get n value) says.front ∙ ap (said.Get (length mid.seen)) says.value;

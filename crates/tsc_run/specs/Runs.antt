@@ -2,17 +2,24 @@
 use Rattle.std.specs.Prelude.{◌≡◌, ◌<◌, ℕ, suc, List, [], ◌∷◌, ◌++◌, length}
 use Rattle.tsc_shared.specs.Seats.{SharedView, SeatView, FrontView, new_seat}
 use Rattle.tsc_shared.specs.Answers.{GoesOn, Accepts, Looks, ReadsFloor}
+use Rattle.tsc_cache.specs.declared.added.Added.{Added}
+use Rattle.tsc_json.specs.Calls.{Addition, one_mark, several_marks}
 use Rattle.tsc_json.specs.declared.trace.Call.{Call}
-use Rattle.tsc_json.specs.declared.trace.Call.TheVariants.{Add, Get, Low}
+use Rattle.tsc_json.specs.declared.trace.Call.TheVariants.{Add, Batch, Get, Low}
 use Rattle.tsc_trace.specs.declared.log.Line.{Line}
 use Rattle.tsc_trace.specs.declared.log.Said.{Said}
 use Rattle.tsc_trace.specs.declared.log.Said.TheVariants as said
 use Rattle.tsc_run.specs.declared.fault.RunFault.{RunFault}
 use Rattle.tsc_run.specs.declared.fault.RunFault.TheVariants as fault
 
+-- An addition is accepted at this place, and does this.
+abbrev pub AcceptsAs : SeatView → SeatView → Addition → ℕ → Added → Type 0
+AcceptsAs old new a place added = (front : FrontView) × Accepts old new a.marks a.now (record { place = place; added = added; front = front })
+
 -- What is said of a call is what the shared cache answered, where the seat was as the first before and is as the second then.
 abbrev pub Says : SeatView → SeatView → Call → Said → Type 0
-Says old new (Add span value now) (said.Add place added) = (front : FrontView) × Accepts old new (record { span = span; value = value }) now (record { place = place; added = added; front = front })
+Says old new (Add span value now) (said.Add place added) = AcceptsAs old new (one_mark span value now) place added
+Says old new (Batch marks now) (said.Batch place added) = AcceptsAs old new (several_marks marks now) place added
 Says old new (Get span) (said.Get front value) = Looks old new span (record { value = value; front = front })
 Says old new Low (said.Low front time) = ReadsFloor old new (record { time = time; front = front })
 Says old new call said = ⊥

@@ -1,9 +1,11 @@
 //! One list of a trace, at a seat of the shared cache.
-ghost use Rattle.std.specs.Prelude.{◌≡◌, ◌≤◌, true, IfOk, IfErr, length};
+ghost use Rattle.std.specs.Prelude.{◌≡◌, ◌≢◌, ◌≤◌, true, IfOk, IfErr, length};
 ghost use Rattle.tsc_json.specs.Calls.{call_fits};
 ghost use Rattle.tsc_json.specs.Traces.{EachFits};
 ghost use Rattle.tsc_json.specs.Lists.{most_calls};
-ghost use Rattle.tsc_shared.specs.Answers.{GoesOn};
+ghost use Rattle.tsc_shared.specs.Seats.{SeatView};
+ghost use Rattle.tsc_shared.specs.Answers.{GoesOn, RefusedFor};
+ghost use Rattle.tsc_shared.specs.declared.answers.AddFault.TheVariants.{TooLarge};
 ghost use Rattle.tsc_run.specs.Runs.{Says, IsRefusedAs, Runs};
 ghost use Rattle.tsc_run.specs.Ending.{CanEndRun};
 
@@ -20,7 +22,21 @@ pub(crate) struct ListRun {
     pub lines: Vec<Line>,
 }
 
-/// Makes a call at this seat, which fits a page, and gives its answer. The gate is told before an Add is published.
+/// How a refused Add ends a run. All that the calls of a trace add fits a page.
+fn refused(fault: AddFault) -> RunFault
+    requires { fault ≢ TooLarge }
+    ensures refused { (old new : SeatView) → RefusedFor old new fault → IsRefusedAs result old new }
+    ensures why { CanEndRun result }
+{
+    match fault {
+        AddFault::HistoryFull(_) => RunFault::HistoryFull,
+        AddFault::NoMemory => RunFault::NoMemory,
+        AddFault::TooLarge => unreachable!(),
+    }
+}
+
+/// Makes a call at this seat, which fits a page, and gives its answer. The gate is told before an Add or a batch is
+/// published.
 fn answer<R: Wait, G: Gate>(
     rt: &R,
     cache: &SharedCache,
@@ -42,9 +58,16 @@ fn answer<R: Wait, G: Gate>(
                     place: receipt.place,
                     added: receipt.added,
                 }),
-                Err(AddFault::HistoryFull(_)) => Err(RunFault::HistoryFull),
-                Err(AddFault::NoMemory) => Err(RunFault::NoMemory),
-                Err(AddFault::TooLarge) => unreachable!(),
+                Err(fault) => Err(refused(fault)),
+            }
+        }
+        Call::Batch { marks, now } => {
+            match cache.add_all_gated(rt, seat, marks.slice(), *now, gate) {
+                Ok(receipt) => Ok(Said::Batch {
+                    place: receipt.place,
+                    added: receipt.added,
+                }),
+                Err(fault) => Err(refused(fault)),
             }
         }
         Call::Get { span } => {
