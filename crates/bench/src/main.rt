@@ -8,6 +8,9 @@
 //! took on the page, and compares lookups that stop at the newest of 17 pages with those in a single page, turn by
 //! turn. Then it measures a shared cache, as `bench shared NODES..` does alone.
 //!
+//! `bench batch NODES..` adds 64 known keys to the next version of a cache of one page as a batch, and prints what that takes as a percentage of
+//! what one of them takes by itself, and what they take one after another.
+//!
 //! `bench shared NODES..` has 1, 2 and 4 seats of a shared cache look up and add on threads, and prints how many
 //! calls they made in a second; then one seat add beside seats that nobody uses, and prints the nanoseconds of an Add
 //! and what each idle seat costs it. Beside each figure stands that of the same calls on one thread to a cache of its
@@ -21,6 +24,7 @@
 
 ghost use Rattle.std.specs.Prelude.{◌≤◌, IfOk};
 
+mod batch;
 mod caches;
 mod calls;
 mod measure;
@@ -30,6 +34,7 @@ mod spread;
 mod stops;
 mod watch;
 
+use crate::batch::{BATCH_OPERATIONS, measure_batch};
 use crate::caches::{CACHE_OPERATIONS, PAGES, measure_caches};
 use crate::measure::{Figure, LARGEST, ROUNDS, Row, SMALLEST, measure};
 use crate::report::{print_longest, print_shared, short_run_shared};
@@ -47,6 +52,9 @@ const TURNS: u32 = 25;
 /// And on a cache, whose lookups look into many pages.
 const CACHE_TURNS: u32 = 5;
 
+/// And of batches.
+const BATCH_TURNS: u32 = 100;
+
 /// And where two caches are compared.
 const STOP_TURNS: u32 = 40;
 
@@ -60,6 +68,7 @@ fn main(rt: HostRuntime) -> Result<()> {
         "shared" => measure_sharing(&rt, sizes, false),
         "longest" => measure_sharing(&rt, sizes, true),
         "pages" => measure_pages(&rt, sizes),
+        "batch" => measure_batches(&rt, sizes),
         _ => measure_all(&rt, &rt, &words),
     }
 }
@@ -101,6 +110,19 @@ fn measure_pages(rt: &HostRuntime, sizes: &[String]) -> Result<()> {
         all.push(measure_page_of(rt, nodes_of(word)?)?)?;
     }
     print_growth(rt, &all)
+}
+
+/// Measures batches on a page of each size, and prints what each takes beside one `next`.
+fn measure_batches(rt: &HostRuntime, sizes: &[String]) -> Result<()> {
+    for word in sizes {
+        let nodes = nodes_of(word)?;
+        let figures = measure_batch(rt, nodes, BATCH_TURNS)?;
+        let one = figures[0];
+        for (name, figure) in BATCH_OPERATIONS.iter().zip(&figures) {
+            print_beside(rt, 1, nodes, name, *figure, one)?;
+        }
+    }
+    Ok(())
 }
 
 /// Measures a page, and prints it. Gives what its operations took.

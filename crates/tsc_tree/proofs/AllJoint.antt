@@ -1,5 +1,6 @@
 -- The joint value of all keys and gaps of nodes.
 use Rattle.std.proofs.Common.{◌≡◌, ◌⊎◌, inl, inr, ◌∙◌, refl, sym, ap, subst, Bool, true, false, cond, ℕ, suc, ◌+◌, ◌<◌, ◌≤◌, List, [], ◌∷◌, ◌++◌, length, map, drop, get_or, arith}
+use mathlib.Core.Bool.{true≢false}
 use Rattle.std.specs.Prelude.{Option, Some, None}
 use Rattle.std.proofs.lemmas.List.{length-map, drop_all}
 use Rattle.tsc_time.specs.Time.{zero_time}
@@ -7,10 +8,10 @@ use Rattle.tsc_time.specs.OwnedTime.{OwnedTime, unowned}
 use Rattle.tsc_time.specs.Joint.{joint, IsAtMost}
 use Rattle.tsc_time.proofs.RatchetOrder.{IsAtMost-itself, IsAtMost-transitive}
 use Rattle.tsc_span.specs.Span.{KeyBytes, Cut, before, after, last, Interval, between, overlaps, is_below}
-use Rattle.tsc_nodes.specs.Nodes.{Node, node_stretches, IsSorted, IsInOrder, IsSplitAt, AddsNodes, with_new, raise_nodes}
+use Rattle.tsc_nodes.specs.Nodes.{Node, answer_of, node_stretches, IsSorted, IsInOrder, IsSplitAt, AddsNodes, with_new, raise_nodes}
 use Rattle.tsc_tree.specs.Leaves.{nodes_of, start_of, HasNode}
 use Rattle.tsc_tree.specs.Pending.{everything, with_pending, seen_with, all_joint}
-use Rattle.tsc_nodes.proofs.CutOrder.{Lt, Le, Lt-or_Le, Lt-not_Le, Le_Lt-chain, before-after, below_last, none_above_last, overlaps-from}
+use Rattle.tsc_nodes.proofs.CutOrder.{Lt, Le, Lt-or_Le, Lt-not_Le, Le-from_Lt, Lt-chain, Le_Lt-chain, before-after, below_last, none_above_last, overlaps-from}
 use Rattle.tsc_nodes.proofs.Cuts.{lowest}
 use Rattle.tsc_nodes.proofs.Edits.{raise_nodes-start, raise_nodes-sorted}
 use Rattle.tsc_nodes.proofs.NewKeys.{with_new_splits, still_new, makes_sorted}
@@ -27,21 +28,42 @@ abbrev pub HasValue : List Node → OwnedTime → Type 0
 HasValue [] w = ⊥
 HasValue (n ∷ ns) w = (n.value ≡ w) ⊎ ((n.gap ≡ w) ⊎ HasValue ns w)
 
-met_value : (ns : List Node) (w : OwnedTime) → Meets everything (node_stretches ns) w → HasValue ns w
-met_value [] w m = m
-met_value (n ∷ ns) w (inl m) = inl m.1
-met_value (n ∷ ns) w (inr (inl m)) = inr (inl m.1)
-met_value (n ∷ ns) w (inr (inr m)) = inr (inr (met_value ns w m))
+met_value : (s : Interval) (ns : List Node) (w : OwnedTime) → Meets s (node_stretches ns) w → HasValue ns w
+met_value s [] w m = m
+met_value s (n ∷ ns) w (inl m) = inl m.1
+met_value s (n ∷ ns) w (inr (inl m)) = inr (inl m.1)
+met_value s (n ∷ ns) w (inr (inr m)) = inr (inr (met_value s ns w m))
 
--- all keys and gaps are met
-value_met : (ns : List Node) (w : OwnedTime) → IsSorted ns → HasValue ns w → Meets everything (node_stretches ns) w
-value_met [] w sorted h = h
-value_met (n ∷ ns) w sorted (inl h) = inl (overlaps-from (before n.key) (after n.key) (before []) last (before-after n.key, up_to_last (before n.key) (after n.key) (before-after n.key), Le_Lt-chain (before []) (before n.key) (after n.key) (lowest (before n.key)) (before-after n.key), refl), h)
-value_met (n ∷ ns) w sorted (inr (inl h)) = inr (inl (overlaps-from (after n.key) (start_of ns) (before []) last (sorted.0, below_last n.key, Le_Lt-chain (before []) (after n.key) (start_of ns) (lowest (after n.key)) sorted.0, refl), h))
-value_met (n ∷ ns) w sorted (inr (inr h)) = inr (inr (value_met ns w sorted.1 h))
+-- all keys and gaps are met by a span that begins where nodes do, or below them
+value_met : (f : Cut) (ns : List Node) (w : OwnedTime) → IsSorted ns → Le f (start_of ns) → HasValue ns w → Meets (between f last) (node_stretches ns) w
+value_met f [] w sorted low h = h
+value_met f (n ∷ ns) w sorted low h =
+    let to_after : Lt f (after n.key) = Le_Lt-chain f (before n.key) (after n.key) low (before-after n.key) in
+    let to_next : Lt f (start_of ns) = Lt-chain f (after n.key) (start_of ns) to_after sorted.0 in
+    let up : Lt f last = up_to_last f (after n.key) to_after in
+    elim h [
+      | inl v ↦ inl (overlaps-from (before n.key) (after n.key) f last (before-after n.key, up_to_last (before n.key) (after n.key) (before-after n.key), to_after, up), v)
+      | inr r ↦ elim r [
+        | inl g ↦ inr (inl (overlaps-from (after n.key) (start_of ns) f last (sorted.0, below_last n.key, to_next, up), g))
+        | inr more ↦ inr (inr (value_met f ns w sorted.1 (Le-from_Lt f (start_of ns) to_next) more))
+      ]
+    ]
+
+seen_from : (f : Cut) (ns : List Node) → IsSorted ns → Le f (start_of ns) → IsJointOf (HasValue ns) (answer_of ns (between f last))
+seen_from f ns sorted low = same_seen (Meets (between f last) (node_stretches ns)) (HasValue ns) (answer_of ns (between f last)) (λ w m. met_value (between f last) ns w m) (λ w h. value_met f ns w sorted low h) (answer_is (between f last) ns)
 
 pub all_joint_is : (ns : List Node) → IsSorted ns → IsJointOf (HasValue ns) (all_joint ns)
-all_joint_is ns sorted = same_seen (Meets everything (node_stretches ns)) (HasValue ns) (all_joint ns) (λ w m. met_value ns w m) (λ w h. value_met ns w sorted h) (answer_is everything ns)
+all_joint_is ns sorted = seen_from (before []) ns sorted (lowest (start_of ns))
+
+-- no part of a span answers more than all
+pub answer_below_all : (s : Interval) (ns : List Node) → IsSorted ns → IsAtMost (answer_of ns s) (all_joint ns)
+answer_below_all s ns sorted = (answer_is s ns).least (all_joint ns) (zero_below_answer everything ns) (λ w m. (all_joint_is ns sorted).above w (met_value s ns w m))
+
+-- a span that leaves nothing out answers as all
+pub answer_of_all : (f t : Cut) (ns : List Node) → IsSorted ns → Le f (start_of ns) → Le last t → answer_of ns (between f t) ≡ all_joint ns
+answer_of_all f (before k) ns sorted low high = absurd (true≢false high)
+answer_of_all f (after k) ns sorted low high = absurd (true≢false high)
+answer_of_all f last ns sorted low high = one_joint (HasValue ns) (HasValue ns) (answer_of ns (between f last)) (all_joint ns) (λ w h. h) (λ w h. h) (seen_from f ns sorted low) (all_joint_is ns sorted)
 
 -- some of what was seen is raised, and the rest is as before
 raised_joint : (Seen New : OwnedTime → Type 0) (best v : OwnedTime) → ((w : OwnedTime) → New w → (y : OwnedTime) × Seen y × ((y ≡ w) ⊎ (joint y (v ∷ []) ≡ w)))

@@ -75,6 +75,11 @@ joint-chain a b c = IsAtMost-antisymmetric one two
     two : OwnedTime
     two = joint ab (c ∷ [])
 
+pub joint-swap : (a b : OwnedTime) → joint a (b ∷ []) ≡ joint b (a ∷ [])
+joint-swap a b = IsAtMost-antisymmetric (joint a (b ∷ [])) (joint b (a ∷ []))
+    (both_below a b (joint b (a ∷ [])) (second_below b a) (first_below b a))
+    (both_below b a (joint a (b ∷ [])) (second_below a b) (first_below a b))
+
 pub zero_first : (a : OwnedTime) → IsAtMost (unowned zero_time) a → joint (unowned zero_time) (a ∷ []) ≡ a
 zero_first a z = IsAtMost-antisymmetric (joint (unowned zero_time) (a ∷ [])) a (both_below (unowned zero_time) a a z (IsAtMost-itself a)) (second_below (unowned zero_time) a)
 

@@ -7,6 +7,7 @@ pub mod LeafMakes
 pub mod LeafAdds
 pub mod Pending
 pub mod AllJoint
+pub mod Skips
 pub mod Told
 pub mod PartLoops
 pub mod PartSizes

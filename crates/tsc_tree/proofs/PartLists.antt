@@ -5,7 +5,6 @@ use Rattle.std.specs.List.{All, AllZip}
 use Rattle.std.proofs.lemmas.List.{map-append, take-append-drop}
 use Rattle.tsc_time.specs.OwnedTime.{OwnedTime}
 use Rattle.tsc_span.specs.Span.{KeyBytes, Interval}
-use Rattle.tsc_nodes.specs.declared.nodes.Grown.{Grown}
 use Rattle.tsc_nodes.specs.Nodes.{Node, IsSorted, IsInOrder, AddsNodes}
 use Rattle.tsc_tree.specs.Leaves.{nodes_of, AreParts, HasNode}
 use Rattle.tsc_tree.specs.Pending.{sizes_of}

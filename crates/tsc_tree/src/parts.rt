@@ -1,6 +1,7 @@
-ghost use Rattle.std.specs.Prelude.{◌≡◌, ℕ, List, ◌≤◌, ◌<◌, ◌+◌, ◌++◌, suc, map, length, drop, option_to_list, OnOk, IfOk, IfSome, not, true};
+ghost use Rattle.std.specs.Prelude.{◌≡◌, ℕ, List, ◌≤◌, ◌<◌, ◌+◌, ◌++◌, ◌∷◌, [], ◌||◌, suc, map, length, drop, option_to_list, OnOk, IfOk, IfSome, not, true, false};
 ghost use Rattle.std.specs.List.{All};
-ghost use Rattle.tsc_span.specs.Span.{is_below, between};
+ghost use Rattle.tsc_time.specs.Joint.{joint};
+ghost use Rattle.tsc_span.specs.Span.{before, last, is_below, between};
 ghost use Rattle.tsc_span.specs.Cuts.{cut_of};
 ghost use Rattle.tsc_nodes.specs.Numbers.{IsCutNumber};
 ghost use Rattle.tsc_nodes.specs.PageView.{is_in};
@@ -188,7 +189,8 @@ pub fn joint_between<P: Part>(parts: &[P], from: &NumberedCut<'_>, to: &Numbered
     }
 }
 
-/// The same, where the span goes on beyond the part in which it starts.
+/// The same, where the span goes on beyond the part in which it starts. The parts at its ends come last, and are looked into only
+/// where they can change what all others answer.
 fn joint_beyond<P: Part>(
     parts: &[P],
     first: usize,
@@ -202,16 +204,70 @@ fn joint_beyond<P: Part>(
     requires beyond { is_below (start_of (nodes_of (drop (suc first) (map P.nodes parts.now)))) to.now ≡ true }
     ensures { result ≡ answer_of (nodes_of (map P.nodes parts.now)) (between from.now to.now) }
 {
-    let least = NumberedCut::new(Cut::Before(&[]));
     let last = NumberedCut::new(Cut::Last);
-    let mut best = parts[first].joint_between(from, &last);
-    for place in first + 1..parts.len() {
+    let best = joint_below(parts, first + 1, to);
+    joined(best, &parts[first], from, &last)
+}
+
+/// The joint value of the keys and gaps below a cut of the parts from a place on.
+fn joint_below<P: Part>(parts: &[P], start: usize, to: &NumberedCut<'_>) -> Value
+    requires parts { AreParts P.nodes P.IsWhole parts.now }
+    requires order { is_below (before []) to.now ≡ true }
+    ensures { result ≡ answer_of (nodes_of (drop start (map P.nodes parts.now))) (between (before []) to.now) }
+{
+    let least = NumberedCut::new(Cut::Before(&[]));
+    let mut best = Value::unowned(Timestamp::ZERO);
+    for place in start..parts.len() {
         if !goes_on(parts, place, to) {
-            return ratchet(best, parts[place].joint_between(&least, to)).0;
+            return joined(best, &parts[place], &least, to);
         }
         best = ratchet(best, parts[place].joint()).0;
     }
     best
+}
+
+/// Joins the keys and gaps of a part between two cuts into the best so far. The part is looked into only where the joint value of
+/// all its keys and gaps would change that.
+fn joined<P: Part>(best: Value, part: &P, from: &NumberedCut<'_>, to: &NumberedCut<'_>) -> Value
+    requires whole { P.IsWhole part.now }
+    requires sorted { IsSorted (P.nodes part.now) }
+    requires order { is_below from.now to.now ≡ true }
+    ensures { result ≡ joint best (answer_of (P.nodes part.now) (between from.now to.now) ∷ []) }
+{
+    if changes(best, part.joint()) {
+        ratchet(best, seen_of(part, from, to)).0
+    } else {
+        best
+    }
+}
+
+/// Whether a value changes the best so far.
+fn changes(best: Value, value: Value) -> bool
+    ensures { result ≡ false → joint best (value ∷ []) ≡ best }
+{
+    ratchet(best, value).1
+}
+
+/// The joint value of the keys and gaps of a part between two cuts. Where these leave nothing out the part isn't looked into.
+fn seen_of<P: Part>(part: &P, from: &NumberedCut<'_>, to: &NumberedCut<'_>) -> Value
+    requires whole { P.IsWhole part.now }
+    requires sorted { IsSorted (P.nodes part.now) }
+    requires order { is_below from.now to.now ≡ true }
+    ensures { result ≡ answer_of (P.nodes part.now) (between from.now to.now) }
+{
+    if leaves_out(part, from, to) {
+        part.joint_between(from, to)
+    } else {
+        part.joint()
+    }
+}
+
+/// Whether some of a part may lie outside of two cuts.
+fn leaves_out<P: Part>(part: &P, from: &NumberedCut<'_>, to: &NumberedCut<'_>) -> bool
+    requires whole { P.IsWhole part.now }
+    ensures { result ≡ (is_below to.now last || is_below (start_of (P.nodes part.now)) from.now) }
+{
+    to.is_below_last() || part.starts_below(from)
 }
 
 /// Whether this is a key that has no node in parts.
