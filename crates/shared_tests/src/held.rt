@@ -140,7 +140,7 @@ impl Held<'_> {
         }
     }
 
-    /// What the Add that is held up is told.
+    /// What the Add that is held up is told. A batch is made once more where it is refused memory.
     fn add<C: Of, R: Wait>(
         &self,
         rt: &R,
@@ -154,7 +154,11 @@ impl Held<'_> {
             let mark = mark_at(alloc, key, wall, now).ok()?;
             return home.add_gated(rt, guest, &mark, self);
         }
-        home.add_batch(rt, guest, &batch_at(alloc, keys, wall, now)?, self)
+        let batch = batch_at(alloc, keys, wall, now)?;
+        match home.add_batch(rt, guest, &batch, self) {
+            None => home.add_batch(rt, guest, &batch, self),
+            told => told,
+        }
     }
 }
 
