@@ -26,10 +26,7 @@ pub fn measure_batch(rt: &HostRuntime, nodes: u32, turns: u32) -> Result<[Figure
     requires at_most { nodes ≤ 1048576 }
 {
     let cache = filled(rt.alloc(), nodes, 1, false)?;
-    let marks = marks_of(
-        rt.alloc(),
-        Keys::new(nodes, 0, &[]).spans(rt.alloc(), MARKS, 0)?,
-    )?;
+    let marks = marks_at(rt.alloc(), nodes)?;
     let mut all = [Figure::NONE; 3];
     for _ in 0..turns {
         let figures = [
@@ -40,6 +37,13 @@ pub fn measure_batch(rt: &HostRuntime, nodes: u32, turns: u32) -> Result<[Figure
         keep_least(&mut all, &figures);
     }
     Ok(all)
+}
+
+/// Known keys from all over a page of so many nodes, each with a late value.
+pub fn marks_at(alloc: Global, nodes: u32) -> Result<Vec<Mark>>
+    requires { 64 ≤ nodes }
+{
+    marks_of(alloc, Keys::new(nodes, 0, &[]).spans(alloc, MARKS, 0)?)
 }
 
 /// Each of the spans with a late value.

@@ -9,7 +9,8 @@
 //! turn. Then it measures a shared cache, as `bench shared NODES..` does alone.
 //!
 //! `bench batch NODES..` adds 64 known keys to the next version of a cache of one page as a batch, and prints what that takes as a percentage of
-//! what one of them takes by itself, and what they take one after another.
+//! what one of them takes by itself, and what they take one after another. Then 1 and 4 seats of a shared cache add them one at a time, and
+//! as a batch.
 //!
 //! `bench shared NODES..` has 1, 2 and 4 seats of a shared cache look up and add on threads, and prints how many
 //! calls they made in a second; then one seat add beside seats that nobody uses, and prints the nanoseconds of an Add
@@ -30,14 +31,16 @@ mod calls;
 mod measure;
 mod report;
 mod shared;
+mod shared_batch;
 mod spread;
 mod stops;
 mod watch;
 
-use crate::batch::{BATCH_OPERATIONS, measure_batch};
+use crate::batch::{BATCH_OPERATIONS, MARKS, measure_batch};
 use crate::caches::{CACHE_OPERATIONS, PAGES, measure_caches};
 use crate::measure::{Figure, LARGEST, ROUNDS, Row, SMALLEST, measure};
 use crate::report::{print_longest, print_shared, short_run_shared};
+use crate::shared_batch::measure_shared_batch;
 use crate::stops::{MANY, STOPPING, measure_stops};
 use anyhow::{Context, Result, ensure};
 use std::alloc::AllocGlobal;
@@ -51,6 +54,9 @@ const TURNS: u32 = 25;
 
 /// And on a cache, whose lookups look into many pages.
 const CACHE_TURNS: u32 = 5;
+
+/// How many seats of a shared cache add batches.
+const BATCH_SEATS: [u32; 2] = [1, 4];
 
 /// And of batches.
 const BATCH_TURNS: u32 = 100;
@@ -68,7 +74,7 @@ fn main(rt: HostRuntime) -> Result<()> {
         "shared" => measure_sharing(&rt, sizes, false),
         "longest" => measure_sharing(&rt, sizes, true),
         "pages" => measure_pages(&rt, sizes),
-        "batch" => measure_batches(&rt, sizes),
+        "batch" => measure_batches(&rt, &rt, sizes),
         _ => measure_all(&rt, &rt, &words),
     }
 }
@@ -113,15 +119,38 @@ fn measure_pages(rt: &HostRuntime, sizes: &[String]) -> Result<()> {
 }
 
 /// Measures batches on a page of each size, and prints what each takes beside one `next`.
-fn measure_batches(rt: &HostRuntime, sizes: &[String]) -> Result<()> {
+fn measure_batches<R: Threads + Wait + Sync + Clock + AllocGlobal + Print>(
+    host: &HostRuntime,
+    rt: &R,
+    sizes: &[String],
+) -> Result<()> {
     for word in sizes {
         let nodes = nodes_of(word)?;
-        let figures = measure_batch(rt, nodes, BATCH_TURNS)?;
+        let figures = measure_batch(host, nodes, BATCH_TURNS)?;
         let one = figures[0];
         for (name, figure) in BATCH_OPERATIONS.iter().zip(&figures) {
-            print_beside(rt, 1, nodes, name, *figure, one)?;
+            print_beside(host, 1, nodes, name, *figure, one)?;
+        }
+        for seats in BATCH_SEATS {
+            print_shared_batch(rt, nodes, seats)?;
         }
     }
+    Ok(())
+}
+
+/// Prints what so many seats of a shared cache take for marks one at a time, and for the same marks as a batch.
+fn print_shared_batch<R: Threads + Wait + Sync + Clock + AllocGlobal + Print>(
+    rt: &R,
+    nodes: u32,
+    seats: u32,
+) -> Result<()>
+    requires { 64 ≤ nodes }
+{
+    let [one_by_one, as_a_batch] = measure_shared_batch(rt, nodes, seats)?;
+    let (each, all) = (one_by_one.each(), as_a_batch.each());
+    println!(rt;
+        "{nodes} nodes, shared by {seats}, {MARKS} marks: {each} ns one by one, {all} ns as a batch"
+    )?;
     Ok(())
 }
 

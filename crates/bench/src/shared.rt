@@ -159,7 +159,7 @@ fn sum_of(times: &[Option<AddTimes>]) -> Option<AddTimes> {
 
 /// A shared cache with a full page, and the seats that are to make calls. The idle ones are dropped, which leaves
 /// their places in the cache.
-fn open_filled<R: Wait>(rt: &R, alloc: Global, trial: Trial) -> Result<(SharedCache, Vec<Seat>)>
+pub fn open_filled<R: Wait>(rt: &R, alloc: Global, trial: Trial) -> Result<(SharedCache, Vec<Seat>)>
     ensures { IfOk result (λ made. All (λ seat. seat.cache ≡ made.0) made.1.items) }
 {
     let size = Keys::new(trial.nodes, 0, &[]).page_size(alloc)?;
