@@ -1,8 +1,9 @@
 -- When a leaf and a fork are whole.
 use Rattle.std.proofs.Common.{◌≡◌, ◌∙◌, refl, sym, ap, subst, ℕ, ◌+◌, ◌≤◌, List, [], ◌∷◌, length, map, arith}
+use mathlib.Core.Bool.{true≢false}
 use Rattle.std.specs.Prelude.{Option, Some, None, Result, Ok, Err, OnErr, slice_get}
 use Rattle.tsc_nodes.specs.PageView.{AreLeafSizes}
-use Rattle.std.specs.Result.{IfOk, result_ok}
+use Rattle.std.specs.Result.{IfOk, IsErr, result_ok}
 use Rattle.std.specs.Option.{IfSome}
 use Rattle.tsc_time.specs.OwnedTime.{OwnedTime}
 use Rattle.tsc_span.specs.Span.{between}
@@ -14,6 +15,7 @@ use Rattle.tsc_tree.proofs.Pending.{sorted_without}
 use Rattle.tsc_tree.specs.Pending.{with_pending, IsToldOf, sizes_of, AreSizesOf, TellsSize, Addend, AddsSome, IsAddTold}
 use Rattle.tsc_tree.specs.Trees.{IsTold, IsLeafOf, IsForkOf, AreFewParts}
 use Rattle.tsc_tree.specs.declared.summary.Summary.{Summary}
+use Rattle.tsc_tree.proofs.PartLists.{AreSameAs}
 use Rattle.tsc_tree.proofs.PartSizes.{one_size, sizes_pending, sizes_of_parts}
 use Rattle.tsc_tree.proofs.Told.{told_some}
 use Rattle.tsc_tree.proofs.LeafLists.{size_small}
@@ -67,6 +69,29 @@ some_in nodes IsWhole (p ∷ ps) law parts = let first = law p (parts.each 0 p (
 -- parts in order, below a fork
 pub fork_parts : {P : Type 0} (nodes : P → List Node) (sizes : P → List ℕ) (IsWhole : P → Type 0) (s : Summary) (ps : List P) → IsForkOf nodes sizes IsWhole s ps → IsSorted (with_pending s.pending (nodes_of (map nodes ps))) → AreParts nodes IsWhole ps
 fork_parts nodes sizes IsWhole s ps whole sorted = record { whole = whole.parts.each; sorted = sorted_without s.pending (nodes_of (map nodes ps)) sorted }
+
+-- the same parts, or copies of them, make such a fork
+pub fork_same : {P : Type 0} (nodes : P → List Node) (sizes : P → List ℕ) (IsWhole : P → Type 0) (s : Summary) (xs ys : List P) → AreSameAs nodes sizes IsWhole xs ys → IsForkOf nodes sizes IsWhole s xs → IsForkOf nodes sizes IsWhole s ys
+fork_same nodes sizes IsWhole s xs ys same whole = record {
+  parts = record {
+    each = same.whole whole.parts.each;
+    some = subst (λ (n : ℕ). 1 ≤ n) (sym same.long) whole.parts.some;
+    few = subst (λ (n : ℕ). n ≤ 64) (sym same.long) whole.parts.few;
+  };
+  told = subst (λ (ls : List (List Node)). IsTold s (nodes_of ls)) (sym same.nodes) whole.told;
+  some = subst (λ (ls : List (List Node)). 1 ≤ length (with_pending s.pending (nodes_of ls))) (sym same.nodes) whole.some;
+  sizes = subst (λ (ss : List (List ℕ)). AreSizesOf (sizes_of ss) (with_pending s.pending (nodes_of (map nodes ys)))) (sym same.sizes)
+      (subst (λ (ls : List (List Node)). AreSizesOf (sizes_of (map sizes xs)) (with_pending s.pending (nodes_of ls))) (sym same.nodes) whole.sizes);
+}
+
+-- what holds of a refusal
+pub on_err : {T E : Type 0} (r : Result T E) (e : E) (P : Type 0) → r ≡ Err e → OnErr r P → P
+on_err {T = T} r e P is p = subst (λ (q : Result T _). OnErr q P) is p
+
+-- what such a call tells where it is refused
+pub refused_told : {E : Type 0} (r : Result (Option Grown) E) (old new : List Node) (was now : List ℕ) (a : Addend) (room : ℕ) → IsErr r → new ≡ old → now ≡ was → IsAddTold old new was now a room r
+refused_told (Ok d) old new was now a room is nodes sizes = absurd (true≢false (sym is))
+refused_told (Err e) old new was now a room is nodes sizes = (nodes, sizes)
 
 -- what such a call tells where it told something
 pub tells_some : (E : Type 0) (d : Option Grown) (more : Grown) (old new : List Node) (was now : List ℕ) (a : Addend) (room : ℕ) → d ≡ Some more → IsAddTold {E = E} old new was now a room (Ok d) → AddsSome old new a room more

@@ -156,9 +156,7 @@ impl<P: Part> Part for Fork<P> {
     }
 
     fn add_within(&mut self, add: &Addition<'_>, room: u32) -> Result<Option<Grown>, NoMemory> {
-        let Some(parts) = Arc::get_mut(&mut self.parts) else {
-            return Ok(None)
-        };
+        let parts = Arc::make_mut(&mut self.parts)?;
         push_down(parts, &self.summary);
         self.summary.pending = None;
         let made = parts::add_within(parts, add, room);

@@ -120,9 +120,7 @@ impl Part for Leaf {
     }
 
     fn add_within(&mut self, add: &Addition<'_>, room: u32) -> Result<Option<Grown>, NoMemory> {
-        let Some(nodes) = Arc::get_mut(&mut self.nodes) else {
-            return Ok(None)
-        };
+        let nodes = Arc::make_mut(&mut self.nodes)?;
         push_down(nodes, &self.summary);
         self.summary.pending = None;
         let room = Grown {
