@@ -72,7 +72,7 @@ pub(crate) const TWO_THREADS_LOG: &str = "0 0 add 1 1 0 0
 1 2 get 2 20.0 11111111-1111-4111-8111-111111111111
 ";
 
-pub(crate) static ROWS: [Row; 19] = [
+pub(crate) static ROWS: [Row; 21] = [
     (OVERLAPPING_READS, 0, OVERLAPPING_READS_LOG, ""),
     // The folder `examples`.
     (TWO_READERS, 0, TWO_READERS_LOG, ""),
@@ -168,6 +168,49 @@ pub(crate) static ROWS: [Row; 19] = [
 2 4 get 5 42.0 33333333-3333-4333-8333-333333333333
 ",
         "",
+    ),
+    // Batches: each counts as one Add, also one without marks.
+    (
+        r#"{"page_first":132,"page_max":132,"min_pages":2,"retention":10,"low_water":[5,0],"threads":[[
+{"op":"batch","marks":[
+{"span":{"start":"61","end":"63"},"time":[20,0],"owner":"11111111-1111-4111-8111-111111111111"},
+{"span":{"start":"64"},"time":[20,0],"owner":"11111111-1111-4111-8111-111111111111"},
+{"span":{"start":"61"},"time":[20,0],"owner":"22222222-2222-4222-8222-222222222222"}],"now":[20,0]},
+{"op":"get","span":{"start":"61"}},
+{"op":"get","span":{"start":"62"}},
+{"op":"get","span":{"start":"63"}},
+{"op":"batch","marks":[],"now":[20,0]},
+{"op":"add","span":{"start":"65","onward":"("},"time":[30,0],"now":[30,0]},
+{"op":"get","span":{"start":"64","end":"66"}},
+{"op":"batch","marks":[
+{"span":{"start":"66"},"time":[40,0],"owner":null},
+{"span":{"start":"67"},"time":[40,0]}],"now":[40,0]},
+{"op":"get","span":{"start":"61"}},
+{"op":"low"}]]}
+"#,
+        0,
+        "0 0 batch 0 1 0 0
+0 1 get 1 20.0 none
+0 2 get 1 20.0 11111111-1111-4111-8111-111111111111
+0 3 get 1 5.0 none
+0 4 batch 1 0 0 0
+0 5 add 2 1 0 0
+0 6 get 3 30.0 none
+0 7 batch 3 1 1 0
+0 8 get 4 20.0 none
+0 9 low 4 5.0
+",
+        "",
+    ),
+    // A batch of which one mark is too large.
+    (
+        r#"{"page_first":64,"page_max":65,"min_pages":2,"retention":10,"low_water":[5,0],"threads":[[
+{"op":"batch","marks":[
+{"span":{"start":"61"},"time":[20,0]},
+{"span":{"start":"61","end":"62"},"time":[5,0]}],"now":[20,0]}]]}"#,
+        1,
+        "",
+        "trace refused: fault 9 at call 1\n",
     ),
     // Pages that double: for two keys, four and eight.
     (

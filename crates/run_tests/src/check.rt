@@ -15,8 +15,35 @@ const ONE_LIST: &str =
     r#"[[{"op":"add","span":{"start":"61"},"time":[20,0],"owner":"11111111-1111-4111-8111-111111111111","now":[20,0]},
 {"op":"get","span":{"start":"61"}}]]}"#;
 
+/// A batch of one mark, and a lookup.
+const ONE_BATCH: &str =
+    r#"[[{"op":"batch","marks":[{"span":{"start":"61"},"time":[20,0]}],"now":[20,0]},
+{"op":"get","span":{"start":"61"}}]]}"#;
+
+/// A batch of two marks, and a lookup in another list.
+const BATCH_AND_GET: &str =
+    r#"[[{"op":"batch","marks":[{"span":{"start":"61"},"time":[20,0],"owner":"11111111-1111-4111-8111-111111111111"},{"span":{"start":"62"},"time":[30,0],"owner":"22222222-2222-4222-8222-222222222222"}],"now":[20,0]}],
+[{"op":"get","span":{"start":"61","end":"63"}}]]}"#;
+
+/// A batch for which the pages rotate three times, and of which two rotations drop a page.
+const BATCH_OVER_PAGES: &str = r#"[[{"op":"batch","marks":[{"span":{"start":"61"},"time":[20,0]},
+{"span":{"start":"62"},"time":[20,0]},
+{"span":{"start":"63"},"time":[20,0]},
+{"span":{"start":"64"},"time":[20,0]},
+{"span":{"start":"65"},"time":[20,0]},
+{"span":{"start":"66"},"time":[20,0]},
+{"span":{"start":"67"},"time":[20,0]},
+{"span":{"start":"68"},"time":[20,0]},
+{"span":{"start":"69"},"time":[41,0]},
+{"span":{"start":"6a"},"time":[41,0]},
+{"span":{"start":"6b"},"time":[41,0]},
+{"span":{"start":"6c"},"time":[41,0]},
+{"span":{"start":"6d"},"time":[41,0]},
+{"span":{"start":"6e"},"time":[41,0]}],"now":[40,0]},
+{"op":"low"}]]}"#;
+
 /// What stands behind the head of a trace, a log, and the verdict.
-static CHECKS: [(&str, &str, Verdict); 22] = [
+static CHECKS: [(&str, &str, Verdict); 34] = [
     (
         THREE_LISTS,
         "0 0 add 0 1 0 0\n1 0 add 1 1 0 0\n2 0 get 1 20.0 11111111-1111-4111-8111-111111111111\n",
@@ -113,6 +140,68 @@ static CHECKS: [(&str, &str, Verdict); 22] = [
         THREE_LISTS,
         "1 0 add 1 1 0 0\n0 0 add 0 1 0 0\n2 0 get 1 20.0 11111111-1111-4111-8111-111111111111\n",
         Verdict::WrongCall(1),
+    ),
+    (
+        ONE_BATCH,
+        "0 0 batch 0 1 0 0\n0 1 get 1 20.0 none\n",
+        Verdict::Right,
+    ),
+    (
+        ONE_BATCH,
+        "0 0 add 0 1 0 0\n0 1 get 1 20.0 none\n",
+        Verdict::WrongCall(1),
+    ),
+    (
+        ONE_BATCH,
+        "0 0 batch 0 1 0 0\n0 1 get 0 5.0 none\n",
+        Verdict::WrongPlace(2),
+    ),
+    (
+        ONE_BATCH,
+        "0 0 batch 1 1 0 0\n0 1 get 1 20.0 none\n",
+        Verdict::WrongPlace(1),
+    ),
+    (
+        ONE_BATCH,
+        "0 0 batch 0 1 0 0\n0 1 get 1 5.0 none\n",
+        Verdict::WrongAnswer(2),
+    ),
+    (
+        THREE_LISTS,
+        "0 0 batch 0 1 0 0\n1 0 add 1 1 0 0\n2 0 get 2 30.0 22222222-2222-4222-8222-222222222222\n",
+        Verdict::WrongCall(1),
+    ),
+    (
+        BATCH_AND_GET,
+        "0 0 batch 0 1 0 0\n1 0 get 1 30.0 22222222-2222-4222-8222-222222222222\n",
+        Verdict::Right,
+    ),
+    (
+        BATCH_AND_GET,
+        "0 0 batch 0 1 0 0\n1 0 get 0 5.0 none\n",
+        Verdict::Right,
+    ),
+    // no answer comes from a part of a batch
+    (
+        BATCH_AND_GET,
+        "0 0 batch 0 1 0 0\n1 0 get 1 20.0 11111111-1111-4111-8111-111111111111\n",
+        Verdict::WrongAnswer(2),
+    ),
+    // what all marks dropped is told together
+    (
+        BATCH_OVER_PAGES,
+        "0 0 batch 0 1 1 2\n0 1 low 1 20.0\n",
+        Verdict::Right,
+    ),
+    (
+        BATCH_OVER_PAGES,
+        "0 0 batch 0 1 1 1\n0 1 low 1 20.0\n",
+        Verdict::WrongAnswer(1),
+    ),
+    (
+        BATCH_OVER_PAGES,
+        "0 0 batch 0 1 0 2\n0 1 low 1 20.0\n",
+        Verdict::WrongAnswer(1),
     ),
     ("[[]]}", "", Verdict::Right),
     ("[[],[]]}", "0 0 low 0 5.0\n", Verdict::WrongCall(1)),

@@ -30,13 +30,17 @@ const OVERLAPPING_READS_LOG: &str = "0 0 add 0 1 0 0
 ";
 
 /// Lists of calls that cannot be answered in another way, and their log.
-static RUNS: [(&str, &str); 4] = [
+static RUNS: [(&str, &str); 5] = [
     (OVERLAPPING_READS, OVERLAPPING_READS_LOG),
     ("[[]]}", ""),
     (r#"[[],[{"op":"low"}],[]]}"#, "1 0 low 0 5.0\n"),
     (
         r#"[[{"op":"low"},{"op":"low"}],[{"op":"get","span":{"start":"61"}}]]}"#,
         "0 0 low 0 5.0\n0 1 low 0 5.0\n1 0 get 0 5.0 none\n",
+    ),
+    (
+        r#"[[{"op":"batch","marks":[{"span":{"start":"61"},"time":[20,0]},{"span":{"start":"62"},"time":[30,0]}],"now":[20,0]},{"op":"get","span":{"start":"61"}},{"op":"batch","marks":[],"now":[20,0]},{"op":"low"}],[]]}"#,
+        "0 0 batch 0 1 0 0\n0 1 get 1 20.0 none\n0 2 batch 1 0 0 0\n0 3 low 2 5.0\n",
     ),
 ];
 
@@ -77,12 +81,44 @@ static RACES: [&str; 6] = [
     "0 0 add 1 1 0 0\n1 0 add 0 1 0 0\n2 0 get 0 5.0 none\n",
 ];
 
+/// Two lists add two keys together, and a third asks for both.
+const BATCH_RACE: &str = r#"[
+[{"op":"batch","marks":[{"span":{"start":"61"},"time":[20,0],"owner":"11111111-1111-4111-8111-111111111111"},{"span":{"start":"62"},"time":[20,0],"owner":"11111111-1111-4111-8111-111111111111"}],"now":[20,0]}],
+[{"op":"batch","marks":[{"span":{"start":"61"},"time":[30,0],"owner":"22222222-2222-4222-8222-222222222222"},{"span":{"start":"62"},"time":[30,0],"owner":"22222222-2222-4222-8222-222222222222"}],"now":[20,0]}],
+[{"op":"get","span":{"start":"61","end":"63"}}]]}"#;
+
+/// The logs of all orders of these three calls: no lookup sees a part of a batch.
+static BATCH_RACES: [&str; 6] = [
+    "0 0 batch 0 1 0 0\n1 0 batch 1 1 0 0\n2 0 get 2 30.0 22222222-2222-4222-8222-222222222222\n",
+    "0 0 batch 1 1 0 0\n1 0 batch 0 1 0 0\n2 0 get 2 30.0 22222222-2222-4222-8222-222222222222\n",
+    "0 0 batch 0 1 0 0\n1 0 batch 1 1 0 0\n2 0 get 1 20.0 11111111-1111-4111-8111-111111111111\n",
+    "0 0 batch 1 1 0 0\n1 0 batch 0 1 0 0\n2 0 get 1 30.0 22222222-2222-4222-8222-222222222222\n",
+    "0 0 batch 0 1 0 0\n1 0 batch 1 1 0 0\n2 0 get 0 5.0 none\n",
+    "0 0 batch 1 1 0 0\n1 0 batch 0 1 0 0\n2 0 get 0 5.0 none\n",
+];
+
+/// Whether a run of these lists has one of these logs.
+fn has_one_of<R: Threads + Wait + Sync>(
+    rt: &R,
+    alloc: Global,
+    lists: &str,
+    logs: &[&str],
+) -> Result<bool, Fail> {
+    let log = run(rt, alloc, lists, &NoGate)?;
+    let text = log_text(alloc, &log)?;
+    for one in logs {
+        if one.as_bytes() == text.as_slice() {
+            return Ok(true);
+        }
+    }
+    Ok(false)
+}
+
 #[test]
 fn a_race_has_the_log_of_an_order(rt: HostRuntime) -> Result<(), Fail> {
     for _ in 0..100 {
-        let log = run(&rt, rt.alloc(), RACE, &NoGate)?;
-        let text = log_text(rt.alloc(), &log)?;
-        assert!(rt; RACES.iter().any(|race| race.as_bytes() == text.as_slice()));
+        assert!(rt; has_one_of(&rt, rt.alloc(), RACE, &RACES)?);
+        assert!(rt; has_one_of(&rt, rt.alloc(), BATCH_RACE, &BATCH_RACES)?);
     }
     Ok(())
 }
@@ -236,19 +272,34 @@ const ADD_AND_GET: &str = r#"[
 
 const ADD_AND_GET_LOG: &str = "0 0 add 0 1 0 0\n1 0 get 0 5.0 none\n";
 
-#[test]
-fn an_add_is_not_seen_before_its_gate_was_told(rt: HostRuntime) -> Result<(), Fail> {
+/// One list adds two keys together, and the other asks for both.
+const BATCH_AND_GET: &str = r#"[
+[{"op":"batch","marks":[{"span":{"start":"61"},"time":[20,0],"owner":"11111111-1111-4111-8111-111111111111"},{"span":{"start":"62"},"time":[30,0],"owner":"22222222-2222-4222-8222-222222222222"}],"now":[20,0]}],
+[{"op":"get","span":{"start":"61","end":"63"}}]]}"#;
+
+const BATCH_AND_GET_LOG: &str = "0 0 batch 0 1 0 0\n1 0 get 0 5.0 none\n";
+
+/// Whether the lookup of the second list sees nothing of what the first one adds, and both waited for one another.
+fn is_unseen<R: Threads + Wait + Sync>(
+    rt: &R,
+    alloc: Global,
+    lists: &str,
+    wanted: &str,
+) -> Result<bool, Fail> {
     let gate = Unseen {
         held: AtomicBool::new(false),
         done: AtomicBool::new(false),
         met: AtomicU64::new(0),
     };
-    let log = run(&rt, rt.alloc(), ADD_AND_GET, &gate)?;
-    assert_eq!(rt; gate.met.load(Ordering::SeqCst), 2);
-    assert_eq!(rt;
-        log_text(rt.alloc(), &log)?.as_slice(),
-        ADD_AND_GET_LOG.as_bytes()
-    );
+    let log = run(rt, alloc, lists, &gate)?;
+    let met = gate.met.load(Ordering::SeqCst);
+    Ok(met == 2 && log_text(alloc, &log)?.as_slice() == wanted.as_bytes())
+}
+
+#[test]
+fn an_add_is_not_seen_before_its_gate_was_told(rt: HostRuntime) -> Result<(), Fail> {
+    assert!(rt; is_unseen(&rt, rt.alloc(), ADD_AND_GET, ADD_AND_GET_LOG)?);
+    assert!(rt; is_unseen(&rt, rt.alloc(), BATCH_AND_GET, BATCH_AND_GET_LOG)?);
     Ok(())
 }
 
@@ -301,9 +352,9 @@ impl Gate for Counts {
     }
 }
 
-/// Two lists of three calls, with three Adds.
+/// Two lists of three calls, with two Adds and a batch of two marks.
 const THREE_EACH: &str = r#"[
-[{"op":"low"},{"op":"add","span":{"start":"61"},"time":[20,0],"now":[20,0]},{"op":"get","span":{"start":"61"}}],
+[{"op":"low"},{"op":"batch","marks":[{"span":{"start":"61"},"time":[20,0]},{"span":{"start":"64"},"time":[20,0]}],"now":[20,0]},{"op":"get","span":{"start":"61"}}],
 [{"op":"add","span":{"start":"62"},"time":[20,0],"now":[20,0]},{"op":"get","span":{"start":"62"}},{"op":"add","span":{"start":"63"},"time":[4,0],"now":[20,0]}]]}"#;
 
 /// `scripts/refuse-each-growth tests run_tests run::..` refuses each growth of this test in turn: a call that was refused

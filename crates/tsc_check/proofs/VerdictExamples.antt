@@ -1,9 +1,9 @@
--- Verdicts on small logs: two Adds in two lists and a lookup in a third, and a list that looks up after its own Add.
+-- Verdicts on small logs: two Adds in two lists and a lookup in a third, a list that looks up after its own Add, and a batch.
 use Rattle.std.specs.Prelude.{◌≡◌, ℕ, List, [], ◌∷◌, true, false, codes, refl}
 use Rattle.tsc_time.specs.OwnedTime.{unowned}
 use Rattle.tsc_span.specs.Span.{point}
 use Rattle.tsc_cache.proofs.ExampleSettings.{at, of_first, of_second, usual, twenty, added}
-use Rattle.tsc_json.specs.declared.trace.Call.TheVariants.{Add, Get}
+use Rattle.tsc_json.specs.declared.trace.Call.TheVariants.{Add, Batch, Get}
 use Rattle.tsc_json.specs.Traces.{Trace}
 use Rattle.tsc_trace.specs.declared.log.Line.{Line}
 use Rattle.tsc_trace.specs.declared.log.Said.{Said}
@@ -108,3 +108,29 @@ pub a_list_finds_its_own_add :
     verdict_of one_list (line 0 0 (said.Add 0 (added true false 0)) ∷ line 0 1 (said.Get 1 (of_first twenty)) ∷ [])
     ≡ Right
 a_list_finds_its_own_add = refl
+
+-- ---- a batch
+
+-- a batch of two points, and a lookup of the first in another list
+abbrev pub batch_and_get : Trace
+batch_and_get = record {
+  config = usual;
+  threads = (Batch (record { span = point (codes "a"); value = of_first twenty } ∷ record { span = point (codes "a"); value = of_second (at 30 0) } ∷ []) twenty ∷ [])
+      ∷ (Get (point (codes "a")) ∷ [])
+      ∷ [];
+}
+
+pub a_batch_is_seen_whole :
+    verdict_of batch_and_get (line 0 0 (said.Batch 0 (added true false 0)) ∷ line 1 0 (said.Get 1 (of_second (at 30 0))) ∷ [])
+    ≡ Right
+a_batch_is_seen_whole = refl
+
+pub no_part_of_a_batch_is_seen :
+    verdict_of batch_and_get (line 0 0 (said.Batch 0 (added true false 0)) ∷ line 1 0 (said.Get 1 (of_first twenty)) ∷ [])
+    ≡ WrongAnswer 2
+no_part_of_a_batch_is_seen = refl
+
+pub a_batch_is_no_add :
+    verdict_of batch_and_get (line 0 0 (said.Add 0 (added true false 0)) ∷ line 1 0 (said.Get 1 (of_second (at 30 0))) ∷ [])
+    ≡ WrongCall 1
+a_batch_is_no_add = refl

@@ -6,7 +6,7 @@ use Rattle.tsc_cache.proofs.ExampleSettings.{at, of_first, of_second, usual, twe
 use Rattle.tsc_json.proofs.ExampleTraces.{ended, example_trace}
 use Rattle.tsc_trace.specs.Log.{log_of}
 use Rattle.tsc_trace.specs.LogText.{log_text}
-use Rattle.tsc_json.specs.declared.trace.Call.TheVariants.{Add, Get}
+use Rattle.tsc_json.specs.declared.trace.Call.TheVariants.{Add, Batch, Get, Low}
 use Rattle.tsc_json.specs.Traces.{Trace}
 use Rattle.tsc_trace.specs.declared.log.Line.{Line}
 use Rattle.tsc_trace.specs.declared.log.Said.TheVariants as said
@@ -61,3 +61,29 @@ lists_are_played_one_after_another = refl
 
 pub a_trace_of_one_empty_list_has_no_lines : log_of (record { config = usual; threads = [] ∷ [] }) ≡ []
 a_trace_of_one_empty_list_has_no_lines = refl
+
+-- ---- batches
+
+-- Two points at one moment, a batch without marks, and a lookup and the floor after each.
+abbrev pub batches : Trace
+batches = record {
+  config = usual;
+  threads = (Batch (record { span = point (codes "a"); value = of_first twenty } ∷ record { span = point (codes "a"); value = of_second twenty } ∷ []) twenty
+      ∷ Get (point (codes "a"))
+      ∷ Batch [] twenty
+      ∷ Low
+      ∷ []) ∷ [];
+}
+
+pub a_batch_counts_as_one :
+    log_of batches
+    ≡ record { thread = 0; index = 0; said = said.Batch 0 (added true false 0) }
+    ∷ record { thread = 0; index = 1; said = said.Get 1 (unowned twenty) }
+    ∷ record { thread = 0; index = 2; said = said.Batch 1 (added false false 0) }
+    ∷ record { thread = 0; index = 3; said = said.Low 2 (at 5 0) }
+    ∷ []
+a_batch_counts_as_one = refl
+
+pub the_text_of_a_batch : log_text (record { thread = 0; index = 0; said = said.Batch 0 (added true false 0) } ∷ []) ≡ ended (codes "0 0 batch 0 1 0 0")
+unfolding digits by_index
+the_text_of_a_batch = refl
