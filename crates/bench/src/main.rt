@@ -8,9 +8,8 @@
 //! took on the page, and compares lookups that stop at the newest of 17 pages with those in a single page, turn by
 //! turn. Then it measures a shared cache, as `bench shared NODES..` does alone.
 //!
-//! `bench batch NODES..` adds 64 known keys to the next version of a cache of one page as a batch, and prints what that takes as a percentage of
-//! what one of them takes by itself, and what they take one after another. Then 1 and 4 seats of a shared cache add them one at a time, and
-//! as a batch.
+//! `bench batch NODES..` adds known keys to the next version of a cache of one page, and prints what 64 of them as a batch
+//! take as a percentage of what one of them takes. Then 1 and 4 seats of a shared cache add 64 of them one at a time, and as a batch.
 //!
 //! `bench shared NODES..` has 1, 2 and 4 seats of a shared cache look up and add on threads, and prints how many
 //! calls they made in a second; then one seat add beside seats that nobody uses, and prints the nanoseconds of an Add

@@ -1,6 +1,6 @@
 ghost use Rattle.std.specs.Prelude.{◌≡◌, ◌≤◌, All};
 
-use crate::batch::marks_at;
+use crate::batch::{MARKS, marks_at};
 use crate::calls::Calls;
 use crate::measure::{Figure, ROUNDS, keep_least};
 use crate::shared::{Trial, open_filled};
@@ -33,7 +33,7 @@ pub fn measure_shared_batch<R: Threads + Wait + Sync + Clock + AllocGlobal>(
 ) -> Result<[Figure; 2]>
     requires { 64 ≤ nodes }
 {
-    let marks = marks_at(rt.alloc(), nodes)?;
+    let marks = marks_at(rt.alloc(), nodes, MARKS)?;
     let mut all = [Figure::NONE; 2];
     for _ in 0..ROUNDS {
         let one_by_one = by_seats(rt, nodes, seats, &marks, Way::OneByOne)?;

@@ -2,7 +2,7 @@
 //! pass as that call asks for growths: `scripts/count-growths` counts them.
 use std::alloc::Global;
 use std::test::Fail;
-use tsc_cache::{Added, Cache, CacheFault, Config};
+use tsc_cache::{Added, Cache, CacheFault, Config, Mark};
 use tsc_span::{Key, Span};
 use tsc_time::{Timestamp, Value};
 
@@ -84,6 +84,49 @@ fn next_on_one_page(rt: HostRuntime) -> Result<(), Fail> {
 #[test]
 fn next_on_17_pages(rt: HostRuntime) -> Result<(), Fail> {
     assert!(rt; has_next_above(rt.alloc(), 16)?);
+    Ok(())
+}
+
+/// A later mark on each of these keys of one byte.
+fn marks_on(alloc: Global, bytes: &[u8]) -> Result<Vec<Mark>, Fail> {
+    let value = Value::unowned(at(30)?);
+    let mut marks = Vec::with_capacity(alloc, bytes.len())?;
+    for byte in bytes {
+        let span = Span::point(Key::new(alloc, &[*byte])?);
+        marks.push(Mark { span, value })?;
+    }
+    Ok(marks)
+}
+
+/// The cache after marks, asked for once more where memory is refused.
+fn next_all_again(cache: &Cache, marks: &[Mark]) -> Result<(Cache, Added), CacheFault> {
+    match cache.next_all(marks, Timestamp::ZERO) {
+        Err(CacheFault::NoMemory) => cache.next_all(marks, Timestamp::ZERO),
+        told => told,
+    }
+}
+
+/// Makes the next version after marks, and says whether it tells each of them.
+fn has_next_all(cache: &Cache, marks: &[Mark]) -> Result<bool, Fail> {
+    let (next, added) = next_all_again(cache, marks)?;
+    for mark in marks {
+        if !is_kept(&next, added, &mark.span, mark.value) {
+            return Ok(false);
+        }
+    }
+    Ok(true)
+}
+
+/// The same of marks in both leaves of one page.
+fn has_next_all_of_two_leaves(alloc: Global) -> Result<bool, Fail> {
+    let cache = cache_of(alloc, 0)?;
+    let marks = marks_on(alloc, &[10, 40, 41, 11])?;
+    has_next_all(&cache, &marks)
+}
+
+#[test]
+fn next_all_of_two_leaves(rt: HostRuntime) -> Result<(), Fail> {
+    assert!(rt; has_next_all_of_two_leaves(rt.alloc())?);
     Ok(())
 }
 

@@ -131,8 +131,9 @@ impl Cache {
     /// The cache after all of these marks, one after another at the moment `now`, beside this one, which stays as it
     /// is. The two share the pages that the marks leave as they are.
     ///
-    /// It costs a step for each page, and for each mark what an Add to a copy of the front page does: the first one that comes to a leaf copies the list at
-    /// the top of the page once more, and that leaf. Others on that leaf are made in place.
+    /// It costs a step for each page, a copy of the list at the top of the front page, and for each mark an Add in place. Before it, each list on
+    /// the way to a mark's leaf and that leaf are copied where this cache shares them, which is once for all marks. A mark for which a leaf is cut, or
+    /// whose span reaches over several leaves that are shared, copies the list at the top once more.
     pub fn next_all(&self, marks: &[Mark], now: Timestamp) -> Result<(Cache, Added), CacheFault>
         ensures stands { IfOk result (λ next. (settings : Settings) (s : CacheState) → StandsForState self.now settings s
             → StandsForState next.0 settings (step_all settings s marks.now now).state) }

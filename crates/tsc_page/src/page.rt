@@ -89,14 +89,15 @@ impl Page {
     /// Adds a span with its value. The span is not empty, and the page has room for it. Where memory is
     /// refused the page is as before, and so are its leaves.
     ///
-    /// It is made in place where no copy of the page shares the way to the leaves in which the span starts and stops, nor the
-    /// keys of a leaf that gets a new one, no leaf would come to have 65 nodes, and the span lies in one leaf or both its end
-    /// keys have nodes. That costs a search in each part on the way and one for each end key, a copy of each end key that is
-    /// new to the page, a move of a leaf's nodes above a new one, and a step for each node within the span in the leaves in
-    /// which it starts and stops, and for each part between these; a span whose end keys the page holds already takes no memory
-    /// then. What is pending on the way is ratcheted into the parts below it. Any other Add copies the list at the top and the
-    /// way to each leaf that it changes; a leaf that comes to have 65 nodes is cut into its first 32 and its last 33, and so is
-    /// a fork of 65 parts. Where there may be no room for both end keys, each is searched for once more.
+    /// It is made in place where the span lies in one leaf that would not come to have 65 nodes, or both its end keys have nodes
+    /// and no copy of the page shares the way to the leaves in which it starts and stops. That costs a search in each part on
+    /// the way and one for each end key, a copy of each end key that is new to the page, a move of a leaf's nodes above a new
+    /// one, and a step for each node within the span in the leaves in which it starts and stops, and for each part between
+    /// these. Each list on the way and the leaf are copied first where a copy of the page shares them, and so is a leaf's list of
+    /// keys that gets a new one. Where none does, a span whose end keys the page holds already takes no memory. What is
+    /// pending on the way is ratcheted into the parts below it. Any other Add copies the list at the top and the way to each
+    /// leaf that it changes; a leaf that comes to have 65 nodes is cut into its first 32 and its last 33, and so is a fork of
+    /// 65 parts. Where there may be no room for both end keys, each is searched for once more.
     pub fn add(&mut self, span: &Span, value: Value) -> Result<(), NoMemory>
         requires not_empty { is_empty_span span.now ≡ false }
         requires room { has_room_for self.old span.now ≡ true }

@@ -196,8 +196,7 @@ impl Tree {
         Ok(Some(Tree { root, count, bytes }))
     }
 
-    /// The same in place, where the span lies in one leaf to which nobody else holds a way, which need not be cut, and there
-    /// is room. Says whether it did.
+    /// The same in place, as [`parts::add_within`](tsc_tree::parts::add_within) tells, where there is room. Says whether it did.
     fn add_in_place(
         &mut self,
         first: Option<&Key>,

@@ -89,9 +89,10 @@ pub trait Part: Clone + Drop {
         ensures whole { OnOk result (IsWhole self.new) }
         ensures upper { IfOk result (λ upper. IfSome upper IsWhole) };
 
-    /// Adds in place, and tells what came in: where the span lies in one leaf to which nobody else holds a way, which
-    /// need not be cut, and what comes in costs no more than `room`; or where both end keys have nodes, and nobody else holds a
-    /// way to the leaves in which the span starts and stops. Else nothing changes, nor where memory is refused.
+    /// Adds in place, and tells what came in: where the span lies in one leaf, which need not be cut, and what comes in costs no
+    /// more than `room`; or where both end keys have nodes, and nobody else holds a way to the leaves in which the span starts and
+    /// stops. Else nothing changes, nor where memory is refused. What others hold on the way down is copied first, as far as one
+    /// part has all of the span, and stays as it is for them.
     fn add_within(&mut self, add: &Addition<'_>, room: u32) -> Result<Option<Grown>, NoMemory>
         requires whole { IsWhole self.old }
         requires sorted { IsSorted (nodes self.old) }
