@@ -1,6 +1,6 @@
 //! An Add that is held up where it holds the desk and nobody can see it, until lookups on other threads have answered.
-use crate::batches::{batch_at, span_of};
-use crate::party::{Guest, Home, Letter, Of, Owner, Told, add_all, mark_at, point};
+use crate::batches::{Batch, batch_at, span_of};
+use crate::party::{Guest, Home, Letter, Mark, Of, Owner, Told, add_all, mark_at, point};
 use crate::threads::{Scene, Script, TURNS, at_once, play};
 use std::alloc::Global;
 use std::process::Abort;
@@ -10,6 +10,8 @@ use std::test::Fail;
 use std::thread;
 use std::thread::Threads;
 use tsc_shared::Gate;
+use tsc_span::Span;
+use tsc_time::NoMemory;
 
 /// The first seat makes Adds, and then one that is held up until each other seat has asked for `a` and `b` so often.
 pub struct Plan {
@@ -102,10 +104,20 @@ static MANY: Plan = Plan {
     ),
 };
 
-/// A plan under way.
+/// What is added at once.
+#[derive(Drop)]
+enum Adding {
+    One(Mark),
+    Several(Batch),
+}
+
+/// A plan under way. All that it needs is there before a thread starts, so that only calls may be refused memory then.
 #[derive(Drop)]
 struct Held<'a> {
     plan: &'a Plan,
+    adding: Adding,
+    /// The span of the lookups meanwhile.
+    span: Span,
     /// How many seats are to look.
     lookers: u64,
     /// Whether the Add is held up.
@@ -129,34 +141,48 @@ impl Held<'_> {
     }
 }
 
+impl Adding {
+    fn of(alloc: Global, plan: &Plan) -> Option<Adding> {
+        let (keys, wall, now) = plan.held;
+        if let [key] = keys {
+            return Some(Adding::One(mark_at(alloc, key, wall, now).ok()?));
+        }
+        Some(Adding::Several(batch_at(alloc, keys, wall, now)?))
+    }
+}
+
 impl Held<'_> {
-    fn of(plan: &Plan) -> Held<'_> {
-        Held {
+    fn of(alloc: Global, plan: &Plan) -> Option<Held<'_>> {
+        Some(Held {
             plan,
+            adding: Adding::of(alloc, plan)?,
+            span: span_of(alloc, "a", "c").ok()?,
             lookers: u64::from(plan.seats.saturating_sub(1)),
             held: AtomicBool::new(false),
             looked: AtomicU64::new(0),
             met: AtomicBool::new(false),
-        }
+        })
     }
 
-    /// What the Add that is held up is told. A batch is made once more where it is refused memory.
-    fn add<C: Of, R: Wait>(
+    /// What the Add that is held up is told.
+    fn add<C: Of, R: Wait>(&self, rt: &R, home: &Home<C>, guest: &mut Guest<C>) -> Option<Told> {
+        match &self.adding {
+            Adding::One(mark) => home.add_gated(rt, guest, mark, self),
+            Adding::Several(batch) => home.add_batch(rt, guest, batch, self),
+        }
+    }
+}
+
+impl Held<'_> {
+    /// The same, made once more where it is refused memory.
+    fn add_again<C: Of, R: Wait>(
         &self,
         rt: &R,
-        alloc: Global,
         home: &Home<C>,
         guest: &mut Guest<C>,
     ) -> Option<Told> {
-        let plan = self.plan;
-        let (keys, wall, now) = plan.held;
-        if let [key] = keys {
-            let mark = mark_at(alloc, key, wall, now).ok()?;
-            return home.add_gated(rt, guest, &mark, self);
-        }
-        let batch = batch_at(alloc, keys, wall, now)?;
-        match home.add_batch(rt, guest, &batch, self) {
-            None => home.add_batch(rt, guest, &batch, self),
+        match self.add(rt, home, guest) {
+            None => self.add(rt, home, guest),
             told => told,
         }
     }
@@ -180,36 +206,28 @@ impl Gate for Held<'_> {
 }
 
 /// Looks as often as the plan says.
-fn look<C: Of, R: Abort>(
-    rt: &R,
-    alloc: Global,
-    home: &Home<C>,
-    guest: &mut Guest<C>,
-    plan: &Plan,
-) -> Option<()> {
-    let span = span_of(alloc, "a", "c").ok()?;
+fn look<C: Of, R: Abort>(rt: &R, home: &Home<C>, guest: &mut Guest<C>, span: &Span, plan: &Plan) {
     for _ in 0..plan.looks {
-        assert_eq!(rt; home.get(guest, &span), plan.meanwhile);
+        assert_eq!(rt; home.get(guest, span), plan.meanwhile);
         assert_eq!(rt; home.low(guest), plan.floor);
     }
-    Some(())
 }
 
 impl<C: Of> Script<C> for Held<'_> {
     fn run<R: Wait + Abort>(
         &self,
         rt: &R,
-        alloc: Global,
+        _alloc: Global,
         home: &Home<C>,
         guest: &mut Guest<C>,
     ) -> Option<()> {
         let plan = self.plan;
         if guest.number() == 0 {
-            assert_eq!(rt; self.add(rt, alloc, home, guest)?, plan.told);
+            assert_eq!(rt; self.add_again(rt, home, guest)?, plan.told);
             return Some(());
         }
         assert!(rt; self.is_held(), "the Add is held up");
-        look(rt, alloc, home, guest, plan)?;
+        look(rt, home, guest, &self.span, plan);
         self.looked.fetch_add(1, Ordering::SeqCst);
         Some(())
     }
@@ -241,7 +259,7 @@ fn meet<C: Of + Send + Sync, R: Threads + Wait + Abort + Sync>(
     guests: Vec<Guest<C>>,
     plan: &Plan,
 ) -> Result<(Vec<Guest<C>>, bool), Fail> {
-    let script = Held::of(plan);
+    let script = Held::of(alloc, plan).ok_or(NoMemory)?;
     let guests = at_once(rt, alloc, home, guests, &script)?;
     Ok((guests, script.met.load(Ordering::SeqCst)))
 }
