@@ -76,6 +76,25 @@ static IN_ORDER: Row = Row(
     1,
 );
 
+/// The other seat looks before a batch, and then at both of its keys.
+static SEEN_AS_A_WHOLE: Row = Row(
+    (132, 132, 2),
+    10,
+    &[
+        (Step::Get("a", "c"), Told::Value((5, 0), Owner::None, 0)),
+        (
+            Step::Batch(
+                &[("a", "", 20, Owner::First), ("b", "", 20, Owner::First)],
+                20,
+            ),
+            Told::Place(0, (true, false, 0), 1),
+        ),
+        (Step::Get("a", ""), Told::Value((20, 0), Owner::First, 1)),
+        (Step::Get("b", ""), Told::Value((20, 0), Owner::First, 1)),
+    ],
+    1,
+);
+
 /// One that rotates, the empty one, and one of which no mark is kept.
 static KEPT_OR_NOT: Row = Row(
     (132, 132, 2),
@@ -358,6 +377,7 @@ impl Scene for Row {
 fn a_batch_is_one_entry(rt: HostRuntime) -> Result<(), Fail> {
     let rows = [
         &IN_ORDER,
+        &SEEN_AS_A_WHOLE,
         &KEPT_OR_NOT,
         &DROPS_ITS_OWN,
         &TOO_LARGE,
