@@ -1,65 +1,93 @@
 //! Large pages, with a time of its own at each key.
 use crate::filled::{Order, number};
-use crate::pages::{FIRST, value};
+use crate::pages::{FIRST, Row, add_to, between, play, tells, value};
 use std::alloc::Global;
 use std::test::Fail;
 use tsc_page::{LEAST_SIZE, MOST_SIZE, Page};
-use tsc_span::{Ends, Key, Span};
-use tsc_time::{Timestamp, Value};
+use tsc_span::{Ends, Key, Span, SpanFault};
+use tsc_time::{NoMemory, Timestamp, Value};
 
-/// The single key of a place.
-fn place(alloc: Global, place: u32) -> Result<Span, Fail> {
-    Ok(Span::point(Key::new(alloc, &place.to_be_bytes())?))
+/// The key of a place.
+fn key(alloc: Global, place: u32) -> Result<Key, SpanFault> {
+    Key::new(alloc, &place.to_be_bytes())
 }
 
-/// Adds a value to a span for which there has to be room.
-fn add_with_room(page: &mut Page, span: &Span, value: Value) -> Result<(), Fail> {
-    if span.is_empty() || !page.room(span) {
-        return Err(Fail::new("no room"));
-    }
-    page.add(span, value)?;
-    Ok(())
+/// The single key of a place.
+fn place(alloc: Global, place: u32) -> Result<Span, SpanFault> {
+    key(alloc, place).map(Span::point)
+}
+
+/// The range from a place to another one.
+fn range(alloc: Global, from: u32, to: u32, exclude_to: bool) -> Result<Span, SpanFault> {
+    let ends = Ends {
+        exclude_from: false,
+        exclude_to,
+    };
+    between(key(alloc, from)?, key(alloc, to), ends)
+}
+
+/// The value of a wall time.
+fn time(wall: u64) -> Value {
+    value(wall, 0, FIRST)
 }
 
 /// The value of a place, with a time of its own.
-fn place_value(at: u32) -> Result<Value, Fail> {
-    value(u64::from(at) + 1, 0, FIRST)
-}
-
-/// Adds a time of its own to the key of a place, once.
-fn add_place(alloc: Global, page: &mut Page, at: u32) -> Result<(), Fail> {
-    let value = place_value(at)?;
-    add_with_room(page, &place(alloc, at)?, value)
-}
-
-/// Whether a page has room for the key of a place, and tells its own time of it.
-fn tells_place(alloc: Global, page: &Page, at: u32) -> Result<bool, Fail> {
-    let value = place_value(at)?;
-    let span = place(alloc, at)?;
-    Ok(page.room(&span) && page.lookup(&span) == value)
+fn place_value(at: u32) -> Value {
+    time(u64::from(at) + 1)
 }
 
 /// What a key of four bytes costs.
 const PLACE_COST: u32 = 36;
 
-/// How many keys of four bytes a page is filled with, in rising order, how many leaves it then has, and how many nodes the last one
-/// has: all others have 32. In the first row the leaves are in 63 lists. In the second the 65th list has just come, so the lists are
-/// cut into two.
-static FULL: [(u32, u32, u32); 2] = [(65_536, 2047, 64), (66_593, 2081, 33)];
+/// A range of places, without the second one, and what is told of each key there.
+type Over = ((u32, u32), Value);
 
-/// Whether a page has no room for the key of a place.
-fn is_without_room(alloc: Global, page: &Page, at: u32) -> Result<bool, Fail> {
-    Ok(!page.room(&place(alloc, at)?))
+/// A page, and how many keys it is filled with.
+#[derive(Drop)]
+struct Full {
+    alloc: Global,
+    count: u32,
+    page: Page,
 }
 
-/// Whether a page is full, with its own time at the key of each place that is looked up.
-fn is_full(alloc: Global, page: &Page, count: u32) -> Result<bool, Fail> {
-    let mut full = page.nodes() == count && page.bytes() == page.size();
-    full &= is_without_room(alloc, page, count)?;
-    for at in (0..count).step_by(1031) {
-        full &= tells_place(alloc, page, at)?;
+/// Adds a value to a span, for which there has to be room.
+fn add(page: &mut Page, span: &Span, value: Value) -> Result<(), Fail> {
+    match add_to(page, span, value) {
+        Ok(true) => Ok(()),
+        Ok(false) => Err(Fail::new("no room")),
+        Err(NoMemory) => Err(NoMemory.into()),
     }
-    Ok(full)
+}
+
+/// Adds a time of its own to each key.
+fn fill(alloc: Global, page: &mut Page, order: Order, count: u32) -> Result<(), Fail> {
+    for step in 0..count {
+        let at = number(order, step, count);
+        add(page, &place(alloc, at)?, place_value(at))?;
+    }
+    Ok(())
+}
+
+/// Whether a page has room for each of so many keys that are looked up, and tells its own time of it, or one value in a range.
+fn tells_places(
+    alloc: Global,
+    page: &Page,
+    count: u32,
+    stride: usize,
+    ((from, to), told): Over,
+) -> Result<bool, Fail> {
+    let mut alike = page.nodes() == count;
+    for at in (0..count).step_by(stride.max(1)) {
+        let is_within = from <= at && at < to;
+        let wanted = if is_within { told } else { place_value(at) };
+        alike &= tells(page, place(alloc, at)?, wanted);
+    }
+    Ok(alike)
+}
+
+/// Whether a page has no room for a span.
+fn is_without_room(page: &Page, span: Span) -> bool {
+    !page.room(&span)
 }
 
 /// Whether a page has so many leaves, of which the last has so many nodes, and some others 32.
@@ -72,149 +100,116 @@ fn has_many_leaves(page: &Page, leaves: u32, last: u32) -> bool {
     alike
 }
 
-/// A page that so many keys fill.
-fn full_page(alloc: Global, count: u32) -> Result<Page, Fail> {
-    let size = (count.min(100_000) * PLACE_COST).clamp(LEAST_SIZE, MOST_SIZE);
-    let mut page = Page::new(alloc, size, Timestamp::ZERO)?;
-    for at in 0..count {
-        add_place(alloc, &mut page, at)?;
+/// No range.
+fn nowhere() -> Over {
+    ((0, 0), Value::unowned(Timestamp::ZERO))
+}
+
+impl Full {
+    /// A page that so many keys fill.
+    fn new(alloc: Global, order: Order, count: u32) -> Result<Full, Fail> {
+        let size = (count.min(100_000) * PLACE_COST).clamp(LEAST_SIZE, MOST_SIZE);
+        let page = Page::new(alloc, size, Timestamp::ZERO)?;
+        let mut full = Full { alloc, count, page };
+        fill(alloc, &mut full.page, order, count)?;
+        Ok(full)
     }
-    Ok(page)
-}
 
-/// Whether a copy of a full page is full too, and has the same top.
-fn is_copied_full(alloc: Global, page: &Page, count: u32) -> Result<bool, Fail> {
-    let copy = page.try_copy()?;
-    Ok(is_full(alloc, &copy, count)? && copy.top() == page.top())
-}
-
-/// The first and the last place of a range over most keys of a full page.
-const MOST: (u32, u32) = (1000, 65_000);
-
-/// Adds a value to that range, without its last key.
-fn add_over_most(alloc: Global, page: &mut Page, told: Value) -> Result<(), Fail> {
-    let (from, to) = MOST;
-    let ends = Ends {
-        exclude_from: false,
-        exclude_to: true,
-    };
-    let from = Key::new(alloc, &from.to_be_bytes())?;
-    let to = Key::new(alloc, &to.to_be_bytes())?;
-    add_with_room(page, &Span::for_lookup(from, to, ends), told)
-}
-
-/// Whether a page tells a value of each key that is looked up in that range, and of the others the time of its own.
-fn tells_over_most(alloc: Global, page: &Page, count: u32, told: Value) -> Result<bool, Fail> {
-    let (from, to) = MOST;
-    let mut alike = true;
-    for at in (0..count).step_by(250) {
-        let own = place_value(at)?;
-        let wanted = if from <= at && at < to { told } else { own };
-        alike &= page.lookup(&place(alloc, at)?) == wanted;
-    }
-    Ok(alike)
-}
-
-/// Adds over most keys of a full page, of which there is a copy, and says whether each tells what it has to.
-fn adds_over_most(alloc: Global, page: &mut Page, count: u32) -> Result<bool, Fail> {
-    let copy = page.try_copy()?;
-    let told = value(70_000, 0, FIRST)?;
-    add_over_most(alloc, page, told)?;
-    Ok(tells_over_most(alloc, page, count, told)? && is_full(alloc, &copy, count)?)
-}
-
-/// Whether a page that is filled as a row tells is full, shows its leaves, is copied, and goes its own way.
-fn is_filled(alloc: Global, row: (u32, u32, u32)) -> Result<bool, Fail> {
-    let (count, leaves, last) = row;
-    let mut page = full_page(alloc, count)?;
-    let shown = is_full(alloc, &page, count)? && has_many_leaves(&page, leaves, last);
-    let copied = is_copied_full(alloc, &page, count)?;
-    Ok(shown && copied && adds_over_most(alloc, &mut page, count)?)
-}
-
-/// The first of some rows, from 0, whose page is otherwise.
-fn wrong_page(alloc: Global, rows: &[(u32, u32, u32)]) -> Result<Option<usize>, Fail> {
-    for (i, row) in rows.iter().enumerate() {
-        if !is_filled(alloc, *row)? {
-            return Ok(Some(i));
+    /// A copy.
+    fn copy(&self) -> Result<Full, NoMemory> {
+        match self.page.try_copy() {
+            Ok(page) => Ok(Full { page, ..*self }),
+            Err(NoMemory) => Err(NoMemory),
         }
     }
-    Ok(None)
+
+    /// Whether it tells of the keys that are looked up what it has to.
+    fn tells(&self, stride: usize, over: Over) -> Result<bool, Fail> {
+        tells_places(self.alloc, &self.page, self.count, stride, over)
+    }
+
+    /// Whether it is full, with its own time at the key of each place that is looked up.
+    fn is_full(&self) -> Result<bool, Fail> {
+        let full = self.page.bytes() == self.page.size();
+        let refused = is_without_room(&self.page, place(self.alloc, self.count)?);
+        Ok(full && refused && self.tells(1031, nowhere())?)
+    }
+
+    /// Whether a copy of it is full too, and has the same top.
+    fn is_copied_full(&self) -> Result<bool, Fail> {
+        let copy = self.copy()?;
+        let same = copy.page.top() == self.page.top();
+        Ok(copy.is_full()? && same)
+    }
+
+    /// Adds a value to a range.
+    fn add_over(
+        &mut self,
+        (from, to): (u32, u32),
+        exclude_to: bool,
+        told: Value,
+    ) -> Result<(), Fail> {
+        add(
+            &mut self.page,
+            &range(self.alloc, from, to, exclude_to)?,
+            told,
+        )
+    }
+
+    /// Adds a value to a range over most of its keys, of which there is a copy, and says whether each tells what it has to.
+    fn adds_over_most(&mut self, copy: &Full) -> Result<bool, Fail> {
+        let (most, told) = ((1000, 65_000), time(70_000));
+        self.add_over(most, true, told)?;
+        Ok(self.tells(250, (most, told))? && copy.is_full()?)
+    }
+
+    /// Whether it is full, shows its leaves, is copied, and goes its own way.
+    fn is_filled(&mut self, leaves: u32, last: u32) -> Result<bool, Fail> {
+        let shown = has_many_leaves(&self.page, leaves, last) && self.is_full()?;
+        Ok(shown && self.is_copied_full()? && self.adds_over_most(&self.copy()?)?)
+    }
+
+    /// Adds a value to all keys, and says whether it is told of each.
+    fn tells_over_all(&mut self, told: Value) -> Result<bool, Fail> {
+        self.add_over((0, self.count.saturating_sub(1)), false, told)?;
+        self.tells(1, ((0, self.count), told))
+    }
+
+    /// Adds a value to all keys, of which there is a copy, and says whether that goes on telling the one before.
+    fn tells_beside(&mut self, copy: &Full, before: Value, told: Value) -> Result<bool, Fail> {
+        let all = (0, copy.count);
+        Ok(self.tells_over_all(told)? && copy.tells(1, (all, before))?)
+    }
+
+    /// Whether it has more leaves than one block has, and tells each key's own time, then one value, and then another one beside a
+    /// copy that doesn't.
+    fn tells_in_turn(&mut self) -> Result<bool, Fail> {
+        let (later, latest) = (time(5000), time(6000));
+        let told = self.page.leaf_nodes(64).is_some() && self.tells(1, nowhere())?;
+        Ok(told && self.tells_over_all(later)? && self.tells_beside(&self.copy()?, later, latest)?)
+    }
+}
+
+/// How many keys of four bytes a page is filled with, in rising order, how many leaves it then has, and how many nodes the last one
+/// has: all others have 32. In the first row the leaves are in 63 lists. In the second the 65th list has just come, so the lists are
+/// cut into two.
+static FULL: [(u32, u32, u32); 2] = [(65_536, 2047, 64), (66_593, 2081, 33)];
+
+impl Row<Global> for (u32, u32, u32) {
+    fn holds(&self, alloc: &mut Global) -> Result<bool, Fail> {
+        Full::new(*alloc, Order::Rising, self.0)?.is_filled(self.1, self.2)
+    }
 }
 
 #[test]
 fn a_full_page(rt: HostRuntime) -> Result<(), Fail> {
-    assert_eq!(rt; wrong_page(rt.alloc(), &FULL)?, None);
-    Ok(())
+    play(&rt, &mut rt.alloc(), &FULL)
 }
 
-/// How many keys a page of more leaves than one block has is filled with.
-const MANY: u32 = 4096;
-
-/// Whether a page tells of each of so many places the time of its own.
-fn tells_places(alloc: Global, page: &Page) -> Result<bool, Fail> {
-    let mut alike = page.nodes() == MANY;
-    for at in 0..MANY {
-        let value = place_value(at)?;
-        alike &= page.lookup(&place(alloc, at)?) == value;
-    }
-    Ok(alike)
-}
-
-/// Whether a page tells the same of each of them.
-fn tells_one(alloc: Global, page: &Page, told: Value) -> Result<bool, Fail> {
-    let mut alike = page.nodes() == MANY;
-    for at in 0..MANY {
-        alike &= page.lookup(&place(alloc, at)?) == told;
-    }
-    Ok(alike)
-}
-
-/// Adds a value to all of them.
-fn add_over_all(alloc: Global, page: &mut Page, told: Value) -> Result<(), Fail> {
-    let (first, last) = (0_u32, MANY - 1);
-    let from = Key::new(alloc, &first.to_be_bytes())?;
-    let to = Key::new(alloc, &last.to_be_bytes())?;
-    let ends = Ends {
-        exclude_from: false,
-        exclude_to: false,
-    };
-    add_with_room(page, &Span::for_lookup(from, to, ends), told)
-}
-
-/// A page with more leaves than one block has, whose keys came in mixed order.
-fn page_of_blocks(alloc: Global) -> Result<Page, Fail> {
-    let mut page = Page::new(alloc, MANY * PLACE_COST, Timestamp::ZERO)?;
-    for step in 0..MANY {
-        add_place(alloc, &mut page, number(Order::Mixed, step, MANY))?;
-    }
-    Ok(page)
-}
-
-/// Adds a value to all of them, and says whether the page tells it of each then.
-fn tells_over_all(alloc: Global, page: &mut Page, told: Value) -> Result<bool, Fail> {
-    add_over_all(alloc, page, told)?;
-    tells_one(alloc, page, told)
-}
-
-/// Does so to a page that tells one value of each of them, of which there is a copy, and says whether the copy goes on
-/// telling that one.
-fn tells_beside_a_copy(
-    alloc: Global,
-    page: &mut Page,
-    before: Value,
-    told: Value,
-) -> Result<bool, Fail> {
-    let copy = page.try_copy()?;
-    Ok(tells_over_all(alloc, page, told)? && tells_one(alloc, &copy, before)?)
-}
-
+/// The keys come in mixed order.
 #[test]
 fn a_page_of_several_blocks(rt: HostRuntime) -> Result<(), Fail> {
-    let (later, latest) = (value(5000, 0, FIRST)?, value(6000, 0, FIRST)?);
-    let mut page = page_of_blocks(rt.alloc())?;
-    assert!(rt; page.leaf_nodes(64).is_some() && tells_places(rt.alloc(), &page)?);
-    assert!(rt; tells_over_all(rt.alloc(), &mut page, later)?);
-    assert!(rt; tells_beside_a_copy(rt.alloc(), &mut page, later, latest)?);
+    let mut full = Full::new(rt.alloc(), Order::Mixed, 4096)?;
+    assert!(rt; full.tells_in_turn()?);
     Ok(())
 }

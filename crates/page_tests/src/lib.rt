@@ -8,8 +8,6 @@ mod filled;
 #[cfg(test)]
 mod full;
 #[cfg(test)]
-mod large;
-#[cfg(test)]
 mod pages;
 #[cfg(test)]
 mod refused;

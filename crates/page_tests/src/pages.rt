@@ -1,9 +1,10 @@
-//! Two pages to which the same is added, and the spans and values that they get.
+//! Two pages to which the same is added, the spans and values that they get, and the rows of tables.
 use std::alloc::Global;
+use std::process::Abort;
 use std::test::Fail;
 use tsc_page::{LEAST_SIZE, MOST_SIZE, Page, PlainPage};
-use tsc_span::{Ends, Key, Span};
-use tsc_time::{Timestamp, Value};
+use tsc_span::{Ends, Key, Span, SpanFault};
+use tsc_time::{NoMemory, Timestamp, Value};
 use uuid::Uuid;
 
 pub(crate) const FIRST: u128 = 1;
@@ -15,63 +16,95 @@ pub(crate) const NOBODY: u128 = 0;
 /// The names of the keys of all spans to which both pages have to answer alike.
 pub(crate) const NAMES: &[u8] = b".aAbcdefgl";
 
-pub(crate) fn value(wall: u64, logical: u32, owner: u128) -> Result<Value, Fail> {
-    let time = Timestamp::new(wall, logical).ok_or("out of range")?;
-    Ok(Value::of(time, Uuid::from_u128(owner)))
+/// A row of a table, which tells of what it is played with.
+pub(crate) trait Row<W> {
+    /// Whether what it tells holds.
+    fn holds(&self, with: &mut W) -> Result<bool, Fail>;
+}
+
+/// The first of some rows, from 0, that doesn't hold.
+pub(crate) fn first_wrong<W, T: Row<W>>(with: &mut W, rows: &[T]) -> Result<Option<usize>, Fail> {
+    for (i, row) in rows.iter().enumerate() {
+        if !row.holds(with)? {
+            return Ok(Some(i));
+        }
+    }
+    Ok(None)
+}
+
+/// Plays rows, each of which has to hold.
+pub(crate) fn play<R: Abort, W, T: Row<W>>(rt: &R, with: &mut W, rows: &[T]) -> Result<(), Fail> {
+    assert_eq!(rt; first_wrong(with, rows)?, None, "the number of the row");
+    Ok(())
+}
+
+/// A time in range.
+pub(crate) fn at(wall: u64, logical: u32) -> Timestamp {
+    Timestamp::new(wall, logical).unwrap_or(Timestamp::MAX)
+}
+
+pub(crate) fn value(wall: u64, logical: u32, owner: u128) -> Value {
+    Value::of(at(wall, logical), Uuid::from_u128(owner))
 }
 
 /// The key of a name. A dot is the empty key, `A` the next key after `a`, and `l` and `L` are two of the
 /// longest keys; any other name is the key's one byte.
-fn key(alloc: Global, name: u8) -> Result<Key, Fail> {
+fn key(alloc: Global, name: u8) -> Result<Key, SpanFault> {
     match name {
+        b'.' => Key::new(alloc, b""),
+        b'A' => Key::new(alloc, b"a\x00"),
         b'l' => long_key(alloc, b'l'),
         b'L' => long_key(alloc, b'm'),
-        _ => short_key(alloc, name),
+        byte => Key::new(alloc, &[byte]),
     }
 }
 
 /// One of the longest keys, by its last byte.
-fn long_key(alloc: Global, last: u8) -> Result<Key, Fail> {
+fn long_key(alloc: Global, last: u8) -> Result<Key, SpanFault> {
     let mut long = [b'l'; 4096];
     long[4095] = last;
-    Ok(Key::new(alloc, &long)?)
+    Key::new(alloc, &long)
 }
 
-fn short_key(alloc: Global, name: u8) -> Result<Key, Fail> {
-    let made = match name {
-        b'.' => Key::new(alloc, b""),
-        b'A' => Key::new(alloc, b"a\x00"),
-        byte => Key::new(alloc, &[byte]),
-    };
-    Ok(made?)
+/// The span from a key to another one.
+pub(crate) fn between(
+    from: Key,
+    to: Result<Key, SpanFault>,
+    ends: Ends,
+) -> Result<Span, SpanFault> {
+    match to {
+        Ok(to) => Ok(Span::for_lookup(from, to, ends)),
+        Err(fault) => Err(fault),
+    }
+}
+
+fn range(alloc: Global, from: u8, to: u8, ends: Ends) -> Result<Span, SpanFault> {
+    between(key(alloc, from)?, key(alloc, to), ends)
+}
+
+fn onward(alloc: Global, from: u8, exclude_from: bool) -> Result<Span, SpanFault> {
+    match key(alloc, from) {
+        Ok(from) => Ok(Span::onward(from, exclude_from)),
+        Err(fault) => Err(fault),
+    }
+}
+
+/// The byte of a place in a text, or 0 behind its end.
+fn byte(text: &[u8], place: usize) -> u8 {
+    text.get(place).copied().unwrap_or(0)
 }
 
 /// The span of a text such as `a`, `[a,c)` or `(m,`.
-pub(crate) fn span(alloc: Global, text: &[u8]) -> Result<Span, Fail> {
-    let name = |i: usize| text.get(i).copied();
-    let exclude_from = name(0) == Some(b'(');
-    let Some(from) = name(1) else {
-        return Ok(Span::point(key(alloc, name(0).ok_or("no key")?)?));
+pub(crate) fn span(alloc: Global, text: &[u8]) -> Result<Span, SpanFault> {
+    let ends = Ends {
+        exclude_from: byte(text, 0) == b'(',
+        exclude_to: byte(text, 4) == b')',
     };
-    let from = key(alloc, from)?;
-    match name(3) {
-        None => Ok(Span::onward(from, exclude_from)),
-        Some(to) => {
-            let ends = Ends {
-                exclude_from,
-                exclude_to: name(4) == Some(b')'),
-            };
-            Ok(Span::for_lookup(from, key(alloc, to)?, ends))
-        }
+    match text.len() {
+        1 => key(alloc, byte(text, 0)).map(Span::point),
+        3 => onward(alloc, byte(text, 1), ends.exclude_from),
+        _ => range(alloc, byte(text, 1), byte(text, 3), ends),
     }
-}
-
-/// Adds the spans from a key on.
-fn push_onward(alloc: Global, spans: &mut Vec<Span>, from: u8) -> Result<(), Fail> {
-    for exclude_from in [false, true] {
-        spans.push(Span::onward(key(alloc, from)?, exclude_from))?;
-    }
-    Ok(())
 }
 
 /// All choices of ends.
@@ -94,25 +127,100 @@ static CHOICES: [Ends; 4] = [
     },
 ];
 
-/// Adds the spans from one key to another.
-fn push_ranges(alloc: Global, spans: &mut Vec<Span>, from: u8, to: u8) -> Result<(), Fail> {
+fn push(spans: &mut Vec<Span>, span: Result<Span, SpanFault>) -> Result<(), Fail> {
+    spans.push(span?)?;
+    Ok(())
+}
+
+/// Adds the spans from one key to another, or on from the one where there is no other.
+fn push_ranges(alloc: Global, spans: &mut Vec<Span>, from: u8, to: Option<u8>) -> Result<(), Fail> {
     for ends in &CHOICES {
-        let (from, to) = (key(alloc, from)?, key(alloc, to)?);
-        spans.push(Span::for_lookup(from, to, *ends))?;
+        match to {
+            Some(to) => push(spans, range(alloc, from, to, *ends))?,
+            None if ends.exclude_to => {}
+            None => push(spans, onward(alloc, from, ends.exclude_from))?,
+        }
     }
     Ok(())
+}
+
+/// Adds each span from a key on.
+fn push_from(alloc: Global, spans: &mut Vec<Span>, names: &[u8], from: u8) -> Result<(), Fail> {
+    for to in names {
+        push_ranges(alloc, spans, from, Some(*to))?;
+    }
+    push_ranges(alloc, spans, from, None)
 }
 
 /// Each span between two of the named keys, and from one on.
 pub(crate) fn all_spans(alloc: Global, names: &[u8]) -> Result<Vec<Span>, Fail> {
     let mut spans = Vec::new(alloc);
     for from in names {
-        push_onward(alloc, &mut spans, *from)?;
-        for to in names {
-            push_ranges(alloc, &mut spans, *from, *to)?;
-        }
+        push_from(alloc, &mut spans, names, *from)?;
     }
     Ok(spans)
+}
+
+/// Adds a value to a span that isn't empty, and says whether there was room.
+pub(crate) fn add_to(page: &mut Page, span: &Span, value: Value) -> Result<bool, NoMemory> {
+    if span.is_empty() || !page.room(span) {
+        return Ok(false);
+    }
+    match page.add(span, value) {
+        Ok(()) => Ok(true),
+        Err(NoMemory) => Err(NoMemory),
+    }
+}
+
+/// The same of a plain page.
+pub(crate) fn add_to_plain(
+    plain: &mut PlainPage,
+    span: &Span,
+    value: Value,
+) -> Result<bool, NoMemory> {
+    if span.is_empty() || !plain.room(span) {
+        return Ok(false);
+    }
+    match plain.add(span, value) {
+        Ok(()) => Ok(true),
+        Err(NoMemory) => Err(NoMemory),
+    }
+}
+
+/// Adds a value to a span that isn't empty if there is room, and says whether there was.
+pub(crate) fn try_add(page: &mut Page, span: &Span, value: Value) -> Result<bool, NoMemory> {
+    if span.is_empty() {
+        return Ok(false);
+    }
+    page.try_add(span, value)
+}
+
+/// The same of a plain page.
+pub(crate) fn try_add_plain(
+    plain: &mut PlainPage,
+    span: &Span,
+    value: Value,
+) -> Result<bool, NoMemory> {
+    if span.is_empty() {
+        return Ok(false);
+    }
+    plain.try_add(span, value)
+}
+
+/// The page with one more value beside this one, if the span isn't empty and there is room.
+pub(crate) fn added(page: &Page, span: &Span, value: Value) -> Result<Option<Page>, NoMemory> {
+    if span.is_empty() {
+        return Ok(None);
+    }
+    page.added(span, value)
+}
+
+/// Whether there is a page with one more value.
+fn is_added(page: &Page, span: &Span, value: Value) -> Result<bool, NoMemory> {
+    match added(page, span, value) {
+        Ok(made) => Ok(made.is_some()),
+        Err(NoMemory) => Err(NoMemory),
+    }
 }
 
 /// Two pages, to which the same was added.
@@ -123,60 +231,51 @@ pub(crate) struct Pages {
 }
 
 impl Pages {
-    pub(crate) fn new(alloc: Global, size: u32, base: u64) -> Result<Pages, Fail> {
-        let size = size.clamp(LEAST_SIZE, MOST_SIZE);
-        let base = Timestamp::new(base, 0).ok_or("out of range")?;
-        Ok(Pages {
-            page: Page::new(alloc, size, base)?,
-            plain: PlainPage::new(alloc, size, base)?,
-        })
-    }
-
-    /// Adds a value to a span once.
-    pub(crate) fn add(&mut self, span: &Span, value: Value) -> Result<(), Fail> {
-        if span.is_empty() || !self.page.room(span) || !self.plain.room(span) {
-            return Err(Fail::new("an Add of an empty span, or without room"));
+    /// Two pages, if there is memory for the plain one.
+    fn of(page: Page, plain: Result<PlainPage, NoMemory>) -> Result<Pages, NoMemory> {
+        match plain {
+            Ok(plain) => Ok(Pages { page, plain }),
+            Err(NoMemory) => Err(NoMemory),
         }
-        self.page.add(span, value)?;
-        self.plain.add(span, value)?;
-        Ok(())
     }
 
-    pub(crate) fn copy(&self) -> Result<Pages, Fail> {
-        Ok(Pages {
-            page: self.page.try_copy()?,
-            plain: self.plain.try_copy()?,
-        })
+    /// A page beside a plain page with more room than any test of large pages takes.
+    pub(crate) fn beside(alloc: Global, page: Page) -> Result<Pages, NoMemory> {
+        Pages::of(page, PlainPage::new(alloc, 1_000_000, Timestamp::ZERO))
+    }
+
+    pub(crate) fn new(alloc: Global, size: u32, base: u64) -> Result<Pages, NoMemory> {
+        let (size, base) = (size.clamp(LEAST_SIZE, MOST_SIZE), at(base, 0));
+        Pages::of(
+            Page::new(alloc, size, base)?,
+            PlainPage::new(alloc, size, base),
+        )
+    }
+
+    /// Adds a value to a span that isn't empty, and says whether both had room.
+    pub(crate) fn add(&mut self, span: &Span, value: Value) -> Result<bool, NoMemory> {
+        Ok(add_to(&mut self.page, span, value)? && add_to_plain(&mut self.plain, span, value)?)
+    }
+
+    pub(crate) fn copy(&self) -> Result<Pages, NoMemory> {
+        Pages::of(self.page.try_copy()?, self.plain.try_copy())
     }
 
     /// Whether there is room for a span, or there is not, as both pages tell and as Adds to copies of them find.
-    pub(crate) fn tell_room(&self, span: &Span, room: bool) -> Result<bool, Fail> {
+    pub(crate) fn tell_room(&self, span: &Span, room: bool) -> Result<bool, NoMemory> {
         let told = self.page.room(span) == room && self.plain.room(span) == room;
-        if span.is_empty() {
+        if span.is_empty() || !told {
             return Ok(told);
         }
-        let value = value(99, 0, FIRST)?;
-        Ok(told && self.copy()?.find_room(span, value, room)?)
+        self.copy()?.find_room(span, value(99, 0, FIRST), room)
     }
 
     /// Whether there is room for a span, or there is not, as an Add finds.
-    fn find_room(&mut self, span: &Span, value: Value, room: bool) -> Result<bool, Fail> {
-        if span.is_empty() {
-            return Err(Fail::new("an Add of an empty span"));
-        }
-        let made = self.page.added(span, value)?.is_some() == room;
-        let found = self.page.try_add(span, value)? == room;
-        let found_plain = self.plain.try_add(span, value)? == room;
+    fn find_room(&mut self, span: &Span, value: Value, room: bool) -> Result<bool, NoMemory> {
+        let made = is_added(&self.page, span, value)? == room;
+        let found = try_add(&mut self.page, span, value)? == room;
+        let found_plain = try_add_plain(&mut self.plain, span, value)? == room;
         Ok(made && found && found_plain && self.answer(span, value) == room)
-    }
-
-    /// Makes a page and a plain one with one more value, beside these.
-    pub(crate) fn added(&self, span: &Span, value: Value) -> Result<Pages, Fail> {
-        let page = added(&self.page, span, value)?;
-        Ok(Pages {
-            page,
-            plain: plain_added(&self.plain, span, value)?,
-        })
     }
 
     pub(crate) fn answer(&self, span: &Span, value: Value) -> bool {
@@ -186,27 +285,11 @@ impl Pages {
     pub(crate) fn have(&self, nodes: u32) -> bool {
         self.page.nodes() == nodes && self.plain.nodes() == nodes
     }
-}
 
-/// The page with one more value, for which it has to have room, beside this one.
-pub(crate) fn added(page: &Page, span: &Span, value: Value) -> Result<Page, Fail> {
-    if span.is_empty() {
-        return Err(Fail::new("an Add of an empty span"));
+    /// Whether both show the same, and answer alike to each of the spans.
+    pub(crate) fn alike(&self, spans: &[Span]) -> bool {
+        alike_on(&self.page, &self.plain, spans)
     }
-    match page.added(span, value)? {
-        Some(made) => Ok(made),
-        None => Err(Fail::new("no room")),
-    }
-}
-
-/// A copy of a plain page with one more value, in the same way.
-fn plain_added(plain: &PlainPage, span: &Span, value: Value) -> Result<PlainPage, Fail> {
-    let mut copy = plain.try_copy()?;
-    if span.is_empty() || !copy.room(span) {
-        return Err(Fail::new("an Add of an empty span, or without room"));
-    }
-    copy.add(span, value)?;
-    Ok(copy)
 }
 
 /// Whether two pages have leaves of the same sizes, as far as the first eight tell.
@@ -235,4 +318,9 @@ pub(crate) fn has_leaves(page: &Page, sizes: &[u32]) -> bool {
         alike &= page.leaf_nodes(place) == sizes.get(place as usize).copied();
     }
     alike
+}
+
+/// Whether a page has room for a span, and answers it so.
+pub(crate) fn tells(page: &Page, span: Span, value: Value) -> bool {
+    page.room(&span) && page.lookup(&span) == value
 }

@@ -1,12 +1,13 @@
 //! A table of calls, and what both pages show after each.
 use crate::pages::{
-    FIRST, NAMES, NOBODY, Pages, SECOND, alike_on, all_spans, same_leaves, span, value,
+    FIRST, NAMES, NOBODY, Pages, Row, SECOND, added, alike_on, all_spans, at, play, same_leaves,
+    span, value,
 };
 use std::alloc::Global;
 use std::test::Fail;
-use tsc_page::LEAST_SIZE;
+use tsc_page::{LEAST_SIZE, Page};
 use tsc_span::Span;
-use tsc_time::{Timestamp, Value};
+use tsc_time::{NoMemory, Timestamp, Value};
 
 /// What a row does with two pages, a [`Page`] and a [`PlainPage`], and what both then show. A value is a wall
 /// time, a logical count and an owner.
@@ -188,102 +189,131 @@ static STEPS: [Step; 141] = [
     Step::Shows(5, 165, 50, 0),
 ];
 
+/// Two pages, and the spans to which they have to answer alike.
+#[derive(Drop)]
+struct Player {
+    alloc: Global,
+    pages: Pages,
+    all: Vec<Span>,
+}
+
 impl Pages {
-    /// Goes on with empty pages, and says whether they are alike.
-    fn restart(&mut self, alloc: Global, size: u32, base: u64, all: &[Span]) -> Result<bool, Fail> {
-        *self = Pages::new(alloc, size, base)?;
-        Ok(alike_on(&self.page, &self.plain, all))
-    }
-
-    /// Adds a value to a span, and says whether the pages and copies of them are alike then.
-    fn add_alike(&mut self, span: &Span, value: Value, all: &[Span]) -> Result<bool, Fail> {
-        self.add(span, value)?;
-        let copy = self.copy()?;
-        Ok(alike_on(&self.page, &copy.plain, all) && alike_on(&copy.page, &self.plain, all))
-    }
-
-    /// Makes pages with one more value beside these, and goes on with them. Says whether these stay as they are, and those are
-    /// as an Add leaves copies.
-    fn add_beside(&mut self, span: &Span, value: Value, all: &[Span]) -> Result<bool, Fail> {
-        let mut copy = self.copy()?;
-        copy.add(span, value)?;
-        let made = self.added(span, value)?;
-        let stays = alike_on(&self.page, &self.plain, all);
-        *self = made;
-        let alike = alike_on(&self.page, &copy.plain, all) && same_leaves(&self.page, &copy.page);
-        Ok(stays && alike)
-    }
-
-    /// Adds a value to a span on copies, and says whether these answer it, and have so many nodes then.
-    fn add_to_copies(&self, span: &Span, value: Value, nodes: u32) -> Result<bool, Fail> {
-        let mut copy = self.copy()?;
-        copy.add(span, value)?;
-        Ok(copy.answer(span, value) && copy.have(nodes))
-    }
-
     /// Whether both pages have so many nodes that cost so much, and this top.
     fn show(&self, nodes: u32, bytes: u32, top: Timestamp) -> bool {
         let cost = self.page.bytes() == bytes && self.plain.bytes() == bytes;
         self.have(nodes) && cost && self.page.top() == top && self.plain.top() == top
     }
 
-    /// Takes a step with a span, and says whether both pages show what it tells, and answer alike to each of the
-    /// spans.
-    fn take_on(&mut self, span: &Span, step: Step, all: &[Span]) -> Result<bool, Fail> {
-        match step {
-            Step::Add(_, wall, logical, owner) => {
-                self.add_alike(span, value(wall, logical, owner)?, all)
-            }
-            Step::Added(_, wall, logical, owner) => {
-                self.add_beside(span, value(wall, logical, owner)?, all)
-            }
-            Step::AddToCopies(_, wall, logical, owner, nodes) => {
-                self.add_to_copies(span, value(wall, logical, owner)?, nodes)
-            }
-            Step::Look(_, wall, logical, owner) => {
-                Ok(self.answer(span, value(wall, logical, owner)?))
-            }
-            Step::Room(_, room) => self.tell_room(span, room),
-            Step::New(_, _) | Step::Shows(_, _, _, _) => Err(Fail::new("a step without a span")),
-        }
+    /// Whether a page and the plain one of a copy are alike, and the other way round.
+    fn alike_across(&self, copy: Pages, all: &[Span]) -> bool {
+        alike_on(&self.page, &copy.plain, all) && alike_on(&copy.page, &self.plain, all)
     }
 
-    /// Takes a step, and says whether both pages show what it tells, and answer alike to each of the spans.
-    fn take(&mut self, alloc: Global, step: Step, all: &[Span]) -> Result<bool, Fail> {
+    /// Adds a value to a span, and says whether both answer it, and have so many nodes then.
+    fn add_and_show(&mut self, span: &Span, value: Value, nodes: u32) -> Result<bool, NoMemory> {
+        Ok(self.add(span, value)? && self.answer(span, value) && self.have(nodes))
+    }
+
+    /// Goes on with a page that was made beside, and says whether it is as an Add has left this one.
+    fn go_on_with(&mut self, made: Option<Page>, all: &[Span]) -> bool {
+        let Some(made) = made else {
+            return false;
+        };
+        let alike = alike_on(&made, &self.plain, all) && same_leaves(&made, &self.page);
+        self.page = made;
+        alike
+    }
+}
+
+impl Player {
+    /// Goes on with empty pages, and says whether they are alike.
+    fn restart(&mut self, size: u32, base: u64) -> Result<bool, NoMemory> {
+        self.pages = Pages::new(self.alloc, size, base)?;
+        Ok(self.pages.alike(&self.all))
+    }
+
+    /// Adds a value to a span, and says whether the pages and copies of them are alike then.
+    fn add_alike(&mut self, span: &Span, value: Value) -> Result<bool, NoMemory> {
+        let added = self.pages.add(span, value)?;
+        Ok(added && self.pages.alike_across(self.pages.copy()?, &self.all))
+    }
+
+    /// Makes a page with one more value beside this one, for a copy of it with the same Add to go on with. Says whether this
+    /// one stays as it is, and that one is as an Add leaves it.
+    fn make_beside(&self, copy: &mut Pages, span: &Span, value: Value) -> Result<bool, NoMemory> {
+        let alike = copy.add(span, value)?
+            && copy.go_on_with(added(&self.pages.page, span, value)?, &self.all);
+        Ok(alike && self.pages.alike(&self.all))
+    }
+
+    /// The same, and goes on with that page and the copy of the plain one.
+    fn add_beside(&mut self, span: &Span, value: Value) -> Result<bool, NoMemory> {
+        let mut copy = self.pages.copy()?;
+        let alike = self.make_beside(&mut copy, span, value);
+        self.pages = copy;
+        alike
+    }
+
+    /// Adds a value to a span on copies, and says whether these answer it, and have so many nodes then.
+    fn add_to_copies(&self, span: &Span, value: Value, nodes: u32) -> Result<bool, NoMemory> {
+        self.pages.copy()?.add_and_show(span, value, nodes)
+    }
+
+    /// Takes a step with a span, and says whether both pages show what it tells, and answer alike to each of the
+    /// spans.
+    fn take_on(&mut self, span: &Span, step: Step) -> Result<bool, NoMemory> {
         match step {
-            Step::New(size, base) => self.restart(alloc, size, base, all),
+            Step::Add(_, wall, logical, owner) => self.add_alike(span, value(wall, logical, owner)),
+            Step::Added(_, wall, logical, owner) => {
+                self.add_beside(span, value(wall, logical, owner))
+            }
+            Step::AddToCopies(_, wall, logical, owner, nodes) => {
+                self.add_to_copies(span, value(wall, logical, owner), nodes)
+            }
+            Step::Look(_, wall, logical, owner) => {
+                Ok(self.pages.answer(span, value(wall, logical, owner)))
+            }
+            Step::Room(_, room) => self.pages.tell_room(span, room),
+            Step::New(_, _) | Step::Shows(_, _, _, _) => Ok(false),
+        }
+    }
+}
+
+impl Row<Player> for Step {
+    fn holds(&self, player: &mut Player) -> Result<bool, Fail> {
+        match *self {
+            Step::New(size, base) => Ok(player.restart(size, base)?),
             Step::Shows(nodes, bytes, wall, logical) => {
-                Ok(self.show(nodes, bytes, value(wall, logical, NOBODY)?.time()))
+                Ok(player.pages.show(nodes, bytes, at(wall, logical)))
             }
             Step::Add(text, _, _, _)
             | Step::AddToCopies(text, _, _, _, _)
             | Step::Added(text, _, _, _)
             | Step::Look(text, _, _, _)
-            | Step::Room(text, _) => self.take_on(&span(alloc, text)?, step, all),
+            | Step::Room(text, _) => player.take(text, *self),
         }
     }
 }
 
-/// The first of some steps, from 0, after which the pages don't show what it tells.
-fn wrong_step(
-    alloc: Global,
-    pages: &mut Pages,
-    steps: &[Step],
-    all: &[Span],
-) -> Result<Option<usize>, Fail> {
-    for (i, step) in steps.iter().enumerate() {
-        if !pages.take(alloc, *step, all)? {
-            return Ok(Some(i));
-        }
+impl Player {
+    /// Takes a step with the span of a text.
+    fn take(&mut self, text: &[u8], step: Step) -> Result<bool, Fail> {
+        let span = span(self.alloc, text)?;
+        Ok(self.take_on(&span, step)?)
     }
-    Ok(None)
+}
+
+/// A player of empty pages.
+fn new_player(alloc: Global, all: Vec<Span>) -> Result<Player, NoMemory> {
+    match Pages::new(alloc, LEAST_SIZE, 0) {
+        Ok(pages) => Ok(Player { alloc, pages, all }),
+        Err(NoMemory) => Err(NoMemory),
+    }
 }
 
 /// Memory is ample here: no call is made again.
 #[test]
 fn rows_of_calls(rt: HostRuntime) -> Result<(), Fail> {
-    let all = all_spans(rt.alloc(), NAMES)?;
-    let mut pages = Pages::new(rt.alloc(), LEAST_SIZE, 0)?;
-    assert_eq!(rt; wrong_step(rt.alloc(), &mut pages, &STEPS, &all)?, None);
-    Ok(())
+    let mut player = new_player(rt.alloc(), all_spans(rt.alloc(), NAMES)?)?;
+    play(&rt, &mut player, &STEPS)
 }

@@ -1,13 +1,8 @@
-use std::alloc::{AllocError, AllocFailed};
+use crate::pages::{FIRST, NOBODY, Row, SECOND, at, play, value};
+use std::alloc::{AllocError, AllocFailed, Global};
 use std::test::Fail;
 use tsc_time::{NoMemory, Timestamp, Value, ratchet};
 use uuid::Uuid;
-
-const NOBODY: u128 = 0;
-
-const FIRST: u128 = 1;
-
-const SECOND: u128 = 2;
 
 /// Parts of which one is too large.
 static TOO_LARGE: [(u64, u32); 4] = [
@@ -30,11 +25,11 @@ static MINUS: [Minus; 3] = [
 ];
 
 /// A value: its wall time, its logical count and its owner.
-type Row = (u64, u32, u128);
+type Parts = (u64, u32, u128);
 
 /// An old value and a new one, what the ratchet makes of them, and whether it says that this differs from
 /// the old one.
-type Ratchet = (Row, Row, Row, bool);
+type Ratchet = (Parts, Parts, Parts, bool);
 
 static RATCHETS: [Ratchet; 9] = [
     // the later time wins, with its owner
@@ -50,13 +45,13 @@ static RATCHETS: [Ratchet; 9] = [
     ((10, 1, NOBODY), (10, 1, NOBODY), (10, 1, NOBODY), false),
 ];
 
-fn at((wall, logical): (u64, u32)) -> Result<Timestamp, Fail> {
-    let time = Timestamp::new(wall, logical).ok_or("out of range")?;
-    Ok(time)
+/// The time of its parts.
+fn time_of((wall, logical): (u64, u32)) -> Timestamp {
+    at(wall, logical)
 }
 
-fn value((wall, logical, owner): Row) -> Result<Value, Fail> {
-    Ok(Value::of(at((wall, logical))?, Uuid::from_u128(owner)))
+fn value_of((wall, logical, owner): Parts) -> Value {
+    value(wall, logical, owner)
 }
 
 /// The first of some parts, from 0, that make a time.
@@ -69,46 +64,56 @@ fn first_in_range(rows: &[(u64, u32)]) -> Option<usize> {
     None
 }
 
-/// The first of some times, from 0, that isn't before the next one.
-fn first_not_rising(rows: &[(u64, u32)]) -> Result<Option<usize>, Fail> {
-    for (i, pair) in rows.windows(2).enumerate() {
-        let (earlier, later) = (at(pair[0])?, at(pair[1])?);
-        if !(earlier < later && later > earlier && earlier != later) {
-            return Ok(Some(i));
-        }
-    }
-    Ok(None)
+/// Whether a time comes before another one.
+fn is_before(earlier: Timestamp, later: Timestamp) -> bool {
+    earlier < later && later > earlier && earlier != later
 }
 
-/// The first of some differences, from 0, that is another one.
-fn wrong_minus(rows: &[Minus]) -> Result<Option<usize>, Fail> {
-    for (i, (time, ns, want)) in rows.iter().enumerate() {
-        let left = at(*time)?.minus(*ns);
-        if left.map(|left| (left.wall(), left.logical())) != *want {
-            return Ok(Some(i));
+/// The first of some times, from 0, that isn't before the next one.
+fn first_not_rising(rows: &[(u64, u32)]) -> Option<usize> {
+    for (i, pair) in rows.windows(2).enumerate() {
+        if !is_before(time_of(pair[0]), time_of(pair[1])) {
+            return Some(i);
         }
     }
-    Ok(None)
+    None
+}
+
+/// Whether a time is of these parts, and in range.
+fn is_made(time: Timestamp, (wall, logical): (u64, u32)) -> bool {
+    Timestamp::new(wall, logical) == Some(time) && (time.wall(), time.logical()) == (wall, logical)
+}
+
+impl Row<Global> for Minus {
+    fn holds(&self, _alloc: &mut Global) -> Result<bool, Fail> {
+        let left = time_of(self.0).minus(self.1);
+        Ok(match (left, self.2) {
+            (Some(left), Some(wanted)) => is_made(left, wanted),
+            (None, None) => true,
+            _ => false,
+        })
+    }
+}
+
+impl Row<Global> for Ratchet {
+    fn holds(&self, _alloc: &mut Global) -> Result<bool, Fail> {
+        let (old, new, wanted, updated) = *self;
+        Ok(ratchet(value_of(old), value_of(new)) == (value_of(wanted), updated))
+    }
+}
+
+/// Whether these are the first time and the last one.
+fn are_the_ends(first: Option<Timestamp>, last: Option<Timestamp>) -> bool {
+    first == Some(Timestamp::ZERO) && last == Some(Timestamp::MAX)
 }
 
 #[test]
 fn times(rt: HostRuntime) -> Result<(), Fail> {
     let last = Timestamp::new(9_223_372_036_854_775_807, 2_147_483_647);
-    assert!(rt; last == Some(Timestamp::MAX) && Timestamp::new(0, 0) == Some(Timestamp::ZERO));
+    assert!(rt; are_the_ends(Timestamp::new(0, 0), last));
     assert_eq!(rt; first_in_range(&TOO_LARGE), None);
-    assert_eq!(rt; first_not_rising(&RISING)?, None);
-    assert_eq!(rt; wrong_minus(&MINUS)?, None);
-    Ok(())
-}
-
-/// The first row, from 0, of which the ratchet makes something else.
-fn wrong_ratchet(rows: &[Ratchet]) -> Result<Option<usize>, Fail> {
-    for (i, (old, new, want, updated)) in rows.iter().enumerate() {
-        if ratchet(value(*old)?, value(*new)?) != (value(*want)?, *updated) {
-            return Ok(Some(i));
-        }
-    }
-    Ok(None)
+    assert_eq!(rt; first_not_rising(&RISING), None);
+    play(&rt, &mut rt.alloc(), &MINUS)
 }
 
 /// Whether a value without an owner has none, also as a value of the nil owner.
@@ -124,11 +129,11 @@ fn is_of(value: Value, time: Timestamp, owner: u128) -> bool {
 
 #[test]
 fn values(rt: HostRuntime) -> Result<(), Fail> {
-    let time = at((7, 1))?;
-    assert!(rt; is_unowned(time) && (time.wall(), time.logical()) == (7, 1));
-    assert!(rt; is_of(value((7, 1, FIRST))?, time, FIRST));
-    assert_eq!(rt; wrong_ratchet(&RATCHETS)?, None);
-    Ok(())
+    let time = at(7, 1);
+    assert!(rt;
+        is_made(time, (7, 1)) && is_unowned(time) && is_of(value(7, 1, FIRST), time, FIRST)
+    );
+    play(&rt, &mut rt.alloc(), &RATCHETS)
 }
 
 fn refused() -> Result<(), NoMemory> {
@@ -141,13 +146,15 @@ fn refused_with_its_value() -> Result<(), NoMemory> {
     Ok(())
 }
 
+/// Whether a text is printed for want of memory.
+fn is_printed(alloc: Global, text: &str) -> Result<bool, Fail> {
+    let printed = format!(in alloc; "{NoMemory}")?;
+    Ok(printed.as_str() == text)
+}
+
 #[test]
 fn a_refused_growth_says_so(rt: HostRuntime) -> Result<(), Fail> {
-    assert_eq!(rt; refused(), Err(NoMemory));
-    assert_eq!(rt; refused_with_its_value(), Err(NoMemory));
-    assert_eq!(rt;
-        format!(in rt.alloc(); "{NoMemory}")?.as_str(),
-        "out of memory"
-    );
+    assert!(rt; refused() == Err(NoMemory) && refused_with_its_value() == Err(NoMemory));
+    assert!(rt; is_printed(rt.alloc(), "out of memory")?);
     Ok(())
 }
