@@ -111,7 +111,8 @@ fn room_for((_, count, with): Fill) -> u32 {
     }
 }
 
-/// How many spans a plain page gets, which compares each end key with all others to see whether there is room.
+/// How many spans a plain page gets, which compares each end key with all others to see whether there is room. The fills of [`FILLS`] have no
+/// more ranges, so each of those has one plain page, which is looked at by itself too.
 fn each_of(with: With) -> u32 {
     match with {
         With::Ranges(_) => 129,
@@ -172,18 +173,13 @@ impl Filled {
         Ok(filled)
     }
 
-    /// Adds a value to a span if it isn't empty, and says whether there was room.
-    fn add_filled(&mut self, span: &Span, value: Value) -> Result<bool, NoMemory> {
-        if span.is_empty() {
-            return Ok(true);
-        }
-        self.pages.add(span, value)
-    }
-
-    /// Adds what a step adds.
+    /// Adds what a step adds, and says whether there was room. A range may be empty, and is then left out.
     fn fill_step(&mut self, fill: Fill, step: u32) -> Result<bool, Fail> {
         let span = step_span(self.alloc, fill, step)?;
-        Ok(self.add_filled(&span, step_value(step))?)
+        if span.is_empty() {
+            return Ok(matches!(fill.2, With::Ranges(_)));
+        }
+        Ok(self.pages.add(&span, step_value(step))?)
     }
 
     /// Adds what some steps add.
@@ -218,7 +214,7 @@ impl Filled {
         Ok(())
     }
 
-    /// Whether the page has so many nodes and the top that the plain pages have; and as many nodes as they where there is one.
+    /// Whether the page has so many nodes, and the top of the plain pages; and, where there is one plain page, whether that has as many nodes.
     fn shows(&self, nodes: u32) -> bool {
         let (top, together) = joint_top(&self.plain);
         let has = self.pages.page.top() == top && self.pages.page.nodes() == nodes;
@@ -229,7 +225,11 @@ impl Filled {
     fn answers(&self, span: Span) -> bool {
         let last = self.pages.plain.lookup(&span);
         let told = ratchet(joint_answer(&self.plain, &span), last).0;
-        self.pages.page.lookup(&span) == told
+        let answer = self.pages.page.lookup(&span);
+        match self.plain.as_slice() {
+            [one] => answer == told && answer == one.lookup(&span),
+            _ => answer == told,
+        }
     }
 
     /// Whether it does so for ranges from a number on.

@@ -38,7 +38,7 @@ pub(crate) fn play<R: Abort, W, T: Row<W>>(rt: &R, with: &mut W, rows: &[T]) -> 
     Ok(())
 }
 
-/// A time in range.
+/// The time of these parts, which are in range.
 pub(crate) fn at(wall: u64, logical: u32) -> Timestamp {
     Timestamp::new(wall, logical).unwrap_or(Timestamp::MAX)
 }

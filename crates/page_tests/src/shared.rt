@@ -16,6 +16,9 @@ fn byte_range(alloc: Global, [from, to]: [u8; 2], ends: Ends) -> Result<Span, Sp
 
 /// A range up to an excluded key, or the single key where both are the same.
 fn bytes_up_to(alloc: Global, bytes: [u8; 2]) -> Result<Span, SpanFault> {
+    if bytes[0] == bytes[1] {
+        return Ok(Span::point(Key::new(alloc, &bytes[..1])?));
+    }
     let ends = Ends {
         exclude_from: false,
         exclude_to: true,
@@ -45,7 +48,7 @@ fn add_once(page: &mut Page, span: &Span, value: Value) -> Result<bool, NoMemory
     }
 }
 
-/// The same of a span that is not used any more.
+/// The same of a span that is handed over.
 fn add(page: &mut Page, span: Span, value: Value) -> Result<bool, NoMemory> {
     add_once(page, &span, value)
 }

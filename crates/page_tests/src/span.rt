@@ -317,13 +317,9 @@ fn are_made(key: Key, moved: Key, bytes: &[u8]) -> bool {
     key.bytes() == bytes && moved == key
 }
 
-/// Whether a key is refused as too long.
-fn is_too_long(key: Result<Key, SpanFault>) -> Result<bool, SpanFault> {
-    match key {
-        Err(SpanFault::KeyTooLong) => Ok(true),
-        Err(fault) => Err(fault),
-        Ok(_) => Ok(false),
-    }
+/// Whether a key is refused as too long, which asks for no memory.
+fn is_too_long(key: Result<Key, SpanFault>) -> bool {
+    key == Err(SpanFault::KeyTooLong)
 }
 
 impl Row<Global> for Text {
@@ -345,10 +341,11 @@ fn is_longest(alloc: Global) -> Result<bool, SpanFault> {
         moved_key(alloc, longest)?,
         longest,
     );
-    Ok(
-        made && is_too_long(Key::new(alloc, &ONE_TOO_MANY))?
-            && is_too_long(moved_key(alloc, &ONE_TOO_MANY))?,
-    )
+    let Ok(bytes) = Vec::from_slice(alloc, &ONE_TOO_MANY) else {
+        return Err(SpanFault::NoMemory);
+    };
+    let refused = is_too_long(Key::new(alloc, &ONE_TOO_MANY)) && is_too_long(Key::try_from(bytes));
+    Ok(made && refused)
 }
 
 #[test]

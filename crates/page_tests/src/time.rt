@@ -64,6 +64,11 @@ fn first_in_range(rows: &[(u64, u32)]) -> Option<usize> {
     None
 }
 
+/// Whether the time of some parts is made of just these.
+fn is_time(parts: (u64, u32)) -> bool {
+    is_made(time_of(parts), parts)
+}
+
 /// Whether a time comes before another one.
 fn is_before(earlier: Timestamp, later: Timestamp) -> bool {
     earlier < later && later > earlier && earlier != later
@@ -72,7 +77,10 @@ fn is_before(earlier: Timestamp, later: Timestamp) -> bool {
 /// The first of some times, from 0, that isn't before the next one.
 fn first_not_rising(rows: &[(u64, u32)]) -> Option<usize> {
     for (i, pair) in rows.windows(2).enumerate() {
-        if !is_before(time_of(pair[0]), time_of(pair[1])) {
+        if !is_time(pair[0])
+            || !is_time(pair[1])
+            || !is_before(time_of(pair[0]), time_of(pair[1]))
+        {
             return Some(i);
         }
     }
@@ -98,7 +106,10 @@ impl Row<Global> for Minus {
 impl Row<Global> for Ratchet {
     fn holds(&self, _alloc: &mut Global) -> Result<bool, Fail> {
         let (old, new, wanted, updated) = *self;
-        Ok(ratchet(value_of(old), value_of(new)) == (value_of(wanted), updated))
+        let made = is_time((old.0, old.1))
+            && is_time((new.0, new.1))
+            && is_time((wanted.0, wanted.1));
+        Ok(made && ratchet(value_of(old), value_of(new)) == (value_of(wanted), updated))
     }
 }
 
