@@ -60,13 +60,11 @@ fn one_by_one(rt: &HostRuntime, newest: &mut Cache, marks: &[Mark]) -> Result<Fi
     watch.stop(rt, marks.len() as u64)
 }
 
-/// Adds the marks [`MARKS`] at a time.
+/// Adds the marks, of which there are [`PLACES`], [`MARKS`] at a time.
 fn in_batches(rt: &HostRuntime, newest: &mut Cache, marks: &[Mark]) -> Result<Figure> {
     let watch = Watch::start(rt)?;
-    let mut batches = 0;
     for batch in marks.chunks(MARKS as usize) {
         *newest = newest.next_all(batch, Timestamp::ZERO)?.0;
-        batches += 1;
     }
-    watch.stop(rt, batches)
+    watch.stop(rt, u64::from(PLACES / MARKS))
 }
