@@ -22,7 +22,8 @@ pub fn measure_batch(rt: &HostRuntime, nodes: u32, turns: u32) -> Result<[Figure
     requires at_most { nodes ≤ 1048576 }
 {
     let mut newest = filled(rt.alloc(), nodes, 1, false)?;
-    let marks = marks_at(rt.alloc(), nodes, PLACES)?;
+    let spans = Keys::new(nodes, 0, &[]).spans(rt.alloc(), PLACES, 0)?;
+    let marks = marks_on(rt.alloc(), &spans)?;
     let mut all = [Figure::NONE; 2];
     for _ in 0..turns {
         let figures = [
@@ -34,19 +35,15 @@ pub fn measure_batch(rt: &HostRuntime, nodes: u32, turns: u32) -> Result<[Figure
     Ok(all)
 }
 
-/// So many known keys from all over a page of so many nodes, each with a late value.
-pub fn marks_at(alloc: Global, nodes: u32, count: u32) -> Result<Vec<Mark>>
-    requires { 64 ≤ nodes }
-{
-    marks_of(alloc, Keys::new(nodes, 0, &[]).spans(alloc, count, 0)?)
-}
-
 /// Each of the spans with a late value.
-fn marks_of(alloc: Global, spans: Vec<Span>) -> Result<Vec<Mark>> {
+pub fn marks_on(alloc: Global, spans: &[Span]) -> Result<Vec<Mark>> {
     let value = value_at(u64::from(u32::MAX))?;
     let mut marks = Vec::with_capacity(alloc, spans.len())?;
     for span in spans {
-        marks.push(Mark { span, value })?;
+        marks.push(Mark {
+            span: span.try_copy()?,
+            value,
+        })?;
     }
     Ok(marks)
 }

@@ -1,8 +1,8 @@
 ghost use Rattle.std.specs.Prelude.{◌≡◌, ◌≤◌, All};
 
-use crate::batch::{MARKS, marks_at};
+use crate::batch::{MARKS, marks_on};
 use crate::calls::Calls;
-use crate::measure::{Figure, ROUNDS, keep_least};
+use crate::measure::{Figure, Keys, ROUNDS, keep_least};
 use crate::shared::{Trial, open_filled};
 use crate::watch::Watch;
 use anyhow::{Result, ensure};
@@ -12,17 +12,11 @@ use std::thread::{Threads, map_vec};
 use std::time::Clock;
 use tsc_cache::Mark;
 use tsc_shared::{Seat, SharedCache};
+use tsc_span::Span;
 use tsc_time::Timestamp;
 
 /// How often a seat adds its marks in a round.
 const TURNS: u64 = 200;
-
-/// How seats add their marks.
-#[derive(Clone, Copy)]
-enum Way {
-    OneByOne,
-    AsABatch,
-}
 
 /// So many seats, each in a thread of its own, add known keys to a shared cache with one page, first one at a time and then as a batch.
 /// Of each that round counts which took least; an operation is all marks of a seat.
@@ -33,11 +27,11 @@ pub fn measure_shared_batch<R: Threads + Wait + Sync + Clock + AllocGlobal>(
 ) -> Result<[Figure; 2]>
     requires { 64 ≤ nodes }
 {
-    let marks = marks_at(rt.alloc(), nodes, MARKS)?;
+    let spans = Keys::new(nodes, 0, &[]).spans(rt.alloc(), MARKS, 0)?;
     let mut all = [Figure::NONE; 2];
     for _ in 0..ROUNDS {
-        let one_by_one = by_seats(rt, nodes, seats, &marks, Way::OneByOne)?;
-        let as_a_batch = by_seats(rt, nodes, seats, &marks, Way::AsABatch)?;
+        let one_by_one = by_seats(rt, nodes, seats, &spans, false)?;
+        let as_a_batch = by_seats(rt, nodes, seats, &spans, true)?;
         keep_least(&mut all, &[one_by_one, as_a_batch]);
     }
     Ok(all)
@@ -48,8 +42,8 @@ fn by_seats<R: Threads + Wait + Sync + Clock + AllocGlobal>(
     rt: &R,
     nodes: u32,
     seats: u32,
-    marks: &[Mark],
-    way: Way,
+    spans: &[Span],
+    together: bool,
 ) -> Result<Figure> {
     let calls = Calls {
         number: TURNS,
@@ -64,19 +58,19 @@ fn by_seats<R: Threads + Wait + Sync + Clock + AllocGlobal>(
     };
     let (shared, seats) = open_filled(rt, rt.alloc(), trial)?;
     let watch = Watch::start(rt)?;
-    let added = add_at_once(rt, &shared, seats, marks, way)?;
+    let added = add_at_once(rt, &shared, seats, spans, together)?;
     let figure = watch.stop(rt, trial.operations())?;
     ensure!(added.iter().all(Option::is_some), "an Add was refused");
     Ok(figure)
 }
 
 /// Has each seat add its marks in a thread of its own.
-fn add_at_once<R: Threads + Wait + Sync>(
+fn add_at_once<R: Threads + Wait + Sync + AllocGlobal>(
     rt: &R,
     shared: &SharedCache,
     seats: Vec<Seat>,
-    marks: &[Mark],
-    way: Way,
+    spans: &[Span],
+    together: bool,
 ) -> Result<Vec<Option<()>>, AllocError>
     requires { All (λ seat. seat.cache ≡ shared.now) seats.items }
 {
@@ -85,27 +79,43 @@ fn add_at_once<R: Threads + Wait + Sync>(
         seats,
         &|seat: Seat| -> Option<()>
             requires { seat.cache ≡ shared.now }
-        { add_in_turns(rt, shared, seat, marks, way) },
+        { add_in_turns(rt, shared, seat, spans, together) },
     )
 }
 
-/// Adds the marks again and again.
-fn add_in_turns<R: Wait>(
+/// Adds a late value to the spans again and again, one at a time or together.
+fn add_in_turns<R: Wait + AllocGlobal>(
     rt: &R,
     shared: &SharedCache,
     mut seat: Seat,
-    marks: &[Mark],
-    way: Way,
+    spans: &[Span],
+    together: bool,
 ) -> Option<()>
     requires { seat.cache ≡ shared.now }
 {
+    let marks = marks_on(rt.alloc(), spans).ok()?;
     for _ in 0..TURNS {
-        match way {
-            Way::OneByOne => add_each(rt, shared, &mut seat, marks)?,
-            Way::AsABatch => add_all(rt, shared, &mut seat, marks)?,
-        }
+        add_marks(rt, shared, &mut seat, &marks, together)?;
     }
     Some(())
+}
+
+/// Adds the marks, one at a time or together.
+fn add_marks<R: Wait>(
+    rt: &R,
+    shared: &SharedCache,
+    seat: &mut Seat,
+    marks: &[Mark],
+    together: bool,
+) -> Option<()>
+    requires { seat.old.cache ≡ shared.now }
+    ensures { seat.new.cache ≡ seat.old.cache }
+{
+    if together {
+        add_all(rt, shared, seat, marks)
+    } else {
+        add_each(rt, shared, seat, marks)
+    }
 }
 
 fn add_each<R: Wait>(rt: &R, shared: &SharedCache, seat: &mut Seat, marks: &[Mark]) -> Option<()>
@@ -113,10 +123,17 @@ fn add_each<R: Wait>(rt: &R, shared: &SharedCache, seat: &mut Seat, marks: &[Mar
     ensures { seat.new.cache ≡ seat.old.cache }
 {
     for mark in marks {
-        let added = shared.add(rt, seat, &mark.span, mark.value, Timestamp::ZERO);
-        added.is_ok().then_some(())?;
+        add_one(rt, shared, seat, mark)?;
     }
     Some(())
+}
+
+fn add_one<R: Wait>(rt: &R, shared: &SharedCache, seat: &mut Seat, mark: &Mark) -> Option<()>
+    requires { seat.old.cache ≡ shared.now }
+    ensures { seat.new.cache ≡ seat.old.cache }
+{
+    let added = shared.add(rt, seat, &mark.span, mark.value, Timestamp::ZERO);
+    added.is_ok().then_some(())
 }
 
 fn add_all<R: Wait>(rt: &R, shared: &SharedCache, seat: &mut Seat, marks: &[Mark]) -> Option<()>
