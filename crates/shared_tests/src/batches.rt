@@ -415,6 +415,14 @@ fn is_whole(both: Told, a: Told, b: Told) -> bool {
     at_a != at_b || of_a == of_b
 }
 
+/// Whether an Add was kept in its place, the last of a history of this length.
+fn is_last(told: Told, seen: u64) -> bool {
+    let Told::Place(place, (true, false, 0), front) = told else {
+        return false;
+    };
+    place < front && front == seen
+}
+
 impl Both {
     /// Adds to both keys, so often.
     fn add<C: Of, R: Wait + Abort>(
@@ -423,10 +431,10 @@ impl Both {
         home: &Home<C>,
         guest: &mut Guest<C>,
     ) -> Option<()> {
-        let gate = Counting::new();
         for round in 0..ROUNDS {
-            let told = home.add_batch(rt, guest, &both_at(alloc, round.checked_add(6)?)?, &gate)?;
-            assert!(rt; matches!(told, Told::Place(..)), "{told:?}");
+            let batch = both_at(alloc, round.checked_add(6)?)?;
+            let told = home.add_together(rt, guest, &batch)?;
+            assert!(rt; is_last(told, guest.seen()), "{told:?}");
         }
         Some(())
     }

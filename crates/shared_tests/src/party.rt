@@ -216,7 +216,21 @@ impl<C: Of> Home<C> {
         Some(told)
     }
 
-    /// The same with a gate that holds nobody up.
+    /// What several marks tell as one Add that is accepted, by the call without a gate. `None` where they are refused.
+    pub fn add_together<R: Wait>(
+        &self,
+        rt: &R,
+        guest: &mut Guest<C>,
+        batch: &Batch,
+    ) -> Option<Told> {
+        let (marks, now) = (batch.marks.as_slice(), at(batch.now));
+        match self.cache.add_all(rt, &mut guest.seat, marks, now) {
+            Ok(receipt) => Some(place_of(&receipt)),
+            Err(_refused) => None,
+        }
+    }
+
+    /// The same of one mark with a gate that holds nobody up.
     pub fn add<R: Wait>(&self, rt: &R, guest: &mut Guest<C>, mark: &Mark) -> Option<Told> {
         self.add_gated(rt, guest, mark, &NoGate)
     }
