@@ -69,7 +69,7 @@ impl SpanForm {
 
     /// The span of an Add or of a mark. An inverted one gives none.
     #[tactic(auto, unfolding(crate::specs::TraceText::span_of_form))]
-    pub fn to_add(self) -> Option<Span>
+    pub fn added(self) -> Option<Span>
         ensures { result ≡ span_of_form self }
     {
         match self {
@@ -82,7 +82,7 @@ impl SpanForm {
 
     /// The span of a lookup. An inverted one is the empty span.
     #[tactic(auto, unfolding(crate::specs::TraceText::span_of_form))]
-    pub fn to_look_up(self) -> Span
+    pub fn looked_up(self) -> Span
         ensures { result ≡ unwrap_or (span_of_form self) nothing }
     {
         match self {
@@ -212,7 +212,7 @@ fn span_form(alloc: Global, value: &Value) -> Result<SpanForm, Refusal>
 pub(super) fn added_span(alloc: Global, value: &Value) -> Result<Span, Refusal>
     ensures { Gives (λ span. span) result (added_span (view value.now)) }
 {
-    span_form(alloc, value)?.to_add().ok_or(SPAN)
+    span_form(alloc, value)?.added().ok_or(SPAN)
 }
 
 /// The span of a lookup. An inverted one is the empty span.
@@ -220,7 +220,7 @@ pub(super) fn added_span(alloc: Global, value: &Value) -> Result<Span, Refusal>
 pub(super) fn looked_up_span(alloc: Global, value: &Value) -> Result<Span, Refusal>
     ensures { Gives (λ span. span) result (looked_up_span (view value.now)) }
 {
-    Ok(span_form(alloc, value)?.to_look_up())
+    Ok(span_form(alloc, value)?.looked_up())
 }
 
 /// The keys from a start to an end, which is excluded, for a lookup. An empty end means the start alone.
