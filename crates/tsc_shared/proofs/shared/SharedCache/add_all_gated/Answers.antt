@@ -7,10 +7,10 @@ use Rattle.tsc_shared.proofs.shared.SharedCache.add_all_gated.Goals as goal
 pub add_copy-requires-clause-made : goal.add_copy-requires-clause-made
 add_copy-requires-clause-made g c =
     let fit : all_fit c.self.inside.terms.config c.args.marks.now ≡ true = subst (λ (cache : SharedView). all_fit cache.config c.args.marks.now ≡ true) (sym c.self.view_is) (sym c.fits_all.ensures ∙ c.if-not-fits_all.false) in
-    copy_added c.self.inside.terms.config _ c.args.marks.now c.args.now _ (ap (λ (cache : SharedView). cache.config) (sym c.self.view_is)) c.copy_of_all.ensures (c.can_all_be_added.ensures fit)
+    copy_added c.self.inside.terms.config _ c.args.marks.now c.args.now _ (ap (λ (cache : SharedView). cache.config) (sym c.self.view_is)) c.copy_of_all-copied.ensures (c.can_all_be_added.ensures fit)
 
 pub returns-clause-accepted : goal.returns-clause-accepted
-returns-clause-accepted g c = accepts_where_copied _ _ _ _ c.args.marks.now c.args.now c.copy_of_all.ensures c.add_copy.ensures.accepted
+returns-clause-accepted g c = accepts_where_copied _ _ _ _ c.args.marks.now c.args.now c.copy_of_all-copied.ensures c.add_copy.ensures.accepted
 
 pub returns-clause-too_large : goal.returns-clause-too_large
 returns-clause-too_large g c = not_where_it_fits _ _ _ (ap (λ (cache : SharedView). all_fit cache.config c.args.marks.now) c.requires.cache) (sym c.fits_all.ensures ∙ c.if-not-fits_all.false) c.add_copy.ensures.fits
