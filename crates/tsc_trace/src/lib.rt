@@ -10,6 +10,7 @@ mod log;
 pub mod log_laws;
 mod log_reader;
 mod player;
+mod printer;
 mod replays;
 
 pub use log::{Line, Lines, Log, Said, Told, log_text};
