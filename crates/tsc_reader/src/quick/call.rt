@@ -74,8 +74,8 @@ impl<'a> CallParts<'a> {
     fn get(self) -> Option<Call>
         ensures { IfSome result (λ call. (found : Members) → KeepsCall found self.entry → get_of found ≡ Ok call) }
     {
-        if self.time.is_some()
-            || self.owner.is_some()
+        if self.owner.is_some()
+            || self.time.is_some()
             || self.marks.is_some()
             || self.now.is_some()
         {
