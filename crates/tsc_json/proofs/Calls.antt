@@ -158,3 +158,11 @@ threads_fit settings first lists threads is fit =
     let many : length threads ≡ length lists = sym (length-map threads length) ∙ ap length lengths ∙ length-map lists length in
     let calls : sum_by length threads ≡ sum_by length lists = sym (sum-map length threads) ∙ ap sum lengths ∙ sum-map length lists in
     rw (many, calls) fit
+
+-- and the other way round
+pub fits_threads : (settings : Settings) (first : ℕ) (lists : List (List Data)) (threads : List (List Call)) → threads_of settings first lists ≡ Ok threads → fits_trace threads ≡ true → fits_trace lists ≡ true
+fits_threads settings first lists threads is fit =
+    let lengths : map length threads ≡ map length lists = same_lengths settings first lists threads is in
+    let many : length threads ≡ length lists = sym (length-map threads length) ∙ ap length lengths ∙ length-map lists length in
+    let calls : sum_by length threads ≡ sum_by length lists = sym (sum-map length threads) ∙ ap sum lengths ∙ sum-map length lists in
+    rw (← many, ← calls) fit

@@ -1,6 +1,7 @@
 pub mod ExampleTraces
 pub mod TraceTextExamples
 pub mod Items
+pub mod EndTexts
 pub mod Calls
 pub mod MarksReading
 pub mod Fitting

@@ -9,5 +9,5 @@ pub mod laws;
 mod read;
 mod trace;
 
-pub use read::{TraceFault, read_trace};
+pub use read::{SpanForm, TraceFault, read_trace};
 pub use trace::{Call, Kind, Lists, Marks, Trace};

@@ -13,6 +13,7 @@ mod span;
 use crate::trace::Trace;
 use head::trace;
 use serde_json::Value;
+pub use span::SpanForm;
 use std::alloc::{AllocError, AllocFailed, Global};
 use thiserror::Error;
 

@@ -1,6 +1,7 @@
-ghost use Rattle.std.specs.Prelude.{◌≡◌, ◌≤◌, true, map, length, option_map, slice_get, IfSome};
+ghost use Rattle.std.specs.Prelude.{◌≡◌, ◌≤◌, true, map, length, nat_le, option_map, slice_get, IfSome, SomeIff};
+ghost use Rattle.std.specs.List.{sum_by};
 ghost use Rattle.tsc_json.specs.Calls.{adds, call_fits, kind_of};
-ghost use Rattle.tsc_json.specs.Lists.{most_lists, most_calls, fits_trace};
+ghost use Rattle.tsc_json.specs.Lists.{most_lists, most_calls, most_marks, fits_trace};
 
 use std::marker::Model;
 use tsc_cache::{Config, Mark};
@@ -92,6 +93,12 @@ impl Call {
     }
 }
 
+/// How many lists a trace has at the most.
+pub(crate) const MOST_LISTS: usize = 64;
+
+/// And how many calls.
+pub(crate) const MOST_CALLS: usize = 65_536;
+
 /// How many marks a batch of a trace has at the most.
 pub(crate) const MOST_MARKS: usize = 1_024;
 
@@ -111,6 +118,16 @@ impl Model for Marks {
 }
 
 impl Marks {
+    /// These marks, where there are at most 1,024.
+    pub fn new(marks: Vec<Mark>) -> Option<Marks>
+        ensures { SomeIff result (length marks.items ≤ most_marks) marks.items }
+    {
+        if marks.len() > MOST_MARKS {
+            return None;
+        }
+        Some(Marks::of(marks))
+    }
+
     /// These marks.
     pub(crate) fn of(marks: Vec<Mark>) -> Marks
         ensures { result ≡ marks.items }
@@ -124,6 +141,27 @@ impl Marks {
     {
         self.marks.as_slice()
     }
+}
+
+/// Whether lists have no more calls than a trace may have.
+fn has_few_calls(lists: &[Vec<Call>]) -> bool
+    ensures { result ≡ nat_le (sum_by length (map (λ calls. calls.items) lists.now)) most_calls }
+{
+    let mut left = MOST_CALLS;
+    for list in lists {
+        if list.len() > left {
+            return false;
+        }
+        left -= list.len();
+    }
+    true
+}
+
+/// Whether a trace may have these lists.
+fn fits(lists: &[Vec<Call>]) -> bool
+    ensures { result ≡ fits_trace (map (λ calls. calls.items) lists.now) }
+{
+    !lists.is_empty() && lists.len() <= MOST_LISTS && has_few_calls(lists)
 }
 
 /// The lists of a trace: 1 to 64 lists of calls, with at most 65,536 calls in all.
@@ -145,6 +183,17 @@ impl Model for Lists {
 }
 
 impl Lists {
+    /// These lists, where there are 1 to 64, with at most 65,536 calls in all.
+    pub fn new(lists: Vec<Vec<Call>>) -> Option<Lists>
+        ensures { SomeIff result (fits_trace (map (λ calls. calls.items) lists.items) ≡ true)
+            (map (λ calls. calls.items) lists.items) }
+    {
+        if !fits(&lists) {
+            return None;
+        }
+        Some(Lists::of(lists))
+    }
+
     /// These lists.
     pub(crate) fn of(lists: Vec<Vec<Call>>) -> Lists
         requires { fits_trace (map (λ calls. calls.items) lists.items) ≡ true }

@@ -13,17 +13,11 @@ use super::TraceFault;
 use super::call::{calls, time_in};
 use super::json::{array, has_only, needed, number_32, number_64, object};
 use super::part::{Refusal, SHAPE, at_call, both};
-use crate::trace::{Call, Lists, Trace};
+use crate::trace::{Call, Lists, MOST_CALLS, MOST_LISTS, Trace};
 use serde_json::{Map, Value};
 use std::alloc::Global;
 use tsc_cache::Config;
 use tsc_time::Timestamp;
-
-/// How many lists a trace has at the most.
-const MOST_LISTS: usize = 64;
-
-/// And how many calls.
-const MOST_CALLS: usize = 65_536;
 
 /// The numbers of a head, which a [`Config`] may be made of.
 #[derive(Clone, Copy, Debug, PartialEq, Eq)]

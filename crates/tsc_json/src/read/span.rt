@@ -25,7 +25,7 @@ const SPAN: Refusal = Refusal::Fault(PartFault::Span);
 
 /// The forms in which a trace writes a span.
 #[derive(Debug, Drop)]
-pub(crate) enum SpanForm {
+pub enum SpanForm {
     /// A key alone.
     Start(Key),
     /// A start, and an end that is excluded. An empty end means the start alone.
@@ -34,6 +34,64 @@ pub(crate) enum SpanForm {
     Range(Key, Key, Ends),
     /// A start, which may be excluded, and all keys after it.
     Onward(Key, bool),
+}
+
+impl SpanForm {
+    /// Which ends two brackets exclude, as `[)` does the end alone. Another text gives none.
+    #[tactic(auto, unfolding(crate::specs::TraceText::ends_in))]
+    pub fn ends(brackets: &str) -> Option<Ends>
+        ensures { result ≡ result_ok (ends_in brackets.now) }
+    {
+        let (exclude_from, exclude_to) = match brackets {
+            "[]" => (false, false),
+            "[)" => (false, true),
+            "(]" => (true, false),
+            "()" => (true, true),
+            _ => return None,
+        };
+        Some(Ends {
+            exclude_from,
+            exclude_to,
+        })
+    }
+
+    /// Whether a bracket excludes the start, as `(` does and `[` does not. Another text gives none.
+    #[tactic(auto, unfolding(crate::specs::TraceText::excluded_in))]
+    pub fn excluded(bracket: &str) -> Option<bool>
+        ensures { result ≡ result_ok (excluded_in bracket.now) }
+    {
+        match bracket {
+            "[" => Some(false),
+            "(" => Some(true),
+            _ => None,
+        }
+    }
+
+    /// The span of an Add or of a mark. An inverted one gives none.
+    #[tactic(auto, unfolding(crate::specs::TraceText::span_of_form))]
+    pub fn to_add(self) -> Option<Span>
+        ensures { result ≡ span_of_form self }
+    {
+        match self {
+            SpanForm::Start(start) => Some(Span::point(start)),
+            SpanForm::StartToEnd(start, end) => Span::of(start, end).ok(),
+            SpanForm::Range(start, end, ends) => Span::range(start, end, ends).ok(),
+            SpanForm::Onward(start, excluded) => Some(Span::onward(start, excluded)),
+        }
+    }
+
+    /// The span of a lookup. An inverted one is the empty span.
+    #[tactic(auto, unfolding(crate::specs::TraceText::span_of_form))]
+    pub fn to_look_up(self) -> Span
+        ensures { result ≡ unwrap_or (span_of_form self) nothing }
+    {
+        match self {
+            SpanForm::Start(start) => Span::point(start),
+            SpanForm::StartToEnd(start, end) => from_start_to_end(start, end),
+            SpanForm::Range(start, end, ends) => Span::for_lookup(start, end, ends),
+            SpanForm::Onward(start, excluded) => Span::onward(start, excluded),
+        }
+    }
 }
 
 /// The bytes that hexadecimal digits stand for.
@@ -64,42 +122,12 @@ fn two_keys(alloc: Global, first: &Value, second: &Value) -> Result<(Key, Key), 
     both(key(alloc, first), key(alloc, second))
 }
 
-/// Which ends two brackets exclude.
-#[tactic(auto, unfolding(crate::specs::TraceText::ends_in))]
-fn ends_by_text(brackets: &str) -> Result<Ends, Refusal>
-    ensures { Gives (λ ends. ends) result (ends_in brackets.now) }
-{
-    let (exclude_from, exclude_to) = match brackets {
-        "[]" => (false, false),
-        "[)" => (false, true),
-        "(]" => (true, false),
-        "()" => (true, true),
-        _ => return Err(SHAPE),
-    };
-    Ok(Ends {
-        exclude_from,
-        exclude_to,
-    })
-}
-
 /// Which ends a text of two brackets excludes.
 #[tactic(auto, unfolding(crate::specs::TraceText::ends_of))]
 fn ends(value: &Value) -> Result<Ends, Refusal>
     ensures { Gives (λ ends. ends) result (ends_of (view value.now)) }
 {
-    ends_by_text(text(value)?)
-}
-
-/// Whether a bracket excludes the start.
-#[tactic(auto, unfolding(crate::specs::TraceText::excluded_in))]
-fn excluded_by_text(bracket: &str) -> Result<bool, Refusal>
-    ensures { Gives (λ excluded. excluded) result (excluded_in bracket.now) }
-{
-    match bracket {
-        "[" => Ok(false),
-        "(" => Ok(true),
-        _ => Err(SHAPE),
-    }
+    SpanForm::ends(text(value)?).ok_or(SHAPE)
 }
 
 /// Whether a text of one bracket excludes the start.
@@ -107,7 +135,7 @@ fn excluded_by_text(bracket: &str) -> Result<bool, Refusal>
 fn excluded(value: &Value) -> Result<bool, Refusal>
     ensures { Gives (λ excluded. excluded) result (excluded_of (view value.now)) }
 {
-    excluded_by_text(text(value)?)
+    SpanForm::excluded(text(value)?).ok_or(SHAPE)
 }
 
 /// Two keys and the brackets of both.
@@ -180,30 +208,19 @@ fn span_form(alloc: Global, value: &Value) -> Result<SpanForm, Refusal>
 }
 
 /// The span of an Add. An inverted one is refused.
-#[tactic(auto, unfolding(crate::specs::TraceText::added_span, crate::specs::TraceText::span_of_form))]
+#[tactic(auto, unfolding(crate::specs::TraceText::added_span))]
 pub(super) fn added_span(alloc: Global, value: &Value) -> Result<Span, Refusal>
     ensures { Gives (λ span. span) result (added_span (view value.now)) }
 {
-    let span = match span_form(alloc, value)? {
-        SpanForm::Start(start) => return Ok(Span::point(start)),
-        SpanForm::StartToEnd(start, end) => Span::of(start, end),
-        SpanForm::Range(start, end, ends) => Span::range(start, end, ends),
-        SpanForm::Onward(start, excluded) => return Ok(Span::onward(start, excluded)),
-    };
-    span.map_err(|_| SPAN)
+    span_form(alloc, value)?.to_add().ok_or(SPAN)
 }
 
 /// The span of a lookup. An inverted one is the empty span.
-#[tactic(auto, unfolding(crate::specs::TraceText::looked_up_span, crate::specs::TraceText::span_of_form))]
+#[tactic(auto, unfolding(crate::specs::TraceText::looked_up_span))]
 pub(super) fn looked_up_span(alloc: Global, value: &Value) -> Result<Span, Refusal>
     ensures { Gives (λ span. span) result (looked_up_span (view value.now)) }
 {
-    Ok(match span_form(alloc, value)? {
-        SpanForm::Start(start) => Span::point(start),
-        SpanForm::StartToEnd(start, end) => from_start_to_end(start, end),
-        SpanForm::Range(start, end, ends) => Span::for_lookup(start, end, ends),
-        SpanForm::Onward(start, excluded) => Span::onward(start, excluded),
-    })
+    Ok(span_form(alloc, value)?.to_look_up())
 }
 
 /// The keys from a start to an end, which is excluded, for a lookup. An empty end means the start alone.
