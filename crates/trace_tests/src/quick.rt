@@ -539,3 +539,27 @@ fn both_readers_tell_the_same_of_nested_lists(rt: HostRuntime) -> Result<(), Fai
     assert_eq!(rt; first_nested_apart(rt.alloc(), &NESTED)?, None);
     Ok(())
 }
+
+/// A trace, and texts with a fault in the head, in the last call, and in what JSON is.
+static FEW: [&str; 4] = [
+    SAMPLE,
+    r#"{"page_first":132,"page_max":8256,"min_pages":2,"retention":10,"low_water":[5],"threads":[[{"op":"low"}]]}"#,
+    r#"{"page_first":132,"page_max":8256,"min_pages":2,"retention":10,"low_water":[5,0],"threads":[[{"op":"low"},{"op":"get","span":{"start":"6"}}]]}"#,
+    r#"{"page_first":132,"page_max":8256,"min_pages":2,"retention":10,"low_water":[5,0],"threads":[[{"op":"low"}]]"#,
+];
+
+/// The first of the texts, from 0, of which the readers tell different things.
+fn first_text_apart(alloc: Global, texts: &[&str]) -> Option<usize> {
+    for (i, text) in texts.iter().enumerate() {
+        if told(alloc, text.as_bytes()).is_none() {
+            return Some(i);
+        }
+    }
+    None
+}
+
+#[test]
+fn a_refused_growth_changes_no_answer(rt: HostRuntime) -> Result<(), Fail> {
+    assert_eq!(rt; first_text_apart(rt.alloc(), &FEW), None);
+    Ok(())
+}

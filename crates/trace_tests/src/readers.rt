@@ -6,13 +6,25 @@ use tsc_json::{Call, Marks, Trace, TraceFault};
 /// What reading tells: how many calls there are, or the fault.
 pub type Told = Result<usize, TraceFault>;
 
-/// What both readers tell of these bytes, the one that takes a trace from the tokens where it can and the one of JSON
-/// values; or none where they differ.
+/// What the reader tells that takes a trace from its tokens where it can. Where memory is refused it is asked once more.
+fn read_quickly(alloc: Global, bytes: &[u8]) -> Result<Trace, TraceFault> {
+    match tsc_trace::read_trace(alloc, bytes) {
+        Err(TraceFault::NoMemory) => tsc_trace::read_trace(alloc, bytes),
+        read => read,
+    }
+}
+
+/// What the reader of JSON values tells, in the same way.
+fn read_by_values(alloc: Global, bytes: &[u8]) -> Result<Trace, TraceFault> {
+    match tsc_json::read_trace(alloc, bytes) {
+        Err(TraceFault::NoMemory) => tsc_json::read_trace(alloc, bytes),
+        read => read,
+    }
+}
+
+/// What both readers tell of these bytes, or none where they differ.
 pub fn told(alloc: Global, bytes: &[u8]) -> Option<Told> {
-    match (
-        tsc_trace::read_trace(alloc, bytes),
-        tsc_json::read_trace(alloc, bytes),
-    ) {
+    match (read_quickly(alloc, bytes), read_by_values(alloc, bytes)) {
         (Ok(trace), Ok(other)) if is_same_trace(&trace, &other) => Some(Ok(count_calls(&trace))),
         (Err(fault), Err(other)) if fault == other => Some(Err(fault)),
         _ => None,
