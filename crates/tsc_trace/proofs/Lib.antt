@@ -5,6 +5,7 @@ pub mod Playing
 pub mod ListSteps
 pub mod Cuts
 pub mod LineTexts
+pub mod Printing
 pub mod FieldReading
 pub mod LogReadings
 pub mod OneText

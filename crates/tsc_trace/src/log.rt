@@ -3,9 +3,9 @@ ghost use Rattle.tsc_trace.specs.Sayings.{front_of, kind_of_said, told_of};
 ghost use Rattle.tsc_trace.specs.LogText.{bit_text, log_text};
 ghost use Rattle.tsc_trace.specs.LogReading.{IsWritable};
 
+use crate::printer::Printer;
 use std::alloc::Global;
 use std::fmt;
-use std::fmt::Write;
 use std::marker::Model;
 use tsc_cache::Added;
 use tsc_json::Kind;
@@ -190,10 +190,11 @@ pub fn log_text(alloc: Global, log: &Log) -> Result<Vec<u8>, NoMemory>
     ensures value { IfOk result (λ text. text.items ≡ log_text log.now.lines) }
     ensures writable { IfOk result (λ _. All IsWritable log.now.lines) }
 {
-    let mut text = String::new(alloc);
+    let mut text = Vec::new(alloc);
+    let mut printer = Printer::new();
     for line in log.lines.slice() {
         let line = line.held();
-        writeln!(text, "{line}")?;
+        text.extend_from_slice(printer.ended_line(&line))?;
     }
-    Ok(text.into_bytes())
+    Ok(text)
 }

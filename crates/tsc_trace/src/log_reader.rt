@@ -7,9 +7,9 @@ ghost use Rattle.tsc_trace.specs.declared.log_reader.LogFault.TheVariants.{NoMem
 mod line;
 
 use crate::log::{Line, Lines, Log};
+use crate::printer::Printer;
 use line::read_line;
 use std::alloc::{AllocError, AllocFailed, Global};
-use std::fmt::Write;
 use thiserror::Error;
 
 /// How many lines a log has at the most.
@@ -50,7 +50,7 @@ impl<T: Drop> From<AllocFailed<T>> for LogFault {
 #[derive(Drop)]
 struct Reader {
     lines: Vec<Line>,
-    printed: String,
+    printer: Printer,
 }
 
 impl Reader {
@@ -65,7 +65,7 @@ impl Reader {
             thread,
             index,
             said,
-        } = exact_line(number, text, &mut self.printed)?;
+        } = exact_line(number, text, &mut self.printer)?;
         self.lines.push(Line {
             thread,
             index,
@@ -84,7 +84,7 @@ pub fn read_log(alloc: Global, bytes: &[u8]) -> Result<Log, LogFault>
 {
     let mut reader = Reader {
         lines: Vec::new(alloc),
-        printed: String::new(alloc),
+        printer: Printer::new(),
     };
     let mut number: u64 = 0;
     let mut rest = bytes;
@@ -118,15 +118,13 @@ fn loose_line(text: &[u8]) -> Option<Line>
     read_line(str::from_utf8(text).ok()?)
 }
 
-/// The line that has just this text, and stands at this number. `printed` holds nothing that matters.
-fn exact_line(number: u64, text: &[u8], printed: &mut String) -> Result<Line, LogFault>
+/// The line that has just this text, and stands at this number. What `printer` holds doesn't matter.
+fn exact_line(number: u64, text: &[u8], printer: &mut Printer) -> Result<Line, LogFault>
     ensures { MatchResult result (λ line. IsWritable line × (text.now ≡ line_text line)) (λ fault.
         (fault ≡ LogFault.NoMemory) ⊎ ((fault ≡ LogFault.Text number) × IsNoLineText text.now)) }
 {
     let line = loose_line(text).ok_or(LogFault::Text(number))?;
-    printed.clear();
-    write!(printed, "{line}")?;
-    if printed.as_bytes() != text {
+    if printer.line(&line) != text {
         return Err(LogFault::Text(number));
     }
     Ok(line)

@@ -12,7 +12,8 @@ use std::alloc::Global;
 use std::error::Error;
 use std::fmt;
 use thiserror::Error;
-use tsc_json::{Trace, TraceFault, read_trace};
+use tsc_json::{Trace, TraceFault};
+use tsc_reader::read_trace;
 use tsc_stream::{InputFault, Sink, Source, WriteFailed, read_input, write_output};
 use tsc_time::NoMemory;
 

@@ -1,0 +1,10 @@
+pub mod Digits
+pub mod TokenLemmas
+pub mod MembersKept
+pub mod Values
+pub mod Each
+pub mod Owners
+pub mod SpanMembers
+pub mod MarkMembers
+pub mod CallMembers
+pub mod HeadMembers

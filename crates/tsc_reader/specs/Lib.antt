@@ -1,0 +1,2 @@
+pub mod TokenReads
+pub mod Kept
