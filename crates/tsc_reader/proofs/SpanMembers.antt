@@ -106,11 +106,11 @@ pub span_got : (old all now new : List Token) (found : Members) (parts : SpanPar
 span_got old all now new found parts None is h kept over forms = tt
 span_got old all now new found parts (Some form) is h kept over forms = (object found, members_over 0 old all now new found is h over, span_is found parts form kept (forms found kept))
 
-to_add : (d : Data) (form : SpanForm) (span : Interval) → span_form d ≡ Ok form → span_of_form form ≡ Some span → added_span d ≡ Ok span
+is_added : (d : Data) (form : SpanForm) (span : Interval) → span_form d ≡ Ok form → span_of_form form ≡ Some span → added_span d ≡ Ok span
 unfolding added_span
-to_add d form span is made = rw (is, made) refl
+is_added d form span is made = rw (is, made) refl
 
 -- the span of a form that is not inverted
 pub added_got : (old new : List Token) (form : SpanForm) (o : Option Interval) → Got 1 span_form old form new → o ≡ span_of_form form → IfSome o (λ span. Got 1 added_span old span new)
 added_got old new form None g is = tt
-added_got old new form (Some span) g is = (g.0, g.1, to_add g.0 form span g.2 (sym is))
+added_got old new form (Some span) g is = (g.0, g.1, is_added g.0 form span g.2 (sym is))

@@ -52,7 +52,7 @@ impl<'a> CallParts<'a> {
             return None;
         }
         let form = self.span?;
-        let span = form.to_add()?;
+        let span = form.added()?;
         let value = Value::of(self.time?, self.owner.unwrap_or(Uuid::nil()));
         let now = self.now?;
         Some(Call::Add { span, value, now })
@@ -82,7 +82,7 @@ impl<'a> CallParts<'a> {
             return None;
         }
         let form = self.span?;
-        let span = form.to_look_up();
+        let span = form.looked_up();
         Some(Call::Get { span })
     }
 

@@ -110,5 +110,5 @@ pub(super) fn added_span(alloc: Global, reader: &mut Reader<'_>) -> Option<Span>
     ensures { IfSome result (λ span. Got 1 added_span reader.old span reader.new) }
 {
     let form = span_form(alloc, reader)?;
-    form.to_add()
+    form.added()
 }
