@@ -1,20 +1,19 @@
 -- The members of a call that were read, and the call that they are.
-use Rattle.std.proofs.Common.{◌≡◌, ℕ, ◌+◌, ◌^◌, ◌<◌, ◌≤◌, ◌==◌, Bool, true, false, List, [], ◌∷◌, ◌++◌, length, Option, Some, None, Result, Ok, Err, Bor, IfSome, refl, sym, ap, ◌∙◌, arith}
-use Rattle.std.specs.Prelude.{codes, ok_or, unwrap_or, option_map, is_some}
-use Rattle.std.specs.Str.{bytes_eq}
+use Rattle.std.proofs.Common.{◌≡◌, ℕ, Bool, true, false, List, [], ◌∷◌, Option, Some, None, Ok, Bor, IfSome, refl, sym, ap, ◌∙◌}
+use Rattle.std.specs.Prelude.{codes, unwrap_or, option_map, is_some}
 use Rattle.serde_json.specs.Data.{Data, object, Members, no_members, put}
 use Rattle.json.specs.Token.{Token}
 use Rattle.json.specs.Json.{read_key}
 use Rattle.uuid.specs.Parts.{zero_bytes}
 use Rattle.tsc_time.specs.Time.{Time}
-use Rattle.tsc_time.specs.OwnedTime.{Owner, owner_of}
+use Rattle.tsc_time.specs.OwnedTime.{owner_of}
 use Rattle.tsc_span.specs.Span.{Interval, nothing}
 use Rattle.tsc_nodes.specs.Page.{Mark}
 use Rattle.tsc_json.specs.declared.trace.Call.{Call}
 use Rattle.tsc_json.specs.declared.trace.Call.TheVariants.{Add, Batch, Get, Low}
 use Rattle.tsc_json.specs.declared.read.span.SpanForm.{SpanForm}
-use Rattle.tsc_json.specs.TraceParts.{Part, ◌>>=◌}
-use Rattle.tsc_json.specs.TraceText.{object_of, text_of, needed, names_only, time_of, span_form, span_of_form, added_span, looked_up_span, owner_member, marks_of, add_names, add_of, batch_names, batch_of, get_names, get_of, low_of, call_by_name, call_of}
+use Rattle.tsc_json.specs.TraceParts.{Part}
+use Rattle.tsc_json.specs.TraceText.{object_of, text_of, needed, names_only, time_of, span_form, span_of_form, added_span, looked_up_span, marks_of, add_names, add_of, batch_names, batch_of, get_names, get_of, low_of, call_by_name, call_of}
 use Rattle.tsc_reader.specs.TokenReads.{Got, HasMembers}
 use Rattle.tsc_reader.specs.Kept.{KeepsCall, call_names, owner_there}
 use Rattle.tsc_reader.specs.declared.quick.call.CallParts.{CallParts}

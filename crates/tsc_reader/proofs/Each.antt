@@ -1,5 +1,5 @@
 -- Lists of which each item is read in the same way.
-use Rattle.std.proofs.Common.{◌≡◌, ℕ, ◌+◌, ◌^◌, ◌<◌, ◌≤◌, ◌==◌, Bool, true, false, List, [], ◌∷◌, ◌++◌, length, Option, Some, None, Result, Ok, Err, Bor, IfSome, refl, sym, ap, ◌∙◌, arith}
+use Rattle.std.proofs.Common.{◌≡◌, ℕ, ◌≤◌, true, List, [], ◌∷◌, ◌++◌, length, Option, Some, None, Result, Ok, Err, IfSome, refl, sym, ap, ◌∙◌}
 use Rattle.std.specs.Prelude.{suc, SomeIff, nat_le}
 use Rattle.std.proofs.lemmas.Bool.{le-leb}
 use Rattle.json.specs.Token.{Token}
@@ -10,10 +10,10 @@ use Rattle.tsc_nodes.specs.Page.{Mark}
 use Rattle.tsc_json.specs.declared.trace.Call.{Call}
 use Rattle.tsc_json.specs.Lists.{most_marks, fits_trace}
 use Rattle.tsc_json.specs.TraceData.{list_data}
-use Rattle.tsc_json.specs.TraceParts.{Part, ◌>>=◌, where_holds}
+use Rattle.tsc_json.specs.TraceParts.{Part, ◌>>=◌}
 use Rattle.tsc_json.specs.TraceText.{listed, array_of, mark_of, marks_in, with_others, few_of, marks_of}
 use Rattle.tsc_json.proofs.Calls.{one_and_rest}
-use Rattle.tsc_reader.specs.TokenReads.{Reads, Got, HasItems}
+use Rattle.tsc_reader.specs.TokenReads.{Got, HasItems}
 use Rattle.tsc_reader.specs.Kept.{each, list_of, call_list, threads_in}
 use Rattle.tsc_reader.proofs.TokenLemmas.{items_begin, items_go_on, items_over}
 

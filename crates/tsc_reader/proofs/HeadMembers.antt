@@ -1,6 +1,6 @@
 -- The members of a head that were read, and the trace that they are.
-use Rattle.std.proofs.Common.{◌≡◌, ℕ, ◌+◌, ◌^◌, ◌<◌, ◌≤◌, ◌==◌, Bool, true, false, List, [], ◌∷◌, ◌++◌, length, Option, Some, None, Result, Ok, Err, Bor, IfSome, refl, sym, ap, ◌∙◌, arith}
-use Rattle.std.specs.Prelude.{suc, codes, ok_or, ◌&&◌}
+use Rattle.std.proofs.Common.{◌≡◌, ℕ, ◌+◌, ◌^◌, Bool, true, false, List, [], ◌∷◌, length, Option, Some, None, Result, Ok, Err, IfSome, refl, sym, ap, ◌∙◌}
+use Rattle.std.specs.Prelude.{suc, codes, ok_or}
 use Rattle.std.specs.List.{list_all}
 use Rattle.std.specs.Result.{result_ok}
 use Rattle.std.proofs.lemmas.List.Elements.{All-nil, All-cons}

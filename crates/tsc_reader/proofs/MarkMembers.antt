@@ -1,22 +1,21 @@
 -- The members of a mark that were read, and the mark that they are.
-use Rattle.std.proofs.Common.{◌≡◌, ℕ, ◌+◌, ◌^◌, ◌<◌, ◌≤◌, ◌==◌, Bool, true, false, List, [], ◌∷◌, ◌++◌, length, Option, Some, None, Result, Ok, Err, Bor, IfSome, refl, sym, ap, ◌∙◌, arith}
-use Rattle.std.specs.Prelude.{codes, ok_or, unwrap_or, option_map}
+use Rattle.std.proofs.Common.{◌≡◌, ℕ, List, ◌∷◌, Option, Some, None, Ok, IfSome, refl}
+use Rattle.std.specs.Prelude.{codes, unwrap_or, option_map}
 use Rattle.serde_json.specs.Data.{Data, object, Members, no_members, put}
 use Rattle.json.specs.Token.{Token}
 use Rattle.json.specs.Json.{read_key}
 use Rattle.uuid.specs.Parts.{zero_bytes}
 use Rattle.tsc_time.specs.Time.{Time}
-use Rattle.tsc_time.specs.OwnedTime.{Owner, owner_of}
+use Rattle.tsc_time.specs.OwnedTime.{owner_of}
 use Rattle.tsc_span.specs.Span.{Interval}
 use Rattle.tsc_nodes.specs.Page.{Mark}
-use Rattle.tsc_json.specs.TraceParts.{Part, ◌>>=◌}
-use Rattle.tsc_json.specs.TraceText.{object_of, needed, time_of, added_span, owner_member, mark_names, mark_of}
+use Rattle.tsc_json.specs.TraceText.{object_of, needed, time_of, added_span, mark_names, mark_of}
 use Rattle.tsc_reader.specs.TokenReads.{Got, HasMembers}
 use Rattle.tsc_reader.specs.Kept.{KeepsMark, owner_there}
 use Rattle.tsc_reader.specs.declared.quick.mark.MarkParts.{MarkParts}
 use Rattle.tsc_reader.proofs.Owners.{owner_kept}
 use Rattle.tsc_reader.proofs.TokenLemmas.{members_over}
-use Rattle.tsc_reader.proofs.MembersKept.{named_put, keeps_new, keeps_other, kept_some, kept_none}
+use Rattle.tsc_reader.proofs.MembersKept.{named_put, keeps_new, keeps_other, kept_some}
 
 module _ (found : Members) (parts : MarkParts) (d : Data) (h : KeepsMark found parts) where
   pub mark_span : (span : Interval) → added_span d ≡ Ok span → KeepsMark (put (codes "span") d found) (record { span = Some span; time = parts.time; owner = parts.owner })

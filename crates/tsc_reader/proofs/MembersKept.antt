@@ -81,6 +81,16 @@ none_later k l d ms none = by (slice_cmp nat_cmp k l) none
     by Equal e = absurd cc
     by Greater e = e
 
+-- of two tests the second one held where the first did not
+second_holds : (a b : Bool) → (a ≡ true → ⊥) → a || b ≡ true → b ≡ true
+second_holds true b not_first h = absurd (not_first refl)
+second_holds false b not_first h = h
+
+-- the second one may be another that follows of it
+either_holds : (a b c : Bool) → (b ≡ true → c ≡ true) → a || b ≡ true → a || c ≡ true
+either_holds true b c follows h = refl
+either_holds false b c follows h = follows h
+
 -- another name than the one that is left out is still among them
 still_there : (k n : List ℕ) (ls : List (List ℕ)) → (bytes_eq n k ≡ true → ⊥) → list_any (bytes_eq n) ls ≡ true → list_any (bytes_eq n) (without k ls) ≡ true
 still_there k n [] other h = h
@@ -89,17 +99,9 @@ still_there k n (l ∷ ls) other h = by (still_there k n ls other) (bytes_eq l k
     same : n ≡ l → l ≡ k → bytes_eq n k ≡ true
     same a b = ap (λ m. bytes_eq m k) (a ∙ b) ∙ bytes_eq-itself k
 
-    or_rest : (list_any (bytes_eq n) ls ≡ true → list_any (bytes_eq n) (without k ls) ≡ true) → (here : Bool) → here || list_any (bytes_eq n) ls ≡ true → here || list_any (bytes_eq n) (without k ls) ≡ true
-    or_rest rest true e = refl
-    or_rest rest false e = rest e
-
-    in_rest : (list_any (bytes_eq n) ls ≡ true → list_any (bytes_eq n) (without k ls) ≡ true) → (here : Bool) → (here ≡ true → ⊥) → here || list_any (bytes_eq n) ls ≡ true → list_any (bytes_eq n) (without k ls) ≡ true
-    in_rest rest true not_here e = absurd (not_here refl)
-    in_rest rest false not_here e = rest e
-
     by : (list_any (bytes_eq n) ls ≡ true → list_any (bytes_eq n) (without k ls) ≡ true) → (left_out : Bool) → (left_out ≡ true → l ≡ k) → list_any (bytes_eq n) (cond left_out (without k ls) (l ∷ without k ls)) ≡ true
-    by rest true is = in_rest rest (bytes_eq n l) (λ at. other (same ((bytes_eq-Decides n l).0 at) (is refl))) h
-    by rest false is = or_rest rest (bytes_eq n l) h
+    by rest true is = rest (second_holds (bytes_eq n l) (list_any (bytes_eq n) ls) (λ at. other (same ((bytes_eq-Decides n l).0 at) (is refl))) h)
+    by rest false is = either_holds (bytes_eq n l) (list_any (bytes_eq n) ls) (list_any (bytes_eq n) (without k ls)) rest h
 
 -- a name that finds nothing can be left out
 pub named_without : (k : List ℕ) (ks : List (List ℕ)) (ms : Members) → names_only ks ms ≡ true → get_member k ms ≡ None → names_only (without k ks) ms ≡ true

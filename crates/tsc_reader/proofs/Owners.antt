@@ -1,10 +1,10 @@
 -- The owner of a mark or of an Add.
-use Rattle.std.proofs.Common.{◌≡◌, ℕ, ◌+◌, ◌^◌, ◌<◌, ◌≤◌, ◌==◌, Bool, true, false, List, [], ◌∷◌, ◌++◌, length, Option, Some, None, Result, Ok, Err, Bor, IfSome, refl, sym, ap, ◌∙◌, arith}
+use Rattle.std.proofs.Common.{◌≡◌, ℕ, List, Option, Some, None, Ok, refl, ap, ◌∙◌}
 use Rattle.std.specs.Prelude.{codes, unwrap_or, option_map}
-use Rattle.serde_json.specs.Data.{Data, Members}
+use Rattle.serde_json.specs.Data.{Members}
 use Rattle.serde_json.specs.Find.{get_member}
 use Rattle.uuid.specs.Parts.{zero_bytes}
-use Rattle.tsc_time.specs.OwnedTime.{Owner, owner_of}
+use Rattle.tsc_time.specs.OwnedTime.{owner_of}
 use Rattle.tsc_json.specs.TraceText.{owner_member}
 use Rattle.tsc_reader.specs.TokenReads.{Keeps}
 use Rattle.tsc_reader.specs.Kept.{owner_there}

@@ -1,6 +1,6 @@
 -- The members of a span that were read, and the form that they are.
-use Rattle.std.proofs.Common.{◌≡◌, ℕ, ◌+◌, ◌^◌, ◌<◌, ◌≤◌, ◌==◌, Bool, true, false, List, [], ◌∷◌, ◌++◌, length, Option, Some, None, Result, Ok, Err, Bor, IfSome, refl, sym, ap, ◌∙◌, arith}
-use Rattle.std.specs.Prelude.{codes, ok_or}
+use Rattle.std.proofs.Common.{◌≡◌, Bool, List, ◌∷◌, Option, Some, None, Ok, IfSome, refl, sym}
+use Rattle.std.specs.Prelude.{codes}
 use Rattle.serde_json.specs.Data.{Data, object, Members, no_members, put}
 use Rattle.json.specs.Token.{Token}
 use Rattle.json.specs.Json.{read_key}
@@ -8,7 +8,6 @@ use Rattle.tsc_span.specs.Span.{KeyBytes, Interval}
 use Rattle.tsc_span.specs.declared.span.Ends.{Ends}
 use Rattle.tsc_json.specs.declared.read.span.SpanForm.{SpanForm}
 use Rattle.tsc_json.specs.declared.read.span.SpanForm.TheVariants.{Start, StartToEnd, Range, Onward}
-use Rattle.tsc_json.specs.TraceParts.{Part, ◌>>=◌}
 use Rattle.tsc_json.specs.TraceText.{object_of, needed, key_of, ends_of, excluded_of, start_form, start_to_end_form, range_form, onward_form, form_of, span_names, form_in, span_form, span_of_form, added_span}
 use Rattle.tsc_reader.specs.TokenReads.{Got, HasMembers}
 use Rattle.tsc_reader.specs.Kept.{KeepsSpan}

@@ -1,5 +1,5 @@
 -- The least values, as they are read from tokens: numbers, times and texts.
-use Rattle.std.proofs.Common.{◌≡◌, ℕ, ◌+◌, ◌^◌, ◌<◌, ◌≤◌, ◌==◌, Bool, true, false, List, [], ◌∷◌, ◌++◌, length, Option, Some, None, Result, Ok, Err, Bor, IfSome, refl, sym, ap, ◌∙◌, arith}
+use Rattle.std.proofs.Common.{◌≡◌, ℕ, ◌^◌, ◌<◌, ◌==◌, true, false, List, [], ◌∷◌, length, Option, Some, None, Result, Ok, Err, IfSome, refl, sym, ap, ◌∙◌}
 use Rattle.std.specs.Prelude.{OkIff, SomeIff, slice_index, nat_lt}
 use Rattle.std.specs.Result.{result_ok}
 use Rattle.std.proofs.lemmas.Bool.{lt-ltb}
@@ -9,11 +9,10 @@ use Rattle.json.specs.Json.{after_end_array}
 use Rattle.serde_json.specs.Data.{Data, unsigned, number, string, null}
 use Rattle.serde_json.specs.Read.{number_of, number_from}
 use Rattle.uuid.specs.Parts.{zero_bytes}
-use Rattle.tsc_time.specs.Time.{Time}
 use Rattle.tsc_time.specs.OwnedTime.{Owner, owner_of}
 use Rattle.tsc_json.specs.TraceData.{list_data}
 use Rattle.tsc_json.specs.TraceParts.{Part}
-use Rattle.tsc_json.specs.TraceText.{array_of, two_of, unsigned_of, number_below, text_of, time_in_range, time_of, key_of, ends_in, ends_of, excluded_in, excluded_of, owner_in, owner_member}
+use Rattle.tsc_json.specs.TraceText.{array_of, two_of, unsigned_of, number_below, text_of, time_in_range, time_of, ends_in, ends_of, excluded_in, excluded_of, owner_in, owner_member}
 use Rattle.tsc_reader.specs.TokenReads.{Reads, Got}
 use Rattle.tsc_reader.specs.Kept.{owner_there}
 use Rattle.tsc_reader.proofs.TokenLemmas.{items_begin, items_go_on, items_over, string_reads}

@@ -9,7 +9,7 @@ use tsc_json::{Call, Marks, Trace, read_trace};
 
 /// What comes of a text in one pass.
 #[derive(Clone, Copy, Debug, PartialEq, Eq)]
-enum Quick {
+enum OnePass {
     /// Nothing.
     None,
     /// The trace that the reader of JSON values gives.
@@ -18,9 +18,9 @@ enum Quick {
     Other,
 }
 
-const NONE: Quick = Quick::None;
+const NONE: OnePass = OnePass::None;
 
-const SAME: Quick = Quick::Same;
+const SAME: OnePass = OnePass::Same;
 
 /// The numbers of a head, in which a page has room for short keys alone.
 const HEAD: &str =
@@ -33,7 +33,7 @@ type Row = (
     &'static str,
     usize,
     &'static str,
-    Quick,
+    OnePass,
 );
 
 /// Traces without a fault.
@@ -373,12 +373,18 @@ fn is_same_trace(first: &Trace, second: &Trace) -> bool {
 }
 
 /// What comes of a text in one pass.
-fn quick(alloc: Global, text: &str) -> Quick {
+fn read_once(alloc: Global, text: &str) -> OnePass {
     let bytes = text.as_bytes();
-    match (quick_trace(alloc, bytes), read_trace(alloc, bytes)) {
-        (None, _) => Quick::None,
-        (Some(trace), Ok(wanted)) if is_same_trace(&trace, &wanted) => Quick::Same,
-        (Some(_), _) => Quick::Other,
+    let Some(trace) = quick_trace(alloc, bytes) else {
+        return OnePass::None;
+    };
+    let Ok(wanted) = read_trace(alloc, bytes) else {
+        return OnePass::Other;
+    };
+    if is_same_trace(&trace, &wanted) {
+        OnePass::Same
+    } else {
+        OnePass::Other
     }
 }
 
@@ -404,7 +410,7 @@ fn text_of(
 fn right_rows(alloc: Global, rows: &[Row]) -> Result<usize, Fail> {
     for (i, (head, front, piece, times, tail, wanted)) in rows.iter().enumerate() {
         let text = text_of(alloc, head, front, piece, *times, tail)?;
-        if quick(alloc, &text) != *wanted {
+        if read_once(alloc, &text) != *wanted {
             return Ok(i);
         }
     }

@@ -1,6 +1,6 @@
 use Rattle.std.proofs.Common.{◌≡◌, true, sym, ap, ◌∙◌}
 use Rattle.tsc_reader.specs.Kept.{each_fits}
-use Rattle.tsc_reader.proofs.HeadMembers.{trace_is, asked_ok, all_hold}
+use Rattle.tsc_reader.proofs.HeadMembers.{trace_is, asked_ok}
 use Rattle.tsc_reader.proofs.quick.head.HeadParts.trace.Goals as goal
 
 pub returns : goal.returns
