@@ -2,7 +2,11 @@
 //!
 //! No contract says that anything is read in one pass: that always none is given would keep each. So it is counted here.
 
+mod examples;
+mod orders;
+
 use crate::quick::quick_trace;
+use examples::EXAMPLES;
 use std::alloc::Global;
 use std::test::*;
 use tsc_json::{Call, Marks, Trace, read_trace};
@@ -417,9 +421,21 @@ fn right_rows(alloc: Global, rows: &[Row]) -> Result<usize, Fail> {
     Ok(rows.len())
 }
 
+/// How many of the examples are read in one pass.
+fn examples_read(alloc: Global) -> usize {
+    let mut read: usize = 0;
+    for text in &EXAMPLES {
+        if read_once(alloc, text) == SAME {
+            read = read.saturating_add(1);
+        }
+    }
+    read
+}
+
 #[test]
 fn reads_what_has_no_fault_in_one_pass(rt: HostRuntime) -> Result<(), Fail> {
     assert_eq!(rt; right_rows(rt.alloc(), &FAULTLESS)?, 21);
     assert_eq!(rt; right_rows(rt.alloc(), &FAULTY)?, 18);
+    assert_eq!(rt; examples_read(rt.alloc()), 6);
     Ok(())
 }

@@ -1,0 +1,73 @@
+//! The traces of `examples/`, as they stand there.
+
+pub(super) static EXAMPLES: [&str; 6] = [
+    r#"{"page_first":264,"page_max":264,"min_pages":1,"retention":10000000000,"low_water":[5,0],"threads":[[
+{"op":"low"},
+{"op":"add","span":{"start":"61"},"time":[5,0],"owner":"11111111-1111-4111-8111-111111111111","now":[20,0]},
+{"op":"get","span":{"start":"61"}},
+{"op":"add","span":{"start":"61"},"time":[5,1],"owner":"11111111-1111-4111-8111-111111111111","now":[20,0]},
+{"op":"get","span":{"start":"61"}},
+{"op":"add","span":{"start":"61"},"time":[5,1],"owner":"00000000-0000-0000-0000-000000000000","now":[20,0]},
+{"op":"get","span":{"start":"61"}},
+{"op":"low"}]]}
+"#,
+    r#"{"page_first":528,"page_max":528,"min_pages":2,"retention":10,"low_water":[0,0],"threads":[[
+{"op":"add","span":{"start":"","end":"62"},"time":[10,0],"owner":null,"now":[10,0]},
+{"op":"get","span":{"start":""}},
+{"op":"get","span":{"start":"61ff"}},
+{"op":"get","span":{"start":"62"}},
+{"op":"add","span":{"start":"70","end":""},"time":[20,7],"owner":"33333333-3333-4333-8333-333333333333","now":[20,0]},
+{"op":"get","span":{"start":"70"}},
+{"op":"get","span":{"start":"7000"}},
+{"op":"get","span":{"start":"61","end":"71"}},
+{"op":"get","span":{"start":"71","end":"61"}}]]}
+"#,
+    r#"{"page_first":99,"page_max":99,"min_pages":2,"retention":10,"low_water":[5,0],"threads":[[
+{"op":"add","span":{"start":"61"},"time":[20,0],"owner":"11111111-1111-4111-8111-111111111111","now":[20,0]},
+{"op":"add","span":{"start":"62","end":"63"},"time":[20,1],"owner":"11111111-1111-4111-8111-111111111111","now":[20,0]},
+{"op":"get","span":{"start":"61"}}],[
+{"op":"add","span":{"start":"64"},"time":[25,0],"owner":"22222222-2222-4222-8222-222222222222","now":[25,0]},
+{"op":"get","span":{"start":"61"}},
+{"op":"low"},
+{"op":"add","span":{"start":"65","end":"67","ends":"[]"},"time":[41,0],"owner":"22222222-2222-4222-8222-222222222222","now":[41,0]},
+{"op":"get","span":{"start":"66"}}],[
+{"op":"add","span":{"start":"68","onward":"["},"time":[42,0],"owner":"33333333-3333-4333-8333-333333333333","now":[42,0]},
+{"op":"low"},
+{"op":"get","span":{"start":"61"}},
+{"op":"get","span":{"start":"64"}},
+{"op":"get","span":{"start":"61","end":"69"}}]]}
+"#,
+    r#"{"page_first":132,"page_max":132,"min_pages":2,"retention":10,"low_water":[5,0],"threads":[[
+{"op":"batch","marks":[
+{"span":{"start":"61","end":"63"},"time":[20,0],"owner":"11111111-1111-4111-8111-111111111111"},
+{"span":{"start":"64"},"time":[20,0],"owner":"11111111-1111-4111-8111-111111111111"},
+{"span":{"start":"61"},"time":[20,0],"owner":"22222222-2222-4222-8222-222222222222"}],"now":[20,0]},
+{"op":"get","span":{"start":"61"}},
+{"op":"get","span":{"start":"62"}},
+{"op":"get","span":{"start":"63"}},
+{"op":"batch","marks":[],"now":[20,0]},
+{"op":"add","span":{"start":"65","onward":"("},"time":[30,0],"now":[30,0]},
+{"op":"get","span":{"start":"64","end":"66"}},
+{"op":"batch","marks":[
+{"span":{"start":"66"},"time":[40,0],"owner":null},
+{"span":{"start":"67"},"time":[40,0]}],"now":[40,0]},
+{"op":"get","span":{"start":"61"}},
+{"op":"low"}]]}
+"#,
+    r#"{"page_first":132,"page_max":132,"min_pages":2,"retention":10,"low_water":[5,0],"threads":[[
+{"op":"add","span":{"start":"61","end":"63"},"time":[20,0],"owner":"11111111-1111-4111-8111-111111111111","now":[20,0]},
+{"op":"get","span":{"start":"62"}},
+{"op":"get","span":{"start":"63"}},
+{"op":"add","span":{"start":"62"},"time":[20,0],"owner":"22222222-2222-4222-8222-222222222222","now":[20,0]},
+{"op":"get","span":{"start":"61"}},
+{"op":"get","span":{"start":"62"}},
+{"op":"get","span":{"start":"61","end":"63"}}]]}
+"#,
+    r#"{"page_first":132,"page_max":132,"min_pages":2,"retention":10,"low_water":[5,0],"threads":[[
+{"op":"add","span":{"start":"61","end":"63"},"time":[20,0],"owner":"11111111-1111-4111-8111-111111111111","now":[20,0]},
+{"op":"get","span":{"start":"62"}}],[
+{"op":"add","span":{"start":"62"},"time":[30,0],"owner":"22222222-2222-4222-8222-222222222222","now":[30,0]},
+{"op":"get","span":{"start":"62"}},
+{"op":"get","span":{"start":"61"}}]]}
+"#,
+];
