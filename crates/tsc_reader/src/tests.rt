@@ -41,7 +41,7 @@ type Row = (
 );
 
 /// Traces without a fault.
-static FAULTLESS: [Row; 21] = [
+static FAULTLESS: [Row; 23] = [
     (HEAD, "[", "[],", 63, "[]]", SAME),
     (
         HEAD,
@@ -194,6 +194,22 @@ static FAULTLESS: [Row; 21] = [
         r#"{"op":"batch","marks":[],"now":[0,0]},"#,
         100,
         r#"{"op":"low"}], [ ]]"#,
+        SAME,
+    ),
+    (
+        HEAD,
+        r#"[[{"op":"batch","now":[20,0],"marks":["#,
+        r#"{"span":{"start":""},"time":[1,0]},"#,
+        1023,
+        r#"{"span":{"start":""},"time":[1,0]}]}]]"#,
+        SAME,
+    ),
+    (
+        HEAD,
+        "[[",
+        r#"{"op":"low"},"#,
+        65_535,
+        r#"{"op":"low"}]]"#,
         SAME,
     ),
 ];
@@ -434,7 +450,7 @@ fn examples_read(alloc: Global) -> usize {
 
 #[test]
 fn reads_what_has_no_fault_in_one_pass(rt: HostRuntime) -> Result<(), Fail> {
-    assert_eq!(rt; right_rows(rt.alloc(), &FAULTLESS)?, 21);
+    assert_eq!(rt; right_rows(rt.alloc(), &FAULTLESS)?, 23);
     assert_eq!(rt; right_rows(rt.alloc(), &FAULTY)?, 18);
     assert_eq!(rt; examples_read(rt.alloc()), 6);
     Ok(())
