@@ -8,8 +8,4 @@ mod json;
 #[cfg(test)]
 mod log;
 #[cfg(test)]
-mod quick;
-#[cfg(test)]
-mod readers;
-#[cfg(test)]
 mod replay;
