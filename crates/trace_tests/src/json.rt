@@ -1,9 +1,8 @@
+use crate::readers::{Told, told};
 use std::alloc::Global;
 use std::test::*;
-use tsc_json::{Call, Trace, TraceFault, read_trace};
-
-/// What reading tells: how many calls there are, or the fault.
-type Told = Result<usize, TraceFault>;
+use tsc_json::{Call, Trace, TraceFault};
+use tsc_trace::read_trace;
 
 const CONFIG: Told = Err(TraceFault::Config);
 
@@ -632,17 +631,6 @@ static NO_JSON: [&[u8]; 6] = [
     b"{\"threads\":\"\xff\"}",
 ];
 
-/// What reading tells of a text.
-fn told(alloc: Global, text: &str) -> Told {
-    let trace = read_trace(alloc, text.as_bytes())?;
-    let mut calls = 0;
-    for i in 0..trace.threads.len() {
-        let list = trace.threads.list(i).map_or(0, |list| list.len());
-        calls = list.saturating_add(calls);
-    }
-    Ok(calls)
-}
-
 /// The first of the heads, from 0, of which something else is told.
 fn wrong_head(alloc: Global, rows: &[Head]) -> Result<Option<usize>, Fail> {
     for (i, (page_first, page_max, min_pages, retention, low_water, threads, want)) in rows
@@ -652,7 +640,7 @@ fn wrong_head(alloc: Global, rows: &[Head]) -> Result<Option<usize>, Fail> {
         let text = format!(in alloc;
             "{{\"page_first\":{page_first},\"page_max\":{page_max},\"min_pages\":{min_pages},\"retention\":{retention},\"low_water\":{low_water},\"threads\":{threads}}}"
         )?;
-        if told(alloc, &text) != *want {
+        if told(alloc, text.as_bytes()) != Some(*want) {
             return Ok(Some(i));
         }
     }
@@ -668,7 +656,7 @@ fn wrong_text(
 ) -> Result<Option<usize>, Fail> {
     for (i, (row, want)) in rows.iter().enumerate() {
         let text = format!(in alloc; "{before}{row}{behind}")?;
-        if told(alloc, &text) != *want {
+        if told(alloc, text.as_bytes()) != Some(*want) {
             return Ok(Some(i));
         }
     }
@@ -685,6 +673,33 @@ fn wrong_threads(alloc: Global, rows: &[(&str, Told)]) -> Result<Option<usize>, 
 fn wrong_call(alloc: Global, rows: &[(&str, Told)]) -> Result<Option<usize>, Fail> {
     let before = format!(in alloc; "{{{HEAD},\"threads\":[[")?;
     wrong_text(alloc, &before, rows, "]]}")
+}
+
+/// A fault of the call two places further on.
+fn two_later(fault: TraceFault) -> TraceFault {
+    match fault {
+        TraceFault::Shape(call) => TraceFault::Shape(call.saturating_add(2)),
+        TraceFault::Number(call) => TraceFault::Number(call.saturating_add(2)),
+        TraceFault::Hex(call) => TraceFault::Hex(call.saturating_add(2)),
+        TraceFault::Uuid(call) => TraceFault::Uuid(call.saturating_add(2)),
+        TraceFault::Span(call) => TraceFault::Span(call.saturating_add(2)),
+        TraceFault::TooLarge(call) => TraceFault::TooLarge(call.saturating_add(2)),
+        TraceFault::NotJson | TraceFault::Config | TraceFault::NoMemory => fault,
+    }
+}
+
+/// The first of the calls, from 0, of which something else is told where it is the third of four.
+fn wrong_third_call(alloc: Global, rows: &[(&str, Told)]) -> Result<Option<usize>, Fail> {
+    for (i, (row, want)) in rows.iter().enumerate() {
+        let text = format!(in alloc;
+            "{{{HEAD},\"threads\":[[{{\"op\":\"low\"}}],[{{\"op\":\"low\"}},{row},{{\"op\":\"low\"}}]]}}"
+        )?;
+        let want = want.map(|calls| calls.saturating_add(3)).map_err(two_later);
+        if told(alloc, text.as_bytes()) != Some(want) {
+            return Ok(Some(i));
+        }
+    }
+    Ok(None)
 }
 
 /// A trace with these members, and `threads` of a front, a piece as often as this, and a tail.
@@ -709,7 +724,7 @@ fn long_trace(
 fn wrong_long_trace(alloc: Global, head: &str, rows: &[Long]) -> Result<Option<usize>, Fail> {
     for (i, (front, piece, times, tail, want)) in rows.iter().enumerate() {
         let text = long_trace(alloc, head, front, piece, *times, tail)?;
-        if told(alloc, &text) != *want {
+        if told(alloc, text.as_bytes()) != Some(*want) {
             return Ok(Some(i));
         }
     }
@@ -719,7 +734,7 @@ fn wrong_long_trace(alloc: Global, head: &str, rows: &[Long]) -> Result<Option<u
 /// The first of the texts, from 0, that is not told as no JSON.
 fn first_json(alloc: Global, texts: &[&[u8]]) -> Option<usize> {
     for (i, text) in texts.iter().enumerate() {
-        if read_trace(alloc, text).err() != Some(TraceFault::NotJson) {
+        if told(alloc, text) != Some(Err(TraceFault::NotJson)) {
             return Some(i);
         }
     }
@@ -740,6 +755,13 @@ fn tells_what_decides_in_calls(rt: HostRuntime) -> Result<(), Fail> {
     assert_eq!(rt; wrong_threads(rt.alloc(), &THREADS)?, None);
     assert_eq!(rt; wrong_call(rt.alloc(), &CALLS)?, None);
     assert_eq!(rt; wrong_call(rt.alloc(), &BATCHES)?, None);
+    assert_eq!(rt; wrong_third_call(rt.alloc(), &CALLS)?, None);
+    assert_eq!(rt; wrong_third_call(rt.alloc(), &BATCHES)?, None);
+    Ok(())
+}
+
+#[test]
+fn tells_what_decides_in_long_traces(rt: HostRuntime) -> Result<(), Fail> {
     assert_eq!(rt; wrong_long_trace(rt.alloc(), HEAD, &LONG_TRACES)?, None);
     assert_eq!(rt; wrong_long_trace(rt.alloc(), NARROW, &LARGE_SPANS)?, None);
     Ok(())

@@ -8,4 +8,8 @@ mod json;
 #[cfg(test)]
 mod log;
 #[cfg(test)]
+mod quick;
+#[cfg(test)]
+mod readers;
+#[cfg(test)]
 mod replay;
