@@ -1,5 +1,5 @@
 -- What an addition makes of a history.
-use Rattle.std.proofs.Common.{cond, ◌≡◌, refl, sym, ℕ, ◌+◌, [], ◌∷◌, length, is_some, Bool, true, false, true≢false, Option, Some, None, length-append, arith}
+use Rattle.std.proofs.Common.{cond, ◌≡◌, refl, ℕ, ◌+◌, [], ◌∷◌, length, is_some, false, true≢false, Option, Some, None, length-append, arith}
 use Rattle.tsc_cache.specs.History.{History, BeginsWith}
 use Rattle.tsc_cache.proofs.Beginnings.{begins_itself, begins_on}
 use Rattle.tsc_json.specs.Calls.{Addition}

@@ -1,5 +1,5 @@
 -- What a call answers is of its kind, and says of its addition what that did.
-use Rattle.std.proofs.Common.{◌≡◌, ◌∙◌, refl, sym, ap, ℕ, Bool, true, false, true≢false, is_some, option_map, Some, None}
+use Rattle.std.proofs.Common.{◌≡◌, ◌∙◌, refl, sym, ap, ℕ, Bool, true, false, true≢false, is_some, option_map}
 use Rattle.tsc_cache.specs.Settings.{Settings}
 use Rattle.tsc_cache.specs.State.{CacheState}
 use Rattle.tsc_json.specs.Calls.{kind_of, is_same_kind, addition_of, adds}
