@@ -24,10 +24,26 @@ fn read_by_values(alloc: Global, bytes: &[u8]) -> Result<Trace, TraceFault> {
 
 /// What both readers tell of these bytes, or none where they differ.
 pub fn told(alloc: Global, bytes: &[u8]) -> Option<Told> {
-    match (read_quickly(alloc, bytes), read_by_values(alloc, bytes)) {
-        (Ok(trace), Ok(other)) if is_same_trace(&trace, &other) => Some(Ok(count_calls(&trace))),
-        (Err(fault), Err(other)) if fault == other => Some(Err(fault)),
-        _ => None,
+    let trace = match read_quickly(alloc, bytes) {
+        Ok(trace) => trace,
+        Err(fault) => return told_fault(alloc, bytes, fault),
+    };
+    let Ok(other) = read_by_values(alloc, bytes) else {
+        return None;
+    };
+    if is_same_trace(&trace, &other) {
+        Some(Ok(count_calls(&trace)))
+    } else {
+        None
+    }
+}
+
+/// The fault that the quick reader told, where the other tells it too.
+fn told_fault(alloc: Global, bytes: &[u8], fault: TraceFault) -> Option<Told> {
+    if read_by_values(alloc, bytes).err() == Some(fault) {
+        Some(Err(fault))
+    } else {
+        None
     }
 }
 
@@ -40,7 +56,7 @@ fn count_calls(trace: &Trace) -> usize {
     calls
 }
 
-/// Whether two traces are the same, and so are the logs of their replays.
+/// Whether two traces are the same.
 fn is_same_trace(first: &Trace, second: &Trace) -> bool {
     let (lists, others) = (first.threads.slice(), second.threads.slice());
     if first.config != second.config || lists.len() != others.len() {
