@@ -1,0 +1,564 @@
+/* Tests of libtscache through its header alone. The script test-c-library builds and runs it. Linked with
+ * -Wl,--wrap=malloc,--wrap=realloc, so that each request for memory can be refused in turn.
+ *
+ * With a word after its name it measures, and tests nothing. */
+#include "tscache.h"
+#include <inttypes.h>
+#include <stdio.h>
+#include <stdlib.h>
+#include <string.h>
+#include <time.h>
+
+static int passed, failed;
+
+static void check(bool holds, const char *file, int line, const char *what)
+{
+    if (holds) {
+        passed++;
+    } else {
+        failed++;
+        printf("%s:%d: %s\n", file, line, what);
+    }
+}
+#define CHECK(x) check((x), __FILE__, __LINE__, #x)
+
+/* Memory: the request that is refused, counted from 1, and how many were made. */
+
+static uint64_t requests, refused_request;
+void *__real_malloc(size_t size);
+void *__real_realloc(void *block, size_t size);
+
+void *__wrap_malloc(size_t size)
+{
+    return ++requests == refused_request ? NULL : __real_malloc(size);
+}
+
+void *__wrap_realloc(void *block, size_t size)
+{
+    return ++requests == refused_request ? NULL : __real_realloc(block, size);
+}
+
+/* Transactions, by a letter: 'A' and 'B', and '-' for none. */
+
+static void put_owner(char name, uint8_t owner[16])
+{
+    memset(owner, name == '-' ? 0 : name, 16);
+}
+
+static char owner_name(const uint8_t owner[16])
+{
+    for (int i = 1; i < 16; i++)
+        if (owner[i] != owner[0])
+            return '?';
+    return owner[0] ? (char)owner[0] : '-';
+}
+
+/* Spans, as text: a key alone, [a,c) and its like, or [m.. and (m.. */
+
+struct span {
+    const char *from, *to;
+    size_t from_len, to_len;
+    uint32_t ends;
+};
+
+static struct span span_of(const char *text)
+{
+    struct span s = {text, text, strlen(text), 0, TSC_POINT};
+    const char *comma = strchr(text, ','), *dots = strstr(text, "..");
+    if (text[0] != '[' && text[0] != '(')
+        return s;
+    s.from = text + 1;
+    s.ends = text[0] == '(' ? TSC_EXCLUDE_FROM : 0;
+    if (dots) {
+        s.from_len = (size_t)(dots - s.from);
+        s.ends |= TSC_ONWARD;
+        return s;
+    }
+    s.from_len = (size_t)(comma - s.from);
+    s.to = comma + 1;
+    s.to_len = strlen(s.to) - 1;
+    s.ends |= s.to[s.to_len] == ')' ? TSC_EXCLUDE_TO : 0;
+    return s;
+}
+
+/* One cache with its place, and calls on it by text. */
+
+struct cache {
+    tsc_place place;
+    uint64_t number;
+};
+
+static struct cache open_cache(uint32_t page_first, uint32_t page_max, uint32_t min_pages)
+{
+    struct cache c = {{NULL}, 77};
+    tsc_time low = {5, 0};
+    CHECK(tsc_open(&c.place, page_first, page_max, min_pages, 10, &low, &c.number) == TSC_OK);
+    return c;
+}
+
+static uint32_t add_at(struct cache *c, const char *text, uint64_t wall, uint32_t logical, char owner, tsc_time now, tsc_added *added)
+{
+    struct span s = span_of(text);
+    tsc_value v = {wall, logical, {0}};
+    put_owner(owner, v.owner);
+    return tsc_try_add(&c->place, c->number, s.from, s.from_len, s.to, s.to_len, s.ends, &v, &now, added);
+}
+
+static bool adds_at(struct cache *c, const char *text, uint64_t wall, char owner, tsc_time now, bool kept, bool rotated, uint64_t evicted)
+{
+    tsc_added a = {99, false, false};
+    return add_at(c, text, wall, 0, owner, now, &a) == TSC_OK && a.kept == kept && a.rotated == rotated && a.evicted == evicted;
+}
+
+static bool adds(struct cache *c, const char *text, uint64_t wall, char owner)
+{
+    return adds_at(c, text, wall, owner, (tsc_time){20, 0}, true, false, 0);
+}
+
+/* How many calls found that memory was refused. */
+static uint64_t again;
+
+static uint32_t tried(uint32_t answer)
+{
+    again += answer == TSC_NO_MEMORY;
+    return answer;
+}
+
+/* Adds of one key each, a letter for each. */
+static bool adds_keys(struct cache *c, const char *keys, uint64_t wall, tsc_time now)
+{
+    bool all = true;
+    for (; *keys; keys++) {
+        char key[2] = {*keys, 0};
+        tsc_added a;
+        all = all && add_at(c, key, wall, 0, 'A', now, &a) == TSC_OK && a.kept;
+    }
+    return all;
+}
+
+static bool answers(struct cache *c, const char *text, uint64_t wall, uint32_t logical, char owner)
+{
+    struct span s = span_of(text);
+    tsc_value v = {1, 1, {1}};
+    uint32_t answer = tried(tsc_try_get_max(&c->place, c->number, s.from, s.from_len, s.to, s.to_len, s.ends, &v));
+    if (answer == TSC_NO_MEMORY)
+        answer = tsc_try_get_max(&c->place, c->number, s.from, s.from_len, s.to, s.to_len, s.ends, &v);
+    return answer == TSC_OK && v.wall == wall && v.logical == logical && owner_name(v.owner) == owner;
+}
+
+static bool has(struct cache *c, uint64_t pages, uint64_t rotations, uint64_t wall, uint32_t logical)
+{
+    tsc_figures f;
+    tsc_time floor;
+    return tsc_figures_of(&c->place, c->number, &f) == TSC_OK && f.pages == pages && f.rotations == rotations
+        && tsc_low_water(&c->place, c->number, &floor) == TSC_OK && floor.wall == wall && floor.logical == logical;
+}
+
+static const tsc_time AT_20 = {20, 0}, AT_40 = {40, 0}, AT_80 = {80, 0};
+
+/* What a lookup answers after a few reads. */
+static void rows_of_spans(void)
+{
+    struct cache c = open_cache(132, 132, 2);
+    CHECK(answers(&c, "a", 5, 0, '-') && has(&c, 1, 0, 5, 0)); /* nothing was read */
+    CHECK(adds(&c, "[a,c)", 20, 'A'));
+    CHECK(answers(&c, "a", 20, 0, 'A') && answers(&c, "b", 20, 0, 'A') && answers(&c, "c", 5, 0, '-'));
+    tsc_free(&c.place);
+
+    c = open_cache(132, 132, 2); /* two transactions at one time: nobody owns it */
+    CHECK(adds(&c, "a", 20, 'A') && adds(&c, "a", 20, 'B') && answers(&c, "a", 20, 0, '-'));
+    tsc_free(&c.place);
+    c = open_cache(132, 132, 2); /* one that reads again keeps its own */
+    CHECK(adds(&c, "a", 20, 'A') && adds(&c, "a", 20, 'A') && answers(&c, "a", 20, 0, 'A'));
+    tsc_free(&c.place);
+    c = open_cache(132, 132, 2);
+    CHECK(adds(&c, "[a,c)", 20, 'A') && adds(&c, "[b,d)", 20, 'B'));
+    CHECK(answers(&c, "a", 20, 0, 'A') && answers(&c, "b", 20, 0, '-') && answers(&c, "c", 20, 0, 'B') && answers(&c, "[a,d)", 20, 0, '-'));
+    tsc_free(&c.place);
+    c = open_cache(132, 132, 2);
+    CHECK(adds(&c, "a", 20, '-') && adds(&c, "a", 20, 'A') && answers(&c, "a", 20, 0, '-'));
+    tsc_free(&c.place);
+
+    c = open_cache(132, 132, 2); /* a time on the floor is not kept, and one logical step above it is */
+    tsc_added a;
+    CHECK(adds_at(&c, "a", 5, 'A', AT_20, false, false, 0));
+    CHECK(add_at(&c, "a", 5, 1, 'A', AT_20, &a) == TSC_OK && a.kept && answers(&c, "a", 5, 1, 'A'));
+    tsc_free(&c.place);
+
+    c = open_cache(132, 132, 2); /* excluded ends */
+    CHECK(adds(&c, "(a,c)", 20, 'A'));
+    CHECK(answers(&c, "a", 5, 0, '-') && answers(&c, "b", 20, 0, 'A') && answers(&c, "c", 5, 0, '-'));
+    tsc_free(&c.place);
+    c = open_cache(132, 132, 2); /* the gap between a and the next key holds no key, and is not empty */
+    tsc_value v = {20, 0, {0}};
+    put_owner('A', v.owner);
+    CHECK(tsc_try_add(&c.place, c.number, "a", 1, "a", 2, TSC_EXCLUDE_FROM | TSC_EXCLUDE_TO, &v, &AT_20, &a) == TSC_OK && a.kept);
+    CHECK(tsc_try_get_max(&c.place, c.number, "a", 1, "a", 2, TSC_EXCLUDE_FROM | TSC_EXCLUDE_TO, &v) == TSC_OK && v.wall == 20);
+    CHECK(tsc_try_get_max(&c.place, c.number, "a", 1, NULL, 0, TSC_POINT, &v) == TSC_OK && v.wall == 5);
+    CHECK(tsc_try_get_max(&c.place, c.number, "a", 2, NULL, 0, TSC_POINT, &v) == TSC_OK && v.wall == 5);
+    CHECK(tsc_try_get_max(&c.place, c.number, "a", 1, "a", 2, 0, &v) == TSC_OK && v.wall == 20 && owner_name(v.owner) == 'A');
+    tsc_free(&c.place);
+
+    c = open_cache(132, 132, 2); /* equal ends: the key, unless both are excluded */
+    CHECK(adds(&c, "[a,a)", 20, 'A') && answers(&c, "a", 20, 0, 'A') && answers(&c, "(a,a)", 5, 0, '-'));
+    tsc_free(&c.place);
+    c = open_cache(132, 132, 2);
+    CHECK(adds_at(&c, "(a,a)", 20, 'A', AT_20, false, false, 0) && answers(&c, "a", 5, 0, '-'));
+    tsc_free(&c.place);
+
+    c = open_cache(132, 132, 2); /* without an end */
+    CHECK(adds(&c, "[m..", 20, 'A') && answers(&c, "\xff", 20, 0, 'A') && answers(&c, "m", 20, 0, 'A') && answers(&c, "l", 5, 0, '-') && answers(&c, "[z..", 20, 0, 'A'));
+    CHECK(adds(&c, "(k..", 20, 'A') && answers(&c, "k", 5, 0, '-') && answers(&c, "l", 20, 0, 'A') && answers(&c, "(k..", 20, 0, 'A'));
+    tsc_free(&c.place);
+
+    c = open_cache(132, 132, 2); /* an inverted lookup is the empty span */
+    CHECK(adds(&c, "[a,c]", 20, 'A') && answers(&c, "[c,a)", 5, 0, '-'));
+    CHECK(add_at(&c, "a", UINT64_C(9223372036854775807), UINT32_C(2147483647), 'A', AT_20, &a) == TSC_OK && a.kept);
+    CHECK(answers(&c, "a", UINT64_C(9223372036854775807), UINT32_C(2147483647), 'A'));
+    tsc_free(&c.place);
+}
+
+/* Pages that fill, rotate and are dropped. Four keys of one byte fill 132 bytes. */
+static void rows_of_pages(void)
+{
+    struct cache c = open_cache(132, 132, 2); /* the fifth key brings a new page */
+    CHECK(adds_keys(&c, "abcd", 20, AT_20) && has(&c, 1, 0, 5, 0) && adds_at(&c, "e", 20, 'A', AT_20, true, true, 0));
+    CHECK(has(&c, 2, 1, 5, 0) && answers(&c, "a", 20, 0, 'A'));
+    CHECK(adds_keys(&c, "fgh", 41, AT_40) && adds_at(&c, "i", 41, 'A', AT_40, true, true, 1)); /* the first is past its retention */
+    CHECK(has(&c, 2, 2, 20, 0) && answers(&c, "a", 20, 0, '-') && answers(&c, "e", 20, 0, 'A') == false && answers(&c, "f", 41, 0, 'A'));
+    CHECK(answers(&c, "e", 20, 0, '-'));
+    tsc_free(&c.place);
+
+    c = open_cache(132, 132, 2); /* a top on the limit stays, and goes one logical step later */
+    CHECK(adds_keys(&c, "abcde", 30, AT_20) && adds_keys(&c, "fgh", 41, AT_40) && adds_at(&c, "i", 41, 'A', AT_40, true, true, 0));
+    CHECK(has(&c, 3, 2, 5, 0) && answers(&c, "a", 30, 0, 'A'));
+    tsc_free(&c.place);
+    c = open_cache(132, 132, 2);
+    CHECK(adds_keys(&c, "abcde", 30, AT_20) && adds_keys(&c, "fgh", 41, AT_40) && adds_at(&c, "i", 41, 'A', (tsc_time){40, 1}, true, true, 1));
+    CHECK(has(&c, 2, 2, 30, 0) && answers(&c, "a", 30, 0, '-'));
+    tsc_free(&c.place);
+
+    c = open_cache(132, 132, 2); /* a moment below the retention drops nothing */
+    CHECK(adds_keys(&c, "abcdefgh", 20, AT_20) && adds_at(&c, "i", 20, 'A', (tsc_time){9, 0}, true, true, 0) && has(&c, 3, 2, 5, 0));
+    tsc_free(&c.place);
+
+    c = open_cache(132, 132, 2); /* a page begins with the top of the one before it */
+    CHECK(adds_keys(&c, "abcd", 50, AT_20) && adds_keys(&c, "e", 20, AT_20) && has(&c, 2, 1, 5, 0) && adds_keys(&c, "fgh", 20, AT_20) && has(&c, 2, 1, 5, 0));
+    CHECK(adds_at(&c, "i", 60, 'A', AT_80, true, true, 1) && has(&c, 2, 2, 50, 0));
+    CHECK(adds_keys(&c, "jkl", 60, AT_80) && adds_at(&c, "m", 60, 'A', AT_40, true, true, 0) && has(&c, 3, 3, 50, 0) && answers(&c, "e", 50, 0, '-'));
+    tsc_free(&c.place);
+
+    c = open_cache(132, 132, 2); /* what is late stands on an older page too */
+    CHECK(adds_keys(&c, "abcd", 50, AT_20) && adds_keys(&c, "efgh", 20, AT_20) && adds_at(&c, "i", 30, 'A', AT_20, true, true, 0) && has(&c, 3, 2, 5, 0));
+    CHECK(answers(&c, "[a,z)", 50, 0, 'A') && answers(&c, "[e,z)", 30, 0, 'A'));
+    tsc_free(&c.place);
+
+    c = open_cache(66, 66, 1); /* the only page goes, and the floor rises to its top */
+    CHECK(adds_keys(&c, "ab", 20, AT_20) && adds_at(&c, "c", 40, 'A', AT_40, true, true, 1) && has(&c, 1, 1, 20, 0));
+    CHECK(answers(&c, "a", 20, 0, '-') && answers(&c, "c", 40, 0, 'A'));
+    tsc_free(&c.place);
+    c = open_cache(66, 66, 1); /* what stands below the new floor is answered by it */
+    CHECK(adds_keys(&c, "ab", 20, AT_20) && adds_at(&c, "c", 15, 'A', AT_40, true, true, 1) && has(&c, 1, 1, 20, 0) && answers(&c, "c", 20, 0, '-'));
+    tsc_free(&c.place);
+
+    c = open_cache(66, 264, 2); /* pages grow, each twice as large as the one before, up to the largest */
+    CHECK(adds_keys(&c, "abcdefghijklmno", 20, AT_20) && has(&c, 4, 3, 5, 0));
+    tsc_free(&c.place);
+}
+
+/* Several marks at once. */
+static void batches(void)
+{
+    struct cache c = open_cache(132, 132, 2);
+    const char keys[] = "abc";
+    tsc_mark marks[3] = {{0, 1, 0, 0, {20, 0, {0}}, TSC_POINT}, {1, 1, 0, 0, {20, 0, {0}}, TSC_POINT}, {0, 1, 2, 1, {20, 0, {0}}, TSC_EXCLUDE_TO}};
+    put_owner('A', marks[0].value.owner);
+    put_owner('B', marks[1].value.owner);
+    put_owner('B', marks[2].value.owner);
+    tsc_added a;
+    CHECK(tsc_try_add_all(&c.place, c.number, keys, 3, marks, 3, &AT_20, &a) == TSC_OK && a.kept && !a.rotated && a.evicted == 0);
+    CHECK(answers(&c, "a", 20, 0, '-') && answers(&c, "b", 20, 0, 'B') && answers(&c, "c", 5, 0, '-'));
+    CHECK(tsc_try_add_all(&c.place, c.number, NULL, 0, NULL, 0, &AT_20, &a) == TSC_OK && !a.kept && !a.rotated && a.evicted == 0);
+
+    /* all or none: the second mark is refused, so the first is not there */
+    marks[0] = (tsc_mark){2, 1, 0, 0, {30, 0, {0}}, TSC_POINT};
+    tsc_added before = {7, true, true};
+    a = before;
+    marks[1].from_at = 4;
+    CHECK(tsc_try_add_all(&c.place, c.number, keys, 3, marks, 2, &AT_20, &a) == TSC_OUTSIDE);
+    marks[1].from_at = SIZE_MAX;
+    CHECK(tsc_try_add_all(&c.place, c.number, keys, 3, marks, 2, &AT_20, &a) == TSC_OUTSIDE);
+    marks[1] = (tsc_mark){1, SIZE_MAX, 0, 0, {30, 0, {0}}, TSC_POINT};
+    CHECK(tsc_try_add_all(&c.place, c.number, keys, 3, marks, 2, &AT_20, &a) == TSC_OUTSIDE);
+    marks[1] = (tsc_mark){1, 1, 3, 1, {30, 0, {0}}, TSC_POINT};
+    CHECK(tsc_try_add_all(&c.place, c.number, keys, 3, marks, 2, &AT_20, &a) == TSC_OUTSIDE);
+    marks[1] = (tsc_mark){1, 1, 0, 1, {30, 0, {0}}, 0};
+    CHECK(tsc_try_add_all(&c.place, c.number, keys, 3, marks, 2, &AT_20, &a) == TSC_INVERTED);
+    marks[1].ends = 6;
+    CHECK(tsc_try_add_all(&c.place, c.number, keys, 3, marks, 2, &AT_20, &a) == TSC_ENDS);
+    marks[1] = (tsc_mark){1, 1, 0, 0, {30, UINT32_C(1) << 31, {0}}, TSC_POINT};
+    CHECK(tsc_try_add_all(&c.place, c.number, keys, 3, marks, 2, &AT_20, &a) == TSC_TIME);
+    marks[1].value.logical = 0;
+    CHECK(tsc_try_add_all(&c.place, c.number, keys, 3, marks, 2, &(tsc_time){UINT64_MAX, 0}, &a) == TSC_TIME);
+    static uint8_t long_key[5000];
+    marks[1].from_at = 3;
+    marks[1].from_len = 4097;
+    CHECK(tsc_try_add_all(&c.place, c.number, long_key, 5000, marks, 2, &AT_20, &a) == TSC_KEY_TOO_LONG);
+    marks[1].from_len = 101;
+    CHECK(tsc_try_add_all(&c.place, c.number, long_key, 5000, marks, 2, &AT_20, &a) == TSC_TOO_LARGE);
+    CHECK(tsc_try_add_all(&c.place, c.number, NULL, 1, marks, 2, &AT_20, &a) == TSC_NULL);
+    CHECK(tsc_try_add_all(&c.place, c.number, keys, 3, NULL, 2, &AT_20, &a) == TSC_NULL);
+    CHECK(tsc_try_add_all(&c.place, c.number + 1, keys, 3, marks, 2, &AT_20, &a) == TSC_CLOSED);
+    CHECK(memcmp(&a, &before, sizeof a.evicted) == 0 && a.kept && a.rotated);
+    CHECK(answers(&c, "c", 5, 0, '-') && has(&c, 1, 0, 5, 0));
+
+    /* a batch rotates the pages where it needs to */
+    struct cache d = open_cache(66, 66, 1);
+    tsc_mark three[3] = {{0, 1, 0, 0, {20, 0, {0}}, TSC_POINT}, {1, 1, 0, 0, {20, 0, {0}}, TSC_POINT}, {2, 1, 0, 0, {40, 0, {0}}, TSC_POINT}};
+    for (int i = 0; i < 3; i++)
+        put_owner('A', three[i].value.owner);
+    CHECK(tsc_try_add_all(&d.place, d.number, keys, 3, three, 3, &AT_40, &a) == TSC_OK && a.kept && a.rotated && a.evicted == 1);
+    CHECK(has(&d, 1, 1, 20, 0) && answers(&d, "a", 20, 0, '-') && answers(&d, "c", 40, 0, 'A'));
+    tsc_free(&d.place);
+    tsc_free(&c.place);
+}
+
+/* Each refusal, by its own code, and that nothing is changed. */
+static void refusals(void)
+{
+    tsc_place place = {NULL};
+    uint64_t n = 77;
+    tsc_time low = {5, 0};
+    CHECK(tsc_open(&place, 63, 132, 2, 10, &low, &n) == TSC_PAGE_SIZE && tsc_open(&place, 132, 131, 2, 10, &low, &n) == TSC_PAGE_SIZE);
+    CHECK(tsc_open(&place, 64, (UINT32_C(1) << 30) + 1, 2, 10, &low, &n) == TSC_PAGE_SIZE);
+    CHECK(tsc_open(&place, 132, 132, 0, 10, &low, &n) == TSC_MIN_PAGES && tsc_open(&place, 132, 132, 65, 10, &low, &n) == TSC_MIN_PAGES);
+    CHECK(tsc_open(&place, 132, 132, 2, UINT64_C(1) << 63, &low, &n) == TSC_RETENTION);
+    CHECK(tsc_open(&place, 132, 132, 2, 10, &(tsc_time){UINT64_C(1) << 63, 0}, &n) == TSC_TIME);
+    CHECK(tsc_open(&place, 132, 132, 2, 10, &(tsc_time){0, UINT32_C(1) << 31}, &n) == TSC_TIME);
+    CHECK(n == 77 && place.at == NULL);
+    tsc_free(&place); /* zeros own nothing */
+
+    struct cache c = open_cache(132, 132, 2);
+    CHECK(adds(&c, "a", 20, 'A'));
+    static uint8_t long_key[4097];
+    tsc_value v = {20, 0, {0}}, out = {1, 2, {3}};
+    tsc_added a = {99, true, true};
+    CHECK(tsc_try_get_max(&c.place, c.number, long_key, 4097, NULL, 0, TSC_POINT, &out) == TSC_KEY_TOO_LONG);
+    CHECK(tsc_try_get_max(&c.place, c.number, "a", 1, long_key, 4097, 0, &out) == TSC_KEY_TOO_LONG);
+    CHECK(tsc_try_add(&c.place, c.number, long_key, 4097, NULL, 0, TSC_ONWARD, &v, &AT_20, &a) == TSC_KEY_TOO_LONG);
+    CHECK(tsc_try_add(&c.place, c.number, "c", 1, "a", 1, TSC_EXCLUDE_TO, &v, &AT_20, &a) == TSC_INVERTED);
+    CHECK(tsc_try_add(&c.place, c.number, long_key, 4096, NULL, 0, TSC_POINT, &v, &AT_20, &a) == TSC_TOO_LARGE);
+    for (uint32_t ends = 0; ends < 64; ends++) {
+        bool known = ends <= 5 || ends == 8;
+        CHECK((tsc_try_get_max(&c.place, c.number, "b", 1, "c", 1, ends, &v) == TSC_ENDS) == !known);
+        CHECK((tsc_try_add(&c.place, c.number, "b", 1, "c", 1, ends, &v, &AT_20, &a) == TSC_ENDS) == !known);
+    }
+    CHECK(tsc_try_get_max(&c.place, c.number, "b", 1, "c", 1, UINT32_MAX, &out) == TSC_ENDS);
+    v = (tsc_value){UINT64_MAX, 0, {0}};
+    a = (tsc_added){99, true, true};
+    CHECK(tsc_try_add(&c.place, c.number, "b", 1, NULL, 0, TSC_POINT, &v, &AT_20, &a) == TSC_TIME);
+    v = (tsc_value){20, UINT32_MAX, {0}};
+    CHECK(tsc_try_add(&c.place, c.number, "b", 1, NULL, 0, TSC_POINT, &v, &AT_20, &a) == TSC_TIME);
+    v.logical = 0;
+    CHECK(tsc_try_add(&c.place, c.number, "b", 1, NULL, 0, TSC_POINT, &v, &(tsc_time){UINT64_MAX, 0}, &a) == TSC_TIME);
+    CHECK(tsc_try_add(&c.place, c.number, NULL, 1, NULL, 0, TSC_POINT, &v, &AT_20, &a) == TSC_NULL);
+    CHECK(tsc_try_add(&c.place, c.number, "b", 1, NULL, 1, 0, &v, &AT_20, &a) == TSC_NULL);
+    CHECK(tsc_try_add(NULL, c.number, "b", 1, NULL, 0, TSC_POINT, &v, &AT_20, &a) == TSC_NULL);
+    CHECK(tsc_try_get_max(&c.place, c.number, "b", 1, NULL, 0, TSC_POINT, NULL) == TSC_NULL);
+    CHECK(a.evicted == 99 && a.kept && a.rotated && out.wall == 1 && out.logical == 2 && out.owner[0] == 3);
+    CHECK(answers(&c, "a", 20, 0, 'A') && has(&c, 1, 0, 5, 0));
+    CHECK(answers(&c, "[,a)", 20, 0, '-') == false && tsc_try_get_max(&c.place, c.number, NULL, 0, NULL, 0, TSC_POINT, &v) == TSC_OK);
+    CHECK(strcmp(tsc_text(TSC_CLOSED), "no cache has this number") == 0 && strcmp(tsc_text(1000), "no such answer") == 0);
+    tsc_free(&c.place);
+}
+
+/* Numbers that were never given, and such as were given and closed. */
+static void numbers(void)
+{
+    static tsc_place place; /* zeros */
+    tsc_value v = {20, 0, {0}};
+    tsc_added a;
+    tsc_time low = {5, 0}, floor;
+    tsc_figures f;
+    uint64_t first = 77, second = 78, third = 79;
+    CHECK(tsc_close(&place, 0) == TSC_CLOSED && tsc_low_water(&place, 0, &floor) == TSC_CLOSED && tsc_figures_of(&place, 0, &f) == TSC_CLOSED);
+    CHECK(tsc_try_get_max(&place, 0, "b", 1, NULL, 0, TSC_POINT, &v) == TSC_CLOSED);
+    CHECK(tsc_open(&place, 132, 132, 2, 10, &low, &first) == TSC_OK && tsc_open(&place, 132, 132, 2, 10, &low, &second) == TSC_OK && first != second);
+    CHECK(tsc_try_add(&place, first, "b", 1, NULL, 0, TSC_POINT, &v, &AT_20, &a) == TSC_OK && a.kept);
+
+    uint64_t x = UINT64_C(88172645463325252), wrong = 0;
+    for (int i = 0; i < 100000; i++) {
+        x ^= x << 13;
+        x ^= x >> 7;
+        x ^= x << 17;
+        uint64_t number = i % 2 ? x : 2 + x % 1000;
+        wrong += tsc_try_get_max(&place, number, "b", 1, NULL, 0, TSC_POINT, &v) != TSC_CLOSED;
+        wrong += tsc_try_add(&place, number, "b", 1, NULL, 0, TSC_POINT, &v, &AT_20, &a) != TSC_CLOSED;
+        wrong += tsc_close(&place, number) != TSC_CLOSED;
+    }
+    CHECK(wrong == 0);
+    CHECK(tsc_try_get_max(&place, first, "b", 1, NULL, 0, TSC_POINT, &v) == TSC_OK && v.wall == 20);
+    CHECK(tsc_try_get_max(&place, second, "b", 1, NULL, 0, TSC_POINT, &v) == TSC_OK && v.wall == 5);
+
+    CHECK(tsc_close(&place, first) == TSC_OK && tsc_close(&place, first) == TSC_CLOSED); /* closed twice */
+    CHECK(tsc_try_get_max(&place, first, "b", 1, NULL, 0, TSC_POINT, &v) == TSC_CLOSED);
+    CHECK(tsc_open(&place, 132, 132, 2, 10, &low, &third) == TSC_OK && third != first && third != second);
+    wrong = 0;
+    for (int i = 0; i < 1000; i++) /* the stale number stays stale */
+        wrong += tsc_try_add(&place, first, "b", 1, NULL, 0, TSC_POINT, &v, &AT_20, &a) != TSC_CLOSED;
+    CHECK(wrong == 0);
+    CHECK(tsc_try_get_max(&place, second, "b", 1, NULL, 0, TSC_POINT, &v) == TSC_OK && v.wall == 5);
+
+    tsc_place moved = place; /* a move: the old place is one no more */
+    memset(&place, 0, sizeof place);
+    CHECK(tsc_try_get_max(&place, second, "b", 1, NULL, 0, TSC_POINT, &v) == TSC_CLOSED);
+    CHECK(tsc_try_get_max(&moved, second, "b", 1, NULL, 0, TSC_POINT, &v) == TSC_OK);
+    tsc_free(&moved);
+    CHECK(moved.at == NULL && tsc_close(&moved, second) == TSC_CLOSED);
+    CHECK(tsc_open(&moved, 132, 132, 2, 10, &low, &first) == TSC_OK && first == 0); /* a freed place begins anew */
+    tsc_free(&moved);
+
+    static tsc_place left; /* never closed, nor freed: the program ends with it */
+    CHECK(tsc_open(&left, 132, 132, 2, 10, &low, &first) == TSC_OK);
+}
+
+/* Some calls, each of which is made again where memory was refused, and must then be done. The cache answers the same whichever
+ * request is refused. */
+static bool one_run(void)
+{
+    struct cache c = {{NULL}, 0};
+    tsc_time low = {5, 0};
+    tsc_added a;
+    tsc_value v;
+    bool right = true;
+    if (tried(tsc_open(&c.place, 66, 132, 2, 10, &low, &c.number)) == TSC_NO_MEMORY)
+        right = tsc_open(&c.place, 66, 132, 2, 10, &low, &c.number) == TSC_OK;
+    right = right && c.number == 0;
+    for (const char *key = "abcdefgh"; *key; key++) {
+        char span[6] = {'[', *key, ',', 'z', ')', 0};
+        uint64_t wall = 20 + (uint64_t)(*key - 'a');
+        if (tried(tsc_try_get_max(&c.place, c.number, key, 1, "z", 1, TSC_EXCLUDE_TO, &v)) == TSC_OK)
+            right = right && (*key == 'a' ? v.wall == 5 : v.wall == wall - 1);
+        tsc_figures before, after;
+        right = right && tsc_figures_of(&c.place, c.number, &before) == TSC_OK;
+        if (tried(add_at(&c, span, wall, 0, 'A', AT_20, &a)) == TSC_NO_MEMORY) {
+            right = right && tsc_figures_of(&c.place, c.number, &after) == TSC_OK && after.pages == before.pages && after.rotations == before.rotations;
+            right = right && answers(&c, "y", *key == 'a' ? 5 : wall - 1, 0, *key == 'a' ? '-' : 'A');
+            right = right && add_at(&c, span, wall, 0, 'A', AT_20, &a) == TSC_OK;
+        }
+        right = right && a.kept && answers(&c, "y", wall, 0, 'A');
+    }
+    tsc_mark marks[2] = {{0, 1, 0, 0, {50, 0, {0}}, TSC_POINT}, {1, 1, 0, 0, {50, 0, {0}}, TSC_POINT}};
+    if (tried(tsc_try_add_all(&c.place, c.number, "xy", 2, marks, 2, &AT_40, &a)) == TSC_NO_MEMORY) {
+        right = right && answers(&c, "[x,y]", 27, 0, 'A');
+        right = right && tsc_try_add_all(&c.place, c.number, "xy", 2, marks, 2, &AT_40, &a) == TSC_OK;
+    }
+    right = right && answers(&c, "x", 50, 0, '-') && answers(&c, "y", 50, 0, '-') && answers(&c, "b", 20 + 1, 0, 'A');
+    uint64_t other;
+    if (tried(tsc_open(&c.place, 66, 132, 2, 10, &low, &other)) == TSC_NO_MEMORY)
+        right = right && tsc_open(&c.place, 66, 132, 2, 10, &low, &other) == TSC_OK;
+    right = right && other == 1 && tsc_close(&c.place, 0) == TSC_OK;
+    tsc_free(&c.place);
+    return right;
+}
+
+static void memory(void)
+{
+    requests = refused_request = again = 0;
+    CHECK(one_run() && again == 0);
+    uint64_t all = requests;
+    for (uint64_t n = 1; n <= all; n++) {
+        requests = again = 0;
+        refused_request = n;
+        CHECK(one_run() && again == 1);
+    }
+    refused_request = 0;
+    printf("each of %" PRIu64 " requests for memory was refused in turn\n", all);
+}
+
+/* Figures. */
+
+static double seconds(void)
+{
+    struct timespec t;
+    timespec_get(&t, TIME_UTC);
+    return (double)t.tv_sec + (double)t.tv_nsec * 1e-9;
+}
+
+static void key_of(uint8_t key[8], uint64_t n)
+{
+    n *= UINT64_C(0x9E3779B97F4A7C15);
+    for (int i = 0; i < 8; i++)
+        key[i] = (uint8_t)(n >> (56 - 8 * i));
+}
+
+static int measure(void)
+{
+    enum { KEYS = 65536, BATCH = 1000, ROUNDS = 2000 };
+    struct cache c = {{NULL}, 0};
+    tsc_time low = {1, 0};
+    tsc_value v = {0, 0, {1}};
+    tsc_added a;
+    uint8_t key[8];
+    uint64_t x = UINT64_C(88172645463325252), sum = 0, wall = 100;
+    double lookup = 1, add = 1, none = 1;
+    if (tsc_open(&c.place, 1 << 26, 1 << 26, 1, UINT64_C(10000000000), &low, &c.number))
+        return 1;
+    for (uint64_t i = 0; i < KEYS; i++) {
+        tsc_time now = {wall, 0};
+        key_of(key, i);
+        v.wall = wall++;
+        if (tsc_add(&c.place, c.number, key, 8, key, 8, TSC_POINT, &v, &now, &a))
+            return 1;
+    }
+    for (int r = 0; r < ROUNDS; r++) {
+        double start = seconds();
+        for (int i = 0; i < BATCH; i++) {
+            x ^= x << 13;
+            x ^= x >> 7;
+            x ^= x << 17;
+            key_of(key, x % KEYS);
+            tsc_get_max(&c.place, c.number, key, 8, key, 8, TSC_POINT, &v);
+            sum += v.wall;
+        }
+        double took = seconds() - start;
+        lookup = took < lookup ? took : lookup;
+        start = seconds();
+        for (int i = 0; i < BATCH; i++) {
+            x ^= x << 13;
+            x ^= x >> 7;
+            x ^= x << 17;
+            key_of(key, x % KEYS);
+            tsc_time now = {wall, 0};
+            v.wall = wall++;
+            tsc_add(&c.place, c.number, key, 8, key, 8, TSC_POINT, &v, &now, &a);
+            sum += a.kept;
+        }
+        took = seconds() - start;
+        add = took < add ? took : add;
+        start = seconds();
+        for (int i = 0; i < BATCH; i++)
+            sum += tsc_get_max(&c.place, x, key, 8, key, 8, TSC_POINT, &v);
+        took = seconds() - start;
+        none = took < none ? took : none;
+    }
+    printf("%d keys: a lookup %.0f ns, an Add of a known key %.0f ns, a number that names none %.1f ns (sum %" PRIu64 ")\n", KEYS,
+           lookup * 1e9 / BATCH, add * 1e9 / BATCH, none * 1e9 / BATCH, sum);
+    tsc_free(&c.place);
+    return 0;
+}
+
+int main(int argc, char **argv)
+{
+    (void)argv;
+    if (argc > 1)
+        return measure();
+    rows_of_spans();
+    rows_of_pages();
+    batches();
+    refusals();
+    numbers();
+    memory();
+    printf("%d passed, %d failed\n", passed, failed);
+    return failed != 0;
+}

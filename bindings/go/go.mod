@@ -1,0 +1,3 @@
+module tscache
+
+go 1.19

@@ -1,0 +1,102 @@
+package tscache
+
+import "testing"
+
+var (
+	one = [16]byte{1}
+	two = [16]byte{2}
+)
+
+func small(t *testing.T) *Cache {
+	t.Helper()
+	c, err := Open(Config{PageFirst: 132, PageMax: 132, MinPages: 2, Retention: 10, LowWater: Time{5, 0}})
+	if err != nil {
+		t.Fatal(err)
+	}
+	t.Cleanup(c.Close)
+	return c
+}
+
+func at(wall uint64, owner [16]byte) Value { return Value{Time{wall, 0}, owner} }
+
+func wants(t *testing.T, c *Cache, span Span, value Value) {
+	t.Helper()
+	if got, err := c.GetMax(span); err != nil || got != value {
+		t.Errorf("wanted %v, got %v, %v", value, got, err)
+	}
+}
+
+func TestSpans(t *testing.T) {
+	c := small(t)
+	if a, err := c.Add(Range([]byte("a"), []byte("c"), true, true), at(20, one), Time{20, 0}); err != nil || a != (Added{Kept: true}) {
+		t.Errorf("got %v, %v", a, err)
+	}
+	wants(t, c, Point([]byte("a")), at(5, [16]byte{}))
+	wants(t, c, Point([]byte("b")), at(20, one))
+	if _, err := c.Add(Onward([]byte("b"), false), at(20, two), Time{20, 0}); err != nil {
+		t.Error(err)
+	}
+	wants(t, c, Point([]byte("b")), at(20, [16]byte{}))
+	wants(t, c, Onward([]byte("x"), true), at(20, two))
+	wants(t, c, Range([]byte("c"), []byte("a"), false, true), at(5, [16]byte{}))
+	wants(t, c, Point(nil), at(5, [16]byte{}))
+}
+
+func TestPagesRotate(t *testing.T) {
+	c := small(t)
+	for _, key := range "abcd" {
+		if a, err := c.Add(Point([]byte(string(key))), at(20, one), Time{20, 0}); err != nil || a != (Added{Kept: true}) {
+			t.Errorf("got %v, %v", a, err)
+		}
+	}
+	if a, err := c.Add(Point([]byte("e")), at(20, one), Time{20, 0}); err != nil || a != (Added{Kept: true, Rotated: true}) {
+		t.Errorf("got %v, %v", a, err)
+	}
+	if f, err := c.Figures(); err != nil || f != (Figures{2, 1}) {
+		t.Errorf("got %v, %v", f, err)
+	}
+	if low, err := c.LowWater(); err != nil || low != (Time{5, 0}) {
+		t.Errorf("got %v, %v", low, err)
+	}
+}
+
+func TestMarks(t *testing.T) {
+	c := small(t)
+	marks := []Mark{{Point([]byte("a")), at(20, one)}, {Range([]byte("c"), []byte("b"), false, false), at(20, two)}}
+	if _, err := c.AddAll(marks, Time{20, 0}); err != Inverted {
+		t.Errorf("got %v", err)
+	}
+	wants(t, c, Point([]byte("a")), at(5, [16]byte{}))
+	marks[1].Span = Range([]byte("b"), []byte("c"), false, false)
+	if a, err := c.AddAll(marks, Time{20, 0}); err != nil || !a.Kept {
+		t.Errorf("got %v, %v", a, err)
+	}
+	wants(t, c, Point([]byte("c")), at(20, two))
+	if a, err := c.AddAll(nil, Time{20, 0}); err != nil || a.Kept {
+		t.Errorf("got %v, %v", a, err)
+	}
+}
+
+func TestRefusals(t *testing.T) {
+	c := small(t)
+	if _, err := c.GetMax(Point(make([]byte, 4097))); err != KeyTooLong {
+		t.Errorf("got %v", err)
+	}
+	if _, err := c.Add(Point(make([]byte, 101)), at(20, one), Time{20, 0}); err != TooLarge {
+		t.Errorf("got %v", err)
+	}
+	if _, err := c.Add(Point([]byte("a")), at(1<<63, one), Time{20, 0}); err != TimeRange {
+		t.Errorf("got %v", err)
+	}
+	if _, err := Open(Config{PageFirst: 63, PageMax: 132, MinPages: 2}); err != PageSize {
+		t.Errorf("got %v", err)
+	}
+	c.Close()
+	c.Close()
+	if _, err := c.GetMax(Point([]byte("a"))); err != Closed {
+		t.Errorf("got %v", err)
+	}
+	if Closed.Error() != "tscache: no cache has this number" {
+		t.Error(Closed.Error())
+	}
+}

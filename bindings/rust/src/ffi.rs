@@ -1,0 +1,63 @@
+//! `tscache.h`, word for word.
+use std::ffi::c_void;
+
+pub const EXCLUDE_FROM: u32 = 1;
+pub const EXCLUDE_TO: u32 = 2;
+pub const ONWARD: u32 = 4;
+pub const POINT: u32 = 8;
+
+#[repr(C)]
+#[derive(Debug)]
+pub struct Place {
+    pub at: *mut c_void,
+}
+
+#[repr(C)]
+pub struct Time {
+    pub wall: u64,
+    pub logical: u32,
+}
+
+#[repr(C)]
+pub struct Value {
+    pub wall: u64,
+    pub logical: u32,
+    pub owner: [u8; 16],
+}
+
+#[repr(C)]
+pub struct Added {
+    pub evicted: u64,
+    pub kept: bool,
+    pub rotated: bool,
+}
+
+#[repr(C)]
+pub struct Mark {
+    pub from_at: usize,
+    pub from_len: usize,
+    pub to_at: usize,
+    pub to_len: usize,
+    pub value: Value,
+    pub ends: u32,
+}
+
+#[repr(C)]
+pub struct Figures {
+    pub pages: u64,
+    pub rotations: u64,
+}
+
+extern "C" {
+    pub fn tsc_open(place: *mut Place, page_first: u32, page_max: u32, min_pages: u32, retention: u64, low_water: *const Time, number: *mut u64) -> u32;
+    pub fn tsc_add(
+        place: *mut Place, number: u64, from: *const u8, from_len: usize, to: *const u8, to_len: usize, ends: u32, value: *const Value, now: *const Time, out: *mut Added,
+    ) -> u32;
+    pub fn tsc_add_all(
+        place: *mut Place, number: u64, keys: *const u8, keys_len: usize, marks: *const Mark, marks_len: usize, now: *const Time, out: *mut Added,
+    ) -> u32;
+    pub fn tsc_get_max(place: *mut Place, number: u64, from: *const u8, from_len: usize, to: *const u8, to_len: usize, ends: u32, out: *mut Value) -> u32;
+    pub fn tsc_low_water(place: *mut Place, number: u64, out: *mut Time) -> u32;
+    pub fn tsc_figures_of(place: *mut Place, number: u64, out: *mut Figures) -> u32;
+    pub fn tsc_free(place: *mut Place);
+}

@@ -1,0 +1,5 @@
+mod BoxedTable
+mod Chains
+mod MarksMade
+mod PlaceValues
+mod TableGoes

@@ -1,0 +1,35 @@
+-- A table of caches by numbers.
+use Rattle.std.specs.Prelude.{◌≡◌, ◌≢◌, ◌+◌, ℕ, List, [], length, slice_get, Option, Some, None}
+use Rattle.tsc_cache.specs.CacheView.{CacheView}
+use Rattle.tsc_c.specs.declared.table.Entry.{Entry}
+use Rattle.tsc_c.specs.declared.table.Entry.TheVariants.{Closed, Own}
+use Rattle.tsc_c.specs.declared.table.Table.{Table}
+
+-- the cache that an entry holds
+abbrev pub cache_of : Entry → Option CacheView
+cache_of Closed = None
+cache_of (Own cache) = Some cache
+
+abbrev pub cache_in : Option Entry → Option CacheView
+cache_in None = None
+cache_in (Some e) = cache_of e
+
+-- the cache at a number, where there is one
+abbrev pub cache_at : List Entry → ℕ → Option CacheView
+cache_at es n = cache_in (slice_get es n)
+
+-- No number is given, and whatever is at another number than this one is as before.
+pub record Keeps (old new : List Entry) (n : ℕ) : Type 0 where
+  pub given : length new ≡ length old
+  pub others : (other : ℕ) → other ≢ n → cache_at new other ≡ cache_at old other
+
+-- A number is given, which is how many were given before. Whatever is at another number is as before.
+pub record GivesNext (old new : List Entry) (n : ℕ) : Type 0 where
+  pub number : n ≡ length old
+  pub given : length new ≡ length old + 1
+  pub others : (other : ℕ) → other ≢ n → cache_at new other ≡ cache_at old other
+
+-- the entries of the table in a place of memory; a place without a table is like an empty one
+abbrev pub entries_of : Option Table → List Entry
+entries_of None = []
+entries_of (Some t) = t.entries.items

@@ -1,0 +1,198 @@
+/* tscache.h: the timestamp cache for C and C++.
+ *
+ * A timestamp cache remembers the latest time at which each span of keys was read, and by which transaction. A store asks it
+ * before a write: a write at or below the time that a lookup of its span answers would change what was read, and has to move
+ * up. The cache is bounded: where its pages are full the oldest ones are dropped, and a floor answers for them. An answer may
+ * be later than the reads that there were, and never earlier.
+ *
+ *     static tsc_place place;                                  // zeros: owns nothing yet
+ *     uint64_t n;                                              // the number of a cache in it
+ *     tsc_time low = {5, 0}, now = {20, 0};
+ *     tsc_value read = {20, 0, {0x11}}, latest;
+ *     tsc_added added;
+ *     if (tsc_open(&place, 4096, 65536, 2, 10000000000, &low, &n)) return 1;
+ *     tsc_try_add(&place, n, "a", 1, "c", 1, TSC_EXCLUDE_TO, &read, &now, &added);    // [a, c) was read at 20
+ *     tsc_try_get_max(&place, n, "b", 1, NULL, 0, TSC_POINT, &latest);                // latest.wall is 20
+ *     tsc_free(&place);
+ *
+ * Each function that is declared here is proved, over whatever numbers and bytes it is given, to return and to do what is said
+ * of it, as long as the caller keeps to this:
+ *
+ *   - A `tsc_place` begins as zeros, and only these functions change it. What its pointer leads to is the library's: no one else
+ *     reads, writes or frees it. A place may be moved (the old memory is a place no more); it is never copied and used twice.
+ *   - Each pointer leads to as much as its type and the length after it say, which nothing else writes until the call returns.
+ *     What a call writes (a place, a number, an `out`) overlaps nothing else that it is given; `from` and `to` may be the same
+ *     bytes. No pointer is null, and none but those of bytes and marks has a length. `tsc_try_add`, `tsc_try_add_all` and
+ *     `tsc_try_get_max` below test for null, and take null for no bytes.
+ *   - The calls of one place come one at a time, and each sees what the last one did: one thread, or a lock round each call, or
+ *     the start or the end of a thread between them. A place may go from thread to thread in this way. Different places have
+ *     nothing in common, and may be used at once.
+ *   - No call comes from a signal handler, or from the forked child of a process that has threads.
+ *   - `malloc`, `realloc` and `free` are one allocator, which aligns a block to each power of two up to 16 that divides its size.
+ *
+ * Who owns what: a call copies the bytes of the keys, and keeps no pointer that it is given. All memory that it takes belongs to
+ * the place until `tsc_close` (one cache) or `tsc_free` (all of them, and the place's own).
+ */
+#ifndef TSCACHE_H
+#define TSCACHE_H
+
+#include <stdbool.h>
+#include <stddef.h>
+#include <stdint.h>
+
+#ifdef __cplusplus
+extern "C" {
+#endif
+
+/* What a call answers: TSC_OK, or why it was refused. A call that is refused changes no cache and writes nothing to `out`. */
+enum {
+    TSC_OK = 0,
+    TSC_CLOSED = 1,       /* no cache in this place has this number: it was closed, or never given */
+    TSC_TIME = 2,         /* a wall time is above 2^63 - 1, or a logical count above 2^31 - 1 */
+    TSC_ENDS = 3,         /* `ends` is none of the sums named below */
+    TSC_KEY_TOO_LONG = 4, /* a key has more than 4096 bytes */
+    TSC_INVERTED = 5,     /* of a span to be added the first key is greater than the second */
+    TSC_TOO_LARGE = 6,    /* a span to be added costs more than page_max: 32 and its bytes for each key */
+    TSC_OUTSIDE = 7,      /* a key of a mark does not lie among `keys` */
+    TSC_PAGE_SIZE = 8,    /* page_first is below 64 or above page_max, or that is above 2^30 */
+    TSC_MIN_PAGES = 9,    /* min_pages is 0 or above 64 */
+    TSC_RETENTION = 10,   /* retention is above 2^63 - 1 */
+    TSC_NO_MEMORY = 11,   /* malloc or realloc refused */
+    TSC_NULL = 255        /* a pointer is null: told by tsc_try_add, tsc_try_add_all and tsc_try_get_max alone */
+};
+
+/* The ends of a span: TSC_POINT, or TSC_ONWARD with or without TSC_EXCLUDE_FROM, or any sum of the first two, 0 too. */
+enum {
+    TSC_EXCLUDE_FROM = 1, /* `from` itself is no part of it */
+    TSC_EXCLUDE_TO = 2,   /* `to` itself is no part of it */
+    TSC_ONWARD = 4,       /* all keys from `from` on; `to` is passed over */
+    TSC_POINT = 8         /* the key `from` alone; `to` is passed over */
+};
+
+/* A place that owns caches. Zeros own nothing. */
+typedef struct {
+    void *at;
+} tsc_place;
+
+/* A time of a hybrid logical clock: nanoseconds, and a count among those of one nanosecond. */
+typedef struct {
+    uint64_t wall;
+    uint32_t logical;
+} tsc_time;
+
+/* A time with the transaction that owns it, by its sixteen bytes (a UUID). Sixteen zeros: nobody does. */
+typedef struct {
+    uint64_t wall;
+    uint32_t logical;
+    uint8_t owner[16];
+} tsc_value;
+
+/* What an Add did. */
+typedef struct {
+    uint64_t evicted; /* how many pages were dropped */
+    bool kept;        /* its span is not empty, and its time is above the floor */
+    bool rotated;     /* a new page came to the front */
+} tsc_added;
+
+/* One mark of several: its keys are `from_len` bytes of `keys` from place `from_at` on, and `to_len` from `to_at` on. */
+typedef struct {
+    size_t from_at, from_len, to_at, to_len;
+    tsc_value value;
+    uint32_t ends;
+} tsc_mark;
+
+/* How many pages a cache has, and how often they rotated. */
+typedef struct {
+    uint64_t pages;
+    uint64_t rotations;
+} tsc_figures;
+
+/* Opens a cache, and writes its number. Numbers count on from 0 and none is given twice, until the place is freed; each takes
+ * some memory of the place until then, also where its cache is closed. The first page has `page_first` bytes, and no page more
+ * than `page_max`. A page is dropped only while there are at least `min_pages`, and once all of it is older than `retention`
+ * nanoseconds. `low_water` is where the floor stands at first. */
+uint32_t tsc_open(tsc_place *place, uint32_t page_first, uint32_t page_max, uint32_t min_pages, uint64_t retention,
+                  const tsc_time *low_water, uint64_t *number);
+
+/* Adds a span that was read, with the time and the owner of the read, at the moment `now`. */
+uint32_t tsc_add(tsc_place *place, uint64_t number, const uint8_t *from, size_t from_len, const uint8_t *to, size_t to_len,
+                 uint32_t ends, const tsc_value *value, const tsc_time *now, tsc_added *out);
+
+/* Adds several marks, one after another at one moment, all of them or none. */
+uint32_t tsc_add_all(tsc_place *place, uint64_t number, const uint8_t *keys, size_t keys_len, const tsc_mark *marks,
+                     size_t marks_len, const tsc_time *now, tsc_added *out);
+
+/* The latest time on a span, with its owner where all reads of that time are one transaction's, or the floor. A span whose first
+ * key is greater than the second is empty, and the floor answers. */
+uint32_t tsc_get_max(tsc_place *place, uint64_t number, const uint8_t *from, size_t from_len, const uint8_t *to, size_t to_len,
+                     uint32_t ends, tsc_value *out);
+
+/* Where the floor stands. */
+uint32_t tsc_low_water(tsc_place *place, uint64_t number, tsc_time *out);
+
+/* What can be counted. */
+uint32_t tsc_figures_of(tsc_place *place, uint64_t number, tsc_figures *out);
+
+/* Frees a cache. Its number is answered by TSC_CLOSED from then on. */
+uint32_t tsc_close(tsc_place *place, uint64_t number);
+
+/* Frees all that the place owns. It is as zeros then, and may be used anew: numbers count from 0 again. */
+void tsc_free(tsc_place *place);
+
+/* The same calls where a pointer may be null. */
+
+static inline const uint8_t *tsc_bytes(const void *bytes)
+{
+    return bytes ? (const uint8_t *)bytes : (const uint8_t *)"";
+}
+
+static inline uint32_t tsc_try_add(tsc_place *place, uint64_t number, const void *from, size_t from_len, const void *to,
+                                   size_t to_len, uint32_t ends, const tsc_value *value, const tsc_time *now, tsc_added *out)
+{
+    if (!place || !value || !now || !out || (!from && from_len) || (!to && to_len))
+        return TSC_NULL;
+    return tsc_add(place, number, tsc_bytes(from), from_len, tsc_bytes(to), to_len, ends, value, now, out);
+}
+
+static inline uint32_t tsc_try_add_all(tsc_place *place, uint64_t number, const void *keys, size_t keys_len,
+                                       const tsc_mark *marks, size_t marks_len, const tsc_time *now, tsc_added *out)
+{
+    static const tsc_mark none = {0, 0, 0, 0, {0, 0, {0}}, 0};
+    if (!place || !now || !out || (!keys && keys_len) || (!marks && marks_len))
+        return TSC_NULL;
+    return tsc_add_all(place, number, tsc_bytes(keys), keys_len, marks ? marks : &none, marks_len, now, out);
+}
+
+static inline uint32_t tsc_try_get_max(tsc_place *place, uint64_t number, const void *from, size_t from_len, const void *to,
+                                       size_t to_len, uint32_t ends, tsc_value *out)
+{
+    if (!place || !out || (!from && from_len) || (!to && to_len))
+        return TSC_NULL;
+    return tsc_get_max(place, number, tsc_bytes(from), from_len, tsc_bytes(to), to_len, ends, out);
+}
+
+/* The name of what a call answered. */
+static inline const char *tsc_text(uint32_t answer)
+{
+    switch (answer) {
+    case TSC_OK: return "done";
+    case TSC_CLOSED: return "no cache has this number";
+    case TSC_TIME: return "a time is out of range";
+    case TSC_ENDS: return "there are no such ends of a span";
+    case TSC_KEY_TOO_LONG: return "a key is too long";
+    case TSC_INVERTED: return "the range is inverted";
+    case TSC_TOO_LARGE: return "the span is too large for a page";
+    case TSC_OUTSIDE: return "a key does not lie among the bytes";
+    case TSC_PAGE_SIZE: return "page_first is 64 to page_max, and page_max is at most 2^30";
+    case TSC_MIN_PAGES: return "min_pages is 1 to 64";
+    case TSC_RETENTION: return "retention is at most 2^63 - 1 nanoseconds";
+    case TSC_NO_MEMORY: return "out of memory";
+    case TSC_NULL: return "a pointer is null";
+    default: return "no such answer";
+    }
+}
+
+#ifdef __cplusplus
+}
+#endif
+#endif
