@@ -30,6 +30,7 @@ pub fn time(words: &TscTime) -> Result<Timestamp, Refusal>
     time_of_parts(words.wall, words.logical)
 }
 
+/// The time of a wall time and a logical count.
 fn time_of_parts(wall: u64, logical: u32) -> Result<Timestamp, Refusal>
     ensures value { IfOk result (λ time. time ≡ record { wall = wall; logical = logical }) }
     ensures refused { IfErr result (λ refusal. RefusesTime refusal (record { wall = wall; logical = logical })) }
@@ -125,6 +126,7 @@ pub fn added_span(alloc: Global, from: &[u8], to: &[u8], ends: u32) -> Result<Sp
     }
 }
 
+/// The range between two keys that is to be added. An inverted one is refused.
 fn added_range(alloc: Global, from: &[u8], to: &[u8], ends: Ends) -> Result<Span, Refusal>
     ensures value { IfOk result (λ span. range from.now to.now ends.exclude_from ends.exclude_to ≡ Some span) }
     ensures refused { IfErr result (λ refusal. RefusesRange refusal from.now to.now ends) }
@@ -149,6 +151,7 @@ pub fn looked_up_span(alloc: Global, from: &[u8], to: &[u8], ends: u32) -> Resul
     }
 }
 
+/// The range between two keys that is to be looked up. An inverted one is the empty span.
 fn looked_up_range(alloc: Global, from: &[u8], to: &[u8], ends: Ends) -> Result<Span, Refusal>
     ensures value { IfOk result (λ span. span ≡ range_for_lookup from.now to.now ends.exclude_from ends.exclude_to) }
     ensures refused { IfErr result (λ refusal. RefusesKeys refusal from.now to.now) }

@@ -39,6 +39,7 @@ pub fn open(
     open_with(alloc, place, config)
 }
 
+/// The configuration of these numbers.
 fn config(
     page_first: u32,
     page_max: u32,
@@ -55,6 +56,7 @@ fn config(
     }
 }
 
+/// Why a configuration was refused.
 fn of_config(fault: ConfigFault) -> Refusal
     ensures { RefusesSettings result fault }
 {
@@ -65,6 +67,7 @@ fn of_config(fault: ConfigFault) -> Refusal
     }
 }
 
+/// Opens a cache of this configuration, and gives its number.
 fn open_with(alloc: Global, place: &mut Place, config: Config) -> Result<u64, Refusal>
     ensures opened { IfOk result (λ n. Opens (cache_at (entries_of place.old.table) n) (cache_at (entries_of place.new.table) n) config) }
     ensures given { IfOk result (λ n. GivesNext (entries_of place.old.table) (entries_of place.new.table) n) }
@@ -104,6 +107,7 @@ pub fn add(
     add_value(alloc, place, number, from, to, ends, value, now)
 }
 
+/// Adds a span with its value at a moment.
 fn add_value(
     alloc: Global,
     place: &mut Place,
@@ -147,6 +151,7 @@ pub fn add_all(
     add_marks(alloc, place, number, keys, marks, now)
 }
 
+/// Adds several marks at a moment.
 fn add_marks(
     alloc: Global,
     place: &mut Place,

@@ -25,6 +25,7 @@ pub enum Entry {
 }
 
 impl Entry {
+    /// The cache that is held.
     fn cache(&self) -> Option<&Cache>
         ensures { option_map (λ c. c.now) result ≡ cache_of self.now }
     {
@@ -34,6 +35,7 @@ impl Entry {
         }
     }
 
+    /// Adds a span to it.
     fn add(
         &mut self,
         alloc: Global,
@@ -53,6 +55,7 @@ impl Entry {
         }
     }
 
+    /// Adds several marks to it.
     fn add_all(
         &mut self,
         alloc: Global,
@@ -70,6 +73,7 @@ impl Entry {
         }
     }
 
+    /// Lets it go.
     fn close(&mut self) -> Result<(), Refusal>
         ensures closed { cache_of self.new ≡ None }
         ensures refused { IfErr result (λ why. IsClosed why (cache_of self.old)) }
@@ -224,6 +228,7 @@ impl Table {
     }
 }
 
+/// What a cache answers to the span of two keys.
 fn look_in(
     alloc: Global,
     cache: &Cache,
@@ -238,6 +243,7 @@ fn look_in(
     Ok(cache.get_max(&span))
 }
 
+/// Adds the span of two keys to a cache.
 fn add_in(
     alloc: Global,
     cache: &mut Cache,
@@ -259,6 +265,7 @@ fn add_in(
     }
 }
 
+/// Adds the marks that an array asks for to a cache.
 fn add_all_in(
     alloc: Global,
     cache: &mut Cache,
