@@ -20,6 +20,8 @@ mod marks;
 mod place;
 mod refusal;
 mod table;
+#[cfg(test)]
+mod tests;
 mod words;
 
 use place::Place;
