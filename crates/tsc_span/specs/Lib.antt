@@ -1,6 +1,7 @@
 pub mod Span
 pub mod MadeKey
 pub mod MadeSpan
+pub mod LookupSpan
 pub mod Cuts
 pub mod Same
 pub mod Sameness

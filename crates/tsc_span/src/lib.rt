@@ -3,7 +3,7 @@
 //! A [`Key`] is a text of bytes. A [`Cut`] is a place right before or right after a key, or above all
 //! keys, and a [`Span`] lies between two cuts or is empty. They restate the bounds of CockroachDB's
 //! `pkg/kv/kvserver/tscache`: `intervalSkl.AddRange` takes two keys with flags that exclude either, and
-//! no second key means no end.
+//! no second key means no end. A [`SpanRef`] is the same over bytes that lie elsewhere, for lookups.
 //!
 //! Only [`Key::new`] and the two `try_copy` take memory.
 #![tactic(auto)]
@@ -13,8 +13,10 @@ mod fault;
 mod key;
 pub mod laws;
 mod span;
+mod span_ref;
 
 pub use cut::Cut;
 pub use fault::SpanFault;
 pub use key::{Key, LONGEST_KEY};
 pub use span::{Ends, Span};
+pub use span_ref::SpanRef;
