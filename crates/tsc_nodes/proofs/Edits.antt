@@ -45,7 +45,7 @@ insert-sorted n (o ∷ ns) (suc i) low sorted fits = (first ns i fits sorted.0, 
     first (p ∷ os) (suc j) fits up = up
 
 -- a key that fits after a node is above it
-past : (q : KeyBytes) (n : Node) (ns : List Node) (i : ℕ) → IsSorted (n ∷ ns) → FitsAt q (after n.key) ns i → Le (after n.key) (before q)
+pub past : (q : KeyBytes) (n : Node) (ns : List Node) (i : ℕ) → IsSorted (n ∷ ns) → FitsAt q (after n.key) ns i → Le (after n.key) (before q)
 past q n ns zero sorted fits = fits.0
 past q n [] (suc i) sorted fits = absurd fits
 past q n (o ∷ os) (suc i) sorted fits = Le-chain (after n.key) (after o.key) (before q) (Le-from_Lt (after n.key) (after o.key) (Lt-chain (after n.key) (before o.key) (after o.key) sorted.0 (before-after o.key))) (past q o os i sorted.1 fits)

@@ -19,3 +19,4 @@ pub mod Standing
 pub mod PlainMarks
 pub mod Tops
 pub mod Costs
+pub mod ToldPlaces

@@ -140,6 +140,18 @@ cut_order m n last (before k) at_a at_b h = absurd (past m n k at_a at_b h)
 cut_order m n last (after k) at_a at_b h = absurd (past m n k at_a at_b h)
 cut_order m n last last at_a at_b h = absurd (omega (arith, at_a, at_b))
 
+-- a cut has one number
+pub one_number : (m n : ℕ) (c : Cut) → IsCutNumber m c → IsCutNumber n c → m ≡ n
+one_number m n (before k) at_m at_n = at_m.number ∙ sym at_n.number
+one_number m n (after k) at_m at_n = at_m.number ∙ sym at_n.number
+one_number m n last at_m at_n = at_m ∙ sym at_n
+
+-- so that which is smaller is another one's
+pub not_its_number : (m n : ℕ) (c : Cut) → IsCutNumber m c → (m < n) ⊎ (n < m) → IsCutNumber n c → ⊥
+not_its_number m n c at_m apart at_n =
+    let e = one_number m n c at_m at_n in
+    elim apart [ inl h ↦ omega arith | inr h ↦ omega arith ]
+
 -- a cut of a smaller number lies below
 pub below_told : (m n : ℕ) (a b : Cut) → IsCutNumber m a → IsCutNumber n b → m < n → true ≡ is_below a b
 below_told m n a b at_a at_b l = sym (cut_order m n a b at_a at_b l)

@@ -143,6 +143,10 @@ is_equal Less h = absurd (true≢false (sym h))
 is_equal Equal h = refl
 is_equal Greater h = absurd (true≢false (sym h))
 
+-- and the same key compares so
+pub compares_same : (j k : KeyBytes) → j ≡ k → is_eq (key_cmp j k) ≡ true
+compares_same j k e = is_eq-slice_cmp j k ∙ (bytes_eq-Decides j k).1 e
+
 pub err_place : (r : Result ℕ ℕ) → result_err r ≡ place_of r
 err_place (Ok i) = refl
 err_place (Err i) = refl

@@ -190,6 +190,23 @@ IsNewKey nodes None (Some found) = ⊥
 IsNewKey nodes (Some k) None = is_in k (node_keys nodes) ≡ true
 IsNewKey nodes (Some k) (Some found) = (found.1 ≡ k) × FitsAt k (before []) nodes found.0 × (found.0 ≤ length nodes)
 
+-- where a key stands, or the place for it where it is new; nothing of no key
+abbrev pub IsPlaceTold : List Node → Option KeyBytes → Option (ℕ × KeyBytes) → Option ℕ → Type 0
+IsPlaceTold nodes None new told = told ≡ None
+IsPlaceTold nodes (Some k) None None = ⊥
+IsPlaceTold nodes (Some k) None (Some i) = StandsAt nodes k i
+IsPlaceTold nodes (Some k) (Some new) told = told ≡ Some new.0
+
+-- where a key stands; nothing of no key
+abbrev pub StandsWhereTold : List Node → Option KeyBytes → Option ℕ → Type 0
+StandsWhereTold nodes None told = told ≡ None
+StandsWhereTold nodes (Some k) None = ⊥
+StandsWhereTold nodes (Some k) (Some i) = StandsAt nodes k i
+
+-- and each of two
+abbrev pub BothStandWhereTold : List Node → Option KeyBytes → Option KeyBytes → (Option ℕ × Option ℕ) → Type 0
+BothStandWhereTold nodes first second told = StandsWhereTold nodes first told.0 × StandsWhereTold nodes second told.1
+
 -- a new key fits in its place
 abbrev pub FitsIn : List Node → Option (ℕ × KeyBytes) → Type 0
 FitsIn nodes None = Unit {0}

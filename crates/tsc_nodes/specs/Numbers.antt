@@ -1,5 +1,5 @@
 -- Numbers that stand for the first bytes of keys, so that most keys are compared by them alone.
-use Rattle.std.specs.Prelude.{◌≡◌, ℕ, zero, suc, ◌+◌, ◌*◌, ◌-◌, ◌<◌, ◌^◌, [], ◌∷◌, Bool, Option, Some, None, IfSome}
+use Rattle.std.specs.Prelude.{◌≡◌, ℕ, zero, suc, ◌+◌, ◌*◌, ◌-◌, ◌<◌, ◌^◌, [], ◌∷◌, Bool, Option, Some, None}
 use Rattle.std.specs.List.{All}
 use Rattle.tsc_span.specs.Span.{KeyBytes, Cut, before, after, last, is_below}
 
@@ -36,10 +36,12 @@ IsKeyAt (before k) key = key ≡ Some k
 IsKeyAt (after k) key = key ≡ Some k
 IsKeyAt last key = key ≡ None
 
--- whether a cut lies below one of a number, where the numbers tell
+-- whether a cut lies below those of a number, and nothing just where that is its own one
 abbrev pub TellsBelow : Cut → ℕ → Option Bool → Type 0
-TellsBelow c n told = (d : Cut) → IsCutNumber n d → IfSome told (λ below. below ≡ is_below c d)
+TellsBelow c n None = IsCutNumber n c
+TellsBelow c n (Some below) = (IsCutNumber n c → ⊥) × ((d : Cut) → IsCutNumber n d → below ≡ is_below c d)
 
 -- and whether above
 abbrev pub TellsAbove : Cut → ℕ → Option Bool → Type 0
-TellsAbove c n told = (d : Cut) → IsCutNumber n d → IfSome told (λ above. above ≡ is_below d c)
+TellsAbove c n None = IsCutNumber n c
+TellsAbove c n (Some above) = (IsCutNumber n c → ⊥) × ((d : Cut) → IsCutNumber n d → above ≡ is_below d c)

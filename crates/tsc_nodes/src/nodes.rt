@@ -1,4 +1,4 @@
-ghost use Rattle.std.specs.Prelude.{◌≡◌, ◌<◌, ◌≤◌, [], ◌∷◌, length, take, drop, true, false, Some, None, IsOk, IfOk, OnOk, OnErr, IfSome, is_some, ◌+◌, option_map, if◌then◌else◌};
+ghost use Rattle.std.specs.Prelude.{◌≡◌, ◌<◌, ◌≤◌, [], ◌∷◌, ◌↔◌, length, take, drop, true, false, IsTrue, Some, None, IsOk, IfOk, OnOk, OnErr, IfSome, is_some, ◌+◌, option_map, if◌then◌else◌};
 ghost use Rattle.std.specs.Vec.{vec_len, vec_capacity};
 ghost use Rattle.std.specs.Arc.{arc_value};
 ghost use Rattle.tsc_time.specs.Time.{zero_time};
@@ -8,7 +8,7 @@ ghost use Rattle.tsc_span.specs.Span.{is_below, between};
 ghost use Rattle.tsc_span.specs.Cuts.{cut_of};
 ghost use Rattle.tsc_nodes.specs.Numbers.{IsCutNumber};
 ghost use Rattle.tsc_nodes.specs.PageView.{is_new_among};
-ghost use Rattle.tsc_nodes.specs.Nodes.{paired, IsSorted, FitsAt, IsPlaceFor, IsFoundAt, IsPlaceOf, HasKeysBelow, StandsAt, LiesFrom, index_of, key_above, first_gap, IsNewKey, FitsIn, with_new, IsInOrder, HasNodes, MakesNodes, AddsNodes, GrowsBy, new_count, found_cost, new_cost, HoldsKeysOn, HoldsGapsOn, node_keys, answer_of, raise_nodes, node_in_gap, gap_value, next_cut, node_stretches};
+ghost use Rattle.tsc_nodes.specs.Nodes.{paired, IsSorted, FitsAt, IsPlaceFor, IsFoundAt, IsPlaceOf, IsPlaceTold, BothStandWhereTold, HasKeysBelow, StandsAt, LiesFrom, index_of, key_above, first_gap, IsNewKey, FitsIn, with_new, IsInOrder, HasNodes, MakesNodes, AddsNodes, GrowsBy, new_count, found_cost, new_cost, HoldsKeysOn, HoldsGapsOn, node_keys, answer_of, raise_nodes, node_in_gap, gap_value, next_cut, node_stretches};
 
 use crate::number::{KeyNumber, NumberedBytes, NumberedCut, NumberedKey};
 use std::alloc::{AllocError, Global};
@@ -193,6 +193,8 @@ impl Nodes {
         ensures memory { HasNodes self.now (option_map (λ k. k.now) first.entry) (option_map (λ k. k.now) second.entry) → IsOk result }
         ensures known { IfOk result (λ new. HasNodes self.now (option_map (λ k. k.now) first.entry) (option_map (λ k. k.now) second.entry)
             → new_count new.first new.second ≡ 0) }
+        ensures near { IfOk result (λ new. IsInOrder (option_map (λ k. k.now) first.entry) (option_map (λ k. k.now) second.entry)
+            → BothStandWhereTold (with_new (with_new self.now new.second) new.first) (option_map (λ k. k.now) first.entry) (option_map (λ k. k.now) second.entry) new.near) }
     {
         let alloc = *self.values.allocator();
         let lists = self.lists();
@@ -349,7 +351,7 @@ impl<'a> Lists<'a> {
 
     /// Whether a key stands at a place.
     fn stands_at(&self, place: usize, key: &NumberedBytes<'_>) -> bool
-        ensures { result ≡ true → StandsAt self.now key.now place }
+        ensures { IsTrue result ↔ StandsAt self.now key.now place }
     {
         match self.keys.get(place) {
             Some(other) => key.compare(other).is_eq(),
@@ -432,6 +434,7 @@ impl<'a> Lists<'a> {
         requires sorted { IsSorted self.now }
         ensures value { IfOk result (λ found. IsNewKey self.now (option_map (λ k. k.now) key.entry) found.1) }
         ensures memory { is_new_among (node_keys self.now) (option_map (λ k. k.now) key.entry) ≡ false → IsOk result }
+        ensures place { IfOk result (λ found. IsPlaceTold self.now (option_map (λ k. k.now) key.entry) found.1 found.0) }
     {
         let Some(key) = key else {
             return Ok((None, None))
@@ -569,7 +572,10 @@ fn add(
 }
 
 /// A place, and where a node came in before it the next one.
-fn moved(place: Option<usize>, more: bool) -> Option<usize> {
+fn moved(place: Option<usize>, more: bool) -> Option<usize>
+    ensures none { place ≡ None → result ≡ None }
+    ensures moved { IfSome place (λ i. i < usize.MAX → result ≡ Some (i + (if more then 1 else 0))) }
+{
     Some(place?.saturating_add(usize::from(more)))
 }
 

@@ -1,10 +1,10 @@
 -- A key with a node is not copied, and any other one has a place.
-use Rattle.std.proofs.Common.{◌≡◌, ◌∙◌, sym, ap, subst, ℕ, List, [], Ok, Err, true}
+use Rattle.std.proofs.Common.{◌≡◌, ◌∙◌, refl, sym, ap, subst, ℕ, List, [], Ok, Err, true}
 use mathlib.Core.Bool.{true≢false}
 use Rattle.std.specs.Prelude.{Some, None, not, option_map}
 use Rattle.tsc_span.specs.Span.{KeyBytes, before}
 use Rattle.tsc_nodes.specs.PageView.{is_new_among}
-use Rattle.tsc_nodes.specs.Nodes.{Node, node_keys, IsFoundAt, IsNewKey}
+use Rattle.tsc_nodes.specs.Nodes.{Node, node_keys, IsFoundAt, IsNewKey, IsPlaceTold}
 use Rattle.tsc_nodes.proofs.Edits.{FitsAt-absent}
 use Rattle.tsc_nodes.proofs.Searches.{placed, new_at}
 use Rattle.tsc_nodes.proofs.nodes.Lists.new_key.Goals as goal
@@ -35,3 +35,15 @@ returns-in_ok-copy-in-Err-clause-value c =
     let place : ℕ = c.in-Err.place in
     let found : IsFoundAt nodes k (Err place) = subst (λ (m : KeyBytes). IsFoundAt nodes m (Err place)) (c.new.ensures ∙ c.bytes.ensures.value) (subst (IsFoundAt nodes c.new.result) c.in-Err.is c.find.ensures) in
     subst (λ o. IsNewKey nodes (option_map (λ k. k.now) o) (Some (place, copy))) (sym c.in-Some.is) (new_at nodes k place copy c.in_ok-copy-in-Err.ensures found)
+
+pub returns-in-Ok-clause-place : goal.returns-in-Ok-clause-place
+returns-in-Ok-clause-place c =
+    let nodes : List Node = c.args.self.now in
+    let k : KeyBytes = c.in-Some.key.now in
+    let place : ℕ = c.in-Ok.place in
+    let found : IsFoundAt nodes k (Ok place) = subst (λ (m : KeyBytes). IsFoundAt nodes m (Ok place)) (c.new.ensures ∙ c.bytes.ensures.value) (subst (IsFoundAt nodes c.new.result) c.in-Ok.is c.find.ensures) in
+    subst (λ o. IsPlaceTold nodes (option_map (λ k. k.now) o) None (Some place)) (sym c.in-Some.is) found
+
+pub returns-in_ok-copy-in-Err-clause-place : goal.returns-in_ok-copy-in-Err-clause-place
+returns-in_ok-copy-in-Err-clause-place c =
+    subst (λ o. IsPlaceTold c.args.self.now (option_map (λ k. k.now) o) (Some (c.in-Err.place, c.in_ok-copy-in-Err.copy)) (Some c.in-Err.place)) (sym c.in-Some.is) refl

@@ -12,7 +12,7 @@ returns-in_default c =
     lies_behind c.args.self.now c.args.cut.now _ (subst (IsKeyAt c.args.cut.now) c.in_default.is c.key.ensures) (sym long)
 
 pub returns-in-Some-near : goal.returns-in-Some-near
-returns-in-Some-near c = lies_at_key c.args.self.now c.args.cut.now c.in-Some.key _ c.in-Some.ensures (c.stands_at.ensures c.if-stands_at.true)
+returns-in-Some-near c = lies_at_key c.args.self.now c.args.cut.now c.in-Some.key _ c.in-Some.ensures (c.stands_at.ensures.0 c.if-stands_at.true)
 
 pub returns-in_default-near : goal.returns-in_default-near
 returns-in_default-near c = lies_at_key c.args.self.now c.args.cut.now c.in-Some.key c.find.result c.in-Some.ensures c.find.ensures

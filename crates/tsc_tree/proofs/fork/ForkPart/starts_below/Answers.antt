@@ -10,7 +10,7 @@ use Rattle.tsc_tree.proofs.fork.ForkPart.starts_below.Goals as goal
 pub returns-in-Some : goal.returns-in-Some
 returns-in-Some g c =
     let s = c.args.self.now.summary in
-    c.in-Some.ensures _ (told_start s.start s.joint s.pending (nodes_of (map g.P.Part.nodes (arc_value c.args.self.now.parts).items)) c.requires.whole.told)
+    c.in-Some.ensures.1 _ (told_start s.start s.joint s.pending (nodes_of (map g.P.Part.nodes (arc_value c.args.self.now.parts).items)) c.requires.whole.told)
 
 pub returns-in-None : goal.returns-in-None
 returns-in-None g c =

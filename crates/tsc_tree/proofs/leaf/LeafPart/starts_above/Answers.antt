@@ -11,7 +11,7 @@ use Rattle.tsc_tree.proofs.leaf.LeafPart.starts_above.Goals as goal
 pub returns-in-Some : goal.returns-in-Some
 returns-in-Some c =
     let s = c.args.self.now.summary in
-    c.in-Some.ensures _ (told_start s.start s.joint s.pending (arc_value c.args.self.now.nodes) c.requires.whole.told)
+    c.in-Some.ensures.1 _ (told_start s.start s.joint s.pending (arc_value c.args.self.now.nodes) c.requires.whole.told)
 
 pub returns-in-None : goal.returns-in-None
 returns-in-None c =
