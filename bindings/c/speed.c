@@ -1,0 +1,72 @@
+/* Times calls of the library: lookups and Adds of single keys that a cache of one page has, of 65,536 keys or as many as the first word says.
+ *
+ * Prints a line for each with the nanoseconds of one call, in that round of nine in which they took least. The keys and the order of the
+ * places are those of `bench`, so that its figures can stand beside these. */
+#include "tscache.h"
+
+#include <stdio.h>
+#include <stdlib.h>
+#include <time.h>
+
+enum { PLACES = 1024, TURNS = 25, ROUNDS = 9, STRIDE = 1696631 };
+
+static double now(void)
+{
+    struct timespec t;
+    clock_gettime(CLOCK_MONOTONIC, &t);
+    return (double)t.tv_sec * 1e9 + (double)t.tv_nsec;
+}
+
+static void key_of(uint64_t place, uint8_t key[8])
+{
+    uint64_t number = place * 64;
+    for (int i = 0; i < 8; i++)
+        key[i] = (uint8_t)(number >> (56 - 8 * i));
+}
+
+static void must(uint32_t answer)
+{
+    if (answer != TSC_OK) {
+        fprintf(stderr, "%s\n", tsc_text(answer));
+        exit(1);
+    }
+}
+
+int main(int words, char **word)
+{
+    uint32_t nodes = words > 1 ? (uint32_t)atoi(word[1]) : 65536;
+    static tsc_place place;
+    static uint8_t keys[PLACES][8];
+    uint64_t cache;
+    tsc_time low = {0, 0}, moment = {1, 0};
+    tsc_value value = {10, 0, {0x11}}, found;
+    tsc_added added;
+    must(tsc_open(&place, nodes * 40, nodes * 40, 2, 1000000, &low, &cache));
+    for (uint32_t i = 0; i < nodes; i++) {
+        uint8_t key[8];
+        key_of(i, key);
+        must(tsc_add(&place, cache, key, 8, key, 0, TSC_POINT, &value, &moment, &added));
+    }
+    for (uint64_t i = 0; i < PLACES; i++)
+        key_of(i * STRIDE % nodes, keys[i]);
+    double least[2] = {1e18, 1e18};
+    for (int round = 0; round < ROUNDS; round++) {
+        double start = now();
+        for (int turn = 0; turn < TURNS; turn++)
+            for (int i = 0; i < PLACES; i++)
+                must(tsc_get_max(&place, cache, keys[i], 8, keys[i], 0, TSC_POINT, &found));
+        double middle = now();
+        for (int turn = 0; turn < TURNS; turn++) {
+            value.wall++;
+            for (int i = 0; i < PLACES; i++)
+                must(tsc_add(&place, cache, keys[i], 8, keys[i], 0, TSC_POINT, &value, &moment, &added));
+        }
+        double end = now();
+        least[0] = middle - start < least[0] ? middle - start : least[0];
+        least[1] = end - middle < least[1] ? end - middle : least[1];
+    }
+    printf("C, %u nodes, lookup of a key: %.0f ns\n", nodes, least[0] / (TURNS * PLACES));
+    printf("C, %u nodes, add of a key: %.0f ns\n", nodes, least[1] / (TURNS * PLACES));
+    tsc_free(&place);
+    return 0;
+}
