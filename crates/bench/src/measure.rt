@@ -4,11 +4,11 @@ use crate::watch::Watch;
 use anyhow::{Context, Result, ensure};
 use std::alloc::Global;
 use tsc_page::{LEAST_SIZE, MOST_SIZE, Page};
-use tsc_span::{Ends, Key, Span};
+use tsc_span::{Ends, Key, Span, SpanRef};
 use tsc_time::{Timestamp, Value, ratchet};
 
 /// What is measured on a page.
-pub const OPERATIONS: [&str; 11] = [
+pub const OPERATIONS: [&str; 13] = [
     "add of a new key",
     "lookup of a key",
     "lookup of 16 nodes",
@@ -20,6 +20,8 @@ pub const OPERATIONS: [&str; 11] = [
     "add of the whole page",
     "next with a key",
     "next with a new key",
+    "lookup of a key by its bytes",
+    "lookup of a key that is copied first",
 ];
 
 /// With which keys, and what all of these begin with.
@@ -186,11 +188,11 @@ pub fn measure(rt: &HostRuntime, nodes: u32, turns: u32) -> Result<Vec<Row>>
 }
 
 /// Measures pages with keys of one kind.
-fn measure_kind(rt: &HostRuntime, keys: Keys, turns: u32) -> Result<[Figure; 11]>
+fn measure_kind(rt: &HostRuntime, keys: Keys, turns: u32) -> Result<[Figure; 13]>
     requires at_least { 64 ≤ keys.nodes }
     requires at_most { keys.nodes ≤ 1048576 }
 {
-    let mut all = [Figure::NONE; 11];
+    let mut all = [Figure::NONE; 13];
     for _ in 0..ROUNDS {
         keep_least(&mut all, &measure_page(rt, keys, turns)?);
     }
@@ -256,8 +258,8 @@ struct Filled {
 }
 
 impl Filled {
-    /// The figures of a page in the order of [`OPERATIONS`], with those of Adds to copies and of the turns.
-    fn figures(&self, next: Figure, turns: [Figure; 8]) -> [Figure; 11] {
+    /// The figures of a page in the order of [`OPERATIONS`], with those of Adds to copies, of the turns, and of lookups of bytes.
+    fn figures(&self, next: Figure, turns: [Figure; 8], bytes: [Figure; 2]) -> [Figure; 13] {
         let [
             of_key,
             of_range,
@@ -268,6 +270,7 @@ impl Filled {
             to_wide,
             to_whole,
         ] = turns;
+        let [of_bytes, of_copy] = bytes;
         [
             self.adds,
             of_key,
@@ -280,6 +283,8 @@ impl Filled {
             to_whole,
             next,
             self.next_new,
+            of_bytes,
+            of_copy,
         ]
     }
 }
@@ -313,7 +318,7 @@ fn add_all(rt: &HostRuntime, mut page: Page, all: &[Span], between: &[Span]) -> 
 /// Fills a page with nodes, and then makes each operation at its places in each of so many turns, of which that
 /// counts in which it took least: in a short time others seldom come in between. The figures stand in the order
 /// of [`OPERATIONS`].
-fn measure_page(rt: &HostRuntime, here: Keys, turns: u32) -> Result<[Figure; 11]>
+fn measure_page(rt: &HostRuntime, here: Keys, turns: u32) -> Result<[Figure; 13]>
     requires at_least { 64 ≤ here.nodes }
     requires at_most { here.nodes ≤ 1048576 }
 {
@@ -321,7 +326,8 @@ fn measure_page(rt: &HostRuntime, here: Keys, turns: u32) -> Result<[Figure; 11]
     let mut filled = fill_page(rt, here)?;
     let next = add_to_copies(rt, &filled.page, places.some()?)?;
     let made = measure_turns(rt, &mut filled.page, &places, turns)?;
-    Ok(filled.figures(next, made))
+    let bytes = measure_bytes(rt, &filled.page, &places.keys, turns)?;
+    Ok(filled.figures(next, made, bytes))
 }
 
 /// Makes so many turns, and gives of each operation what it took in the turn in which it took least.
@@ -353,6 +359,17 @@ fn make_turn(rt: &HostRuntime, page: &mut Page, places: &Places) -> Result<[Figu
     ])
 }
 
+/// Looks up the keys by their bytes and by copies of these, in turns of their own, in which nothing else is done.
+fn measure_bytes(rt: &HostRuntime, page: &Page, keys: &[Span], turns: u32) -> Result<[Figure; 2]> {
+    let mut least = [Figure::NONE; 2];
+    for _ in 0..turns {
+        let of_bytes = look_up_by(rt, page, keys, false)?;
+        let of_copy = look_up_by(rt, page, keys, true)?;
+        keep_least(&mut least, &[of_bytes, of_copy]);
+    }
+    Ok(least)
+}
+
 /// Looks up each of the spans.
 fn look_up(rt: &HostRuntime, page: &Page, spans: &[Span]) -> Result<Figure> {
     let mut latest = Value::unowned(Timestamp::ZERO);
@@ -362,6 +379,27 @@ fn look_up(rt: &HostRuntime, page: &Page, spans: &[Span]) -> Result<Figure> {
     }
     let figure = watch.stop(rt, spans.len() as u64)?;
     // what was looked up is used, so that no compiler leaves the lookups out
+    ensure!(
+        latest.time() <= page.top(),
+        "a lookup answered more than the top"
+    );
+    Ok(figure)
+}
+
+/// Looks up each of the keys by its bytes, or by a span that is made of a copy of them first.
+fn look_up_by(rt: &HostRuntime, page: &Page, keys: &[Span], copies: bool) -> Result<Figure> {
+    let mut latest = Value::unowned(Timestamp::ZERO);
+    let watch = Watch::start(rt)?;
+    for span in keys {
+        let bytes = span.end_keys().0.context("no key")?.bytes();
+        let value = if copies {
+            page.lookup(&Span::point(Key::new(rt.alloc(), bytes)?))
+        } else {
+            page.lookup_in(&SpanRef::point(bytes))
+        };
+        latest = ratchet(latest, value).0;
+    }
+    let figure = watch.stop(rt, keys.len() as u64)?;
     ensure!(
         latest.time() <= page.top(),
         "a lookup answered more than the top"

@@ -161,9 +161,10 @@ enum Way {
     InPlace,
     Plain,
     ByNext,
+    Each,
 }
 
-static WAYS: [Way; 3] = [Way::InPlace, Way::Plain, Way::ByNext];
+static WAYS: [Way; 4] = [Way::InPlace, Way::Plain, Way::ByNext, Way::Each];
 
 /// A cache to which marks are added in one of the ways.
 #[derive(Drop)]
@@ -172,6 +173,8 @@ enum Tried {
     Plain(PlainCache),
     /// The newest version, and the one before it.
     ByNext(Cache, Option<Cache>),
+    /// One that has some of the marks where memory is refused, and a new one that takes its place then.
+    Each(Cache, Cache),
 }
 
 impl Tried {
@@ -180,6 +183,7 @@ impl Tried {
             Way::InPlace => Tried::InPlace(Cache::new(alloc, config)?),
             Way::Plain => Tried::Plain(PlainCache::new(alloc, config)?),
             Way::ByNext => Tried::ByNext(Cache::new(alloc, config)?, None),
+            Way::Each => Tried::Each(Cache::new(alloc, config)?, Cache::new(alloc, config)?),
         })
     }
 
@@ -192,19 +196,30 @@ impl Tried {
                 *older = Some(std::mem::replace(newest, next));
                 Ok(added)
             }
+            Tried::Each(cache, other) => {
+                let added = cache.add_each(marks, now);
+                if let Err(CacheFault::NoMemory) = added {
+                    std::mem::swap(cache, other);
+                }
+                added
+            }
         }
     }
 
     fn get_max(&self, span: &Span) -> Value {
         match self {
-            Tried::InPlace(cache) | Tried::ByNext(cache, _) => cache.get_max(span),
+            Tried::InPlace(cache) | Tried::ByNext(cache, _) | Tried::Each(cache, _) => {
+                cache.get_max(span)
+            }
             Tried::Plain(cache) => cache.get_max(span),
         }
     }
 
     fn stand(&self) -> (usize, Timestamp) {
         match self {
-            Tried::InPlace(cache) | Tried::ByNext(cache, _) => (cache.pages(), cache.low_water()),
+            Tried::InPlace(cache) | Tried::ByNext(cache, _) | Tried::Each(cache, _) => {
+                (cache.pages(), cache.low_water())
+            }
             Tried::Plain(cache) => (cache.pages(), cache.low_water()),
         }
     }

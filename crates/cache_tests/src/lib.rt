@@ -6,6 +6,8 @@
 #[cfg(test)]
 mod batches;
 #[cfg(test)]
+mod between;
+#[cfg(test)]
 mod cache;
 #[cfg(test)]
 mod growths;

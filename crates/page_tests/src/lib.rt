@@ -21,3 +21,5 @@ mod span;
 mod time;
 #[cfg(test)]
 mod tree;
+#[cfg(test)]
+mod unchanged;

@@ -15,7 +15,7 @@ fn byte_range(alloc: Global, [from, to]: [u8; 2], ends: Ends) -> Result<Span, Sp
 }
 
 /// A range up to an excluded key, or the single key where both are the same.
-fn bytes_up_to(alloc: Global, bytes: [u8; 2]) -> Result<Span, SpanFault> {
+pub(crate) fn bytes_up_to(alloc: Global, bytes: [u8; 2]) -> Result<Span, SpanFault> {
     if bytes[0] == bytes[1] {
         return Ok(Span::point(Key::new(alloc, &bytes[..1])?));
     }
@@ -27,7 +27,7 @@ fn bytes_up_to(alloc: Global, bytes: [u8; 2]) -> Result<Span, SpanFault> {
 }
 
 /// The gap between two keys.
-fn gap(alloc: Global, bytes: [u8; 2]) -> Result<Span, SpanFault> {
+pub(crate) fn gap(alloc: Global, bytes: [u8; 2]) -> Result<Span, SpanFault> {
     let ends = Ends {
         exclude_from: true,
         exclude_to: true,

@@ -1,8 +1,10 @@
 -- Several marks that are added at one moment, all of them or none: which of them fit, whether any is kept, and what they make of all that can be seen of a cache.
-use Rattle.std.specs.Prelude.{◌≡◌, List, [], ◌∷◌, Bool, true, false, ◌||◌, ◌&&◌}
+use Rattle.std.specs.Prelude.{◌≡◌, ◌<◌, ℕ, List, [], ◌∷◌, length, take, Bool, true, false, ◌||◌, ◌&&◌}
 use Rattle.tsc_time.specs.Time.{Time}
 use Rattle.tsc_nodes.specs.Page.{Mark}
 use Rattle.tsc_cache.specs.declared.added.Added.{Added}
+use Rattle.tsc_cache.specs.declared.fault.CacheFault.{CacheFault}
+use Rattle.tsc_cache.specs.declared.fault.CacheFault.TheVariants.{TooLarge, NoMemory}
 use Rattle.tsc_cache.specs.Settings.{Settings, fits}
 use Rattle.tsc_cache.specs.State.{is_kept, not_kept, added_with}
 use Rattle.tsc_cache.specs.CacheView.{CacheView, Adds}
@@ -23,3 +25,12 @@ AddsAll old new [] now added = (new ≡ old) × (added ≡ not_kept)
 AddsAll old new (m ∷ ms) now added =
     (middle : CacheView) × (first : Added) × (others : Added)
     × Adds old middle m now first × AddsAll middle new ms now others × (added ≡ added_with first others)
+
+-- What is left where one of several marks was refused: so many were added, from the first on, and not all.
+abbrev pub AddsSome : CacheView → CacheView → List Mark → Time → Type 0
+AddsSome old new ms now = (count : ℕ) × (added : Added) × (count < length ms) × AddsAll old new (take count ms) now added
+
+-- What Adds of several marks in place leave where they are refused: the cache as it was, where some mark is too large, and else some of them.
+abbrev pub LeavesSome : CacheView → CacheView → List Mark → Time → CacheFault → Type 0
+LeavesSome old new ms now TooLarge = new ≡ old
+LeavesSome old new ms now NoMemory = AddsSome old new ms now

@@ -1,11 +1,12 @@
-ghost use Rattle.std.specs.Prelude.{◌≡◌, ◌↔◌, ◌<◌, ◌+◌, ◌^◌, ◌&&◌, not, length, true, false, IsOk, IfOk, IsErrOf, OnOk, OnErr};
+ghost use Rattle.std.specs.Prelude.{◌≡◌, ◌↔◌, ◌<◌, ◌+◌, ◌^◌, ◌&&◌, not, option_map, length, true, false, IsOk, IfOk, IfErr, IsErrOf, OnOk, OnErr};
 ghost use Rattle.tsc_time.specs.Time.{Time};
 ghost use Rattle.tsc_span.specs.Span.{is_empty_span};
+ghost use Rattle.tsc_span.specs.LookupSpan.{span_for_lookup};
 ghost use Rattle.tsc_cache.specs.Settings.{Settings, fits};
 ghost use Rattle.tsc_cache.specs.State.{CacheState, opening, step, step_all, look, is_kept, kept_after_rotation};
 ghost use Rattle.tsc_cache.specs.Lookup.{LooksIntoPages};
 ghost use Rattle.tsc_cache.specs.CacheView.{StandsForState, Adds, RotatesWith, front_has_room_for, cache_answer, LooksIntoViews};
-ghost use Rattle.tsc_cache.specs.Batch.{all_fit, is_any_kept, AddsAll};
+ghost use Rattle.tsc_cache.specs.Batch.{all_fit, is_any_kept, AddsAll, AddsSome, LeavesSome};
 
 use crate::config::counted_on;
 use crate::mark::is_any_kept;
@@ -14,7 +15,7 @@ use crate::{Added, CacheFault, Config, Mark};
 use std::alloc::Global;
 use std::marker::Model;
 use tsc_page::Page;
-use tsc_span::Span;
+use tsc_span::{Ends, Span, SpanRef};
 use tsc_time::{NoMemory, Timestamp, Value, ratchet};
 
 /// The timestamp cache: which spans were read, when at the latest, and by whom.
@@ -128,6 +129,29 @@ impl Cache {
         Ok(added)
     }
 
+    /// Adds each of these marks at the moment `now`, one after another, in place. Where memory is refused, those before the one that was
+    /// refused stay: so it is for a cache that is thrown away then, and [`add_all`](Cache::add_all) for any other.
+    ///
+    /// Where none is kept nothing changes, and no memory is taken. Else it costs an [`add`](Cache::add) for each mark.
+    pub fn add_each(&mut self, marks: &[Mark], now: Timestamp) -> Result<Added, CacheFault>
+        ensures stands { OnOk result ((settings : Settings) (s : CacheState) → StandsForState self.old settings s
+            → StandsForState self.new settings (step_all settings s marks.now now).state) }
+        ensures added { IfOk result (λ added. (settings : Settings) (s : CacheState) → StandsForState self.old settings s
+            → added ≡ (step_all settings s marks.now now).added) }
+        ensures seen { IfOk result (λ added. AddsAll self.old self.new marks.now now added) }
+        ensures too_large { IsErrOf result CacheFault.TooLarge ↔ (all_fit self.old.settings marks.now ≡ false) }
+        ensures left { IfErr result (λ fault. LeavesSome self.old self.new marks.now now fault) }
+        ensures memory { all_fit self.old.settings marks.now ≡ true → is_any_kept self.old.floor marks.now ≡ false → IsOk result }
+    {
+        if !self.config.fits_all(marks) {
+            return Err(CacheFault::TooLarge);
+        }
+        if !is_any_kept(self.floor, marks) {
+            return Ok(Added::nothing());
+        }
+        Ok(self.add_each_fitting(marks, now)?)
+    }
+
     /// The cache after all of these marks, one after another at the moment `now`, beside this one, which stays as it
     /// is. The two share the pages that the marks leave as they are.
     ///
@@ -146,7 +170,7 @@ impl Cache {
             return Err(CacheFault::TooLarge);
         }
         let mut next = self.share()?;
-        let added = next.add_each(marks, now)?;
+        let added = next.add_each_fitting(marks, now)?;
         Ok((next, added))
     }
 
@@ -158,7 +182,25 @@ impl Cache {
         ensures value { result ≡ cache_answer self.now span.now }
         ensures stands { (settings : Settings) (s : CacheState) → StandsForState self.now settings s → result ≡ look s span.now }
     {
-        self.get_max_counted(span).0
+        self.get_max_in(&span.borrowed())
+    }
+
+    /// As [`get_max`](Cache::get_max), of the keys from a start to an end that lie elsewhere: it copies no key, and takes no
+    /// memory. [`SpanRef::between`] says which span that is.
+    pub fn get_max_between(&self, start: &[u8], end: Option<&[u8]>, ends: Ends) -> Value
+        ensures value { result ≡ cache_answer self.now (span_for_lookup start.now (option_map (λ k. k.now) end.entry) ends.exclude_from ends.exclude_to) }
+        ensures stands { (settings : Settings) (s : CacheState) → StandsForState self.now settings s
+            → result ≡ look s (span_for_lookup start.now (option_map (λ k. k.now) end.entry) ends.exclude_from ends.exclude_to) }
+    {
+        self.get_max_in(&SpanRef::between(start, end, ends))
+    }
+
+    /// As [`get_max`](Cache::get_max), of a span over keys that lie elsewhere.
+    pub fn get_max_in(&self, span: &SpanRef<'_>) -> Value
+        ensures value { result ≡ cache_answer self.now span.now }
+        ensures stands { (settings : Settings) (s : CacheState) → StandsForState self.now settings s → result ≡ look s span.now }
+    {
+        self.lookup(span).0
     }
 
     /// The value of [`get_max`](Cache::get_max), and how many pages were looked into: those, from the newest
@@ -169,8 +211,7 @@ impl Cache {
         ensures looked { LooksIntoViews span.now self.now.pages result.1 }
         ensures looked_into { (settings : Settings) (s : CacheState) → StandsForState self.now settings s → LooksIntoPages span.now s.pages result.1 }
     {
-        let (best, looked) = self.pages.lookup(span);
-        (ratchet(best, Value::unowned(self.floor)).0, looked)
+        self.lookup(&span.borrowed())
     }
 
     /// Where the floor stands.
@@ -207,6 +248,17 @@ impl Cache {
         self.keeps(span, value) && !self.pages.has_room(span)
     }
 
+    /// What the floor and the pages answer to a span together, and how many pages were looked into.
+    fn lookup(&self, span: &SpanRef<'_>) -> (Value, u64)
+        ensures value { result.0 ≡ cache_answer self.now span.now }
+        ensures stands { (settings : Settings) (s : CacheState) → StandsForState self.now settings s → result.0 ≡ look s span.now }
+        ensures looked { LooksIntoViews span.now self.now.pages result.1 }
+        ensures looked_into { (settings : Settings) (s : CacheState) → StandsForState self.now settings s → LooksIntoPages span.now s.pages result.1 }
+    {
+        let (best, looked) = self.pages.lookup(span);
+        (ratchet(best, Value::unowned(self.floor)).0, looked)
+    }
+
     /// Adds a span that fits.
     fn add_fitting(&mut self, span: &Span, value: Value, now: Timestamp) -> Result<Added, NoMemory>
         requires fits { fits self.old.settings span.now ≡ true }
@@ -228,10 +280,11 @@ impl Cache {
     }
 
     /// Adds marks that fit. Where memory is refused, those before stay.
-    fn add_each(&mut self, marks: &[Mark], now: Timestamp) -> Result<Added, NoMemory>
+    fn add_each_fitting(&mut self, marks: &[Mark], now: Timestamp) -> Result<Added, NoMemory>
         requires fits { all_fit self.old.settings marks.now ≡ true }
         requires few { length self.old.pages + length marks.now < 2 ^ 64 }
-        ensures { IfOk result (λ added. AddsAll self.old self.new marks.now now added) }
+        ensures all { IfOk result (λ added. AddsAll self.old self.new marks.now now added) }
+        ensures some { OnErr result (AddsSome self.old self.new marks.now now) }
     {
         let mut added = Added::nothing();
         for mark in marks {

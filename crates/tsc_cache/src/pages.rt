@@ -11,7 +11,7 @@ use std::collections::VecDeque;
 use std::mem;
 use std::sync::Arc;
 use tsc_page::Page;
-use tsc_span::Span;
+use tsc_span::{Span, SpanRef};
 use tsc_time::{NoMemory, Timestamp, Value, ratchet};
 
 /// The pages of a cache. A page that other caches hold too is never changed.
@@ -141,18 +141,18 @@ impl Pages {
     }
 
     /// What all pages answer to a span together, above time zero, and how many were looked into.
-    pub(crate) fn lookup(&self, span: &Span) -> (Value, u64)
+    pub(crate) fn lookup(&self, span: &SpanRef<'_>) -> (Value, u64)
         requires stacked { AreStacked (pages_of self.now) }
         ensures value { result.0 ≡ pages_answer (pages_of self.now) span.now }
         ensures looked { LooksIntoViews span.now (pages_of self.now) result.1 }
     {
-        let mut best = self.front.lookup(span);
+        let mut best = self.front.lookup_in(span);
         let mut looked = 1;
         for page in &self.older {
             if page.top() < best.time() {
                 return (best, looked);
             }
-            best = ratchet(best, page.lookup(span)).0;
+            best = ratchet(best, page.lookup_in(span)).0;
             looked += 1;
         }
         (best, looked)

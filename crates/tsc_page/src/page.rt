@@ -9,7 +9,7 @@ ghost use Rattle.tsc_nodes.specs.PageView.{AreLeafSizes, StandsFor, NoAnswerAbov
 use crate::tree::Tree;
 use std::alloc::Global;
 use std::marker::Model;
-use tsc_span::Span;
+use tsc_span::{Span, SpanRef};
 use tsc_time::{NoMemory, Timestamp, Value};
 
 /// One page of the cache: what was added to it, as sorted nodes.
@@ -180,6 +180,15 @@ impl Page {
     /// each part between these. A search compares keys by their first twenty-four bytes, and reads what is behind these only
     /// where they are the same.
     pub fn lookup(&self, span: &Span) -> Value
+        ensures value { result ≡ answer self.now span.now }
+        ensures below_top { is_before self.now.top result.time ≡ false }
+        ensures stands { (p : PageMarks) → StandsFor self.now p → result ≡ joint_above zero_time (values_on span.now p.marks) }
+    {
+        self.lookup_in(&span.borrowed())
+    }
+
+    /// As [`lookup`](Page::lookup), over keys that lie elsewhere.
+    pub fn lookup_in(&self, span: &SpanRef<'_>) -> Value
         ensures value { result ≡ answer self.now span.now }
         ensures below_top { is_before self.now.top result.time ≡ false }
         ensures stands { (p : PageMarks) → StandsFor self.now p → result ≡ joint_above zero_time (values_on span.now p.marks) }

@@ -14,7 +14,7 @@ const LOOKS_EVERY: u64 = 10;
 static KEYS: [&[u8]; 6] = [b"", b"a", b"a\x00", b"b", b"c", b"\xff"];
 
 /// All choices of ends.
-static CHOICES: [Ends; 4] = [
+pub static CHOICES: [Ends; 4] = [
     Ends {
         exclude_from: false,
         exclude_to: false,

@@ -1,32 +1,28 @@
--- One mark after another is added.
-use Rattle.std.proofs.Common.{◌∙◌, ◌+◌, sym, ap, subst, arith}
-use Rattle.tsc_nodes.specs.Page.{Mark}
+-- Where no mark is kept nothing changes, and else one mark after another is added.
+use Rattle.std.proofs.Common.{◌≡◌, ◌∙◌, sym, ap, subst, false}
 use Rattle.tsc_cache.specs.declared.added.Added.{Added}
-use Rattle.tsc_cache.specs.Settings.{fits}
-use Rattle.tsc_cache.specs.CacheView.{Adds}
-use Rattle.tsc_cache.proofs.Batches.{IsUnderWay, begun, next_fits, few_dropped, one_more, all_added}
+use Rattle.tsc_cache.specs.CacheView.{CacheView}
+use Rattle.tsc_cache.specs.Batch.{is_any_kept, AddsAll}
+use Rattle.tsc_cache.proofs.Batches.{none_adds, adds_all_stands}
 use Rattle.tsc_cache.proofs.cache.Cache.add_each.Goals as goal
 
-pub loop-mark-init : goal.loop-mark-init
-loop-mark-init c = begun c.args.self.now c.args.marks.now c.args.now c.nothing-added.result c.requires.fits c.nothing-added.ensures
+pub returns-then-not-is_any_kept-clause-seen : goal.returns-then-not-is_any_kept-clause-seen
+returns-then-not-is_any_kept-clause-seen c =
+    let none : is_any_kept c.args.self.now.floor c.args.marks.now ≡ false = ap (λ (v : CacheView). is_any_kept v.floor c.args.marks.now) (sym c.self.view_is) ∙ sym c.is_any_kept.ensures ∙ c.if-not-is_any_kept.true in
+    subst (λ (a : Added). AddsAll c.args.self.now c.args.self.now c.args.marks.now c.args.now a) (sym c.nothing.ensures) (none_adds c.args.self.now c.args.marks.now c.args.now none)
 
-pub add_fitting-requires : goal.add_fitting-requires
-add_fitting-requires c =
-    let next = next_fits c.args.self.now c.loop-mark.self c.args.marks.now c.args.now c.loop-mark.added c.loop-mark.mark-index c.mark-item.result c.loop-mark.invariant c.loop-mark-test.true (sym c.mark-item.is) in
-    record { fits = ap (λ (m : Mark). fits c.loop-mark.self.settings m.span) c.mark.view_is ∙ next }
+pub returns-then-not-is_any_kept-clause-stands : goal.returns-then-not-is_any_kept-clause-stands
+returns-then-not-is_any_kept-clause-stands c settings s stands =
+    (adds_all_stands c.args.self.now c.args.self.now c.args.marks.now c.args.now c.nothing.result (returns-then-not-is_any_kept-clause-seen c) settings s stands).0
 
-pub with-added-requires : goal.with-added-requires
-with-added-requires c =
-    let adds = subst (λ (m : Mark). Adds c.loop-mark.self c.add_fitting.new.self m c.args.now c.in_ok-add_fitting.field-0) c.mark.view_is c.in_ok-add_fitting.ensures.seen in
-    let dropped = few_dropped c.args.self.now c.loop-mark.self c.add_fitting.new.self c.args.marks.now c.args.now c.loop-mark.added c.in_ok-add_fitting.field-0 c.loop-mark.mark-index c.mark-item.result c.loop-mark.invariant c.loop-mark-test.true adds in
-    let few = c.requires.few in
-    record { few = omega arith }
+pub returns-then-not-is_any_kept-clause-added : goal.returns-then-not-is_any_kept-clause-added
+returns-then-not-is_any_kept-clause-added c settings s stands =
+    (adds_all_stands c.args.self.now c.args.self.now c.args.marks.now c.args.now c.nothing.result (returns-then-not-is_any_kept-clause-seen c) settings s stands).1
 
-pub loop-mark-preserved : goal.loop-mark-preserved
-loop-mark-preserved c =
-    let adds = subst (λ (m : Mark). Adds c.loop-mark.self c.add_fitting.new.self m c.args.now c.in_ok-add_fitting.field-0) c.mark.view_is c.in_ok-add_fitting.ensures.seen in
-    subst (λ (a : Added). IsUnderWay c.args.self.now c.add_fitting.new.self c.args.marks.now c.args.now a (c.loop-mark.mark-index + 1)) (sym c.with-added.ensures)
-    (one_more c.args.self.now c.loop-mark.self c.add_fitting.new.self c.args.marks.now c.args.now c.loop-mark.added c.in_ok-add_fitting.field-0 c.loop-mark.mark-index c.mark-item.result c.loop-mark.invariant c.loop-mark-test.true (sym c.mark-item.is) adds)
+pub returns-clause-stands : goal.returns-clause-stands
+returns-clause-stands c settings s stands =
+    (adds_all_stands c.args.self.now c.add_each_fitting.new.self c.args.marks.now c.args.now c.in_ok-add_each_fitting.field-0 c.in_ok-add_each_fitting.ensures.all settings s stands).0
 
-pub returns : goal.returns
-returns c = all_added c.args.self.now c.loop-mark.self c.args.marks.now c.args.now c.loop-mark.added c.loop-mark.mark-index c.loop-mark.invariant (omega arith)
+pub returns-clause-added : goal.returns-clause-added
+returns-clause-added c settings s stands =
+    (adds_all_stands c.args.self.now c.add_each_fitting.new.self c.args.marks.now c.args.now c.in_ok-add_each_fitting.field-0 c.in_ok-add_each_fitting.ensures.all settings s stands).1

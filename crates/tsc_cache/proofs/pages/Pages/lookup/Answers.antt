@@ -15,7 +15,7 @@ pub loop-page-init : goal.loop-page-init
 loop-page-init c =
     let all : deque_iter_rest c.into_iter-page-iterator.result ≡ c.args.self.now.older.items = search rules in
     let first = looking-start (front_of c.args.self.now) (older_of c.args.self.now) c.args.span.now in
-    let best : c.lookup-best.result ≡ answer (front_of c.args.self.now) c.args.span.now = c.lookup-best.ensures.value ∙ ap (λ (p : PageView). answer p c.args.span.now) c.deref.ensures in
+    let best : c.lookup_in-best.result ≡ answer (front_of c.args.self.now) c.args.span.now = c.lookup_in-best.ensures.value ∙ ap (λ (p : PageView). answer p c.args.span.now) c.deref.ensures in
     subst (λ (v : OwnedTime). Looking (pages_of c.args.self.now) (map (λ a. arc_value a) (deque_iter_rest c.into_iter-page-iterator.result)) c.args.span.now v 1) (sym best)
     (rw all first)
 
@@ -48,6 +48,6 @@ loop-page-preserved c =
     let high : is_before c.top.result c.time.result ≡ false = search rules in
     let more = looking-more (pages_of c.args.self.now) (arc_value c.in-Some.page.now) (map (λ a. arc_value a) (deque_iter_rest c.next.new.self)) c.args.span.now c.loop-page.best c.loop-page.looked
     so_far (subst (λ (t : Time). is_before (arc_value c.in-Some.page.now).top t ≡ false) c.time.ensures (subst (λ (t : Time). is_before t c.time.result ≡ false) top_is high)) in
-    let answered : c.lookup.result ≡ answer (arc_value c.in-Some.page.now) c.args.span.now = c.lookup.ensures.value ∙ ap (λ (p : PageView). answer p c.args.span.now) c.deref-in-loop-page-2.ensures in
+    let answered : c.lookup_in.result ≡ answer (arc_value c.in-Some.page.now) c.args.span.now = c.lookup_in.ensures.value ∙ ap (λ (p : PageView). answer p c.args.span.now) c.deref-in-loop-page-2.ensures in
     subst (λ (v : OwnedTime). Looking (pages_of c.args.self.now) (map (λ a. arc_value a) (deque_iter_rest c.next.new.self)) c.args.span.now v (c.loop-page.looked + 1))
     (sym (c.ratchet-best.ensures.joint ∙ ap (λ (v : OwnedTime). joint c.loop-page.best (v ∷ [])) answered)) more

@@ -2,7 +2,7 @@
 use Rattle.std.proofs.Common.{◌∙◌, sym, ap}
 use Rattle.tsc_nodes.specs.PageView.{answer}
 use Rattle.tsc_nodes.proofs.Standing.{nothing_answered}
-use Rattle.tsc_page.proofs.page.Page.lookup.Goals as goal
+use Rattle.tsc_page.proofs.page.Page.lookup_in.Goals as goal
 
 pub returns-in-None-clause-value : goal.returns-in-None-clause-value
 returns-in-None-clause-value c = c.unowned.ensures ∙ sym (nothing_answered c.args.self.now) ∙ ap (answer c.args.self.now) c.in-None.ensures.value
