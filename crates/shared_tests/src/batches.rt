@@ -35,7 +35,7 @@ const FIRST: [u8; 16] = [
 ];
 
 /// A key of 101 bytes, which costs a byte more than a page of 132 bytes has.
-const LARGE: &str =
+pub const LARGE: &str =
     "kkkkkkkkkkkkkkkkkkkkkkkkkkkkkkkkkkkkkkkkkkkkkkkkkkkkkkkkkkkkkkkkkkkkkkkkkkkkkkkkkkkkkkkkkkkkkkkkkkkkk";
 
 /// What is made with two seats: the first adds, and the second looks.

@@ -1,11 +1,13 @@
 //! How many growths an Add to a shared cache asks for, before and after its pages rotate. Each test makes one Add again where it is
 //! refused memory, and nothing else, so as many runs of it pass as that Add asks for growths: `scripts/count-growths` counts them.
+use crate::batches::batch_at;
 use crate::memory::add_key_again;
 use crate::party::{Guest, Home, Of, Scene, Told, add_all, play};
 use std::alloc::Global;
 use std::process::Abort;
 use std::sync::Wait;
 use std::test::Fail;
+use tsc_time::NoMemory;
 
 /// A key with a wall time and a moment.
 type Key = (&'static str, u64, u64);
@@ -77,6 +79,34 @@ static ROTATING_AGAIN: Counted = Counted(
     ("m", 20, 20),
     Told::Place(13, (true, true, 0), 14),
 );
+
+/// A batch of two keys that both sides have, made again where it is refused memory.
+struct KnownKeys;
+
+impl Scene for KnownKeys {
+    fn play<C: Of, R: Wait + Abort>(
+        &self,
+        rt: &R,
+        alloc: Global,
+        home: Home<C>,
+        mut guests: Vec<Guest<C>>,
+    ) -> Result<(), Fail> {
+        let batch = batch_at(alloc, &["a", "b"], 20, 20).ok_or(NoMemory)?;
+        let last = guests.last_mut().ok_or("a seat")?;
+        for _ in 0..3_u32 {
+            home.add_together(rt, last, &batch).ok_or(NoMemory)?;
+        }
+        let told = home.add_together(rt, last, &batch);
+        let told = told.or_else(|| home.add_together(rt, last, &batch));
+        assert_eq!(rt; told.ok_or(NoMemory)?, Told::Place(3, (true, false, 0), 4));
+        Ok(())
+    }
+}
+
+#[test]
+fn a_batch_of_known_keys(rt: HostRuntime) -> Result<(), Fail> {
+    play(&rt, rt.alloc(), 100, false, &KnownKeys)
+}
 
 #[test]
 fn an_add_that_rotates(rt: HostRuntime) -> Result<(), Fail> {

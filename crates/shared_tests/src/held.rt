@@ -1,4 +1,5 @@
-//! An Add that is held up where it holds the desk and nobody can see it, until lookups on other threads have answered.
+//! An Add that is held up where it holds the desk and nobody can see it, until lookups on other threads have answered, and Adds there
+//! were given up.
 use crate::batches::{Batch, batch_at, span_of};
 use crate::party::{Guest, Home, Letter, Mark, Of, Owner, Told, add_all, mark_at, point};
 use crate::threads::{Scene, Script, TURNS, at_once, play};
@@ -177,6 +178,20 @@ impl Held<'_> {
 }
 
 impl Held<'_> {
+    /// Whether an Add of the same is given up, after however many tries, and leaves the seat as it was.
+    fn is_busy<C: Of>(&self, home: &Home<C>, guest: &mut Guest<C>) -> bool {
+        let before = (guest.count(), guest.seen());
+        let mut is_busy = true;
+        for tries in [0, 1, 100] {
+            let told = match &self.adding {
+                Adding::One(mark) => home.try_add(guest, mark, tries),
+                Adding::Several(batch) => home.try_batch(guest, batch, tries),
+            };
+            is_busy &= told == Some(Told::Busy);
+        }
+        is_busy && (guest.count(), guest.seen()) == before
+    }
+
     /// The same, made once more where it is refused memory.
     fn add_again<C: Of, R: Wait>(
         &self,
@@ -237,6 +252,7 @@ impl<C: Of> Script<C> for Held<'_> {
             return Some(());
         }
         look(rt, home, guest, &self.span, plan);
+        assert!(rt; self.is_busy(home, guest), "an Add while the desk is held");
         self.looked.fetch_add(1, Ordering::SeqCst);
         Some(())
     }

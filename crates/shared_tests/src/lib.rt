@@ -27,3 +27,5 @@ mod returned;
 mod rows;
 #[cfg(test)]
 mod threads;
+#[cfg(test)]
+mod tries;

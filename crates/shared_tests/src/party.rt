@@ -10,8 +10,10 @@ use std::process::Abort;
 use std::sync::Wait;
 use std::test::Fail;
 use tsc_cache::{Config, ConfigFault};
-use tsc_shared::{AddFault, Closed, Front, Gate, NoGate, OpenFault, Receipt, Seat, SharedCache};
-use tsc_span::{Key, Span, SpanFault};
+use tsc_shared::{
+    AddFault, Closed, Front, Gate, NoGate, OpenFault, Receipt, Seat, SharedCache, TryAddFault,
+};
+use tsc_span::{Ends, Key, Span, SpanFault};
 use tsc_time::{NoMemory, Timestamp, Value};
 use uuid::Uuid;
 
@@ -73,6 +75,10 @@ pub enum Told {
     /// A length.
     Long(u64),
     TooLarge,
+    /// The desk was held at each try.
+    Busy,
+    /// A seat was inside a lookup each time.
+    Inside,
     Gone,
 }
 
@@ -135,6 +141,18 @@ fn place_of(receipt: &Receipt) -> Told {
     let added = receipt.added;
     let what = (added.kept, added.rotated, added.evicted);
     Told::Place(receipt.place, what, receipt.front.len())
+}
+
+/// What an Add tells that may be given up. `None` where it is refused memory.
+fn told_at(tried: Result<Receipt, TryAddFault>) -> Option<Told> {
+    match tried {
+        Ok(receipt) => Some(place_of(&receipt)),
+        Err(TryAddFault::DeskBusy) => Some(Told::Busy),
+        Err(TryAddFault::SeatInside) => Some(Told::Inside),
+        Err(TryAddFault::Refused(AddFault::HistoryFull(front))) => Some(Told::Full(front.len())),
+        Err(TryAddFault::Refused(AddFault::NoMemory)) => None,
+        Err(TryAddFault::Refused(AddFault::TooLarge)) => Some(Told::TooLarge),
+    }
 }
 
 impl<C: Of> Letter<C> {
@@ -235,8 +253,40 @@ impl<C: Of> Home<C> {
         self.add_gated(rt, guest, mark, &NoGate)
     }
 
+    /// What an Add tells that is given up after so many tries. `None` where it is refused memory.
+    pub fn try_add(&self, guest: &mut Guest<C>, mark: &Mark, tries: u32) -> Option<Told> {
+        told_at(
+            self.cache
+                .try_add(&mut guest.seat, &mark.span, mark.value, mark.now, tries),
+        )
+    }
+
+    /// The same of several marks, as one Add.
+    pub fn try_batch(&self, guest: &mut Guest<C>, batch: &Batch, tries: u32) -> Option<Told> {
+        let (marks, now) = (batch.marks.as_slice(), at(batch.now));
+        told_at(self.cache.try_add_all(&mut guest.seat, marks, now, tries))
+    }
+
     pub fn get(&self, guest: &mut Guest<C>, span: &Span) -> Told {
         match self.cache.get_max(&mut guest.seat, span) {
+            Ok(answer) => told_of(answer.value, answer.front),
+            Err(_gone) => Told::Gone,
+        }
+    }
+
+    /// The same of the keys from a start to an end.
+    pub fn get_between(
+        &self,
+        guest: &mut Guest<C>,
+        start: &str,
+        end: Option<&str>,
+        ends: Ends,
+    ) -> Told {
+        let (start, end) = (start.as_bytes(), end.map(|end| end.as_bytes()));
+        match self
+            .cache
+            .get_max_between(&mut guest.seat, start, end, ends)
+        {
             Ok(answer) => told_of(answer.value, answer.front),
             Err(_gone) => Told::Gone,
         }

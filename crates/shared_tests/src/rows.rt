@@ -8,6 +8,7 @@ use std::collections::VecDeque;
 use std::process::Abort;
 use std::sync::Wait;
 use std::test::Fail;
+use tsc_span::Ends;
 use tsc_time::NoMemory;
 
 /// What a seat does: the first seat is 0, and the second any other number.
@@ -16,6 +17,8 @@ enum Step {
     /// Adds a key at 20.0, by the first owner. What front it is told is kept.
     Add(u32, &'static str),
     Get(u32, &'static str),
+    /// Looks up the keys from a start to an end, of which either may be excluded.
+    Between(u32, &'static str, Option<&'static str>, (bool, bool)),
     /// Learns the front that was kept first, which is then gone.
     Learn(u32),
     /// Tells how long a history it has seen.
@@ -66,6 +69,33 @@ static NEWEST: Row = (
     3,
 );
 
+/// What the other seat is told of the first one's key, and of nothing.
+const THERE: Told = Told::Value((20, 0), Owner::First, 1);
+
+const NOTHING: Told = Told::Value((5, 0), Owner::None, 1);
+
+/// Lookups by the bytes of a start and an end, around a key that was added.
+static BETWEEN: Row = (
+    100,
+    &[
+        (Step::Add(0, "b"), Told::Place(0, (true, false, 0), 1)),
+        (Step::Between(1, "a", Some("c"), (true, true)), THERE),
+        (Step::Between(1, "a", Some("b"), (false, false)), THERE),
+        (Step::Between(1, "a", Some("b"), (false, true)), NOTHING),
+        (Step::Between(1, "b", Some("c"), (false, true)), THERE),
+        (Step::Between(1, "b", Some("c"), (true, true)), NOTHING),
+        (Step::Between(1, "b", Some("b"), (true, false)), THERE),
+        (Step::Between(1, "b", Some("b"), (true, true)), NOTHING),
+        (Step::Between(1, "c", Some("a"), (false, false)), NOTHING),
+        (Step::Between(1, "a", Some(""), (false, false)), NOTHING),
+        (Step::Between(1, "", None, (true, true)), THERE),
+        (Step::Between(1, "b", None, (false, false)), THERE),
+        (Step::Between(1, "b", None, (true, false)), NOTHING),
+        (Step::See(1), Told::Long(1)),
+    ],
+    1,
+);
+
 /// Two seats, and the fronts that were told and not yet learnt.
 #[derive(Drop)]
 struct Pair<C: Of> {
@@ -86,6 +116,13 @@ fn take_step<C: Of, R: Wait>(
     match step {
         Step::Add(_, key) => add(rt, alloc, home, guest, letters, key),
         Step::Get(_, key) => Ok(home.get(guest, &point(alloc, key)?)),
+        Step::Between(_, start, end, excluded) => {
+            let ends = Ends {
+                exclude_from: excluded.0,
+                exclude_to: excluded.1,
+            };
+            Ok(home.get_between(guest, start, *end, ends))
+        }
         Step::Learn(_) => {
             let letter = letters.pop_front().ok_or("a front")?;
             Ok(home.learn(guest, letter))
@@ -114,7 +151,11 @@ impl Step {
     fn is_of_first(&self) -> bool {
         matches!(
             self,
-            Step::Add(0, _) | Step::Get(0, _) | Step::Learn(0) | Step::See(0)
+            Step::Add(0, _)
+                | Step::Get(0, _)
+                | Step::Between(0, _, _, _)
+                | Step::Learn(0)
+                | Step::See(0)
         )
     }
 }
@@ -185,6 +226,11 @@ fn a_seat_learns_what_another_was_told(rt: HostRuntime) -> Result<(), Fail> {
         play(&rt, rt.alloc(), row.0, false, row)?;
     }
     Ok(())
+}
+
+#[test]
+fn bytes_are_looked_up_by_their_ends(rt: HostRuntime) -> Result<(), Fail> {
+    play(&rt, rt.alloc(), BETWEEN.0, false, &BETWEEN)
 }
 
 /// What the first of these seats is told of a key.

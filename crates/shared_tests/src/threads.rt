@@ -2,7 +2,7 @@
 ghost use Rattle.std.specs.Prelude.{◌≡◌, All};
 
 use crate::party::{Guest, Home, Of, config, together};
-use crate::{batches, crowd, fronts, held, returned};
+use crate::{batches, crowd, fronts, held, returned, tries};
 use std::alloc::{AllocError, Global};
 use std::marker::Brand;
 use std::process::Abort;
@@ -68,6 +68,8 @@ pub enum Scene {
     Ring,
     /// Batches of two keys, and lookups of both.
     Both,
+    /// Adds that are given up, beside others and lookups.
+    Tries,
 }
 
 fn enter<C: Of + Send + Sync, R: Threads + Wait + Abort + Sync>(
@@ -87,6 +89,7 @@ fn enter<C: Of + Send + Sync, R: Threads + Wait + Abort + Sync>(
         Scene::Returned => returned::look_after(rt, alloc, home, guests),
         Scene::Ring => fronts::send_round(rt, alloc, home, guests),
         Scene::Both => batches::look_at_both(rt, alloc, home, guests),
+        Scene::Tries => tries::try_beside_others(rt, alloc, home, guests),
     }
 }
 

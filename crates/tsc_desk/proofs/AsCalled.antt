@@ -14,8 +14,8 @@ use Rattle.tsc_desk.specs.declared.board.Slot.{Slot}
 use Rattle.tsc_desk.specs.declared.board.Slot.TheVariants.{Empty, Desk, Side}
 use Rattle.tsc_desk.specs.declared.board.View.{View}
 use Rattle.tsc_desk.specs.Desk.{marks_in, OnDesk, DeskRule, Shows, IsState, IsAfter, hidden_at, shown_at, epoch_word, side_slot, entry_of}
-use Rattle.tsc_desk.specs.DeskSteps.{At, number_of, seen_of, count_of, cleared_of, seated, clearing, looking, takes, gives, clears, flips, enters, picks_up, leaves, Sees, SeesAll, HasLooked, HasHandle, IsSide, LaidAs, new_entries, has_left, Filled, Anything, IsHandleOn, added, given, holding, IsMade, Holds}
-use Rattle.tsc_desk.specs.AtDesk.{DeskSeat, IsAtRest, IsSized, IsSeatAt, HasCleared, HasFilled, IsLooking}
+use Rattle.tsc_desk.specs.DeskSteps.{At, number_of, seen_of, count_of, seated, clearing, looking, takes, gives, clears, flips, enters, picks_up, leaves, Sees, SeesAll, HasLooked, HasHandle, IsSide, LaidAs, new_entries, has_left, Filled, Anything, IsHandleOn, added, given, holding, IsMade, Holds}
+use Rattle.tsc_desk.specs.AtDesk.{DeskSeat, IsAtRest, IsSized, IsSeatAt, IsClearing, HasCleared, HasDesk, HasFilled, IsLooking}
 use Rattle.tsc_desk.proofs.Hands.{Hand, filled_le, filled_push, filled_weaker}
 use Rattle.tsc_desk.proofs.Lookers.{enter_allowed, pick_up_allowed, leave_allowed}
 use Rattle.tsc_desk.proofs.Taking.{take_allowed, clear_allowed}
@@ -150,23 +150,37 @@ sees_side v w found (Desk held) s = absurd s
 sees_side v w found (Side cache) s = tt
 
 -- the slots of the holder, by its own view
-pub cleared_self : (v : View) (me : At) (desk : Slot) (cleared : ℕ) → HasCleared v me desk cleared → HasCleared me.0 me desk (cleared_of me.0)
-cleared_self v me desk cleared h = subst (λ (m : At). HasCleared m.0 m desk (cleared_of m.0)) (sym h.is) (record { slots = h.slots; is = refl; filled = h.filled })
+pub clearing_self : (v : View) (me : At) (desk : Slot) (cleared : ℕ) (watched : Option ℕ) → IsClearing v me desk cleared watched → IsClearing me.0 me desk cleared watched
+clearing_self v me desk cleared watched h = subst (λ (m : At). IsClearing m.0 m desk cleared watched) (sym h.is) (record { slots = h.slots; is = refl; filled = h.filled })
 
-pub held_self : (v : View) (me : At) (cleared : ℕ) (desk : Slot) (held : Held) → HasCleared v me desk cleared → IsAfter v.terms (seen_of v) held → IsAfter me.0.terms (seen_of me.0) held
-held_self v me cleared desk held h after = subst (λ (m : At). IsAfter m.0.terms (seen_of m.0) held) (sym h.is) after
+-- what it was before is what it was
+pub clearing_again : (v : View) (me me' : At) (desk desk' : Slot) (cleared cleared' : ℕ) (watched watched' : Option ℕ) → IsClearing v me desk cleared watched → IsClearing me.0 me' desk' cleared' watched' → IsClearing v me' desk' cleared' watched'
+clearing_again v me me' desk desk' cleared cleared' watched watched' h after =
+    let a : IsClearing (clearing v.terms (number_of v) (seen_of v) (count_of v) cleared watched) me' desk' cleared' watched' = subst (λ (x : At). IsClearing x.0 me' desk' cleared' watched') h.is after in
+    record { slots = a.slots; is = a.is; filled = a.filled }
 
-pub give_at : (key : Terms) (slots : ℕ) (st : Step Slot) (id : ℕ) (v : View) (me me' : At) (old : Slot) (cleared : ℕ) (held : OnDesk) → HasCleared v me old cleared → me' ≡ (me.0, (0, Desk held) ∷ rest me.1) → IsAfter v.terms (seen_of v) held.value
+-- the desk is in its hand
+pub has_desk : (v : View) (me : At) (desk : Slot) (cleared : ℕ) (watched : Option ℕ) → IsClearing v me desk cleared watched → HasDesk me.0 me desk
+has_desk v me desk cleared watched h = (cleared, watched, clearing_self v me desk cleared watched h)
+
+-- and it is once it was taken
+pub taken_desk : (v : View) (me : At) (desk : Slot) (held : Held) → Holds v me.0 held → me.1 ≡ (0, desk) ∷ [] → HasDesk me.0 me desk
+taken_desk v me desk held h slot = (
+  0,
+  None,
+  record {
+    slots = [];
+    is = (λ i. (h.after i, slot i)) ∙ (λ i. let w = sym h.after i in (clearing w.terms (number_of w) (seen_of w) (count_of w) 0 None, (0, desk) ∷ []));
+    filled = refl;
+  },
+)
+
+pub give_at : (key : Terms) (slots : ℕ) (st : Step Slot) (id : ℕ) (v : View) (me me' : At) (old : Slot) (held : OnDesk) → HasDesk v me old → me' ≡ (me.0, (0, Desk held) ∷ rest me.1) → IsAfter v.terms (seen_of v) held.value
     → Allows (DeskRule key) slots id me' 0 (λ _. 0) (λ _. gives st me' 0)
-give_at key slots st id v me me' old cleared held h laid after =
-    let whole : me' ≡ (clearing v.terms (number_of v) (seen_of v) (count_of v) cleared None, (0, Desk held) ∷ h.slots) = laid ∙ (λ i. ((h.is i).0, (0, Desk held) ∷ rest (h.is i).1)) in
+give_at key slots st id v me me' old held h laid after =
+    let whole : me' ≡ (clearing v.terms (number_of v) (seen_of v) (count_of v) h.0 h.1, (0, Desk held) ∷ h.2.slots) = laid ∙ (λ i. ((h.2.is i).0, (0, Desk held) ∷ rest (h.2.is i).1)) in
     subst (λ (m : At). Allows (DeskRule key) slots id m 0 (λ _. 0) (λ _. gives st m 0)) (sym whole)
-    (give_allowed key slots st id v.terms (number_of v) (seen_of v) (count_of v) cleared held h.slots h.filled after)
-
--- the holder has given the desk back
-pub given_then : (v : View) (me me₁ me' : At) (old desk : Slot) (cleared : ℕ) → HasCleared v me old cleared → me₁ ≡ (me.0, (0, desk) ∷ rest me.1) → me' ≡ (seated me₁.0.terms (number_of me₁.0) (seen_of me₁.0) (count_of me₁.0) false, [])
-    → me' ≡ (seated v.terms (number_of v) (seen_of v) (count_of v) false, [])
-given_then v me me₁ me' old desk cleared h laid given_is = given_is ∙ (λ i. let w = (laid i).0 in (seated w.terms (number_of w) (seen_of w) (count_of w) false, [])) ∙ (λ i. let w = (h.is i).0 in (seated w.terms (number_of w) (seen_of w) (count_of w) false, []))
+    (give_allowed key slots st id v.terms (number_of v) (seen_of v) (count_of v) h.0 h.1 held h.2.slots h.2.filled after)
 
 pub flip_at : (key : Terms) (slots : ℕ) (st : Step Slot) (id : ℕ) (v : View) (me me' : At) (cleared n : ℕ) (held : OnDesk) (p : Pending) → HasFilled v me Empty (arc_value held.value.shown) cleared → me' ≡ (me.0, (0, Desk held) ∷ rest me.1) → held.value.lag ≡ Some p
     → cleared ≡ v.terms.seats → IsMade v.terms.config held.value.lag → length (seen_of v) < v.terms.limit → IsAfter v.terms (added v held.value.lag) held.value → n ≡ held.value.length
@@ -175,7 +189,7 @@ flip_at key slots st id v me me' cleared n held p h laid lag full made room afte
     let whole : me' ≡ (clearing v.terms (number_of v) (seen_of v) (count_of v) cleared None, (0, Desk held) ∷ h.slots) = laid ∙ (λ i. ((h.is i).0, (0, Desk held) ∷ rest (h.is i).1)) in
     subst (λ (k : ℕ). Allows (DeskRule key) slots id me' 16 (λ _. k) (λ _. flips st me' k)) (sym n_is)
     (subst (λ (m : At). Allows (DeskRule key) slots id m 16 (λ _. held.value.length) (λ _. flips st m held.value.length)) (sym whole)
-    (flip_allowed key slots st id v.terms (number_of v) (seen_of v) (count_of v) cleared held h.slots p lag h.filled full (subst (IsMade v.terms.config) lag made) room (subst (λ (l : Option Pending). IsAfter v.terms (added v l) held.value) lag after)))
+    (flip_allowed key slots st id v.terms (number_of v) (seen_of v) (count_of v) cleared None held h.slots p lag h.filled full (subst (IsMade v.terms.config) lag made) room (subst (λ (l : Option Pending). IsAfter v.terms (added v l) held.value) lag after)))
 
 -- what the holder is once its Add is made
 pub flipped_then : (st : Step Slot) (n : ℕ) (v : View) (me me₁ me₂ : At) (cleared : ℕ) (held : OnDesk) → HasFilled v me Empty (arc_value held.value.shown) cleared → me₁ ≡ (me.0, (0, Desk held) ∷ rest me.1) → flips st me₁ n me₂
@@ -188,7 +202,7 @@ pub give_flipped_at : (key : Terms) (slots : ℕ) (st : Step Slot) (id : ℕ) (v
     → Allows (DeskRule key) slots id me 0 (λ _. 0) (λ _. gives st me 0)
 give_flipped_at key slots st id v me held is after =
     subst (λ (m : At). Allows (DeskRule key) slots id m 0 (λ _. 0) (λ _. gives st m 0)) (sym is)
-    (give_allowed key slots st id v.terms (number_of v) (added v held.value.lag) (count_of v + length (new_entries (number_of v) (count_of v) held.value.lag)) 0 held [] refl after)
+    (give_allowed key slots st id v.terms (number_of v) (added v held.value.lag) (count_of v + length (new_entries (number_of v) (count_of v) held.value.lag)) 0 None held [] refl after)
 
 pub given_flipped : (v : View) (me me' : At) (lag : Option Pending) (hand : Hand) → me ≡ (holding v lag true, hand) → me' ≡ (seated me.0.terms (number_of me.0) (seen_of me.0) (count_of me.0) false, []) → me' ≡ (given v lag, [])
 given_flipped v me me' lag hand is given_is = given_is ∙ (λ i. let w = (is i).0 in (seated w.terms (number_of w) (seen_of w) (count_of w) false, []))
@@ -248,11 +262,11 @@ pub held_now : (slots : Hand) (i j : ℕ) (x y : Slot) → slots ≡ (i, x) ∷ 
 held_now slots i j x y is also = sym also ∙ is ∙ ap (λ (z : Slot). (i, z) ∷ []) (same_slot slots i j x y is also)
 
 -- what the holder is once it has given the desk back, as it was before it cleared seats
-pub cleared_back : (v : View) (me me' : At) (desk : Slot) (n : ℕ) → HasCleared v me desk n → me' ≡ (seated me.0.terms (number_of me.0) (seen_of me.0) (count_of me.0) false, []) → me' ≡ (seated v.terms (number_of v) (seen_of v) (count_of v) false, [])
-cleared_back v me me' desk n h given_is = given_is ∙ (λ i. let w = (h.is i).0 in (seated w.terms (number_of w) (seen_of w) (count_of w) false, []))
+pub cleared_back : (v : View) (me me' : At) (desk : Slot) (n : ℕ) (watched : Option ℕ) → IsClearing v me desk n watched → me' ≡ (seated me.0.terms (number_of me.0) (seen_of me.0) (count_of me.0) false, []) → me' ≡ (seated v.terms (number_of v) (seen_of v) (count_of v) false, [])
+cleared_back v me me' desk n watched h given_is = given_is ∙ (λ i. let w = (h.is i).0 in (seated w.terms (number_of w) (seen_of w) (count_of w) false, []))
 
-pub cleared_long : (v : View) (me : At) (desk : Slot) (n long : ℕ) → HasCleared v me desk n → long ≡ length (seen_of me.0) → long ≡ length (seen_of v)
-cleared_long v me desk n long h is = is ∙ ap (λ (m : At). length (seen_of m.0)) h.is
+pub cleared_long : (v : View) (me : At) (desk : Slot) (n : ℕ) (watched : Option ℕ) (long : ℕ) → IsClearing v me desk n watched → long ≡ length (seen_of me.0) → long ≡ length (seen_of v)
+cleared_long v me desk n watched long h is = is ∙ ap (λ (m : At). length (seen_of m.0)) h.is
 
 -- and once it has made its Add
 pub flipped_back : (v : View) (me me' : At) (desk : Slot) (n : ℕ) (lag : Option Pending) (p : Pending) → HasCleared v me desk n → lag ≡ Some p → me' ≡ (given me.0 lag, []) → me' ≡ (given v (Some p), [])
@@ -270,9 +284,7 @@ flip_made u v held me desk n lag p h cleared is made =
 
 -- what was cleared before is as it was
 pub cleared_again : (v : View) (me me' : At) (desk desk' : Slot) (n m : ℕ) → HasCleared v me desk n → HasCleared me.0 me' desk' m → HasCleared v me' desk' m
-cleared_again v me me' desk desk' n m h after =
-    let a : HasCleared (clearing v.terms (number_of v) (seen_of v) (count_of v) n None) me' desk' m = subst (λ (x : At). HasCleared x.0 me' desk' m) h.is after in
-    record { slots = a.slots; is = a.is; filled = a.filled }
+cleared_again v me me' desk desk' n m h after = clearing_again v me me' desk desk' n m None None h after
 
 -- the slots of the holder are filled, by its own view
 pub filled_self : (v : View) (me : At) (desk : Slot) (cache : CacheView) (n : ℕ) → HasFilled v me desk cache n → HasFilled me.0 me desk cache n

@@ -24,9 +24,9 @@ use Rattle.tsc_desk.proofs.Hands.{Homes, Hand, put_all, give_all, given_homes, g
 use Rattle.tsc_desk.proofs.DeskMoves.{Board, Moved, moved_kept, of_one, any_word, more_of_another, low_number, false_is_no}
 use Rattle.tsc_desk.proofs.Taking.{busy_word, none_is_no, knows_all}
 
-module _ (terms : Terms) (slots : ℕ) (st : Step Slot) (id : ℕ) (t : Terms) (number : ℕ) (h : History) (count cleared : ℕ) (held : OnDesk) (xs : Hand) where
+module _ (terms : Terms) (slots : ℕ) (st : Step Slot) (id : ℕ) (t : Terms) (number : ℕ) (h : History) (count cleared : ℕ) (watched : Option ℕ) (held : OnDesk) (xs : Hand) where
   abbrev v : View
-  v = clearing t number h count cleared None
+  v = clearing t number h count cleared watched
 
   abbrev hand : Hand
   hand = (0, Desk held) ∷ xs
@@ -45,7 +45,7 @@ module _ (terms : Terms) (slots : ℕ) (st : Step Slot) (id : ℕ) (t : Terms) (
   pub give_allowed : Filled Anything (hidden_at (length h)) 0 xs cleared → IsAfter t h held.value
       → Allows (DeskRule terms) slots id (v, hand) 0 (λ _. 0) (λ _. gives st (v, hand) 0)
   give_allowed filled after s k deep at small =
-      let all = knows_all terms s k id t number h count cleared None at in
+      let all = knows_all terms s k id t number h count cleared watched at in
       let side : ℕ = shown_at (length k.history) in
       let hidden : ℕ = hidden_at (length k.history) in
       let w : View = seated t number h count false in
@@ -103,7 +103,7 @@ module _ (terms : Terms) (slots : ℕ) (st : Step Slot) (id : ℕ) (t : Terms) (
       → length h < t.limit → IsAfter t (h ++ entry_of number count p ∷ []) held.value
       → Allows (DeskRule terms) slots id (v, hand) 16 (λ _. held.value.length) (λ _. flips st (v, hand) held.value.length)
   flip_allowed p lag filled full made room after s k deep at small =
-      let all = knows_all terms s k id t number h count cleared None at in
+      let all = knows_all terms s k id t number h count cleared watched at in
       let P : Slot → Type 0 = IsHandleOn (arc_value held.value.shown) in
       let e : Entry = entry_of number count p in
       let h' : History = h ++ e ∷ [] in

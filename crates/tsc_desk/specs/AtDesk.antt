@@ -1,5 +1,5 @@
 -- A desk seat, and what it has in hand: what a function of this crate asks for, and leaves.
-use Rattle.std.specs.Prelude.{◌≡◌, ℕ, ◌+◌, ◌*◌, length, List, [], ◌∷◌, false, None}
+use Rattle.std.specs.Prelude.{◌≡◌, ℕ, ◌+◌, ◌*◌, length, List, [], ◌∷◌, false, Option, None}
 use Rattle.atomic_table.specs.Seated.{TableId}
 use Rattle.atomic_table.specs.declared.shared.Seat.{Seat as TableSeat}
 use Rattle.tsc_cache.specs.CacheView.{CacheView}
@@ -28,13 +28,21 @@ pub record IsSized (table : TableId) (seats : ℕ) : Type 0 where
   pub words : table.words ≡ 16 * seats + 32
   pub slots : table.slots ≡ 16 * seats + 8
 
--- The holder of the desk, as it was in v, has cleared so many seats, and has their slots in hand behind the desk's.
-pub record HasCleared (v : View) (me : At) (desk : Slot) (cleared : ℕ) : Type 0 where
+-- The holder of the desk, as it was in v, has cleared so many seats, has watched the next one at this epoch, and has the slots of those behind the desk's.
+pub record IsClearing (v : View) (me : At) (desk : Slot) (cleared : ℕ) (watched : Option ℕ) : Type 0 where
   pub slots : List (ℕ × Slot)
-  pub is : me ≡ (clearing v.terms (number_of v) (seen_of v) (count_of v) cleared None, (0, desk) ∷ slots)
+  pub is : me ≡ (clearing v.terms (number_of v) (seen_of v) (count_of v) cleared watched, (0, desk) ∷ slots)
   pub filled : Filled Anything (hidden_at (length (seen_of v))) 0 slots cleared
 
--- the same, where each of the slots has a handle on a cache
+-- It has cleared so many, and has not watched the next one.
+abbrev pub HasCleared : View → At → Slot → ℕ → Type 0
+HasCleared v me desk cleared = IsClearing v me desk cleared None
+
+-- It has cleared some seats, and may have watched the next one.
+abbrev pub HasDesk : View → At → Slot → Type 0
+HasDesk v me desk = (cleared : ℕ) × (watched : Option ℕ) × IsClearing v me desk cleared watched
+
+-- It has cleared so many, and each of their slots has a handle on a cache.
 pub record HasFilled (v : View) (me : At) (desk : Slot) (cache : CacheView) (cleared : ℕ) : Type 0 where
   pub slots : List (ℕ × Slot)
   pub is : me ≡ (clearing v.terms (number_of v) (seen_of v) (count_of v) cleared None, (0, desk) ∷ slots)

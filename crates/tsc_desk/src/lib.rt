@@ -7,9 +7,9 @@
 //! - [`new_desk`] makes a desk with two empty caches, and [`deal`] gives each seat its desk seat. [`gather`] brings them
 //!   together again, and [`end_desk`] gives what lies there in the end.
 //! - [`read_max`] and [`read_floor`] look at the cache that is shown, and wait for nobody.
-//! - [`take`] and [`clear_all`] wait, until the desk is free and until each seat has left the hidden side. Then who has
-//!   taken the desk can work on the hidden cache, [`fill`] lays handles on it, and [`flip`] has it shown; or
-//!   [`give_back`] leaves all as it was.
+//! - [`Patience::take`] takes the desk once it is free, and [`clear_all`] goes on once each seat has left the hidden side: both wait
+//!   ([`Endless`]), or give up after so many tries ([`Tries`]). Then who has taken the desk can work on the hidden cache, [`fill`] lays
+//!   handles on it, and [`flip`] has it shown; or [`give_back`] leaves all as it was.
 //! - [`write_note`] writes down what a seat has seen, and by [`catch_up`] and [`see_newest`] a seat sees more.
 #![tactic(auto)]
 
@@ -21,10 +21,12 @@ mod notes;
 mod opening;
 mod places;
 mod steps;
+mod waiting;
 
 pub use board::{Desk, DeskSeat, Held, Marks, Pending, Post, SharedDesk, Slot, Terms, Turns, View};
 pub use closing::{end_desk, gather};
-pub use desk::{clear_all, fill, flip, give_back, take};
+pub use desk::{clear_all, fill, flip, give_back};
 pub use looking::{read_floor, read_max};
 pub use notes::{catch_up, see_newest, write_note};
 pub use opening::{deal, new_desk};
+pub use waiting::{Endless, Patience, Tries};

@@ -13,7 +13,7 @@ ghost use Rattle.tsc_cache.specs.CacheView.{CacheView, StandsForState};
 use crate::board::{DeskSeat, SharedDesk, Slot};
 use crate::places::{HEAD, epoch_word, side_slot};
 use crate::steps::{Enter, Leave, PickUp};
-use tsc_span::Span;
+use tsc_span::SpanRef;
 use tsc_time::{Timestamp, Value};
 
 /// The seat goes inside, and has its slot of the side that is shown. The answer is how many Adds there are.
@@ -42,12 +42,12 @@ fn leave(desk: &SharedDesk, at_desk: &mut DeskSeat, number: u32)
 }
 
 /// What a lookup answers by what a slot has.
-fn max_of(slot: &Slot, span: &Span) -> Value
+fn max_of(slot: &Slot, span: &SpanRef<'_>) -> Value
     requires { IsSide slot.now }
     ensures { HasHandle slot.now (λ cache. (settings : Settings) (s : CacheState) → StandsForState cache settings s → result ≡ state.look s span.now) }
 {
     match slot {
-        Slot::Side(cache) => cache.get_max(span),
+        Slot::Side(cache) => cache.get_max_in(span),
         _ => unreachable!(),
     }
 }
@@ -64,7 +64,12 @@ fn floor_of(slot: &Slot) -> Timestamp
 }
 
 /// What a lookup answers, and from how long a history.
-pub fn read_max(desk: &SharedDesk, at_desk: &mut DeskSeat, number: u32, span: &Span) -> (Value, u64)
+pub fn read_max(
+    desk: &SharedDesk,
+    at_desk: &mut DeskSeat,
+    number: u32,
+    span: &SpanRef<'_>,
+) -> (Value, u64)
     requires at_desk { IsSeatAt at_desk.old desk.now.table_id }
     requires rest { IsAtRest at_desk.old.me }
     requires number { number ≡ number_of at_desk.old.me.0 }

@@ -1,11 +1,12 @@
--- What an Add needs to fit before it is made, which hidden cache takes it in place, and what becomes of a copy of it. (For private contracts.)
-use Rattle.std.specs.Prelude.{◌≡◌, Bool, true, false, not, ◌&&◌, ◌==◌, List, Option, Some, None, Result, Ok, Err}
+-- What an Add needs to fit before it is made, which hidden cache takes it in place, what becomes of a copy of it, and when it is given up. (For private contracts.)
+use Rattle.std.specs.Prelude.{◌≡◌, ℕ, Bool, true, false, not, ◌&&◌, ◌==◌, List, Option, Some, None, IsSome, Result, Ok, Err}
 use Rattle.std.specs.Arc.{arc_value}
 use Rattle.std.specs.declared.sync.Arc.{Arc}
 use Rattle.std.specs.declared.alloc.Global.{Global}
 use Rattle.tsc_time.specs.Time.{Time}
 use Rattle.tsc_time.specs.declared.memory.NoMemory.{NoMemory}
 use Rattle.tsc_nodes.specs.Page.{Mark}
+use Rattle.tsc_cache.specs.declared.added.Added.{Added}
 use Rattle.tsc_cache.specs.Batch.{all_fit}
 use Rattle.tsc_cache.specs.State.{is_kept}
 use Rattle.tsc_cache.specs.CacheView.{CacheView, front_has_room_for}
@@ -14,7 +15,13 @@ use Rattle.tsc_desk.specs.declared.board.Marks.TheVariants.{One, Many}
 use Rattle.tsc_desk.specs.declared.board.Pending.{Pending}
 use Rattle.tsc_desk.specs.declared.board.Held.{Held}
 use Rattle.tsc_desk.specs.Desk.{marks_in}
+use Rattle.tsc_desk.specs.Waiting.{HasEnd}
+use Rattle.tsc_shared.specs.declared.adding.InPlace.{InPlace}
+use Rattle.tsc_shared.specs.declared.adding.InPlace.TheVariants.{Made, Untouched, Spoiled}
 use Rattle.tsc_shared.specs.declared.answers.Receipt.{Receipt}
+use Rattle.tsc_shared.specs.declared.answers.AddFault.{AddFault}
+use Rattle.tsc_shared.specs.declared.answers.TryAddFault.{TryAddFault}
+use Rattle.tsc_shared.specs.declared.answers.TryAddFault.TheVariants.{DeskBusy, SeatInside, Refused}
 use Rattle.tsc_shared.specs.Seats.{SeatView}
 use Rattle.tsc_shared.specs.Answers.{Accepts}
 
@@ -33,19 +40,32 @@ pub record AllFit (held : Held) (add : Pending) : Type 0 where
   pub shown : all_fit (arc_value held.shown).settings (marks_in add.marks) ≡ true
   pub spare : HandleFits held.spare held.lag add
 
--- Whether an Add of one mark would not rotate a cache. Of several marks that isn't asked.
+-- Whether an Add of one mark would not rotate a cache. Of several marks that isn't asked before they are added.
 abbrev pub keeps_front : CacheView → Marks → Bool
 keeps_front shown (One m) = not (is_kept shown.floor m && not (front_has_room_for shown.pages m.span))
-keeps_front shown (Many ms) = false
+keeps_front shown (Many ms) = true
 
--- Whether neither the Add that the hidden cache has not had yet nor this one, which has one mark, brings a new page: it has rotated as
--- often as the cache that is shown, which would not rotate.
+-- Whether the Add that the hidden cache has not had yet brought no new page, since it has rotated as often as the cache that is shown, and this one, where it has one mark, would bring none.
 abbrev pub keeps_pages : CacheView → CacheView → Pending → Bool
 keeps_pages shown spare add = (spare.rotations == shown.rotations) && keeps_front shown add.marks
 
--- What is no longer needed after an Add of several marks, or one that brings a new page: the hidden cache, where there was one.
-abbrev pub HandsOut : Held → Pending → Option (Arc CacheView Global) → Type 0
-HandsOut held add retired = (spare : Arc CacheView Global) → held.spare ≡ Some spare → keeps_pages (arc_value held.shown) (arc_value spare) add ≡ false → retired ≡ Some spare
+-- What holds of what an Add in place answered, where it was made
+abbrev pub IfMade : InPlace → (Added → Type 0) → Type 0
+IfMade (Made added) P = P added
+IfMade Untouched P = Unit {0}
+IfMade Spoiled P = Unit {0}
+
+-- the hidden cache is as it was
+abbrev pub IsUntouched : InPlace → Type 0
+IsUntouched (Made added) = ⊥
+IsUntouched Untouched = Unit {0}
+IsUntouched Spoiled = ⊥
+
+-- What is no longer needed after an Add, where there was a hidden cache: that, as it was, where it shows before that a new page comes in or came in; and what it became where a new page came in with several marks.
+abbrev pub HandsOut : Held → Pending → Added → Option (Arc CacheView Global) → Type 0
+HandsOut held add added retired =
+    (spare : Arc CacheView Global) → held.spare ≡ Some spare
+    → (keeps_pages (arc_value held.shown) (arc_value spare) add ≡ false → retired ≡ Some spare) × (added.rotated ≡ true → IsSome retired)
 
 -- A copy of some marks, with the moment at which they are added.
 abbrev pub IsCopyOf : List Mark → Time → Pending → Type 0
@@ -55,3 +75,16 @@ IsCopyOf ms now add = (marks_in add.marks ≡ ms) × (add.moment ≡ now)
 abbrev pub AcceptsCopy : Result Pending NoMemory → SeatView → SeatView → Receipt → Type 0
 AcceptsCopy (Ok add) old new receipt = Accepts old new (marks_in add.marks) add.moment receipt
 AcceptsCopy (Err refused) old new receipt = ⊥
+
+-- An Add is given up only where the tries have an end.
+abbrev pub GivesUp : Option ℕ → TryAddFault → Type 0
+GivesUp tries DeskBusy = HasEnd tries
+GivesUp tries SeatInside = HasEnd tries
+GivesUp tries (Refused fault) = Unit {0}
+
+-- What an Add that waits answers is what it would answer if it could give up, since it never did.
+abbrev pub IsWaited : Result Receipt TryAddFault → Result Receipt AddFault → Type 0
+IsWaited (Ok receipt) result = result ≡ Ok receipt
+IsWaited (Err DeskBusy) result = ⊥
+IsWaited (Err SeatInside) result = ⊥
+IsWaited (Err (Refused fault)) result = result ≡ Err fault

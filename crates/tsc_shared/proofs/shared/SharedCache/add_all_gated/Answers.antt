@@ -1,25 +1,14 @@
-use Rattle.std.proofs.Common.{◌≡◌, ◌∙◌, true, false, refl, sym, ap, subst}
-use Rattle.tsc_cache.specs.Batch.{all_fit}
-use Rattle.tsc_shared.specs.Seats.{SharedView}
-use Rattle.tsc_shared.proofs.SeatSteps.{goes_nowhere, not_where_it_fits, copy_added, accepts_where_copied}
+use Rattle.tsc_shared.proofs.GivenUp.{waited_ok, waited_refused, waited_why, waited_exactly}
 use Rattle.tsc_shared.proofs.shared.SharedCache.add_all_gated.Goals as goal
 
-pub add_copy-requires-clause-made : goal.add_copy-requires-clause-made
-add_copy-requires-clause-made g c =
-    let fit : all_fit c.self.inside.terms.config c.args.marks.now ≡ true = subst (λ (cache : SharedView). all_fit cache.config c.args.marks.now ≡ true) (sym c.self.view_is) (sym c.fits_all.ensures ∙ c.if-not-fits_all.false) in
-    copy_added c.self.inside.terms.config _ c.args.marks.now c.args.now _ (ap (λ (cache : SharedView). cache.config) (sym c.self.view_is)) c.copy_of_all-copied.ensures (c.can_all_be_added.ensures fit)
-
 pub returns-clause-accepted : goal.returns-clause-accepted
-returns-clause-accepted g c = accepts_where_copied _ _ _ _ c.args.marks.now c.args.now c.copy_of_all-copied.ensures c.add_copy.ensures.accepted
+returns-clause-accepted g c = waited_ok _ _ _ c.waited.ensures c.add_marks.ensures.accepted
+
+pub returns-clause-refused : goal.returns-clause-refused
+returns-clause-refused g c = waited_refused _ _ _ c.waited.ensures c.add_marks.ensures.refused
+
+pub returns-clause-why : goal.returns-clause-why
+returns-clause-why g c = waited_why _ _ _ _ c.waited.ensures c.add_marks.ensures.why
 
 pub returns-clause-too_large : goal.returns-clause-too_large
-returns-clause-too_large g c = not_where_it_fits _ _ _ (ap (λ (cache : SharedView). all_fit cache.config c.args.marks.now) c.requires.cache) (sym c.fits_all.ensures ∙ c.if-not-fits_all.false) c.add_copy.ensures.fits
-
-pub returns-then-not-fits_all-clause-seat : goal.returns-then-not-fits_all-clause-seat
-returns-then-not-fits_all-clause-seat g c = goes_nowhere c.args.seat.now c.is_as_always.ensures
-
-pub returns-then-not-fits_all-clause-too_large : goal.returns-then-not-fits_all-clause-too_large
-returns-then-not-fits_all-clause-too_large g c = (λ _. subst (λ (cache : SharedView). all_fit cache.config c.args.marks.now ≡ false) (sym c.requires.cache) (sym c.fits_all.ensures ∙ c.if-not-fits_all.true), λ _. refl)
-
-pub returns-then-not-fits_all-clause-why : goal.returns-then-not-fits_all-clause-why
-returns-then-not-fits_all-clause-why g c = refl
+returns-clause-too_large g c = waited_exactly _ _ _ _ c.waited.ensures c.add_marks.ensures.too_large

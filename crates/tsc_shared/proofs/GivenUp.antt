@@ -1,0 +1,58 @@
+-- An Add that waits answers as one that may be given up, which it never was.
+use Rattle.std.proofs.Common.{◌≡◌, ◌∙◌, sym, ap, subst, rules}
+use Rattle.std.specs.Prelude.{Ok, Err, Result, IfOk, IfErr, OnErr, IsErrOf, ◌↔◌}
+use Rattle.tsc_shared.specs.declared.answers.Receipt.{Receipt}
+use Rattle.tsc_shared.specs.declared.answers.AddFault.{AddFault}
+use Rattle.tsc_shared.specs.declared.answers.TryAddFault.{TryAddFault}
+use Rattle.tsc_shared.specs.declared.answers.TryAddFault.TheVariants.{DeskBusy, SeatInside, Refused}
+use Rattle.tsc_shared.specs.Seats.{SeatView}
+use Rattle.tsc_shared.specs.Answers.{RefusedFor, TryRefusedFor}
+use Rattle.tsc_shared.specs.Adding.{IsWaited}
+
+abbrev Tried : Type 0
+Tried = Result Receipt TryAddFault
+
+abbrev Waited : Type 0
+Waited = Result Receipt AddFault
+
+pub waited_ok : (P : Receipt → Type 0) (tried : Tried) (result : Waited) → IsWaited tried result → IfOk tried P → IfOk result P
+waited_ok P (Ok receipt) result is p = subst (λ (x : Waited). IfOk x P) (sym is) p
+waited_ok P (Err DeskBusy) result is p = absurd is
+waited_ok P (Err SeatInside) result is p = absurd is
+waited_ok P (Err (Refused fault)) result is p = subst (λ (x : Waited). IfOk x P) (sym is) tt
+
+pub waited_refused : (P : Type 0) (tried : Tried) (result : Waited) → IsWaited tried result → OnErr tried P → OnErr result P
+waited_refused P (Ok receipt) result is p = subst (λ (x : Waited). OnErr x P) (sym is) tt
+waited_refused P (Err DeskBusy) result is p = absurd is
+waited_refused P (Err SeatInside) result is p = absurd is
+waited_refused P (Err (Refused fault)) result is p = subst (λ (x : Waited). OnErr x P) (sym is) p
+
+pub waited_why : (old new : SeatView) (tried : Tried) (result : Waited) → IsWaited tried result → IfErr tried (λ fault. TryRefusedFor old new fault) → IfErr result (λ fault. RefusedFor old new fault)
+waited_why old new (Ok receipt) result is p = subst (λ (x : Waited). IfErr x (λ fault. RefusedFor old new fault)) (sym is) tt
+waited_why old new (Err DeskBusy) result is p = absurd is
+waited_why old new (Err SeatInside) result is p = absurd is
+waited_why old new (Err (Refused fault)) result is p = subst (λ (x : Waited). IfErr x (λ fault. RefusedFor old new fault)) (sym is) p
+
+-- what comes exactly where something holds still does
+pub waited_exactly : (P : Type 0) (fault : AddFault) (tried : Tried) (result : Waited) → IsWaited tried result → (IsErrOf tried (Refused fault) ↔ P) → (IsErrOf result fault ↔ P)
+waited_exactly P fault (Ok receipt) result is p = (λ e. absurd (no_fault receipt fault (sym is ∙ e)), λ x. absurd (no_try_fault receipt (Refused fault) (p.1 x)))
+  where
+    no_fault : (r : Receipt) (f : AddFault) → Ok r ≡ Err f → ⊥
+    no_fault r f e = search rules
+
+    no_try_fault : (r : Receipt) (f : TryAddFault) → Ok r ≡ Err f → ⊥
+    no_try_fault r f e = search rules
+waited_exactly P fault (Err DeskBusy) result is p = absurd is
+waited_exactly P fault (Err SeatInside) result is p = absurd is
+waited_exactly P fault (Err (Refused other)) result is p =
+    (λ e. p.0 (ap (λ (f : AddFault). Err (Refused f)) (ap (fault_of fault) (sym is ∙ e))), λ x. is ∙ ap (λ (f : AddFault). Err f) (ap (tried_fault_of fault) (p.1 x)))
+  where
+    fault_of : AddFault → Waited → AddFault
+    fault_of f (Ok r) = f
+    fault_of f (Err g) = g
+
+    tried_fault_of : AddFault → Tried → AddFault
+    tried_fault_of f (Ok r) = f
+    tried_fault_of f (Err DeskBusy) = f
+    tried_fault_of f (Err SeatInside) = f
+    tried_fault_of f (Err (Refused g)) = g
