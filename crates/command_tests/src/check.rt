@@ -12,7 +12,7 @@ use tsc_check::CheckFault;
 use tsc_commands::{check_command, status_of_check_fault, tell_check_fault};
 use tsc_stream::Metered;
 use tsc_stream::fakes::Mishap;
-use tsc_trace::{LogFault, ReplayFault};
+use tsc_trace::ReplayFault;
 
 /// A trace, a log, the exit status of the check, what is written, and what is told of a fault.
 type Row = (&'static str, &'static str, u8, &'static str, &'static str);
@@ -219,7 +219,7 @@ static MISHAPS: [(Ways, Row); 12] = [
 ];
 
 /// The line that tells a fault, and its status.
-static LINES: [(CheckFault, &str, u8); 7] = [
+static LINES: [(CheckFault, &str, u8); 6] = [
     (
         CheckFault::Stream(ReplayFault::TooLong),
         "input too long\n",
@@ -231,18 +231,13 @@ static LINES: [(CheckFault, &str, u8); 7] = [
         "out of memory\n",
         5,
     ),
-    (CheckFault::Log(LogFault::Text(1)), WRONG_FIRST_LINE, 1),
+    (CheckFault::Text(1), WRONG_FIRST_LINE, 1),
     (
-        CheckFault::Log(LogFault::Text(65_536)),
+        CheckFault::Text(65_536),
         "log refused: fault 1 at line 65536\n",
         1,
     ),
-    (
-        CheckFault::Log(LogFault::Length),
-        "log refused: fault 2\n",
-        1,
-    ),
-    (CheckFault::Log(LogFault::NoMemory), "out of memory\n", 5),
+    (CheckFault::Length, "log refused: fault 2\n", 1),
 ];
 
 /// Checks a row's log in these ways, and holds what comes of it against the row.

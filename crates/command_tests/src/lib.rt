@@ -8,6 +8,8 @@ mod check;
 #[cfg(test)]
 mod memory;
 #[cfg(test)]
+mod mishaps;
+#[cfg(test)]
 mod program;
 #[cfg(test)]
 mod replay;

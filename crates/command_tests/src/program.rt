@@ -5,11 +5,11 @@ use crate::memory::{CALM, assert_written, new_writer};
 use crate::traces::{NO_JSON, TWO_READERS, TWO_READERS_LOG};
 use std::alloc::Global;
 use std::env::{Env, FillError};
-use std::process::Abort;
+use std::process::{Abort, ExitCode};
 use std::sync::Wait;
 use std::thread::Threads;
 use tsc_commands::program::program;
-use tsc_commands::{OpenFault, Place, SystemFiles, WordsFault, fetch_words};
+use tsc_commands::{Errors, OpenFault, Output, Place, SystemFiles, WordsFault, fetch_words};
 use tsc_stream::Metered;
 use tsc_stream::fakes::Mishap;
 
@@ -46,7 +46,11 @@ impl Place for Shelf {
     }
 }
 
-static FILES: [Held; 6] = [
+/// Files, also with names that are a word of another kind elsewhere: blanks, a hyphen, and nothing.
+static FILES: [Held; 9] = [
+    (" a b .json", Ok(TWO_READERS)),
+    ("-", Ok(TWO_READERS)),
+    ("", Ok(TWO_READERS)),
     ("two_readers.json", Ok(TWO_READERS)),
     ("two_readers.log", Ok(TWO_READERS_LOG)),
     ("cut.log", Ok("0 0 add 0 1 0 0\n")),
@@ -90,7 +94,39 @@ impl Env for Called {
 /// Words, the exit status, what is written, and what is told.
 type Row = (&'static [&'static str], u8, &'static str, &'static str);
 
-static ROWS: [Row; 32] = [
+static ROWS: [Row; 45] = [
+    (&["tscache", "replay", " a b .json"], 0, TWO_READERS_LOG, ""),
+    (&["tscache", "run", " a b .json"], 0, TWO_READERS_LOG, ""),
+    (
+        &["tscache", "check", " a b .json", "two_readers.log"],
+        0,
+        RIGHT,
+        "",
+    ),
+    (&["tscache", "replay", "a b .json"], 4, "", READ_FAILED),
+    (&["tscache", "replay", "-"], 0, TWO_READERS_LOG, ""),
+    (&["tscache", "replay", "--", "-"], 0, TWO_READERS_LOG, ""),
+    (&["tscache", "run", "-"], 0, TWO_READERS_LOG, ""),
+    (&["tscache", "check", "-", "two_readers.log"], 0, RIGHT, ""),
+    (
+        &["tscache", "check", "two_readers.json", "-"],
+        1,
+        "",
+        NO_LOG,
+    ),
+    (&["tscache", "replay", ""], 0, TWO_READERS_LOG, ""),
+    (&["tscache", "run", ""], 0, TWO_READERS_LOG, ""),
+    (&["tscache", "check", "", "two_readers.log"], 0, RIGHT, ""),
+    (
+        &[
+            "tscache", "replay", "-", "-", "-", "-", "-", "-", "-", "-", "-", "-", "-", "-", "-",
+            "-", "-", "-", "-", "-", "-", "-", "-", "-", "-", "-", "-", "-", "-", "-", "-", "-",
+            "-", "-", "-", "-", "-", "-", "-", "-", "-", "-", "-", "-", "-", "-", "-", "-", "-",
+        ],
+        2,
+        "",
+        USAGE,
+    ),
     (
         &["tscache", "replay", "two_readers.json"],
         0,
@@ -212,8 +248,16 @@ static ROWS: [Row; 32] = [
     (&[], 2, "", USAGE),
 ];
 
-/// Files of the system: none, an empty one, one that cannot be read and one without end.
-static SYSTEM_ROWS: [Row; 9] = [
+/// Files of the system: none, also where a name is empty, blank or a hyphen, an empty one, one that cannot be read
+/// and one without end.
+static SYSTEM_ROWS: [Row; 16] = [
+    (&["tscache", "replay", ""], 4, "", READ_FAILED),
+    (&["tscache", "replay", " "], 4, "", READ_FAILED),
+    (&["tscache", "replay", "-"], 4, "", READ_FAILED),
+    (&["tscache", "run", ""], 4, "", READ_FAILED),
+    (&["tscache", "run", "-"], 4, "", READ_FAILED),
+    (&["tscache", "check", "-", "/dev/null"], 4, "", READ_FAILED),
+    (&["tscache", "check", "/dev/null", "-"], 4, "", READ_FAILED),
     (&["tscache", "replay", "/no/such/file"], 4, "", READ_FAILED),
     (&["tscache", "replay", "/dev/null"], 1, "", NO_JSON),
     (&["tscache", "replay", "/"], 4, "", READ_FAILED),
@@ -255,12 +299,16 @@ fn check_call<R: Abort + Threads + Wait + Sync, P: Place>(
     wanted: (u8, &str, &str),
 ) {
     let (wanted_status, log, line) = wanted;
-    let mut output = new_writer(alloc, CALM);
-    let mut errors = new_writer(alloc, (9, telling));
-    let status = program(rt, alloc, words, place, &mut output, &mut errors);
-    assert_eq!(rt; status, wanted_status);
-    assert_written(rt, output, log, log);
-    assert_written(rt, errors, line, line);
+    let mut output = Output {
+        writer: new_writer(alloc, CALM),
+    };
+    let mut errors = Errors {
+        writer: new_writer(alloc, (9, telling)),
+    };
+    let code = program(rt, alloc, words, place, &mut output, &mut errors);
+    assert_eq!(rt; code, ExitCode::from(wanted_status));
+    assert_written(rt, output.writer, log, log);
+    assert_written(rt, errors.writer, line, line);
 }
 
 /// The words of a call, as the program gets them.

@@ -1,5 +1,5 @@
 -- Whether a line's place or front is wrong, by the slots.
-use Rattle.std.proofs.Common.{◌≡◌, ◌∙◌, inl, inr, sym, ap, refl, ℕ, zero, suc, ◌+◌, ◌<◌, ◌≤◌, List, [], ◌∷◌, length, take, get_or, replicate, Bool, true, false, ◌||◌, ◌&&◌, nat_lt, nat_le, Option, Some, None, true≢false, is_some, add-one, arith}
+use Rattle.std.proofs.Common.{◌≡◌, ◌∙◌, inl, inr, sym, ap, refl, ℕ, zero, suc, ◌+◌, ◌<◌, ◌≤◌, List, [], ◌∷◌, length, take, get_or, replicate, Bool, true, false, ◌||◌, ◌&&◌, nat_lt, nat_le, Option, Some, None, is_some, add-one, arith}
 use Rattle.std.specs.Prelude.{slice_get, if◌then◌else◌}
 use Rattle.std.proofs.lemmas.Bool.Decides.{nat_tests}
 use Rattle.std.proofs.lemmas.List.{length-replicate}

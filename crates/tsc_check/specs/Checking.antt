@@ -13,7 +13,7 @@ use Rattle.tsc_check.specs.Verdict.{verdict_of}
 use Rattle.tsc_check.specs.declared.verdict.Verdict.{Verdict}
 use Rattle.tsc_check.specs.declared.verdict.Verdict.TheVariants.{Right, WrongCall, WrongPlace, WrongAnswer}
 use Rattle.tsc_check.specs.declared.streams.CheckFault.{CheckFault}
-use Rattle.tsc_check.specs.declared.streams.CheckFault.TheVariants.{Stream, Log}
+use Rattle.tsc_check.specs.declared.streams.CheckFault.TheVariants.{Stream, Text, Length}
 
 -- the text of a verdict
 abbrev pub verdict_text : Verdict → List ℕ
@@ -31,6 +31,23 @@ pub record HasReadLog (log log' : KnownReader) (lines : List Line) : Type 0 wher
   pub input : List ℕ
   pub read : HasRead log log' input
   pub is_log : IsTextOf input lines
+
+-- A reader told its end, and all that it had is the text of no log, for this reason.
+pub record HasReadNoLog (fault : LogFault) (log log' : KnownReader) : Type 0 where
+  pub input : List ℕ
+  pub read : HasRead log log' input
+  pub is_none : ReadsAs input (Err fault)
+  pub is_seen : fault ≢ log_fault.NoMemory
+
+-- how reading a log ended with this fault
+abbrev pub StopsReadingLog : CheckFault → KnownReader → KnownReader → Type 0
+StopsReadingLog (Stream Read) log log' = CouldNotRead log log'
+StopsReadingLog (Stream TooLong) log log' = HasReadTooMuch log log'
+StopsReadingLog (Stream (Refused fault)) log log' = ⊥
+StopsReadingLog (Stream Write) log log' = ⊥
+StopsReadingLog (Stream NoMemory) log log' = RanOutReading log log'
+StopsReadingLog (Text number) log log' = HasReadNoLog (log_fault.Text number) log log'
+StopsReadingLog Length log log' = HasReadNoLog log_fault.Length log log'
 
 -- All of a trace and of a log was read, and the line of the verdict on them was written, and nothing else.
 pub record Checked (verdict : Verdict) (reader reader' log log' : KnownReader) (writer writer' : KnownWriter) : Type 0 where
@@ -92,18 +109,19 @@ StopsCheck (Stream Write) reader reader' log log' writer writer' =
     VerdictNotWritten reader reader' log log' writer writer'
 StopsCheck (Stream NoMemory) reader reader' log log' writer writer' =
     (OutOfMemory reader reader' writer writer' × (log' ≡ log)) ⊎ OutOfMemoryAfterTrace reader reader' log log' writer writer'
-StopsCheck (Log fault) reader reader' log log' writer writer' =
-    LogRefusedAs fault reader reader' log log' writer writer'
+StopsCheck (Text number) reader reader' log log' writer writer' =
+    LogRefusedAs (log_fault.Text number) reader reader' log log' writer writer'
+StopsCheck Length reader reader' log log' writer writer' =
+    LogRefusedAs log_fault.Length reader reader' log log' writer writer'
 
 -- how a fault of a log ends a check
 abbrev pub fault_of_log : LogFault → CheckFault
-fault_of_log (log_fault.Text number) = Log (log_fault.Text number)
-fault_of_log log_fault.Length = Log log_fault.Length
+fault_of_log (log_fault.Text number) = Text number
+fault_of_log log_fault.Length = Length
 fault_of_log log_fault.NoMemory = Stream NoMemory
 
 -- the text of a fault
 abbrev pub fault_text : CheckFault → List ℕ
 fault_text (Stream fault) = stream_text fault
-fault_text (Log (log_fault.Text number)) = codes "log refused: fault 1 at line " ++ decimal number
-fault_text (Log log_fault.Length) = codes "log refused: fault 2"
-fault_text (Log log_fault.NoMemory) = codes "out of memory"
+fault_text (Text number) = codes "log refused: fault 1 at line " ++ decimal number
+fault_text Length = codes "log refused: fault 2"

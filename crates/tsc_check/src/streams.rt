@@ -1,26 +1,31 @@
 //! Checks of a log against its trace, both from readers, with the verdict to a writer.
-ghost use Rattle.std.specs.Prelude.{◌≡◌, ◌++◌, IfOk, IfErr, OnOk, OnErr};
+ghost use Rattle.std.specs.Prelude.{◌≡◌, ◌++◌, Some, IfOk, IfErr, OnOk, OnErr};
 ghost use Rattle.tsc_stream.specs.Stream.{CouldNotWrite, HasWritten};
-ghost use Rattle.tsc_trace.specs.Replay.{fault_of_input, fault_of_trace};
+ghost use Rattle.tsc_trace.specs.Replay.{fault_of_input};
 ghost use Rattle.tsc_trace.specs.declared.replays.ReplayFault.TheVariants as replay_fault;
-ghost use Rattle.tsc_check.specs.Checking.{Checked, StopsCheck, fault_of_log, fault_text};
-ghost use Rattle.tsc_check.specs.declared.streams.CheckFault.TheVariants.{Log, Stream};
+ghost use Rattle.tsc_check.specs.Checking.{Checked, HasReadLog, StopsCheck, StopsReadingLog, fault_of_log, fault_text};
+ghost use Rattle.tsc_check.specs.declared.streams.CheckFault.TheVariants.{Stream};
 
 use crate::checks::check;
 use crate::verdict::Verdict;
 use itoa::Buffer;
 use std::alloc::Global;
-use tsc_stream::{InputFault, Sink, Source, WriteFailed, read_input, write_output};
+use std::error::Error;
+use std::fmt;
+use tsc_stream::{InputFault, Sink, Source, WriteFailed, read_input, write_both, write_output};
 use tsc_time::NoMemory;
-use tsc_trace::{LogFault, ReplayFault, TraceFault, read_log, read_trace};
+use tsc_trace::{Log, LogFault, ReplayFault, read_log, read_trace_from};
 
 /// Why a check ended without a verdict. Only a failed write comes after a written byte.
 #[derive(Clone, Copy, Debug, PartialEq, Eq)]
 pub enum CheckFault {
     /// Reading the trace or the log, the trace itself, writing, or want of memory, as a replay ends.
     Stream(ReplayFault),
-    /// The bytes are not a log. Want of memory is [`ReplayFault::NoMemory`] instead.
-    Log(LogFault),
+    /// A line is not of the form of a log's, or has no line feed. The number is that of the first such line, counted
+    /// from 1.
+    Text(u64),
+    /// Bytes follow the 65,536 lines that a log has at the most.
+    Length,
 }
 
 impl CheckFault {
@@ -31,25 +36,29 @@ impl CheckFault {
     {
         match self {
             CheckFault::Stream(fault) => fault.tell(writer),
-            CheckFault::Log(fault) => {
+            CheckFault::Text(line) => {
                 let mut digits = Buffer::new();
-                let (text, number) = log_fault_parts(fault, &mut digits);
-                write_both(writer, text.as_bytes(), number.as_bytes())
+                let number = digits.format(line);
+                write_both(writer, b"log refused: fault 1 at line ", number.as_bytes())
             }
+            CheckFault::Length => write_output(writer, b"log refused: fault 2"),
         }
     }
 }
 
-/// The text of a log's fault in two parts, of which the second is a number or empty.
-fn log_fault_parts<'d>(fault: LogFault, digits: &'d mut Buffer) -> (&'static str, &'d str)
-    ensures { result.0.now ++ result.1.now ≡ fault_text (Log fault) }
-{
-    match fault {
-        LogFault::Text(line) => ("log refused: fault 1 at line ", digits.format(line)),
-        LogFault::Length => ("log refused: fault 2", ""),
-        LogFault::NoMemory => ("out of memory", ""),
+impl fmt::Display for CheckFault {
+    ghost output = { λ fault. Some (fault_text fault) };
+
+    fn fmt<W: fmt::Write>(&self, f: &mut fmt::Formatter<W>) -> fmt::Result {
+        match self {
+            CheckFault::Stream(fault) => write!(f, "{fault}"),
+            CheckFault::Text(line) => write!(f, "log refused: fault 1 at line {line}"),
+            CheckFault::Length => write!(f, "log refused: fault 2"),
+        }
     }
 }
+
+impl Error for CheckFault {}
 
 impl From<InputFault> for CheckFault {
     ghost from_gives = { λ fault given. given ≡ Stream (fault_of_input fault) };
@@ -59,11 +68,11 @@ impl From<InputFault> for CheckFault {
     }
 }
 
-impl From<TraceFault> for CheckFault {
-    ghost from_gives = { λ fault given. given ≡ Stream (fault_of_trace fault) };
+impl From<ReplayFault> for CheckFault {
+    ghost from_gives = { λ fault given. given ≡ Stream fault };
 
-    fn from(fault: TraceFault) -> CheckFault {
-        CheckFault::Stream(fault.into())
+    fn from(fault: ReplayFault) -> CheckFault {
+        CheckFault::Stream(fault)
     }
 }
 
@@ -72,8 +81,9 @@ impl From<LogFault> for CheckFault {
 
     fn from(fault: LogFault) -> CheckFault {
         match fault {
+            LogFault::Text(line) => CheckFault::Text(line),
+            LogFault::Length => CheckFault::Length,
             LogFault::NoMemory => CheckFault::Stream(ReplayFault::NoMemory),
-            LogFault::Text(_) | LogFault::Length => CheckFault::Log(fault),
         }
     }
 }
@@ -94,17 +104,13 @@ impl From<WriteFailed> for CheckFault {
     }
 }
 
-/// Writes two texts, one behind the other.
-pub(crate) fn write_both<W: Sink>(
-    writer: &mut W,
-    first: &[u8],
-    second: &[u8],
-) -> Result<(), WriteFailed>
-    ensures ok { OnOk result (HasWritten (W.known writer.old) (W.known writer.new) (first.now ++ second.now)) }
-    ensures err { OnErr result (CouldNotWrite (W.known writer.old) (W.known writer.new) (first.now ++ second.now)) }
+/// Reads a log to the end of a reader. The input is freed when it returns.
+fn read_log_from<L: Source>(alloc: Global, log: &mut L) -> Result<Log, CheckFault>
+    ensures ok { IfOk result (λ read. HasReadLog (L.known log.old) (L.known log.new) read.lines) }
+    ensures err { IfErr result (λ fault. StopsReadingLog fault (L.known log.old) (L.known log.new)) }
 {
-    write_output(writer, first)?;
-    write_output(writer, second)
+    let input = read_input(alloc, log)?;
+    Ok(read_log(alloc, &input)?)
 }
 
 /// Reads a trace to its end and then a log, and writes the verdict on the log as one line.
@@ -123,12 +129,8 @@ pub fn check_stream<R: Source, L: Source, W: Sink>(
     ensures err { IfErr result (λ fault. StopsCheck fault (R.known trace.old) (R.known trace.new)
         (L.known log.old) (L.known log.new) (W.known writer.old) (W.known writer.new)) }
 {
-    let input = read_input(alloc, trace)?;
-    let read = read_trace(alloc, &input)?;
-    drop(input);
-    let input = read_input(alloc, log)?;
-    let lines = read_log(alloc, &input)?;
-    drop(input);
+    let read = read_trace_from(alloc, trace)?;
+    let lines = read_log_from(alloc, log)?;
     let verdict = check(alloc, &read, &lines)?;
     verdict.write_line(writer)?;
     Ok(verdict)

@@ -1,13 +1,12 @@
 -- How the command that checks a log against its trace ends: what it did, its exit status, and what it tells.
 use Rattle.std.specs.Prelude.{◌≡◌, ◌++◌, ℕ, List, ◌⊎◌, ◌∷◌, []}
 use Rattle.tsc_trace.specs.LogText.{line_feed}
-use Rattle.tsc_trace.specs.declared.log_reader.LogFault.TheVariants as log_fault
 use Rattle.tsc_stream.specs.Stream.{KnownReader, KnownWriter}
 use Rattle.tsc_check.specs.Checking.{Checked, StopsCheck, fault_text}
 use Rattle.tsc_check.specs.declared.verdict.Verdict.{Verdict}
 use Rattle.tsc_check.specs.declared.verdict.Verdict.TheVariants.{Right, WrongCall, WrongPlace, WrongAnswer}
 use Rattle.tsc_check.specs.declared.streams.CheckFault.{CheckFault}
-use Rattle.tsc_check.specs.declared.streams.CheckFault.TheVariants.{Stream, Log}
+use Rattle.tsc_check.specs.declared.streams.CheckFault.TheVariants.{Stream, Text, Length}
 use Rattle.tsc_commands.specs.Replay.{Tells, status_of}
 
 -- the exit status of a verdict
@@ -20,9 +19,8 @@ verdict_status (WrongAnswer i) = 3
 -- the exit status of a fault
 abbrev pub check_fault_status : CheckFault → ℕ
 check_fault_status (Stream fault) = status_of fault
-check_fault_status (Log (log_fault.Text number)) = 1
-check_fault_status (Log log_fault.Length) = 1
-check_fault_status (Log log_fault.NoMemory) = 5
+check_fault_status (Text number) = 1
+check_fault_status Length = 1
 
 -- the line that tells it
 abbrev pub check_fault_line : CheckFault → List ℕ

@@ -8,7 +8,6 @@ use crate::replay::status_of;
 use std::alloc::Global;
 use tsc_check::{CheckFault, Verdict, check_stream};
 use tsc_stream::{Sink, Source, WriteFailed, write_output};
-use tsc_trace::LogFault;
 
 /// Checks a log against its trace, writes the verdict as one line, tells a fault on `errors`, and gives the exit
 /// status.
@@ -51,8 +50,7 @@ pub fn status_of_check_fault(fault: CheckFault) -> u8
 {
     match fault {
         CheckFault::Stream(fault) => status_of(fault),
-        CheckFault::Log(LogFault::NoMemory) => 5,
-        CheckFault::Log(LogFault::Text(_) | LogFault::Length) => 1,
+        CheckFault::Text(_) | CheckFault::Length => 1,
     }
 }
 

@@ -4,7 +4,8 @@
 //! [`program::program`] reads the words, opens the files that they name in a [`Place`], and hands them to a command:
 //! [`replay_command`] makes the calls of a trace on one thread, [`run_command`] those of each list on a thread of its own,
 //! and [`check_command`] holds a log against its trace. Each gives the exit status, and tells a fault by one line.
-//! [`words::words`] tells what words ask for. [`SystemFiles`] and [`fetch_words`] are the files and the words of the system.
+//! [`words::words`] tells what words ask for. [`SystemFiles`] and [`fetch_words`] are the files and the words of the system,
+//! and [`standard_output`] and [`standard_errors`] where the program writes.
 #![tactic(auto)]
 
 mod check;
@@ -12,6 +13,7 @@ mod place;
 pub mod program;
 mod replay;
 mod run;
+mod streams;
 mod system;
 pub mod words;
 
@@ -19,5 +21,6 @@ pub use check::{check_command, status_of_check_fault, tell_check_fault};
 pub use place::{OpenFault, Place};
 pub use replay::{replay_command, tell_fault};
 pub use run::{run_command, tell_stop};
-pub use system::{SystemFiles, fetch_words};
+pub use streams::{Errors, Output};
+pub use system::{SystemFiles, fetch_words, standard_errors, standard_output};
 pub use words::{Asked, WordsFault, request};

@@ -1,5 +1,6 @@
 //! The program, over its words, a place of files, a writer and a stream for faults.
 ghost use Rattle.std.specs.Prelude.{◌≡◌};
+ghost use Rattle.std.specs.Process.{exit_status};
 ghost use Rattle.tsc_commands.specs.Program.{AskFor, EndsCheckOf, GoesOver, RunsProgram, fault_of_open, texts_of};
 ghost use Rattle.tsc_commands.specs.Replay.{EndsReplay, Tells, fault_line, status_of};
 ghost use Rattle.tsc_commands.specs.Run.{EndsRun};
@@ -9,20 +10,46 @@ use crate::check::check_command;
 use crate::place::{OpenFault, Place};
 use crate::replay::{replay_command, status_of, tell_fault};
 use crate::run::run_command;
+use crate::streams::{Errors, Output};
 use crate::words::{Asked, WordsFault, request};
 use std::alloc::Global;
+use std::process::ExitCode;
 use std::sync::Wait;
 use std::thread::Threads;
 use tsc_shared::NoGate;
 use tsc_stream::{Sink, Source, write_output};
 use tsc_trace::ReplayFault;
 
-/// Does what the program's words ask for, and gives the exit status.
+/// Does what the program's words ask for, and gives the code with which the process is to end, whose number is the
+/// exit status.
 ///
 /// `words` are the words, its own name first, or why they are not to be had. Only a log or a verdict goes
-/// to the writer. A fault is told by one line on `errors`, and telling it changes no status. `rt` starts the
+/// to the output. A fault is told by one line on `errors`, and telling it changes no status. `rt` starts the
 /// threads of a run, for whose end the call waits.
 pub fn program<T: Threads + Wait + Sync, P: Place, W: Sink, E: Sink>(
+    rt: &T,
+    alloc: Global,
+    words: Result<Vec<String>, WordsFault>,
+    place: &P,
+    output: &mut Output<W>,
+    errors: &mut Errors<E>,
+) -> ExitCode
+    ensures { RunsProgram (texts_of words) (P.opens place.now) (exit_status result)
+        (W.known output.old.writer) (W.known output.new.writer) (E.known errors.old.writer) (E.known errors.new.writer) }
+{
+    let status = do_asked(
+        rt,
+        alloc,
+        words,
+        place,
+        &mut output.writer,
+        &mut errors.writer,
+    );
+    ExitCode::from(status)
+}
+
+/// Does what the words ask for, and gives the exit status.
+fn do_asked<T: Threads + Wait + Sync, P: Place, W: Sink, E: Sink>(
     rt: &T,
     alloc: Global,
     words: Result<Vec<String>, WordsFault>,

@@ -1,14 +1,15 @@
-//! What the program takes from the system: its words, and the files that they name.
+//! What the program takes from the system: its words, the files that they name, and where it writes.
 //!
-//! The contracts of `std` say nothing of either. Tests show that these are the words of the call, and that a
+//! The contracts of `std` say nothing of these. Tests show that these are the words of the call, and that a
 //! file is read beyond its first bytes.
 ghost use Rattle.std.specs.Prelude.{◌≡◌, ◌↔◌};
 ghost use Rattle.tsc_commands.specs.Place.{says_nothing};
 
 use crate::place::{OpenFault, Place};
+use crate::streams::{Errors, Output};
 use crate::words::WordsFault;
 use std::env::Env;
-use std::io::ErrorKind;
+use std::io::{ErrorKind, Stderr, Stdout};
 use std::rt::Files;
 use std::{env, fs};
 use tsc_stream::Metered;
@@ -28,6 +29,20 @@ fn words_fault(kind: ErrorKind) -> WordsFault
     match kind {
         ErrorKind::OutOfMemory => WordsFault::NoMemory,
         _ => WordsFault::Wrong,
+    }
+}
+
+/// Standard output, which takes the logs and the verdicts.
+pub fn standard_output(stdout: Stdout) -> Output<Metered<Stdout>> {
+    Output {
+        writer: Metered::new(stdout),
+    }
+}
+
+/// Standard error, on which faults are told.
+pub fn standard_errors(stderr: Stderr) -> Errors<Metered<Stderr>> {
+    Errors {
+        writer: Metered::new(stderr),
     }
 }
 

@@ -33,8 +33,8 @@ said_sends = search (sendable, value_sends, timestamp_sends) depth 20
 line_sends : IsSend line
 line_sends = search (sendable, declared_send, as_row_send, said_sends) depth 20
 
-pub fault_sends : IsSend fault
+fault_sends : IsSend fault
 fault_sends = search sendable depth 20
 
 pub list_run_sends : IsSend list_run
-list_run_sends = search (sendable, crosses, declared_send, as_row_send, seat_sends, line_sends) depth 20
+list_run_sends = search (sendable, crosses, declared_send, as_row_send, seat_sends, line_sends, fault_sends) depth 20

@@ -1,3 +1,4 @@
 pub mod Running
 pub mod Crossing
 pub mod Truth
+pub mod Seating

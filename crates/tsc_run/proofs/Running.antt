@@ -15,7 +15,7 @@ use Rattle.tsc_run.specs.Runs.{Says, Runs, RunsAll}
 abbrev pub IsUnderWay : SeatView → List Call → List Line → SeatView → ℕ → Type 0
 IsUnderWay start calls lines seat index = (rest : List Line) (last : SeatView) → Runs seat index (drop index calls) rest last → Runs start 0 calls (lines ++ rest) last
 
-left_from : (calls : List Call) (index : ℕ) (call : Call) → index < length calls → call ≡ get_or calls index call → drop index calls ≡ call ∷ drop (index + 1) calls
+pub left_from : (calls : List Call) (index : ℕ) (call : Call) → index < length calls → call ≡ get_or calls index call → drop index calls ≡ call ∷ drop (index + 1) calls
 left_from calls index call within here =
     drop-cons calls index call within ∙ ap (λ c. c ∷ drop (suc index) calls) (sym here) ∙ ap (λ n. call ∷ drop n calls) (sym (add-one index))
 
@@ -56,6 +56,11 @@ last_seat : (cache : SharedView) (number n : ℕ) → new_seats cache number (su
 last_seat cache number zero = ap (λ (k : ℕ). new_seat cache k ∷ []) (omega arith)
 last_seat cache number (suc n) = ap (λ seats. new_seat cache number ∷ seats) (last_seat cache (suc number) n ∙ ap (λ (k : ℕ). new_seats cache (suc number) n ++ new_seat cache k ∷ []) (omega arith))
 
+-- as many as were asked for
+pub as_many_seats : (cache : SharedView) (number n : ℕ) → length (new_seats cache number n) ≡ n
+as_many_seats cache number zero = refl
+as_many_seats cache number (suc n) = ap suc (as_many_seats cache (suc number) n)
+
 abbrev other_seats : List SeatView → List SeatView
 other_seats [] = []
 other_seats (s ∷ seats) = seats
@@ -88,15 +93,6 @@ pub fewer : (lists others : List (Vec Call Global)) (calls : List Call) → call
 fewer lists others calls parted =
     omega (arith, ap length parted, length-append (calls_in others) (calls ∷ []), length-map lists (λ (calls : Vec Call Global). calls.items), length-map others (λ (calls : Vec Call Global). calls.items))
 
--- the runs with that of the last list
-pub run_added : (cache : SharedView) (lists others : List (Vec Call Global)) (calls : List Call) (lines more whole : List Line) (seats seats' : List SeatView) (from seat : SeatView)
-    → calls_in lists ≡ calls_in others ++ calls ∷ [] → from ≡ new_seat cache (length others) → RunsAll cache 0 (calls_in others) lines seats → Runs from 0 calls more seat
-    → whole ≡ lines ++ more → seats' ≡ seats ++ seat ∷ [] → RunsAll cache 0 (calls_in lists) whole seats'
-run_added cache lists others calls lines more whole seats seats' from seat parted new runs run added pushed =
-    let long : length others ≡ 0 + length (calls_in others) = omega (arith, length-map others (λ (calls : Vec Call Global). calls.items)) in
-    let at : Runs (new_seat cache (0 + length (calls_in others))) 0 calls more seat = subst (λ s. Runs s 0 calls more seat) (new ∙ ap (new_seat cache) long) run in
-    rw (parted, added, pushed) (one_list_more cache 0 (calls_in others) lines more seats calls seat runs at)
-
 -- the last list has no more calls than all
 pub last_fits : (lists others : List (List Call)) (calls : List Call) → lists ≡ others ++ calls ∷ [] → sum_by length lists ≤ most_calls → length calls ≤ most_calls
 last_fits lists others calls parted few = omega (arith, ap (sum_by length) parted, sum_by-append length others (calls ∷ []), sum_by-cons length calls [])
@@ -114,22 +110,3 @@ first_all P (x ∷ xs) y all = All-cons P x xs (All-head P x (xs ++ y ∷ []) al
 pub last_all : {X : Type 0} (P : X → Type 0) (xs : List X) (y : X) → All P (xs ++ y ∷ []) → P y
 last_all P [] y all = All-head P y [] all
 last_all P (x ∷ xs) y all = last_all P xs y (All-tail P x (xs ++ y ∷ []) all)
-
--- a seat is of its cache all along
-stays : (start seat : SeatView) (index : ℕ) (calls : List Call) (lines : List Line) → Runs start index calls lines seat → seat.cache ≡ start.cache
-stays start seat index [] [] run = ap (λ s. s.cache) run
-stays start seat index [] (line ∷ lines) run = absurd run
-stays start seat index (call ∷ calls) [] run = absurd run
-stays start seat index (call ∷ calls) (line ∷ lines) run = stays run.2 seat (suc index) calls lines run.5 ∙ run.3.cache
-
-pub all_stay : (cache : SharedView) (thread : ℕ) (lists : List (List Call)) (lines : List Line) (seats : List SeatView) → RunsAll cache thread lists lines seats → All (λ (seat : SeatView). seat.cache ≡ cache) seats
-all_stay cache thread [] lines [] runs = All-nil (λ (seat : SeatView). seat.cache ≡ cache)
-all_stay cache thread [] lines (s ∷ seats) runs = absurd runs
-all_stay cache thread (calls ∷ lists) lines [] runs = absurd runs
-all_stay cache thread (calls ∷ lists) lines (s ∷ seats) runs = All-cons (λ (seat : SeatView). seat.cache ≡ cache) s seats (stays (new_seat cache thread) s 0 calls runs.0 runs.3) (all_stay cache (suc thread) lists runs.1 seats runs.4)
-
-pub as_many : (cache : SharedView) (thread : ℕ) (lists : List (List Call)) (lines : List Line) (seats : List SeatView) → RunsAll cache thread lists lines seats → length seats ≡ length lists
-as_many cache thread [] lines [] runs = refl
-as_many cache thread [] lines (s ∷ seats) runs = absurd runs
-as_many cache thread (calls ∷ lists) lines [] runs = absurd runs
-as_many cache thread (calls ∷ lists) lines (s ∷ seats) runs = ap suc (as_many cache (suc thread) lists runs.1 seats runs.4)

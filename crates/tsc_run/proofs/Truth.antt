@@ -93,6 +93,10 @@ is_told old mid Low (said.Low front time) goes says = record {
 }
 is_told old mid call answer goes says = absurd says
 
+-- an Add that is accepted counts
+pub count_after : (old mid : SeatView) (call : Call) (answer : Said) → GoesOn old mid → Says old mid call answer → mid.count ≡ old.count + cond (adds call) 1 0
+count_after old mid call answer goes says = (is_told old mid call answer goes says).count
+
 -- ---- each list
 
 went_on : (start seat : SeatView) (index : ℕ) (calls : List Call) (lines : List Line) → Runs start index calls lines seat → BeginsWith seat.seen start.seen

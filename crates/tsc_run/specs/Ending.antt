@@ -36,12 +36,12 @@ pub record NotRun (reader reader' : KnownReader) (writer writer' : KnownWriter) 
   pub read : HasReadTrace reader reader' trace
   pub silent : writer' ≡ writer
 
--- What a run can end with in place of a log: a growth was refused, there are as many Adds as there may be, or a thread was not started. It has seats enough for all lists and a place for each, and each lookup is answered.
+-- What a run can end with in place of a log: a growth was refused, or a thread was not started. It has seats enough for all lists and a place for each, each lookup is answered, and there may be as many Adds as the lists have.
 abbrev pub CanEndRun : RunFault → Type 0
 CanEndRun (run_fault.Open why) = why ≡ open_fault.NoMemory
 CanEndRun run_fault.NoMemory = Unit {0}
 CanEndRun run_fault.Gone = ⊥
-CanEndRun run_fault.HistoryFull = Unit {0}
+CanEndRun run_fault.HistoryFull = ⊥
 CanEndRun run_fault.NoThread = Unit {0}
 
 -- how a run that stopped so ended
@@ -53,7 +53,7 @@ StopsRun (Stream Write) reader reader' writer writer' = LogNotWritten reader rea
 StopsRun (Stream NoMemory) reader reader' writer writer' = OutOfMemory reader reader' writer writer'
 StopsRun NoView reader reader' writer writer' = ⊥
 StopsRun NoPlace reader reader' writer writer' = ⊥
-StopsRun HistoryFull reader reader' writer writer' = NotRun reader reader' writer writer'
+StopsRun HistoryFull reader reader' writer writer' = ⊥
 StopsRun NoThread reader reader' writer writer' = NotRun reader reader' writer writer'
 
 -- how a fault of a run ends it

@@ -1,3 +1,4 @@
+use crate::start::NotStarted;
 use std::alloc::{AllocError, AllocFailed};
 use thiserror::Error;
 use tsc_shared::{Gone, OpenFault};
@@ -16,7 +17,7 @@ pub enum RunFault {
     /// A lookup found no version of the cache. It never comes.
     #[error("no view")]
     Gone,
-    /// An Add found as many Adds in the history as the trace has.
+    /// An Add found as many Adds in the history as the trace has. It never comes.
     #[error("history full")]
     HistoryFull,
     /// A thread could not be started.
@@ -43,6 +44,17 @@ impl From<Gone> for RunFault {
 
     fn from(_why: Gone) -> RunFault {
         RunFault::Gone
+    }
+}
+
+impl From<NotStarted> for RunFault {
+    ghost use Rattle.std.specs.Prelude.{◌≡◌};
+    ghost use Rattle.tsc_run.specs.declared.fault.RunFault.TheVariants.{NoThread};
+
+    ghost from_gives = { λ _ fault. fault ≡ NoThread };
+
+    fn from(_why: NotStarted) -> RunFault {
+        RunFault::NoThread
     }
 }
 

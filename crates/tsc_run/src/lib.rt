@@ -8,6 +8,7 @@
 mod fault;
 mod list;
 mod run;
+mod start;
 mod streams;
 mod threads;
 

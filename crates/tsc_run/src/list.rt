@@ -1,13 +1,12 @@
 //! One list of a trace, at a seat of the shared cache.
 ghost use Rattle.std.specs.Prelude.{◌≡◌, ◌≢◌, ◌≤◌, true, IfOk, IfErr, length};
-ghost use Rattle.tsc_json.specs.Calls.{call_fits};
+ghost use Rattle.tsc_json.specs.Calls.{adds, call_fits};
 ghost use Rattle.tsc_json.specs.Traces.{EachFits};
 ghost use Rattle.tsc_json.specs.Lists.{most_calls};
 ghost use Rattle.tsc_shared.specs.Seats.{SeatView};
-ghost use Rattle.tsc_shared.specs.Answers.{GoesOn, RefusedFor};
+ghost use Rattle.tsc_shared.specs.Answers.{GoesOn, RefusedFor, Refuses};
 ghost use Rattle.tsc_shared.specs.declared.answers.AddFault.TheVariants.{TooLarge};
-ghost use Rattle.tsc_run.specs.Runs.{Says, IsRefusedAs, Runs};
-ghost use Rattle.tsc_run.specs.Ending.{CanEndRun};
+ghost use Rattle.tsc_run.specs.Runs.{EndsList, IsRefusedAs, Runs, Says};
 
 use crate::fault::RunFault;
 use std::alloc::Global;
@@ -15,18 +14,17 @@ use std::sync::Wait;
 use tsc_shared::{AddFault, Gate, Seat, SharedCache};
 use tsc_trace::{Call, Line, Said};
 
-/// What a list's run leaves: its seat, and a line for each of its calls.
+/// What a list's run leaves: its seat, and a line for each of its calls, or why it ended early.
 #[derive(Drop)]
 pub(crate) struct ListRun {
     pub seat: Seat,
-    pub lines: Vec<Line>,
+    pub told: Result<Vec<Line>, RunFault>,
 }
 
 /// How a refused Add ends a run. All that the calls of a trace add fits a page.
 fn refused(fault: AddFault) -> RunFault
     requires { fault ≢ TooLarge }
-    ensures refused { (old new : SeatView) → RefusedFor old new fault → IsRefusedAs result old new }
-    ensures why { CanEndRun result }
+    ensures { (old new : SeatView) → Refuses old new → RefusedFor old new fault → (call : Call) → adds call ≡ true → IsRefusedAs result call old new }
 {
     match fault {
         AddFault::HistoryFull(_) => RunFault::HistoryFull,
@@ -48,8 +46,7 @@ fn answer<R: Wait, G: Gate>(
     requires fits { call_fits seat.old.cache.config call.now ≡ true }
     ensures seat { GoesOn seat.old seat.new }
     ensures said { IfOk result (λ said. Says seat.old seat.new call.now said) }
-    ensures refused { IfErr result (λ fault. IsRefusedAs fault seat.old seat.new) }
-    ensures why { IfErr result CanEndRun }
+    ensures refused { IfErr result (λ fault. IsRefusedAs fault call.now seat.old seat.new) }
 {
     match call {
         Call::Add { span, value, now } => {
@@ -89,26 +86,25 @@ fn answer<R: Wait, G: Gate>(
 
 /// Makes the calls of a list, one after another, and tells the gate of each: before it, and when it was answered
 /// or refused. The list has the number of its seat.
-pub(crate) fn run_list<R: Wait, G: Gate>(
+fn make_calls<R: Wait, G: Gate>(
     rt: &R,
     alloc: Global,
     cache: &SharedCache,
-    mut seat: Seat,
+    seat: &mut Seat,
     calls: &[Call],
     gate: &G,
-) -> Result<ListRun, RunFault>
-    requires cache { seat.cache ≡ cache.now }
+) -> Result<Vec<Line>, RunFault>
+    requires cache { seat.old.cache ≡ cache.now }
     requires calls { length calls.now ≤ most_calls }
     requires fits { EachFits cache.now.config calls.now }
-    ensures ran { IfOk result (λ ran. Runs seat 0 calls.now ran.lines.items ran.seat) }
-    ensures why { IfErr result CanEndRun }
+    ensures { EndsList seat.old calls.now result seat.new }
 {
     let thread = seat.number();
     let mut lines = Vec::with_capacity(alloc, calls.len())?;
     for (index, call) in calls.iter().enumerate() {
         let index = index as u32;
         gate.start(thread, index);
-        let said = answer(rt, cache, &mut seat, call, gate);
+        let said = answer(rt, cache, seat, call, gate);
         gate.done(thread, index);
         let said = said?;
         lines.push(Line {
@@ -117,5 +113,23 @@ pub(crate) fn run_list<R: Wait, G: Gate>(
             said,
         })?;
     }
-    Ok(ListRun { seat, lines })
+    Ok(lines)
+}
+
+/// Makes the calls of a list, at the seat of the list's number, which comes back however that ends.
+pub(crate) fn run_list<R: Wait, G: Gate>(
+    rt: &R,
+    alloc: Global,
+    cache: &SharedCache,
+    mut seat: Seat,
+    calls: &[Call],
+    gate: &G,
+) -> ListRun
+    requires cache { seat.cache ≡ cache.now }
+    requires calls { length calls.now ≤ most_calls }
+    requires fits { EachFits cache.now.config calls.now }
+    ensures { EndsList seat calls.now result.told result.seat }
+{
+    let told = make_calls(rt, alloc, cache, &mut seat, calls, gate);
+    ListRun { seat, told }
 }

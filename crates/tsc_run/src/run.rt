@@ -47,7 +47,8 @@ fn count_all_adds(lists: &[Vec<Call>]) -> u64
 ///
 /// The gate is told before and after each call, also one that was refused, and before each accepted Add is
 /// published, from the thread of its list. Where a thread cannot be started, those that were started run to their
-/// end first.
+/// end first. Else each list is run, and the cache is closed with all seats before a fault is told: so it is known then
+/// that no Add found the history full.
 pub fn run_trace<R: Threads + Wait + Sync, G: Gate + Sync>(
     rt: &R,
     alloc: Global,
@@ -65,7 +66,8 @@ pub fn run_trace<R: Threads + Wait + Sync, G: Gate + Sync>(
     let Ok(_closed) = cache.close(rt, runs.seats) else {
         unreachable!()
     };
+    let lines = runs.told?;
     Ok(Log {
-        lines: Lines::of(runs.lines),
+        lines: Lines::of(lines),
     })
 }

@@ -1,18 +1,20 @@
 //! Runs of recorded traces from a reader to a writer.
-ghost use Rattle.std.specs.Prelude.{◌≡◌, IfErr, OnOk, OnErr};
+ghost use Rattle.std.specs.Prelude.{◌≡◌, Some, IfErr, OnOk, OnErr};
 ghost use Rattle.tsc_stream.specs.Stream.{CouldNotWrite, HasWritten};
-ghost use Rattle.tsc_trace.specs.Replay.{fault_of_input, fault_of_output, fault_of_trace};
+ghost use Rattle.tsc_trace.specs.Replay.{fault_of_output};
 ghost use Rattle.tsc_run.specs.Ending.{Ran, StopsRun, stop_of_run, stop_text};
 ghost use Rattle.tsc_run.specs.declared.streams.RunStop.TheVariants.{Stream};
 
 use crate::fault::RunFault;
 use crate::run::run_trace;
 use std::alloc::Global;
+use std::error::Error;
+use std::fmt;
 use std::sync::Wait;
 use std::thread::Threads;
 use tsc_shared::{Gate, OpenFault};
-use tsc_stream::{InputFault, Sink, Source, WriteFailed, read_input, write_output};
-use tsc_trace::{OutFault, ReplayFault, TraceFault, read_trace, write_log};
+use tsc_stream::{Sink, Source, WriteFailed, write_output};
+use tsc_trace::{OutFault, ReplayFault, read_trace_from, write_log};
 
 /// Why a run ended early. Only a failed write comes after a written byte.
 #[derive(Clone, Copy, Debug, PartialEq, Eq)]
@@ -23,7 +25,7 @@ pub enum RunStop {
     NoView,
     /// There was no place left for a reader. It never comes.
     NoPlace,
-    /// An Add found as many Adds in the history as the trace has.
+    /// An Add found as many Adds in the history as the trace has. It never comes.
     HistoryFull,
     /// A thread could not be started.
     NoThread,
@@ -45,19 +47,27 @@ impl RunStop {
     }
 }
 
-impl From<InputFault> for RunStop {
-    ghost from_gives = { λ fault given. given ≡ Stream (fault_of_input fault) };
+impl fmt::Display for RunStop {
+    ghost output = { λ stop. Some (stop_text stop) };
 
-    fn from(fault: InputFault) -> RunStop {
-        RunStop::Stream(fault.into())
+    fn fmt<W: fmt::Write>(&self, f: &mut fmt::Formatter<W>) -> fmt::Result {
+        match self {
+            RunStop::Stream(fault) => write!(f, "{fault}"),
+            RunStop::NoView => write!(f, "no view"),
+            RunStop::NoPlace => write!(f, "no place"),
+            RunStop::HistoryFull => write!(f, "history full"),
+            RunStop::NoThread => write!(f, "no thread"),
+        }
     }
 }
 
-impl From<TraceFault> for RunStop {
-    ghost from_gives = { λ fault given. given ≡ Stream (fault_of_trace fault) };
+impl Error for RunStop {}
 
-    fn from(fault: TraceFault) -> RunStop {
-        RunStop::Stream(fault.into())
+impl From<ReplayFault> for RunStop {
+    ghost from_gives = { λ fault given. given ≡ Stream fault };
+
+    fn from(fault: ReplayFault) -> RunStop {
+        RunStop::Stream(fault)
     }
 }
 
@@ -100,9 +110,7 @@ pub fn run_stream<T: Threads + Wait + Sync, R: Source, W: Sink, G: Gate + Sync>(
     ensures err { IfErr result (λ stop. StopsRun stop (R.known reader.old) (R.known reader.new)
         (W.known writer.old) (W.known writer.new)) }
 {
-    let input = read_input(alloc, reader)?;
-    let trace = read_trace(alloc, &input)?;
-    drop(input);
+    let trace = read_trace_from(alloc, reader)?;
     let log = run_trace(rt, alloc, &trace, gate)?;
     Ok(write_log(alloc, &log, writer)?)
 }

@@ -1,43 +1,39 @@
 //! A thread for each list.
-ghost use Rattle.std.specs.Prelude.{◌≡◌, ◌≤◌, ◌++◌, ◌∷◌, [], IfOk, IfErr, IfSome, IfNone, length, map};
+ghost use Rattle.std.specs.Prelude.{◌≡◌, ◌≤◌, ◌++◌, ◌∷◌, [], IfOk, IfSome, IfNone, length, map, vec_capacity};
 ghost use Rattle.std.specs.List.{sum_by};
-ghost use Rattle.tsc_json.specs.Traces.{AllFit, EachFits};
+ghost use Rattle.tsc_json.specs.Traces.{AllFit};
 ghost use Rattle.tsc_json.specs.Lists.{most_calls};
 ghost use Rattle.tsc_shared.specs.Seats.{new_seats};
-ghost use Rattle.tsc_run.specs.Runs.{Runs, RunsAll};
-ghost use Rattle.tsc_run.specs.Ending.{CanEndRun};
+ghost use Rattle.tsc_run.specs.Runs.{EndsLists, Joins};
 
 use crate::fault::RunFault;
-use crate::list::{ListRun, run_list};
+use crate::list::ListRun;
+use crate::start::{NotStarted, start_list};
 use std::alloc::Global;
-use std::snapshot::Snapshot;
 use std::sync::Wait;
 use std::thread;
-use std::thread::{Promise, Scope, Threads};
+use std::thread::{Scope, Threads};
 use tsc_shared::{Gate, Seat, SharedCache};
 use tsc_trace::{Call, Line};
 
-/// What the runs of some lists leave: their seats, and their lines in a row.
+/// What the runs of some lists leave: their seats, and their lines in a row, or why one of them ended early.
 #[derive(Drop)]
 pub(crate) struct AllRuns {
     pub seats: Vec<Seat>,
-    pub lines: Vec<Line>,
+    pub told: Result<Vec<Line>, RunFault>,
 }
 
-/// A thread's promise: what it answers is a run of this list, from this seat on, or a fault that a run can
-/// end with.
-#[derive(Drop)]
-struct ListOf<'a> {
-    seat: Snapshot<Seat>,
-    calls: &'a [Call],
-}
-
-impl<'a> Promise<Result<ListRun, RunFault>> for ListOf<'a> {
-    ghost use Rattle.std.specs.Prelude.{IfOk, IfErr};
-    ghost use Rattle.tsc_run.specs.Runs.{Runs};
-    ghost use Rattle.tsc_run.specs.Ending.{CanEndRun};
-
-    ghost kept_by = { λ p r. IfOk r (λ ran. Runs p.seat.value 0 p.calls.now ran.lines.items ran.seat) × IfErr r CanEndRun };
+/// The lines of some lists with those of one more behind them, or why one of these runs ended early.
+fn joined(
+    told: Result<Vec<Line>, RunFault>,
+    more: Result<Vec<Line>, RunFault>,
+) -> Result<Vec<Line>, RunFault>
+    ensures { Joins told more result }
+{
+    let mut lines = told?;
+    let mut last = more?;
+    lines.append(&mut last)?;
+    Ok(lines)
 }
 
 /// The last of some lists, and those before it.
@@ -49,7 +45,7 @@ fn split_last(lists: &[Vec<Call>]) -> Option<(&[Call], &[Vec<Call>])>
     Some((last.as_slice(), others))
 }
 
-/// Starts a thread for the last list, has the others run, and waits for all.
+/// Starts a thread for the last list, has the others run, and waits for all. All seats come back.
 fn run_in<'s, E, R: Threads + Wait + Sync, G: Gate + Sync>(
     scope: &Scope<'s, E>,
     rt: &'s R,
@@ -58,48 +54,34 @@ fn run_in<'s, E, R: Threads + Wait + Sync, G: Gate + Sync>(
     mut seats: Vec<Seat>,
     lists: &'s [Vec<Call>],
     gate: &'s G,
-) -> Result<AllRuns, RunFault>
+) -> Result<AllRuns, NotStarted>
     requires seats { seats.items ≡ new_seats cache.now 0 (length lists.now) }
     requires calls { sum_by length (map (λ calls. calls.items) lists.now) ≤ most_calls }
     requires fits { AllFit cache.now.config (map (λ calls. calls.items) lists.now) }
-    ensures runs { IfOk result (λ runs. RunsAll cache.now 0 (map (λ calls. calls.items) lists.now) runs.lines.items runs.seats.items) }
-    ensures why { IfErr result CanEndRun }
+    ensures runs { IfOk result (λ runs. EndsLists cache.now (map (λ calls. calls.items) lists.now) runs.told runs.seats.items) }
+    ensures room { IfOk result (λ runs. vec_capacity seats ≤ vec_capacity runs.seats) }
 {
     let Some(seat) = seats.pop() else {
         return Ok(AllRuns {
             seats,
-            lines: Vec::new(alloc),
+            told: Ok(Vec::new(alloc)),
         });
     };
     let Some((calls, others)) = split_last(lists) else {
         unreachable!()
     };
-    let promise = ListOf {
-        seat: Snapshot::of(&seat),
-        calls,
-    };
-    let Ok(child) = scope.spawn_with(
-        promise,
-        move || -> Result<ListRun, RunFault>
-            requires { (seat.cache ≡ cache.now) × (length calls.now ≤ most_calls) × EachFits cache.now.config calls.now }
-            ensures { IfOk result (λ ran. Runs seat 0 calls.entry.now ran.lines.items ran.seat) × IfErr result CanEndRun }
-        { run_list(rt, alloc, cache, seat, calls, gate) },
-    ) else {
-        return Err(RunFault::NoThread);
-    };
+    let child = start_list(scope, rt, alloc, cache, seat, calls, gate)?;
     let runs = run_in(scope, rt, alloc, cache, seats, others, gate);
     let run = child.join(rt);
-    let AllRuns {
-        mut seats,
-        mut lines,
-    } = runs?;
-    let ListRun {
-        seat,
-        lines: mut more,
-    } = run?;
-    seats.push(seat)?;
-    lines.append(&mut more)?;
-    Ok(AllRuns { seats, lines })
+    let AllRuns { mut seats, told } = runs?;
+    let ListRun { seat, told: more } = run;
+    let Ok(()) = seats.push(seat) else {
+        unreachable!()
+    };
+    Ok(AllRuns {
+        seats,
+        told: joined(told, more),
+    })
 }
 
 /// Runs each list on a thread of its own, at the seat of the same number, and waits for all.
@@ -110,19 +92,18 @@ pub(crate) fn run_lists<R: Threads + Wait + Sync, G: Gate + Sync>(
     seats: Vec<Seat>,
     lists: &[Vec<Call>],
     gate: &G,
-) -> Result<AllRuns, RunFault>
+) -> Result<AllRuns, NotStarted>
     requires seats { seats.items ≡ new_seats cache.now 0 (length lists.now) }
     requires calls { sum_by length (map (λ calls. calls.items) lists.now) ≤ most_calls }
     requires fits { AllFit cache.now.config (map (λ calls. calls.items) lists.now) }
-    ensures runs { IfOk result (λ runs. RunsAll cache.now 0 (map (λ calls. calls.items) lists.now) runs.lines.items runs.seats.items) }
-    ensures why { IfErr result CanEndRun }
+    ensures { IfOk result (λ runs. EndsLists cache.now (map (λ calls. calls.items) lists.now) runs.told runs.seats.items) }
 {
     thread::scope(
         thread::scope_env(),
         rt,
-        |scope| -> Result<AllRuns, RunFault>
+        |scope| -> Result<AllRuns, NotStarted>
             requires { (seats.items ≡ new_seats cache.now 0 (length lists.now)) × (sum_by length (map (λ calls. calls.items) lists.now) ≤ most_calls) × AllFit cache.now.config (map (λ calls. calls.items) lists.now) }
-            ensures { IfOk result (λ runs. RunsAll cache.entry.now 0 (map (λ calls. calls.items) lists.entry.now) runs.lines.items runs.seats.items) × IfErr result CanEndRun }
+            ensures { IfOk result (λ runs. EndsLists cache.entry.now (map (λ calls. calls.items) lists.entry.now) runs.told runs.seats.items) }
         { run_in(scope, rt, alloc, cache, seats, lists, gate) },
     )
 }

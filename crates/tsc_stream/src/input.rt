@@ -4,6 +4,7 @@ ghost use Rattle.tsc_stream.specs.Stream.{HasRead, StopsReading, longest_input};
 
 use crate::stream::{Source, Trouble};
 use std::alloc::{AllocError, Global};
+use thiserror::Error;
 
 /// How many bytes an input has at the most.
 const LONGEST_INPUT: usize = 16_777_216;
@@ -12,13 +13,16 @@ const LONGEST_INPUT: usize = 16_777_216;
 const FIRST_ROOM: usize = 65_536;
 
 /// Why an input could not be read.
-#[derive(Clone, Copy, Debug, PartialEq, Eq)]
+#[derive(Clone, Copy, Debug, PartialEq, Eq, Error)]
 pub enum InputFault {
     /// A read failed.
+    #[error("read failed")]
     Read,
     /// There were more than 16,777,216 bytes.
+    #[error("input too long")]
     TooLong,
     /// A growth was refused.
+    #[error("out of memory")]
     NoMemory,
 }
 

@@ -17,5 +17,5 @@ mod tests;
 
 pub use input::{InputFault, read_input};
 pub use metered::Metered;
-pub use output::{WriteFailed, write_output};
+pub use output::{WriteFailed, write_both, write_output};
 pub use stream::{Phase, Sink, Source, Trouble};

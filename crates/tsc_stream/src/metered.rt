@@ -1,5 +1,5 @@
 //! Readers and writers of `std` whose calls are counted.
-ghost use Rattle.std.specs.Prelude.{◌≡◌, ◌≢◌, ◌<◌, ◌-◌, ◌==◌, Ok, Err, IfOk, IfErr};
+ghost use Rattle.std.specs.Prelude.{◌≡◌, ◌≢◌, ◌↔◌, ◌<◌, ◌-◌, Some, None, IsTrue, Ok, Err, IfOk, IfErr, IfSome};
 ghost use Rattle.tsc_stream.specs.Stream.{fresh_reader, fresh_writer, phase_after};
 
 use crate::stream::{Phase, Sink, Source, Trouble};
@@ -45,15 +45,32 @@ impl<T> Metered<T> {
         }
     }
 
-    /// Counts a call, and says whether it is one too many.
-    fn count_call(&mut self) -> bool
-        ensures value { result ≡ (turns_of self.old == 0) }
+    /// What a read is told without a call to the one inside: nothing just where it is open and a turn is left.
+    fn read_unasked(&self) -> Option<Result<usize, Trouble>>
+        ensures none { result ≡ None ↔ ((phase_in self.now ≡ Phase.Open) × (0 < turns_of self.now)) }
+        ensures ended { phase_in self.now ≡ Phase.Ended → result ≡ Some (Ok 0) }
+        ensures failed { phase_in self.now ≢ Phase.Ended → IfSome result (λ told. told ≡ Err Trouble.Failed) }
+    {
+        match self.phase {
+            Phase::Ended => Some(Ok(0)),
+            Phase::Open if self.turns > 0 => None,
+            Phase::Open | Phase::Failed => Some(Err(Trouble::Failed)),
+        }
+    }
+
+    /// Whether a write is a call to the one inside: just where none has failed and a turn is left.
+    fn asks_to_write(&self) -> bool
+        ensures { IsTrue result ↔ ((phase_in self.now ≢ Phase.Failed) × (0 < turns_of self.now)) }
+    {
+        self.phase != Phase::Failed && self.turns > 0
+    }
+
+    /// Counts a call.
+    fn count_call(&mut self)
         ensures turns { turns_of self.new ≡ turns_of self.old - 1 }
         ensures others { (inner_of self.new ≡ inner_of self.old) × (phase_in self.new ≡ phase_in self.old) }
     {
-        let left = self.turns;
-        self.turns = left.saturating_sub(1);
-        left == 0
+        self.turns = self.turns.saturating_sub(1);
     }
 
     /// What was wrapped.
@@ -108,13 +125,11 @@ impl<R: Read> Source for Metered<R> {
     ghost known = { λ m. reader_of (R.remaining (inner_of m)) m };
 
     fn read(&mut self, buf: &mut [u8]) -> Result<usize, Trouble> {
-        let is_too_many = self.count_call();
-        let told = match self.phase {
-            Phase::Ended => Ok(0),
-            Phase::Open if !is_too_many => settled(
-                self.inner.read(buf).map_err(|error| error.kind()),
-            ),
-            Phase::Open | Phase::Failed => Err(Trouble::Failed),
+        let unasked = self.read_unasked();
+        self.count_call();
+        let told = match unasked {
+            Some(told) => told,
+            None => settled(self.inner.read(buf).map_err(|error| error.kind())),
         };
         self.phase = phase_after(told);
         told
@@ -127,8 +142,9 @@ impl<W: Write> Sink for Metered<W> {
     ghost known = { λ m. writer_of (W.contents (inner_of m)) m };
 
     fn write(&mut self, buf: &[u8]) -> Result<usize, Trouble> {
-        let is_too_many = self.count_call();
-        if is_too_many || self.phase == Phase::Failed {
+        let asks = self.asks_to_write();
+        self.count_call();
+        if !asks {
             self.phase = Phase::Failed;
             return Err(Trouble::Failed);
         }

@@ -1,5 +1,5 @@
 //! Writing a whole text.
-ghost use Rattle.std.specs.Prelude.{OnOk, OnErr};
+ghost use Rattle.std.specs.Prelude.{◌++◌, OnOk, OnErr};
 ghost use Rattle.tsc_stream.specs.Stream.{CouldNotWrite, HasWritten};
 
 use crate::stream::{Sink, Trouble};
@@ -24,4 +24,13 @@ pub fn write_output<W: Sink>(writer: &mut W, text: &[u8]) -> Result<(), WriteFai
         }
     }
     Ok(())
+}
+
+/// Writes two texts, one behind the other.
+pub fn write_both<W: Sink>(writer: &mut W, first: &[u8], second: &[u8]) -> Result<(), WriteFailed>
+    ensures ok { OnOk result (HasWritten (W.known writer.old) (W.known writer.new) (first.now ++ second.now)) }
+    ensures err { OnErr result (CouldNotWrite (W.known writer.old) (W.known writer.new) (first.now ++ second.now)) }
+{
+    write_output(writer, first)?;
+    write_output(writer, second)
 }

@@ -35,6 +35,21 @@ pub record Done (reader reader' : KnownReader) (writer writer' : KnownWriter) : 
   pub read : HasReadTrace reader reader' trace
   pub wrote : HasWritten writer writer' (replay_text trace)
 
+-- A reader told its end, and all that it had is no trace, for this reason.
+pub record HasReadNoTrace (fault : TraceFault) (reader reader' : KnownReader) : Type 0 where
+  pub input : List ℕ
+  pub read : HasRead reader reader' input
+  pub is_none : trace_of_bytes input ≡ Err fault
+  pub is_seen : fault ≢ trace_fault.NoMemory
+
+-- how reading a trace ended with this fault
+abbrev pub StopsReadingTrace : ReplayFault → KnownReader → KnownReader → Type 0
+StopsReadingTrace Read reader reader' = CouldNotRead reader reader'
+StopsReadingTrace TooLong reader reader' = HasReadTooMuch reader reader'
+StopsReadingTrace (Refused fault) reader reader' = HasReadNoTrace fault reader reader'
+StopsReadingTrace Write reader reader' = ⊥
+StopsReadingTrace NoMemory reader reader' = RanOutReading reader reader'
+
 -- A reader told its end, and all that it had is no trace, for this reason. Nothing was written.
 pub record RefusedAs (fault : TraceFault) (reader reader' : KnownReader) (writer writer' : KnownWriter) : Type 0 where
   pub input : List ℕ

@@ -17,7 +17,7 @@ mod replays;
 pub use log::{Line, Lines, Log, Said, Told, log_text};
 pub use log_reader::{LogFault, read_log};
 pub use player::{add_all_fitting, add_fitting, play};
-pub use replays::{OutFault, ReplayFault, replay, replay_stream, write_log};
+pub use replays::{OutFault, ReplayFault, read_trace_from, replay, replay_stream, write_log};
 pub use tsc_json::{Call, Kind, Lists, Marks, Trace, TraceFault};
 pub use tsc_reader::read_trace;
 pub use tsc_stream::{Metered, Sink, Source};

@@ -1,7 +1,7 @@
 //! Replays of recorded traces to a writer, and from a reader to a writer.
-ghost use Rattle.std.specs.Prelude.{◌≡◌, ◌++◌, Some, IfErr, OnOk, OnErr};
+ghost use Rattle.std.specs.Prelude.{◌≡◌, ◌++◌, Some, IfOk, IfErr, OnOk, OnErr};
 ghost use Rattle.tsc_trace.specs.LogText.{log_text};
-ghost use Rattle.tsc_trace.specs.Replay.{Done, StopsReplay, StopsWriting, fault_of_input, fault_of_output, fault_of_trace, fault_text, replay_text};
+ghost use Rattle.tsc_trace.specs.Replay.{Done, HasReadTrace, StopsReadingTrace, StopsReplay, StopsWriting, fault_of_input, fault_of_output, fault_of_trace, fault_text, replay_text};
 ghost use Rattle.tsc_stream.specs.Stream.{CouldNotWrite, HasWritten};
 ghost use Rattle.tsc_trace.specs.declared.replays.OutFault.TheVariants as out_fault;
 
@@ -14,7 +14,7 @@ use std::fmt;
 use thiserror::Error;
 use tsc_json::{Trace, TraceFault};
 use tsc_reader::read_trace;
-use tsc_stream::{InputFault, Sink, Source, WriteFailed, read_input, write_output};
+use tsc_stream::{InputFault, Sink, Source, WriteFailed, read_input, write_both, write_output};
 use tsc_time::NoMemory;
 
 /// Why a log was not written.
@@ -68,8 +68,7 @@ impl ReplayFault {
     {
         let mut digits = Buffer::new();
         let (text, number) = self.parts(&mut digits);
-        write_output(writer, text.as_bytes())?;
-        write_output(writer, number.as_bytes())
+        write_both(writer, text.as_bytes(), number.as_bytes())
     }
 
     /// The text of the fault in two parts, of which the second is a number or empty.
@@ -180,6 +179,17 @@ pub fn replay<W: Sink>(alloc: Global, trace: &Trace, writer: &mut W) -> Result<(
     write_log(alloc, &log, writer)
 }
 
+/// Reads a trace to the end of a reader. It is never [`ReplayFault::Write`].
+///
+/// The input is freed when it returns. Once a read has failed, no later call makes up for it.
+pub fn read_trace_from<R: Source>(alloc: Global, reader: &mut R) -> Result<Trace, ReplayFault>
+    ensures ok { IfOk result (λ trace. HasReadTrace (R.known reader.old) (R.known reader.new) trace) }
+    ensures err { IfErr result (λ fault. StopsReadingTrace fault (R.known reader.old) (R.known reader.new)) }
+{
+    let input = read_input(alloc, reader)?;
+    Ok(read_trace(alloc, &input)?)
+}
+
 /// Reads a trace to its end, and writes the text of the log of its replay on one thread.
 ///
 /// The input is freed before the replay begins. Once a read or a write has failed, no later call makes up
@@ -194,8 +204,6 @@ pub fn replay_stream<R: Source, W: Sink>(
     ensures err { IfErr result (λ fault. StopsReplay fault (R.known reader.old) (R.known reader.new)
         (W.known writer.old) (W.known writer.new)) }
 {
-    let input = read_input(alloc, reader)?;
-    let trace = read_trace(alloc, &input)?;
-    drop(input);
+    let trace = read_trace_from(alloc, reader)?;
     Ok(replay(alloc, &trace, writer)?)
 }

@@ -8,21 +8,19 @@
 //! standard error.
 #![tactic(auto)]
 
-use std::io;
 use std::process::ExitCode;
 use tsc_commands::program::program;
-use tsc_commands::{SystemFiles, fetch_words};
-use tsc_stream::Metered;
+use tsc_commands::{SystemFiles, fetch_words, standard_errors, standard_output};
 
 fn main(rt: HostRuntime) -> ExitCode {
-    let mut output = Metered::new(io::writer(&rt));
-    let mut errors = Metered::new(rt.stderr());
-    ExitCode::from(program(
+    let mut output = standard_output(rt.stdout());
+    let mut errors = standard_errors(rt.stderr());
+    program(
         &rt,
         rt.alloc(),
         fetch_words(&rt),
         &SystemFiles::of(&rt),
         &mut output,
         &mut errors,
-    ))
+    )
 }

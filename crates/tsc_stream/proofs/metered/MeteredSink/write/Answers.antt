@@ -2,5 +2,5 @@
 use Rattle.std.proofs.Common.{rules}
 use Rattle.tsc_stream.proofs.metered.MeteredSink.write.Goals as goal
 
-pub returns-else-eq-2-clause-bytes : goal.returns-else-eq-2-clause-bytes
-returns-else-eq-2-clause-bytes g c = search rules
+pub returns-else-eq-clause-bytes : goal.returns-else-eq-clause-bytes
+returns-else-eq-clause-bytes g c = search rules

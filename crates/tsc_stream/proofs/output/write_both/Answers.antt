@@ -2,7 +2,7 @@ use Rattle.std.proofs.Common.{rules}
 use Rattle.std.proofs.lemmas.Result.{on_err_weaker}
 use Rattle.tsc_stream.specs.Stream.{HasWritten}
 use Rattle.tsc_stream.proofs.WrittenSoFar.{CouldNotWrite-behind}
-use Rattle.tsc_check.proofs.streams.write_both.Goals as goal
+use Rattle.tsc_stream.proofs.output.write_both.Goals as goal
 
 pub returns-clause-err : goal.returns-clause-err
 returns-clause-err g c =

@@ -1,0 +1,15 @@
+//! Where the program writes: one place for logs and verdicts, and another for faults.
+//!
+//! Their types differ, so that neither can be handed on as the other.
+
+/// Where a log or a verdict goes, and nothing else.
+#[derive(Drop)]
+pub struct Output<W> {
+    pub writer: W,
+}
+
+/// Where a fault is told.
+#[derive(Drop)]
+pub struct Errors<E> {
+    pub writer: E,
+}

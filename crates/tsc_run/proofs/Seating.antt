@@ -1,0 +1,120 @@
+-- How many Adds the seats of lists' runs count: no more than the lists have, and fewer where an Add was refused. So a history that may have as many Adds as the lists is never full.
+use Rattle.std.proofs.Common.{◌≡◌, ◌∙◌, sym, ap, subst, ℕ, ◌+◌, ◌<◌, ◌≤◌, List, [], ◌∷◌, ◌++◌, length, drop, get_or, length-append, arith, Vec, Global}
+use Rattle.std.specs.Prelude.{cond, Ok, Err, IfOk, IfErr}
+use Rattle.std.proofs.lemmas.List.{length-map}
+use Rattle.std.proofs.lemmas.List.Sums.{sum_by-cons, sum_by_push}
+use Rattle.std.proofs.lemmas.List.Elements.{All-append, All-cons, All-nil, All-contains, Contains-append_left, Contains-push}
+use Rattle.tsc_desk.proofs.Prefixes.{begins_length}
+use Rattle.tsc_cache.specs.History.{BeginsWith}
+use Rattle.tsc_json.specs.Calls.{adds}
+use Rattle.tsc_json.specs.declared.trace.Call.{Call}
+use Rattle.tsc_trace.specs.declared.log.Line.{Line}
+use Rattle.tsc_trace.specs.declared.log.Said.{Said}
+use Rattle.tsc_check.specs.TrueLog.{adds_of_list, adds_of_lists}
+use Rattle.tsc_shared.specs.Seats.{SharedView, SeatView, new_seat}
+use Rattle.tsc_shared.specs.Answers.{GoesOn, Closes}
+use Rattle.tsc_shared.specs.declared.answers.Closed.{Closed}
+use Rattle.tsc_run.specs.declared.fault.RunFault.{RunFault}
+use Rattle.tsc_run.specs.declared.fault.RunFault.TheVariants as fault
+use Rattle.tsc_run.specs.Ending.{CanEndRun}
+use Rattle.tsc_run.specs.Runs.{Says, Runs, RunsAll, Told, StopsList, EndsList, IsFullEarly, StopsLists, EndsLists, Joins, counted}
+use Rattle.tsc_run.proofs.Running.{left_from, one_list_more, calls_in}
+use Rattle.tsc_run.proofs.Truth.{count_after}
+
+-- ---- one list
+
+-- The seat's Adds so far, with those of the calls that are left, are all that the list has.
+abbrev pub IsLeft : SeatView → List Call → SeatView → ℕ → Type 0
+IsLeft start calls seat index = seat.count + adds_of_list (drop index calls) ≡ start.count + adds_of_list calls
+
+adds_left : (calls : List Call) (index : ℕ) (call : Call) → index < length calls → call ≡ get_or calls index call → adds_of_list (drop index calls) ≡ cond (adds call) 1 0 + adds_of_list (drop (index + 1) calls)
+adds_left calls index call within here = ap adds_of_list (left_from calls index call within here) ∙ sum_by-cons (λ (c : Call). cond (adds c) 1 0) call (drop (index + 1) calls)
+
+-- one call more
+pub one_less_left : (start seat seat' : SeatView) (calls : List Call) (index : ℕ) (call : Call) (answer : Said) → index < length calls → call ≡ get_or calls index call → GoesOn seat seat' → Says seat seat' call answer
+    → IsLeft start calls seat index → IsLeft start calls seat' (index + 1)
+one_less_left start seat seat' calls index call answer within here goes says left = omega (arith, left, adds_left calls index call within here, count_after seat seat' call answer goes says)
+
+-- all calls were made
+pub ends_whole : (start seat : SeatView) (calls : List Call) (lines : Vec Line Global) (index : ℕ) → seat.cache ≡ start.cache → IsLeft start calls seat index → Runs start 0 calls lines.items seat → EndsList start calls (Ok lines) seat
+ends_whole start seat calls lines index same left run = record { cache = same; few = omega (arith, left); ran = run; stopped = tt }
+
+-- ---- lists
+
+adds_push : (lists : List (List Call)) (calls : List Call) → adds_of_lists (lists ++ calls ∷ []) ≡ adds_of_lists lists + adds_of_list calls
+adds_push [] calls = omega arith
+adds_push (first ∷ lists) calls = omega (arith, adds_push lists calls)
+
+module _ (cache : SharedView) (others : List (List Call)) (calls : List Call) (seats : List SeatView) (seat : SeatView) where
+  abbrev all_lists : List (List Call)
+  all_lists = others ++ calls ∷ []
+
+  abbrev all_seats : List SeatView
+  all_seats = seats ++ seat ∷ []
+
+  count_push : counted all_seats ≡ counted seats + seat.count
+  count_push = sum_by_push (λ (s : SeatView). s.count) seats seat
+
+  list_stopped : (why : RunFault) → StopsList why (new_seat cache (length others)) calls seat → counted seats ≤ adds_of_lists others → StopsLists why cache all_lists all_seats
+  list_stopped fault.HistoryFull stopped few =
+      record { seat = seat; there = Contains-push seats seat; full = stopped.1; fewer = omega (arith, stopped.0, few, count_push, adds_push others calls) }
+  list_stopped fault.NoMemory stopped few = tt
+  list_stopped (fault.Open why) stopped few = absurd stopped
+  list_stopped fault.Gone stopped few = absurd stopped
+  list_stopped fault.NoThread stopped few = absurd stopped
+
+  others_stopped : (why : RunFault) → StopsLists why cache others seats → seat.count ≤ adds_of_list calls → StopsLists why cache all_lists all_seats
+  others_stopped fault.HistoryFull stopped few =
+      record { seat = stopped.seat; there = Contains-append_left seats (seat ∷ []) stopped.seat stopped.there; full = stopped.full; fewer = omega (arith, stopped.fewer, few, count_push, adds_push others calls) }
+  others_stopped fault.NoMemory stopped few = tt
+  others_stopped (fault.Open why) stopped few = absurd stopped
+  others_stopped fault.Gone stopped few = absurd stopped
+  others_stopped fault.NoThread stopped few = absurd stopped
+
+  both_ran : (told more joined : Told) → Joins told more joined → IfOk told (λ lines. RunsAll cache 0 others lines.items seats) → IfOk more (λ lines. Runs (new_seat cache (length others)) 0 calls lines.items seat)
+      → IfOk joined (λ lines. RunsAll cache 0 all_lists lines.items all_seats)
+  both_ran (Ok told) (Ok more) (Ok joined) same runs run = subst (λ ls. RunsAll cache 0 all_lists ls all_seats) (sym same) (one_list_more cache 0 others told.items more.items seats calls seat runs (subst (λ n. Runs (new_seat cache n) 0 calls more.items seat) (omega arith) run))
+  both_ran (Ok told) (Ok more) (Err why) same runs run = tt
+  both_ran (Ok told) (Err why) joined same runs run = subst (λ (t : Told). IfOk t (λ lines. RunsAll cache 0 all_lists lines.items all_seats)) (sym same) tt
+  both_ran (Err why) more joined same runs run = subst (λ (t : Told). IfOk t (λ lines. RunsAll cache 0 all_lists lines.items all_seats)) (sym same) tt
+
+  one_stopped : (told more joined : Told) → Joins told more joined → IfErr told (λ why. StopsLists why cache others seats) → IfErr more (λ why. StopsList why (new_seat cache (length others)) calls seat)
+      → counted seats ≤ adds_of_lists others → seat.count ≤ adds_of_list calls → IfErr joined (λ why. StopsLists why cache all_lists all_seats)
+  one_stopped (Ok told) (Ok more) (Ok joined) same stop stopped few own = tt
+  one_stopped (Ok told) (Ok more) (Err why) same stop stopped few own = subst (λ w. StopsLists w cache all_lists all_seats) (sym same) tt
+  one_stopped (Ok told) (Err why) joined same stop stopped few own = subst (λ (t : Told). IfErr t (λ w. StopsLists w cache all_lists all_seats)) (sym same) (list_stopped why stopped few)
+  one_stopped (Err why) more joined same stop stopped few own = subst (λ (t : Told). IfErr t (λ w. StopsLists w cache all_lists all_seats)) (sym same) (others_stopped why stop own)
+
+  list_joined : (told more joined : Told) → EndsLists cache others told seats → EndsList (new_seat cache (length others)) calls more seat → Joins told more joined → EndsLists cache all_lists joined all_seats
+  list_joined told more joined ends end same = record {
+    of_cache = All-append (λ (s : SeatView). s.cache ≡ cache) seats (seat ∷ []) ends.of_cache (All-cons (λ (s : SeatView). s.cache ≡ cache) seat [] end.cache (All-nil (λ (s : SeatView). s.cache ≡ cache)));
+    as_many = omega (arith, ends.as_many, length-append seats (seat ∷ []), length-append others (calls ∷ []));
+    few = omega (arith, ends.few, end.few, count_push, adds_push others calls);
+    ran = both_ran told more joined same ends.ran end.ran;
+    stopped = one_stopped told more joined same ends.stopped end.stopped ends.few (omega (arith, end.few));
+  }
+
+-- the runs with that of the last list
+pub one_list_joined : (cache : SharedView) (lists others : List (Vec Call Global)) (calls : List Call) (told more joined : Told) (seats seats' : List SeatView) (from seat : SeatView)
+    → calls_in lists ≡ calls_in others ++ calls ∷ [] → from ≡ new_seat cache (length others) → EndsLists cache (calls_in others) told seats → EndsList from calls more seat → Joins told more joined
+    → seats' ≡ seats ++ seat ∷ [] → EndsLists cache (calls_in lists) joined seats'
+one_list_joined cache lists others calls told more joined seats seats' from seat parted new ends end same pushed =
+    let long : length others ≡ length (calls_in others) = sym (length-map others (λ (calls : Vec Call Global). calls.items)) in
+    let at : EndsList (new_seat cache (length (calls_in others))) calls more seat = subst (λ s. EndsList s calls more seat) (new ∙ ap (new_seat cache) long) end in
+    rw (parted, pushed) (list_joined cache (calls_in others) calls seats seat told more joined ends at same)
+
+-- ---- closing
+
+-- Where there may be as many Adds as the lists have, none finds the history full.
+pub never_full : (cache : SharedView) (lists : List (List Call)) (seats : List SeatView) (closed : Closed) → cache.limit ≡ adds_of_lists lists → IsFullEarly cache lists seats → Closes cache seats closed → ⊥
+never_full cache lists seats closed limit early closes =
+    let begins = All-contains (λ (s : SeatView). BeginsWith closes.history s.seen) seats early.seat closes.begins early.there in
+    omega (arith, limit, early.full, early.fewer, closes.counted, closes.adds, begins_length closes.history early.seat.seen begins)
+
+-- so a run does not end with that
+pub can_end : (why : RunFault) (cache : SharedView) (lists : List (List Call)) (seats : List SeatView) (closed : Closed) → cache.limit ≡ adds_of_lists lists → StopsLists why cache lists seats → Closes cache seats closed → CanEndRun why
+can_end fault.HistoryFull cache lists seats closed limit stopped closes = never_full cache lists seats closed limit stopped closes
+can_end fault.NoMemory cache lists seats closed limit stopped closes = tt
+can_end (fault.Open why) cache lists seats closed limit stopped closes = absurd stopped
+can_end fault.Gone cache lists seats closed limit stopped closes = absurd stopped
+can_end fault.NoThread cache lists seats closed limit stopped closes = absurd stopped
