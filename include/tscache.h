@@ -22,16 +22,31 @@
  *     reads, writes or frees it. A place may be moved (the old memory is a place no more); it is never copied and used twice.
  *   - Each pointer leads to as much as its type and the length after it say, which nothing else writes until the call returns.
  *     What a call writes (a place, a number, an `out`) overlaps nothing else that it is given; `from` and `to` may be the same
- *     bytes. No pointer is null, and none but those of bytes and marks has a length. `tsc_try_add`, `tsc_try_add_all` and
- *     `tsc_try_get_max` below test for null, and take null for no bytes.
+ *     bytes. No pointer is null, and none but those of bytes and marks has a length. The calls with `_try_` in their
+ *     names, below, test for null, and take null for no bytes.
  *   - The calls of one place come one at a time, and each sees what the last one did: one thread, or a lock round each call, or
- *     the start or the end of a thread between them. A place may go from thread to thread in this way. Different places have
- *     nothing in common, and may be used at once.
+ *     the start or the end of a thread between them. A place may go from thread to thread in this way. Different places may be
+ *     used at once, also where both have seats of one shared cache, which is all that they can have in common.
  *   - No call comes from a signal handler, or from the forked child of a process that has threads.
  *   - `malloc`, `realloc` and `free` are one allocator, which aligns a block to each power of two up to 16 that divides its size.
  *
  * Who owns what: a call copies the bytes of the keys, and keeps no pointer that it is given. All memory that it takes belongs to
- * the place until `tsc_close` (one cache) or `tsc_free` (all of them, and the place's own).
+ * the place until `tsc_close` (one cache) or `tsc_free` (all of them, and the place's own). A shared cache belongs to its number and
+ * to its seats together, and is freed with the last of these.
+ *
+ * A cache that threads share has seats, each for one thread at a time. A program opens it, and moves each seat to a place of its
+ * own, which it hands to a thread:
+ *
+ *     uint64_t n, seat, at, seen, adds;
+ *     static tsc_place theirs;                                 // the place of another thread
+ *     if (tsc_open_shared(&place, 4096, 65536, 2, 10000000000, &low, 2, 1000000, &n)) return 1;   // seats n + 1 and n + 2
+ *     if (tsc_move(&place, n + 2, &theirs, &seat)) return 1;   // the other thread's seat is number `seat` of `theirs`
+ *     while (tsc_seat_try_add(&place, n + 1, "a", 1, "c", 1, TSC_EXCLUDE_TO, &read, &now, 100, &at, &added) == TSC_BUSY)
+ *         thrd_yield();
+ *     tsc_seat_try_get_max(&theirs, seat, "b", 1, NULL, 0, TSC_POINT, &seen, &latest);            // in the other thread
+ *     tsc_seat_close(&theirs, seat);                           // each seat is handed in,
+ *     tsc_seat_close(&place, n + 1);
+ *     tsc_close_shared(&place, n, &adds);                      // and then there were so many Adds
  */
 #ifndef TSCACHE_H
 #define TSCACHE_H
@@ -44,10 +59,11 @@
 extern "C" {
 #endif
 
-/* What a call answers: TSC_OK, or why it was refused. A call that is refused changes no cache and writes nothing to `out`. */
+/* What a call answers: TSC_OK, or why it was refused. A call that is refused adds nothing to a cache, and writes nothing but to the
+ * place. */
 enum {
     TSC_OK = 0,
-    TSC_CLOSED = 1,       /* no cache in this place has this number: it was closed, or never given */
+    TSC_CLOSED = 1,       /* the number names nothing in this place, or nothing of this kind: it was closed, moved, or never given */
     TSC_TIME = 2,         /* a wall time is above 2^63 - 1, or a logical count above 2^31 - 1 */
     TSC_ENDS = 3,         /* `ends` is none of the sums named below */
     TSC_KEY_TOO_LONG = 4, /* a key has more than 4096 bytes */
@@ -58,7 +74,11 @@ enum {
     TSC_MIN_PAGES = 9,    /* min_pages is 0 or above 64 */
     TSC_RETENTION = 10,   /* retention is above 2^63 - 1 */
     TSC_NO_MEMORY = 11,   /* malloc or realloc refused */
-    TSC_NULL = 255        /* a pointer is null: told by tsc_try_add, tsc_try_add_all and tsc_try_get_max alone */
+    TSC_SEATS = 12,       /* there were to be no seats, or more than 64 */
+    TSC_STILL_OUT = 13,   /* a seat of the shared cache was not handed in */
+    TSC_BUSY = 14,        /* others were in the way at each of so many tries: another Add, or a lookup */
+    TSC_FULL = 15,        /* the shared cache has had as many Adds as `limit` says */
+    TSC_NULL = 255        /* a pointer is null: told by the calls with `_try_` in their names alone */
 };
 
 /* The ends of a span: TSC_POINT, or TSC_ONWARD with or without TSC_EXCLUDE_FROM, or any sum of the first two, 0 too. */
@@ -133,11 +153,44 @@ uint32_t tsc_low_water(tsc_place *place, uint64_t number, tsc_time *out);
 /* What can be counted. */
 uint32_t tsc_figures_of(tsc_place *place, uint64_t number, tsc_figures *out);
 
-/* Frees a cache. Its number is answered by TSC_CLOSED from then on. */
+/* Frees a cache that `tsc_open` opened. Its number is answered by TSC_CLOSED from then on. */
 uint32_t tsc_close(tsc_place *place, uint64_t number);
 
-/* Frees all that the place owns. It is as zeros then, and may be used anew: numbers count from 0 again. */
+/* Frees all that the place owns, and hands in the seats that lie there. It is as zeros then, and may be used anew: numbers count
+ * from 0 again. */
 void tsc_free(tsc_place *place);
+
+/* What a number names goes to another place, where it gets the next number, which is written. The number names nothing from then
+ * on. The two places are different ones. */
+uint32_t tsc_move(tsc_place *place, uint64_t number, tsc_place *other, uint64_t *other_number);
+
+/* Opens a cache that threads share, and writes its number. Its `seats` have the numbers behind that, in their order: 1 to 64 of them.
+ * There may be `limit` Adds. What else it takes is as with `tsc_open`. */
+uint32_t tsc_open_shared(tsc_place *place, uint32_t page_first, uint32_t page_max, uint32_t min_pages, uint64_t retention,
+                         const tsc_time *low_water, uint32_t seats, uint64_t limit, uint64_t *number);
+
+/* The calls of a seat. Each answers after a history of Adds, of whichever seats, that begins with all that the seat had seen before:
+ * its own Adds, and what its answers came from. None waits.
+ *
+ * An Add takes its turn. It tries so many times to begin, where another seat is at it, and looks so many times at each seat that is inside a
+ * lookup. Where others are in the way each time it is refused by TSC_BUSY and may be tried again; with 0 tries it always is. TSC_FULL
+ * comes where there were `limit` Adds. `place_in_history` is where this one stands among all Adds, from 0 on. Lookups wait for nobody and are never
+ * refused for others. `seen` is how many Adds the seat has seen then, which never goes back. */
+uint32_t tsc_seat_add(tsc_place *place, uint64_t seat, const uint8_t *from, size_t from_len, const uint8_t *to, size_t to_len,
+                      uint32_t ends, const tsc_value *value, const tsc_time *now, uint32_t tries, uint64_t *place_in_history,
+                      tsc_added *out);
+uint32_t tsc_seat_add_all(tsc_place *place, uint64_t seat, const uint8_t *keys, size_t keys_len, const tsc_mark *marks,
+                          size_t marks_len, const tsc_time *now, uint32_t tries, uint64_t *place_in_history, tsc_added *out);
+uint32_t tsc_seat_get_max(tsc_place *place, uint64_t seat, const uint8_t *from, size_t from_len, const uint8_t *to, size_t to_len,
+                          uint32_t ends, uint64_t *seen, tsc_value *out);
+uint32_t tsc_seat_low_water(tsc_place *place, uint64_t seat, uint64_t *seen, tsc_time *out);
+
+/* Hands in a seat. Its number names nothing from then on. */
+uint32_t tsc_seat_close(tsc_place *place, uint64_t seat);
+
+/* Closes a shared cache where all its seats were handed in, and writes how many Adds it had. Else it is refused by TSC_STILL_OUT and
+ * stays as it is; so it is too where a call that hands in the last seat has not returned yet. */
+uint32_t tsc_close_shared(tsc_place *place, uint64_t number, uint64_t *length);
 
 /* The same calls where a pointer may be null. */
 
@@ -171,6 +224,33 @@ static inline uint32_t tsc_try_get_max(tsc_place *place, uint64_t number, const 
     return tsc_get_max(place, number, tsc_bytes(from), from_len, tsc_bytes(to), to_len, ends, out);
 }
 
+static inline uint32_t tsc_seat_try_add(tsc_place *place, uint64_t seat, const void *from, size_t from_len, const void *to,
+                                        size_t to_len, uint32_t ends, const tsc_value *value, const tsc_time *now, uint32_t tries,
+                                        uint64_t *place_in_history, tsc_added *out)
+{
+    if (!place || !value || !now || !place_in_history || !out || (!from && from_len) || (!to && to_len))
+        return TSC_NULL;
+    return tsc_seat_add(place, seat, tsc_bytes(from), from_len, tsc_bytes(to), to_len, ends, value, now, tries, place_in_history, out);
+}
+
+static inline uint32_t tsc_seat_try_add_all(tsc_place *place, uint64_t seat, const void *keys, size_t keys_len, const tsc_mark *marks,
+                                            size_t marks_len, const tsc_time *now, uint32_t tries, uint64_t *place_in_history,
+                                            tsc_added *out)
+{
+    static const tsc_mark none = {0, 0, 0, 0, {0, 0, {0}}, 0};
+    if (!place || !now || !place_in_history || !out || (!keys && keys_len) || (!marks && marks_len))
+        return TSC_NULL;
+    return tsc_seat_add_all(place, seat, tsc_bytes(keys), keys_len, marks ? marks : &none, marks_len, now, tries, place_in_history, out);
+}
+
+static inline uint32_t tsc_seat_try_get_max(tsc_place *place, uint64_t seat, const void *from, size_t from_len, const void *to,
+                                            size_t to_len, uint32_t ends, uint64_t *seen, tsc_value *out)
+{
+    if (!place || !seen || !out || (!from && from_len) || (!to && to_len))
+        return TSC_NULL;
+    return tsc_seat_get_max(place, seat, tsc_bytes(from), from_len, tsc_bytes(to), to_len, ends, seen, out);
+}
+
 /* The name of what a call answered. */
 static inline const char *tsc_text(uint32_t answer)
 {
@@ -187,6 +267,10 @@ static inline const char *tsc_text(uint32_t answer)
     case TSC_MIN_PAGES: return "min_pages is 1 to 64";
     case TSC_RETENTION: return "retention is at most 2^63 - 1 nanoseconds";
     case TSC_NO_MEMORY: return "out of memory";
+    case TSC_SEATS: return "seats are 1 to 64";
+    case TSC_STILL_OUT: return "a seat is still out";
+    case TSC_BUSY: return "others were in the way";
+    case TSC_FULL: return "there are as many Adds as there may be";
     case TSC_NULL: return "a pointer is null";
     default: return "no such answer";
     }

@@ -87,7 +87,7 @@ type Figures struct {
 	Pages, Rotations uint64
 }
 
-// Refused is why a call was refused, by its code in tscache.h. A call that is refused changes nothing.
+// Refused is why a call was refused, by its code in tscache.h. A call that is refused adds nothing.
 type Refused uint32
 
 // The codes of tscache.h.
@@ -101,6 +101,10 @@ const (
 	MinPages   Refused = C.TSC_MIN_PAGES
 	Retention  Refused = C.TSC_RETENTION
 	NoMemory   Refused = C.TSC_NO_MEMORY
+	Seats      Refused = C.TSC_SEATS
+	StillOut   Refused = C.TSC_STILL_OUT
+	Busy       Refused = C.TSC_BUSY
+	Full       Refused = C.TSC_FULL
 )
 
 func (r Refused) Error() string {
@@ -122,7 +126,7 @@ type Cache struct {
 
 // Open makes a cache to which nothing was added. Close frees it, and else the collector does.
 func Open(config Config) (*Cache, error) {
-	place := (*C.tsc_place)(C.calloc(1, C.size_t(unsafe.Sizeof(C.tsc_place{}))))
+	place := newPlace()
 	if place == nil {
 		return nil, NoMemory
 	}
@@ -168,20 +172,7 @@ func (c *Cache) AddAll(marks []Mark, now Time) (Added, error) {
 	if c.place == nil {
 		return Added{}, Closed
 	}
-	var keys []byte
-	asked := make([]C.tsc_mark, len(marks))
-	for i, m := range marks {
-		asked[i] = C.tsc_mark{
-			from_at: C.size_t(len(keys)), from_len: C.size_t(len(m.Span.from)),
-			to_at: C.size_t(len(keys) + len(m.Span.from)), to_len: C.size_t(len(m.Span.to)),
-			value: cValue(m.Value), ends: m.Span.ends,
-		}
-		keys = append(append(keys, m.Span.from...), m.Span.to...)
-	}
-	var first *C.tsc_mark
-	if len(asked) > 0 {
-		first = &asked[0]
-	}
+	keys, asked, first := flat(marks)
 	at := cTime(now)
 	var out C.tsc_added
 	code := C.tsc_try_add_all(c.place, c.number, bytes(keys), C.size_t(len(keys)), first, C.size_t(len(asked)), &at, &out)
@@ -204,11 +195,7 @@ func (c *Cache) GetMax(span Span) (Value, error) {
 	if err := done(code); err != nil {
 		return Value{}, err
 	}
-	value := Value{Time: Time{uint64(out.wall), uint32(out.logical)}}
-	for i, b := range out.owner {
-		value.Owner[i] = byte(b)
-	}
-	return value, nil
+	return goValue(out), nil
 }
 
 // LowWater is where the floor stands.
@@ -233,6 +220,177 @@ func (c *Cache) Figures() (Figures, error) {
 	return Figures{uint64(out.pages), uint64(out.rotations)}, done(code)
 }
 
+// Shared is a timestamp cache that goroutines share, for who opened it. They use it by its seats.
+type Shared struct {
+	place  *C.tsc_place
+	number C.uint64_t
+}
+
+// Seat is a seat of a shared cache, in a place of its own. Its calls come one at a time; those of different seats may come at once.
+type Seat struct {
+	place  *C.tsc_place
+	number C.uint64_t
+}
+
+// OpenShared makes a cache to which nothing was added, and its seats, 1 to 64 of them. There may be limit Adds. Close frees each of
+// them, and else the collector does.
+func OpenShared(config Config, seats uint32, limit uint64) (*Shared, []*Seat, error) {
+	place := newPlace()
+	if place == nil {
+		return nil, nil, NoMemory
+	}
+	s := &Shared{place: place}
+	runtime.SetFinalizer(s, (*Shared).free)
+	low := cTime(config.LowWater)
+	code := C.tsc_open_shared(place, C.uint32_t(config.PageFirst), C.uint32_t(config.PageMax), C.uint32_t(config.MinPages), C.uint64_t(config.Retention), &low, C.uint32_t(seats), C.uint64_t(limit), &s.number)
+	if err := done(code); err != nil {
+		s.free()
+		return nil, nil, err
+	}
+	all := make([]*Seat, seats)
+	for i := range all {
+		seat, err := s.seat(C.uint64_t(i) + 1)
+		if err != nil {
+			s.free()
+			return nil, nil, err
+		}
+		all[i] = seat
+	}
+	return s, all, nil
+}
+
+func (s *Shared) seat(i C.uint64_t) (*Seat, error) {
+	place := newPlace()
+	if place == nil {
+		return nil, NoMemory
+	}
+	seat := &Seat{place: place}
+	runtime.SetFinalizer(seat, (*Seat).Close)
+	if err := done(C.tsc_move(s.place, s.number+i, place, &seat.number)); err != nil {
+		seat.Close()
+		return nil, err
+	}
+	return seat, nil
+}
+
+func (s *Shared) free() {
+	if s.place == nil {
+		return
+	}
+	C.tsc_free(s.place)
+	C.free(unsafe.Pointer(s.place))
+	s.place = nil
+	runtime.SetFinalizer(s, nil)
+}
+
+// Close frees the cache, and tells how many Adds there were. It is refused with StillOut where a seat was not closed, and nothing is changed then.
+func (s *Shared) Close() (uint64, error) {
+	if s.place == nil {
+		return 0, Closed
+	}
+	var length C.uint64_t
+	if err := done(C.tsc_close_shared(s.place, s.number, &length)); err != nil {
+		return 0, err
+	}
+	s.free()
+	return uint64(length), nil
+}
+
+// Close hands the seat in. Other calls are then refused with Closed, and a second Close does nothing.
+func (s *Seat) Close() {
+	if s.place == nil {
+		return
+	}
+	C.tsc_free(s.place)
+	C.free(unsafe.Pointer(s.place))
+	s.place = nil
+	runtime.SetFinalizer(s, nil)
+}
+
+// Add adds a span that was read, and tells which place the Add has among all of the cache, counted from 0. It waits for nobody: where others
+// are in the way at each of so many tries it is refused with Busy, and may be tried again.
+func (s *Seat) Add(span Span, value Value, now Time, tries uint32) (uint64, Added, error) {
+	if s.place == nil {
+		return 0, Added{}, Closed
+	}
+	v, at := cValue(value), cTime(now)
+	var place C.uint64_t
+	var out C.tsc_added
+	code := C.tsc_seat_try_add(s.place, s.number, bytes(span.from), C.size_t(len(span.from)), bytes(span.to), C.size_t(len(span.to)), span.ends, &v, &at, C.uint32_t(tries), &place, &out)
+	runtime.KeepAlive(s)
+	if err := done(code); err != nil {
+		return 0, Added{}, err
+	}
+	return uint64(place), added(out), nil
+}
+
+// AddAll adds several marks as one Add, all of them or none, as Add does.
+func (s *Seat) AddAll(marks []Mark, now Time, tries uint32) (uint64, Added, error) {
+	if s.place == nil {
+		return 0, Added{}, Closed
+	}
+	keys, asked, first := flat(marks)
+	at := cTime(now)
+	var place C.uint64_t
+	var out C.tsc_added
+	code := C.tsc_seat_try_add_all(s.place, s.number, bytes(keys), C.size_t(len(keys)), first, C.size_t(len(asked)), &at, C.uint32_t(tries), &place, &out)
+	runtime.KeepAlive(s)
+	if err := done(code); err != nil {
+		return 0, Added{}, err
+	}
+	return uint64(place), added(out), nil
+}
+
+// GetMax is the latest time on a span, and how many Adds the seat has seen then. It waits for nobody.
+func (s *Seat) GetMax(span Span) (Value, uint64, error) {
+	if s.place == nil {
+		return Value{}, 0, Closed
+	}
+	var seen C.uint64_t
+	var out C.tsc_value
+	code := C.tsc_seat_try_get_max(s.place, s.number, bytes(span.from), C.size_t(len(span.from)), bytes(span.to), C.size_t(len(span.to)), span.ends, &seen, &out)
+	runtime.KeepAlive(s)
+	if err := done(code); err != nil {
+		return Value{}, 0, err
+	}
+	return goValue(out), uint64(seen), nil
+}
+
+// LowWater is where the floor stands, and how many Adds the seat has seen then.
+func (s *Seat) LowWater() (Time, uint64, error) {
+	if s.place == nil {
+		return Time{}, 0, Closed
+	}
+	var seen C.uint64_t
+	var out C.tsc_time
+	code := C.tsc_seat_low_water(s.place, s.number, &seen, &out)
+	runtime.KeepAlive(s)
+	return Time{uint64(out.wall), uint32(out.logical)}, uint64(seen), done(code)
+}
+
+func newPlace() *C.tsc_place {
+	return (*C.tsc_place)(C.calloc(1, C.size_t(unsafe.Sizeof(C.tsc_place{}))))
+}
+
+// flat gives the keys of some marks, one behind the other, and the marks with their places there, and the first of these.
+func flat(marks []Mark) ([]byte, []C.tsc_mark, *C.tsc_mark) {
+	var keys []byte
+	asked := make([]C.tsc_mark, len(marks))
+	for i, m := range marks {
+		asked[i] = C.tsc_mark{
+			from_at: C.size_t(len(keys)), from_len: C.size_t(len(m.Span.from)),
+			to_at: C.size_t(len(keys) + len(m.Span.from)), to_len: C.size_t(len(m.Span.to)),
+			value: cValue(m.Value), ends: m.Span.ends,
+		}
+		keys = append(append(keys, m.Span.from...), m.Span.to...)
+	}
+	var first *C.tsc_mark
+	if len(asked) > 0 {
+		first = &asked[0]
+	}
+	return keys, asked, first
+}
+
 func bytes(b []byte) unsafe.Pointer {
 	if len(b) == 0 {
 		return nil
@@ -250,6 +408,14 @@ func cValue(v Value) C.tsc_value {
 		out.owner[i] = C.uint8_t(b)
 	}
 	return out
+}
+
+func goValue(v C.tsc_value) Value {
+	value := Value{Time: Time{uint64(v.wall), uint32(v.logical)}}
+	for i, b := range v.owner {
+		value.Owner[i] = byte(b)
+	}
+	return value
 }
 
 func added(out C.tsc_added) Added {

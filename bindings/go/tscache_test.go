@@ -100,3 +100,49 @@ func TestRefusals(t *testing.T) {
 		t.Error(Closed.Error())
 	}
 }
+
+func TestSeats(t *testing.T) {
+	config := Config{PageFirst: 4096, PageMax: 65536, MinPages: 2, Retention: 10, LowWater: Time{5, 0}}
+	if _, _, err := OpenShared(config, 65, 9); err != Seats {
+		t.Errorf("got %v", err)
+	}
+	shared, seats, err := OpenShared(config, 4, 1000)
+	if err != nil {
+		t.Fatal(err)
+	}
+	if _, err := shared.Close(); err != StillOut {
+		t.Errorf("got %v", err)
+	}
+	accepted := make(chan uint64)
+	for _, seat := range seats {
+		go func(seat *Seat) {
+			defer seat.Close()
+			var n uint64
+			for wall := uint64(20); wall < 120; wall++ {
+				_, a, err := seat.Add(Point([]byte("a")), at(wall, one), Time{20, 0}, 8)
+				if err == Busy {
+					continue
+				}
+				if err != nil || !a.Kept {
+					t.Errorf("got %v, %v", a, err)
+				}
+				n++
+				if v, _, err := seat.GetMax(Point([]byte("a"))); err != nil || v.Time.Wall < wall {
+					t.Errorf("got %v, %v", v, err)
+				}
+			}
+			if _, seen, err := seat.LowWater(); err != nil || seen < n {
+				t.Errorf("got %v, %v", seen, err)
+			}
+			seat.Close()
+			accepted <- n
+		}(seat)
+	}
+	var all uint64
+	for range seats {
+		all += <-accepted
+	}
+	if n, err := shared.Close(); err != nil || n != all {
+		t.Errorf("got %v, %v", n, err)
+	}
+}

@@ -60,4 +60,21 @@ extern "C" {
     pub fn tsc_low_water(place: *mut Place, number: u64, out: *mut Time) -> u32;
     pub fn tsc_figures_of(place: *mut Place, number: u64, out: *mut Figures) -> u32;
     pub fn tsc_free(place: *mut Place);
+    pub fn tsc_move(place: *mut Place, number: u64, other: *mut Place, other_number: *mut u64) -> u32;
+    pub fn tsc_open_shared(
+        place: *mut Place, page_first: u32, page_max: u32, min_pages: u32, retention: u64, low_water: *const Time, seats: u32, limit: u64, number: *mut u64,
+    ) -> u32;
+    pub fn tsc_seat_add(
+        place: *mut Place, seat: u64, from: *const u8, from_len: usize, to: *const u8, to_len: usize, ends: u32, value: *const Value, now: *const Time, tries: u32,
+        place_in_history: *mut u64, out: *mut Added,
+    ) -> u32;
+    pub fn tsc_seat_add_all(
+        place: *mut Place, seat: u64, keys: *const u8, keys_len: usize, marks: *const Mark, marks_len: usize, now: *const Time, tries: u32, place_in_history: *mut u64,
+        out: *mut Added,
+    ) -> u32;
+    pub fn tsc_seat_get_max(
+        place: *mut Place, seat: u64, from: *const u8, from_len: usize, to: *const u8, to_len: usize, ends: u32, seen: *mut u64, out: *mut Value,
+    ) -> u32;
+    pub fn tsc_seat_low_water(place: *mut Place, seat: u64, seen: *mut u64, out: *mut Time) -> u32;
+    pub fn tsc_close_shared(place: *mut Place, number: u64, length: *mut u64) -> u32;
 }

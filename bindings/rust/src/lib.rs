@@ -140,7 +140,7 @@ pub struct Figures {
     pub rotations: u64,
 }
 
-/// Why a call was refused. A call that is refused changes nothing.
+/// Why a call was refused. A call that is refused adds nothing.
 #[derive(Clone, Copy, Debug, PartialEq, Eq, Hash)]
 pub enum Error {
     /// A time is out of range.
@@ -159,6 +159,12 @@ pub enum Error {
     Retention,
     /// Memory was refused.
     NoMemory,
+    /// A shared cache has 1 to 64 seats.
+    Seats,
+    /// Others were in the way at each try.
+    Busy,
+    /// A shared cache has had as many Adds as it may have.
+    Full,
     /// A code of the library that no call of this crate brings about.
     Other(u32),
 }
@@ -174,6 +180,9 @@ impl fmt::Display for Error {
             Error::MinPages => "min_pages is 1 to 64",
             Error::Retention => "retention is at most 2^63 - 1 nanoseconds",
             Error::NoMemory => "out of memory",
+            Error::Seats => "seats are 1 to 64",
+            Error::Busy => "others were in the way",
+            Error::Full => "there are as many Adds as there may be",
             Error::Other(code) => return write!(f, "code {code} of the library"),
         })
     }
@@ -192,6 +201,9 @@ fn done(code: u32) -> Result<(), Error> {
         9 => Error::MinPages,
         10 => Error::Retention,
         11 => Error::NoMemory,
+        12 => Error::Seats,
+        14 => Error::Busy,
+        15 => Error::Full,
         other => Error::Other(other),
     })
 }
@@ -219,6 +231,20 @@ impl From<ffi::Added> for Added {
     fn from(added: ffi::Added) -> Added {
         Added { kept: added.kept, rotated: added.rotated, evicted: added.evicted }
     }
+}
+
+/// The keys of some marks, one behind the other, and the marks with their places there.
+fn flat(marks: &[Mark<'_>]) -> (Vec<u8>, Vec<ffi::Mark>) {
+    let mut keys = Vec::new();
+    let mut asked = Vec::with_capacity(marks.len());
+    for mark in marks {
+        let (from, to, ends) = mark.span.parts();
+        let (from_at, to_at) = (keys.len(), keys.len() + from.len());
+        keys.extend_from_slice(from);
+        keys.extend_from_slice(to);
+        asked.push(ffi::Mark { from_at, from_len: from.len(), to_at, to_len: to.len(), value: mark.value.into(), ends });
+    }
+    (keys, asked)
 }
 
 /// A timestamp cache, in a place of its own.
@@ -285,15 +311,7 @@ impl Cache {
     /// # Ok::<(), Error>(())
     /// ```
     pub fn add_all(&mut self, marks: &[Mark<'_>], now: Time) -> Result<Added, Error> {
-        let mut keys = Vec::new();
-        let mut asked = Vec::with_capacity(marks.len());
-        for mark in marks {
-            let (from, to, ends) = mark.span.parts();
-            let (from_at, to_at) = (keys.len(), keys.len() + from.len());
-            keys.extend_from_slice(from);
-            keys.extend_from_slice(to);
-            asked.push(ffi::Mark { from_at, from_len: from.len(), to_at, to_len: to.len(), value: mark.value.into(), ends });
-        }
+        let (keys, asked) = flat(marks);
         let mut added = ffi::Added { evicted: 0, kept: false, rotated: false };
         done(unsafe {
             ffi::tsc_add_all(&mut self.place, self.number, keys.as_ptr(), keys.len(), asked.as_ptr(), asked.len(), &now.into(), &mut added)
@@ -328,6 +346,143 @@ impl Cache {
 }
 
 impl Drop for Cache {
+    fn drop(&mut self) {
+        unsafe { ffi::tsc_free(&mut self.place) }
+    }
+}
+
+/// A timestamp cache that threads share, for who opened it. They use it by its [seats](Seat).
+///
+/// ```
+/// use tscache::{Config, Shared, Span, Time, Value};
+/// let (shared, seats) = Shared::open(&Config::default(), 2, 1_000_000)?;
+/// let value = Value { time: Time::new(20, 0), owner: Some([0x11; 16]) };
+/// std::thread::scope(|scope| {
+///     for mut seat in seats {
+///         scope.spawn(move || {
+///             while seat.add(&Span::Point(b"a"), value, Time::new(20, 0), 100) == Err(tscache::Error::Busy) {
+///                 std::thread::yield_now();
+///             }
+///             assert_eq!(seat.get_max(&Span::Point(b"a")).unwrap().0, value);
+///         });
+///     }
+/// });
+/// assert_eq!(shared.close().unwrap(), 2);
+/// # Ok::<(), tscache::Error>(())
+/// ```
+#[derive(Debug)]
+pub struct Shared {
+    place: ffi::Place,
+    number: u64,
+}
+
+/// A seat of a [shared](Shared) cache, in a place of its own. It is handed in where it is dropped.
+///
+/// It may go to another thread, and is used by one at a time:
+///
+/// ```compile_fail
+/// fn shared<T: Sync>() {}
+/// shared::<tscache::Seat>();
+/// ```
+///
+/// ```
+/// fn moved<T: Send>() {}
+/// moved::<tscache::Seat>();
+/// moved::<tscache::Shared>();
+/// ```
+#[derive(Debug)]
+pub struct Seat {
+    place: ffi::Place,
+    number: u64,
+}
+
+// SAFETY: as of `Cache`; and places with seats of one cache may be used at once.
+unsafe impl Send for Shared {}
+
+// SAFETY: as of `Shared`.
+unsafe impl Send for Seat {}
+
+impl Shared {
+    /// A cache to which nothing was added, and its seats, 1 to 64 of them. There may be `limit` Adds.
+    pub fn open(config: &Config, seats: u32, limit: u64) -> Result<(Shared, Vec<Seat>), Error> {
+        let mut shared = Shared { place: ffi::Place { at: null_mut::<c_void>() }, number: 0 };
+        let low_water = config.low_water.into();
+        let Config { page_first, page_max, min_pages, retention, .. } = *config;
+        done(unsafe {
+            ffi::tsc_open_shared(&mut shared.place, page_first, page_max, min_pages, retention, &low_water, seats, limit, &mut shared.number)
+        })?;
+        let seats = (1..=u64::from(seats)).map(|i| shared.seat(i)).collect::<Result<_, _>>()?;
+        Ok((shared, seats))
+    }
+
+    fn seat(&mut self, i: u64) -> Result<Seat, Error> {
+        let mut seat = Seat { place: ffi::Place { at: null_mut::<c_void>() }, number: 0 };
+        done(unsafe { ffi::tsc_move(&mut self.place, self.number + i, &mut seat.place, &mut seat.number) })?;
+        Ok(seat)
+    }
+
+    /// How many Adds there were, once each seat was dropped. Where one wasn't, the cache is handed back.
+    pub fn close(mut self) -> Result<u64, Shared> {
+        let mut length = 0;
+        match unsafe { ffi::tsc_close_shared(&mut self.place, self.number, &mut length) } {
+            0 => Ok(length),
+            _ => Err(self),
+        }
+    }
+}
+
+impl Drop for Shared {
+    fn drop(&mut self) {
+        unsafe { ffi::tsc_free(&mut self.place) }
+    }
+}
+
+impl Seat {
+    /// Adds a span that was read, and tells which place the Add has among all of the cache, counted from 0. It waits for nobody:
+    /// where others are in the way at each of so many tries it is refused as [`Error::Busy`], and may be tried again.
+    pub fn add(&mut self, span: &Span<'_>, value: Value, now: Time, tries: u32) -> Result<(u64, Added), Error> {
+        let (from, to, ends) = span.parts();
+        let (mut place, mut added) = (0, ffi::Added { evicted: 0, kept: false, rotated: false });
+        done(unsafe {
+            ffi::tsc_seat_add(
+                &mut self.place, self.number, from.as_ptr(), from.len(), to.as_ptr(), to.len(), ends, &value.into(), &now.into(), tries, &mut place, &mut added,
+            )
+        })?;
+        Ok((place, added.into()))
+    }
+
+    /// Adds several marks as one Add, all of them or none, as [`add`](Seat::add) does.
+    pub fn add_all(&mut self, marks: &[Mark<'_>], now: Time, tries: u32) -> Result<(u64, Added), Error> {
+        let (keys, asked) = flat(marks);
+        let (mut place, mut added) = (0, ffi::Added { evicted: 0, kept: false, rotated: false });
+        done(unsafe {
+            ffi::tsc_seat_add_all(
+                &mut self.place, self.number, keys.as_ptr(), keys.len(), asked.as_ptr(), asked.len(), &now.into(), tries, &mut place, &mut added,
+            )
+        })?;
+        Ok((place, added.into()))
+    }
+
+    /// The latest time on a span, and how many Adds the seat has seen then. It waits for nobody.
+    pub fn get_max(&mut self, span: &Span<'_>) -> Result<(Value, u64), Error> {
+        let (from, to, ends) = span.parts();
+        let (mut seen, mut found) = (0, ffi::Value { wall: 0, logical: 0, owner: [0; 16] });
+        done(unsafe {
+            ffi::tsc_seat_get_max(&mut self.place, self.number, from.as_ptr(), from.len(), to.as_ptr(), to.len(), ends, &mut seen, &mut found)
+        })?;
+        Ok((found.into(), seen))
+    }
+
+    /// Where the floor stands, and how many Adds the seat has seen then.
+    pub fn low_water(&mut self) -> (Time, u64) {
+        let (mut seen, mut floor) = (0, ffi::Time { wall: 0, logical: 0 });
+        // it is refused only where the number names no seat
+        let _ = unsafe { ffi::tsc_seat_low_water(&mut self.place, self.number, &mut seen, &mut floor) };
+        (Time::new(floor.wall, floor.logical), seen)
+    }
+}
+
+impl Drop for Seat {
     fn drop(&mut self) {
         unsafe { ffi::tsc_free(&mut self.place) }
     }
@@ -403,5 +558,50 @@ mod tests {
         .join()
         .unwrap();
         assert_eq!(cache.get_max(&Span::until(b"a", b"z")), Ok(at(21, TWO)));
+    }
+
+    #[test]
+    fn threads_share() {
+        let (shared, seats) = Shared::open(&Config::default(), 4, 1000).unwrap();
+        let shared = shared.close().unwrap_err();
+        let accepted: u64 = std::thread::scope(|scope| {
+            let all: Vec<_> = seats
+                .into_iter()
+                .map(|mut seat| {
+                    scope.spawn(move || {
+                        let mut accepted = 0;
+                        for wall in 20..120 {
+                            let value = at(wall, ONE);
+                            match seat.add(&Span::Point(b"a"), value, Time::new(20, 0), 8) {
+                                Ok((_, added)) => {
+                                    assert!(added.kept);
+                                    accepted += 1;
+                                    assert!(seat.get_max(&Span::Point(b"a")).unwrap().0.time >= value.time);
+                                }
+                                Err(why) => assert_eq!(why, Error::Busy),
+                            }
+                        }
+                        assert!(seat.low_water().1 >= accepted);
+                        accepted
+                    })
+                })
+                .collect();
+            all.into_iter().map(|thread| thread.join().unwrap()).sum()
+        });
+        assert_eq!(shared.close().unwrap(), accepted);
+    }
+
+    #[test]
+    fn seats() {
+        assert_eq!(Shared::open(&Config::default(), 65, 9).err(), Some(Error::Seats));
+        let (shared, mut seats) = Shared::open(&Config::default(), 2, 1).unwrap();
+        let now = Time::new(20, 0);
+        assert_eq!(seats[0].add(&Span::Point(b"a"), at(20, ONE), now, 0), Err(Error::Busy));
+        let marks = [Mark { span: Span::Point(b"a"), value: at(20, ONE) }, Mark { span: Span::Point(b"b"), value: at(21, TWO) }];
+        assert_eq!(seats[0].add_all(&marks, now, 1), Ok((0, Added { kept: true, rotated: false, evicted: 0 })));
+        assert_eq!(seats[1].get_max(&Span::until(b"a", b"z")), Ok((at(21, TWO), 1)));
+        assert_eq!(seats[1].add(&Span::Point(b"a"), at(20, ONE), now, 1), Err(Error::Full));
+        drop(seats);
+        assert_eq!(shared.close().unwrap(), 1);
     }
 }

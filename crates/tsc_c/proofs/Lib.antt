@@ -1,5 +1,6 @@
 mod BoxedTable
 mod Chains
 mod MarksMade
+mod NewSeats
 mod PlaceValues
 mod TableGoes

@@ -15,3 +15,7 @@ code_of refusal.PageSize = 8
 code_of refusal.MinPages = 9
 code_of refusal.Retention = 10
 code_of refusal.NoMemory = 11
+code_of refusal.Seats = 12
+code_of refusal.StillOut = 13
+code_of refusal.Busy = 14
+code_of refusal.Full = 15

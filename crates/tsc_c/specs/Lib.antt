@@ -5,3 +5,4 @@ pub mod Calls
 pub mod Table
 pub mod Placing
 pub mod Chain
+pub mod SeatCalls

@@ -40,7 +40,7 @@ pub fn open(
 }
 
 /// The configuration of these numbers.
-fn config(
+pub fn config(
     page_first: u32,
     page_max: u32,
     min_pages: u32,
@@ -67,6 +67,21 @@ fn of_config(fault: ConfigFault) -> Refusal
     }
 }
 
+/// The table of a place, or one that has given no number. The place owns nothing then.
+pub fn table_in(alloc: Global, place: &mut Place) -> Result<Box<Table, Global>, Refusal>
+    ensures taken { IfOk result (λ table. table.value.entries.items ≡ entries_of place.old.table) }
+    ensures unchanged { OnErr result (entries_of place.new.table ≡ entries_of place.old.table) }
+    ensures refused { IfErr result (λ why. why ≡ NoMemory) }
+{
+    match replace(place, Place::empty()).into_box(alloc) {
+        Some(table) => Ok(table),
+        None => match Box::new(alloc, Table::new(alloc)) {
+            Ok(table) => Ok(table),
+            Err(_) => Err(Refusal::NoMemory),
+        },
+    }
+}
+
 /// Opens a cache of this configuration, and gives its number.
 fn open_with(alloc: Global, place: &mut Place, config: Config) -> Result<u64, Refusal>
     ensures opened { IfOk result (λ n. Opens (cache_at (entries_of place.old.table) n) (cache_at (entries_of place.new.table) n) config) }
@@ -74,13 +89,7 @@ fn open_with(alloc: Global, place: &mut Place, config: Config) -> Result<u64, Re
     ensures unchanged { OnErr result (entries_of place.new.table ≡ entries_of place.old.table) }
     ensures refused { IfErr result (λ why. why ≡ NoMemory) }
 {
-    let mut table = match replace(place, Place::empty()).into_box(alloc) {
-        Some(table) => table,
-        None => match Box::new(alloc, Table::new(alloc)) {
-            Ok(table) => table,
-            Err(_) => return Err(Refusal::NoMemory),
-        },
-    };
+    let mut table = table_in(alloc, place)?;
     let made = table.open(alloc, config);
     *place = Place::of(table);
     made
@@ -258,9 +267,11 @@ pub fn close(alloc: Global, place: &mut Place, number: u64) -> Result<(), Refusa
     }
 }
 
-/// Frees the table with all its caches.
+/// Frees the table with all that it has. Seats are handed in.
 pub fn free(alloc: Global, place: &mut Place)
     ensures { place.new.table ≡ None }
 {
-    let _ = replace(place, Place::empty()).into_box(alloc);
+    if let Some(mut table) = replace(place, Place::empty()).into_box(alloc) {
+        table.hand_in();
+    }
 }

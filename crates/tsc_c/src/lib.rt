@@ -14,11 +14,14 @@ ghost use Rattle.tsc_c.specs.Table.{cache_at, entries_of, Keeps, GivesNext};
 ghost use Rattle.tsc_c.specs.declared.refusal.Refusal.{Refusal as Why};
 
 mod asked;
+mod halls;
 mod held;
 pub mod laws;
 mod marks;
 mod place;
 mod refusal;
+mod seat_calls;
+mod seats;
 mod table;
 #[cfg(test)]
 mod tests;

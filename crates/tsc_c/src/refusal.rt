@@ -7,7 +7,7 @@ pub const OK: u32 = 0;
 /// Why a call was refused.
 #[derive(Clone, Copy, Debug, PartialEq, Eq)]
 pub enum Refusal {
-    /// No cache has this number.
+    /// The number names nothing, or nothing of this kind.
     Closed,
     /// A time is out of range.
     Time,
@@ -29,6 +29,14 @@ pub enum Refusal {
     Retention,
     /// Memory was refused.
     NoMemory,
+    /// A shared cache may not have so many seats.
+    Seats,
+    /// A seat of the shared cache is still out.
+    StillOut,
+    /// Others were in the way at each try.
+    Busy,
+    /// The history of the shared cache has as many Adds as it may have.
+    Full,
 }
 
 impl Refusal {
@@ -49,6 +57,10 @@ impl Refusal {
             Refusal::MinPages => 9,
             Refusal::Retention => 10,
             Refusal::NoMemory => 11,
+            Refusal::Seats => 12,
+            Refusal::StillOut => 13,
+            Refusal::Busy => 14,
+            Refusal::Full => 15,
         }
     }
 }

@@ -13,6 +13,7 @@ use crate::words::{TscFigures, TscMark};
 use std::alloc::Global;
 use std::mem::replace;
 use tsc_cache::{Added, Cache, CacheFault, Config};
+use tsc_hall::{Chair, Host};
 use tsc_time::{Timestamp, Value};
 
 /// What a number that was given stands for.
@@ -22,6 +23,10 @@ pub enum Entry {
     Closed,
     /// A cache for calls of one thread at a time.
     Own(Cache),
+    /// A cache that threads share, for who opened it.
+    Shared(Host),
+    /// A seat of one.
+    Seat(Chair),
 }
 
 impl Entry {
@@ -31,7 +36,7 @@ impl Entry {
     {
         match self {
             Entry::Own(cache) => Some(cache),
-            Entry::Closed => None,
+            Entry::Closed | Entry::Shared(_) | Entry::Seat(_) => None,
         }
     }
 
@@ -51,7 +56,7 @@ impl Entry {
     {
         match self {
             Entry::Own(cache) => add_in(alloc, cache, from, to, ends, value, now),
-            Entry::Closed => Err(Refusal::Closed),
+            Entry::Closed | Entry::Shared(_) | Entry::Seat(_) => Err(Refusal::Closed),
         }
     }
 
@@ -69,7 +74,7 @@ impl Entry {
     {
         match self {
             Entry::Own(cache) => add_all_in(alloc, cache, keys, asked, now),
-            Entry::Closed => Err(Refusal::Closed),
+            Entry::Closed | Entry::Shared(_) | Entry::Seat(_) => Err(Refusal::Closed),
         }
     }
 
@@ -78,10 +83,19 @@ impl Entry {
         ensures closed { cache_of self.new ≡ None }
         ensures refused { IfErr result (λ why. IsClosed why (cache_of self.old)) }
         ensures done { IfOk result (λ _. cache_of self.old ≢ None) }
+        ensures unchanged { OnErr result (self.new ≡ self.old) }
     {
         match replace(self, Entry::Closed) {
             Entry::Own(_) => Ok(()),
             Entry::Closed => Err(Refusal::Closed),
+            Entry::Shared(cache) => {
+                *self = Entry::Shared(cache);
+                Err(Refusal::Closed)
+            }
+            Entry::Seat(seat) => {
+                *self = Entry::Seat(seat);
+                Err(Refusal::Closed)
+            }
         }
     }
 }

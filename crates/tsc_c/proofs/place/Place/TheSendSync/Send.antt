@@ -9,12 +9,13 @@ use base.Fraction.{full_share}
 use denote.Param.SendFields.{declared_send, as_row_send, variants_send}
 use Rattle.std.proofs.Crossing.{crosses, frees}
 use Rattle.tsc_cache.proofs.Crossing.{cache_sends}
+use Rattle.tsc_hall.proofs.Crossing.{host_sends, chair_sends}
 use Rattle.tsc_c.specs.Placing.{Kept, heap, place_owns}
 use Rattle.tsc_c.specs.contracts.table.Entry.{the_row as entry}
 use Rattle.tsc_c.specs.contracts.place.Place.{the_row, the_type}
 
 entry_sends : IsSend entry
-entry_sends = search (sendable, crosses, variants_send, as_row_send, cache_sends) depth 20
+entry_sends = search (sendable, crosses, variants_send, as_row_send, cache_sends, host_sends, chair_sends) depth 20
 
 table_sends : IsSend Kept
 table_sends = search (sendable, crosses, declared_send, as_row_send, entry_sends) depth 20

@@ -1,0 +1,232 @@
+/* Tests shared caches, which threads use by their seats, through the header as a program in C would, and says at the end
+ * `N passed, M failed`. */
+#include <inttypes.h>
+#include <pthread.h>
+#include <sched.h>
+#include <stdio.h>
+#include <stdlib.h>
+#include <string.h>
+
+#include "tscache.h"
+
+static int passed, failed;
+
+static void check(bool holds, const char *file, int line, const char *what)
+{
+    if (holds) {
+        passed++;
+    } else {
+        failed++;
+        printf("%s:%d: %s\n", file, line, what);
+    }
+}
+#define CHECK(x) check((x), __FILE__, __LINE__, #x)
+
+static const tsc_time LOW = {5, 0}, NOW = {20, 0};
+static const tsc_value READ = {20, 1, {0x11}};
+
+/* Calls with the arguments that most tests give them. */
+
+static uint32_t open_shared(tsc_place *place, uint32_t seats, uint64_t limit, uint64_t *number)
+{
+    return tsc_open_shared(place, 132, 1024, 2, 10, &LOW, seats, limit, number);
+}
+
+static uint32_t add(tsc_place *place, uint64_t seat, const char *key, uint32_t tries, uint64_t *at)
+{
+    tsc_added added;
+    return tsc_seat_try_add(place, seat, key, strlen(key), NULL, 0, TSC_POINT, &READ, &NOW, tries, at, &added);
+}
+
+static bool answers(tsc_place *place, uint64_t seat, const char *key, uint64_t wall, uint64_t seen)
+{
+    uint64_t long_ = 99;
+    tsc_value v = {0, 0, {0}};
+    return tsc_seat_try_get_max(place, seat, key, strlen(key), NULL, 0, TSC_POINT, &long_, &v) == TSC_OK && v.wall == wall && long_ == seen;
+}
+
+/* What one thread sees of another's seat, one call after another. */
+static void seats(void)
+{
+    tsc_place place = {NULL}, other = {NULL};
+    uint64_t n = 77, moved = 77, at = 77, seen = 77, adds = 77;
+    tsc_time floor;
+    CHECK(open_shared(&place, 2, 3, &n) == TSC_OK && n == 0);
+    CHECK(tsc_move(&place, 2, &other, &moved) == TSC_OK && moved == 0);
+    CHECK(add(&place, 1, "a", 1, &at) == TSC_OK && at == 0);
+    CHECK(answers(&other, moved, "a", 20, 1) && answers(&other, moved, "b", 5, 1) && answers(&place, 1, "b", 5, 1));
+    CHECK(add(&other, moved, "b", 1, &at) == TSC_OK && at == 1);
+    CHECK(answers(&place, 1, "b", 20, 2));
+    CHECK(tsc_seat_low_water(&place, 1, &seen, &floor) == TSC_OK && seen == 2 && floor.wall == 5 && floor.logical == 0);
+    tsc_mark marks[2] = {{0, 1, 0, 0, {30, 0, {0}}, TSC_POINT}, {1, 1, 0, 0, {31, 0, {0}}, TSC_POINT}};
+    tsc_added added = {99, false, true};
+    CHECK(tsc_seat_try_add_all(&place, 1, "xy", 2, marks, 2, &NOW, 1, &at, &added) == TSC_OK && at == 2 && added.kept && !added.rotated && added.evicted == 0);
+    CHECK(answers(&other, moved, "x", 30, 3) && answers(&other, moved, "y", 31, 3));
+    CHECK(add(&place, 1, "z", 1, &at) == TSC_FULL && at == 2 && add(&other, moved, "z", 1, &at) == TSC_FULL);
+    CHECK(answers(&place, 1, "z", 5, 3));
+    CHECK(tsc_close_shared(&place, n, &adds) == TSC_STILL_OUT && adds == 77);
+    CHECK(tsc_seat_close(&place, 1) == TSC_OK && tsc_seat_close(&place, 1) == TSC_CLOSED && add(&place, 1, "z", 1, &at) == TSC_CLOSED);
+    CHECK(tsc_close_shared(&place, n, &adds) == TSC_STILL_OUT && adds == 77);
+    CHECK(answers(&other, moved, "y", 31, 3));
+    CHECK(tsc_seat_close(&other, moved) == TSC_OK);
+    CHECK(tsc_close_shared(&place, n, &adds) == TSC_OK && adds == 3);
+    CHECK(tsc_close_shared(&place, n, &adds) == TSC_CLOSED);
+    tsc_free(&place);
+    tsc_free(&other);
+}
+
+static void refusals(void)
+{
+    tsc_place place = {NULL}, other = {NULL};
+    uint64_t n = 77, own = 77, at = 77, seen = 77, adds = 77;
+    tsc_added added = {99, false, true};
+    tsc_value v = {7, 7, {7}};
+    CHECK(open_shared(&place, 0, 9, &n) == TSC_SEATS && open_shared(&place, 65, 9, &n) == TSC_SEATS && n == 77);
+    CHECK(tsc_open_shared(&place, 63, 132, 2, 10, &LOW, 1, 9, &n) == TSC_PAGE_SIZE && n == 77);
+    CHECK(tsc_move(&place, 0, &other, &at) == TSC_CLOSED && other.at == NULL && at == 77);
+    CHECK(open_shared(&place, 64, 9, &n) == TSC_OK && n == 0);
+    CHECK(tsc_open(&place, 132, 132, 2, 10, &LOW, &own) == TSC_OK && own == 65);
+
+    /* numbers of another kind */
+    CHECK(add(&place, n, "a", 1, &at) == TSC_CLOSED && add(&place, own, "a", 1, &at) == TSC_CLOSED && add(&place, 66, "a", 1, &at) == TSC_CLOSED);
+    CHECK(tsc_get_max(&place, 1, (const uint8_t *)"a", 1, (const uint8_t *)"", 0, TSC_POINT, &v) == TSC_CLOSED && v.wall == 7);
+    CHECK(tsc_close(&place, n) == TSC_CLOSED && tsc_close(&place, 1) == TSC_CLOSED && tsc_seat_close(&place, n) == TSC_CLOSED && tsc_seat_close(&place, own) == TSC_CLOSED);
+    CHECK(tsc_close_shared(&place, 1, &adds) == TSC_CLOSED && tsc_close_shared(&place, own, &adds) == TSC_CLOSED && adds == 77);
+
+    /* spans, times and tries */
+    char long_key[4097];
+    memset(long_key, 'k', sizeof long_key);
+    CHECK(add(&place, 1, "a", 0, &at) == TSC_BUSY && at == 77 && answers(&place, 1, "a", 5, 0));
+    CHECK(tsc_seat_try_add(&place, 1, "c", 1, "a", 1, 0, &READ, &NOW, 1, &at, &added) == TSC_INVERTED);
+    CHECK(tsc_seat_try_add(&place, 1, "a", 1, NULL, 0, 6, &READ, &NOW, 1, &at, &added) == TSC_ENDS);
+    CHECK(tsc_seat_try_add(&place, 1, long_key, 4097, NULL, 0, TSC_POINT, &READ, &NOW, 1, &at, &added) == TSC_KEY_TOO_LONG);
+    CHECK(tsc_seat_try_add(&place, 1, long_key, 993, NULL, 0, TSC_POINT, &READ, &NOW, 0, &at, &added) == TSC_TOO_LARGE);
+    tsc_value late = {UINT64_C(1) << 63, 0, {0}};
+    tsc_time odd = {0, UINT32_C(1) << 31};
+    CHECK(tsc_seat_try_add(&place, 1, "a", 1, NULL, 0, TSC_POINT, &late, &NOW, 1, &at, &added) == TSC_TIME);
+    CHECK(tsc_seat_try_add(&place, 1, "a", 1, NULL, 0, TSC_POINT, &READ, &odd, 1, &at, &added) == TSC_TIME);
+    tsc_mark outside = {1, 1, 0, 0, {30, 0, {0}}, TSC_POINT};
+    CHECK(tsc_seat_try_add_all(&place, 1, "x", 1, &outside, 1, &NOW, 1, &at, &added) == TSC_OUTSIDE && at == 77 && added.evicted == 99);
+    CHECK(tsc_seat_try_get_max(&place, 1, "a", 1, NULL, 0, 6, &seen, &v) == TSC_ENDS && seen == 77 && v.wall == 7);
+    CHECK(tsc_seat_try_get_max(&place, 1, "c", 1, "a", 1, 0, &seen, &v) == TSC_OK && seen == 0 && v.wall == 5);
+    CHECK(tsc_seat_try_get_max(NULL, 1, "a", 1, NULL, 0, TSC_POINT, &seen, &v) == TSC_NULL && tsc_seat_try_get_max(&place, 1, NULL, 1, NULL, 0, TSC_POINT, &seen, &v) == TSC_NULL);
+    CHECK(tsc_seat_try_add(&place, 1, "a", 1, NULL, 0, TSC_POINT, NULL, &NOW, 1, &at, &added) == TSC_NULL);
+    CHECK(tsc_seat_try_add_all(&place, 1, NULL, 0, NULL, 0, &NOW, 1, &at, &added) == TSC_OK && at == 0); /* no marks are an entry too */
+    CHECK(strcmp(tsc_text(TSC_STILL_OUT), "a seat is still out") == 0 && strcmp(tsc_text(TSC_FULL), "there are as many Adds as there may be") == 0);
+
+    /* what was moved is what it was, and each of these goes with its place; seats that are freed with one are handed in */
+    CHECK(tsc_move(&place, own, &other, &at) == TSC_OK && at == 0 && tsc_close(&place, own) == TSC_CLOSED);
+    CHECK(tsc_move(&place, n, &other, &at) == TSC_OK && at == 1 && tsc_close_shared(&place, n, &adds) == TSC_CLOSED);
+    CHECK(answers(&place, 64, "a", 5, 1));
+    CHECK(tsc_close_shared(&other, at, &adds) == TSC_STILL_OUT);
+    tsc_free(&place);
+    CHECK(tsc_close_shared(&other, at, &adds) == TSC_OK && adds == 1);
+    CHECK(tsc_close(&other, 0) == TSC_OK);
+    tsc_free(&other);
+
+    /* seats outlive the number of their cache, whose memory goes with the last of them */
+    CHECK(open_shared(&place, 2, 9, &n) == TSC_OK && tsc_move(&place, 2, &other, &at) == TSC_OK);
+    tsc_free(&place);
+    CHECK(add(&other, at, "a", 1, &seen) == TSC_OK && answers(&other, at, "a", 20, 1));
+    tsc_free(&other);
+}
+
+/* Threads, each with a place and a seat of its own. */
+
+enum { THREADS = 8, CALLS = 10000, KEYS = 64 };
+
+struct thread {
+    tsc_place place;
+    uint64_t seat, accepted, busy;
+    uint8_t *taken; /* of each place in the history whether an Add had it */
+    bool right;
+    int number;
+};
+
+static pthread_mutex_t taking = PTHREAD_MUTEX_INITIALIZER;
+
+static bool takes(uint8_t *taken, uint64_t at)
+{
+    pthread_mutex_lock(&taking);
+    bool first = at < (uint64_t)THREADS * CALLS && !taken[at];
+    if (first)
+        taken[at] = 1;
+    pthread_mutex_unlock(&taking);
+    return first;
+}
+
+static void *work(void *handed)
+{
+    struct thread *t = handed;
+    uint64_t latest[KEYS] = {0}, seen = 0, last = 0, random = (uint64_t)t->number + 1;
+    for (int i = 0; i < CALLS; i++) {
+        random = random * UINT64_C(6364136223846793005) + UINT64_C(1442695040888963407);
+        uint8_t k = (uint8_t)((random >> 40) % KEYS), key[2] = {'k', k};
+        if ((random >> 60) < 6) {
+            tsc_value v = {100 + (uint64_t)i * THREADS + (uint64_t)t->number, 0, {0}};
+            tsc_added added;
+            uint64_t at = 0;
+            uint32_t answer = tsc_seat_try_add(&t->place, t->seat, key, 2, NULL, 0, TSC_POINT, &v, &NOW, 16, &at, &added);
+            if (answer == TSC_OK) {
+                /* it is behind all that was seen, at a place of its own, and is seen from now on */
+                t->right = t->right && at >= seen && (t->accepted == 0 || at > last) && takes(t->taken, at);
+                last = at;
+                seen = at + 1;
+                t->accepted++;
+                if (added.kept && v.wall > latest[k])
+                    latest[k] = v.wall;
+            } else {
+                t->right = t->right && answer == TSC_BUSY;
+                t->busy++;
+                sched_yield();
+            }
+        } else {
+            tsc_value v;
+            uint64_t long_;
+            uint32_t answer = tsc_seat_try_get_max(&t->place, t->seat, key, 2, NULL, 0, TSC_POINT, &long_, &v);
+            t->right = t->right && answer == TSC_OK && long_ >= seen && v.wall >= latest[k];
+            seen = long_;
+            latest[k] = v.wall;
+        }
+    }
+    t->right = t->right && tsc_seat_close(&t->place, t->seat) == TSC_OK;
+    tsc_free(&t->place);
+    return NULL;
+}
+
+static void threads(void)
+{
+    static struct thread all[THREADS];
+    static uint8_t taken[THREADS * CALLS];
+    pthread_t running[THREADS];
+    tsc_place place = {NULL};
+    uint64_t n, adds = 77, accepted = 0, busy = 0;
+    CHECK(tsc_open_shared(&place, 65536, 1 << 20, 2, 10, &LOW, THREADS, (uint64_t)THREADS * CALLS, &n) == TSC_OK);
+    for (int i = 0; i < THREADS; i++) {
+        all[i] = (struct thread){.taken = taken, .right = true, .number = i};
+        CHECK(tsc_move(&place, n + 1 + (uint64_t)i, &all[i].place, &all[i].seat) == TSC_OK);
+    }
+    for (int i = 0; i < THREADS; i++)
+        CHECK(pthread_create(&running[i], NULL, work, &all[i]) == 0);
+    for (int i = 0; i < THREADS; i++) {
+        CHECK(pthread_join(running[i], NULL) == 0 && all[i].right);
+        accepted += all[i].accepted;
+        busy += all[i].busy;
+    }
+    bool each = true; /* the places are those of one history */
+    for (uint64_t at = 0; at < (uint64_t)THREADS * CALLS; at++)
+        each = each && taken[at] == (at < accepted);
+    CHECK(each && accepted > 0);
+    CHECK(tsc_close_shared(&place, n, &adds) == TSC_OK && adds == accepted);
+    tsc_free(&place);
+    printf("%d threads made %d calls each: %" PRIu64 " Adds, and %" PRIu64 " that others were in the way of\n", THREADS, CALLS, accepted, busy);
+}
+
+int main(void)
+{
+    seats();
+    refusals();
+    threads();
+    printf("%d passed, %d failed\n", passed, failed);
+    return failed != 0;
+}

@@ -1,0 +1,3 @@
+mod Chairs
+pub mod Crossing
+mod Homing
