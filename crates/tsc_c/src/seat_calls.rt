@@ -67,9 +67,7 @@ pub extern "C" fn tsc_seat_add(
     ensures refused { result ≢ OK → (why : Why) × (result ≡ code_of why) × RefusesTimedSeatAdd why (seat_at (entries_of place.old.table) number)
         (seat_at (entries_of place.new.table) number) from.now to.now ends (value_of value.now).time (time_of now.now) }
 {
-    match halls::seat_add(
-        alloc, place, number, from, to, ends, value, now, tries,
-    ) {
+    match halls::seat_add(alloc, place, number, from, to, ends, value, now, tries) {
         Ok(did) => {
             *place_in_history = did.place;
             *out = held::words_of(did.added);

@@ -1,11 +1,11 @@
 //! Each call once, with ample memory, and what it answers. `scripts/test-c-library` tests far more of them, from C.
 
 use crate::place::Place;
-use crate::words::{TscAdded, TscFigures, TscMark, TscTime, TscValue};
 use crate::seat_calls::{
     tsc_close_shared, tsc_move, tsc_open_shared, tsc_seat_add, tsc_seat_add_all, tsc_seat_close,
     tsc_seat_get_max, tsc_seat_low_water,
 };
+use crate::words::{TscAdded, TscFigures, TscMark, TscTime, TscValue};
 use crate::{
     tsc_add, tsc_add_all, tsc_close, tsc_figures_of, tsc_free, tsc_get_max, tsc_low_water, tsc_open,
 };
@@ -113,9 +113,7 @@ fn each_call_answers(rt: HostRuntime) {
 /// The code, and the number of a shared cache of so many seats, whose history may have two Adds.
 fn open_shared(alloc: Global, place: &mut Place, seats: u32) -> (u32, u64) {
     let mut number = 9;
-    let code = tsc_open_shared(
-        alloc, place, 132, 1024, 2, 10, &LOW, seats, 2, &mut number,
-    );
+    let code = tsc_open_shared(alloc, place, 132, 1024, 2, 10, &LOW, seats, 2, &mut number);
     (code, number)
 }
 

@@ -59,17 +59,23 @@ module _ (cache : SharedView) where
     where
       zeros : (slot : ℕ) → slot < cache.seats → slice_index words slot ≡ 0
       zeros slot low = ap (λ (ws : List ℕ). slice_index ws slot) is ∙ get_or-replicate cache.seats slot 0 0 low
+
       all : List Place
       all = replicate cache.seats None
+
       deep : length (map maybe.some all) ≡ cache.seats
       deep = length-map all maybe.some ∙ length-replicate cache.seats None
+
       free : (slot : ℕ) → slot < cache.seats → IsFree cache words (map maybe.some all) slot
       free slot low = let x = some_there all slot (subst (λ (n : ℕ). slot < n) (sym (length-replicate cache.seats None)) low) in record { low = low; word = zeros slot low; place = x.0; lies = x.1 }
+
       of_first : (v : Known) → first_known cache ≡ v → Fits cache words (map maybe.some all) v
       of_first v e = subst (Fits cache words (map maybe.some all)) e (record { free = λ slot _ among. free slot among.to; home = λ slot low. absurd (omega (arith, low)) })
+
       fits : (id : ℕ) (v : Known) → get_elem? (first_known cache ∷ []) id ≡ maybe.some v → Fits cache words (map maybe.some all) v
       fits zero v e = of_first v (some-injective (first_known cache) v e)
       fits (suc id) v e = absurd (some-ne-none v (sym e))
+
       same : (id other : ℕ) (v w : Known) → get_elem? (first_known cache ∷ []) id ≡ maybe.some v → get_elem? (first_known cache ∷ []) other ≡ maybe.some w → id ≡ other
       same zero zero v w a b = refl
       same zero (suc other) v w a b = absurd (some-ne-none w (sym b))
@@ -184,8 +190,7 @@ module _ (cache : SharedView) where
       let free = (k.fits id (ticket number) at).free number refl (its_own number) in
       let word = free.word in
       let homes : Homes = set s.homes number maybe.none in
-      let apart : (slot : ℕ) → slice_index s.words slot ≡ 1 → slot ≢ number = λ slot one e. let w : slice_index s.words number ≡ 1 = subst (λ (n : ℕ). slice_index s.words n ≡ 1) e one in omega (arith, w, word) in
-      (
+      let apart : (slot : ℕ) → slice_index s.words slot ≡ 1 → slot ≢ number = λ slot one e. let w : slice_index s.words number ≡ 1 = subst (λ (n : ℕ). slice_index s.words n ≡ 1) e one in omega (arith, w, word) in (
         spent number,
         act_takes number free.place,
         free.lies,
@@ -208,15 +213,14 @@ module _ (cache : SharedView) where
       let words : List ℕ = set s.words number 1 in
       let wide = k.wide in let deep = k.deep in
       let here : slice_index words number ≡ 1 = get_or-set_same s.words number 1 0 (omega (arith, wide, low)) in
-      let there : (slot : ℕ) → slot ≢ number → slice_index words slot ≡ slice_index s.words slot = λ slot ne. get_or-set_other s.words number slot 1 0 ne in
-      (
+      let there : (slot : ℕ) → slot ≢ number → slice_index words slot ≡ slice_index s.words slot = λ slot ne. get_or-set_other s.words number slot 1 0 ne in (
         spent number,
         act_gives,
         tt,
         moved s k id (spent number) (spent number) words homes at (λ slot among. among) (length-set s.words number 1 ∙ k.wide) (length-set s.homes number (maybe.some (Some seat)) ∙ k.deep)
             (λ slot low' one. dite (ℕ_discrete slot number)
-                (λ e. record { seat = seat; lies = ap (λ (n : ℕ). get_elem? homes n) e ∙ set_here s.homes number (maybe.some (Some seat)) (omega (arith, deep, low)); its_cache = its })
-                (λ ne. let h = k.home slot low' (sym (there slot ne) ∙ one) in record { seat = h.seat; lies = set_else s.homes number slot (maybe.some (Some seat)) ne ∙ h.lies; its_cache = h.its_cache }))
+            (λ e. record { seat = seat; lies = ap (λ (n : ℕ). get_elem? homes n) e ∙ set_here s.homes number (maybe.some (Some seat)) (omega (arith, deep, low)); its_cache = its })
+            (λ ne. let h = k.home slot low' (sym (there slot ne) ∙ one) in record { seat = h.seat; lies = set_else s.homes number slot (maybe.some (Some seat)) ne ∙ h.lies; its_cache = h.its_cache }))
             (spent_fits words homes number)
             (λ other u ne at'. let f = k.fits other u at' in record {
               free = λ slot idle among. let g = f.free slot idle among in let ne' = others_apart s k id number (spent number) at (spent_own number) other u ne at' slot among in

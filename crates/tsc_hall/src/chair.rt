@@ -81,7 +81,9 @@ impl Chair {
         ensures too_large { IsErrOf result (tried.Refused told.TooLarge) ↔ (fits self.old.cache.config span.now ≡ false) }
         ensures no_tries { tries ≡ 0 → fits self.old.cache.config span.now ≡ true → IsErrOf result tried.DeskBusy }
     {
-        self.hall.cache.try_add(&mut self.seat, span, value, now, tries)
+        self.hall
+            .cache
+            .try_add(&mut self.seat, span, value, now, tries)
     }
 
     /// Adds several marks as one Add, as [`SharedCache::try_add_all`](tsc_shared::SharedCache::try_add_all) does.
@@ -98,7 +100,9 @@ impl Chair {
         ensures too_large { IsErrOf result (tried.Refused told.TooLarge) ↔ (all_fit self.old.cache.config marks.now ≡ false) }
         ensures no_tries { tries ≡ 0 → all_fit self.old.cache.config marks.now ≡ true → IsErrOf result tried.DeskBusy }
     {
-        self.hall.cache.try_add_all(&mut self.seat, marks, now, tries)
+        self.hall
+            .cache
+            .try_add_all(&mut self.seat, marks, now, tries)
     }
 
     /// Hands the seat in. The cache can be closed once all its seats are.

@@ -94,13 +94,31 @@ impl Host {
         ensures closed { IfOk result (λ closed. (seats : List SeatView) × Closes self seats closed) }
         ensures still_out { IfErr result (λ host. host ≡ self) }
     {
-        let Host { hall, mut keeper, seats, mut home, room } = self;
+        let Host {
+            hall,
+            mut keeper,
+            seats,
+            mut home,
+            room,
+        } = self;
         if !all_home(&hall.homes.shared, &mut keeper, seats, &mut home) {
-            return Err(Host { hall, keeper, seats, home, room });
+            return Err(Host {
+                hall,
+                keeper,
+                seats,
+                home,
+                room,
+            });
         }
         match Arc::try_unwrap(hall) {
             Ok(hall) => Ok(hall.end(keeper, seats, room)),
-            Err(hall) => Err(Host { hall, keeper, seats, home, room }),
+            Err(hall) => Err(Host {
+                hall,
+                keeper,
+                seats,
+                home,
+                room,
+            }),
         }
     }
 }

@@ -128,7 +128,12 @@ pub(crate) fn come_home(homes: &SharedHomes, mut at: HomesSeat, seat: Seat)
 }
 
 /// Whether all seats are home, of which so many were known to be.
-pub(crate) fn all_home(homes: &SharedHomes, keeper: &mut HomesSeat, seats: u32, home: &mut u32) -> bool
+pub(crate) fn all_home(
+    homes: &SharedHomes,
+    keeper: &mut HomesSeat,
+    seats: u32,
+    home: &mut u32,
+) -> bool
     requires table { keeper.old.table_id ≡ homes.now.table_id }
     requires sized { IsSized homes.now.table_id seats }
     requires known { keeper.old.me ≡ (keeping seats home.old, []) }
@@ -148,7 +153,12 @@ pub(crate) fn all_home(homes: &SharedHomes, keeper: &mut HomesSeat, seats: u32, 
 }
 
 /// The seats, all of which are home, in a list that has room for them.
-pub(crate) fn end_homes(homes: Homes, keeper: HomesSeat, seats: u32, mut room: Vec<Seat>) -> Vec<Seat>
+pub(crate) fn end_homes(
+    homes: Homes,
+    keeper: HomesSeat,
+    seats: u32,
+    mut room: Vec<Seat>,
+) -> Vec<Seat>
     requires table { keeper.table_id ≡ homes.shared.table_id }
     requires sized { IsSized homes.shared.table_id seats }
     requires seats { seats ≡ homes.shared.key.seats }

@@ -9,8 +9,7 @@ pub loop-seat-preserved : goal.loop-seat-preserved
 loop-seat-preserved c =
     let left : into_iter_items c.loop-seat.seat-iterator ≡ c.in-Some.seat ∷ into_iter_items c.next.new.self = search rules in
     let pushed : c.push.new.self.items ≡ c.loop-seat.chairs.items ++ c.in-Some.seat ∷ [] = search rules in
-    let same = c.requires.seats in
-    (
+    let same = c.requires.seats in (
       search rules,
       search rules,
       c.seat_one.ensures.table ∙ c.loop-seat.invariant.2,
