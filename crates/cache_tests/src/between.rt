@@ -44,13 +44,10 @@ fn key(bytes: &[u8], place: u32) -> &[u8] {
     bytes.get(..*length).unwrap_or(bytes)
 }
 
-/// The value of the mark at a place.
+/// The value of the mark at a place, or of the last one.
 fn value_at(rises: bool, place: u32) -> Result<Value, Fail> {
-    let wall = if rises {
-        100 + place
-    } else {
-        100 - place.min(LAST)
-    };
+    let place = place.min(LAST);
+    let wall = if rises { 100 + place } else { 100 - place };
     value((u64::from(wall), 0), 1)
 }
 
@@ -86,8 +83,8 @@ impl Marked {
     /// What a lookup has to answer that overlaps the marks from one place to another.
     fn told(&self, places: Option<(u32, u32)>) -> Result<Value, Fail> {
         match places {
-            Some((_, last)) if self.rises => value_at(true, last.min(LAST)),
-            Some((first, _)) => value_at(false, first.min(LAST)),
+            Some((_, last)) if self.rises => value_at(true, last),
+            Some((first, _)) => value_at(false, first),
             None => Ok(Value::unowned(at((FLOOR, 0))?)),
         }
     }
