@@ -1,4 +1,4 @@
-use Rattle.std.proofs.Common.{rules, ◌∙◌, ◌+◌, sym, ap, subst, arith}
+use Rattle.std.proofs.Common.{rules, refl, ◌∙◌, ◌+◌, sym, ap, subst, arith}
 use Rattle.std.specs.Prelude.{Result, None}
 use Rattle.tsc_time.specs.declared.memory.NoMemory.{NoMemory}
 use Rattle.tsc_desk.specs.declared.board.Slot.TheVariants.{Empty}
@@ -154,3 +154,12 @@ pub prepare-made-requires-clause-fits : goal.prepare-made-requires-clause-fits
 prepare-made-requires-clause-fits g c =
     let made = made_again _ c.seat.inside.at_desk.me.0.terms.config c.args.copied c.in-Ok.add (ap (λ s. s.cache.config) c.seat.view_is ∙ ap (λ n. n.config) c.requires.cache) c.in-Ok.is c.requires.made in
     can_take_made c.seat.inside.at_desk.me.0 c.take.new.at_desk.me.0 c.in-Some.held.value c.in-Ok.add c.in-Some.ensures.held made
+
+pub returns-in_default-clause-why : goal.returns-in_default-clause-why
+returns-in_default-clause-why g c = search rules
+
+pub returns-in_default-clause-no_tries : goal.returns-in_default-clause-no_tries
+returns-in_default-clause-no_tries g c = λ none. refl
+
+pub returns-then-not-clear_all-clause-why : goal.returns-then-not-clear_all-clause-why
+returns-then-not-clear_all-clause-why g c = search rules
