@@ -83,7 +83,7 @@ static void refusals(void)
     tsc_value v = {7, 7, {7}};
     CHECK(open_shared(&place, 0, 9, &n) == TSC_SEATS && open_shared(&place, 65, 9, &n) == TSC_SEATS && n == 77);
     CHECK(tsc_open_shared(&place, 63, 132, 2, 10, &LOW, 1, 9, &n) == TSC_PAGE_SIZE && n == 77);
-    CHECK(tsc_move(&place, 0, &other, &at) == TSC_CLOSED && other.at == NULL && at == 77);
+    CHECK(tsc_move(&place, 0, &other, &at) == TSC_CLOSED && at == 77);
     CHECK(open_shared(&place, 64, 9, &n) == TSC_OK && n == 0);
     CHECK(tsc_open(&place, 132, 132, 2, 10, &LOW, &own) == TSC_OK && own == 65);
 
