@@ -18,7 +18,7 @@ use std::marker::Model;
 use std::sync::Arc;
 use tsc_cache::Mark;
 use tsc_shared::{Answer, LowWater, Receipt, Seat, TryAddFault};
-use tsc_span::Span;
+use tsc_span::{Span, SpanRef};
 use tsc_time::{NoMemory, Timestamp, Value};
 
 /// A seat of a shared cache, with a handle on that cache: whoever has it needs nothing else to add and to look, and it may go
@@ -51,6 +51,19 @@ impl Chair {
         ensures whole { TellsNoPart self.new span.now result.value }
     {
         match self.hall.cache.get_max(&mut self.seat, span) {
+            Ok(answer) => answer,
+            Err(_) => unreachable!(),
+        }
+    }
+
+    /// The latest time on a span over keys that lie elsewhere, as [`SharedCache::get_max_in`](tsc_shared::SharedCache::get_max_in)
+    /// answers.
+    pub fn get_max_in(&mut self, span: &SpanRef<'_>) -> Answer
+        ensures looked { Looks self.old self.new span.now result }
+        ensures above { IsAbove self.new span.now result.value }
+        ensures whole { TellsNoPart self.new span.now result.value }
+    {
+        match self.hall.cache.get_max_in(&mut self.seat, span) {
             Ok(answer) => answer,
             Err(_) => unreachable!(),
         }
