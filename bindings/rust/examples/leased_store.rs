@@ -63,7 +63,7 @@ impl Holder {
 
     /// Writes a key at the transaction's time, or at the first time after it that no read forbids, and gives that time.
     fn put(&mut self, versions: &mut Versions, by: Transaction, key: &[u8], value: &[u8]) -> Result<Time, Error> {
-        let read = self.reads.get_max(&Span::Point(key))?;
+        let read = self.reads.get_max(&Span::Point(key));
         // its own read forbids a transaction nothing, as long as no other one's has the same time
         let own = read.owner == Some(by.id) && read.time <= by.time;
         let mut time = if own { by.time } else { by.time.max(after(read.time)) };

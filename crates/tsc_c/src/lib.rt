@@ -7,30 +7,24 @@
 
 ghost use Rattle.std.specs.Prelude.{◌≡◌, ◌≢◌, Ok as Made, None};
 ghost use Rattle.tsc_cache.specs.Settings.{Settings, settings_of};
-ghost use Rattle.tsc_c.specs.Codes.{code_of};
-ghost use Rattle.tsc_c.specs.Asked.{time_of, value_of, added_of};
-ghost use Rattle.tsc_c.specs.Calls.{Opens, Looks, StandsAt, Counts, AddsTo, AddsAllTo, IsClosed, RefusesOpen, RefusesLookup, RefusesTimedAdd, RefusesTimedAddAll};
-ghost use Rattle.tsc_c.specs.Table.{cache_at, entries_of, Keeps, GivesNext};
-ghost use Rattle.tsc_c.specs.declared.refusal.Refusal.{Refusal as Why};
+ghost use Rattle.tsc_table.specs.Codes.{code_of};
+ghost use Rattle.tsc_table.specs.Asked.{time_of, value_of, added_of};
+ghost use Rattle.tsc_table.specs.Calls.{Opens, Looks, StandsAt, Counts, AddsTo, AddsAllTo, IsClosed, RefusesLookup};
+ghost use Rattle.tsc_table.specs.Table.{cache_at, entries_of, Keeps, GivesNext};
+ghost use Rattle.tsc_table.specs.declared.refusal.Refusal.{Refusal as Why};
+ghost use Rattle.tsc_c.specs.Timed.{RefusesOpen, RefusesTimedAdd, RefusesTimedAddAll};
 
-mod asked;
 mod halls;
 mod held;
 pub mod laws;
-mod marks;
 mod place;
-mod refusal;
 mod seat_calls;
-mod seats;
-mod table;
 #[cfg(test)]
 mod tests;
-mod words;
 
 use place::Place;
-use refusal::OK;
 use std::alloc::Global;
-use words::{TscAdded, TscFigures, TscMark, TscTime, TscValue};
+use tsc_table::{OK, TscAdded, TscFigures, TscMark, TscTime, TscValue, asked};
 
 /// Opens a cache, and writes its number, which was not given before. The place may be zeros.
 #[unsafe(no_mangle)]
@@ -130,7 +124,7 @@ pub extern "C" fn tsc_get_max(
     ensures unchanged { place.new.table ≡ place.old.table }
     ensures value { result ≡ OK → Looks (cache_at (entries_of place.old.table) number) from.now to.now ends (value_of out.new) }
     ensures kept { result ≢ OK → out.new ≡ out.old }
-    ensures refused { result ≢ OK → (why : Why) × (result ≡ code_of why) × RefusesLookup why (cache_at (entries_of place.old.table) number) from.now to.now ends }
+    ensures refused { result ≢ OK → (why : Why) × (result ≡ code_of why) × RefusesLookup why (cache_at (entries_of place.old.table) number) ends }
 {
     match held::get_max(alloc, place, number, from, to, ends) {
         Ok(value) => {

@@ -1,0 +1,2 @@
+mod MarksMade
+mod NewSeats
