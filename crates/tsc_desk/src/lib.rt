@@ -6,7 +6,7 @@
 //!
 //! - [`new_desk`] makes a desk with two empty caches, and [`deal`] gives each seat its desk seat. [`gather`] brings them
 //!   together again, and [`end_desk`] gives what lies there in the end.
-//! - [`read_max`] and [`read_floor`] look at the cache that is shown, and wait for nobody.
+//! - [`read_max`], [`read_floor`] and [`read_figures`] look at the cache that is shown, and wait for nobody.
 //! - [`Patience::take`] takes the desk once it is free, and [`clear_all`] goes on once each seat has left the hidden side: both wait
 //!   ([`Endless`]), or give up after so many tries ([`Tries`]). Then who has taken the desk can work on the hidden cache, [`fill`] lays
 //!   handles on it, and [`flip`] has it shown; or [`give_back`] leaves all as it was.
@@ -26,7 +26,7 @@ mod waiting;
 pub use board::{Desk, DeskSeat, Held, Marks, Pending, Post, SharedDesk, Slot, Terms, Turns, View};
 pub use closing::{end_desk, gather};
 pub use desk::{clear_all, fill, flip, give_back};
-pub use looking::{read_floor, read_max};
+pub use looking::{PageCounts, read_figures, read_floor, read_max};
 pub use notes::{catch_up, see_newest, write_note};
 pub use opening::{deal, new_desk};
 pub use waiting::{Endless, Patience, Tries};

@@ -7,7 +7,7 @@ ghost use Rattle.tsc_cache.specs.Settings.{fits};
 ghost use Rattle.tsc_cache.specs.Batch.{all_fit};
 ghost use Rattle.tsc_shared.specs.declared.answers.AddFault.TheVariants as told;
 ghost use Rattle.tsc_shared.specs.declared.answers.TryAddFault.TheVariants as tried;
-ghost use Rattle.tsc_shared.specs.Answers.{GoesOn, Accepts, Refuses, TryRefusedFor, Looks, IsAbove, TellsNoPart, ReadsFloor};
+ghost use Rattle.tsc_shared.specs.Answers.{GoesOn, Accepts, Refuses, TryRefusedFor, Looks, IsAbove, TellsNoPart, ReadsFloor, ReadsFigures};
 ghost use Rattle.tsc_hall.specs.Homes.{dealing, keeping};
 ghost use Rattle.tsc_hall.specs.Seating.{HallView, IsSized};
 
@@ -17,7 +17,7 @@ use std::alloc::Global;
 use std::marker::Model;
 use std::sync::Arc;
 use tsc_cache::Mark;
-use tsc_shared::{Answer, LowWater, Receipt, Seat, TryAddFault};
+use tsc_shared::{Answer, Figures, LowWater, Receipt, Seat, TryAddFault};
 use tsc_span::{Span, SpanRef};
 use tsc_time::{NoMemory, Timestamp, Value};
 
@@ -74,6 +74,16 @@ impl Chair {
         ensures { ReadsFloor self.old self.new result }
     {
         match self.hall.cache.low_water(&mut self.seat) {
+            Ok(answer) => answer,
+            Err(_) => unreachable!(),
+        }
+    }
+
+    /// How many pages there are and how often they rotated, as [`SharedCache::figures`](tsc_shared::SharedCache::figures) answers.
+    pub fn figures(&mut self) -> Figures
+        ensures { ReadsFigures self.old self.new result }
+    {
+        match self.hall.cache.figures(&mut self.seat) {
             Ok(answer) => answer,
             Err(_) => unreachable!(),
         }
