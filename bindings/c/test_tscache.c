@@ -342,6 +342,7 @@ static void refusals(void)
     tsc_value v = {20, 0, {0}}, out = {1, 2, {3}};
     tsc_added a = {99, true, true};
     CHECK(tsc_try_add(&c.place, c.number, long_key, 4097, NULL, 0, TSC_ONWARD, &v, &AT_20, &a) == TSC_KEY_TOO_LONG);
+    CHECK(tsc_try_add(&c.place, c.number, "a", 1, long_key, 4097, TSC_EXCLUDE_TO, &v, &AT_20, &a) == TSC_KEY_TOO_LONG);
     CHECK(tsc_try_add(&c.place, c.number, "c", 1, "a", 1, TSC_EXCLUDE_TO, &v, &AT_20, &a) == TSC_INVERTED);
     CHECK(tsc_try_add(&c.place, c.number, long_key, 4096, NULL, 0, TSC_POINT, &v, &AT_20, &a) == TSC_TOO_LARGE);
     for (uint32_t ends = 0; ends < 64; ends++) {
@@ -361,6 +362,8 @@ static void refusals(void)
     CHECK(answers(&c, "a", 20, 0, 'A') && has(&c, 1, 0, 5, 0));
     CHECK(answers(&c, "[,a)", 20, 0, '-') == false && tsc_try_get_max(&c.place, c.number, NULL, 0, NULL, 0, TSC_POINT, &v) == TSC_OK);
     CHECK(strcmp(tsc_text(TSC_CLOSED), "the number names nothing of this kind") == 0 && strcmp(tsc_text(1000), "no such answer") == 0);
+    CHECK(tsc_try_add(&c.place, c.number, "x", 1, long_key, 4097, TSC_POINT, &v, &AT_20, &a) == TSC_OK && a.kept); /* the second key is passed over */
+    CHECK(tsc_try_add(&c.place, c.number, "y", 1, long_key, 4097, TSC_ONWARD, &v, &AT_20, &a) == TSC_OK && a.kept);
     tsc_free(&c.place);
 }
 

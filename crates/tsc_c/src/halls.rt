@@ -71,7 +71,7 @@ pub fn seat_get_max(
 ) -> Result<Answer, Refusal>
     ensures looked { IfOk result (λ answer. SeatLooks (seat_at (entries_of place.old.table) number) (seat_at (entries_of place.new.table) number) from.now to.now ends answer.front answer.value) }
     ensures others { Keeps (entries_of place.old.table) (entries_of place.new.table) number }
-    ensures unchanged { OnErr result (seat_at (entries_of place.new.table) number ≡ seat_at (entries_of place.old.table) number) }
+    ensures unchanged { OnErr result (entries_of place.new.table ≡ entries_of place.old.table) }
     ensures refused { IfErr result (λ why. RefusesSeatLookup why (seat_at (entries_of place.old.table) number) ends) }
 {
     match replace(place, Place::empty()).into_box(alloc) {
@@ -88,7 +88,7 @@ pub fn seat_get_max(
 pub fn seat_low_water(alloc: Global, place: &mut Place, number: u64) -> Result<LowWater, Refusal>
     ensures floor { IfOk result (λ answer. SeatStandsAt (seat_at (entries_of place.old.table) number) (seat_at (entries_of place.new.table) number) answer.front answer.time) }
     ensures others { Keeps (entries_of place.old.table) (entries_of place.new.table) number }
-    ensures unchanged { OnErr result (seat_at (entries_of place.new.table) number ≡ seat_at (entries_of place.old.table) number) }
+    ensures unchanged { OnErr result (entries_of place.new.table ≡ entries_of place.old.table) }
     ensures refused { IfErr result (λ why. IsNoSeat why (seat_at (entries_of place.old.table) number)) }
 {
     match replace(place, Place::empty()).into_box(alloc) {
@@ -105,7 +105,7 @@ pub fn seat_low_water(alloc: Global, place: &mut Place, number: u64) -> Result<L
 pub fn seat_figures(alloc: Global, place: &mut Place, number: u64) -> Result<Figures, Refusal>
     ensures figures { IfOk result (λ answer. SeatCounts (seat_at (entries_of place.old.table) number) (seat_at (entries_of place.new.table) number) answer.front (record { pages = answer.pages; rotations = answer.rotations })) }
     ensures others { Keeps (entries_of place.old.table) (entries_of place.new.table) number }
-    ensures unchanged { OnErr result (seat_at (entries_of place.new.table) number ≡ seat_at (entries_of place.old.table) number) }
+    ensures unchanged { OnErr result (entries_of place.new.table ≡ entries_of place.old.table) }
     ensures refused { IfErr result (λ why. IsNoSeat why (seat_at (entries_of place.old.table) number)) }
 {
     match replace(place, Place::empty()).into_box(alloc) {
@@ -133,6 +133,7 @@ pub fn seat_add(
     ensures added { IfOk result (λ did. SeatAddsTo (seat_at (entries_of place.old.table) number) (seat_at (entries_of place.new.table) number) from.now to.now ends (value_of value.now) (time_of now.now) did.place did.added) }
     ensures others { Keeps (entries_of place.old.table) (entries_of place.new.table) number }
     ensures spared { OnErr result (Spares (seat_at (entries_of place.old.table) number) (seat_at (entries_of place.new.table) number)) }
+    ensures no_seat { OnErr result (seat_at (entries_of place.old.table) number ≡ None → entries_of place.new.table ≡ entries_of place.old.table) }
     ensures tried { IfOk result (λ _. tries ≢ 0) }
     ensures refused { IfErr result (λ why. RefusesTimedSeatAdd why (seat_at (entries_of place.old.table) number) (seat_at (entries_of place.new.table) number) from.now to.now ends (value_of value.now).time (time_of now.now) tries) }
 {
@@ -156,6 +157,7 @@ fn seat_add_value(
     ensures added { IfOk result (λ did. SeatAddsTo (seat_at (entries_of place.old.table) number) (seat_at (entries_of place.new.table) number) from.now to.now ends value now did.place did.added) }
     ensures others { Keeps (entries_of place.old.table) (entries_of place.new.table) number }
     ensures spared { OnErr result (Spares (seat_at (entries_of place.old.table) number) (seat_at (entries_of place.new.table) number)) }
+    ensures no_seat { OnErr result (seat_at (entries_of place.old.table) number ≡ None → entries_of place.new.table ≡ entries_of place.old.table) }
     ensures tried { IfOk result (λ _. tries ≢ 0) }
     ensures refused { IfErr result (λ why. RefusesSeatAdd why (seat_at (entries_of place.old.table) number) (seat_at (entries_of place.new.table) number) from.now to.now ends tries) }
 {
@@ -182,6 +184,7 @@ pub fn seat_add_all(
     ensures added { IfOk result (λ did. SeatAddsAllTo (seat_at (entries_of place.old.table) number) (seat_at (entries_of place.new.table) number) keys.now marks.now (time_of now.now) did.place did.added) }
     ensures others { Keeps (entries_of place.old.table) (entries_of place.new.table) number }
     ensures spared { OnErr result (Spares (seat_at (entries_of place.old.table) number) (seat_at (entries_of place.new.table) number)) }
+    ensures no_seat { OnErr result (seat_at (entries_of place.old.table) number ≡ None → entries_of place.new.table ≡ entries_of place.old.table) }
     ensures tried { IfOk result (λ _. tries ≢ 0) }
     ensures refused { IfErr result (λ why. RefusesTimedSeatAddAll why (seat_at (entries_of place.old.table) number) (seat_at (entries_of place.new.table) number) keys.now marks.now (time_of now.now) tries) }
 {
@@ -202,6 +205,7 @@ fn seat_add_marks(
     ensures added { IfOk result (λ did. SeatAddsAllTo (seat_at (entries_of place.old.table) number) (seat_at (entries_of place.new.table) number) keys.now marks.now now did.place did.added) }
     ensures others { Keeps (entries_of place.old.table) (entries_of place.new.table) number }
     ensures spared { OnErr result (Spares (seat_at (entries_of place.old.table) number) (seat_at (entries_of place.new.table) number)) }
+    ensures no_seat { OnErr result (seat_at (entries_of place.old.table) number ≡ None → entries_of place.new.table ≡ entries_of place.old.table) }
     ensures tried { IfOk result (λ _. tries ≢ 0) }
     ensures refused { IfErr result (λ why. RefusesSeatAddAll why (seat_at (entries_of place.old.table) number) (seat_at (entries_of place.new.table) number) keys.now marks.now tries) }
 {

@@ -107,7 +107,7 @@ pub fn add(
 ) -> Result<Added, Refusal>
     ensures added { IfOk result (λ added. AddsTo (cache_at (entries_of place.old.table) number) (cache_at (entries_of place.new.table) number) from.now to.now ends (value_of value.now) (time_of now.now) added) }
     ensures others { Keeps (entries_of place.old.table) (entries_of place.new.table) number }
-    ensures unchanged { OnErr result (cache_at (entries_of place.new.table) number ≡ cache_at (entries_of place.old.table) number) }
+    ensures unchanged { OnErr result (entries_of place.new.table ≡ entries_of place.old.table) }
     ensures refused { IfErr result (λ why. RefusesTimedAdd why (cache_at (entries_of place.old.table) number) from.now to.now ends (value_of value.now).time (time_of now.now)) }
 {
     let value = value_asked(value)?;
@@ -128,7 +128,7 @@ fn add_value(
 ) -> Result<Added, Refusal>
     ensures added { IfOk result (λ added. AddsTo (cache_at (entries_of place.old.table) number) (cache_at (entries_of place.new.table) number) from.now to.now ends value now added) }
     ensures others { Keeps (entries_of place.old.table) (entries_of place.new.table) number }
-    ensures unchanged { OnErr result (cache_at (entries_of place.new.table) number ≡ cache_at (entries_of place.old.table) number) }
+    ensures unchanged { OnErr result (entries_of place.new.table ≡ entries_of place.old.table) }
     ensures refused { IfErr result (λ why. RefusesAdd why (cache_at (entries_of place.old.table) number) from.now to.now ends) }
 {
     match replace(place, Place::empty()).into_box(alloc) {
@@ -152,7 +152,7 @@ pub fn add_all(
 ) -> Result<Added, Refusal>
     ensures added { IfOk result (λ added. AddsAllTo (cache_at (entries_of place.old.table) number) (cache_at (entries_of place.new.table) number) keys.now marks.now (time_of now.now) added) }
     ensures others { Keeps (entries_of place.old.table) (entries_of place.new.table) number }
-    ensures unchanged { OnErr result (cache_at (entries_of place.new.table) number ≡ cache_at (entries_of place.old.table) number) }
+    ensures unchanged { OnErr result (entries_of place.new.table ≡ entries_of place.old.table) }
     ensures refused { IfErr result (λ why. RefusesTimedAddAll why (cache_at (entries_of place.old.table) number) keys.now marks.now (time_of now.now)) }
 {
     let now = time(now)?;
@@ -170,7 +170,7 @@ fn add_marks(
 ) -> Result<Added, Refusal>
     ensures added { IfOk result (λ added. AddsAllTo (cache_at (entries_of place.old.table) number) (cache_at (entries_of place.new.table) number) keys.now marks.now now added) }
     ensures others { Keeps (entries_of place.old.table) (entries_of place.new.table) number }
-    ensures unchanged { OnErr result (cache_at (entries_of place.new.table) number ≡ cache_at (entries_of place.old.table) number) }
+    ensures unchanged { OnErr result (entries_of place.new.table ≡ entries_of place.old.table) }
     ensures refused { IfErr result (λ why. RefusesAddAll why (cache_at (entries_of place.old.table) number) keys.now marks.now) }
 {
     match replace(place, Place::empty()).into_box(alloc) {
@@ -255,6 +255,7 @@ pub fn close(alloc: Global, place: &mut Place, number: u64) -> Result<(), Refusa
     ensures others { Keeps (entries_of place.old.table) (entries_of place.new.table) number }
     ensures refused { IfErr result (λ why. IsClosed why (cache_at (entries_of place.old.table) number)) }
     ensures done { IfOk result (λ _. cache_at (entries_of place.old.table) number ≢ None) }
+    ensures unchanged { OnErr result (entries_of place.new.table ≡ entries_of place.old.table) }
 {
     match replace(place, Place::empty()).into_box(alloc) {
         Some(mut table) => {

@@ -71,7 +71,7 @@ pub extern "C" fn tsc_add(
     ensures added { result ≡ OK → AddsTo (cache_at (entries_of place.old.table) number) (cache_at (entries_of place.new.table) number) from.now to.now ends
         (value_of value.now) (time_of now.now) (added_of out.new) }
     ensures others { Keeps (entries_of place.old.table) (entries_of place.new.table) number }
-    ensures unchanged { result ≢ OK → (cache_at (entries_of place.new.table) number ≡ cache_at (entries_of place.old.table) number) × (out.new ≡ out.old) }
+    ensures unchanged { result ≢ OK → (entries_of place.new.table ≡ entries_of place.old.table) × (out.new ≡ out.old) }
     ensures refused { result ≢ OK → (why : Why) × (result ≡ code_of why) × RefusesTimedAdd why (cache_at (entries_of place.old.table) number) from.now to.now ends
         (value_of value.now).time (time_of now.now) }
 {
@@ -98,7 +98,7 @@ pub extern "C" fn tsc_add_all(
     ensures added { result ≡ OK → AddsAllTo (cache_at (entries_of place.old.table) number) (cache_at (entries_of place.new.table) number) keys.now marks.now
         (time_of now.now) (added_of out.new) }
     ensures others { Keeps (entries_of place.old.table) (entries_of place.new.table) number }
-    ensures unchanged { result ≢ OK → (cache_at (entries_of place.new.table) number ≡ cache_at (entries_of place.old.table) number) × (out.new ≡ out.old) }
+    ensures unchanged { result ≢ OK → (entries_of place.new.table ≡ entries_of place.old.table) × (out.new ≡ out.old) }
     ensures refused { result ≢ OK → (why : Why) × (result ≡ code_of why) × RefusesTimedAddAll why (cache_at (entries_of place.old.table) number) keys.now marks.now (time_of now.now) }
 {
     match held::add_all(alloc, place, number, keys, marks, now) {
@@ -185,6 +185,7 @@ pub extern "C" fn tsc_close(alloc: Global, place: &mut Place, number: u64) -> u3
     ensures closed { cache_at (entries_of place.new.table) number ≡ None }
     ensures others { Keeps (entries_of place.old.table) (entries_of place.new.table) number }
     ensures done { result ≡ OK → cache_at (entries_of place.old.table) number ≢ None }
+    ensures unchanged { result ≢ OK → entries_of place.new.table ≡ entries_of place.old.table }
     ensures refused { result ≢ OK → (why : Why) × (result ≡ code_of why) × IsClosed why (cache_at (entries_of place.old.table) number) }
 {
     match held::close(alloc, place, number) {

@@ -63,6 +63,7 @@ pub extern "C" fn tsc_seat_add(
         (value_of value.now) (time_of now.now) place_in_history.new (added_of out.new) }
     ensures others { Keeps (entries_of place.old.table) (entries_of place.new.table) number }
     ensures spared { result ≢ OK → Spares (seat_at (entries_of place.old.table) number) (seat_at (entries_of place.new.table) number) }
+    ensures no_seat { result ≢ OK → seat_at (entries_of place.old.table) number ≡ None → entries_of place.new.table ≡ entries_of place.old.table }
     ensures tried { result ≡ OK → tries ≢ 0 }
     ensures kept { result ≢ OK → (place_in_history.new ≡ place_in_history.old) × (out.new ≡ out.old) }
     ensures refused { result ≢ OK → (why : Why) × (result ≡ code_of why) × RefusesTimedSeatAdd why (seat_at (entries_of place.old.table) number)
@@ -95,6 +96,7 @@ pub extern "C" fn tsc_seat_add_all(
         (time_of now.now) place_in_history.new (added_of out.new) }
     ensures others { Keeps (entries_of place.old.table) (entries_of place.new.table) number }
     ensures spared { result ≢ OK → Spares (seat_at (entries_of place.old.table) number) (seat_at (entries_of place.new.table) number) }
+    ensures no_seat { result ≢ OK → seat_at (entries_of place.old.table) number ≡ None → entries_of place.new.table ≡ entries_of place.old.table }
     ensures tried { result ≡ OK → tries ≢ 0 }
     ensures kept { result ≢ OK → (place_in_history.new ≡ place_in_history.old) × (out.new ≡ out.old) }
     ensures refused { result ≢ OK → (why : Why) × (result ≡ code_of why) × RefusesTimedSeatAddAll why (seat_at (entries_of place.old.table) number)
@@ -125,7 +127,7 @@ pub extern "C" fn tsc_seat_get_max(
     ensures looked { result ≡ OK → SeatLooks (seat_at (entries_of place.old.table) number) (seat_at (entries_of place.new.table) number) from.now to.now ends
         seen.new (value_of out.new) }
     ensures others { Keeps (entries_of place.old.table) (entries_of place.new.table) number }
-    ensures unchanged { result ≢ OK → (seat_at (entries_of place.new.table) number ≡ seat_at (entries_of place.old.table) number) × (seen.new ≡ seen.old) × (out.new ≡ out.old) }
+    ensures unchanged { result ≢ OK → (entries_of place.new.table ≡ entries_of place.old.table) × (seen.new ≡ seen.old) × (out.new ≡ out.old) }
     ensures refused { result ≢ OK → (why : Why) × (result ≡ code_of why) × RefusesSeatLookup why (seat_at (entries_of place.old.table) number) ends }
 {
     match halls::seat_get_max(alloc, place, number, from, to, ends) {
@@ -149,7 +151,7 @@ pub extern "C" fn tsc_seat_low_water(
 ) -> u32
     ensures floor { result ≡ OK → SeatStandsAt (seat_at (entries_of place.old.table) number) (seat_at (entries_of place.new.table) number) seen.new (time_of out.new) }
     ensures others { Keeps (entries_of place.old.table) (entries_of place.new.table) number }
-    ensures unchanged { result ≢ OK → (seat_at (entries_of place.new.table) number ≡ seat_at (entries_of place.old.table) number) × (seen.new ≡ seen.old) × (out.new ≡ out.old) }
+    ensures unchanged { result ≢ OK → (entries_of place.new.table ≡ entries_of place.old.table) × (seen.new ≡ seen.old) × (out.new ≡ out.old) }
     ensures refused { result ≢ OK → (why : Why) × (result ≡ code_of why) × IsNoSeat why (seat_at (entries_of place.old.table) number) }
 {
     match halls::seat_low_water(alloc, place, number) {
@@ -173,7 +175,7 @@ pub extern "C" fn tsc_seat_figures_of(
 ) -> u32
     ensures figures { result ≡ OK → SeatCounts (seat_at (entries_of place.old.table) number) (seat_at (entries_of place.new.table) number) seen.new out.new }
     ensures others { Keeps (entries_of place.old.table) (entries_of place.new.table) number }
-    ensures unchanged { result ≢ OK → (seat_at (entries_of place.new.table) number ≡ seat_at (entries_of place.old.table) number) × (seen.new ≡ seen.old) × (out.new ≡ out.old) }
+    ensures unchanged { result ≢ OK → (entries_of place.new.table ≡ entries_of place.old.table) × (seen.new ≡ seen.old) × (out.new ≡ out.old) }
     ensures refused { result ≢ OK → (why : Why) × (result ≡ code_of why) × IsNoSeat why (seat_at (entries_of place.old.table) number) }
 {
     match halls::seat_figures(alloc, place, number) {

@@ -42,7 +42,7 @@ impl Entry {
     fn seat_get_max(&mut self, from: &[u8], to: &[u8], ends: u32) -> Result<Answer, Refusal>
         ensures looked { IfOk result (λ answer. SeatLooks (seat_of self.old) (seat_of self.new) from.now to.now ends answer.front answer.value) }
         ensures refused { IfErr result (λ why. RefusesSeatLookup why (seat_of self.old) ends) }
-        ensures unchanged { OnErr result (seat_of self.new ≡ seat_of self.old) }
+        ensures unchanged { OnErr result (self.new ≡ self.old) }
     {
         match self {
             Entry::Seat(chair) => look_at(chair, from, to, ends),
@@ -54,7 +54,7 @@ impl Entry {
     fn seat_low_water(&mut self) -> Result<LowWater, Refusal>
         ensures floor { IfOk result (λ answer. SeatStandsAt (seat_of self.old) (seat_of self.new) answer.front answer.time) }
         ensures refused { IfErr result (λ why. IsNoSeat why (seat_of self.old)) }
-        ensures unchanged { OnErr result (seat_of self.new ≡ seat_of self.old) }
+        ensures unchanged { OnErr result (self.new ≡ self.old) }
     {
         match self {
             Entry::Seat(chair) => Ok(chair.low_water()),
@@ -66,7 +66,7 @@ impl Entry {
     fn seat_figures(&mut self) -> Result<Figures, Refusal>
         ensures figures { IfOk result (λ answer. SeatCounts (seat_of self.old) (seat_of self.new) answer.front (record { pages = answer.pages; rotations = answer.rotations })) }
         ensures refused { IfErr result (λ why. IsNoSeat why (seat_of self.old)) }
-        ensures unchanged { OnErr result (seat_of self.new ≡ seat_of self.old) }
+        ensures unchanged { OnErr result (self.new ≡ self.old) }
     {
         match self {
             Entry::Seat(chair) => Ok(chair.figures()),
@@ -88,6 +88,7 @@ impl Entry {
         ensures added { IfOk result (λ did. SeatAddsTo (seat_of self.old) (seat_of self.new) from.now to.now ends value now did.place did.added) }
         ensures refused { IfErr result (λ why. RefusesSeatAdd why (seat_of self.old) (seat_of self.new) from.now to.now ends tries) }
         ensures spared { OnErr result (Spares (seat_of self.old) (seat_of self.new)) }
+        ensures no_seat { OnErr result (seat_of self.old ≡ None → self.new ≡ self.old) }
         ensures tried { IfOk result (λ _. tries ≢ 0) }
     {
         match self {
@@ -108,6 +109,7 @@ impl Entry {
         ensures added { IfOk result (λ did. SeatAddsAllTo (seat_of self.old) (seat_of self.new) keys.now asked.now now did.place did.added) }
         ensures refused { IfErr result (λ why. RefusesSeatAddAll why (seat_of self.old) (seat_of self.new) keys.now asked.now tries) }
         ensures spared { OnErr result (Spares (seat_of self.old) (seat_of self.new)) }
+        ensures no_seat { OnErr result (seat_of self.old ≡ None → self.new ≡ self.old) }
         ensures tried { IfOk result (λ _. tries ≢ 0) }
     {
         match self {
@@ -222,7 +224,7 @@ impl Table {
         ensures looked { IfOk result (λ answer. SeatLooks (seat_at self.old.entries.items number) (seat_at self.new.entries.items number) from.now to.now ends answer.front answer.value) }
         ensures others { Keeps self.old.entries.items self.new.entries.items number }
         ensures refused { IfErr result (λ why. RefusesSeatLookup why (seat_at self.old.entries.items number) ends) }
-        ensures unchanged { OnErr result (seat_at self.new.entries.items number ≡ seat_at self.old.entries.items number) }
+        ensures unchanged { OnErr result (self.new.entries.items ≡ self.old.entries.items) }
     {
         match self.entries.get_mut(number as usize) {
             Some(entry) => entry.seat_get_max(from, to, ends),
@@ -235,7 +237,7 @@ impl Table {
         ensures floor { IfOk result (λ answer. SeatStandsAt (seat_at self.old.entries.items number) (seat_at self.new.entries.items number) answer.front answer.time) }
         ensures others { Keeps self.old.entries.items self.new.entries.items number }
         ensures refused { IfErr result (λ why. IsNoSeat why (seat_at self.old.entries.items number)) }
-        ensures unchanged { OnErr result (seat_at self.new.entries.items number ≡ seat_at self.old.entries.items number) }
+        ensures unchanged { OnErr result (self.new.entries.items ≡ self.old.entries.items) }
     {
         match self.entries.get_mut(number as usize) {
             Some(entry) => entry.seat_low_water(),
@@ -248,7 +250,7 @@ impl Table {
         ensures figures { IfOk result (λ answer. SeatCounts (seat_at self.old.entries.items number) (seat_at self.new.entries.items number) answer.front (record { pages = answer.pages; rotations = answer.rotations })) }
         ensures others { Keeps self.old.entries.items self.new.entries.items number }
         ensures refused { IfErr result (λ why. IsNoSeat why (seat_at self.old.entries.items number)) }
-        ensures unchanged { OnErr result (seat_at self.new.entries.items number ≡ seat_at self.old.entries.items number) }
+        ensures unchanged { OnErr result (self.new.entries.items ≡ self.old.entries.items) }
     {
         match self.entries.get_mut(number as usize) {
             Some(entry) => entry.seat_figures(),
@@ -272,6 +274,7 @@ impl Table {
         ensures others { Keeps self.old.entries.items self.new.entries.items number }
         ensures refused { IfErr result (λ why. RefusesSeatAdd why (seat_at self.old.entries.items number) (seat_at self.new.entries.items number) from.now to.now ends tries) }
         ensures spared { OnErr result (Spares (seat_at self.old.entries.items number) (seat_at self.new.entries.items number)) }
+        ensures no_seat { OnErr result (seat_at self.old.entries.items number ≡ None → self.new.entries.items ≡ self.old.entries.items) }
         ensures tried { IfOk result (λ _. tries ≢ 0) }
     {
         match self.entries.get_mut(number as usize) {
@@ -294,6 +297,7 @@ impl Table {
         ensures others { Keeps self.old.entries.items self.new.entries.items number }
         ensures refused { IfErr result (λ why. RefusesSeatAddAll why (seat_at self.old.entries.items number) (seat_at self.new.entries.items number) keys.now asked.now tries) }
         ensures spared { OnErr result (Spares (seat_at self.old.entries.items number) (seat_at self.new.entries.items number)) }
+        ensures no_seat { OnErr result (seat_at self.old.entries.items number ≡ None → self.new.entries.items ≡ self.old.entries.items) }
         ensures tried { IfOk result (λ _. tries ≢ 0) }
     {
         match self.entries.get_mut(number as usize) {

@@ -52,7 +52,7 @@ impl Entry {
     ) -> Result<Added, Refusal>
         ensures added { IfOk result (λ added. AddsTo (cache_of self.old) (cache_of self.new) from.now to.now ends value now added) }
         ensures refused { IfErr result (λ why. RefusesAdd why (cache_of self.old) from.now to.now ends) }
-        ensures unchanged { OnErr result (cache_of self.new ≡ cache_of self.old) }
+        ensures unchanged { OnErr result (self.new ≡ self.old) }
     {
         match self {
             Entry::Own(cache) => add_in(alloc, cache, from, to, ends, value, now),
@@ -70,7 +70,7 @@ impl Entry {
     ) -> Result<Added, Refusal>
         ensures added { IfOk result (λ added. AddsAllTo (cache_of self.old) (cache_of self.new) keys.now asked.now now added) }
         ensures refused { IfErr result (λ why. RefusesAddAll why (cache_of self.old) keys.now asked.now) }
-        ensures unchanged { OnErr result (cache_of self.new ≡ cache_of self.old) }
+        ensures unchanged { OnErr result (self.new ≡ self.old) }
     {
         match self {
             Entry::Own(cache) => add_all_in(alloc, cache, keys, asked, now),
@@ -193,7 +193,7 @@ impl Table {
         ensures added { IfOk result (λ added. AddsTo (cache_at self.old.entries.items number) (cache_at self.new.entries.items number) from.now to.now ends value now added) }
         ensures others { Keeps self.old.entries.items self.new.entries.items number }
         ensures refused { IfErr result (λ why. RefusesAdd why (cache_at self.old.entries.items number) from.now to.now ends) }
-        ensures unchanged { OnErr result (cache_at self.new.entries.items number ≡ cache_at self.old.entries.items number) }
+        ensures unchanged { OnErr result (self.new.entries.items ≡ self.old.entries.items) }
     {
         match self.entries.get_mut(number as usize) {
             Some(entry) => entry.add(alloc, from, to, ends, value, now),
@@ -213,7 +213,7 @@ impl Table {
         ensures added { IfOk result (λ added. AddsAllTo (cache_at self.old.entries.items number) (cache_at self.new.entries.items number) keys.now asked.now now added) }
         ensures others { Keeps self.old.entries.items self.new.entries.items number }
         ensures refused { IfErr result (λ why. RefusesAddAll why (cache_at self.old.entries.items number) keys.now asked.now) }
-        ensures unchanged { OnErr result (cache_at self.new.entries.items number ≡ cache_at self.old.entries.items number) }
+        ensures unchanged { OnErr result (self.new.entries.items ≡ self.old.entries.items) }
     {
         match self.entries.get_mut(number as usize) {
             Some(entry) => entry.add_all(alloc, keys, asked, now),
@@ -227,6 +227,7 @@ impl Table {
         ensures others { Keeps self.old.entries.items self.new.entries.items number }
         ensures refused { IfErr result (λ why. IsClosed why (cache_at self.old.entries.items number)) }
         ensures done { IfOk result (λ _. cache_at self.old.entries.items number ≢ None) }
+        ensures unchanged { OnErr result (self.new.entries.items ≡ self.old.entries.items) }
     {
         match self.entries.get_mut(number as usize) {
             Some(entry) => entry.close(),
