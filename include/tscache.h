@@ -30,9 +30,10 @@
  *   - No call comes from a signal handler, or from the forked child of a process that has threads.
  *   - `malloc`, `realloc` and `free` are one allocator, which aligns a block to each power of two up to 16 that divides its size.
  *
- * Who owns what: a call copies the bytes of the keys, and keeps no pointer that it is given. All memory that it takes belongs to
- * the place until `tsc_close` (one cache) or `tsc_free` (all of them, and the place's own). A shared cache belongs to its number and
- * to its seats together, and is freed with the last of these.
+ * Who owns what: an Add copies the bytes of its keys, a lookup copies nothing, and no call keeps a pointer that it is given. All memory
+ * that a call takes belongs to the place until `tsc_close` (one cache) or `tsc_free` (all of them, and the place's own). A shared cache
+ * belongs to its number and to its seats together, and is freed with the last of these. Calls that only read, which are lookups and those
+ * for floors and figures, take no memory.
  *
  * A cache that threads share has seats, each for one thread at a time. A program opens it, and moves each seat to a place of its
  * own, which it hands to a thread:
@@ -66,14 +67,14 @@ enum {
     TSC_CLOSED = 1,       /* the number names nothing in this place, or nothing of this kind: it was closed, moved, or never given */
     TSC_TIME = 2,         /* a wall time is above 2^63 - 1, or a logical count above 2^31 - 1 */
     TSC_ENDS = 3,         /* `ends` is none of the sums named below */
-    TSC_KEY_TOO_LONG = 4, /* a key has more than 4096 bytes */
+    TSC_KEY_TOO_LONG = 4, /* a key of a span to be added has more than 4096 bytes; a lookup takes any */
     TSC_INVERTED = 5,     /* of a span to be added the first key is greater than the second */
     TSC_TOO_LARGE = 6,    /* a span to be added costs more than page_max: 32 and its bytes for each key */
     TSC_OUTSIDE = 7,      /* a key of a mark does not lie among `keys` */
     TSC_PAGE_SIZE = 8,    /* page_first is below 64 or above page_max, or that is above 2^30 */
     TSC_MIN_PAGES = 9,    /* min_pages is 0 or above 64 */
     TSC_RETENTION = 10,   /* retention is above 2^63 - 1 */
-    TSC_NO_MEMORY = 11,   /* malloc or realloc refused */
+    TSC_NO_MEMORY = 11,   /* malloc or realloc refused; told by no call that only reads */
     TSC_SEATS = 12,       /* there were to be no seats, or more than 64 */
     TSC_STILL_OUT = 13,   /* a seat of the shared cache was not handed in */
     TSC_BUSY = 14,        /* others were in the way at each of so many tries: another Add, or a lookup */
@@ -143,7 +144,8 @@ uint32_t tsc_add_all(tsc_place *place, uint64_t number, const uint8_t *keys, siz
                      size_t marks_len, const tsc_time *now, tsc_added *out);
 
 /* The latest time on a span, with its owner where all reads of that time are one transaction's, or the floor. A span whose first
- * key is greater than the second is empty, and the floor answers. */
+ * key is greater than the second is empty, and the floor answers. A key may be of any length. It is refused by TSC_CLOSED and TSC_ENDS
+ * alone. */
 uint32_t tsc_get_max(tsc_place *place, uint64_t number, const uint8_t *from, size_t from_len, const uint8_t *to, size_t to_len,
                      uint32_t ends, tsc_value *out);
 
@@ -174,8 +176,8 @@ uint32_t tsc_open_shared(tsc_place *place, uint32_t page_first, uint32_t page_ma
  *
  * An Add takes its turn. It tries so many times to begin, where another seat is at it, and looks so many times at each seat that is inside a
  * lookup. Where others are in the way each time it is refused by TSC_BUSY and may be tried again; with 0 tries it always is. TSC_FULL
- * comes where there were `limit` Adds. `place_in_history` is where this one stands among all Adds, from 0 on. Lookups wait for nobody and are never
- * refused for others. `seen` is how many Adds the seat has seen then, which never goes back. */
+ * comes where there were `limit` Adds. `place_in_history` is where this one stands among all Adds, from 0 on. Lookups wait for nobody, and are
+ * refused as those of `tsc_get_max` are. `seen` is how many Adds the seat has seen then, which never goes back. */
 uint32_t tsc_seat_add(tsc_place *place, uint64_t seat, const uint8_t *from, size_t from_len, const uint8_t *to, size_t to_len,
                       uint32_t ends, const tsc_value *value, const tsc_time *now, uint32_t tries, uint64_t *place_in_history,
                       tsc_added *out);
@@ -184,6 +186,7 @@ uint32_t tsc_seat_add_all(tsc_place *place, uint64_t seat, const uint8_t *keys, 
 uint32_t tsc_seat_get_max(tsc_place *place, uint64_t seat, const uint8_t *from, size_t from_len, const uint8_t *to, size_t to_len,
                           uint32_t ends, uint64_t *seen, tsc_value *out);
 uint32_t tsc_seat_low_water(tsc_place *place, uint64_t seat, uint64_t *seen, tsc_time *out);
+uint32_t tsc_seat_figures_of(tsc_place *place, uint64_t seat, uint64_t *seen, tsc_figures *out);
 
 /* Hands in a seat. Its number names nothing from then on. */
 uint32_t tsc_seat_close(tsc_place *place, uint64_t seat);
@@ -224,6 +227,16 @@ static inline uint32_t tsc_try_get_max(tsc_place *place, uint64_t number, const 
     return tsc_get_max(place, number, tsc_bytes(from), from_len, tsc_bytes(to), to_len, ends, out);
 }
 
+static inline uint32_t tsc_try_low_water(tsc_place *place, uint64_t number, tsc_time *out)
+{
+    return place && out ? tsc_low_water(place, number, out) : (uint32_t)TSC_NULL;
+}
+
+static inline uint32_t tsc_try_figures_of(tsc_place *place, uint64_t number, tsc_figures *out)
+{
+    return place && out ? tsc_figures_of(place, number, out) : (uint32_t)TSC_NULL;
+}
+
 static inline uint32_t tsc_seat_try_add(tsc_place *place, uint64_t seat, const void *from, size_t from_len, const void *to,
                                         size_t to_len, uint32_t ends, const tsc_value *value, const tsc_time *now, uint32_t tries,
                                         uint64_t *place_in_history, tsc_added *out)
@@ -251,12 +264,22 @@ static inline uint32_t tsc_seat_try_get_max(tsc_place *place, uint64_t seat, con
     return tsc_seat_get_max(place, seat, tsc_bytes(from), from_len, tsc_bytes(to), to_len, ends, seen, out);
 }
 
+static inline uint32_t tsc_seat_try_low_water(tsc_place *place, uint64_t seat, uint64_t *seen, tsc_time *out)
+{
+    return place && seen && out ? tsc_seat_low_water(place, seat, seen, out) : (uint32_t)TSC_NULL;
+}
+
+static inline uint32_t tsc_seat_try_figures_of(tsc_place *place, uint64_t seat, uint64_t *seen, tsc_figures *out)
+{
+    return place && seen && out ? tsc_seat_figures_of(place, seat, seen, out) : (uint32_t)TSC_NULL;
+}
+
 /* The name of what a call answered. */
 static inline const char *tsc_text(uint32_t answer)
 {
     switch (answer) {
     case TSC_OK: return "done";
-    case TSC_CLOSED: return "no cache has this number";
+    case TSC_CLOSED: return "the number names nothing of this kind";
     case TSC_TIME: return "a time is out of range";
     case TSC_ENDS: return "there are no such ends of a span";
     case TSC_KEY_TOO_LONG: return "a key is too long";

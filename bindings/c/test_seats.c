@@ -45,6 +45,13 @@ static bool answers(tsc_place *place, uint64_t seat, const char *key, uint64_t w
     return tsc_seat_try_get_max(place, seat, key, strlen(key), NULL, 0, TSC_POINT, &long_, &v) == TSC_OK && v.wall == wall && long_ == seen;
 }
 
+static bool has(tsc_place *place, uint64_t seat, uint64_t pages, uint64_t rotations, uint64_t seen)
+{
+    uint64_t long_ = 99;
+    tsc_figures f = {99, 99};
+    return tsc_seat_try_figures_of(place, seat, &long_, &f) == TSC_OK && f.pages == pages && f.rotations == rotations && long_ == seen;
+}
+
 /* What one thread sees of another's seat, one call after another. */
 static void seats(void)
 {
@@ -58,6 +65,7 @@ static void seats(void)
     CHECK(add(&other, moved, "b", 1, &at) == TSC_OK && at == 1);
     CHECK(answers(&place, 1, "b", 20, 2));
     CHECK(tsc_seat_low_water(&place, 1, &seen, &floor) == TSC_OK && seen == 2 && floor.wall == 5 && floor.logical == 0);
+    CHECK(has(&place, 1, 1, 0, 2) && has(&other, moved, 1, 0, 2));
     tsc_mark marks[2] = {{0, 1, 0, 0, {30, 0, {0}}, TSC_POINT}, {1, 1, 0, 0, {31, 0, {0}}, TSC_POINT}};
     tsc_added added = {99, false, true};
     CHECK(tsc_seat_try_add_all(&place, 1, "xy", 2, marks, 2, &NOW, 1, &at, &added) == TSC_OK && at == 2 && added.kept && !added.rotated && added.evicted == 0);
@@ -75,13 +83,57 @@ static void seats(void)
     tsc_free(&other);
 }
 
+/* Each pointer that may be null, where it has to lead somewhere. */
+static void nulls(void)
+{
+    tsc_place place = {NULL}, *p = &place;
+    uint64_t n = 77, at = 77, seen = 77;
+    tsc_added a = {99, false, true};
+    tsc_value v = {7, 7, {7}};
+    tsc_time floor = {7, 7};
+    tsc_figures f = {7, 7};
+    tsc_mark mark = {0, 1, 0, 0, {30, 0, {0}}, TSC_POINT};
+    CHECK(open_shared(p, 1, 9, &n) == TSC_OK && n == 0);
+    CHECK(tsc_seat_try_add(NULL, 1, "a", 1, NULL, 0, TSC_POINT, &READ, &NOW, 1, &at, &a) == TSC_NULL && tsc_seat_try_add(p, 1, NULL, 1, NULL, 0, TSC_POINT, &READ, &NOW, 1, &at, &a) == TSC_NULL);
+    CHECK(tsc_seat_try_add(p, 1, "a", 1, NULL, 1, 0, &READ, &NOW, 1, &at, &a) == TSC_NULL && tsc_seat_try_add(p, 1, "a", 1, NULL, 0, TSC_POINT, NULL, &NOW, 1, &at, &a) == TSC_NULL);
+    CHECK(tsc_seat_try_add(p, 1, "a", 1, NULL, 0, TSC_POINT, &READ, NULL, 1, &at, &a) == TSC_NULL && tsc_seat_try_add(p, 1, "a", 1, NULL, 0, TSC_POINT, &READ, &NOW, 1, NULL, &a) == TSC_NULL);
+    CHECK(tsc_seat_try_add(p, 1, "a", 1, NULL, 0, TSC_POINT, &READ, &NOW, 1, &at, NULL) == TSC_NULL);
+    CHECK(tsc_seat_try_add_all(NULL, 1, "a", 1, &mark, 1, &NOW, 1, &at, &a) == TSC_NULL && tsc_seat_try_add_all(p, 1, NULL, 1, &mark, 1, &NOW, 1, &at, &a) == TSC_NULL);
+    CHECK(tsc_seat_try_add_all(p, 1, "a", 1, NULL, 1, &NOW, 1, &at, &a) == TSC_NULL && tsc_seat_try_add_all(p, 1, "a", 1, &mark, 1, NULL, 1, &at, &a) == TSC_NULL);
+    CHECK(tsc_seat_try_add_all(p, 1, "a", 1, &mark, 1, &NOW, 1, NULL, &a) == TSC_NULL && tsc_seat_try_add_all(p, 1, "a", 1, &mark, 1, &NOW, 1, &at, NULL) == TSC_NULL);
+    CHECK(tsc_seat_try_get_max(NULL, 1, "a", 1, NULL, 0, TSC_POINT, &seen, &v) == TSC_NULL && tsc_seat_try_get_max(p, 1, NULL, 1, NULL, 0, TSC_POINT, &seen, &v) == TSC_NULL);
+    CHECK(tsc_seat_try_get_max(p, 1, "a", 1, NULL, 1, 0, &seen, &v) == TSC_NULL && tsc_seat_try_get_max(p, 1, "a", 1, NULL, 0, TSC_POINT, NULL, &v) == TSC_NULL);
+    CHECK(tsc_seat_try_get_max(p, 1, "a", 1, NULL, 0, TSC_POINT, &seen, NULL) == TSC_NULL);
+    CHECK(tsc_seat_try_low_water(NULL, 1, &seen, &floor) == TSC_NULL && tsc_seat_try_low_water(p, 1, NULL, &floor) == TSC_NULL && tsc_seat_try_low_water(p, 1, &seen, NULL) == TSC_NULL);
+    CHECK(tsc_seat_try_figures_of(NULL, 1, &seen, &f) == TSC_NULL && tsc_seat_try_figures_of(p, 1, NULL, &f) == TSC_NULL && tsc_seat_try_figures_of(p, 1, &seen, NULL) == TSC_NULL);
+    CHECK(at == 77 && seen == 77 && a.evicted == 99 && v.wall == 7 && floor.wall == 7 && f.pages == 7);
+    CHECK(answers(p, 1, "a", 5, 0) && has(p, 1, 1, 0, 0));
+    CHECK(tsc_seat_try_low_water(p, 1, &seen, &floor) == TSC_OK && seen == 0 && floor.wall == 5);
+    tsc_free(p);
+}
+
+/* What can be counted is of the history that the seat has seen. */
+static void figures(void)
+{
+    tsc_place place = {NULL};
+    uint64_t n = 77, at = 77;
+    CHECK(tsc_open_shared(&place, 132, 132, 2, 10, &LOW, 2, 9, &n) == TSC_OK);
+    for (const char *key = "abcd"; *key; key++)
+        CHECK(add(&place, 1, (char[]){*key, 0}, 1, &at) == TSC_OK && has(&place, 2, 1, 0, at + 1));
+    CHECK(add(&place, 2, "e", 1, &at) == TSC_OK && at == 4 && has(&place, 1, 2, 1, 5) && has(&place, 2, 2, 1, 5));
+    tsc_free(&place);
+}
+
 static void refusals(void)
 {
     tsc_place place = {NULL}, other = {NULL};
     uint64_t n = 77, own = 77, at = 77, seen = 77, adds = 77;
     tsc_added added = {99, false, true};
     tsc_value v = {7, 7, {7}};
-    CHECK(open_shared(&place, 0, 9, &n) == TSC_SEATS && open_shared(&place, 65, 9, &n) == TSC_SEATS && n == 77);
+    tsc_figures f = {7, 7};
+    uint32_t not_allowed[] = {0, 65, 100000000, UINT32_MAX};
+    for (size_t i = 0; i < sizeof not_allowed / sizeof *not_allowed; i++)
+        CHECK(open_shared(&place, not_allowed[i], 9, &n) == TSC_SEATS && n == 77 && place.at == NULL);
     CHECK(tsc_open_shared(&place, 63, 132, 2, 10, &LOW, 1, 9, &n) == TSC_PAGE_SIZE && n == 77);
     CHECK(tsc_move(&place, 0, &other, &at) == TSC_CLOSED && at == 77);
     CHECK(open_shared(&place, 64, 9, &n) == TSC_OK && n == 0);
@@ -90,13 +142,18 @@ static void refusals(void)
     /* numbers of another kind */
     CHECK(add(&place, n, "a", 1, &at) == TSC_CLOSED && add(&place, own, "a", 1, &at) == TSC_CLOSED && add(&place, 66, "a", 1, &at) == TSC_CLOSED);
     CHECK(tsc_get_max(&place, 1, (const uint8_t *)"a", 1, (const uint8_t *)"", 0, TSC_POINT, &v) == TSC_CLOSED && v.wall == 7);
+    CHECK(tsc_seat_figures_of(&place, n, &seen, &f) == TSC_CLOSED && tsc_seat_figures_of(&place, own, &seen, &f) == TSC_CLOSED && seen == 77);
+    CHECK(tsc_figures_of(&place, n, &f) == TSC_CLOSED && tsc_figures_of(&place, 1, &f) == TSC_CLOSED && f.pages == 7);
     CHECK(tsc_close(&place, n) == TSC_CLOSED && tsc_close(&place, 1) == TSC_CLOSED && tsc_seat_close(&place, n) == TSC_CLOSED && tsc_seat_close(&place, own) == TSC_CLOSED);
     CHECK(tsc_close_shared(&place, 1, &adds) == TSC_CLOSED && tsc_close_shared(&place, own, &adds) == TSC_CLOSED && adds == 77);
 
     /* spans, times and tries */
     char long_key[4097];
     memset(long_key, 'k', sizeof long_key);
+    tsc_mark one = {0, 1, 0, 0, {30, 0, {0}}, TSC_POINT};
     CHECK(add(&place, 1, "a", 0, &at) == TSC_BUSY && at == 77 && answers(&place, 1, "a", 5, 0));
+    CHECK(tsc_seat_try_add_all(&place, 1, "a", 1, &one, 1, &NOW, 0, &at, &added) == TSC_BUSY && at == 77 && answers(&place, 1, "a", 5, 0));
+    CHECK(tsc_seat_try_add_all(&place, 1, NULL, 0, NULL, 0, &NOW, 0, &at, &added) == TSC_BUSY && at == 77 && has(&place, 1, 1, 0, 0));
     CHECK(tsc_seat_try_add(&place, 1, "c", 1, "a", 1, 0, &READ, &NOW, 1, &at, &added) == TSC_INVERTED);
     CHECK(tsc_seat_try_add(&place, 1, "a", 1, NULL, 0, 6, &READ, &NOW, 1, &at, &added) == TSC_ENDS);
     CHECK(tsc_seat_try_add(&place, 1, long_key, 4097, NULL, 0, TSC_POINT, &READ, &NOW, 1, &at, &added) == TSC_KEY_TOO_LONG);
@@ -109,8 +166,6 @@ static void refusals(void)
     CHECK(tsc_seat_try_add_all(&place, 1, "x", 1, &outside, 1, &NOW, 1, &at, &added) == TSC_OUTSIDE && at == 77 && added.evicted == 99);
     CHECK(tsc_seat_try_get_max(&place, 1, "a", 1, NULL, 0, 6, &seen, &v) == TSC_ENDS && seen == 77 && v.wall == 7);
     CHECK(tsc_seat_try_get_max(&place, 1, "c", 1, "a", 1, 0, &seen, &v) == TSC_OK && seen == 0 && v.wall == 5);
-    CHECK(tsc_seat_try_get_max(NULL, 1, "a", 1, NULL, 0, TSC_POINT, &seen, &v) == TSC_NULL && tsc_seat_try_get_max(&place, 1, NULL, 1, NULL, 0, TSC_POINT, &seen, &v) == TSC_NULL);
-    CHECK(tsc_seat_try_add(&place, 1, "a", 1, NULL, 0, TSC_POINT, NULL, &NOW, 1, &at, &added) == TSC_NULL);
     CHECK(tsc_seat_try_add_all(&place, 1, NULL, 0, NULL, 0, &NOW, 1, &at, &added) == TSC_OK && at == 0); /* no marks are an entry too */
     CHECK(strcmp(tsc_text(TSC_STILL_OUT), "a seat is still out") == 0 && strcmp(tsc_text(TSC_FULL), "there are as many Adds as there may be") == 0);
 
@@ -225,6 +280,8 @@ static void threads(void)
 int main(void)
 {
     seats();
+    nulls();
+    figures();
     refusals();
     threads();
     printf("%d passed, %d failed\n", passed, failed);

@@ -140,9 +140,7 @@ static bool answers(struct cache *c, const char *text, uint64_t wall, uint32_t l
 {
     struct span s = span_of(text);
     tsc_value v = {1, 1, {1}};
-    uint32_t answer = tried(tsc_try_get_max(&c->place, c->number, s.from, s.from_len, s.to, s.to_len, s.ends, &v));
-    if (answer == TSC_NO_MEMORY)
-        answer = tsc_try_get_max(&c->place, c->number, s.from, s.from_len, s.to, s.to_len, s.ends, &v);
+    uint32_t answer = tsc_try_get_max(&c->place, c->number, s.from, s.from_len, s.to, s.to_len, s.ends, &v);
     return answer == TSC_OK && v.wall == wall && v.logical == logical && owner_name(v.owner) == owner;
 }
 
@@ -343,9 +341,8 @@ static void refusals(void)
     static uint8_t long_key[4097];
     tsc_value v = {20, 0, {0}}, out = {1, 2, {3}};
     tsc_added a = {99, true, true};
-    CHECK(tsc_try_get_max(&c.place, c.number, long_key, 4097, NULL, 0, TSC_POINT, &out) == TSC_KEY_TOO_LONG);
-    CHECK(tsc_try_get_max(&c.place, c.number, "a", 1, long_key, 4097, 0, &out) == TSC_KEY_TOO_LONG);
     CHECK(tsc_try_add(&c.place, c.number, long_key, 4097, NULL, 0, TSC_ONWARD, &v, &AT_20, &a) == TSC_KEY_TOO_LONG);
+    CHECK(tsc_try_add(&c.place, c.number, "a", 1, long_key, 4097, TSC_EXCLUDE_TO, &v, &AT_20, &a) == TSC_KEY_TOO_LONG);
     CHECK(tsc_try_add(&c.place, c.number, "c", 1, "a", 1, TSC_EXCLUDE_TO, &v, &AT_20, &a) == TSC_INVERTED);
     CHECK(tsc_try_add(&c.place, c.number, long_key, 4096, NULL, 0, TSC_POINT, &v, &AT_20, &a) == TSC_TOO_LARGE);
     for (uint32_t ends = 0; ends < 64; ends++) {
@@ -361,14 +358,68 @@ static void refusals(void)
     CHECK(tsc_try_add(&c.place, c.number, "b", 1, NULL, 0, TSC_POINT, &v, &AT_20, &a) == TSC_TIME);
     v.logical = 0;
     CHECK(tsc_try_add(&c.place, c.number, "b", 1, NULL, 0, TSC_POINT, &v, &(tsc_time){UINT64_MAX, 0}, &a) == TSC_TIME);
-    CHECK(tsc_try_add(&c.place, c.number, NULL, 1, NULL, 0, TSC_POINT, &v, &AT_20, &a) == TSC_NULL);
-    CHECK(tsc_try_add(&c.place, c.number, "b", 1, NULL, 1, 0, &v, &AT_20, &a) == TSC_NULL);
-    CHECK(tsc_try_add(NULL, c.number, "b", 1, NULL, 0, TSC_POINT, &v, &AT_20, &a) == TSC_NULL);
-    CHECK(tsc_try_get_max(&c.place, c.number, "b", 1, NULL, 0, TSC_POINT, NULL) == TSC_NULL);
     CHECK(a.evicted == 99 && a.kept && a.rotated && out.wall == 1 && out.logical == 2 && out.owner[0] == 3);
     CHECK(answers(&c, "a", 20, 0, 'A') && has(&c, 1, 0, 5, 0));
     CHECK(answers(&c, "[,a)", 20, 0, '-') == false && tsc_try_get_max(&c.place, c.number, NULL, 0, NULL, 0, TSC_POINT, &v) == TSC_OK);
-    CHECK(strcmp(tsc_text(TSC_CLOSED), "no cache has this number") == 0 && strcmp(tsc_text(1000), "no such answer") == 0);
+    CHECK(strcmp(tsc_text(TSC_CLOSED), "the number names nothing of this kind") == 0 && strcmp(tsc_text(1000), "no such answer") == 0);
+    CHECK(tsc_try_add(&c.place, c.number, "x", 1, long_key, 4097, TSC_POINT, &v, &AT_20, &a) == TSC_OK && a.kept); /* the second key is passed over */
+    CHECK(tsc_try_add(&c.place, c.number, "y", 1, long_key, 4097, TSC_ONWARD, &v, &AT_20, &a) == TSC_OK && a.kept);
+    tsc_free(&c.place);
+}
+
+/* Each pointer that may be null, where it has to lead somewhere. */
+static void nulls(void)
+{
+    struct cache c = open_cache(132, 132, 2);
+    tsc_place *p = &c.place;
+    uint64_t n = c.number;
+    tsc_value v = {20, 0, {0}}, out = {1, 2, {3}};
+    tsc_added a = {99, true, true};
+    tsc_mark mark = {0, 1, 0, 0, {20, 0, {0}}, TSC_POINT};
+    tsc_time floor = {7, 8};
+    tsc_figures f = {7, 8};
+    CHECK(tsc_try_add(NULL, n, "b", 1, NULL, 0, TSC_POINT, &v, &AT_20, &a) == TSC_NULL && tsc_try_add(p, n, NULL, 1, NULL, 0, TSC_POINT, &v, &AT_20, &a) == TSC_NULL);
+    CHECK(tsc_try_add(p, n, "b", 1, NULL, 1, 0, &v, &AT_20, &a) == TSC_NULL && tsc_try_add(p, n, "b", 1, NULL, 0, TSC_POINT, NULL, &AT_20, &a) == TSC_NULL);
+    CHECK(tsc_try_add(p, n, "b", 1, NULL, 0, TSC_POINT, &v, NULL, &a) == TSC_NULL && tsc_try_add(p, n, "b", 1, NULL, 0, TSC_POINT, &v, &AT_20, NULL) == TSC_NULL);
+    CHECK(tsc_try_add_all(NULL, n, "b", 1, &mark, 1, &AT_20, &a) == TSC_NULL && tsc_try_add_all(p, n, NULL, 1, &mark, 1, &AT_20, &a) == TSC_NULL);
+    CHECK(tsc_try_add_all(p, n, "b", 1, NULL, 1, &AT_20, &a) == TSC_NULL && tsc_try_add_all(p, n, "b", 1, &mark, 1, NULL, &a) == TSC_NULL);
+    CHECK(tsc_try_add_all(p, n, "b", 1, &mark, 1, &AT_20, NULL) == TSC_NULL);
+    CHECK(tsc_try_get_max(NULL, n, "b", 1, NULL, 0, TSC_POINT, &out) == TSC_NULL && tsc_try_get_max(p, n, NULL, 1, NULL, 0, TSC_POINT, &out) == TSC_NULL);
+    CHECK(tsc_try_get_max(p, n, "b", 1, NULL, 1, 0, &out) == TSC_NULL && tsc_try_get_max(p, n, "b", 1, NULL, 0, TSC_POINT, NULL) == TSC_NULL);
+    CHECK(tsc_try_low_water(NULL, n, &floor) == TSC_NULL && tsc_try_low_water(p, n, NULL) == TSC_NULL);
+    CHECK(tsc_try_figures_of(NULL, n, &f) == TSC_NULL && tsc_try_figures_of(p, n, NULL) == TSC_NULL);
+    CHECK(a.evicted == 99 && a.kept && a.rotated && out.wall == 1 && out.logical == 2 && out.owner[0] == 3 && floor.wall == 7 && f.pages == 7);
+    CHECK(answers(&c, "b", 5, 0, '-') && has(&c, 1, 0, 5, 0));
+    CHECK(tsc_try_low_water(p, n, &floor) == TSC_OK && floor.wall == 5 && floor.logical == 0 && tsc_try_figures_of(p, n, &f) == TSC_OK && f.pages == 1 && f.rotations == 0);
+    tsc_free(p);
+}
+
+/* Lookups ask for no memory, and take keys of any length. */
+static void lookups(void)
+{
+    static uint8_t low_key[1 << 20]; /* zeros, below "a" */
+    struct cache c = {{NULL}, 0};
+    tsc_value v;
+    tsc_time floor;
+    tsc_figures f;
+    uint64_t n, seen, before = requests;
+    CHECK(tsc_try_get_max(&c.place, 0, "b", 1, NULL, 0, TSC_POINT, &v) == TSC_CLOSED && tsc_low_water(&c.place, 0, &floor) == TSC_CLOSED && tsc_figures_of(&c.place, 0, &f) == TSC_CLOSED);
+    CHECK(tsc_seat_try_get_max(&c.place, 0, "b", 1, NULL, 0, TSC_POINT, &seen, &v) == TSC_CLOSED && tsc_seat_low_water(&c.place, 0, &seen, &floor) == TSC_CLOSED);
+    CHECK(tsc_seat_figures_of(&c.place, 0, &seen, &f) == TSC_CLOSED && requests == before && c.place.at == NULL);
+
+    c = open_cache(132, 132, 2);
+    CHECK(adds(&c, "a", 20, 'A') && tsc_open_shared(&c.place, 132, 132, 2, 10, &(tsc_time){5, 0}, 1, 9, &n) == TSC_OK);
+    before = requests;
+    for (size_t len = 4096; len <= sizeof low_key; len += sizeof low_key - 4096) {
+        CHECK(tsc_try_get_max(&c.place, c.number, low_key, len, NULL, 0, TSC_POINT, &v) == TSC_OK && v.wall == 5);
+        CHECK(tsc_try_get_max(&c.place, c.number, low_key, len, "b", 1, 0, &v) == TSC_OK && v.wall == 20 && owner_name(v.owner) == 'A');
+        CHECK(tsc_try_get_max(&c.place, c.number, low_key, len, NULL, 0, TSC_ONWARD, &v) == TSC_OK && v.wall == 20);
+        CHECK(tsc_try_get_max(&c.place, c.number, "a", 1, low_key, len, 0, &v) == TSC_OK && v.wall == 5); /* inverted */
+        CHECK(tsc_seat_try_get_max(&c.place, n + 1, low_key, len, "b", 1, 0, &seen, &v) == TSC_OK && v.wall == 5 && seen == 0);
+    }
+    CHECK(tsc_try_get_max(&c.place, c.number, low_key, 4097, NULL, 0, 6, &v) == TSC_ENDS && tsc_seat_try_get_max(&c.place, n + 1, low_key, 4097, NULL, 0, 6, &seen, &v) == TSC_ENDS);
+    CHECK(has(&c, 1, 0, 5, 0) && tsc_seat_low_water(&c.place, n + 1, &seen, &floor) == TSC_OK && tsc_seat_figures_of(&c.place, n + 1, &seen, &f) == TSC_OK);
+    CHECK(requests == before);
     tsc_free(&c.place);
 }
 
@@ -437,8 +488,7 @@ static bool one_run(void)
     for (const char *key = "abcdefgh"; *key; key++) {
         char span[6] = {'[', *key, ',', 'z', ')', 0};
         uint64_t wall = 20 + (uint64_t)(*key - 'a');
-        if (tried(tsc_try_get_max(&c.place, c.number, key, 1, "z", 1, TSC_EXCLUDE_TO, &v)) == TSC_OK)
-            right = right && (*key == 'a' ? v.wall == 5 : v.wall == wall - 1);
+        right = right && tsc_try_get_max(&c.place, c.number, key, 1, "z", 1, TSC_EXCLUDE_TO, &v) == TSC_OK && v.wall == (*key == 'a' ? 5 : wall - 1);
         tsc_figures before, after;
         right = right && tsc_figures_of(&c.place, c.number, &before) == TSC_OK;
         if (tried(add_at(&c, span, wall, 0, 'A', AT_20, &a)) == TSC_NO_MEMORY) {
@@ -486,8 +536,7 @@ static bool one_shared_run(void)
             right = right && tsc_seat_try_add(mine, seats[i % 2], &key, 1, "z", 1, TSC_EXCLUDE_TO, &read, &AT_20, 1, &at, &a) == TSC_OK;
         }
         right = right && at == i && a.kept;
-        if (tried(tsc_seat_try_get_max(other, seats[1 - i % 2], "y", 1, NULL, 0, TSC_POINT, &seen, &v)) == TSC_NO_MEMORY)
-            right = right && tsc_seat_try_get_max(other, seats[1 - i % 2], "y", 1, NULL, 0, TSC_POINT, &seen, &v) == TSC_OK;
+        right = right && tsc_seat_try_get_max(other, seats[1 - i % 2], "y", 1, NULL, 0, TSC_POINT, &seen, &v) == TSC_OK;
         right = right && seen == i + 1 && v.wall == 20 + i;
     }
     tsc_mark marks[2] = {{0, 1, 0, 0, {50, 0, {0}}, TSC_POINT}, {1, 1, 0, 0, {50, 0, {0}}, TSC_POINT}};
@@ -602,6 +651,8 @@ int main(int argc, char **argv)
     rows_of_pages();
     batches();
     refusals();
+    nulls();
+    lookups();
     numbers();
     memory();
     printf("%d passed, %d failed\n", passed, failed);

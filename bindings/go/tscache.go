@@ -184,7 +184,8 @@ func (c *Cache) AddAll(marks []Mark, now Time) (Added, error) {
 }
 
 // GetMax is the latest time on a span, with its owner where all reads of that time are one transaction's, or the floor. A range
-// whose first key is greater than the second is empty, and the floor answers.
+// whose first key is greater than the second is empty, and the floor answers. Keys may be of any length, and no memory is taken: it is
+// refused with Closed alone.
 func (c *Cache) GetMax(span Span) (Value, error) {
 	if c.place == nil {
 		return Value{}, Closed
@@ -341,7 +342,7 @@ func (s *Seat) AddAll(marks []Mark, now Time, tries uint32) (uint64, Added, erro
 	return uint64(place), added(out), nil
 }
 
-// GetMax is the latest time on a span, and how many Adds the seat has seen then. It waits for nobody.
+// GetMax is the latest time on a span, as that of a Cache, and how many Adds the seat has seen then. It waits for nobody.
 func (s *Seat) GetMax(span Span) (Value, uint64, error) {
 	if s.place == nil {
 		return Value{}, 0, Closed
@@ -366,6 +367,18 @@ func (s *Seat) LowWater() (Time, uint64, error) {
 	code := C.tsc_seat_low_water(s.place, s.number, &seen, &out)
 	runtime.KeepAlive(s)
 	return Time{uint64(out.wall), uint32(out.logical)}, uint64(seen), done(code)
+}
+
+// Figures is what can be counted, and how many Adds the seat has seen then.
+func (s *Seat) Figures() (Figures, uint64, error) {
+	if s.place == nil {
+		return Figures{}, 0, Closed
+	}
+	var seen C.uint64_t
+	var out C.tsc_figures
+	code := C.tsc_seat_figures_of(s.place, s.number, &seen, &out)
+	runtime.KeepAlive(s)
+	return Figures{uint64(out.pages), uint64(out.rotations)}, uint64(seen), done(code)
 }
 
 func newPlace() *C.tsc_place {

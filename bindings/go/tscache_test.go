@@ -79,9 +79,10 @@ func TestMarks(t *testing.T) {
 
 func TestRefusals(t *testing.T) {
 	c := small(t)
-	if _, err := c.GetMax(Point(make([]byte, 4097))); err != KeyTooLong {
+	if _, err := c.Add(Point(make([]byte, 4097)), at(20, one), Time{20, 0}); err != KeyTooLong {
 		t.Errorf("got %v", err)
 	}
+	wants(t, c, Range(make([]byte, 4097), []byte("b"), false, true), at(5, [16]byte{}))
 	if _, err := c.Add(Point(make([]byte, 101)), at(20, one), Time{20, 0}); err != TooLarge {
 		t.Errorf("got %v", err)
 	}
@@ -96,7 +97,7 @@ func TestRefusals(t *testing.T) {
 	if _, err := c.GetMax(Point([]byte("a"))); err != Closed {
 		t.Errorf("got %v", err)
 	}
-	if Closed.Error() != "tscache: no cache has this number" {
+	if Closed.Error() != "tscache: the number names nothing of this kind" {
 		t.Error(Closed.Error())
 	}
 }
@@ -106,9 +107,15 @@ func TestSeats(t *testing.T) {
 	if _, _, err := OpenShared(config, 65, 9); err != Seats {
 		t.Errorf("got %v", err)
 	}
+	if _, _, err := OpenShared(config, 1<<32-1, 9); err != Seats {
+		t.Errorf("got %v", err)
+	}
 	shared, seats, err := OpenShared(config, 4, 1000)
 	if err != nil {
 		t.Fatal(err)
+	}
+	if _, _, err := seats[0].AddAll(nil, Time{20, 0}, 0); err != Busy {
+		t.Errorf("got %v", err)
 	}
 	if _, err := shared.Close(); err != StillOut {
 		t.Errorf("got %v", err)
@@ -133,6 +140,9 @@ func TestSeats(t *testing.T) {
 			}
 			if _, seen, err := seat.LowWater(); err != nil || seen < n {
 				t.Errorf("got %v, %v", seen, err)
+			}
+			if f, seen, err := seat.Figures(); err != nil || f != (Figures{1, 0}) || seen < n {
+				t.Errorf("got %v, %v, %v", f, seen, err)
 			}
 			seat.Close()
 			accepted <- n

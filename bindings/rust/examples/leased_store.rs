@@ -62,8 +62,8 @@ impl Holder {
     }
 
     /// Writes a key at the transaction's time, or at the first time after it that no read forbids, and gives that time.
-    fn put(&mut self, versions: &mut Versions, by: Transaction, key: &[u8], value: &[u8]) -> Result<Time, Error> {
-        let read = self.reads.get_max(&Span::Point(key))?;
+    fn put(&mut self, versions: &mut Versions, by: Transaction, key: &[u8], value: &[u8]) -> Time {
+        let read = self.reads.get_max(&Span::Point(key));
         // its own read forbids a transaction nothing, as long as no other one's has the same time
         let own = read.owner == Some(by.id) && read.time <= by.time;
         let mut time = if own { by.time } else { by.time.max(after(read.time)) };
@@ -72,7 +72,7 @@ impl Holder {
             time = time.max(after(newest));
         }
         all.insert(time, value.to_vec());
-        Ok(time)
+        time
     }
 }
 
@@ -88,21 +88,21 @@ fn show() -> Result<(), Error> {
     println!("a transaction counts the keys before n as of 20: {there}");
 
     let early = Transaction { id: writer, time: Time::new(15, 0) };
-    let apple = holder.put(&mut versions, early, b"apple", b"red")?;
+    let apple = holder.put(&mut versions, early, b"apple", b"red");
     println!("another writes apple at 15, and moves up to {}.{}: 20 was read there", apple.wall, apple.logical);
     assert_eq!(apple, Time::new(20, 1));
     assert_eq!(holder.count(&versions, scan, b"a", b"n", now)?, there);
 
-    let plum = holder.put(&mut versions, early, b"plum", b"blue")?;
+    let plum = holder.put(&mut versions, early, b"plum", b"blue");
     println!("it writes plum at {}: nobody read that", plum.wall);
     assert_eq!(plum, Time::new(15, 0));
 
-    let own = holder.put(&mut versions, scan, b"fig", b"green")?;
+    let own = holder.put(&mut versions, scan, b"fig", b"green");
     println!("the one that counted writes fig at {}: its own read forbids it nothing", own.wall);
     assert_eq!(own, Time::new(20, 0));
 
     let mut next = Holder::start(Time::new(40, 0))?;
-    let late = next.put(&mut versions, Transaction { id: writer, time: Time::new(25, 0) }, b"zucchini", b"long")?;
+    let late = next.put(&mut versions, Transaction { id: writer, time: Time::new(25, 0) }, b"zucchini", b"long");
     println!("after the lease went on at 40, a write at 25 moves up to {}.{}: who read there before is not known", late.wall, late.logical);
     assert_eq!(late, Time::new(40, 1));
     Ok(())
@@ -126,7 +126,7 @@ fn check() -> Result<(u64, u64), Error> {
             let (holder, versions) = &mut *range;
             if turn % 2 == 0 {
                 reads.push((by.time, key, holder.get(versions, by, &key, clock.now())?));
-            } else if holder.put(versions, by, &key, &turn.to_le_bytes())? > by.time {
+            } else if holder.put(versions, by, &key, &turn.to_le_bytes()) > by.time {
                 moved += 1;
             }
         }

@@ -76,5 +76,6 @@ extern "C" {
         place: *mut Place, seat: u64, from: *const u8, from_len: usize, to: *const u8, to_len: usize, ends: u32, seen: *mut u64, out: *mut Value,
     ) -> u32;
     pub fn tsc_seat_low_water(place: *mut Place, seat: u64, seen: *mut u64, out: *mut Time) -> u32;
+    pub fn tsc_seat_figures_of(place: *mut Place, seat: u64, seen: *mut u64, out: *mut Figures) -> u32;
     pub fn tsc_close_shared(place: *mut Place, number: u64, length: *mut u64) -> u32;
 }

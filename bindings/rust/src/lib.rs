@@ -10,8 +10,8 @@
 //! let mut cache = Cache::open(&Config { low_water: Time::new(5, 0), ..Config::default() })?;
 //! let read = Value { time: Time::new(20, 0), owner: Some([0x11; 16]) };
 //! cache.add(&Span::until(b"a", b"c"), read, Time::new(20, 0))?;
-//! assert_eq!(cache.get_max(&Span::Point(b"b"))?, read);
-//! assert_eq!(cache.get_max(&Span::Point(b"c"))?.time, Time::new(5, 0));
+//! assert_eq!(cache.get_max(&Span::Point(b"b")), read);
+//! assert_eq!(cache.get_max(&Span::Point(b"c")).time, Time::new(5, 0));
 //! # Ok::<(), tscache::Error>(())
 //! ```
 #![warn(missing_docs)]
@@ -145,7 +145,7 @@ pub struct Figures {
 pub enum Error {
     /// A time is out of range.
     Time,
-    /// A key has more than 4096 bytes.
+    /// A key of a span to be added has more than 4096 bytes.
     KeyTooLong,
     /// Of a span to be added the first key is greater than the second.
     Inverted,
@@ -305,9 +305,9 @@ impl Cache {
     /// let value = Value { time: Time::new(20, 0), owner: None };
     /// let marks = [Mark { span: Span::Point(b"a"), value }, Mark { span: Span::until(b"c", b"b"), value }];
     /// assert_eq!(cache.add_all(&marks, Time::new(20, 0)), Err(Error::Inverted));
-    /// assert_eq!(cache.get_max(&Span::Point(b"a"))?.time, Time::new(0, 0));
+    /// assert_eq!(cache.get_max(&Span::Point(b"a")).time, Time::new(0, 0));
     /// assert!(cache.add_all(&marks[..1], Time::new(20, 0))?.kept);
-    /// assert_eq!(cache.get_max(&Span::Point(b"a"))?, value);
+    /// assert_eq!(cache.get_max(&Span::Point(b"a")), value);
     /// # Ok::<(), Error>(())
     /// ```
     pub fn add_all(&mut self, marks: &[Mark<'_>], now: Time) -> Result<Added, Error> {
@@ -320,12 +320,13 @@ impl Cache {
     }
 
     /// The latest time on a span, with its owner where all reads of that time are one transaction's, or the floor. A range whose
-    /// first key is greater than the second is empty, and the floor answers.
-    pub fn get_max(&mut self, span: &Span<'_>) -> Result<Value, Error> {
+    /// first key is greater than the second is empty, and the floor answers. Keys may be of any length, and no memory is taken.
+    pub fn get_max(&mut self, span: &Span<'_>) -> Value {
         let (from, to, ends) = span.parts();
         let mut found = ffi::Value { wall: 0, logical: 0, owner: [0; 16] };
-        done(unsafe { ffi::tsc_get_max(&mut self.place, self.number, from.as_ptr(), from.len(), to.as_ptr(), to.len(), ends, &mut found) })?;
-        Ok(found.into())
+        // it is refused only where the number names no cache, or there are no such ends
+        let _ = unsafe { ffi::tsc_get_max(&mut self.place, self.number, from.as_ptr(), from.len(), to.as_ptr(), to.len(), ends, &mut found) };
+        found.into()
     }
 
     /// Where the floor stands.
@@ -363,7 +364,7 @@ impl Drop for Cache {
 ///             while seat.add(&Span::Point(b"a"), value, Time::new(20, 0), 100) == Err(tscache::Error::Busy) {
 ///                 std::thread::yield_now();
 ///             }
-///             assert_eq!(seat.get_max(&Span::Point(b"a")).unwrap().0, value);
+///             assert_eq!(seat.get_max(&Span::Point(b"a")).0, value);
 ///         });
 ///     }
 /// });
@@ -463,14 +464,13 @@ impl Seat {
         Ok((place, added.into()))
     }
 
-    /// The latest time on a span, and how many Adds the seat has seen then. It waits for nobody.
-    pub fn get_max(&mut self, span: &Span<'_>) -> Result<(Value, u64), Error> {
+    /// The latest time on a span, as [`Cache::get_max`] answers, and how many Adds the seat has seen then. It waits for nobody.
+    pub fn get_max(&mut self, span: &Span<'_>) -> (Value, u64) {
         let (from, to, ends) = span.parts();
         let (mut seen, mut found) = (0, ffi::Value { wall: 0, logical: 0, owner: [0; 16] });
-        done(unsafe {
-            ffi::tsc_seat_get_max(&mut self.place, self.number, from.as_ptr(), from.len(), to.as_ptr(), to.len(), ends, &mut seen, &mut found)
-        })?;
-        Ok((found.into(), seen))
+        // it is refused only where the number names no seat, or there are no such ends
+        let _ = unsafe { ffi::tsc_seat_get_max(&mut self.place, self.number, from.as_ptr(), from.len(), to.as_ptr(), to.len(), ends, &mut seen, &mut found) };
+        (found.into(), seen)
     }
 
     /// Where the floor stands, and how many Adds the seat has seen then.
@@ -479,6 +479,14 @@ impl Seat {
         // it is refused only where the number names no seat
         let _ = unsafe { ffi::tsc_seat_low_water(&mut self.place, self.number, &mut seen, &mut floor) };
         (Time::new(floor.wall, floor.logical), seen)
+    }
+
+    /// What can be counted, and how many Adds the seat has seen then.
+    pub fn figures(&mut self) -> (Figures, u64) {
+        let (mut seen, mut figures) = (0, ffi::Figures { pages: 0, rotations: 0 });
+        // it is refused only where the number names no seat
+        let _ = unsafe { ffi::tsc_seat_figures_of(&mut self.place, self.number, &mut seen, &mut figures) };
+        (Figures { pages: figures.pages, rotations: figures.rotations }, seen)
     }
 }
 
@@ -509,12 +517,12 @@ mod tests {
         let now = Time::new(20, 0);
         let open = Span::Range { from: b"a", to: b"c", exclude_from: true, exclude_to: true };
         assert_eq!(cache.add(&open, at(20, ONE), now), Ok(Added { kept: true, rotated: false, evicted: 0 }));
-        assert_eq!(cache.get_max(&Span::Point(b"a")), Ok(at(5, None)));
-        assert_eq!(cache.get_max(&Span::Point(b"b")), Ok(at(20, ONE)));
+        assert_eq!(cache.get_max(&Span::Point(b"a")), at(5, None));
+        assert_eq!(cache.get_max(&Span::Point(b"b")), at(20, ONE));
         cache.add(&Span::Onward { from: b"b", exclude_from: false }, at(20, TWO), now).unwrap();
-        assert_eq!(cache.get_max(&Span::Point(b"b")), Ok(at(20, None)));
-        assert_eq!(cache.get_max(&Span::Onward { from: b"x", exclude_from: true }), Ok(at(20, TWO)));
-        assert_eq!(cache.get_max(&Span::until(b"c", b"a")), Ok(at(5, None)));
+        assert_eq!(cache.get_max(&Span::Point(b"b")), at(20, None));
+        assert_eq!(cache.get_max(&Span::Onward { from: b"x", exclude_from: true }), at(20, TWO));
+        assert_eq!(cache.get_max(&Span::until(b"c", b"a")), at(5, None));
     }
 
     #[test]
@@ -530,14 +538,15 @@ mod tests {
         }
         assert_eq!(cache.add(&Span::Point(b"i"), at(41, ONE), Time::new(40, 0)), Ok(Added { kept: true, rotated: true, evicted: 1 }));
         assert_eq!(cache.low_water(), Time::new(20, 0));
-        assert_eq!(cache.get_max(&Span::Point(b"a")), Ok(at(20, None)));
+        assert_eq!(cache.get_max(&Span::Point(b"a")), at(20, None));
     }
 
     #[test]
     fn refusals() {
         let mut cache = small();
         let now = Time::new(20, 0);
-        assert_eq!(cache.get_max(&Span::Point(&[0; 4097])), Err(Error::KeyTooLong));
+        assert_eq!(cache.add(&Span::Point(&[0; 4097]), at(20, ONE), now), Err(Error::KeyTooLong));
+        assert_eq!(cache.get_max(&Span::until(&[0; 4097], b"b")), at(5, None));
         assert_eq!(cache.add(&Span::Point(&[0; 101]), at(20, ONE), now), Err(Error::TooLarge));
         assert_eq!(cache.add(&Span::until(b"c", b"a"), at(20, ONE), now), Err(Error::Inverted));
         assert_eq!(cache.add(&Span::Point(b"a"), at(1 << 63, ONE), now), Err(Error::Time));
@@ -557,7 +566,7 @@ mod tests {
         })
         .join()
         .unwrap();
-        assert_eq!(cache.get_max(&Span::until(b"a", b"z")), Ok(at(21, TWO)));
+        assert_eq!(cache.get_max(&Span::until(b"a", b"z")), at(21, TWO));
     }
 
     #[test]
@@ -576,7 +585,7 @@ mod tests {
                                 Ok((_, added)) => {
                                     assert!(added.kept);
                                     accepted += 1;
-                                    assert!(seat.get_max(&Span::Point(b"a")).unwrap().0.time >= value.time);
+                                    assert!(seat.get_max(&Span::Point(b"a")).0.time >= value.time);
                                 }
                                 Err(why) => assert_eq!(why, Error::Busy),
                             }
@@ -594,12 +603,15 @@ mod tests {
     #[test]
     fn seats() {
         assert_eq!(Shared::open(&Config::default(), 65, 9).err(), Some(Error::Seats));
+        assert_eq!(Shared::open(&Config::default(), u32::MAX, 9).err(), Some(Error::Seats));
         let (shared, mut seats) = Shared::open(&Config::default(), 2, 1).unwrap();
         let now = Time::new(20, 0);
         assert_eq!(seats[0].add(&Span::Point(b"a"), at(20, ONE), now, 0), Err(Error::Busy));
+        assert_eq!(seats[0].add_all(&[], now, 0), Err(Error::Busy));
         let marks = [Mark { span: Span::Point(b"a"), value: at(20, ONE) }, Mark { span: Span::Point(b"b"), value: at(21, TWO) }];
         assert_eq!(seats[0].add_all(&marks, now, 1), Ok((0, Added { kept: true, rotated: false, evicted: 0 })));
-        assert_eq!(seats[1].get_max(&Span::until(b"a", b"z")), Ok((at(21, TWO), 1)));
+        assert_eq!(seats[1].get_max(&Span::until(b"a", &[b'z'; 5000])), (at(21, TWO), 1));
+        assert_eq!(seats[1].figures(), (Figures { pages: 1, rotations: 0 }, 1));
         assert_eq!(seats[1].add(&Span::Point(b"a"), at(20, ONE), now, 1), Err(Error::Full));
         drop(seats);
         assert_eq!(shared.close().unwrap(), 1);

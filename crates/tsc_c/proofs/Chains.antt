@@ -8,7 +8,7 @@ use Rattle.tsc_cache.specs.declared.history.Entry.{Entry}
 use Rattle.tsc_cache.specs.History.{History, state_of}
 use Rattle.tsc_cache.specs.CacheView.{CacheView, StandsForState}
 use Rattle.tsc_cache.proofs.Histories.{state_of-push}
-use Rattle.tsc_c.specs.Calls.{Opens, Looks, AddsTo, AddsAllTo}
+use Rattle.tsc_table.specs.Calls.{Opens, Looks, AddsTo, AddsAllTo}
 use Rattle.tsc_c.specs.Chain.{AddsUp, nothing_yet, one_more, several_more, left, HoldsHistory, AnswersAllAdded, next_entry}
 
 or_else : {X : Type 0} → X → Option X → X

@@ -1,6 +1,4 @@
 mod BoxedTable
 mod Chains
-mod MarksMade
-mod NewSeats
 mod PlaceValues
 mod TableGoes

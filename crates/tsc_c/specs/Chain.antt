@@ -10,9 +10,9 @@ use Rattle.tsc_cache.specs.State.{look}
 use Rattle.tsc_cache.specs.declared.history.Entry.{Entry}
 use Rattle.tsc_cache.specs.History.{History, state_of}
 use Rattle.tsc_cache.specs.CacheView.{CacheView, StandsForState}
-use Rattle.tsc_c.specs.declared.words.TscMark.{TscMark}
-use Rattle.tsc_c.specs.Asked.{lookup_span}
-use Rattle.tsc_c.specs.Calls.{Opens, Looks, AddsTo, AddsAllTo}
+use Rattle.tsc_table.specs.declared.words.TscMark.{TscMark}
+use Rattle.tsc_table.specs.Asked.{lookup_span}
+use Rattle.tsc_table.specs.Calls.{Opens, Looks, AddsTo, AddsAllTo}
 
 -- the next entry of a history, all of which is one caller's
 abbrev pub next_entry : History → List Mark → Time → Entry

@@ -1,8 +1,3 @@
-pub mod Codes
-pub mod Asked
-pub mod Marks
-pub mod Calls
-pub mod Table
+pub mod Timed
 pub mod Placing
 pub mod Chain
-pub mod SeatCalls

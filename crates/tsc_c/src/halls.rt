@@ -2,22 +2,19 @@
 
 ghost use Rattle.std.specs.Prelude.{◌≡◌, ◌≢◌, ◌⊎◌, IfOk, IfErr, OnErr, Ok as Made, None};
 ghost use Rattle.tsc_cache.specs.Settings.{Settings, settings_of};
-ghost use Rattle.tsc_c.specs.Asked.{time_of, value_of};
-ghost use Rattle.tsc_c.specs.Table.{entries_of, seat_at, shared_at, Keeps};
-ghost use Rattle.tsc_c.specs.SeatCalls.{OpensShared, RefusesSeats, RefusesOpenShared, IsNoSeat, SeatLooks, RefusesSeatLookup, SeatStandsAt, SeatAddsTo, SeatAddsAllTo, Spares, RefusesSeatAdd, RefusesTimedSeatAdd, RefusesSeatAddAll, RefusesTimedSeatAddAll, Moves, RefusesMove, ClosesShared, RefusesCloseShared};
-ghost use Rattle.tsc_c.specs.declared.refusal.Refusal.TheVariants.{NoMemory};
+ghost use Rattle.tsc_table.specs.Asked.{time_of, value_of};
+ghost use Rattle.tsc_table.specs.Table.{entries_of, seat_at, shared_at, Keeps};
+ghost use Rattle.tsc_table.specs.SeatCalls.{OpensShared, RefusesSeats, RefusesRoom, IsNoSeat, SeatLooks, RefusesSeatLookup, SeatStandsAt, SeatCounts, SeatAddsTo, SeatAddsAllTo, Spares, RefusesSeatAdd, RefusesSeatAddAll, Moves, RefusesMove, ClosesShared, RefusesCloseShared};
+ghost use Rattle.tsc_c.specs.Timed.{RefusesOpenShared, RefusesTimedSeatAdd, RefusesTimedSeatAddAll};
 
-use crate::asked::{time, value as value_asked};
 use crate::held::{config, table_in};
 use crate::place::Place;
-use crate::refusal::Refusal;
-use crate::seats::Placed;
-use crate::table::Table;
-use crate::words::{TscMark, TscTime, TscValue};
 use std::alloc::Global;
 use std::mem::replace;
 use tsc_cache::Config;
-use tsc_shared::{Answer, LowWater};
+use tsc_shared::{Answer, Figures, LowWater};
+use tsc_table::asked::{time, value as value_asked};
+use tsc_table::{Placed, Refusal, Table, TscMark, TscTime, TscValue, may_seat};
 use tsc_time::{Timestamp, Value};
 
 /// Opens a shared cache.
@@ -52,8 +49,11 @@ fn open_shared_with(
 ) -> Result<u64, Refusal>
     ensures opened { IfOk result (λ n. OpensShared (entries_of place.old.table) (entries_of place.new.table) n config seats limit) }
     ensures unchanged { OnErr result (entries_of place.new.table ≡ entries_of place.old.table) }
-    ensures refused { IfErr result (λ why. RefusesSeats why seats ⊎ (why ≡ NoMemory)) }
+    ensures refused { IfErr result (λ why. RefusesSeats why seats ⊎ RefusesRoom why seats) }
 {
+    if !may_seat(seats) {
+        return Err(Refusal::Seats);
+    }
     let mut table = table_in(alloc, place)?;
     let made = table.open_shared(alloc, config, seats, limit);
     *place = Place::of(table);
@@ -71,12 +71,12 @@ pub fn seat_get_max(
 ) -> Result<Answer, Refusal>
     ensures looked { IfOk result (λ answer. SeatLooks (seat_at (entries_of place.old.table) number) (seat_at (entries_of place.new.table) number) from.now to.now ends answer.front answer.value) }
     ensures others { Keeps (entries_of place.old.table) (entries_of place.new.table) number }
-    ensures unchanged { OnErr result (seat_at (entries_of place.new.table) number ≡ seat_at (entries_of place.old.table) number) }
-    ensures refused { IfErr result (λ why. RefusesSeatLookup why (seat_at (entries_of place.old.table) number) from.now to.now ends) }
+    ensures unchanged { OnErr result (entries_of place.new.table ≡ entries_of place.old.table) }
+    ensures refused { IfErr result (λ why. RefusesSeatLookup why (seat_at (entries_of place.old.table) number) ends) }
 {
     match replace(place, Place::empty()).into_box(alloc) {
         Some(mut table) => {
-            let found = table.seat_get_max(alloc, number, from, to, ends);
+            let found = table.seat_get_max(number, from, to, ends);
             *place = Place::of(table);
             found
         }
@@ -88,7 +88,7 @@ pub fn seat_get_max(
 pub fn seat_low_water(alloc: Global, place: &mut Place, number: u64) -> Result<LowWater, Refusal>
     ensures floor { IfOk result (λ answer. SeatStandsAt (seat_at (entries_of place.old.table) number) (seat_at (entries_of place.new.table) number) answer.front answer.time) }
     ensures others { Keeps (entries_of place.old.table) (entries_of place.new.table) number }
-    ensures unchanged { OnErr result (seat_at (entries_of place.new.table) number ≡ seat_at (entries_of place.old.table) number) }
+    ensures unchanged { OnErr result (entries_of place.new.table ≡ entries_of place.old.table) }
     ensures refused { IfErr result (λ why. IsNoSeat why (seat_at (entries_of place.old.table) number)) }
 {
     match replace(place, Place::empty()).into_box(alloc) {
@@ -96,6 +96,23 @@ pub fn seat_low_water(alloc: Global, place: &mut Place, number: u64) -> Result<L
             let floor = table.seat_low_water(number);
             *place = Place::of(table);
             floor
+        }
+        None => Err(Refusal::Closed),
+    }
+}
+
+/// What can be counted of the cache of the seat at a number.
+pub fn seat_figures(alloc: Global, place: &mut Place, number: u64) -> Result<Figures, Refusal>
+    ensures figures { IfOk result (λ answer. SeatCounts (seat_at (entries_of place.old.table) number) (seat_at (entries_of place.new.table) number) answer.front (record { pages = answer.pages; rotations = answer.rotations })) }
+    ensures others { Keeps (entries_of place.old.table) (entries_of place.new.table) number }
+    ensures unchanged { OnErr result (entries_of place.new.table ≡ entries_of place.old.table) }
+    ensures refused { IfErr result (λ why. IsNoSeat why (seat_at (entries_of place.old.table) number)) }
+{
+    match replace(place, Place::empty()).into_box(alloc) {
+        Some(mut table) => {
+            let figures = table.seat_figures(number);
+            *place = Place::of(table);
+            figures
         }
         None => Err(Refusal::Closed),
     }
@@ -116,7 +133,9 @@ pub fn seat_add(
     ensures added { IfOk result (λ did. SeatAddsTo (seat_at (entries_of place.old.table) number) (seat_at (entries_of place.new.table) number) from.now to.now ends (value_of value.now) (time_of now.now) did.place did.added) }
     ensures others { Keeps (entries_of place.old.table) (entries_of place.new.table) number }
     ensures spared { OnErr result (Spares (seat_at (entries_of place.old.table) number) (seat_at (entries_of place.new.table) number)) }
-    ensures refused { IfErr result (λ why. RefusesTimedSeatAdd why (seat_at (entries_of place.old.table) number) (seat_at (entries_of place.new.table) number) from.now to.now ends (value_of value.now).time (time_of now.now)) }
+    ensures no_seat { OnErr result (seat_at (entries_of place.old.table) number ≡ None → entries_of place.new.table ≡ entries_of place.old.table) }
+    ensures tried { IfOk result (λ _. tries ≢ 0) }
+    ensures refused { IfErr result (λ why. RefusesTimedSeatAdd why (seat_at (entries_of place.old.table) number) (seat_at (entries_of place.new.table) number) from.now to.now ends (value_of value.now).time (time_of now.now) tries) }
 {
     let value = value_asked(value)?;
     let now = time(now)?;
@@ -138,7 +157,9 @@ fn seat_add_value(
     ensures added { IfOk result (λ did. SeatAddsTo (seat_at (entries_of place.old.table) number) (seat_at (entries_of place.new.table) number) from.now to.now ends value now did.place did.added) }
     ensures others { Keeps (entries_of place.old.table) (entries_of place.new.table) number }
     ensures spared { OnErr result (Spares (seat_at (entries_of place.old.table) number) (seat_at (entries_of place.new.table) number)) }
-    ensures refused { IfErr result (λ why. RefusesSeatAdd why (seat_at (entries_of place.old.table) number) (seat_at (entries_of place.new.table) number) from.now to.now ends) }
+    ensures no_seat { OnErr result (seat_at (entries_of place.old.table) number ≡ None → entries_of place.new.table ≡ entries_of place.old.table) }
+    ensures tried { IfOk result (λ _. tries ≢ 0) }
+    ensures refused { IfErr result (λ why. RefusesSeatAdd why (seat_at (entries_of place.old.table) number) (seat_at (entries_of place.new.table) number) from.now to.now ends tries) }
 {
     match replace(place, Place::empty()).into_box(alloc) {
         Some(mut table) => {
@@ -163,7 +184,9 @@ pub fn seat_add_all(
     ensures added { IfOk result (λ did. SeatAddsAllTo (seat_at (entries_of place.old.table) number) (seat_at (entries_of place.new.table) number) keys.now marks.now (time_of now.now) did.place did.added) }
     ensures others { Keeps (entries_of place.old.table) (entries_of place.new.table) number }
     ensures spared { OnErr result (Spares (seat_at (entries_of place.old.table) number) (seat_at (entries_of place.new.table) number)) }
-    ensures refused { IfErr result (λ why. RefusesTimedSeatAddAll why (seat_at (entries_of place.old.table) number) (seat_at (entries_of place.new.table) number) keys.now marks.now (time_of now.now)) }
+    ensures no_seat { OnErr result (seat_at (entries_of place.old.table) number ≡ None → entries_of place.new.table ≡ entries_of place.old.table) }
+    ensures tried { IfOk result (λ _. tries ≢ 0) }
+    ensures refused { IfErr result (λ why. RefusesTimedSeatAddAll why (seat_at (entries_of place.old.table) number) (seat_at (entries_of place.new.table) number) keys.now marks.now (time_of now.now) tries) }
 {
     let now = time(now)?;
     seat_add_marks(alloc, place, number, keys, marks, now, tries)
@@ -182,7 +205,9 @@ fn seat_add_marks(
     ensures added { IfOk result (λ did. SeatAddsAllTo (seat_at (entries_of place.old.table) number) (seat_at (entries_of place.new.table) number) keys.now marks.now now did.place did.added) }
     ensures others { Keeps (entries_of place.old.table) (entries_of place.new.table) number }
     ensures spared { OnErr result (Spares (seat_at (entries_of place.old.table) number) (seat_at (entries_of place.new.table) number)) }
-    ensures refused { IfErr result (λ why. RefusesSeatAddAll why (seat_at (entries_of place.old.table) number) (seat_at (entries_of place.new.table) number) keys.now marks.now) }
+    ensures no_seat { OnErr result (seat_at (entries_of place.old.table) number ≡ None → entries_of place.new.table ≡ entries_of place.old.table) }
+    ensures tried { IfOk result (λ _. tries ≢ 0) }
+    ensures refused { IfErr result (λ why. RefusesSeatAddAll why (seat_at (entries_of place.old.table) number) (seat_at (entries_of place.new.table) number) keys.now marks.now tries) }
 {
     match replace(place, Place::empty()).into_box(alloc) {
         Some(mut table) => {

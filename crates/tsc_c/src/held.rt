@@ -3,19 +3,18 @@
 ghost use Rattle.std.specs.Prelude.{◌≡◌, ◌≢◌, IfOk, IfErr, OnErr, Ok as Made, Err as Refused, None};
 ghost use Rattle.tsc_cache.specs.Settings.{Settings, settings_of};
 ghost use Rattle.tsc_cache.specs.declared.config.ConfigFault.{ConfigFault as Fault};
-ghost use Rattle.tsc_c.specs.Asked.{time_of, value_of, added_of};
-ghost use Rattle.tsc_c.specs.Calls.{Opens, Looks, StandsAt, Counts, AddsTo, AddsAllTo, IsClosed, RefusesConfig, RefusesOpen, RefusesLookup, RefusesAdd, RefusesAddAll, RefusesSettings, RefusesTimedAdd, RefusesTimedAddAll};
-ghost use Rattle.tsc_c.specs.Table.{cache_at, entries_of, Keeps, GivesNext};
-ghost use Rattle.tsc_c.specs.declared.refusal.Refusal.TheVariants.{NoMemory};
+ghost use Rattle.tsc_table.specs.Asked.{time_of, value_of, added_of};
+ghost use Rattle.tsc_table.specs.Calls.{Opens, Looks, StandsAt, Counts, AddsTo, AddsAllTo, IsClosed, RefusesLookup, RefusesAdd, RefusesAddAll};
+ghost use Rattle.tsc_table.specs.Table.{cache_at, entries_of, Keeps, GivesNext};
+ghost use Rattle.tsc_table.specs.declared.refusal.Refusal.TheVariants.{NoMemory};
+ghost use Rattle.tsc_c.specs.Timed.{RefusesConfig, RefusesOpen, RefusesSettings, RefusesTimedAdd, RefusesTimedAddAll};
 
-use crate::asked::{time, value as value_asked};
 use crate::place::Place;
-use crate::refusal::Refusal;
-use crate::table::Table;
-use crate::words::{TscAdded, TscFigures, TscMark, TscTime, TscValue};
 use std::alloc::Global;
 use std::mem::replace;
 use tsc_cache::{Added, Config, ConfigFault};
+use tsc_table::asked::{time, value as value_asked};
+use tsc_table::{Refusal, Table, TscAdded, TscFigures, TscMark, TscTime, TscValue};
 use tsc_time::{Timestamp, Value};
 
 /// Opens a cache.
@@ -108,7 +107,7 @@ pub fn add(
 ) -> Result<Added, Refusal>
     ensures added { IfOk result (λ added. AddsTo (cache_at (entries_of place.old.table) number) (cache_at (entries_of place.new.table) number) from.now to.now ends (value_of value.now) (time_of now.now) added) }
     ensures others { Keeps (entries_of place.old.table) (entries_of place.new.table) number }
-    ensures unchanged { OnErr result (cache_at (entries_of place.new.table) number ≡ cache_at (entries_of place.old.table) number) }
+    ensures unchanged { OnErr result (entries_of place.new.table ≡ entries_of place.old.table) }
     ensures refused { IfErr result (λ why. RefusesTimedAdd why (cache_at (entries_of place.old.table) number) from.now to.now ends (value_of value.now).time (time_of now.now)) }
 {
     let value = value_asked(value)?;
@@ -129,7 +128,7 @@ fn add_value(
 ) -> Result<Added, Refusal>
     ensures added { IfOk result (λ added. AddsTo (cache_at (entries_of place.old.table) number) (cache_at (entries_of place.new.table) number) from.now to.now ends value now added) }
     ensures others { Keeps (entries_of place.old.table) (entries_of place.new.table) number }
-    ensures unchanged { OnErr result (cache_at (entries_of place.new.table) number ≡ cache_at (entries_of place.old.table) number) }
+    ensures unchanged { OnErr result (entries_of place.new.table ≡ entries_of place.old.table) }
     ensures refused { IfErr result (λ why. RefusesAdd why (cache_at (entries_of place.old.table) number) from.now to.now ends) }
 {
     match replace(place, Place::empty()).into_box(alloc) {
@@ -153,7 +152,7 @@ pub fn add_all(
 ) -> Result<Added, Refusal>
     ensures added { IfOk result (λ added. AddsAllTo (cache_at (entries_of place.old.table) number) (cache_at (entries_of place.new.table) number) keys.now marks.now (time_of now.now) added) }
     ensures others { Keeps (entries_of place.old.table) (entries_of place.new.table) number }
-    ensures unchanged { OnErr result (cache_at (entries_of place.new.table) number ≡ cache_at (entries_of place.old.table) number) }
+    ensures unchanged { OnErr result (entries_of place.new.table ≡ entries_of place.old.table) }
     ensures refused { IfErr result (λ why. RefusesTimedAddAll why (cache_at (entries_of place.old.table) number) keys.now marks.now (time_of now.now)) }
 {
     let now = time(now)?;
@@ -171,7 +170,7 @@ fn add_marks(
 ) -> Result<Added, Refusal>
     ensures added { IfOk result (λ added. AddsAllTo (cache_at (entries_of place.old.table) number) (cache_at (entries_of place.new.table) number) keys.now marks.now now added) }
     ensures others { Keeps (entries_of place.old.table) (entries_of place.new.table) number }
-    ensures unchanged { OnErr result (cache_at (entries_of place.new.table) number ≡ cache_at (entries_of place.old.table) number) }
+    ensures unchanged { OnErr result (entries_of place.new.table ≡ entries_of place.old.table) }
     ensures refused { IfErr result (λ why. RefusesAddAll why (cache_at (entries_of place.old.table) number) keys.now marks.now) }
 {
     match replace(place, Place::empty()).into_box(alloc) {
@@ -206,11 +205,11 @@ pub fn get_max(
 ) -> Result<Value, Refusal>
     ensures unchanged { place.new.table ≡ place.old.table }
     ensures value { IfOk result (λ v. Looks (cache_at (entries_of place.old.table) number) from.now to.now ends v) }
-    ensures refused { IfErr result (λ why. RefusesLookup why (cache_at (entries_of place.old.table) number) from.now to.now ends) }
+    ensures refused { IfErr result (λ why. RefusesLookup why (cache_at (entries_of place.old.table) number) ends) }
 {
     match replace(place, Place::empty()).into_box(alloc) {
         Some(table) => {
-            let found = table.get_max(alloc, number, from, to, ends);
+            let found = table.get_max(number, from, to, ends);
             *place = Place::of(table);
             found
         }
@@ -256,6 +255,7 @@ pub fn close(alloc: Global, place: &mut Place, number: u64) -> Result<(), Refusa
     ensures others { Keeps (entries_of place.old.table) (entries_of place.new.table) number }
     ensures refused { IfErr result (λ why. IsClosed why (cache_at (entries_of place.old.table) number)) }
     ensures done { IfOk result (λ _. cache_at (entries_of place.old.table) number ≢ None) }
+    ensures unchanged { OnErr result (entries_of place.new.table ≡ entries_of place.old.table) }
 {
     match replace(place, Place::empty()).into_box(alloc) {
         Some(mut table) => {

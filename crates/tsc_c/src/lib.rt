@@ -7,30 +7,24 @@
 
 ghost use Rattle.std.specs.Prelude.{◌≡◌, ◌≢◌, Ok as Made, None};
 ghost use Rattle.tsc_cache.specs.Settings.{Settings, settings_of};
-ghost use Rattle.tsc_c.specs.Codes.{code_of};
-ghost use Rattle.tsc_c.specs.Asked.{time_of, value_of, added_of};
-ghost use Rattle.tsc_c.specs.Calls.{Opens, Looks, StandsAt, Counts, AddsTo, AddsAllTo, IsClosed, RefusesOpen, RefusesLookup, RefusesTimedAdd, RefusesTimedAddAll};
-ghost use Rattle.tsc_c.specs.Table.{cache_at, entries_of, Keeps, GivesNext};
-ghost use Rattle.tsc_c.specs.declared.refusal.Refusal.{Refusal as Why};
+ghost use Rattle.tsc_table.specs.Codes.{code_of};
+ghost use Rattle.tsc_table.specs.Asked.{time_of, value_of, added_of};
+ghost use Rattle.tsc_table.specs.Calls.{Opens, Looks, StandsAt, Counts, AddsTo, AddsAllTo, IsClosed, RefusesLookup};
+ghost use Rattle.tsc_table.specs.Table.{cache_at, entries_of, Keeps, GivesNext};
+ghost use Rattle.tsc_table.specs.declared.refusal.Refusal.{Refusal as Why};
+ghost use Rattle.tsc_c.specs.Timed.{RefusesOpen, RefusesTimedAdd, RefusesTimedAddAll};
 
-mod asked;
 mod halls;
 mod held;
 pub mod laws;
-mod marks;
 mod place;
-mod refusal;
 mod seat_calls;
-mod seats;
-mod table;
 #[cfg(test)]
 mod tests;
-mod words;
 
 use place::Place;
-use refusal::OK;
 use std::alloc::Global;
-use words::{TscAdded, TscFigures, TscMark, TscTime, TscValue};
+use tsc_table::{OK, TscAdded, TscFigures, TscMark, TscTime, TscValue, asked};
 
 /// Opens a cache, and writes its number, which was not given before. The place may be zeros.
 #[unsafe(no_mangle)]
@@ -77,7 +71,7 @@ pub extern "C" fn tsc_add(
     ensures added { result ≡ OK → AddsTo (cache_at (entries_of place.old.table) number) (cache_at (entries_of place.new.table) number) from.now to.now ends
         (value_of value.now) (time_of now.now) (added_of out.new) }
     ensures others { Keeps (entries_of place.old.table) (entries_of place.new.table) number }
-    ensures unchanged { result ≢ OK → (cache_at (entries_of place.new.table) number ≡ cache_at (entries_of place.old.table) number) × (out.new ≡ out.old) }
+    ensures unchanged { result ≢ OK → (entries_of place.new.table ≡ entries_of place.old.table) × (out.new ≡ out.old) }
     ensures refused { result ≢ OK → (why : Why) × (result ≡ code_of why) × RefusesTimedAdd why (cache_at (entries_of place.old.table) number) from.now to.now ends
         (value_of value.now).time (time_of now.now) }
 {
@@ -104,7 +98,7 @@ pub extern "C" fn tsc_add_all(
     ensures added { result ≡ OK → AddsAllTo (cache_at (entries_of place.old.table) number) (cache_at (entries_of place.new.table) number) keys.now marks.now
         (time_of now.now) (added_of out.new) }
     ensures others { Keeps (entries_of place.old.table) (entries_of place.new.table) number }
-    ensures unchanged { result ≢ OK → (cache_at (entries_of place.new.table) number ≡ cache_at (entries_of place.old.table) number) × (out.new ≡ out.old) }
+    ensures unchanged { result ≢ OK → (entries_of place.new.table ≡ entries_of place.old.table) × (out.new ≡ out.old) }
     ensures refused { result ≢ OK → (why : Why) × (result ≡ code_of why) × RefusesTimedAddAll why (cache_at (entries_of place.old.table) number) keys.now marks.now (time_of now.now) }
 {
     match held::add_all(alloc, place, number, keys, marks, now) {
@@ -130,7 +124,7 @@ pub extern "C" fn tsc_get_max(
     ensures unchanged { place.new.table ≡ place.old.table }
     ensures value { result ≡ OK → Looks (cache_at (entries_of place.old.table) number) from.now to.now ends (value_of out.new) }
     ensures kept { result ≢ OK → out.new ≡ out.old }
-    ensures refused { result ≢ OK → (why : Why) × (result ≡ code_of why) × RefusesLookup why (cache_at (entries_of place.old.table) number) from.now to.now ends }
+    ensures refused { result ≢ OK → (why : Why) × (result ≡ code_of why) × RefusesLookup why (cache_at (entries_of place.old.table) number) ends }
 {
     match held::get_max(alloc, place, number, from, to, ends) {
         Ok(value) => {
@@ -191,6 +185,7 @@ pub extern "C" fn tsc_close(alloc: Global, place: &mut Place, number: u64) -> u3
     ensures closed { cache_at (entries_of place.new.table) number ≡ None }
     ensures others { Keeps (entries_of place.old.table) (entries_of place.new.table) number }
     ensures done { result ≡ OK → cache_at (entries_of place.old.table) number ≢ None }
+    ensures unchanged { result ≢ OK → entries_of place.new.table ≡ entries_of place.old.table }
     ensures refused { result ≢ OK → (why : Why) × (result ≡ code_of why) × IsClosed why (cache_at (entries_of place.old.table) number) }
 {
     match held::close(alloc, place, number) {

@@ -2,17 +2,17 @@
 
 ghost use Rattle.std.specs.Prelude.{◌≡◌, ◌≢◌, Ok as Made, None};
 ghost use Rattle.tsc_cache.specs.Settings.{Settings, settings_of};
-ghost use Rattle.tsc_c.specs.Codes.{code_of};
-ghost use Rattle.tsc_c.specs.Asked.{time_of, value_of, added_of};
-ghost use Rattle.tsc_c.specs.Table.{entries_of, seat_at, shared_at, Keeps};
-ghost use Rattle.tsc_c.specs.SeatCalls.{OpensShared, RefusesOpenShared, IsNoSeat, SeatLooks, RefusesSeatLookup, SeatStandsAt, SeatAddsTo, SeatAddsAllTo, Spares, RefusesTimedSeatAdd, RefusesTimedSeatAddAll, Moves, RefusesMove, ClosesShared, RefusesCloseShared};
-ghost use Rattle.tsc_c.specs.declared.refusal.Refusal.{Refusal as Why};
+ghost use Rattle.tsc_table.specs.Codes.{code_of};
+ghost use Rattle.tsc_table.specs.Asked.{time_of, value_of, added_of};
+ghost use Rattle.tsc_table.specs.Table.{entries_of, seat_at, shared_at, Keeps};
+ghost use Rattle.tsc_table.specs.SeatCalls.{OpensShared, IsNoSeat, SeatLooks, RefusesSeatLookup, SeatStandsAt, SeatCounts, SeatAddsTo, SeatAddsAllTo, Spares, Moves, RefusesMove, ClosesShared, RefusesCloseShared};
+ghost use Rattle.tsc_table.specs.declared.refusal.Refusal.{Refusal as Why};
+ghost use Rattle.tsc_c.specs.Timed.{RefusesOpenShared, RefusesTimedSeatAdd, RefusesTimedSeatAddAll};
 
 use crate::place::Place;
-use crate::refusal::OK;
-use crate::words::{TscAdded, TscMark, TscTime, TscValue};
-use crate::{asked, halls, held};
+use crate::{halls, held};
 use std::alloc::Global;
+use tsc_table::{OK, TscAdded, TscFigures, TscMark, TscTime, TscValue, asked};
 
 /// Opens a cache that threads share, and writes its number. Its seats have the numbers behind that, in their order.
 #[unsafe(no_mangle)]
@@ -63,9 +63,11 @@ pub extern "C" fn tsc_seat_add(
         (value_of value.now) (time_of now.now) place_in_history.new (added_of out.new) }
     ensures others { Keeps (entries_of place.old.table) (entries_of place.new.table) number }
     ensures spared { result ≢ OK → Spares (seat_at (entries_of place.old.table) number) (seat_at (entries_of place.new.table) number) }
+    ensures no_seat { result ≢ OK → seat_at (entries_of place.old.table) number ≡ None → entries_of place.new.table ≡ entries_of place.old.table }
+    ensures tried { result ≡ OK → tries ≢ 0 }
     ensures kept { result ≢ OK → (place_in_history.new ≡ place_in_history.old) × (out.new ≡ out.old) }
     ensures refused { result ≢ OK → (why : Why) × (result ≡ code_of why) × RefusesTimedSeatAdd why (seat_at (entries_of place.old.table) number)
-        (seat_at (entries_of place.new.table) number) from.now to.now ends (value_of value.now).time (time_of now.now) }
+        (seat_at (entries_of place.new.table) number) from.now to.now ends (value_of value.now).time (time_of now.now) tries }
 {
     match halls::seat_add(alloc, place, number, from, to, ends, value, now, tries) {
         Ok(did) => {
@@ -94,9 +96,11 @@ pub extern "C" fn tsc_seat_add_all(
         (time_of now.now) place_in_history.new (added_of out.new) }
     ensures others { Keeps (entries_of place.old.table) (entries_of place.new.table) number }
     ensures spared { result ≢ OK → Spares (seat_at (entries_of place.old.table) number) (seat_at (entries_of place.new.table) number) }
+    ensures no_seat { result ≢ OK → seat_at (entries_of place.old.table) number ≡ None → entries_of place.new.table ≡ entries_of place.old.table }
+    ensures tried { result ≡ OK → tries ≢ 0 }
     ensures kept { result ≢ OK → (place_in_history.new ≡ place_in_history.old) × (out.new ≡ out.old) }
     ensures refused { result ≢ OK → (why : Why) × (result ≡ code_of why) × RefusesTimedSeatAddAll why (seat_at (entries_of place.old.table) number)
-        (seat_at (entries_of place.new.table) number) keys.now marks.now (time_of now.now) }
+        (seat_at (entries_of place.new.table) number) keys.now marks.now (time_of now.now) tries }
 {
     match halls::seat_add_all(alloc, place, number, keys, marks, now, tries) {
         Ok(did) => {
@@ -123,8 +127,8 @@ pub extern "C" fn tsc_seat_get_max(
     ensures looked { result ≡ OK → SeatLooks (seat_at (entries_of place.old.table) number) (seat_at (entries_of place.new.table) number) from.now to.now ends
         seen.new (value_of out.new) }
     ensures others { Keeps (entries_of place.old.table) (entries_of place.new.table) number }
-    ensures unchanged { result ≢ OK → (seat_at (entries_of place.new.table) number ≡ seat_at (entries_of place.old.table) number) × (seen.new ≡ seen.old) × (out.new ≡ out.old) }
-    ensures refused { result ≢ OK → (why : Why) × (result ≡ code_of why) × RefusesSeatLookup why (seat_at (entries_of place.old.table) number) from.now to.now ends }
+    ensures unchanged { result ≢ OK → (entries_of place.new.table ≡ entries_of place.old.table) × (seen.new ≡ seen.old) × (out.new ≡ out.old) }
+    ensures refused { result ≢ OK → (why : Why) × (result ≡ code_of why) × RefusesSeatLookup why (seat_at (entries_of place.old.table) number) ends }
 {
     match halls::seat_get_max(alloc, place, number, from, to, ends) {
         Ok(answer) => {
@@ -147,13 +151,40 @@ pub extern "C" fn tsc_seat_low_water(
 ) -> u32
     ensures floor { result ≡ OK → SeatStandsAt (seat_at (entries_of place.old.table) number) (seat_at (entries_of place.new.table) number) seen.new (time_of out.new) }
     ensures others { Keeps (entries_of place.old.table) (entries_of place.new.table) number }
-    ensures unchanged { result ≢ OK → (seat_at (entries_of place.new.table) number ≡ seat_at (entries_of place.old.table) number) × (seen.new ≡ seen.old) × (out.new ≡ out.old) }
+    ensures unchanged { result ≢ OK → (entries_of place.new.table ≡ entries_of place.old.table) × (seen.new ≡ seen.old) × (out.new ≡ out.old) }
     ensures refused { result ≢ OK → (why : Why) × (result ≡ code_of why) × IsNoSeat why (seat_at (entries_of place.old.table) number) }
 {
     match halls::seat_low_water(alloc, place, number) {
         Ok(answer) => {
             *seen = answer.front;
             *out = asked::words_of_time(answer.time);
+            OK
+        }
+        Err(why) => why.code(),
+    }
+}
+
+/// How many pages there are and how often they rotated, at a seat, and how many Adds the seat has seen then.
+#[unsafe(no_mangle)]
+pub extern "C" fn tsc_seat_figures_of(
+    alloc: Global,
+    place: &mut Place,
+    number: u64,
+    seen: &mut u64,
+    out: &mut TscFigures,
+) -> u32
+    ensures figures { result ≡ OK → SeatCounts (seat_at (entries_of place.old.table) number) (seat_at (entries_of place.new.table) number) seen.new out.new }
+    ensures others { Keeps (entries_of place.old.table) (entries_of place.new.table) number }
+    ensures unchanged { result ≢ OK → (entries_of place.new.table ≡ entries_of place.old.table) × (seen.new ≡ seen.old) × (out.new ≡ out.old) }
+    ensures refused { result ≢ OK → (why : Why) × (result ≡ code_of why) × IsNoSeat why (seat_at (entries_of place.old.table) number) }
+{
+    match halls::seat_figures(alloc, place, number) {
+        Ok(answer) => {
+            *seen = answer.front;
+            *out = TscFigures {
+                pages: answer.pages,
+                rotations: answer.rotations,
+            };
             OK
         }
         Err(why) => why.code(),

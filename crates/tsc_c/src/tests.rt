@@ -3,14 +3,14 @@
 use crate::place::Place;
 use crate::seat_calls::{
     tsc_close_shared, tsc_move, tsc_open_shared, tsc_seat_add, tsc_seat_add_all, tsc_seat_close,
-    tsc_seat_get_max, tsc_seat_low_water,
+    tsc_seat_figures_of, tsc_seat_get_max, tsc_seat_low_water,
 };
-use crate::words::{TscAdded, TscFigures, TscMark, TscTime, TscValue};
 use crate::{
     tsc_add, tsc_add_all, tsc_close, tsc_figures_of, tsc_free, tsc_get_max, tsc_low_water, tsc_open,
 };
 use std::alloc::Global;
 use std::test::*;
+use tsc_table::{TscAdded, TscFigures, TscMark, TscTime, TscValue};
 
 const LOW: TscTime = TscTime {
     wall: 5,
@@ -161,6 +161,17 @@ fn seat_low_water(alloc: Global, place: &mut Place, seat: u64) -> (u32, u64, u64
     (code, floor.wall, seen)
 }
 
+/// The code, the pages, the rotations, and how many Adds the seat has seen then.
+fn seat_figures(alloc: Global, place: &mut Place, seat: u64) -> (u32, u64, u64, u64) {
+    let mut seen = 9;
+    let mut figures = TscFigures {
+        pages: 9,
+        rotations: 9,
+    };
+    let code = tsc_seat_figures_of(alloc, place, seat, &mut seen, &mut figures);
+    (code, figures.pages, figures.rotations, seen)
+}
+
 /// The code, and how many Adds there were.
 fn close_shared(alloc: Global, place: &mut Place, number: u64) -> (u32, u64) {
     let mut length = 9;
@@ -191,6 +202,8 @@ fn each_call_of_a_shared_cache_answers(rt: HostRuntime) {
     assert_eq!(rt; seat_add(alloc, &mut place, 1, 1), (15, 9, false));
     assert_eq!(rt; seat_get_max(alloc, &mut place, 1, b"d"), (0, 20, 2));
     assert_eq!(rt; seat_low_water(alloc, &mut place, 1), (0, 5, 2));
+    assert_eq!(rt; seat_figures(alloc, &mut place, 1), (0, 1, 0, 2));
+    assert_eq!(rt; seat_figures(alloc, &mut place, 0), (1, 9, 9, 9));
     assert_eq!(rt; tsc_seat_close(alloc, &mut place, 1), 0);
     assert_eq!(rt; tsc_seat_close(alloc, &mut place, 1), 1);
     assert_eq!(rt; close_shared(alloc, &mut place, 0), (13, 9));

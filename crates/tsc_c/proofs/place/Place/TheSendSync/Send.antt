@@ -11,7 +11,7 @@ use Rattle.std.proofs.Crossing.{crosses, frees}
 use Rattle.tsc_cache.proofs.Crossing.{cache_sends}
 use Rattle.tsc_hall.proofs.Crossing.{host_sends, chair_sends}
 use Rattle.tsc_c.specs.Placing.{Kept, heap, place_owns}
-use Rattle.tsc_c.specs.contracts.table.Entry.{the_row as entry}
+use Rattle.tsc_table.specs.contracts.table.Entry.{the_row as entry}
 use Rattle.tsc_c.specs.contracts.place.Place.{the_row, the_type}
 
 entry_sends : IsSend entry

@@ -1,0 +1,3 @@
+mod MarksMade
+mod NewSeats
+mod Trying
