@@ -6,3 +6,4 @@ pub mod Table
 pub mod Placing
 pub mod Chain
 pub mod SeatCalls
+pub mod Texts

@@ -25,6 +25,9 @@ mod seats;
 mod table;
 #[cfg(test)]
 mod tests;
+mod texts;
+#[cfg(test)]
+mod texts_tests;
 mod words;
 
 use place::Place;
