@@ -25,7 +25,7 @@ pub extern "C" fn tsc_replay(alloc: Global, trace: &[u8], out: &mut [u8], len: &
 {
     match replay_bytes(alloc, trace) {
         Ok(Outcome::Text(log)) => put(OK, log.as_slice(), out, len),
-        Ok(Outcome::Refused(why)) => put(REFUSED, why.as_slice(), out, len),
+        Ok(Outcome::Refused(refusal)) => put(REFUSED, refusal.as_slice(), out, len),
         Err(_) => Refusal::NoMemory.code(),
     }
 }
