@@ -61,7 +61,7 @@ extern "C" {
 #endif
 
 /* What a call answers: TSC_OK, or why it was refused. A call that is refused adds nothing to a cache, and writes nothing but to the
- * place. */
+ * place (and with TSC_REFUSED and TSC_SHORT what is said there). */
 enum {
     TSC_OK = 0,
     TSC_CLOSED = 1,       /* the number names nothing in this place, or nothing of this kind: it was closed, moved, or never given */
@@ -79,6 +79,8 @@ enum {
     TSC_STILL_OUT = 13,   /* a seat of the shared cache was not handed in */
     TSC_BUSY = 14,        /* others were in the way at each of so many tries: another Add, or a lookup */
     TSC_FULL = 15,        /* the shared cache has had as many Adds as `limit` says */
+    TSC_REFUSED = 16,     /* of tsc_replay and tsc_check: the text says why the bytes are no trace, or no log */
+    TSC_SHORT = 17,       /* of the same: the text is longer than `room`, and `*len` says how long */
     TSC_NULL = 255        /* a pointer is null: told by the calls with `_try_` in their names alone */
 };
 
@@ -195,6 +197,21 @@ uint32_t tsc_seat_close(tsc_place *place, uint64_t seat);
  * stays as it is; so it is too where a call that hands in the last seat has not returned yet. */
 uint32_t tsc_close_shared(tsc_place *place, uint64_t number, uint64_t *length);
 
+/* Recorded traces, from bytes to bytes. These two calls take no place, and threads may make them at once, each with a buffer of its
+ * own. The memory that they take they free before they return.
+ *
+ * `out` is a buffer of `room` bytes, which may be 0. A text that fits stands there from the first byte on, with no zero byte behind
+ * it, and what lies behind it is as before: TSC_OK for what was asked for, TSC_REFUSED for why the bytes were refused, as the program
+ * tells it on standard error, without the line feed. Where the text is longer than `room` that is TSC_SHORT, and `out` is as before. In
+ * all three cases `*len` tells how many bytes the text has; with TSC_NO_MEMORY `out` and `*len` are as before. A trace, or a log, of
+ * more than 16,777,216 bytes is refused. */
+
+/* Replays a trace on one thread. The text is that of its log. */
+uint32_t tsc_replay(const uint8_t *trace, size_t trace_len, uint8_t *out, size_t room, size_t *len);
+
+/* Checks a log against its trace. The text is the line of the verdict, with its line feed. */
+uint32_t tsc_check(const uint8_t *trace, size_t trace_len, const uint8_t *log, size_t log_len, uint8_t *out, size_t room, size_t *len);
+
 /* The same calls where a pointer may be null. */
 
 static inline const uint8_t *tsc_bytes(const void *bytes)
@@ -274,6 +291,23 @@ static inline uint32_t tsc_seat_try_figures_of(tsc_place *place, uint64_t seat, 
     return place && seen && out ? tsc_seat_figures_of(place, seat, seen, out) : (uint32_t)TSC_NULL;
 }
 
+static inline uint32_t tsc_try_replay(const void *trace, size_t trace_len, void *out, size_t room, size_t *len)
+{
+    uint8_t none[1];
+    if (!len || (!trace && trace_len) || (!out && room))
+        return TSC_NULL;
+    return tsc_replay(tsc_bytes(trace), trace_len, out ? (uint8_t *)out : none, room, len);
+}
+
+static inline uint32_t tsc_try_check(const void *trace, size_t trace_len, const void *log, size_t log_len, void *out, size_t room,
+                                     size_t *len)
+{
+    uint8_t none[1];
+    if (!len || (!trace && trace_len) || (!log && log_len) || (!out && room))
+        return TSC_NULL;
+    return tsc_check(tsc_bytes(trace), trace_len, tsc_bytes(log), log_len, out ? (uint8_t *)out : none, room, len);
+}
+
 /* The name of what a call answered. */
 static inline const char *tsc_text(uint32_t answer)
 {
@@ -294,6 +328,8 @@ static inline const char *tsc_text(uint32_t answer)
     case TSC_STILL_OUT: return "a seat is still out";
     case TSC_BUSY: return "others were in the way";
     case TSC_FULL: return "there are as many Adds as there may be";
+    case TSC_REFUSED: return "the bytes are refused, and the text says why";
+    case TSC_SHORT: return "the text is longer than the buffer";
     case TSC_NULL: return "a pointer is null";
     default: return "no such answer";
     }

@@ -78,4 +78,6 @@ extern "C" {
     pub fn tsc_seat_low_water(place: *mut Place, seat: u64, seen: *mut u64, out: *mut Time) -> u32;
     pub fn tsc_seat_figures_of(place: *mut Place, seat: u64, seen: *mut u64, out: *mut Figures) -> u32;
     pub fn tsc_close_shared(place: *mut Place, number: u64, length: *mut u64) -> u32;
+    pub fn tsc_replay(trace: *const u8, trace_len: usize, out: *mut u8, room: usize, len: *mut usize) -> u32;
+    pub fn tsc_check(trace: *const u8, trace_len: usize, log: *const u8, log_len: usize, out: *mut u8, room: usize, len: *mut usize) -> u32;
 }

@@ -21,6 +21,9 @@ use std::fmt;
 use std::ptr::null_mut;
 
 mod ffi;
+mod texts;
+
+pub use texts::{check, replay, TextError};
 
 /// A time of a hybrid logical clock. The smaller wall time comes first, and of two equal ones the smaller count.
 #[derive(Clone, Copy, Debug, Default, PartialEq, Eq, PartialOrd, Ord, Hash)]

@@ -1,3 +1,4 @@
 pub mod Timed
 pub mod Placing
 pub mod Chain
+pub mod Texts

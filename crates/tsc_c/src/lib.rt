@@ -1,7 +1,8 @@
 //! The timestamp cache for programs in C, and for what calls C.
 //!
-//! A program hands in a place in its memory, zeros at first, in which it opens caches by numbers. Each call takes that place, and is
-//! total: whatever numbers and bytes come, it returns, and says what it did or why it was refused. Nothing here waits.
+//! A program hands in a place in its memory, zeros at first, in which it opens caches by numbers. Each call takes that place, but for
+//! those of `texts`, and is total: whatever numbers and bytes come, it returns, and says what it did or why it was refused. Nothing here
+//! waits.
 //! `include/tscache.h` declares these calls, and says what a caller owes.
 #![tactic(auto)]
 
@@ -21,6 +22,9 @@ mod place;
 mod seat_calls;
 #[cfg(test)]
 mod tests;
+mod texts;
+#[cfg(test)]
+mod texts_tests;
 
 use place::Place;
 use std::alloc::Global;
