@@ -11,3 +11,5 @@ mod between;
 mod cache;
 #[cfg(test)]
 mod growths;
+#[cfg(test)]
+mod refused;
