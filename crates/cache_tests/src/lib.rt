@@ -13,3 +13,5 @@ mod cache;
 mod growths;
 #[cfg(test)]
 mod refused;
+#[cfg(test)]
+mod texts;
