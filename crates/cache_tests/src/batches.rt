@@ -1,10 +1,9 @@
 //! Marks that are added together, all of them or none, by each call that does so.
 use crate::cache::agreement::{Sequence, spans, stand_of};
 use crate::cache::rows::{
-    AT_20, AT_40, DROPPED, FIRST, FLOOR, KEPT, NOBODY, NOT_KEPT, RETENTION, ROTATED, SECOND, Text,
-    Time, Told,
+    AT_20, AT_40, DROPPED, FIRST, FLOOR, KEPT, NOBODY, NOT_KEPT, ROTATED, SECOND, Text, Time, Told,
 };
-use crate::cache::runner::{Limits, at, span, value};
+use crate::cache::runner::{Limits, at, config, span, value};
 use std::alloc::Global;
 use std::process::Abort;
 use std::test::Fail;
@@ -13,7 +12,7 @@ use tsc_span::Span;
 use tsc_time::{NoMemory, Timestamp, Value};
 
 /// A span, a time and an owner.
-type MarkRow = (Text, Time, u128);
+pub type MarkRow = (Text, Time, u128);
 
 /// Limits, what is added to a new cache and at which moment, what that tells, then what is answered, how many
 /// pages there are, and where the floor stands.
@@ -234,17 +233,13 @@ impl Tried {
 }
 
 /// The marks of some rows.
-fn marks_of(alloc: Global, rows: &[MarkRow]) -> Result<Vec<Mark>, Fail> {
+pub fn marks_of(alloc: Global, rows: &[MarkRow]) -> Result<Vec<Mark>, Fail> {
     let mut marks = Vec::with_capacity(alloc, rows.len())?;
     for (text, time, owner) in rows {
         let (span, value) = (span(alloc, text)?, value(*time, *owner)?);
         marks.push(Mark { span, value })?;
     }
     Ok(marks)
-}
-
-fn config((page_first, page_max, min_pages): Limits) -> Result<Config, Fail> {
-    Ok(Config::new(page_first, page_max, min_pages, RETENTION, at(FLOOR)?)?)
 }
 
 /// Whether each span is answered as a row says.

@@ -11,3 +11,7 @@ mod between;
 mod cache;
 #[cfg(test)]
 mod growths;
+#[cfg(test)]
+mod refused;
+#[cfg(test)]
+mod texts;

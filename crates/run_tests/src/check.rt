@@ -1,7 +1,8 @@
 use std::alloc::Global;
 use std::test::Fail;
 use tsc_check::{Verdict, check};
-use tsc_trace::{read_log, read_trace};
+use tsc_time::NoMemory;
+use tsc_trace::{Log, Trace, read_log, read_trace};
 
 const HEAD: &str =
     r#"{"page_first":132,"page_max":132,"min_pages":2,"retention":10,"low_water":[5,0],"threads":"#;
@@ -223,5 +224,58 @@ fn wrong_check(alloc: Global, rows: &[(&str, &str, Verdict)]) -> Result<Option<u
 #[test]
 fn checks(rt: HostRuntime) -> Result<(), Fail> {
     assert_eq!(rt; wrong_check(rt.alloc(), &CHECKS)?, None);
+    Ok(())
+}
+
+/// Two Adds, of which the second overlaps the first, lookups and a call for the floor.
+const OVERLAPPING_READS: &str = r#"[[
+{"op":"add","span":{"start":"61","end":"63"},"time":[20,0],"owner":"11111111-1111-4111-8111-111111111111","now":[20,0]},
+{"op":"get","span":{"start":"62"}},
+{"op":"get","span":{"start":"63"}},
+{"op":"add","span":{"start":"62"},"time":[20,0],"owner":"22222222-2222-4222-8222-222222222222","now":[20,0]},
+{"op":"get","span":{"start":"62"}},
+{"op":"low"}]]}"#;
+
+/// Its log, and one whose answer after the first Add is wrong.
+static LOGS: [(&str, Verdict); 2] = [
+    (
+        "0 0 add 0 1 0 0\n0 1 get 1 20.0 11111111-1111-4111-8111-111111111111\n0 2 get 1 5.0 none\n0 3 add 1 1 0 0\n0 4 get 2 20.0 none\n0 5 low 2 5.0\n",
+        Verdict::Right,
+    ),
+    (
+        "0 0 add 0 1 0 0\n0 1 get 1 20.0 none\n0 2 get 1 5.0 none\n0 3 add 1 1 0 0\n0 4 get 2 20.0 none\n0 5 low 2 5.0\n",
+        Verdict::WrongAnswer(2),
+    ),
+];
+
+/// A check. Where memory is refused the same call then succeeds.
+fn check_again(alloc: Global, trace: &Trace, log: &Log) -> Result<Verdict, NoMemory> {
+    match check(alloc, trace, log) {
+        Err(NoMemory) => check(alloc, trace, log),
+        told => told,
+    }
+}
+
+/// The number of the first log, from 0, that has another verdict.
+fn wrong_check_again(
+    alloc: Global,
+    trace: &Trace,
+    rows: &[(&str, Verdict)],
+) -> Result<Option<usize>, Fail> {
+    for (i, (lines, want)) in rows.iter().enumerate() {
+        let log = read_log(alloc, lines.as_bytes())?;
+        if check_again(alloc, trace, &log)? != *want {
+            return Ok(Some(i));
+        }
+    }
+    Ok(None)
+}
+
+/// For `scripts/refuse-each-growth`.
+#[test]
+fn a_refused_check_can_be_made_again(rt: HostRuntime) -> Result<(), Fail> {
+    let text = format!(in rt.alloc(); "{HEAD}{OVERLAPPING_READS}")?;
+    let trace = read_trace(rt.alloc(), text.as_bytes())?;
+    assert_eq!(rt; wrong_check_again(rt.alloc(), &trace, &LOGS)?, None);
     Ok(())
 }

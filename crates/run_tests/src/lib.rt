@@ -9,3 +9,5 @@ mod check;
 mod run;
 #[cfg(test)]
 mod shared;
+#[cfg(test)]
+mod texts;

@@ -5,8 +5,8 @@ use std::sync::atomic::{AtomicBool, AtomicU64, Ordering};
 use std::test::Fail;
 use std::thread;
 use std::thread::Threads;
-use tsc_run::{RunFault, run_trace};
-use tsc_shared::{Gate, NoGate, OpenFault};
+use tsc_run::run_trace;
+use tsc_shared::{Gate, NoGate};
 use tsc_trace::{Log, Said, log_text, read_trace};
 
 /// The head of each trace, up to its lists.
@@ -373,23 +373,5 @@ fn a_gate_is_told_of_each_call_in_its_order(rt: HostRuntime) -> Result<(), Fail>
     assert_eq!(rt; gate.first.load(Ordering::SeqCst), 6);
     assert_eq!(rt; gate.second.load(Ordering::SeqCst), 6);
     assert_eq!(rt; gate.published.load(Ordering::SeqCst), 3);
-    Ok(())
-}
-
-static TEXTS: [(RunFault, &str); 7] = [
-    (RunFault::Open(OpenFault::Seats), "seats are 1 to 64"),
-    (RunFault::Open(OpenFault::NoMemory), "out of memory"),
-    (RunFault::Open(OpenFault::NoPlace), "no place"),
-    (RunFault::NoMemory, "out of memory"),
-    (RunFault::Gone, "no view"),
-    (RunFault::HistoryFull, "history full"),
-    (RunFault::NoThread, "no thread"),
-];
-
-#[test]
-fn texts_of_faults(rt: HostRuntime) -> Result<(), Fail> {
-    for (fault, text) in &TEXTS {
-        assert_eq!(rt; format!(in rt.alloc(); "{fault}")?.as_str(), *text);
-    }
     Ok(())
 }

@@ -13,3 +13,5 @@ mod quick;
 mod readers;
 #[cfg(test)]
 mod replay;
+#[cfg(test)]
+mod texts;

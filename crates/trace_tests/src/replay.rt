@@ -399,17 +399,34 @@ fn is_replayed_once(alloc: Global, trace: &Trace, want: &str) -> Result<bool, Fa
     Ok(replay_again(alloc, trace)?.as_slice() == want.as_bytes())
 }
 
-/// What comes of the trace of four calls and of its log, where each call that is refused memory is made again.
-fn gives_again(rt: &impl Abort, alloc: Global, trace: &Trace, log: &Log) -> Result<(), Fail> {
-    assert!(rt; is_text(alloc, log, FOUR_CALLS_LOG)?);
-    assert!(rt; is_written_once(alloc, log, FOUR_CALLS_LOG)?);
-    assert!(rt; is_replayed_once(alloc, trace, FOUR_CALLS_LOG)?);
+/// What comes of a trace and of its log, where each call that is refused memory is made again.
+fn gives_again(
+    rt: &impl Abort,
+    alloc: Global,
+    trace: &Trace,
+    log: &Log,
+    want: &str,
+) -> Result<(), Fail> {
+    assert!(rt; is_text(alloc, log, want)?);
+    assert!(rt; is_written_once(alloc, log, want)?);
+    assert!(rt; is_replayed_once(alloc, trace, want)?);
     Ok(())
+}
+
+/// What comes of the text of a trace, in the same way.
+fn gives_all_again(rt: &impl Abort, alloc: Global, text: &str, want: &str) -> Result<(), Fail> {
+    let trace = read_again(alloc, text)?;
+    let log = play_again(alloc, &trace)?;
+    gives_again(rt, alloc, &trace, &log, want)
 }
 
 #[test]
 fn a_refused_growth_writes_nothing(rt: HostRuntime) -> Result<(), Fail> {
-    let trace = read_again(rt.alloc(), FOUR_CALLS)?;
-    let log = play_again(rt.alloc(), &trace)?;
-    gives_again(&rt, rt.alloc(), &trace, &log)
+    gives_all_again(&rt, rt.alloc(), FOUR_CALLS, FOUR_CALLS_LOG)
+}
+
+#[test]
+fn a_refused_growth_of_overlapping_reads_writes_nothing(rt: HostRuntime) -> Result<(), Fail> {
+    let text = format!(in rt.alloc(); "{HEAD}{OVERLAPPING_READS}")?;
+    gives_all_again(&rt, rt.alloc(), text.as_str(), OVERLAPPING_READS_LOG)
 }

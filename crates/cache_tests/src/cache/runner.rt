@@ -164,7 +164,8 @@ fn long_span(alloc: Global, long: Long) -> Result<Span, Fail> {
 /// The size of the first page and of the largest one, and how many are kept at the least.
 pub type Limits = (u32, u32, u32);
 
-fn config((page_first, page_max, min_pages): Limits) -> Result<Config, Fail> {
+/// The configuration of some limits.
+pub fn config((page_first, page_max, min_pages): Limits) -> Result<Config, Fail> {
     Ok(Config::new(page_first, page_max, min_pages, RETENTION, at(FLOOR)?)?)
 }
 
