@@ -1,0 +1,5 @@
+pub mod Deciding
+pub mod Earliest
+pub mod Carrying
+pub mod Pushing
+pub mod ClearExamples
