@@ -5,7 +5,8 @@ use Rattle.std.proofs.lemmas.List.Elements.{Contains-append_left}
 use Rattle.tsc_time.specs.OwnedTime.{OwnedTime}
 use Rattle.tsc_span.specs.Span.{Interval}
 use Rattle.tsc_nodes.specs.Page.{Mark}
-use Rattle.tsc_cache.specs.History.{Entry, History, BeginsWith}
+use Rattle.tsc_cache.specs.declared.history.Entry.{Entry}
+use Rattle.tsc_cache.specs.History.{History, BeginsWith}
 use Rattle.tsc_shared.specs.Seats.{SeatView, FrontView}
 use Rattle.tsc_shared.specs.Answers.{entry_by}
 use Rattle.timestamp_cache.specs.Laws.{Carries, ReadsAreCarried}

@@ -65,7 +65,7 @@ pub where_it_is_clear_it_stays : TellsEarliest (λ t. IsClearOf (of_second twent
 where_it_is_clear_it_stays = earliest_now (λ t. IsClearOf (of_second twenty) first t) (at 20 1) refl a_later_write_is_clear
 
 pub a_stranger_pushes_it_behind : TellsEarliest (λ t. IsClearOf (of_second twenty) first t) (at 10 0) (Some (at 20 1))
-a_stranger_pushes_it_behind = clear_behind (of_second twenty) first (at 10 0) (at 20 1) (strange_by _ _ refl) (not_clear_by _ _ _ refl) one_count_more
+a_stranger_pushes_it_behind = clear_behind (of_second twenty) first (at 10 0) (at 20 1) (strange_by (of_second twenty) first refl) (not_clear_by (of_second twenty) first (at 10 0) refl) one_count_more
 
 pub an_own_read_takes_it_along : TellsEarliest (λ t. IsClearOf (of_first twenty) first t) (at 10 0) (Some twenty)
-an_own_read_takes_it_along = clear_at_own (of_first twenty) first (at 10 0) refl refl (not_clear_by _ _ _ refl)
+an_own_read_takes_it_along = clear_at_own (of_first twenty) first (at 10 0) refl refl (not_clear_by (of_first twenty) first (at 10 0) refl)

@@ -11,7 +11,7 @@ use Rattle.tsc_time.proofs.TimeOrder.{is_same_time-Decides}
 use Rattle.timestamp_cache.specs.Clear.{IsClearOf}
 
 -- whether this is the owner
-pub is_owned_by : Option Owner → Owner → Bool
+abbrev pub is_owned_by : Option Owner → Owner → Bool
 is_owned_by None by = false
 is_owned_by (Some owner) by = bytes_eq owner by
 
@@ -20,7 +20,7 @@ is_owned_by-Decides None by = (λ e. absurd (true≢false (sym e)), λ e. absurd
 is_owned_by-Decides (Some owner) by = (λ e. ap Some ((bytes_eq-Decides owner by).0 e), λ e. (bytes_eq-Decides owner by).1 (let same : Some owner ≡ Some by = e in cc))
 
 -- whether a write is clear
-pub is_clear : OwnedTime → Owner → Time → Bool
+abbrev pub is_clear : OwnedTime → Owner → Time → Bool
 is_clear read by at = is_before read.time at || (is_same_time read.time at && is_owned_by read.owner by)
 
 pub is_clear-Decides : (read : OwnedTime) (by : Owner) (at : Time) → Decides (is_clear read by at) (IsClearOf read by at)

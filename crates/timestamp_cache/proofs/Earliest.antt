@@ -1,5 +1,6 @@
 -- The earliest time at which a write is clear of a read, and of all that some lookups answer.
 use Rattle.std.proofs.Common.{◌≡◌, ◌⊎◌, ◌+◌, ◌<◌, ◌≤◌, ◌∙◌, inl, inr, refl, sym, ap, subst, ℕ, zero, suc, List, [], ◌∷◌, All, get_or, length, true, false, Some, None, Option, arith}
+use Rattle.std.proofs.Math.Nat.{eq-or-lt_of_le}
 use Rattle.std.proofs.lemmas.Bool.Decides.{nat_tests}
 use Rattle.tsc_time.specs.Time.{Time, is_in_range, is_before}
 use Rattle.tsc_time.specs.OwnedTime.{Owner, OwnedTime}
@@ -79,6 +80,12 @@ pub never_clear : (read : OwnedTime) (by : Owner) (at : Time) → (read.owner �
 never_clear read by at strange last t there on clear =
     elim clear [ inl later ↦ last t there (is_before-opposite read.time t later) later | inr own ↦ absurd (strange own.1) ]
 
+-- So it is whichever there is.
+pub clear_from_next : (read : OwnedTime) (by : Owner) (at last : Time) (next : Option Time) → (read.owner ≡ Some by → ⊥) → (IsClearOf read by at → ⊥) → last ≡ read.time → TellsEarliest (λ t. is_before last t ≡ true) last next
+    → TellsEarliest (λ t. IsClearOf read by t) at next
+clear_from_next read by at last (Some next) strange not_clear is next_is = clear_behind read by at next strange not_clear (subst (λ (l : Time). TellsEarliest (λ t. is_before l t ≡ true) l (Some next)) is next_is)
+clear_from_next read by at last None strange not_clear is next_is = never_clear read by at strange (subst (λ (l : Time). TellsEarliest (λ t. is_before l t ≡ true) l None) is next_is)
+
 -- ---- clear of more and more
 
 -- Behind a time at which it is clear of some, the earliest at which it is clear of one more is the earliest at which it is clear of all of these, where it stays clear once it is.
@@ -118,7 +125,7 @@ first_joins cache spans i s by t there is before one k d below low = elim (here_
 ]
   where
     here_or_before : (k ≡ i) ⊎ (k < i)
-    here_or_before = omega (arith, low)
+    here_or_before = eq-or-lt_of_le (omega (arith, low))
 
 first_parts : (cache : CacheView) (spans : List Interval) (i : ℕ) (s : Interval) (by : Owner) (t : Time) → i < length spans → get_or spans i s ≡ s
     → ClearOfFirst cache spans (i + 1) by t → ClearOfFirst cache spans i by t × IsClearOf (cache_answer cache s) by t

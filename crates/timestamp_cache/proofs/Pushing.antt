@@ -12,7 +12,8 @@ use Rattle.tsc_span.specs.Span.{Interval, overlaps}
 use Rattle.tsc_nodes.specs.Page.{Mark, values_on}
 use Rattle.tsc_cache.specs.Settings.{Settings}
 use Rattle.tsc_cache.specs.State.{look}
-use Rattle.tsc_cache.specs.History.{Entry, History, state_of, marks_of, marks_on}
+use Rattle.tsc_cache.specs.declared.history.Entry.{Entry}
+use Rattle.tsc_cache.specs.History.{History, state_of, marks_of, marks_on}
 use Rattle.tsc_cache.proofs.MarkLists.{values_on-from}
 use Rattle.tsc_cache.proofs.Histories.{real_answers, floor_behind}
 use Rattle.timestamp_cache.specs.Clear.{IsClearOf}

@@ -6,7 +6,8 @@ use Rattle.tsc_time.specs.OwnedTime.{Owner}
 use Rattle.tsc_span.specs.Span.{Interval, overlaps}
 use Rattle.tsc_nodes.specs.Page.{Mark}
 use Rattle.tsc_cache.specs.State.{look}
-use Rattle.tsc_cache.specs.History.{Entry, History, state_of}
+use Rattle.tsc_cache.specs.declared.history.Entry.{Entry}
+use Rattle.tsc_cache.specs.History.{History, state_of}
 use Rattle.tsc_cache.specs.CacheView.{CacheView, cache_answer}
 pub use Rattle.tsc_cache.specs.Laws.{IsClearOf}
 use Rattle.tsc_shared.specs.Seats.{SeatView}

@@ -8,7 +8,8 @@ use Rattle.tsc_span.specs.Span.{Interval, overlaps}
 use Rattle.tsc_nodes.specs.Page.{Mark}
 use Rattle.tsc_cache.specs.Settings.{Settings}
 use Rattle.tsc_cache.specs.State.{look}
-use Rattle.tsc_cache.specs.History.{Entry, History, state_of, BeginsWith}
+use Rattle.tsc_cache.specs.declared.history.Entry.{Entry}
+use Rattle.tsc_cache.specs.History.{History, state_of, BeginsWith}
 use Rattle.tsc_shared.specs.declared.answers.Receipt.{Receipt}
 use Rattle.tsc_shared.specs.Seats.{SeatView, FrontView}
 use Rattle.tsc_shared.specs.Answers.{Accepts, Learns, GoesOn, IsAbove}

@@ -27,8 +27,9 @@ pub fn earliest_clear_of(read: Value, at: Timestamp, by: Uuid) -> Option<Timesta
     if is_clear_of(read, at, by) {
         return Some(at);
     }
+    let last = read.time();
     if read.owner() == Some(by) {
-        return Some(read.time());
+        return Some(last);
     }
-    next_time(read.time())
+    next_time(last)
 }
