@@ -1,0 +1,6 @@
+pub mod Deciding
+pub mod Earliest
+pub mod Asking
+pub mod Carrying
+pub mod Pushing
+pub mod ClearExamples

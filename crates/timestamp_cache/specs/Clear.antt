@@ -1,0 +1,33 @@
+-- When a write is clear of reads, and of what lookups answer.
+use Rattle.std.specs.Prelude.{◌≡◌, ◌↔◌, List, true, All, Bool, IsTrue}
+use Rattle.std.specs.List.{Contains}
+use Rattle.tsc_time.specs.Time.{Time}
+use Rattle.tsc_time.specs.OwnedTime.{Owner}
+use Rattle.tsc_span.specs.Span.{Interval, overlaps}
+use Rattle.tsc_nodes.specs.Page.{Mark}
+use Rattle.tsc_cache.specs.State.{look}
+use Rattle.tsc_cache.specs.declared.history.Entry.{Entry}
+use Rattle.tsc_cache.specs.History.{History, state_of}
+use Rattle.tsc_cache.specs.CacheView.{CacheView, cache_answer}
+pub use Rattle.tsc_cache.specs.Laws.{IsClearOf}
+use Rattle.tsc_shared.specs.Seats.{SeatView}
+use Rattle.tsc_shared.specs.Answers.{GoesOn}
+
+-- A write is clear of each read of a history on a span.
+abbrev pub IsClearOfReads : History → Interval → Owner → Time → Type 0
+IsClearOfReads h span by at = (e : Entry) (m : Mark) → Contains h e → Contains e.marks m → overlaps m.span span ≡ true → IsClearOf m.value by at
+
+-- It is so of each read on any of some spans.
+abbrev pub IsClearOfAllReads : History → List Interval → Owner → Time → Type 0
+IsClearOfAllReads h spans by at = All (λ span. IsClearOfReads h span by at) spans
+
+-- A write is clear of what a lookup of each of some spans answers.
+abbrev pub IsClearOfAnswers : CacheView → List Interval → Owner → Time → Type 0
+IsClearOfAnswers cache spans by at = All (λ span. IsClearOf (cache_answer cache span) by at) spans
+
+-- A seat asks whether a write is clear: it is told so just where that is clear of the answer from all that the seat has seen then, and where it is told so, that is clear of each read on the span there.
+pub record AsksAt (old new : SeatView) (span : Interval) (by : Owner) (at : Time) (clear : Bool) : Type 0 where
+  pub goes_on : GoesOn old new
+  pub count : new.count ≡ old.count
+  pub value : IsTrue clear ↔ IsClearOf (look (state_of old.cache.config new.seen) span) by at
+  pub reads : IsTrue clear → IsClearOfReads new.seen span by at

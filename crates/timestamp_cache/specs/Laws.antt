@@ -1,0 +1,57 @@
+-- What follows from the definitions, for every configuration, history and span.
+use Rattle.std.specs.Prelude.{◌≡◌, ◌↔◌, ℕ, List, true, false, Some}
+use Rattle.std.specs.List.{Contains}
+use Rattle.tsc_time.specs.Time.{Time, is_before, time_minus}
+use Rattle.tsc_time.specs.OwnedTime.{Owner, OwnedTime}
+use Rattle.tsc_time.specs.Joint.{IsAtMost}
+use Rattle.tsc_span.specs.Span.{Interval, overlaps}
+use Rattle.tsc_nodes.specs.Page.{Mark}
+use Rattle.tsc_cache.specs.Settings.{Settings}
+use Rattle.tsc_cache.specs.State.{look}
+use Rattle.tsc_cache.specs.declared.history.Entry.{Entry}
+use Rattle.tsc_cache.specs.History.{History, state_of, BeginsWith}
+use Rattle.tsc_shared.specs.declared.answers.Receipt.{Receipt}
+use Rattle.tsc_shared.specs.Seats.{SeatView, FrontView}
+use Rattle.tsc_shared.specs.Answers.{Accepts, Learns, GoesOn, IsAbove}
+use Rattle.timestamp_cache.specs.Clear.{IsClearOf}
+
+-- An Add on one seat, and a lookup on another that had learned a front of it: the front has what the first seat had seen behind that Add, or more.
+pub record Carries (adder added guest told later : SeatView) (ms : List Mark) (span : Interval) (answer : OwnedTime) : Type 0 where
+  pub now : Time
+  pub receipt : Receipt
+  pub front : FrontView
+  pub long : ℕ
+  pub adds : Accepts adder added ms now receipt
+  pub shows : BeginsWith front.seen receipt.front.seen
+  pub learns : Learns guest told front long
+  pub goes_on : GoesOn told later
+  pub above : IsAbove later span answer
+
+-- What was added on the span is then at most what the lookup answers, and a write that is clear of the answer is clear of it.
+pub record ReadsAreCarried : Type 0 where
+  pub bounded : (adder added guest told later : SeatView) (ms : List Mark) (span : Interval) (answer : OwnedTime) (m : Mark) → Carries adder added guest told later ms span answer
+      → Contains ms m → overlaps m.span span ≡ true → IsAtMost m.value answer
+  pub clear : (adder added guest told later : SeatView) (ms : List Mark) (span : Interval) (answer : OwnedTime) (m : Mark) (by : Owner) (at : Time) → Carries adder added guest told later ms span answer
+      → Contains ms m → overlaps m.span span ≡ true → IsClearOf answer by at → IsClearOf m.value by at
+
+-- A time is no earlier than the moment of any entry less the retention, where there is such a time.
+abbrev pub IsRetained : Settings → History → Time → Type 0
+IsRetained settings h at = (e : Entry) (limit : Time) → Contains h e → time_minus e.now settings.retention ≡ Some limit → is_before at limit ≡ false
+
+-- A read of a history on a span that a write isn't clear of.
+pub record Pushes (h : History) (span : Interval) (by : Owner) (at : Time) : Type 0 where
+  pub entry : Entry
+  pub mark : Mark
+  pub added : Contains h entry
+  pub there : Contains entry.marks mark
+  pub over : overlaps mark.span span ≡ true
+  pub not_clear : IsClearOf mark.value by at → ⊥
+
+-- A write above the low-water time of the settings, at a time that is retained, that isn't clear of what a lookup answers, is pushed by a read.
+abbrev pub PushedByReadsAlone : Type 0
+PushedByReadsAlone = (settings : Settings) (h : History) (span : Interval) (by : Owner) (at : Time) → IsRetained settings h at → is_before settings.low_water at ≡ true
+    → (IsClearOf (look (state_of settings h) span) by at → ⊥) → Pushes h span by at
+
+-- A write is clear of a read just where the read is at most the write's own time and owner.
+abbrev pub ClearIsAtMost : Type 0
+ClearIsAtMost = (read : OwnedTime) (by : Owner) (at : Time) → IsClearOf read by at ↔ IsAtMost read (record { time = at; owner = Some by })

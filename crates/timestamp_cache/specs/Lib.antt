@@ -1,0 +1,3 @@
+pub mod Clear
+pub mod Earliest
+pub mod Laws

@@ -1,0 +1,28 @@
+//! Laws of histories of reads, over the definitions alone: those of `tsc_cache`, and two on what a store rests on.
+//!
+//! No program needs to call these functions: their contracts are the laws.
+ghost use Rattle.timestamp_cache.specs.Laws.{ReadsAreCarried, PushedByReadsAlone, ClearIsAtMost};
+
+pub use tsc_cache::laws::{
+    beginnings, can_all_be_added, can_be_added, evicts_the_expired, floor_behind, kept_up,
+    lists_join, no_write_below_a_read, one_mark_is_a_step, one_mark_is_an_add, real, rising,
+    sizes_double,
+};
+
+/// What one seat added bounds what another is answered that learned the front of that Add, or of a later one, and a write that is
+/// clear of the answer is clear of what was added. So a writer that was handed a front with its latch writes below no read that came before it.
+pub fn reads_are_carried()
+    ensures { ReadsAreCarried }
+{}
+
+/// Where a write is above the low-water time of the configuration, and no earlier than the moment of any Add less the retention, the floor alone
+/// doesn't push it: if it isn't clear of what a lookup answers, then there is a read on the span that it isn't clear of.
+pub fn pushed_by_reads_alone()
+    ensures { PushedByReadsAlone }
+{}
+
+/// A write is clear of a read just where the read is at most what the write would be, had it been a read of that time and transaction, in
+/// the ratchet order.
+pub fn clear_is_at_most()
+    ensures { ClearIsAtMost }
+{}

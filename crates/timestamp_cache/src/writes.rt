@@ -1,0 +1,58 @@
+ghost use Rattle.std.specs.Prelude.{◌≡◌, ◌↔◌, IsTrue, IsOk, IfOk, IfSome, true};
+ghost use Rattle.tsc_cache.specs.Settings.{Settings};
+ghost use Rattle.tsc_cache.specs.History.{History, state_of};
+ghost use Rattle.tsc_cache.specs.CacheView.{StandsForState, cache_answer};
+ghost use Rattle.timestamp_cache.specs.Clear.{IsClearOf, IsClearOfReads, IsClearOfAnswers, IsClearOfAllReads, AsksAt};
+ghost use Rattle.timestamp_cache.specs.Earliest.{TellsEarliest};
+
+use crate::{earliest_clear_of, is_clear_of};
+use tsc_cache::Cache;
+use tsc_shared::{Gone, Seat, SharedCache};
+use tsc_span::Span;
+use tsc_time::Timestamp;
+use uuid::Uuid;
+
+/// Whether a transaction may write a span at some time: whether that is clear of what a lookup of the span answers.
+///
+/// Then it is clear of each read on the span that was added so far, also of one whose page is gone. Where it isn't, the transaction
+/// may still be pushed, to the time that [`earliest_write`] tells. It costs a lookup, and takes no memory.
+pub fn may_write(cache: &Cache, span: &Span, at: Timestamp, by: Uuid) -> bool
+    ensures value { IsTrue result ↔ IsClearOf (cache_answer cache.now span.now) by at }
+    ensures reads { IsTrue result → (settings : Settings) (h : History) → StandsForState cache.now settings (state_of settings h) → IsClearOfReads h span.now by at }
+{
+    is_clear_of(cache.get_max(span), at, by)
+}
+
+/// As [`may_write`], for a seat of a shared cache: whether the write is clear of what a lookup by the seat answers. The seat has
+/// then seen the history that is answered from, and the write is clear of each read on the span in it.
+///
+/// It waits for nobody, takes no memory, and is never [`Gone`].
+pub fn may_write_at(
+    cache: &SharedCache,
+    seat: &mut Seat,
+    span: &Span,
+    at: Timestamp,
+    by: Uuid,
+) -> Result<bool, Gone>
+    requires cache { seat.old.cache ≡ cache.now }
+    ensures answered { IsOk result }
+    ensures asked { IfOk result (λ clear. AsksAt seat.old seat.new span.now by at clear) }
+{
+    let answer = cache.get_max(seat, span)?;
+    Ok(is_clear_of(answer.value, at, by))
+}
+
+/// The earliest time, not before `at`, at which a transaction may write all of these spans: at which it is clear of what a lookup
+/// of each answers. It is `None` where no timestamp is.
+///
+/// It is then clear of each read on one of the spans that was added so far. It costs a lookup for each span, and takes no memory.
+pub fn earliest_write(cache: &Cache, spans: &[Span], at: Timestamp, by: Uuid) -> Option<Timestamp>
+    ensures earliest { TellsEarliest (λ t. IsClearOfAnswers cache.now spans.now by t) at result }
+    ensures reads { IfSome result (λ t. (settings : Settings) (h : History) → StandsForState cache.now settings (state_of settings h) → IsClearOfAllReads h spans.now by t) }
+{
+    let mut time = at;
+    for span in spans {
+        time = earliest_clear_of(cache.get_max(span), time, by)?;
+    }
+    Some(time)
+}
