@@ -30,7 +30,7 @@ fn is_told(text: &str, wanted: u32, out: &[u8], code: u32, len: usize) -> bool {
     let sevens = rest.iter().all(|byte| *byte == 7);
     len == text.len()
         && code == if fits { wanted } else { 17 }
-        && rest.len() + put.len() == out.len()
+        && rest.len().saturating_add(put.len()) == out.len()
         && sevens
 }
 
@@ -71,7 +71,7 @@ fn checks_as(
 fn replays(rt: HostRuntime) -> Result<(), AllocError> {
     for (trace, code, text) in &REPLAYS {
         for more in 0..4 {
-            let room = (text.len() + more).saturating_sub(2);
+            let room = text.len().saturating_add(more).saturating_sub(2);
             assert!(rt; replays_as(rt.alloc(), trace, *code, text, room)?);
         }
     }
@@ -82,7 +82,7 @@ fn replays(rt: HostRuntime) -> Result<(), AllocError> {
 fn checks(rt: HostRuntime) -> Result<(), AllocError> {
     for (trace, log, code, text) in &CHECKS {
         for more in 0..4 {
-            let room = (text.len() + more).saturating_sub(2);
+            let room = text.len().saturating_add(more).saturating_sub(2);
             assert!(rt; checks_as(rt.alloc(), trace, log, *code, text, room)?);
         }
     }
