@@ -1,5 +1,5 @@
 -- What a seat is told of a write.
-use Rattle.std.proofs.Common.{◌≡◌, ◌↔◌, IsTrue, Bool, subst}
+use Rattle.std.proofs.Common.{◌↔◌, IsTrue, Bool, subst}
 use Rattle.tsc_time.specs.Time.{Time}
 use Rattle.tsc_time.specs.OwnedTime.{Owner, OwnedTime}
 use Rattle.tsc_span.specs.Span.{Interval}
