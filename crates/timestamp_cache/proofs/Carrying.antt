@@ -1,5 +1,5 @@
 -- What one seat added is in what another has seen that learned a front of it.
-use Rattle.std.proofs.Common.{◌≡◌, ◌∙◌, sym, subst, ap, List, ◌++◌}
+use Rattle.std.proofs.Common.{sym, subst, List}
 use Rattle.std.specs.List.{Contains}
 use Rattle.std.proofs.lemmas.List.Elements.{Contains-append_left}
 use Rattle.tsc_time.specs.OwnedTime.{OwnedTime}

@@ -1,14 +1,14 @@
 -- Which writes are clear of a read, and of what a lookup answers, and the earliest time for them.
-use Rattle.std.proofs.Common.{◌≡◌, ◌∙◌, refl, sym, ap, true, false, true≢false, List, [], ◌∷◌, codes, Some, None}
+use Rattle.std.proofs.Common.{◌≡◌, ◌∙◌, refl, sym, true, false, true≢false, List, [], ◌∷◌, codes, Some, None}
 use Rattle.tsc_time.specs.Time.{Time, is_before}
 use Rattle.tsc_time.specs.OwnedTime.{Owner, OwnedTime, unowned}
 use Rattle.tsc_span.specs.Span.{point}
 use Rattle.tsc_cache.specs.State.{look}
-use Rattle.tsc_cache.proofs.ExampleSettings.{at, first, second, of_first, of_second, usual, twenty, Addition, add, state_after}
+use Rattle.tsc_cache.proofs.ExampleSettings.{at, first, of_first, of_second, usual, twenty, Addition, add, state_after}
 use Rattle.timestamp_cache.specs.Clear.{IsClearOf}
 use Rattle.timestamp_cache.specs.Earliest.{TellsEarliest}
 use Rattle.timestamp_cache.proofs.Deciding.{is_owned_by, is_owned_by-Decides, is_clear, is_clear-Decides}
-use Rattle.timestamp_cache.proofs.Earliest.{next_count, next_wall, next_none, earliest_now, clear_at_own, clear_behind, never_clear}
+use Rattle.timestamp_cache.proofs.Earliest.{next_count, next_wall, next_none, earliest_now, clear_at_own, clear_behind}
 
 -- what the test tells of each row
 clear_by : (read : OwnedTime) (by : Owner) (t : Time) → is_clear read by t ≡ true → IsClearOf read by t

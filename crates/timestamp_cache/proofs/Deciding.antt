@@ -1,5 +1,5 @@
 -- Whether a write is clear of a read can be decided.
-use Rattle.std.proofs.Common.{◌≡◌, ◌⊎◌, ◌∙◌, inl, inr, refl, sym, Bool, true, false, ◌&&◌, ◌||◌, Some, None, Decides, true≢false, ap, arith}
+use Rattle.std.proofs.Common.{◌≡◌, ◌⊎◌, ◌∙◌, inl, inr, sym, Bool, false, ◌&&◌, ◌||◌, Some, None, Decides, true≢false, ap}
 use Rattle.std.specs.Prelude.{Option}
 use Rattle.std.specs.Str.{bytes_eq}
 use Rattle.std.proofs.lemmas.Bool.{cases_Bool}

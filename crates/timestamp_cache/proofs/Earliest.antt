@@ -1,10 +1,10 @@
 -- The earliest time at which a write is clear of a read, and of all that some lookups answer.
-use Rattle.std.proofs.Common.{◌≡◌, ◌⊎◌, ◌+◌, ◌<◌, ◌≤◌, ◌∙◌, inl, inr, refl, sym, ap, subst, ℕ, zero, suc, List, [], ◌∷◌, All, get_or, length, true, false, Some, None, Option, arith}
+use Rattle.std.proofs.Common.{◌≡◌, ◌⊎◌, ◌+◌, ◌<◌, ◌≤◌, ◌∙◌, inl, inr, refl, sym, ap, subst, ℕ, zero, suc, List, [], ◌∷◌, get_or, length, true, false, Some, None, Option, arith}
 use Rattle.std.proofs.Math.Nat.{eq-or-lt_of_le}
 use Rattle.std.proofs.lemmas.Bool.Decides.{nat_tests}
 use Rattle.tsc_time.specs.Time.{Time, is_in_range, is_before}
 use Rattle.tsc_time.specs.OwnedTime.{Owner, OwnedTime}
-use Rattle.tsc_time.proofs.TimeOrder.{is_before-tells, is_before-itself, is_before-opposite, is_before-transitive, no_earlier-transitive, same_from_neither_before}
+use Rattle.tsc_time.proofs.TimeOrder.{is_before-tells, is_before-itself, is_before-opposite, no_earlier-transitive, same_from_neither_before}
 use Rattle.tsc_span.specs.Span.{Interval}
 use Rattle.tsc_cache.specs.Settings.{Settings}
 use Rattle.tsc_cache.specs.History.{History, state_of}

@@ -1,23 +1,20 @@
 -- A write that is clear of each read on a span, and above the floor, is clear of what a lookup answers.
-use Rattle.std.proofs.Common.{◌≡◌, ◌⊎◌, ◌↔◌, inl, inr, refl, sym, subst, ap, ◌∙◌, List, [], ◌∷◌, ◌++◌, true, false, Some, None, arith}
+use Rattle.std.proofs.Common.{◌≡◌, ◌⊎◌, inl, inr, refl, sym, subst, List, [], ◌∷◌, ◌++◌, true, false, Some, None, arith}
 use Rattle.std.specs.List.{Contains}
-use Rattle.std.proofs.lemmas.Bool.{cases_Bool}
-use Rattle.tsc_time.specs.Time.{Time, is_before, time_minus}
+use Rattle.tsc_time.specs.Time.{Time, is_before}
 use Rattle.tsc_time.specs.OwnedTime.{Owner, OwnedTime, unowned}
 use Rattle.tsc_time.specs.Joint.{joint_above, IsAtMost}
-use Rattle.tsc_time.proofs.TimeOrder.{is_before-tells, is_before-transitive, same_from_neither_before, same_parts}
+use Rattle.tsc_time.proofs.TimeOrder.{is_before-tells}
 use Rattle.tsc_time.proofs.Members.{IsIn, IsIn-from_Contains, Contains-from_IsIn}
 use Rattle.tsc_time.proofs.JointLemmas.{joint-least}
-use Rattle.tsc_span.specs.Span.{Interval, overlaps}
-use Rattle.tsc_nodes.specs.Page.{Mark, values_on}
+use Rattle.tsc_nodes.specs.Page.{Mark}
 use Rattle.tsc_cache.specs.Settings.{Settings}
-use Rattle.tsc_cache.specs.State.{look}
 use Rattle.tsc_cache.specs.declared.history.Entry.{Entry}
 use Rattle.tsc_cache.specs.History.{History, state_of, marks_of, marks_on}
 use Rattle.tsc_cache.proofs.MarkLists.{values_on-from}
 use Rattle.tsc_cache.proofs.Histories.{real_answers, floor_behind}
 use Rattle.timestamp_cache.specs.Clear.{IsClearOf}
-use Rattle.timestamp_cache.specs.Laws.{IsRetained, Pushes, PushedByReadsAlone, ClearIsAtMost}
+use Rattle.timestamp_cache.specs.Laws.{IsRetained, PushedByReadsAlone, ClearIsAtMost}
 use Rattle.timestamp_cache.proofs.Deciding.{clear_or_not}
 
 -- the value of a write

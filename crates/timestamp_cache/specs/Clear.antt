@@ -1,5 +1,5 @@
 -- When a write is clear of reads, and of what lookups answer.
-use Rattle.std.specs.Prelude.{◌≡◌, ◌↔◌, List, true, All, Bool, IsTrue}
+use Rattle.std.specs.Prelude.{◌≡◌, ◌↔◌, List, true, All, Bool, IsTrue, Option, IfSome}
 use Rattle.std.specs.List.{Contains}
 use Rattle.tsc_time.specs.Time.{Time}
 use Rattle.tsc_time.specs.OwnedTime.{Owner}
@@ -12,6 +12,7 @@ use Rattle.tsc_cache.specs.CacheView.{CacheView, cache_answer}
 pub use Rattle.tsc_cache.specs.Laws.{IsClearOf}
 use Rattle.tsc_shared.specs.Seats.{SeatView}
 use Rattle.tsc_shared.specs.Answers.{GoesOn}
+use Rattle.timestamp_cache.specs.Earliest.{TellsEarliest}
 
 -- A write is clear of each read of a history on a span.
 abbrev pub IsClearOfReads : History → Interval → Owner → Time → Type 0
@@ -31,3 +32,10 @@ pub record AsksAt (old new : SeatView) (span : Interval) (by : Owner) (at : Time
   pub count : new.count ≡ old.count
   pub value : IsTrue clear ↔ IsClearOf (look (state_of old.cache.config new.seen) span) by at
   pub reads : IsTrue clear → IsClearOfReads new.seen span by at
+
+-- A seat asks for the earliest time, from one on, at which a write is clear: it is told the earliest at which that is clear of the answer from all that the seat has seen then, and there it is clear of each read on the span in that.
+pub record AsksEarliestAt (old new : SeatView) (span : Interval) (by : Owner) (from : Time) (told : Option Time) : Type 0 where
+  pub goes_on : GoesOn old new
+  pub count : new.count ≡ old.count
+  pub earliest : TellsEarliest (λ t. IsClearOf (look (state_of old.cache.config new.seen) span) by t) from told
+  pub reads : IfSome told (λ t. IsClearOfReads new.seen span by t)

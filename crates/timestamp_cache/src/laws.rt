@@ -1,4 +1,4 @@
-//! Laws of histories of reads, over the definitions alone: those of `tsc_cache`, and two on what a store rests on.
+//! Laws of histories of reads, over the definitions alone: those of `tsc_cache`, and three on what a store rests on.
 //!
 //! No program needs to call these functions: their contracts are the laws.
 ghost use Rattle.timestamp_cache.specs.Laws.{ReadsAreCarried, PushedByReadsAlone, ClearIsAtMost};

@@ -3,7 +3,7 @@
 //! Whoever holds the lease of a range keeps a [`Cache`] of its reads, or a [`SharedCache`] where several threads serve it. Each
 //! read adds its span, its time and its transaction. A write asks before it lays down anything: [`may_write`] says whether
 //! it is clear of the reads so far, and [`earliest_write`] to which time it has to be pushed, so that no read that was
-//! answered is made wrong behind its back. [`may_write_at`] asks for a seat of a shared cache.
+//! answered is made wrong behind its back. [`may_write_at`] and [`earliest_write_at`] ask for a seat of a shared cache.
 //!
 //! The rule is that of CockroachDB's `applyTimestampCache` (`pkg/kv/kvserver/replica_tscache.go`): a write goes above each read of its
 //! keys, save those of its own transaction. A write that is clear of what a lookup answers is clear of each read that was added.
@@ -26,4 +26,4 @@ pub use tsc_shared::{
 pub use tsc_span::{Ends, Key, Span, SpanFault, SpanRef};
 pub use tsc_time::{NoMemory, Timestamp, Value, ratchet};
 pub use uuid::Uuid;
-pub use writes::{earliest_write, may_write, may_write_at};
+pub use writes::{earliest_write, earliest_write_at, may_write, may_write_at};

@@ -1,7 +1,7 @@
 //! Writes that ask a cache, and a seat of a shared one.
 use crate::{
-    Cache, Config, Ends, Key, SharedCache, Span, Timestamp, Uuid, Value, earliest_write, may_write,
-    may_write_at, next_time,
+    Cache, Config, Key, SharedCache, Span, Timestamp, Uuid, Value, earliest_write,
+    earliest_write_at, may_write, may_write_at, next_time,
 };
 use std::alloc::Global;
 use std::test::Fail;
@@ -255,8 +255,8 @@ fn are_next(rows: &[(Time, Option<Time>)]) -> Result<bool, Fail> {
     Ok(true)
 }
 
-/// What a seat is told of writes of two keys at one time, after it read the first of them.
-fn told_by_a_seat(alloc: Global) -> Result<(bool, bool, bool, bool), Fail> {
+/// What a seat is told of writes of two keys, after it read the first of them.
+fn told_by_a_seat(alloc: Global) -> Result<[bool; 5], Fail> {
     let (cache, mut seats) = SharedCache::open(alloc, config()?, 1, 10)?;
     let mut seat = seats.pop().ok_or("no seat")?;
     let (first, second) = (Uuid::from_u128(FIRST), Uuid::from_u128(SECOND));
@@ -267,12 +267,13 @@ fn told_by_a_seat(alloc: Global) -> Result<(bool, bool, bool, bool), Fail> {
     {
         return Err("refused".into());
     }
-    Ok((
+    Ok([
         may_write_at(&cache, &mut seat, &a, now, first)?,
         may_write_at(&cache, &mut seat, &a, now, second)?,
         may_write_at(&cache, &mut seat, &b, now, second)?,
         may_write_at(&cache, &mut seat, &b, at(FLOOR)?, second)?,
-    ))
+        earliest_write_at(&cache, &mut seat, &a, at(FLOOR)?, second)?.map(parts) == Some((20, 1)),
+    ])
 }
 
 #[test]
@@ -285,6 +286,6 @@ fn writes_as_the_reads_let_them(rt: HostRuntime) -> Result<(), Fail> {
 
 #[test]
 fn a_seat_tells_the_same(rt: HostRuntime) -> Result<(), Fail> {
-    assert!(rt; told_by_a_seat(rt.alloc())? == (true, false, true, false));
+    assert!(rt; told_by_a_seat(rt.alloc())? == [true, false, true, false, true]);
     Ok(())
 }

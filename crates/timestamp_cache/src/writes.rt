@@ -1,8 +1,8 @@
-ghost use Rattle.std.specs.Prelude.{◌≡◌, ◌↔◌, IsTrue, IsOk, IfOk, IfSome, true};
+ghost use Rattle.std.specs.Prelude.{◌≡◌, ◌↔◌, IsTrue, IsOk, IfOk, IfSome};
 ghost use Rattle.tsc_cache.specs.Settings.{Settings};
 ghost use Rattle.tsc_cache.specs.History.{History, state_of};
 ghost use Rattle.tsc_cache.specs.CacheView.{StandsForState, cache_answer};
-ghost use Rattle.timestamp_cache.specs.Clear.{IsClearOf, IsClearOfReads, IsClearOfAnswers, IsClearOfAllReads, AsksAt};
+ghost use Rattle.timestamp_cache.specs.Clear.{IsClearOf, IsClearOfReads, IsClearOfAnswers, IsClearOfAllReads, AsksAt, AsksEarliestAt};
 ghost use Rattle.timestamp_cache.specs.Earliest.{TellsEarliest};
 
 use crate::{earliest_clear_of, is_clear_of};
@@ -55,4 +55,24 @@ pub fn earliest_write(cache: &Cache, spans: &[Span], at: Timestamp, by: Uuid) ->
         time = earliest_clear_of(cache.get_max(span), time, by)?;
     }
     Some(time)
+}
+
+/// As [`earliest_write`], of one span, for a seat of a shared cache: the earliest time, not before `at`, at which the write is clear of what a
+/// lookup by the seat answers. The seat has then seen the history that is answered from, and the write is clear of each read on the span in it.
+///
+/// Who writes several spans asks for one after another, each from the time on that the one before was told. It waits for nobody, takes no
+/// memory, and is never [`Gone`].
+pub fn earliest_write_at(
+    cache: &SharedCache,
+    seat: &mut Seat,
+    span: &Span,
+    at: Timestamp,
+    by: Uuid,
+) -> Result<Option<Timestamp>, Gone>
+    requires cache { seat.old.cache ≡ cache.now }
+    ensures answered { IsOk result }
+    ensures asked { IfOk result (λ told. AsksEarliestAt seat.old seat.new span.now by at told) }
+{
+    let answer = cache.get_max(seat, span)?;
+    Ok(earliest_clear_of(answer.value, at, by))
 }
