@@ -147,7 +147,7 @@ fn check() -> Result<(u64, u64), Error> {
 fn main() -> Result<(), Error> {
     show()?;
     let (writes, moved) = check()?;
-    println!("four threads: {writes} writes, and no read would find anything else now");
-    assert!(moved > 0 && moved <= writes);
+    println!("four threads: {writes} writes, of which {moved} moved up, and no read would find anything else now");
+    assert!(moved <= writes);
     Ok(())
 }
