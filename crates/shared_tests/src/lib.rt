@@ -8,6 +8,8 @@ mod batches;
 #[cfg(test)]
 mod crowd;
 #[cfg(test)]
+mod figures;
+#[cfg(test)]
 mod fronts;
 #[cfg(test)]
 mod growths;

@@ -72,6 +72,8 @@ pub enum Told {
     Full(u64),
     /// The wall time and the logical count, its owner, and the length of the front.
     Value((u64, u32), Owner, u64),
+    /// How many pages there are, how often they rotated, and the length of the front.
+    Pages(u64, u64, u64),
     /// A length.
     Long(u64),
     TooLarge,
@@ -296,6 +298,14 @@ impl<C: Of> Home<C> {
     pub fn low(&self, guest: &mut Guest<C>) -> Told {
         match self.cache.low_water(&mut guest.seat) {
             Ok(floor) => told_of(Value::unowned(floor.time), floor.front),
+            Err(_gone) => Told::Gone,
+        }
+    }
+
+    /// How many pages there are, and how often they rotated.
+    pub fn pages(&self, guest: &mut Guest<C>) -> Told {
+        match self.cache.figures(&mut guest.seat) {
+            Ok(figures) => Told::Pages(figures.pages, figures.rotations, figures.front),
             Err(_gone) => Told::Gone,
         }
     }
