@@ -1,3 +1,4 @@
+mod LeftAlone
 mod MarksMade
 mod NewSeats
 mod Trying

@@ -83,6 +83,11 @@ RefusesKeys why from to = RefusesKey why from ⊎ RefusesKey why to
 abbrev pub RefusesRange : Refusal → KeyBytes → KeyBytes → Ends → Type 0
 RefusesRange why from to ends = RefusesKeys why from to ⊎ ((why ≡ refusal.Inverted) × (range from to ends.exclude_from ends.exclude_to ≡ None))
 
+-- Why a second key was refused, which only a range has.
+abbrev pub RefusesSecondKey : Refusal → KeyBytes → ℕ → Type 0
+RefusesSecondKey why to ends = (excluded : Ends) × (form_of ends ≡ Some (Range excluded)) × RefusesKey why to
+
 -- Why two keys and their ends name no span to be added.
 abbrev pub RefusesAddSpan : Refusal → KeyBytes → KeyBytes → ℕ → Type 0
-RefusesAddSpan why from to ends = RefusesEnds why ends ⊎ RefusesKeys why from to ⊎ ((why ≡ refusal.Inverted) × (add_span from to ends ≡ None))
+RefusesAddSpan why from to ends =
+    RefusesEnds why ends ⊎ RefusesKey why from ⊎ RefusesSecondKey why to ends ⊎ ((why ≡ refusal.Inverted) × (add_span from to ends ≡ None))
