@@ -1,6 +1,8 @@
 //! Writes that ask a cache, and a seat of a shared one.
+ghost use Rattle.std.specs.Prelude.{◌≡◌};
+
 use crate::{
-    Cache, Config, Key, SharedCache, Span, Timestamp, Uuid, Value, earliest_write,
+    Cache, Config, Key, Seat, SharedCache, Span, Timestamp, Uuid, Value, earliest_write,
     earliest_write_at, may_write, may_write_at, next_time,
 };
 use std::alloc::Global;
@@ -256,24 +258,42 @@ fn are_next(rows: &[(Time, Option<Time>)]) -> Result<bool, Fail> {
 }
 
 /// What a seat is told of writes of two keys, after it read the first of them.
-fn told_by_a_seat(alloc: Global) -> Result<[bool; 5], Fail> {
-    let (cache, mut seats) = SharedCache::open(alloc, config()?, 1, 10)?;
-    let mut seat = seats.pop().ok_or("no seat")?;
+fn told(
+    cache: &SharedCache,
+    seat: &mut Seat,
+    keys: (&Span, &Span),
+    times: (Timestamp, Timestamp),
+) -> Option<[bool; 5]>
+    requires { seat.old.cache ≡ cache.now }
+{
+    let (a, b) = keys;
+    let (now, floor) = times;
     let (first, second) = (Uuid::from_u128(FIRST), Uuid::from_u128(SECOND));
-    let (a, b, now) = (point(alloc, "a")?, point(alloc, "b")?, at((20, 0))?);
     if cache
-        .try_add(&mut seat, &a, Value::of(now, first), now, 1)
+        .try_add(seat, a, Value::of(now, first), now, 1)
         .is_err()
     {
-        return Err("refused".into());
+        return None;
     }
-    Ok([
-        may_write_at(&cache, &mut seat, &a, now, first)?,
-        may_write_at(&cache, &mut seat, &a, now, second)?,
-        may_write_at(&cache, &mut seat, &b, now, second)?,
-        may_write_at(&cache, &mut seat, &b, at(FLOOR)?, second)?,
-        earliest_write_at(&cache, &mut seat, &a, at(FLOOR)?, second)?.map(parts) == Some((20, 1)),
+    let pushed = earliest_write_at(cache, seat, a, floor, second).ok()?;
+    Some([
+        may_write_at(cache, seat, a, now, first).ok()?,
+        may_write_at(cache, seat, a, now, second).ok()?,
+        may_write_at(cache, seat, b, now, second).ok()?,
+        may_write_at(cache, seat, b, floor, second).ok()?,
+        pushed.map(parts) == Some((20, 1)),
     ])
+}
+
+/// The same of the one seat of a new cache.
+fn told_by_a_seat(alloc: Global) -> Result<Option<[bool; 5]>, Fail> {
+    let times = (at((20, 0))?, at(FLOOR)?);
+    let (a, b) = (point(alloc, "a")?, point(alloc, "b")?);
+    let (cache, mut seats) = SharedCache::open(alloc, config()?, 1, 10)?;
+    match seats.pop() {
+        Some(mut seat) => Ok(told(&cache, &mut seat, (&a, &b), times)),
+        None => Ok(None),
+    }
 }
 
 #[test]
@@ -286,6 +306,6 @@ fn writes_as_the_reads_let_them(rt: HostRuntime) -> Result<(), Fail> {
 
 #[test]
 fn a_seat_tells_the_same(rt: HostRuntime) -> Result<(), Fail> {
-    assert!(rt; told_by_a_seat(rt.alloc())? == [true, false, true, false, true]);
+    assert!(rt; told_by_a_seat(rt.alloc())? == Some([true, false, true, false, true]));
     Ok(())
 }
