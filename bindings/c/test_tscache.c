@@ -362,6 +362,7 @@ static void refusals(void)
     CHECK(answers(&c, "a", 20, 0, 'A') && has(&c, 1, 0, 5, 0));
     CHECK(answers(&c, "[,a)", 20, 0, '-') == false && tsc_try_get_max(&c.place, c.number, NULL, 0, NULL, 0, TSC_POINT, &v) == TSC_OK);
     CHECK(strcmp(tsc_text(TSC_CLOSED), "the number names nothing of this kind") == 0 && strcmp(tsc_text(1000), "no such answer") == 0);
+    v = (tsc_value){20, 0, {0}};
     CHECK(tsc_try_add(&c.place, c.number, "x", 1, long_key, 4097, TSC_POINT, &v, &AT_20, &a) == TSC_OK && a.kept); /* the second key is passed over */
     CHECK(tsc_try_add(&c.place, c.number, "y", 1, long_key, 4097, TSC_ONWARD, &v, &AT_20, &a) == TSC_OK && a.kept);
     tsc_free(&c.place);
