@@ -193,6 +193,13 @@ impl fmt::Display for Error {
 
 impl std::error::Error for Error {}
 
+/// Ends the program where a call that only reads was refused, which none of this crate brings about: what it would tell else is a time of
+/// zero, below which any write passes.
+#[track_caller]
+fn answered(code: u32) {
+    assert_eq!(code, 0, "a call that only reads was refused");
+}
+
 fn done(code: u32) -> Result<(), Error> {
     Err(match code {
         0 => return Ok(()),
@@ -328,7 +335,7 @@ impl Cache {
         let (from, to, ends) = span.parts();
         let mut found = ffi::Value { wall: 0, logical: 0, owner: [0; 16] };
         // it is refused only where the number names no cache, or there are no such ends
-        let _ = unsafe { ffi::tsc_get_max(&mut self.place, self.number, from.as_ptr(), from.len(), to.as_ptr(), to.len(), ends, &mut found) };
+        answered(unsafe { ffi::tsc_get_max(&mut self.place, self.number, from.as_ptr(), from.len(), to.as_ptr(), to.len(), ends, &mut found) });
         found.into()
     }
 
@@ -336,7 +343,7 @@ impl Cache {
     pub fn low_water(&mut self) -> Time {
         let mut floor = ffi::Time { wall: 0, logical: 0 };
         // it is refused only where the number names no cache
-        let _ = unsafe { ffi::tsc_low_water(&mut self.place, self.number, &mut floor) };
+        answered(unsafe { ffi::tsc_low_water(&mut self.place, self.number, &mut floor) });
         Time::new(floor.wall, floor.logical)
     }
 
@@ -344,7 +351,7 @@ impl Cache {
     pub fn figures(&mut self) -> Figures {
         let mut figures = ffi::Figures { pages: 0, rotations: 0 };
         // it is refused only where the number names no cache
-        let _ = unsafe { ffi::tsc_figures_of(&mut self.place, self.number, &mut figures) };
+        answered(unsafe { ffi::tsc_figures_of(&mut self.place, self.number, &mut figures) });
         Figures { pages: figures.pages, rotations: figures.rotations }
     }
 }
@@ -472,7 +479,7 @@ impl Seat {
         let (from, to, ends) = span.parts();
         let (mut seen, mut found) = (0, ffi::Value { wall: 0, logical: 0, owner: [0; 16] });
         // it is refused only where the number names no seat, or there are no such ends
-        let _ = unsafe { ffi::tsc_seat_get_max(&mut self.place, self.number, from.as_ptr(), from.len(), to.as_ptr(), to.len(), ends, &mut seen, &mut found) };
+        answered(unsafe { ffi::tsc_seat_get_max(&mut self.place, self.number, from.as_ptr(), from.len(), to.as_ptr(), to.len(), ends, &mut seen, &mut found) });
         (found.into(), seen)
     }
 
@@ -480,7 +487,7 @@ impl Seat {
     pub fn low_water(&mut self) -> (Time, u64) {
         let (mut seen, mut floor) = (0, ffi::Time { wall: 0, logical: 0 });
         // it is refused only where the number names no seat
-        let _ = unsafe { ffi::tsc_seat_low_water(&mut self.place, self.number, &mut seen, &mut floor) };
+        answered(unsafe { ffi::tsc_seat_low_water(&mut self.place, self.number, &mut seen, &mut floor) });
         (Time::new(floor.wall, floor.logical), seen)
     }
 
@@ -488,7 +495,7 @@ impl Seat {
     pub fn figures(&mut self) -> (Figures, u64) {
         let (mut seen, mut figures) = (0, ffi::Figures { pages: 0, rotations: 0 });
         // it is refused only where the number names no seat
-        let _ = unsafe { ffi::tsc_seat_figures_of(&mut self.place, self.number, &mut seen, &mut figures) };
+        answered(unsafe { ffi::tsc_seat_figures_of(&mut self.place, self.number, &mut seen, &mut figures) });
         (Figures { pages: figures.pages, rotations: figures.rotations }, seen)
     }
 }
