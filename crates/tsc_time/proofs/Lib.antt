@@ -3,3 +3,4 @@ pub mod Members
 pub mod SharedOwner
 pub mod RatchetOrder
 pub mod JointLemmas
+pub mod ZeroBytes

@@ -1,5 +1,5 @@
 ghost use Rattle.std.specs.Prelude.{◌≡◌, ◌≢◌, ◌↔◌, ◌<◌, ◌∷◌, [], length, All, IsTrue, Some, None};
-ghost use Rattle.uuid.specs.Parts.{zero_bytes};
+ghost use Rattle.uuid.specs.Parts.{is_nil_bytes, zero_bytes};
 ghost use Rattle.tsc_time.specs.OwnedTime.{unowned, owner_of, IsMadeValue};
 ghost use Rattle.tsc_time.specs.Joint.{joint, ratcheted};
 
@@ -35,8 +35,7 @@ impl Value {
     pub fn of(time: Timestamp, owner: Uuid) -> Value
         ensures { result ≡ record { time = time; owner = owner_of owner } }
     {
-        let _bytes = bytes_of(owner);
-        let owner = if owner.is_nil() { None } else { Some(owner) };
+        let owner = if is_nil(owner) { None } else { Some(owner) };
         Value { time, owner }
     }
 
@@ -63,6 +62,16 @@ impl Value {
     {
         self.owner
     }
+}
+
+/// Whether all bits of a UUID are zero. As one number they are compared at once, and not byte by byte.
+fn is_nil(uuid: Uuid) -> bool
+    ensures value { result ≡ is_nil_bytes uuid }
+    ensures long { length uuid ≡ 16 }
+    ensures small { All (λ b. b < 256) uuid }
+{
+    let _bytes = bytes_of(uuid);
+    uuid.as_u128() == 0
 }
 
 /// The bytes of a UUID: sixteen, each of which is below 256.
