@@ -1,14 +1,14 @@
 /* Times calls of the library: lookups and Adds of single keys that a cache of one page has, of 65,536 keys or as many as the first word says.
  *
- * Prints a line for each with the nanoseconds of one call, in that round of nine in which they took least. The keys and the order of the
- * places are those of `bench`, so that its figures can stand beside these. */
+ * Prints a line for each with the nanoseconds of one call, in that turn over 1,024 places in which they took least, of 225. The keys and the order of
+ * the places are those of `bench bytes`, so that its figures can stand beside these. */
 #include "tscache.h"
 
 #include <stdio.h>
 #include <stdlib.h>
 #include <time.h>
 
-enum { PLACES = 1024, TURNS = 25, ROUNDS = 9, STRIDE = 1696631 };
+enum { PLACES = 1024, TURNS = 225, STRIDE = 1696631 };
 
 static double now(void)
 {
@@ -50,23 +50,20 @@ int main(int words, char **word)
     for (uint64_t i = 0; i < PLACES; i++)
         key_of(i * STRIDE % nodes, keys[i]);
     double least[2] = {1e18, 1e18};
-    for (int round = 0; round < ROUNDS; round++) {
+    for (int turn = 0; turn < TURNS; turn++) {
         double start = now();
-        for (int turn = 0; turn < TURNS; turn++)
-            for (int i = 0; i < PLACES; i++)
-                must(tsc_get_max(&place, cache, keys[i], 8, keys[i], 0, TSC_POINT, &found));
+        for (int i = 0; i < PLACES; i++)
+            must(tsc_get_max(&place, cache, keys[i], 8, keys[i], 0, TSC_POINT, &found));
         double middle = now();
-        for (int turn = 0; turn < TURNS; turn++) {
-            value.wall++;
-            for (int i = 0; i < PLACES; i++)
-                must(tsc_add(&place, cache, keys[i], 8, keys[i], 0, TSC_POINT, &value, &moment, &added));
-        }
+        value.wall++;
+        for (int i = 0; i < PLACES; i++)
+            must(tsc_add(&place, cache, keys[i], 8, keys[i], 0, TSC_POINT, &value, &moment, &added));
         double end = now();
         least[0] = middle - start < least[0] ? middle - start : least[0];
         least[1] = end - middle < least[1] ? end - middle : least[1];
     }
-    printf("C, %u nodes, lookup of a key: %.0f ns\n", nodes, least[0] / (TURNS * PLACES));
-    printf("C, %u nodes, add of a key: %.0f ns\n", nodes, least[1] / (TURNS * PLACES));
+    printf("C, %u nodes, lookup of a key: %.0f ns\n", nodes, least[0] / PLACES);
+    printf("C, %u nodes, add of a key: %.0f ns\n", nodes, least[1] / PLACES);
     tsc_free(&place);
     return 0;
 }

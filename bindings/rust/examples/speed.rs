@@ -2,8 +2,8 @@
 //! behind a mutex that keeps the latest time of each key and knows no ranges. Then seats of a shared cache look up on 1 and 4 threads, and
 //! so do threads that share the map.
 //!
-//! It prints the nanoseconds of one call, and the lookups of all threads together in a millisecond, each in that round of nine in which it was quickest. The keys
-//! and the order of the places are those of the repository's `bench`, so that its figures can stand beside these.
+//! It prints the nanoseconds of one call, in that turn over 1,024 places in which it was quickest, of 225; and the lookups of all threads together in a
+//! millisecond, in the quickest round of nine. The keys and the order of the places are those of the repository's `bench bytes`, so that its figures can stand beside these.
 use std::collections::BTreeMap;
 use std::hint::black_box;
 use std::sync::{Barrier, Mutex};
@@ -12,7 +12,9 @@ use std::time::{Duration, Instant};
 use tscache::{Cache, Config, Error, Shared, Span, Time, Value};
 
 const PLACES: u64 = 1024;
-const TURNS: u64 = 25;
+/// How often each call is timed over all places.
+const TURNS: usize = 225;
+/// How often threads are timed.
 const ROUNDS: usize = 9;
 const STRIDE: u64 = 1_696_631;
 const OWNER: Option<[u8; 16]> = Some([0x11; 16]);
@@ -23,17 +25,17 @@ fn key_of(place: u64) -> [u8; 8] {
     (place * 64).to_be_bytes()
 }
 
-/// The least time of several rounds.
-fn least(mut round: impl FnMut() -> Result<Duration, Error>) -> Result<Duration, Error> {
+/// The least time of many turns.
+fn least(mut turn: impl FnMut() -> Result<Duration, Error>) -> Result<Duration, Error> {
     let mut best = Duration::MAX;
-    for _ in 0..ROUNDS {
-        best = best.min(round()?);
+    for _ in 0..TURNS {
+        best = best.min(turn()?);
     }
     Ok(best)
 }
 
 fn each(time: Duration) -> u128 {
-    time.as_nanos() / u128::from(PLACES * TURNS)
+    time.as_nanos() / u128::from(PLACES)
 }
 
 fn config(nodes: u64) -> Config {
@@ -57,42 +59,34 @@ fn alone(nodes: u64, places: &[[u8; 8]]) -> Result<(), Error> {
     let mut wall = 10;
     let lookup = least(|| {
         let start = Instant::now();
-        for _ in 0..TURNS {
-            for key in places {
-                black_box(cache.get_max(&Span::Point(key)));
-            }
+        for key in places {
+            black_box(cache.get_max(&Span::Point(key)));
         }
         Ok(start.elapsed())
     })?;
     let add = least(|| {
         let start = Instant::now();
-        for _ in 0..TURNS {
-            wall += 1;
-            for key in places {
-                black_box(cache.add(&Span::Point(key), at(wall), now)?);
-            }
+        wall += 1;
+        for key in places {
+            black_box(cache.add(&Span::Point(key), at(wall), now)?);
         }
         Ok(start.elapsed())
     })?;
     let map_lookup = least(|| {
         let start = Instant::now();
-        for _ in 0..TURNS {
-            for key in places {
-                black_box(map.lock().unwrap().get(&key[..]).copied());
-            }
+        for key in places {
+            black_box(map.lock().unwrap().get(&key[..]).copied());
         }
         Ok(start.elapsed())
     })?;
     let map_add = least(|| {
         let start = Instant::now();
-        for _ in 0..TURNS {
-            wall += 1;
-            for key in places {
-                let mut map = map.lock().unwrap();
-                let latest = map.get_mut(&key[..]).unwrap();
-                if latest.time < Time::new(wall, 0) {
-                    *latest = at(wall);
-                }
+        wall += 1;
+        for key in places {
+            let mut map = map.lock().unwrap();
+            let latest = map.get_mut(&key[..]).unwrap();
+            if latest.time < Time::new(wall, 0) {
+                *latest = at(wall);
             }
         }
         Ok(start.elapsed())

@@ -11,6 +11,8 @@
 //! `bench batch NODES..` adds known keys to the next version of a cache of one page, and prints what 64 of them as a batch
 //! take as a percentage of what one of them takes. Then 1 and 4 seats of a shared cache add 64 of them one at a time, and as a batch.
 //!
+//! `bench bytes NODES..` looks up and adds known keys of a cache of one page, with keys and an owner that are given as bytes.
+//!
 //! `bench shared NODES..` has 1, 2 and 4 seats of a shared cache look up and add on threads, and prints how many
 //! calls they made in a second; then one seat add beside seats that nobody uses, and prints the nanoseconds of an Add
 //! and what each idle seat costs it. Beside each figure stands that of the same calls on one thread to a cache of its
@@ -25,6 +27,7 @@
 ghost use Rattle.std.specs.Prelude.{◌≤◌, IfOk};
 
 mod batch;
+mod bytes;
 mod caches;
 mod calls;
 mod measure;
@@ -36,6 +39,7 @@ mod stops;
 mod watch;
 
 use crate::batch::{BATCH_OPERATIONS, MARKS, measure_batch};
+use crate::bytes::{BYTES_OPERATIONS, measure_by_bytes};
 use crate::caches::{CACHE_OPERATIONS, PAGES, measure_caches};
 use crate::measure::{Figure, LARGEST, ROUNDS, Row, SMALLEST, measure};
 use crate::report::{print_longest, print_shared, short_run_shared};
@@ -60,6 +64,9 @@ const BATCH_SEATS: [u32; 2] = [1, 4];
 /// And of batches.
 const BATCH_TURNS: u32 = 100;
 
+/// And with keys that are given as bytes.
+const BYTES_TURNS: u32 = 225;
+
 /// And where two caches are compared.
 const STOP_TURNS: u32 = 40;
 
@@ -74,6 +81,7 @@ fn main(rt: HostRuntime) -> Result<()> {
         "longest" => measure_sharing(&rt, sizes, true),
         "pages" => measure_pages(&rt, sizes),
         "batch" => measure_batches(&rt, &rt, sizes),
+        "bytes" => measure_bytes(&rt, sizes),
         _ => measure_all(&rt, &rt, &words),
     }
 }
@@ -115,6 +123,19 @@ fn measure_pages(rt: &HostRuntime, sizes: &[String]) -> Result<()> {
         all.push(measure_page_of(rt, nodes_of(word)?)?)?;
     }
     print_growth(rt, &all)
+}
+
+/// Measures calls with keys that are given as bytes, on a cache of each size.
+fn measure_bytes(rt: &HostRuntime, sizes: &[String]) -> Result<()> {
+    for word in sizes {
+        let nodes = nodes_of(word)?;
+        let figures = measure_by_bytes(rt, nodes, BYTES_TURNS)?;
+        for (name, figure) in BYTES_OPERATIONS.iter().zip(&figures) {
+            let each = figure.each();
+            println!(rt; "here, {nodes} nodes, {name}: {each} ns")?;
+        }
+    }
+    Ok(())
 }
 
 /// Measures batches on a page of each size, and prints what each takes beside one `next`.
