@@ -12,27 +12,43 @@ use tsc_time::Timestamp;
 /// How many marks a batch has.
 pub const MARKS: u32 = 64;
 
-/// What is measured: `next` with a known key, and `next_all` of as many as a batch has marks.
-pub const BATCH_OPERATIONS: [&str; 2] = ["next with a key", "next_all of 64 keys"];
+/// What is measured: `next` with a known key, and `next_all` of as many as a batch has marks, from all over the page and side by side.
+pub const BATCH_OPERATIONS: [&str; 3] = [
+    "next with a key",
+    "next_all of 64 keys",
+    "next_all of 64 keys side by side",
+];
 
-/// Fills a cache of one page with nodes, and adds [`PLACES`] known keys from all over the page by the next version, which takes the place of
-/// the one before it: one at a time, and [`MARKS`] at a time. Of so many turns that counts in which an operation took least.
-pub fn measure_batch(rt: &HostRuntime, nodes: u32, turns: u32) -> Result<[Figure; 2]>
+/// Fills a cache of one page with nodes, and adds [`PLACES`] known keys by the next version, which takes the place of the one before it: one at a
+/// time and [`MARKS`] at a time from all over the page, and [`MARKS`] at a time that are next to one another. Of so many turns that counts in
+/// which an operation took least.
+pub fn measure_batch(rt: &HostRuntime, nodes: u32, turns: u32) -> Result<[Figure; 3]>
     requires at_least { 64 ≤ nodes }
     requires at_most { nodes ≤ 1048576 }
 {
     let mut newest = filled(rt.alloc(), nodes, 1, false)?;
-    let spans = Keys::new(nodes, 0, &[]).spans(rt.alloc(), PLACES, 0)?;
-    let marks = marks_on(rt.alloc(), &spans)?;
-    let mut all = [Figure::NONE; 2];
+    let here = Keys::new(nodes, 0, &[]);
+    let marks = marks_on(rt.alloc(), &here.spans(rt.alloc(), PLACES, 0)?)?;
+    let row = marks_on(rt.alloc(), &side_by_side(rt.alloc(), here)?)?;
+    let mut all = [Figure::NONE; 3];
     for _ in 0..turns {
         let figures = [
             one_by_one(rt, &mut newest, &marks)?,
             in_batches(rt, &mut newest, &marks)?,
+            in_batches(rt, &mut newest, &row)?,
         ];
         keep_least(&mut all, &figures);
     }
     Ok(all)
+}
+
+/// The first [`PLACES`] keys of a page, and those of a smaller one again from the first on.
+fn side_by_side(alloc: Global, here: Keys) -> Result<Vec<Span>> {
+    let mut spans = Vec::with_capacity(alloc, PLACES as usize)?;
+    for place in 0..PLACES {
+        spans.push(here.span(alloc, u64::from(place % here.nodes.max(1)), 0)?)?;
+    }
+    Ok(spans)
 }
 
 /// Each of the spans with a late value.

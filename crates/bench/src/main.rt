@@ -9,7 +9,7 @@
 //! turn. Then it measures a shared cache, as `bench shared NODES..` does alone.
 //!
 //! `bench batch NODES..` adds known keys to the next version of a cache of one page, and prints what 64 of them as a batch
-//! take as a percentage of what one of them takes. Then 1 and 4 seats of a shared cache add 64 of them one at a time, and as a batch.
+//! take as a percentage of what one of them takes, from all over the page and side by side. Then 1 and 4 seats of a shared cache add 64 of them one at a time, and as a batch.
 //!
 //! `bench bytes NODES..` looks up and adds known keys of a cache of one page, with keys and an owner that are given as bytes.
 //!
