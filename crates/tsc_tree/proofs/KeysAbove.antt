@@ -1,5 +1,5 @@
 -- The least key above a cut, among parts one after another.
-use Rattle.std.proofs.Common.{◌≡◌, ◌⊎◌, inl, inr, ◌∙◌, refl, sym, ap, subst, ℕ, zero, suc, ◌<◌, ◌≤◌, ◌-◌, List, [], ◌∷◌, ◌++◌, length, take, drop, get_or, arith}
+use Rattle.std.proofs.Common.{◌≡◌, inl, inr, ◌∙◌, refl, sym, ap, subst, ℕ, zero, suc, ◌≤◌, ◌-◌, List, [], ◌∷◌, ◌++◌, length, take, drop, get_or, arith}
 use Rattle.std.proofs.lemmas.Bool.{cases_Bool}
 use Rattle.std.specs.Prelude.{Option, Some, None}
 use Rattle.tsc_span.specs.Span.{KeyBytes, Cut, before, after, is_below}
@@ -8,7 +8,7 @@ use Rattle.tsc_nodes.specs.KeysAbove.{first_above}
 use Rattle.tsc_nodes.proofs.CutOrder.{Lt, Le, Lt-chain, Lt_Le-chain, Le-from_Lt, before-after}
 use Rattle.tsc_nodes.proofs.Places.{before_or_past}
 use Rattle.tsc_tree.specs.Leaves.{nodes_of, start_of, AreSome, IsLeafAt}
-use Rattle.tsc_tree.proofs.Joins.{below_next, sorted_right}
+use Rattle.tsc_tree.proofs.Joins.{below_next}
 use Rattle.tsc_tree.proofs.LeafLists.{parted_at, leaf_first, some_nodes, starts_low}
 
 -- the first key of nodes above a cut
@@ -48,9 +48,9 @@ or_none (Some k) = refl
 told_behind : (ls : List (List Node)) (c : Cut) (p : ℕ) → AreSome ls → IsLeafAt ls c p → node_above c (nodes_of (drop (suc p) ls)) ≡ node_above c (get_or ls (suc p) [])
 told_behind ls c p sizes at = elim (before_or_past (suc p) (length ls)) [
   | inl h ↦
-    ap (node_above c) (leaf_first ls (suc p) [] h)
-    ∙ above-append c (get_or ls (suc p) []) (nodes_of (drop (suc (suc p)) ls))
-    ∙ first_told c (get_or ls (suc p) []) (nodes_of (drop (suc (suc p)) ls)) (some_nodes ls sizes (suc p) [] h) (at.high h)
+      ap (node_above c) (leaf_first ls (suc p) [] h)
+      ∙ above-append c (get_or ls (suc p) []) (nodes_of (drop (suc (suc p)) ls))
+      ∙ first_told c (get_or ls (suc p) []) (nodes_of (drop (suc (suc p)) ls)) (some_nodes ls sizes (suc p) [] h) (at.high h)
   | inr h ↦ ap (node_above c) (none_left ls (suc p) h) ∙ ap (node_above c) (sym (none_there ls (suc p) h))
 ]
   where
@@ -70,12 +70,12 @@ pub above_in_part : (ls : List (List Node)) (c : Cut) (p : ℕ) → AreSome ls �
     → node_above c (nodes_of ls) ≡ or_next (node_above c (get_or ls p [])) (node_above c (get_or ls (suc p) []))
 above_in_part ls c p sizes sorted at = elim (before_or_past p (length ls)) [
   | inl h ↦
-    ap (node_above c) (parted_at ls p)
-    ∙ above-append c (nodes_of (take p ls)) (nodes_of (drop p ls))
-    ∙ ap (λ o. or_next o (node_above c (nodes_of (drop p ls)))) none
-    ∙ ap (node_above c) (leaf_first ls p [] h)
-    ∙ above-append c (get_or ls p []) (nodes_of (drop (suc p) ls))
-    ∙ ap (or_next (node_above c (get_or ls p []))) (told_behind ls c p sizes at)
+      ap (node_above c) (parted_at ls p)
+      ∙ above-append c (nodes_of (take p ls)) (nodes_of (drop p ls))
+      ∙ ap (λ o. or_next o (node_above c (nodes_of (drop p ls)))) none
+      ∙ ap (node_above c) (leaf_first ls p [] h)
+      ∙ above-append c (get_or ls p []) (nodes_of (drop (suc p) ls))
+      ∙ ap (or_next (node_above c (get_or ls p []))) (told_behind ls c p sizes at)
   | inr h ↦ empty ls p h at.bound
 ]
   where
@@ -95,3 +95,7 @@ found_first o first second k is found = ap (λ f. or_next f second) found ∙ sy
 
 pub found_next : (o first second : Option KeyBytes) → o ≡ or_next first second → None ≡ first → (r : Option KeyBytes) → r ≡ second → r ≡ o
 found_next o first second is none r next = next ∙ ap (λ f. or_next f second) none ∙ sym is
+
+-- what a part tells, by another word for its place
+pub at_place : (c : Cut) (ls : List (List Node)) {i : ℕ} (j : ℕ) (r : Option KeyBytes) → r ≡ node_above c (get_or ls i []) → i ≡ j → r ≡ node_above c (get_or ls j [])
+at_place c ls j r told is = told ∙ ap (λ (k : ℕ). node_above c (get_or ls k [])) is
