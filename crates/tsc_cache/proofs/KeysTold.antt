@@ -1,15 +1,14 @@
 -- The least key above a cut, page by page.
-use Rattle.std.proofs.Common.{◌≡◌, ◌⊎◌, inl, inr, refl, ◌∙◌, sym, ap, subst, Bool, true, false, List, [], ◌∷◌, ◌++◌, ◌||◌, append_assoc, append-nil}
+use Rattle.std.proofs.Common.{◌≡◌, ◌⊎◌, inl, inr, refl, ◌∙◌, sym, ap, subst, Bool, true, false, List, [], ◌∷◌, ◌++◌, ◌||◌, length, map, append_assoc, append-nil, arith}
 use mathlib.Core.Bool.{true≢false}
 use Rattle.std.specs.Prelude.{Option, Some, None}
-use Rattle.std.specs.List.{flat_map}
 use Rattle.std.specs.Str.{bytes_eq}
 use Rattle.std.proofs.lemmas.Bool.{cases_Bool}
 use Rattle.std.proofs.lemmas.List.Folds.{list_any-append}
 use Rattle.tsc_span.specs.Span.{KeyBytes, Cut, before, is_below}
 use Rattle.tsc_nodes.specs.Page.{PageMarks, marked_keys}
 use Rattle.tsc_nodes.specs.PageView.{PageView, is_in}
-use Rattle.tsc_nodes.specs.KeysAbove.{lies_above, LeastAbove, IsLeastAbove}
+use Rattle.tsc_nodes.specs.KeysAbove.{IsLeastAbove}
 use Rattle.tsc_nodes.proofs.CutOrder.{Le-from_Lt, Le-chain}
 use Rattle.tsc_page.proofs.KeysAbove.{least_among_same}
 use Rattle.tsc_cache.specs.CacheView.{EachStandsFor}
@@ -86,8 +85,9 @@ asking-more pages p rest c told more so_far is = record {
   least = subst (λ (ks : List KeyBytes). IsLeastAbove c ks (lesser told more)) (sym (seen-append so_far.asked p)) (lesser_is_least c (keys_seen so_far.asked) p.keys told more so_far.least is);
 }
 
-pub asking-end : (pages : List PageView) (c : Cut) (told : Option KeyBytes) → Asking pages [] c told → IsLeastAbove c (keys_seen pages) told
-asking-end pages c told all = subst (λ (ps : List PageView). IsLeastAbove c (keys_seen ps) told) (sym (all.parts ∙ append-nil all.asked)) all.least
+pub asking-end : {A : Type 0} (f : A → PageView) (pages : List PageView) (rest : List A) (c : Cut) (told : Option KeyBytes) → length rest ≡ 0 → Asking pages (map f rest) c told → IsLeastAbove c (keys_seen pages) told
+asking-end f pages [] c told none all = subst (λ (ps : List PageView). IsLeastAbove c (keys_seen ps) told) (sym (all.parts ∙ append-nil all.asked)) all.least
+asking-end f pages (a ∷ rest) c told none all = absurd (omega (arith, none))
 
 -- pages that stand for others have the same keys
 pub same_keys : (vs : List PageView) (ps : List PageMarks) → EachStandsFor vs ps → (k : KeyBytes) → is_in k (keys_seen vs) ≡ is_in k (keys_on ps)

@@ -1,5 +1,5 @@
 -- One page after another.
-use Rattle.std.proofs.Common.{rules, ◌≡◌, ◌∙◌, sym, ap, subst, [], List, map}
+use Rattle.std.proofs.Common.{rules, ◌≡◌, sym, ap, subst, List, map}
 use Rattle.std.specs.Prelude.{Option, option_map}
 use Rattle.std.specs.Arc.{arc_value}
 use Rattle.std.specs.VecDeque.Iter.{deque_iter_rest}
@@ -8,7 +8,6 @@ use Rattle.tsc_span.specs.Cuts.{cut_of}
 use Rattle.tsc_nodes.specs.PageView.{PageView}
 use Rattle.tsc_nodes.specs.KeysAbove.{IsLeastAbove}
 use Rattle.tsc_cache.specs.CacheParts.{pages_of, front_of, older_of}
-use Rattle.tsc_cache.specs.Keys.{lesser}
 use Rattle.tsc_cache.proofs.KeysTold.{Asking, asking-start, asking-more, asking-end}
 use Rattle.tsc_cache.proofs.pages.Pages.key_above.Goals as goal
 
@@ -32,4 +31,6 @@ loop-page-preserved c =
     subst (Asking (pages_of c.args.self.now) rest cut) (sym c.lesser-least.ensures) (asking-more (pages_of c.args.self.now) (arc_value c.in-Some.page.now) rest cut so_far more asked page)
 
 pub returns : goal.returns
-returns c = ?
+returns c =
+    let told : Option KeyBytes = option_map (λ k. k.now) c.loop-page.least in
+    asking-end (λ a. arc_value a) (pages_of c.args.self.now) (deque_iter_rest c.loop-page.page-iterator) (cut_of c.args.cut) told c.in-None.ensures.steps.0 c.loop-page.invariant
