@@ -12,6 +12,8 @@ mod cache;
 #[cfg(test)]
 mod growths;
 #[cfg(test)]
+mod keys;
+#[cfg(test)]
 mod refused;
 #[cfg(test)]
 mod texts;

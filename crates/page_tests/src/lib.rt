@@ -8,6 +8,8 @@ mod filled;
 #[cfg(test)]
 mod full;
 #[cfg(test)]
+mod keys;
+#[cfg(test)]
 mod pages;
 #[cfg(test)]
 mod refused;

@@ -18,3 +18,4 @@ pub mod SpanExamples
 pub mod RotationExamples
 pub mod SizeExamples
 pub mod BatchExamples
+pub mod KeysTold

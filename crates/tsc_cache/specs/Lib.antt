@@ -8,4 +8,5 @@ pub mod Batch
 pub mod Stacks
 pub mod CacheParts
 pub mod Laws
+pub mod Keys
 pub use Rattle.tsc_span.specs.Span

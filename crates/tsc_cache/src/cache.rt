@@ -2,9 +2,12 @@ ghost use Rattle.std.specs.Prelude.{◌≡◌, ◌↔◌, ◌<◌, ◌+◌, ◌^
 ghost use Rattle.tsc_time.specs.Time.{Time};
 ghost use Rattle.tsc_span.specs.Span.{is_empty_span};
 ghost use Rattle.tsc_span.specs.LookupSpan.{span_for_lookup};
+ghost use Rattle.tsc_span.specs.Cuts.{cut_of};
+ghost use Rattle.tsc_nodes.specs.KeysAbove.{IsLeastAbove};
 ghost use Rattle.tsc_cache.specs.Settings.{Settings, fits};
 ghost use Rattle.tsc_cache.specs.State.{CacheState, opening, step, step_all, look, is_kept, kept_after_rotation};
 ghost use Rattle.tsc_cache.specs.Lookup.{LooksIntoPages};
+ghost use Rattle.tsc_cache.specs.Keys.{keys_on, keys_seen};
 ghost use Rattle.tsc_cache.specs.CacheView.{StandsForState, Adds, RotatesWith, front_has_room_for, cache_answer, LooksIntoViews};
 ghost use Rattle.tsc_cache.specs.Batch.{all_fit, is_any_kept, AddsAll, AddsSome, LeavesSome};
 
@@ -15,7 +18,7 @@ use crate::{Added, CacheFault, Config, Mark};
 use std::alloc::Global;
 use std::marker::Model;
 use tsc_page::Page;
-use tsc_span::{Ends, Span, SpanRef};
+use tsc_span::{Cut, Ends, Key, Span, SpanRef};
 use tsc_time::{NoMemory, Timestamp, Value, ratchet};
 
 /// The timestamp cache: which spans were read, when at the latest, and by whom.
@@ -212,6 +215,22 @@ impl Cache {
         ensures looked_into { (settings : Settings) (s : CacheState) → StandsForState self.now settings s → LooksIntoPages span.now s.pages result.1 }
     {
         self.lookup(&span.borrowed())
+    }
+
+    /// The least end key on any page that lies above a cut, as a key does above the place right before it; `None` where none
+    /// does. With the place right after it as the next cut, the cache tells its end keys one after another in their order, each
+    /// of them once.
+    ///
+    /// It costs a search in each page. It takes no memory, and copies no key.
+    ///
+    /// It restates how the skiplist of each `sklPage` is gone over, for all of an `intervalSkl`'s pages, in CockroachDB's
+    /// `pkg/kv/kvserver/tscache/interval_skl.go`.
+    pub fn key_above(&self, cut: Cut<'_>) -> Option<&Key>
+        ensures value { IsLeastAbove (cut_of cut.entry) (keys_seen self.now.pages) (option_map (λ k. k.now) result) }
+        ensures stands { (settings : Settings) (s : CacheState) → StandsForState self.now settings s
+            → IsLeastAbove (cut_of cut.entry) (keys_on s.pages) (option_map (λ k. k.now) result) }
+    {
+        self.pages.key_above(cut)
     }
 
     /// Where the floor stands.

@@ -1,9 +1,12 @@
-ghost use Rattle.std.specs.Prelude.{◌≡◌, ◌∷◌, [], length, true, false, IfOk, OnOk, OnErr};
+ghost use Rattle.std.specs.Prelude.{◌≡◌, ◌∷◌, [], length, true, false, option_map, IfOk, OnOk, OnErr};
 ghost use Rattle.tsc_span.specs.Span.{is_empty_span};
+ghost use Rattle.tsc_span.specs.Cuts.{cut_of};
+ghost use Rattle.tsc_nodes.specs.KeysAbove.{IsLeastAbove};
 ghost use Rattle.tsc_nodes.specs.PageView.{has_room_for};
 ghost use Rattle.tsc_cache.specs.CacheView.{MarksFront, LooksIntoViews};
 ghost use Rattle.tsc_cache.specs.Stacks.{AreStacked, pages_answer, IsExpiredTop, Drops};
 ghost use Rattle.tsc_cache.specs.CacheParts.{front_of, older_of, pages_of};
+ghost use Rattle.tsc_cache.specs.Keys.{keys_seen, lesser};
 
 use crate::Config;
 use std::alloc::Global;
@@ -11,7 +14,7 @@ use std::collections::VecDeque;
 use std::mem;
 use std::sync::Arc;
 use tsc_page::Page;
-use tsc_span::{Span, SpanRef};
+use tsc_span::{Cut, Key, Span, SpanRef};
 use tsc_time::{NoMemory, Timestamp, Value, ratchet};
 
 /// The pages of a cache. A page that other caches hold too is never changed.
@@ -156,5 +159,27 @@ impl Pages {
             looked += 1;
         }
         (best, looked)
+    }
+
+    /// The least end key on all pages that lies above a cut.
+    pub(crate) fn key_above(&self, cut: Cut<'_>) -> Option<&Key>
+        ensures { IsLeastAbove (cut_of cut.entry) (keys_seen (pages_of self.now)) (option_map (λ k. k.now) result) }
+    {
+        let mut least = self.front.key_above(cut);
+        for page in &self.older {
+            least = lesser(least, page.key_above(cut));
+        }
+        least
+    }
+}
+
+/// The lesser of two keys, as far as there are any.
+fn lesser<'a>(first: Option<&'a Key>, second: Option<&'a Key>) -> Option<&'a Key>
+    ensures { option_map (λ k. k.now) result ≡ lesser (option_map (λ k. k.now) first.entry) (option_map (λ k. k.now) second.entry) }
+{
+    match (first, second) {
+        (Some(key), Some(other)) => { if other < key { Some(other) } else { Some(key) } }
+        (Some(key), None) | (None, Some(key)) => Some(key),
+        (None, None) => None,
     }
 }

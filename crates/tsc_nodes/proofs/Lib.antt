@@ -20,3 +20,4 @@ pub mod PlainMarks
 pub mod Tops
 pub mod Costs
 pub mod ToldPlaces
+pub mod KeysAbove

@@ -3,6 +3,7 @@ pub mod PageView
 pub mod Nodes
 pub mod Numbers
 pub mod Words
+pub mod KeysAbove
 pub use Rattle.tsc_time.specs.Time
 pub use Rattle.tsc_time.specs.Joint
 pub use Rattle.tsc_span.specs.Span

@@ -8,6 +8,7 @@ ghost use Rattle.tsc_span.specs.Span.{is_below, between};
 ghost use Rattle.tsc_span.specs.Cuts.{cut_of};
 ghost use Rattle.tsc_nodes.specs.Numbers.{IsCutNumber};
 ghost use Rattle.tsc_nodes.specs.PageView.{is_new_among};
+ghost use Rattle.tsc_nodes.specs.KeysAbove.{first_above};
 ghost use Rattle.tsc_nodes.specs.Nodes.{paired, IsSorted, FitsAt, IsPlaceFor, IsFoundAt, IsPlaceOf, IsPlaceTold, BothStandWhereTold, HasKeysBelow, StandsAt, LiesFrom, index_of, key_above, first_gap, IsNewKey, FitsIn, with_new, IsInOrder, HasNodes, MakesNodes, AddsNodes, GrowsBy, new_count, found_cost, new_cost, HoldsKeysOn, HoldsGapsOn, node_keys, answer_of, raise_nodes, node_in_gap, gap_value, next_cut, node_stretches};
 
 use crate::number::{KeyNumber, NumberedBytes, NumberedCut, NumberedKey};
@@ -133,6 +134,18 @@ impl Nodes {
         ensures bound { IfSome result (λ i. i ≤ length self.now) }
     {
         self.lists().find(&NumberedBytes::new(key.bytes())).err()
+    }
+
+    /// The least key above a cut. It costs a binary search, and takes no memory.
+    pub fn key_above(&self, cut: &NumberedCut<'_>) -> Option<&Key>
+        requires sorted { IsSorted self.now }
+        ensures { option_map (λ k. k.now) result ≡ first_above cut.now (node_keys self.now) }
+    {
+        let place = self.keys.partition_point(|key| cut.is_above_before(key));
+        match self.keys.get(place) {
+            Some(key) => Some(key.key()),
+            None => None,
+        }
     }
 
     /// The joint value of the keys and gaps between two cuts. It costs a binary search for the first cut, a look at

@@ -108,6 +108,13 @@ impl NumberedKey {
         self.key.bytes()
     }
 
+    /// The key itself.
+    pub(crate) fn key(&self) -> &Key
+        ensures { result.now ≡ self.now }
+    {
+        &self.key
+    }
+
     /// What the key costs on a page: as many bytes as it has, and 32 more.
     pub(crate) fn cost(&self) -> u32
         ensures value { result ≡ key_cost self.now }

@@ -1,3 +1,4 @@
 pub mod TreeLists
 pub mod Refusals
 pub mod Costs
+pub mod KeysAbove

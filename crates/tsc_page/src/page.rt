@@ -1,15 +1,17 @@
-ghost use Rattle.std.specs.Prelude.{sum, slice_get, is_some, ◌≡◌, ◌≤◌, ◌*◌, nat_le, ◌||◌, ◌∷◌, [], true, false, IsOk, IfOk, IfSome, OnOk, OnErr, if◌then◌else◌};
+ghost use Rattle.std.specs.Prelude.{sum, slice_get, is_some, option_map, ◌≡◌, ◌≤◌, ◌*◌, nat_le, ◌||◌, ◌∷◌, [], true, false, IsOk, IfOk, IfSome, OnOk, OnErr, if◌then◌else◌};
 ghost use Rattle.tsc_time.specs.Joint.{joint, joint_above};
 ghost use Rattle.tsc_time.specs.Time.{zero_time, is_before, later};
 ghost use Rattle.tsc_span.specs.Span.{KeyBytes, Interval, is_empty_span, overlaps, end_keys, span_cost};
+ghost use Rattle.tsc_span.specs.Cuts.{cut_of};
 ghost use Rattle.tsc_nodes.specs.declared.TheConstants.{LEAST_SIZE, MOST_SIZE};
 ghost use Rattle.tsc_nodes.specs.Page.{PageMarks, Mark, empty_page, with_mark, top, values_on, marked_keys, count_distinct, cost_distinct, has_room};
+ghost use Rattle.tsc_nodes.specs.KeysAbove.{IsLeastAbove};
 ghost use Rattle.tsc_nodes.specs.PageView.{AreLeafSizes, StandsFor, NoAnswerAboveTop, answer, is_in, bytes_of, has_room_for};
 
 use crate::tree::Tree;
 use std::alloc::Global;
 use std::marker::Model;
-use tsc_span::{Span, SpanRef};
+use tsc_span::{Cut, Key, Span, SpanRef};
 use tsc_time::{NoMemory, Timestamp, Value};
 
 /// One page of the cache: what was added to it, as sorted nodes.
@@ -215,6 +217,21 @@ impl Page {
         ensures few { 32 * result ≤ self.now.size }
     {
         self.tree.len() as u32
+    }
+
+    /// The least end key on the page that lies above a cut, as a key does above the place right before it; `None` where none
+    /// does. With the place right after it as the next cut, the page tells its end keys one after another in their order.
+    ///
+    /// It costs a search in each part on the way to a leaf, and where the cut lies above all keys of that leaf one more in the
+    /// parts next to those. It takes no memory, and copies no key.
+    ///
+    /// It restates how `sklPage`'s skiplist is gone over from a key on, in CockroachDB's
+    /// `pkg/kv/kvserver/tscache/interval_skl.go`.
+    pub fn key_above(&self, cut: Cut<'_>) -> Option<&Key>
+        ensures value { IsLeastAbove (cut_of cut.entry) self.now.keys (option_map (λ k. k.now) result) }
+        ensures stands { (p : PageMarks) → StandsFor self.now p → IsLeastAbove (cut_of cut.entry) (marked_keys p.marks) (option_map (λ k. k.now) result) }
+    {
+        self.tree.key_above(cut)
     }
 
     /// How many nodes a leaf has, from the first one in the order of keys on; `None` past the last. A page

@@ -1,10 +1,11 @@
-ghost use Rattle.std.specs.Prelude.{◌≡◌, ◌≤◌, [], ◌∷◌, length, map, true, not, IfOk, OnOk};
+ghost use Rattle.std.specs.Prelude.{◌≡◌, ◌≤◌, [], ◌∷◌, length, map, true, not, option_map, IfOk, OnOk};
 ghost use Rattle.std.specs.List.{All};
 ghost use Rattle.tsc_span.specs.Span.{is_below, between};
 ghost use Rattle.tsc_span.specs.Cuts.{cut_of};
 ghost use Rattle.tsc_time.specs.Time.{zero_time};
 ghost use Rattle.tsc_time.specs.OwnedTime.{unowned};
 ghost use Rattle.tsc_nodes.specs.PageView.{is_in};
+ghost use Rattle.tsc_nodes.specs.KeysAbove.{first_above};
 ghost use Rattle.tsc_nodes.specs.Nodes.{IsSorted, node_in_gap, node_keys, answer_of, raise_nodes};
 ghost use Rattle.tsc_tree.specs.Leaves.{HasNode, nodes_of};
 ghost use Rattle.tsc_tree.specs.Pending.{TellsSize, IsAddTold};
@@ -62,6 +63,20 @@ impl Root {
             Root::Two(parts) => parts::is_new(parts, key),
             Root::Three(parts) => parts::is_new(parts, key),
             Root::Four(parts) => parts::is_new(parts, key),
+        }
+    }
+
+    /// The least key above a cut.
+    pub(crate) fn key_above(&self, cut: &NumberedCut<'_>) -> Option<&Key>
+        requires whole { IsWholeRoot self.now }
+        requires sorted { IsSorted (root_nodes self.now) }
+        ensures { option_map (λ k. k.now) result ≡ first_above cut.now (node_keys (root_nodes self.now)) }
+    {
+        match self {
+            Root::One(parts) => parts::key_above(parts, cut),
+            Root::Two(parts) => parts::key_above(parts, cut),
+            Root::Three(parts) => parts::key_above(parts, cut),
+            Root::Four(parts) => parts::key_above(parts, cut),
         }
     }
 

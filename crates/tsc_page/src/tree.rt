@@ -5,6 +5,7 @@ ghost use Rattle.tsc_span.specs.Cuts.{cut_of};
 ghost use Rattle.tsc_nodes.specs.declared.TheConstants.{MOST_SIZE};
 ghost use Rattle.tsc_nodes.specs.Page.{cost_distinct};
 ghost use Rattle.tsc_nodes.specs.PageView.{is_new_among, new_weight};
+ghost use Rattle.tsc_nodes.specs.KeysAbove.{first_above};
 ghost use Rattle.tsc_time.specs.Time.{zero_time};
 ghost use Rattle.tsc_time.specs.OwnedTime.{unowned};
 ghost use Rattle.tsc_nodes.specs.Nodes.{IsSplitAt, IsSorted, GrowsBy, node_in_gap, node_keys, answer_of};
@@ -108,6 +109,14 @@ impl Tree {
     {
         let (from, to) = (NumberedCut::new(from), NumberedCut::new(to));
         self.root.joint_between(&from, &to)
+    }
+
+    /// The least key above a cut.
+    pub(crate) fn key_above(&self, cut: Cut<'_>) -> Option<&Key>
+        requires counted { IsCounted self.now }
+        ensures { option_map (λ k. k.now) result ≡ first_above (cut_of cut.entry) (node_keys (tree_nodes self.now)) }
+    {
+        self.root.key_above(&NumberedCut::new(cut))
     }
 
     /// The same tree once more, which shares all below the root.

@@ -17,3 +17,4 @@ pub mod PartAcross
 pub mod TreeAcross
 pub mod OverParts
 pub mod Wholes
+pub mod KeysAbove

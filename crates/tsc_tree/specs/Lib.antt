@@ -10,3 +10,4 @@ pub use Rattle.tsc_nodes.specs.Page
 pub use Rattle.tsc_nodes.specs.PageView
 pub use Rattle.tsc_nodes.specs.Nodes
 pub use Rattle.tsc_nodes.specs.Numbers
+pub use Rattle.tsc_nodes.specs.KeysAbove

@@ -128,6 +128,10 @@ impl<P: Part> Part for Fork<P> {
         parts::is_new(&self.parts, key)
     }
 
+    fn key_above(&self, cut: &NumberedCut<'_>) -> Option<&Key> {
+        parts::key_above(&self.parts, cut)
+    }
+
     fn leaf_len(&self, place: usize) -> Result<usize, usize> {
         parts::leaf_len(&self.parts, place)
     }

@@ -89,6 +89,10 @@ impl Part for Leaf {
         self.nodes.place_for(key).is_some()
     }
 
+    fn key_above(&self, cut: &NumberedCut<'_>) -> Option<&Key> {
+        self.nodes.key_above(cut)
+    }
+
     fn leaf_len(&self, place: usize) -> Result<usize, usize> {
         match place.checked_sub(1) {
             Some(rest) => Err(rest),

@@ -1,10 +1,11 @@
-ghost use Rattle.std.specs.Prelude.{◌≡◌, ℕ, List, ◌≤◌, ◌<◌, ◌+◌, ◌++◌, ◌∷◌, [], ◌||◌, suc, map, length, drop, option_to_list, OnOk, IfOk, IfSome, not, true, false};
+ghost use Rattle.std.specs.Prelude.{◌≡◌, ℕ, List, ◌≤◌, ◌<◌, ◌+◌, ◌++◌, ◌∷◌, [], ◌||◌, suc, map, length, drop, slice_index_or, option_map, option_to_list, OnOk, IfOk, IfSome, not, true, false};
 ghost use Rattle.std.specs.List.{All};
 ghost use Rattle.tsc_time.specs.Joint.{joint};
 ghost use Rattle.tsc_span.specs.Span.{before, last, is_below, between};
 ghost use Rattle.tsc_span.specs.Cuts.{cut_of};
 ghost use Rattle.tsc_nodes.specs.Numbers.{IsCutNumber};
 ghost use Rattle.tsc_nodes.specs.PageView.{is_in};
+ghost use Rattle.tsc_nodes.specs.KeysAbove.{first_above};
 ghost use Rattle.tsc_nodes.specs.Nodes.{Node, IsSorted, node_keys, answer_of, raise_nodes};
 ghost use Rattle.tsc_tree.specs.Leaves.{AreParts, HasNode, IsLeafAt, nodes_of, start_of};
 ghost use Rattle.tsc_tree.specs.Pending.{everything, all_joint, sizes_of, AreSizesOf, TellsSize, IsAddTold};
@@ -58,6 +59,12 @@ pub trait Part: Clone + Drop {
         requires whole { IsWhole self.now }
         requires sorted { IsSorted (nodes self.now) }
         ensures { result ≡ not (is_in key.now (node_keys (nodes self.now))) };
+
+    /// The least key above a cut. It takes no memory.
+    fn key_above(&self, cut: &NumberedCut<'_>) -> Option<&Key>
+        requires whole { IsWhole self.now }
+        requires sorted { IsSorted (nodes self.now) }
+        ensures { option_map (λ k. k.now) result ≡ first_above cut.now (node_keys (nodes self.now)) };
 
     /// How many nodes a leaf has; `Err` tells how many places behind the last leaf this is.
     fn leaf_len(&self, place: usize) -> Result<usize, usize>
@@ -280,6 +287,29 @@ pub fn is_new<P: Part>(parts: &[P], key: &Key) -> bool
     match parts.get(part_at(parts, &cut)) {
         Some(part) => part.is_new(key),
         None => true,
+    }
+}
+
+/// The least key of parts above a cut: that of the part in which the cut falls, or else the first one of the next part.
+pub fn key_above<'a, P: Part>(parts: &'a [P], cut: &NumberedCut<'_>) -> Option<&'a Key>
+    requires parts { AreParts P.nodes P.IsWhole parts.now }
+    ensures { option_map (λ k. k.now) result ≡ first_above cut.now (node_keys (nodes_of (map P.nodes parts.now))) }
+{
+    let place = part_at(parts, cut);
+    match key_in(parts, place, cut) {
+        Some(key) => Some(key),
+        None => key_in(parts, place + 1, cut),
+    }
+}
+
+/// The least key above a cut in the part at a place, where there is one.
+fn key_in<'a, P: Part>(parts: &'a [P], place: usize, cut: &NumberedCut<'_>) -> Option<&'a Key>
+    requires parts { AreParts P.nodes P.IsWhole parts.now }
+    ensures { option_map (λ k. k.now) result ≡ first_above cut.now (node_keys (slice_index_or (map P.nodes parts.now) place [])) }
+{
+    match parts.get(place) {
+        Some(part) => part.key_above(cut),
+        None => None,
     }
 }
 
