@@ -79,7 +79,7 @@ pub fn with_node<P: Part>(parts: Vec<P>, key: &Key) -> Result<Level<P>, NoMemory
 }
 
 /// A clone shares the list of parts.
-impl<P: Part> Clone for Fork<P> {
+impl<P: Drop> Clone for Fork<P> {
     ghost is_clone = { IsForkCopy };
 
     fn clone(&self) -> Result<Fork<P>, AllocError> {
