@@ -45,12 +45,14 @@ fn a_refused_add_can_be_made_again(rt: HostRuntime) -> Result<(), Fail> {
 }
 
 /// The size of the first page and of the largest one, the least number of pages, and the retention.
-static LIMITS: [(u32, u32, u32, u64); 5] = [
+static LIMITS: [(u32, u32, u32, u64); 6] = [
     (66, 66, 1, 4),
     (64, 132, 4, 7),
     (99, 198, 2, 8),
     (132, 132, 1, 0),
     (65, 165, 3, 6),
+    // nothing expires, so there are more pages than are kept at the least
+    (66, 66, 64, LONGEST),
 ];
 
 /// The number of the first limits under which the caches differ, from 0, and of the Add after which they do.

@@ -1,6 +1,7 @@
 //! Large pages, with a time of its own at each key.
 use crate::filled::{Order, number};
 use crate::pages::{FIRST, Row, add_to, between, play, tells, value};
+use crate::tree::add_known;
 use std::alloc::Global;
 use std::test::Fail;
 use tsc_page::{LEAST_SIZE, MOST_SIZE, Page};
@@ -204,6 +205,75 @@ impl Row<Global> for (u32, u32, u32) {
 #[test]
 fn a_full_page(rt: HostRuntime) -> Result<(), Fail> {
     play(&rt, &mut rt.alloc(), &FULL)
+}
+
+/// A range from a place to another one, and whether it is without that.
+type Places = (u32, u32, bool);
+
+/// How many keys a full page has, and known ones to which values are then added in place: in one leaf of 32 keys, over several, and up to
+/// where a leaf begins. The leaves are in lists of 1,024 keys, and in the second page these in lists of 32,768: over one such list, over two,
+/// and up to where one begins.
+static KNOWN: [(u32, &'static [Places]); 2] = [
+    (
+        2081,
+        &[
+            (40, 40, false),
+            (32, 64, true),
+            (31, 64, true),
+            (0, 1024, true),
+            (1000, 1056, true),
+            (1023, 1024, false),
+            (0, 2080, false),
+        ],
+    ),
+    (
+        66_593,
+        &[
+            (40, 40, false),
+            (31, 64, true),
+            (1024, 2048, true),
+            (1000, 2048, true),
+            (1000, 2080, false),
+            (0, 32_768, true),
+            (32_000, 32_800, true),
+            (32_767, 32_768, false),
+            (0, 66_592, false),
+        ],
+    ),
+];
+
+/// The spans of some ranges of places.
+fn spans_of(alloc: Global, ranges: &[Places]) -> Result<Vec<Span>, Fail> {
+    let mut spans = Vec::new(alloc);
+    for (from, to, exclude_to) in ranges {
+        spans.push(range(alloc, *from, *to, *exclude_to)?)?;
+    }
+    Ok(spans)
+}
+
+impl Full {
+    /// Adds values later than all others to spans whose end keys it holds, and says whether it tells each.
+    fn takes_known(&mut self, spans: &[Span]) -> Result<bool, Fail> {
+        let mut all = true;
+        for (i, span) in spans.iter().enumerate() {
+            let told = time(70_000 + i as u64 % 100);
+            all &= add_known(&mut self.page, span, told)? && self.page.lookup(span) == told;
+        }
+        Ok(all)
+    }
+}
+
+impl Row<Global> for (u32, &'static [Places]) {
+    fn holds(&self, alloc: &mut Global) -> Result<bool, Fail> {
+        let mut full = Full::new(*alloc, Order::Rising, self.0)?;
+        full.takes_known(spans_of(*alloc, self.1)?.as_slice())
+    }
+}
+
+/// For `scripts/refuse-each-growth`, as the test of this name in `tree`. Nothing takes memory behind the Adds.
+#[test]
+fn known_keys_take_no_memory(rt: HostRuntime) -> Result<(), Fail> {
+    play(&rt, &mut rt.alloc(), &KNOWN)
 }
 
 /// The keys come in mixed order.

@@ -343,14 +343,63 @@ static COPIES_OF_MANY: [Copied; 1] = [(
     ],
 )];
 
-/// Adds of known keys: some in one leaf, and some over several.
-static KNOWN: [Over; 6] = [
-    Over::Key(200),
-    Over::UpTo(132, 256),
-    Over::From(388),
-    Over::Through(128, 132),
-    Over::Through(4, 520),
-    Over::Key(264),
+/// What a page is filled with, and spans to which values are then added in place.
+type InPlace = (Fill, &'static [Over]);
+
+/// Adds of known keys to full pages: some in one leaf, and some over several.
+static KNOWN: [InPlace; 3] = [
+    (
+        (Order::Rising, 130, With::Keys(0)),
+        &[
+            Over::Key(200),
+            Over::UpTo(132, 256),
+            Over::From(388),
+            Over::Through(128, 132),
+            Over::Through(4, 520),
+            Over::Key(264),
+            // up to where a leaf begins: from that of the leaf before it, from the middle of that, and from the leaves before
+            Over::UpTo(132, 260),
+            Over::UpTo(200, 260),
+            Over::UpTo(128, 260),
+            Over::UpTo(4, 388),
+        ],
+    ),
+    // in a full leaf, and up to where the next one begins
+    (
+        (Order::Rising, 64, With::Keys(0)),
+        &[
+            Over::Key(128),
+            Over::UpTo(4, 256),
+            Over::Through(4, 256),
+            Over::From(132),
+        ],
+    ),
+    (
+        (Order::Falling, 130, With::Keys(0)),
+        &[
+            Over::Key(200),
+            Over::Through(4, 256),
+            Over::UpTo(4, 260),
+            Over::UpTo(8, 392),
+            Over::From(128),
+        ],
+    ),
+];
+
+/// Adds of new keys after which a leaf has 64 nodes, or the page no room: of one key, of both ends of a range, and of one end of it.
+static NEW: [InPlace; 6] = [
+    ((Order::Rising, 63, With::Keys(40)), &[Over::Key(130)]),
+    (
+        (Order::Rising, 62, With::Keys(40)),
+        &[Over::Through(2, 130)],
+    ),
+    ((Order::Rising, 40, With::Keys(1)), &[Over::Key(130)]),
+    ((Order::Rising, 40, With::Keys(2)), &[Over::UpTo(2, 130)]),
+    ((Order::Rising, 40, With::Keys(1)), &[Over::UpTo(4, 130)]),
+    (
+        (Order::Falling, 130, With::Keys(1)),
+        &[Over::UpTo(262, 392)],
+    ),
 ];
 
 /// The range between the keys of two numbers, with the first one.
@@ -594,7 +643,7 @@ fn copies_of_many_leaves_go_their_own_ways(rt: HostRuntime) -> Result<(), Fail> 
 }
 
 /// Adds a value to a span whose end keys the page holds, for which it asks for no memory.
-fn add_known(page: &mut Page, span: &Span, value: Value) -> Result<bool, Fail> {
+pub(crate) fn add_known(page: &mut Page, span: &Span, value: Value) -> Result<bool, Fail> {
     match try_add(page, span, value) {
         Ok(done) => Ok(done),
         Err(NoMemory) => Err(Fail::new("an Add of known keys asked for memory")),
@@ -625,11 +674,44 @@ impl Filled {
     }
 }
 
+impl Row<Global> for InPlace {
+    fn holds(&self, alloc: &mut Global) -> Result<bool, Fail> {
+        Filled::new(*alloc, self.0)?.adds_known(self.1)
+    }
+}
+
 /// Adds of known keys ask for no memory, also over several leaves: `scripts/refuse-each-growth tests page_tests` shows it, which
 /// takes any error of a test but want of memory for a failure.
 #[test]
 fn known_keys_take_no_memory(rt: HostRuntime) -> Result<(), Fail> {
-    let fill = (Order::Rising, 130, With::Keys(0));
-    assert!(rt; Filled::new(rt.alloc(), fill)?.adds_known(&KNOWN)?);
+    play(&rt, &mut rt.alloc(), &KNOWN)
+}
+
+/// An Add to a page, made once more where it is refused memory, after which the page tells it.
+fn adds_again(page: &mut Page, span: &Span, told: Value) -> Result<bool, NoMemory> {
+    let added = match try_add(page, span, told) {
+        Err(NoMemory) => try_add(page, span, told)?,
+        Ok(added) => added,
+    };
+    Ok(added && page.lookup(span) == told)
+}
+
+/// Adds a value to each of some spans of a page that is filled, each made once more where it is refused memory.
+fn adds_all_again(alloc: Global, (fill, spans): &InPlace) -> Result<bool, Fail> {
+    let mut filled = Filled::new(alloc, *fill)?;
+    let mut all = true;
+    for over in *spans {
+        let span = span_of(alloc, *over)?;
+        all &= adds_again(&mut filled.pages.page, &span, value_at(99))?;
+    }
+    Ok(all)
+}
+
+/// As many runs of it pass as the Adds ask for growths: `scripts/count-growths` counts them. In place an Add asks for fewer than in a copy.
+#[test]
+fn new_keys_in_place(rt: HostRuntime) -> Result<(), Fail> {
+    for (i, row) in NEW.iter().enumerate() {
+        assert!(rt; adds_all_again(rt.alloc(), row)?, "row {i}");
+    }
     Ok(())
 }

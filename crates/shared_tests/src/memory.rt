@@ -1,10 +1,12 @@
 //! Want of memory. `scripts/refuse-each-growth tests shared_tests memory::..` refuses each growth of these tests in
 //! turn, and counts those after which a test passes.
+use crate::batches::span_of;
 use crate::party::{Guest, Home, Mark, Of, Scene, Told, add_all, adds_of_two, mark_at, play, two};
 use std::alloc::Global;
 use std::process::Abort;
 use std::sync::Wait;
 use std::test::Fail;
+use tsc_span::Span;
 use tsc_time::NoMemory;
 
 /// How many Adds of its own a seat counts, and what it is told of a span and of the floor.
@@ -103,11 +105,13 @@ enum Known {
     Add,
     /// A copy of its span.
     Copy,
+    /// A copy of a range.
+    CopyOfRange,
 }
 
-fn copy_again(mark: &Mark) -> Result<(), NoMemory> {
-    if mark.span.try_copy().is_err() {
-        mark.span.try_copy()?;
+fn copy_again(span: &Span) -> Result<(), NoMemory> {
+    if span.try_copy().is_err() {
+        span.try_copy()?;
     }
     Ok(())
 }
@@ -128,7 +132,8 @@ impl Known {
                 add_key_again(rt, alloc, home, guest, ("b", 30, 30))?;
                 Ok(())
             }
-            Known::Copy => Ok(copy_again(&mark_at(alloc, "b", 30, 30)?)?),
+            Known::Copy => Ok(copy_again(&span_of(alloc, "b", "")?)?),
+            Known::CopyOfRange => Ok(copy_again(&span_of(alloc, "b", "c")?)?),
         }
     }
 }
@@ -164,4 +169,10 @@ fn an_add_of_a_known_key_is_made_again(rt: HostRuntime) -> Result<(), Fail> {
 #[test]
 fn a_copy_of_its_span_is_made_again(rt: HostRuntime) -> Result<(), Fail> {
     play(&rt, rt.alloc(), 100, false, &Known::Copy)
+}
+
+/// A growth for each of its keys.
+#[test]
+fn a_copy_of_a_range_is_made_again(rt: HostRuntime) -> Result<(), Fail> {
+    play(&rt, rt.alloc(), 100, false, &Known::CopyOfRange)
 }

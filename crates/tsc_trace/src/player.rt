@@ -1,4 +1,4 @@
-ghost use Rattle.std.specs.Prelude.{◌≡◌, ◌++◌, ◌+◌, ◌<◌, ◌≤◌, ◌^◌, length, true, IfOk, OnOk};
+ghost use Rattle.std.specs.Prelude.{◌≡◌, ◌++◌, ◌+◌, ◌<◌, ◌≤◌, ◌^◌, length, true, IfOk, OnErr, OnOk};
 ghost use Rattle.tsc_cache.specs.Settings.{Settings, fits};
 ghost use Rattle.tsc_cache.specs.Batch.{all_fit};
 ghost use Rattle.tsc_cache.specs.State.{CacheState};
@@ -17,7 +17,7 @@ use tsc_span::Span;
 use tsc_time::{NoMemory, Timestamp, Value};
 
 /// Adds a span that fits the cache's pages, as each does that a call of a [`Trace`] adds. So memory alone may be
-/// wanting.
+/// wanting, and then the cache is as before.
 pub fn add_fitting(
     cache: &mut Cache,
     span: &Span,
@@ -30,6 +30,7 @@ pub fn add_fitting(
     ensures stands { OnOk result ((settings : Settings) (s : CacheState) → StandsForState cache.old settings s
         → StandsForState cache.new settings (made settings s (one_mark span.now value now)).state) }
     ensures settings { OnOk result (cache.new.settings ≡ cache.old.settings) }
+    ensures unchanged { OnErr result (cache.new ≡ cache.old) }
 {
     match cache.add(span, value, now) {
         Ok(added) => Ok(added),
@@ -47,6 +48,7 @@ pub fn add_all_fitting(cache: &mut Cache, marks: &[Mark], now: Timestamp) -> Res
     ensures stands { OnOk result ((settings : Settings) (s : CacheState) → StandsForState cache.old settings s
         → StandsForState cache.new settings (made settings s (several_marks marks.now now)).state) }
     ensures settings { OnOk result (cache.new.settings ≡ cache.old.settings) }
+    ensures unchanged { OnErr result (cache.new ≡ cache.old) }
 {
     match cache.add_all(marks, now) {
         Ok(all) => Ok(all),
