@@ -60,6 +60,13 @@ impl Cache {
         })
     }
 
+    /// Whether a span fits the largest page: whether an Add of it isn't [`CacheFault::TooLarge`].
+    pub fn fits(&self, span: &Span) -> bool
+        ensures { result ≡ fits self.now.settings span.now }
+    {
+        self.config.fits(span)
+    }
+
     /// Adds a span with its value, at the moment `now`: who read what, and when. Where memory is refused the
     /// cache is as before.
     ///
