@@ -10,7 +10,6 @@ use Rattle.tsc_nodes.specs.Page.{PageMarks, marked_keys}
 use Rattle.tsc_nodes.specs.PageView.{PageView, is_in}
 use Rattle.tsc_nodes.specs.KeysAbove.{IsLeastAbove}
 use Rattle.tsc_nodes.proofs.CutOrder.{Le-from_Lt, Le-chain}
-use Rattle.tsc_page.proofs.KeysAbove.{least_among_same}
 use Rattle.tsc_cache.specs.CacheView.{EachStandsFor}
 use Rattle.tsc_cache.specs.Keys.{keys_on, keys_seen, lesser}
 
