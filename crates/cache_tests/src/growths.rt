@@ -1,5 +1,5 @@
 //! How many growths a call asks for. Each test makes one call again where it is refused memory, and nothing else, so as many runs of it
-//! pass as that call asks for growths: `scripts/count-growths` counts them.
+//! pass as that call asks for growths: `scripts/refuse-each-growth` counts them.
 use std::alloc::Global;
 use std::test::Fail;
 use tsc_cache::{Added, Cache, CacheFault, Config, Mark};

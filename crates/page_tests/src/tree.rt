@@ -707,7 +707,7 @@ fn adds_all_again(alloc: Global, (fill, spans): &InPlace) -> Result<bool, Fail> 
     Ok(all)
 }
 
-/// As many runs of it pass as the Adds ask for growths: `scripts/count-growths` counts them. In place an Add asks for fewer than in a copy.
+/// As many runs of it pass as the Adds ask for growths: `scripts/refuse-each-growth` counts them. In place an Add asks for fewer than in a copy.
 #[test]
 fn new_keys_in_place(rt: HostRuntime) -> Result<(), Fail> {
     for (i, row) in NEW.iter().enumerate() {

@@ -5,6 +5,7 @@ use std::sync::atomic::{AtomicBool, AtomicU64, Ordering};
 use std::test::Fail;
 use std::thread;
 use std::thread::Threads;
+use tsc_check::{Verdict, check};
 use tsc_run::run_trace;
 use tsc_shared::{Gate, NoGate};
 use tsc_trace::{Log, Said, log_text, read_trace};
@@ -189,6 +190,71 @@ fn lists_run_at_the_same_time(rt: HostRuntime) -> Result<(), Fail> {
     for line in log.lines.slice() {
         assert!(rt; matches!(line.said, Said::Get { front: 0, .. }));
     }
+    Ok(())
+}
+
+/// Holds the first call of each list up until those of all lists are there. It counts those that saw all.
+#[derive(Drop)]
+struct Together {
+    lists: u64,
+    there: AtomicU64,
+    met: AtomicU64,
+}
+
+impl Gate for Together {
+    fn start(&self, _thread: u32, call: u32) {
+        if call > 0 {
+            return;
+        }
+        self.there.fetch_add(1, Ordering::SeqCst);
+        for _ in 0..TURNS {
+            if self.there.load(Ordering::SeqCst) >= self.lists {
+                self.met.fetch_add(1, Ordering::SeqCst);
+                return;
+            }
+            thread::yield_now();
+        }
+    }
+
+    fn done(&self, _thread: u32, _call: u32) {}
+
+    fn publish(&self, _seat: u32) {}
+}
+
+/// A list adds a time of its own to a key that some other lists add to as well, and looks it up.
+const ADD_TO: &str = r#"[{"op":"add","span":{"start":"6"#;
+
+const AT: &str = r#""},"time":["#;
+
+const AND_LOOK: &str = r#",0],"now":[20,0]},{"op":"get","span":{"start":"61"}},{"op":"low"}]"#;
+
+/// The text of a trace of so many such lists.
+fn text_of_many(alloc: Global, lists: u32) -> Result<String, Fail> {
+    let mut text = format!(in alloc; "{HEAD}[")?;
+    for i in 0..lists {
+        let comma = if i > 0 { "," } else { "" };
+        let (key, time) = (i % 10, 20 + i % 100);
+        let list = format!(in alloc; "{comma}{ADD_TO}{key}{AT}{time}{AND_LOOK}")?;
+        text.push_str(list.as_str())?;
+    }
+    text.push_str("]}")?;
+    Ok(text)
+}
+
+/// As many lists as there may be, each on a thread of its own, and all at the same time.
+#[test]
+fn a_run_of_64_lists_is_right(rt: HostRuntime) -> Result<(), Fail> {
+    let gate = Together {
+        lists: 64,
+        there: AtomicU64::new(0),
+        met: AtomicU64::new(0),
+    };
+    let text = text_of_many(rt.alloc(), 64)?;
+    let trace = read_trace(rt.alloc(), text.as_bytes())?;
+    let log = run_trace(&rt, rt.alloc(), &trace, &gate)?;
+    assert_eq!(rt; gate.met.load(Ordering::SeqCst), 64);
+    assert_eq!(rt; log.lines.slice().len(), 192);
+    assert_eq!(rt; check(rt.alloc(), &trace, &log)?, Verdict::Right);
     Ok(())
 }
 

@@ -1,5 +1,6 @@
 //! How many growths an Add to a shared cache asks for, before and after its pages rotate. Each test makes one Add again where it is
-//! refused memory, and nothing else, so as many runs of it pass as that Add asks for growths: `scripts/count-growths` counts them.
+//! refused memory. Where an Add in place on the hidden side is refused, that side is made anew from the one that is shown, so the
+//! cache makes some growths good by itself, and `scripts/refuse-each-growth` counts for how many a whole test asks.
 use crate::batches::batch_at;
 use crate::memory::add_key_again;
 use crate::party::{Guest, Home, Of, Scene, Told, add_all, play};
