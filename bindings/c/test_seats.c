@@ -221,7 +221,12 @@ static void *work(void *handed)
             tsc_value v = {100 + (uint64_t)i * THREADS + (uint64_t)t->number, 0, {0}};
             tsc_added added;
             uint64_t at = 0;
-            uint32_t answer = tsc_seat_try_add(&t->place, t->seat, key, 2, NULL, 0, TSC_POINT, &v, &NOW, 16, &at, &added);
+            tsc_mark mark = {0, 2, 0, 0, v, TSC_POINT};
+            /* who may try four thousand million times is never told that others were in the way */
+            uint32_t tries = i % 16 ? 16 : UINT32_MAX;
+            uint32_t answer = i % 32 < 16
+                ? tsc_seat_try_add(&t->place, t->seat, key, 2, NULL, 0, TSC_POINT, &v, &NOW, tries, &at, &added)
+                : tsc_seat_try_add_all(&t->place, t->seat, key, 2, &mark, 1, &NOW, tries, &at, &added);
             if (answer == TSC_OK) {
                 /* it is behind all that was seen, at a place of its own, and is seen from now on */
                 t->right = t->right && at >= seen && (t->accepted == 0 || at > last) && takes(t->taken, at);
@@ -231,7 +236,7 @@ static void *work(void *handed)
                 if (added.kept && v.wall > latest[k])
                     latest[k] = v.wall;
             } else {
-                t->right = t->right && answer == TSC_BUSY;
+                t->right = t->right && answer == TSC_BUSY && tries == 16;
                 t->busy++;
                 sched_yield();
             }

@@ -202,10 +202,10 @@ static void longest(void)
     memcpy(blanks, TRACE, sizeof TRACE - 1);
     struct bytes most = {blanks, MOST}, more = {blanks, MOST + 1}, text = of("input too long");
     struct question replay = {most, NO_BYTES, false}, replay_more = {more, NO_BYTES, false};
-    CHECK(says_with(replay, sizeof LOG, TSC_OK, of(LOG)));
+    CHECK(says_with(replay, sizeof LOG, TSC_OK, of(LOG)) && says_with(replay, 0, TSC_OK, of(LOG)));
     CHECK(says_with(replay_more, text.len, TSC_REFUSED, text) && says_with(replay_more, text.len - 1, TSC_REFUSED, text));
     struct question right = {most, of(LOG), true}, right_more = {more, of(LOG), true};
-    CHECK(says_with(right, 6, TSC_OK, of("right\n")) && says_with(right_more, text.len, TSC_REFUSED, text));
+    CHECK(says_with(right, 6, TSC_OK, of("right\n")) && says_with(right, 0, TSC_OK, of("right\n")) && says_with(right_more, text.len, TSC_REFUSED, text));
     struct question log = {of(TRACE), most, true}, log_more = {of(TRACE), more, true};
     CHECK(says_with(log, 99, TSC_REFUSED, of("log refused: fault 1 at line 1")) && says_with(log_more, text.len, TSC_REFUSED, text));
     free(blanks);

@@ -321,6 +321,45 @@ static void batches(void)
     tsc_free(&c.place);
 }
 
+/* There is no limit to the caches of a place, nor to the marks of a batch, and settings may be as large as they say. */
+static void limits(void)
+{
+    enum { CACHES = 1000, MARKS = 5000 };
+    struct cache c = open_cache(132, 132, 2);
+    tsc_time low = {5, 0};
+    uint64_t n = 0, wrong = 0;
+    for (uint64_t i = 1; i < CACHES; i++)
+        wrong += tsc_open(&c.place, 132, 132, 2, 10, &low, &n) != TSC_OK || n != i;
+    CHECK(wrong == 0 && adds(&c, "a", 20, 'A'));
+    c.number = n;
+    CHECK(answers(&c, "a", 5, 0, '-') && adds(&c, "a", 30, 'A') && answers(&c, "a", 30, 0, 'A'));
+    tsc_free(&c.place);
+
+    c = open_cache(UINT32_C(1) << 30, UINT32_C(1) << 30, 64);
+    CHECK(adds(&c, "a", 20, 'A') && answers(&c, "a", 20, 0, 'A') && has(&c, 1, 0, 5, 0));
+    static uint8_t keys[2 * MARKS];
+    static tsc_mark marks[MARKS];
+    for (size_t i = 0; i < MARKS; i++) {
+        keys[2 * i] = (uint8_t)(i >> 8);
+        keys[2 * i + 1] = (uint8_t)i;
+        marks[i] = (tsc_mark){2 * i, 2, 0, 0, {100 + i, 0, {0}}, TSC_POINT};
+    }
+    tsc_added a;
+    tsc_value v;
+    uint64_t at = 77, seen = 77;
+    CHECK(tsc_try_add_all(&c.place, c.number, keys, sizeof keys, marks, MARKS, &AT_20, &a) == TSC_OK && a.kept && !a.rotated);
+    CHECK(tsc_try_get_max(&c.place, c.number, keys + 2, 2, NULL, 0, TSC_POINT, &v) == TSC_OK && v.wall == 101);
+    CHECK(answers(&c, "[,z)", 100 + MARKS - 1, 0, '-'));
+    CHECK(tsc_open_shared(&c.place, UINT32_C(1) << 30, UINT32_C(1) << 30, 64, (UINT64_C(1) << 63) - 1, &low, 1, UINT64_MAX, &n) == TSC_OK);
+    CHECK(tsc_seat_try_add_all(&c.place, n + 1, keys, sizeof keys, marks, MARKS, &AT_20, 1, &at, &a) == TSC_OK && at == 0 && a.kept && !a.rotated);
+    CHECK(tsc_seat_try_get_max(&c.place, n + 1, keys + 2, 2, NULL, 0, TSC_POINT, &seen, &v) == TSC_OK && v.wall == 101 && seen == 1);
+    static uint8_t longest_key[4096];
+    v = (tsc_value){6000, 0, {0}};
+    CHECK(tsc_try_add(&c.place, c.number, longest_key, 4096, NULL, 0, TSC_POINT, &v, &AT_20, &a) == TSC_OK && a.kept);
+    CHECK(tsc_seat_try_add(&c.place, n + 1, longest_key, 4096, NULL, 0, TSC_POINT, &v, &AT_20, 1, &at, &a) == TSC_OK && at == 1 && a.kept);
+    tsc_free(&c.place);
+}
+
 /* Each refusal, by its own code, and that nothing is changed. */
 static void refusals(void)
 {
@@ -651,6 +690,7 @@ int main(int argc, char **argv)
     rows_of_spans();
     rows_of_pages();
     batches();
+    limits();
     refusals();
     nulls();
     lookups();
