@@ -52,7 +52,7 @@ pub struct Held<G: Range> {
     versions: Vec<Version>,
     /// The reads that were answered.
     answered: Vec<Value>,
-    /// What those who held the latch had seen. It learns the front of each read.
+    /// It has seen what those who held the latch had seen: it learns the front of each read, and a writer's seat meets it.
     handed: RangeSeat<G>,
     ghost whole: { overlaps span span ≡ true },
     ghost added: { All (HasRead span handed.seat.seen) answered.items },
@@ -111,10 +111,8 @@ impl<G: Range> Lease<G> {
         Some(&latch.held)
     }
 
-    /// Reads a key at a time, while its latch is held.
-    ///
-    /// The read is added before it is answered. It is then in what the seat has seen, and in what the latch hands on. A read that is
-    /// refused is not answered.
+    /// Reads a key at a time, while its latch is held. The read is added before it is answered, and is then in what the seat has seen, and
+    /// in what the latch hands on. One that is refused is not answered.
     pub fn read<R: Wait>(
         &self,
         rt: &R,
@@ -150,10 +148,8 @@ impl<G: Range> Lease<G> {
         };
     }
 
-    /// Writes a key, while its latch is held, at the earliest time from the wanted one on that is clear of what the cache answers.
-    ///
-    /// That is clear of each read that the seat has seen, and so of each that was answered before, on whichever thread. It is `None` where there is no
-    /// such time, and then nothing is written.
+    /// Writes a key, while its latch is held, at the earliest time from the wanted one on that is clear of what the cache answers: of each read
+    /// that the seat has seen, and so of each that was answered before, on whichever thread. Where there is none, nothing is written.
     pub fn write<R: Wait>(
         &self,
         rt: &R,

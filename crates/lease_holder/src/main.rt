@@ -1,5 +1,5 @@
-//! How a store uses the cache: a range is served under a lease by four threads. Each runs a transaction that reads some keys, writes one, and reads the
-//! same keys again. No write came to a time at which it would have changed an answer, but for a transaction's own.
+//! How a store uses the cache: four threads serve a range under a lease. Each runs a transaction that reads some keys, writes one, and reads the same
+//! keys again. No write of another transaction has come to a time at which it would have changed an answer.
 #![tactic(auto)]
 
 ghost use Rattle.std.specs.Prelude.{◌≡◌, All};
@@ -15,15 +15,14 @@ use std::thread;
 use std::thread::Threads;
 use timestamp_cache::{Config, NoMemory, Seat, SharedCache, Timestamp, Uuid, Value};
 
-/// The keys of the range, with what they are at first.
-static KEYS: [(&str, u64); 4] = [("k", 1), ("m", 2), ("n", 3), ("z", 4)];
+/// A key with a time, or with a value.
+type Row = (&'static str, u64);
 
 /// A transaction: its name, which keys it reads and when, and which one it wants to write, when and what.
-type Plan = (
-    char,
-    &'static [(&'static str, u64)],
-    (&'static str, u64, u64),
-);
+type Plan = (char, &'static [Row], (&'static str, u64, u64));
+
+/// The keys of the range, with what they are at first.
+static KEYS: [Row; 4] = [("k", 1), ("m", 2), ("n", 3), ("z", 4)];
 
 /// One for each thread. No key is written by two of them, so that it makes no difference which thread comes first.
 static PLANS: [Plan; 4] = [
@@ -84,7 +83,7 @@ impl<G: Range> Worker<G> {
             let time = at(*wall);
             let mut held = lease.latch(key).context("no such key")?.lock(rt);
             let told = lease.read(rt, &mut self.me, &mut held, time, id_of(name))?;
-            let (value, time) = (told.unwrap_or(0), shown(alloc, time)?);
+            let (value, time) = (told.context("no version")?, shown(alloc, time)?);
             let line = format!(in alloc; "{name} read \"{key}\" at {time}: {value}")?;
             self.told.push(line)?;
         }
@@ -171,18 +170,13 @@ fn serve<G: Range + Send + Sync, R: Threads + Wait + Sync + Print>(
     let mut seats = seats_of::<G>(alloc, seats)?;
     let (mut latches, mut workers) = (Vec::new(alloc), Vec::new(alloc));
     for (key, value) in &KEYS {
-        let held = Held::new(alloc, key, *value, seats.pop().context("no seat")?)?;
-        latches.push(Latch {
-            key: *key,
-            held: Mutex::new(held),
-        })?;
+        let handed = seats.pop().context("no seat")?;
+        let held = Mutex::new(Held::new(alloc, key, *value, handed)?);
+        latches.push(Latch { key: *key, held })?;
     }
     for plan in &PLANS {
-        workers.push(Worker {
-            me: seats.pop().context("no seat")?,
-            plan,
-            told: Vec::new(alloc),
-        })?;
+        let (me, told) = (seats.pop().context("no seat")?, Vec::new(alloc));
+        workers.push(Worker { me, plan, told })?;
     }
     let lease = Lease { cache, latches };
     for turn in [Turn::Read, Turn::Write, Turn::Read] {
