@@ -1,0 +1,5 @@
+use Rattle.lease_holder.proofs.main.Given as goal
+
+-- the cache that was just opened
+abbrev pub ghosts-serve : goal.ghosts-serve
+ghosts-serve g a = record { cache = a.cache }

@@ -1,0 +1,26 @@
+-- The reads of a store.
+use Rattle.std.specs.Prelude.{◌≡◌, true}
+use Rattle.std.specs.List.{Contains}
+use Rattle.tsc_time.specs.Time.{Time}
+use Rattle.tsc_time.specs.OwnedTime.{Owner, OwnedTime, owner_of}
+use Rattle.tsc_span.specs.Span.{Interval, overlaps}
+use Rattle.tsc_nodes.specs.Page.{Mark}
+use Rattle.tsc_cache.specs.declared.history.Entry.{Entry}
+use Rattle.tsc_cache.specs.History.{History}
+
+-- a read at a time, by a transaction
+abbrev pub read_of : Time → Owner → OwnedTime
+read_of at by = record { time = at; owner = owner_of by }
+
+-- an Add of a history that adds a read of a span
+pub record Adds (span : Interval) (h : History) (read : OwnedTime) : Type 0 where
+  pub entry : Entry
+  pub mark : Mark
+  pub there : Contains h entry
+  pub own : Contains entry.marks mark
+  pub over : overlaps mark.span span ≡ true
+  pub value : mark.value ≡ read
+
+-- A history has a read of a span: some Add of it adds that.
+abbrev pub HasRead : Interval → History → OwnedTime → Type 0
+HasRead span h read = ∥ Adds span h read ∥₁

@@ -1,0 +1,198 @@
+//! The lease of a range: the cache of its reads, and its keys, each of them under a latch.
+ghost use Rattle.std.specs.Prelude.{◌≡◌, ◌++◌, ◌∷◌, [], true, All, IfOk, IfSome, OnOk, OnErr};
+ghost use Rattle.tsc_span.specs.Span.{overlaps};
+ghost use Rattle.tsc_cache.specs.State.{look};
+ghost use Rattle.tsc_cache.specs.History.{state_of, BeginsWith};
+ghost use Rattle.timestamp_cache.specs.Clear.{IsClearOf, IsClearOfReads};
+ghost use Rattle.timestamp_cache.specs.Earliest.{TellsEarliest};
+ghost use Rattle.lease_holder.specs.Reads.{HasRead, read_of};
+ghost use Rattle.lease_holder.specs.Versions.{value_at, written};
+
+use anyhow::Result;
+use std::alloc::Global;
+use std::marker::{Brand, PhantomData};
+use std::sync::{Mutex, Wait};
+use timestamp_cache::{
+    AddFault, Front, Key, NoMemory, Seat, SharedCache, Span, Timestamp, Uuid, Value,
+    earliest_write_at,
+};
+
+/// Which range it is. By it a lease, its seats and its latches show in their types that they belong together.
+pub trait Range {
+    ghost use Rattle.tsc_shared.specs.Seats.{SharedView};
+
+    ghost cache: { SharedView };
+}
+
+impl Range for Brand {
+    ghost use Rattle.lease_holder.specs.Ranges.{any_cache};
+
+    ghost cache = { any_cache };
+}
+
+/// A seat at the range's cache.
+#[derive(Drop)]
+pub struct RangeSeat<G: Range> {
+    pub seat: Seat,
+    pub of: PhantomData<G>,
+    ghost is: { seat.cache ≡ G.cache },
+}
+
+/// What a key is from a time on.
+#[derive(Clone, Copy, Debug)]
+pub struct Version {
+    pub at: Timestamp,
+    pub value: u64,
+}
+
+/// What lies under the latch of a key.
+#[derive(Drop)]
+pub struct Held<G: Range> {
+    span: Span,
+    versions: Vec<Version>,
+    /// The reads that were answered.
+    answered: Vec<Value>,
+    /// It has seen what those who held the latch had seen: it learns the front of each read, and a writer's seat meets it.
+    handed: RangeSeat<G>,
+    ghost whole: { overlaps span span ≡ true },
+    ghost added: { All (HasRead span handed.seat.seen) answered.items },
+}
+
+/// A key and its latch.
+#[derive(Drop)]
+pub struct Latch<G: Range> {
+    pub key: &'static str,
+    pub held: Mutex<Held<G>>,
+}
+
+/// A range that is served under a lease.
+#[derive(Drop)]
+pub struct Lease<G: Range> {
+    pub cache: SharedCache,
+    pub latches: Vec<Latch<G>>,
+    ghost is: { cache ≡ G.cache },
+}
+
+impl<G: Range> Held<G> {
+    /// A key that nobody has read yet, with its value from the beginning of time on.
+    pub fn new(alloc: Global, key: &str, value: u64, handed: RangeSeat<G>) -> Result<Held<G>> {
+        let span = Span::point(Key::new(alloc, key.as_bytes())?);
+        let mut versions = Vec::new(alloc);
+        let at = Timestamp::ZERO;
+        versions.push(Version { at, value })?;
+        Ok(Held {
+            span,
+            versions,
+            answered: Vec::new(alloc),
+            handed,
+        })
+    }
+
+    /// What the key is at a time.
+    fn value_at(&self, at: Timestamp) -> Option<u64>
+        ensures { result ≡ value_at self.now.versions.items at }
+    {
+        let (mut since, mut value) = (Timestamp::ZERO, None);
+        for version in &self.versions {
+            if at < version.at || version.at < since {
+                continue;
+            }
+            since = version.at;
+            value = Some(version.value);
+        }
+        value
+    }
+}
+
+impl<G: Range> Lease<G> {
+    /// The latch of a key of the range.
+    pub fn latch(&self, key: &str) -> Option<&Mutex<Held<G>>> {
+        let latch = self.latches.iter().find(|latch| latch.key == key)?;
+        Some(&latch.held)
+    }
+
+    /// Reads a key at a time, while its latch is held. The read is added before it is answered, and is then in what the seat has seen, and
+    /// in what the latch hands on. One that is refused is not answered.
+    pub fn read<R: Wait>(
+        &self,
+        rt: &R,
+        me: &mut RangeSeat<G>,
+        held: &mut Held<G>,
+        at: Timestamp,
+        by: Uuid,
+    ) -> Result<Option<u64>, AddFault>
+        ensures added { OnOk result (HasRead held.old.span me.new.seat.seen (read_of at by)) }
+        ensures answered { OnOk result (held.new.answered.items ≡ held.old.answered.items ++ read_of at by ∷ []) }
+        ensures refused { OnErr result (held.new.answered.items ≡ held.old.answered.items) }
+        ensures value { IfOk result (λ value. value ≡ value_at held.old.versions.items at) }
+        ensures key { (held.new.span ≡ held.old.span) × (held.new.versions ≡ held.old.versions) }
+    {
+        let value = held.value_at(at);
+        let read = Value::of(at, by);
+        let receipt = self.cache.add(rt, &mut me.seat, &held.span, read, at)?;
+        self.leave(held, receipt.front);
+        match held.answered.push(read) {
+            Ok(()) => Ok(value),
+            Err(_refused) => Err(AddFault::NoMemory),
+        }
+    }
+
+    /// The latch hands on what is in this front.
+    fn leave(&self, held: &mut Held<G>, front: Front)
+        requires { front.cache ≡ G.cache }
+        ensures learned { BeginsWith held.new.handed.seat.seen front.seen }
+        ensures same { (held.new.span ≡ held.old.span) × (held.new.versions ≡ held.old.versions) × (held.new.answered.items ≡ held.old.answered.items) }
+    {
+        let Ok(_long) = self.cache.learn(&mut held.handed.seat, front) else {
+            unreachable!()
+        };
+    }
+
+    /// Writes a key, while its latch is held, at the earliest time from the wanted one on that is clear of what the cache answers: of each read
+    /// that the seat has seen, and so of each that was answered before, on whichever thread. Where there is none, nothing is written.
+    pub fn write<R: Wait>(
+        &self,
+        rt: &R,
+        me: &mut RangeSeat<G>,
+        held: &mut Held<G>,
+        wanted: Timestamp,
+        by: Uuid,
+        value: u64,
+    ) -> Result<Option<Timestamp>, NoMemory>
+        ensures clear { IfOk result (λ told. IfSome told (λ at. All (λ read. IsClearOf read by at) held.old.answered.items)) }
+        ensures seen { IfOk result (λ told. IfSome told (λ at. IsClearOfReads me.new.seat.seen held.old.span by at)) }
+        ensures pushed { IfOk result (λ told. TellsEarliest (λ t. IsClearOf (look (state_of G.cache.config me.new.seat.seen) held.old.span) by t) wanted told) }
+        ensures written { IfOk result (λ told. held.new.versions.items ≡ held.old.versions.items ++ written told value) }
+        ensures refused { OnErr result (held.new.versions.items ≡ held.old.versions.items) }
+        ensures key { (held.new.span ≡ held.old.span) × (held.new.answered.items ≡ held.old.answered.items) }
+    {
+        self.take_over(rt, me, held);
+        let Ok(told) = earliest_write_at(&self.cache, &mut me.seat, &held.span, wanted, by) else {
+            unreachable!()
+        };
+        if let Some(at) = told {
+            held.versions.push(Version { at, value })?;
+        }
+        Ok(told)
+    }
+
+    /// The seat takes in all that the latch hands on.
+    fn take_over<R: Wait>(&self, rt: &R, me: &mut RangeSeat<G>, held: &mut Held<G>)
+        ensures seen { BeginsWith me.new.seat.seen held.old.handed.seat.seen }
+        ensures same { (held.new.span ≡ held.old.span) × (held.new.versions ≡ held.old.versions) × (held.new.answered.items ≡ held.old.answered.items) }
+    {
+        let Ok(_met) = self.cache.meet(rt, &mut me.seat, &mut held.handed.seat) else {
+            unreachable!()
+        };
+    }
+
+    /// What the cache answers of a key. Where a write was pushed, it is what it was pushed by: a read, or the floor.
+    pub fn reason(&self, me: &mut RangeSeat<G>, held: &Held<G>) -> Value
+        ensures { result ≡ look (state_of G.cache.config me.new.seat.seen) held.now.span }
+    {
+        let Ok(answer) = self.cache.get_max(&mut me.seat, &held.span) else {
+            unreachable!()
+        };
+        answer.value
+    }
+}
