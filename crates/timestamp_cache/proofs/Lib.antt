@@ -4,3 +4,4 @@ pub mod Asking
 pub mod Carrying
 pub mod Pushing
 pub mod ClearExamples
+pub mod Within
