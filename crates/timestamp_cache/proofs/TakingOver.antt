@@ -146,5 +146,5 @@ reads_are_handed_on settings others h later s told now inner by at tells w clear
     let last : OwnedTime = look (state_from others next later) inner in
     let old : OwnedTime = look (state_of settings h) inner in
     let rises : IsAtMost old last = IsAtMost-transitive old (summary_answer told inner) last (told_above (state_of settings h) told inner tells w)
-        (IsAtMost-transitive (summary_answer told inner) (look next inner) last ((takes_over others s told now).learned inner w) (entries_rise others next later inner)) in
+    (IsAtMost-transitive (summary_answer told inner) (look next inner) last ((takes_over others s told now).learned inner w) (entries_rise others next later inner)) in
     clear_below m.value last by at (IsAtMost-transitive m.value old last (kept_up settings h e m inner c own over) rises) clear

@@ -35,9 +35,10 @@ not_false false h = sym h
 -- no cut is below another that is below it, so neither side of a key that is not above a cut is above that
 not_above : (at end : Cut) (k : KeyBytes) → lies_above at k ≡ false → IsBeside at end (before k) × IsBeside at end (after k)
 not_above at end k under =
-    let first : is_below (before k) at ≡ true = not_false _ under in
-    (λ h. absurd (both_ways (is_below at (before k)) (is_below-opposite (before k) at first) h),
-    λ h. absurd (both_ways (is_below at (after k)) (no_cut_between_sides at k ∙ ap not first) h))
+    let first : is_below (before k) at ≡ true = not_false _ under in (
+      λ h. absurd (both_ways (is_below at (before k)) (is_below-opposite (before k) at first) h),
+      λ h. absurd (both_ways (is_below at (after k)) (no_cut_between_sides at k ∙ ap not first) h),
+    )
 
 -- and neither side of one from which on a stretch is past is below its end
 past_end : (at end : Cut) (k : KeyBytes) → is_below (before k) end ≡ false → IsBeside at end (before k) × IsBeside at end (after k)
@@ -175,7 +176,6 @@ marks_beside vs ps at to end stand stretch m c = of_span m.span (λ k h. key_see
     of_span (between a b) seen = (of_cut a (λ k e. seen k (first_key a b k e)), of_cut b (λ k e. seen k (second_key a b k e)))
 
 -- ---- how many sides of keys are still ahead
-
 
 abbrev pub sides_above : Cut → List KeyBytes → ℕ
 sides_above at [] = 0

@@ -33,6 +33,6 @@ abbrev pub told_more : ℕ → Summary → Interval → OwnedTime → Summary
 told_more most told span v =
     if is_before told.floor v.time
     then (if nat_lt (length told.marks) most
-      then record { span = told.span; floor = told.floor; marks = told.marks ++ record { span = span; value = v } ∷ [] }
-      else record { span = told.span; floor = v.time; marks = told.marks })
+    then record { span = told.span; floor = told.floor; marks = told.marks ++ record { span = span; value = v } ∷ [] }
+    else record { span = told.span; floor = v.time; marks = told.marks })
     else told

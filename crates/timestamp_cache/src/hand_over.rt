@@ -23,7 +23,7 @@ pub struct ReadSummary {
     pub span: Span,
     /// No read on the span that no mark tells of was later.
     pub floor: Timestamp,
-    /// The reads above the floor, each as the latest on its part of the span. Their spans don't overlap one another.
+    /// Parts of the span that were read later, each with what the cache answers there.
     pub marks: Vec<Mark>,
 }
 
@@ -39,8 +39,8 @@ impl Model for ReadSummary {
 ///
 /// It goes over the span from one end key of a mark to the next, and of each key and each gap between two keys it tells what
 /// [`get_max`](Cache::get_max) answers, where that is above the cache's floor. Where there are more of these than `most`, the first ones are told,
-/// and the floor is raised to the latest of the others. It costs a lookup for each, and a search for the end keys in each page. It takes
-/// the memory of the marks alone.
+/// and the floor is raised to the latest of the others. It costs a lookup for each of them, and a search in each page for each end key. It takes the memory
+/// of the span's keys and of the marks.
 ///
 /// It restates `tscache.Cache.Serialize` of CockroachDB's `pkg/kv/kvserver/tscache`.
 pub fn summary(
@@ -130,11 +130,7 @@ impl ReadSummary {
 /// where that is. Where none of them is kept nothing changes, and no memory is taken; else it takes that of the marks once more.
 ///
 /// It restates `applyReadSummaryToTimestampCache` of CockroachDB's `pkg/kv/kvserver/replica_tscache.go`.
-pub fn apply(
-    cache: &mut Cache,
-    summary: &ReadSummary,
-    now: Timestamp,
-) -> Result<Added, CacheFault>
+pub fn apply(cache: &mut Cache, summary: &ReadSummary, now: Timestamp) -> Result<Added, CacheFault>
     ensures stands { OnOk result ((settings : Settings) (s : CacheState) → StandsForState cache.old settings s
         → StandsForState cache.new settings (step_all settings s (marks_told summary.now) now).state) }
     ensures takes_over { OnOk result ((settings : Settings) (s : CacheState) → StandsForState cache.old settings s

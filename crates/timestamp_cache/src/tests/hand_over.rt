@@ -194,9 +194,11 @@ fn answers(alloc: Global, cache: &Cache, those: &[On]) -> Result<bool, Fail> {
 impl Row {
     /// Whether that is told that has to be.
     fn is_told(&self, alloc: Global, told: &ReadSummary) -> Result<bool, Fail> {
-        Ok(told.floor == at(self.floor)?
-            && told.span == self.of.span(alloc)?
-            && are(alloc, &told.marks, self.marks)?)
+        Ok(
+            told.floor == at(self.floor)?
+                && told.span == self.of.span(alloc)?
+                && are(alloc, &told.marks, self.marks)?,
+        )
     }
 
     /// Whether the other cache answers as it has to, once that is added to it.
