@@ -1,5 +1,5 @@
 -- A summary under way, and what it comes to.
-use Rattle.std.proofs.Common.{◌≡◌, ◌∙◌, inl, inr, refl, sym, subst, ℕ, List, [], ◌∷◌, length, nat_lt, true, false}
+use Rattle.std.proofs.Common.{◌≡◌, ◌∙◌, inl, inr, refl, sym, subst, ℕ, List, [], length, nat_lt, true, false}
 use Rattle.std.specs.List.{Contains}
 use Rattle.std.proofs.lemmas.Bool.{cases_Bool}
 use Rattle.std.proofs.lemmas.List.Elements.{Contains-push_cases}
@@ -14,7 +14,7 @@ use Rattle.tsc_cache.specs.State.{CacheState, look}
 use Rattle.tsc_cache.specs.CacheView.{CacheView, StandsForState}
 use Rattle.tsc_cache.specs.Keys.{keys_seen}
 use Rattle.tsc_cache.proofs.MarkLists.{all_marks, look-is}
-use Rattle.timestamp_cache.specs.HandOver.{Summary, IsWithin, Summarizes, TellsOf}
+use Rattle.timestamp_cache.specs.HandOver.{Summary, IsWithin, Summarizes}
 use Rattle.timestamp_cache.specs.Stretches.{IsStretch, told_more}
 use Rattle.timestamp_cache.proofs.Within.{is_below-itself}
 use Rattle.timestamp_cache.proofs.Telling.{Tells, tells_none, tells_more, IsBrief, brief_none, brief_more, told_of}

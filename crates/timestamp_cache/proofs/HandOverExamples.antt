@@ -1,11 +1,10 @@
 -- What is told of a span whose lease is handed on, and what another cache makes of it.
-use Rattle.std.proofs.Common.{◌≡◌, refl, sym, true≢false, List, [], ◌∷◌, codes, Some, None}
+use Rattle.std.proofs.Common.{◌≡◌, refl, true≢false, [], ◌∷◌, codes, Some, None}
 use Rattle.tsc_time.specs.OwnedTime.{unowned}
 use Rattle.tsc_time.specs.Joint.{joint_above}
 use Rattle.tsc_span.specs.Span.{before, after, last, nothing, between, point}
-use Rattle.tsc_nodes.specs.Page.{Mark}
 use Rattle.tsc_cache.specs.State.{CacheState, look, next_size, step_all}
-use Rattle.tsc_cache.proofs.ExampleSettings.{at, of_first, of_second, usual, twenty, without_end, without_ends, mark, Addition, add, state_after}
+use Rattle.tsc_cache.proofs.ExampleSettings.{at, of_first, of_second, usual, twenty, without_end, without_ends, mark, add, state_after}
 use Rattle.timestamp_cache.specs.HandOver.{Summary, summary_answer, IsWithin, marks_told}
 use Rattle.timestamp_cache.specs.Stretches.{stretch_end, told_more}
 

@@ -1,17 +1,16 @@
 -- A cache takes over what a summary tells.
-use Rattle.std.proofs.Common.{◌≡◌, ◌⊎◌, ◌∙◌, inl, inr, refl, sym, ap, subst, List, [], ◌∷◌, ◌++◌, true, false}
+use Rattle.std.proofs.Common.{◌≡◌, inl, inr, refl, sym, subst, List, [], ◌∷◌, ◌++◌, true}
 use Rattle.std.specs.Prelude.{Result, Ok, Err, OnOk}
-use Rattle.std.specs.List.{Contains}
 use Rattle.std.proofs.lemmas.Bool.{both_ways}
 use Rattle.std.proofs.lemmas.List.Elements.{Contains-append_left, Contains-append_right, Contains-append_cases}
 use Rattle.tsc_time.specs.Time.{Time, is_before}
-use Rattle.tsc_time.specs.OwnedTime.{Owner, OwnedTime, unowned}
+use Rattle.tsc_time.specs.OwnedTime.{OwnedTime, unowned}
 use Rattle.tsc_time.specs.Joint.{joint, joint_above, IsAtMost}
 use Rattle.tsc_time.proofs.TimeOrder.{is_before-itself, is_before-transitive}
-use Rattle.tsc_time.proofs.Members.{IsIn, IsIn-from_Contains, Contains-from_IsIn}
+use Rattle.tsc_time.proofs.Members.{IsIn-from_Contains, Contains-from_IsIn}
 use Rattle.tsc_time.proofs.RatchetOrder.{IsAtMost-itself, IsAtMost-antisymmetric, IsAtMost-transitive}
 use Rattle.tsc_time.proofs.JointLemmas.{latest-reached, joint-above, joint-least}
-use Rattle.tsc_span.specs.Span.{Interval, overlaps}
+use Rattle.tsc_span.specs.Span.{Interval}
 use Rattle.tsc_nodes.specs.Page.{Mark, values_on}
 use Rattle.tsc_cache.specs.Settings.{Settings}
 use Rattle.tsc_cache.specs.State.{CacheState, look, step_all}
@@ -20,7 +19,7 @@ use Rattle.tsc_cache.proofs.MarkLists.{all_marks, look-is, values_on-from}
 use Rattle.tsc_cache.proofs.Steps.{step_all-floor}
 use Rattle.tsc_cache.specs.History.{History, state_from, state_of}
 use Rattle.tsc_cache.proofs.Histories.{kept_up, clear_below}
-use Rattle.tsc_cache.proofs.KeptMarks.{KeepsMarks, keeps_all_more, keeps_answers}
+use Rattle.tsc_cache.proofs.KeptMarks.{keeps_all_more, keeps_answers}
 use Rattle.timestamp_cache.specs.HandOver.{Summary, summary_answer, IsWithin, TellsOf, marks_told, TakesOver}
 use Rattle.timestamp_cache.specs.Laws.{ReadsAreHandedOn}
 use Rattle.timestamp_cache.proofs.Within.{within_overlaps}

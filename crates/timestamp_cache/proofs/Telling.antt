@@ -1,5 +1,5 @@
 -- What a summary tells, one stretch after another.
-use Rattle.std.proofs.Common.{◌≡◌, ◌⊎◌, ◌∙◌, inl, inr, refl, sym, ap, subst, ℕ, ◌≤◌, List, [], ◌∷◌, ◌++◌, length, nat_lt, true, false, arith}
+use Rattle.std.proofs.Common.{◌≡◌, ◌⊎◌, ◌∙◌, inl, inr, refl, sym, subst, ℕ, ◌≤◌, List, [], ◌∷◌, ◌++◌, length, nat_lt, true, false, arith}
 use Rattle.std.specs.List.{Contains}
 use Rattle.std.proofs.lemmas.Bool.{cases_Bool, both_ways}
 use Rattle.std.proofs.lemmas.Bool.Decides.{nat_tests}
@@ -9,7 +9,7 @@ use Rattle.tsc_time.specs.Time.{Time, is_before}
 use Rattle.tsc_time.specs.OwnedTime.{OwnedTime, unowned}
 use Rattle.tsc_time.specs.Joint.{joint_above, IsAtMost}
 use Rattle.tsc_time.proofs.TimeOrder.{is_before-itself, is_before-opposite, no_earlier-transitive}
-use Rattle.tsc_time.proofs.Members.{IsIn, IsIn-from_Contains, Contains-from_IsIn}
+use Rattle.tsc_time.proofs.Members.{IsIn-from_Contains, Contains-from_IsIn}
 use Rattle.tsc_time.proofs.RatchetOrder.{IsAtMost-itself, IsAtMost-antisymmetric, IsAtMost-transitive}
 use Rattle.tsc_span.specs.Span.{Cut, is_below, Interval, nothing, between, overlaps}
 use Rattle.tsc_span.proofs.Overlaps.{is_below-opposite, no_lower-transitive}

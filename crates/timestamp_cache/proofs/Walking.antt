@@ -1,6 +1,6 @@
 -- How a span is gone over, from one end key to the next.
 use Rattle.std.proofs.Common.{◌≡◌, ◌⊎◌, ◌∙◌, inl, inr, refl, sym, ap, subst, ℕ, ◌+◌, ◌<◌, ◌≤◌, cond, List, [], ◌∷◌, ◌++◌, Bool, true, false, not, ◌||◌, Option, Some, None, arith}
-use Rattle.std.specs.List.{Contains, flat_map}
+use Rattle.std.specs.List.{Contains}
 use Rattle.std.specs.Str.{bytes_eq}
 use Rattle.std.proofs.lemmas.Bool.{cases_Bool, both_ways}
 use Rattle.std.proofs.lemmas.Option.{same_Some}
@@ -15,12 +15,12 @@ use Rattle.tsc_span.proofs.Ranges.{range_of_less, range_of_equal}
 use Rattle.tsc_span.proofs.Overlaps.{is_below-opposite, no_lower-transitive, is_below-transitive}
 use Rattle.tsc_nodes.specs.Page.{Mark, PageMarks, marked_keys}
 use Rattle.tsc_nodes.specs.PageView.{PageView, is_in}
-use Rattle.tsc_nodes.specs.KeysAbove.{lies_above, LeastAbove, IsLeastAbove}
+use Rattle.tsc_nodes.specs.KeysAbove.{lies_above, IsLeastAbove}
 use Rattle.tsc_cache.specs.CacheView.{EachStandsFor}
 use Rattle.tsc_cache.specs.Keys.{keys_on, keys_seen}
 use Rattle.tsc_cache.proofs.MarkLists.{all_marks}
 use Rattle.timestamp_cache.specs.Stretches.{is_after, stretch_end, IsBeside, IsStretch}
-use Rattle.timestamp_cache.proofs.Within.{is_below-itself, none_above_last, below_upto, upto_below, AreBeside}
+use Rattle.timestamp_cache.proofs.Within.{is_below-itself, none_above_last, upto_below, AreBeside}
 
 -- ---- where a stretch stops
 

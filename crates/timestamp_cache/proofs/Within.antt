@@ -2,8 +2,7 @@
 use Rattle.std.proofs.Common.{◌≡◌, ◌⊎◌, ◌∙◌, inl, inr, refl, sym, Bool, true, false, not, ap, ◌&&◌}
 use Rattle.std.proofs.lemmas.Bool.{cases_Bool, both_ways, and_parts, and_from}
 use Rattle.tsc_span.specs.Span.{KeyBytes, Cut, before, after, last, is_below, Interval, nothing, between, overlaps, covers}
-use Rattle.tsc_span.proofs.CutOrder.{sides_in_order, no_cut_between_sides}
-use Rattle.tsc_span.proofs.Overlaps.{is_below-opposite, no_lower-transitive, is_below-transitive, overlaps-each}
+use Rattle.tsc_span.proofs.Overlaps.{is_below-opposite, no_lower-transitive, overlaps-each}
 use Rattle.timestamp_cache.specs.HandOver.{IsWithin}
 use Rattle.timestamp_cache.specs.Stretches.{IsBeside}
 

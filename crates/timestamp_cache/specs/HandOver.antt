@@ -2,7 +2,7 @@
 use Rattle.std.specs.Prelude.{◌≡◌, ◌⊎◌, ℕ, ◌≤◌, List, [], ◌∷◌, length, true, false}
 use Rattle.std.specs.List.{Contains}
 use Rattle.tsc_time.specs.Time.{Time, is_before}
-use Rattle.tsc_time.specs.OwnedTime.{Owner, OwnedTime, unowned}
+use Rattle.tsc_time.specs.OwnedTime.{OwnedTime, unowned}
 use Rattle.tsc_time.specs.Joint.{joint, joint_above, IsAtMost}
 use Rattle.tsc_span.specs.Span.{Interval, nothing, between, is_below}
 use Rattle.tsc_nodes.specs.Page.{Mark, values_on}

@@ -7,7 +7,7 @@ use Rattle.tsc_cache.specs.State.{CacheState, step_all, not_kept}
 use Rattle.tsc_cache.specs.CacheView.{CacheView, StandsForState}
 use Rattle.tsc_cache.specs.Batch.{is_any_kept, AddsAll}
 use Rattle.tsc_cache.proofs.Batches.{none_adds, adds_all_stands}
-use Rattle.timestamp_cache.specs.HandOver.{marks_told, TakesOver}
+use Rattle.timestamp_cache.specs.HandOver.{marks_told}
 use Rattle.timestamp_cache.proofs.TakingOver.{takes_over, where_ok}
 use Rattle.timestamp_cache.proofs.hand_over.apply.Goals as goal
 

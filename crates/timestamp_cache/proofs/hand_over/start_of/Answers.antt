@@ -1,7 +1,6 @@
 -- Nothing lies above the last cut.
-use Rattle.std.proofs.Common.{subst, true, ◌≡◌}
 use Rattle.std.proofs.lemmas.Bool.{both_ways}
-use Rattle.tsc_span.specs.Span.{Cut, last, is_below}
+use Rattle.tsc_span.specs.Span.{last, is_below}
 use Rattle.tsc_span.specs.Cuts.{cut_of}
 use Rattle.timestamp_cache.proofs.Within.{none_above_last}
 use Rattle.timestamp_cache.proofs.hand_over.start_of.Goals as goal

@@ -1,6 +1,4 @@
 -- What is told so far, whatever state the cache stands for.
-use Rattle.std.proofs.Common.{◌≡◌, false}
-use Rattle.tsc_span.specs.Span.{is_below}
 use Rattle.tsc_span.specs.Cuts.{cut_of}
 use Rattle.tsc_cache.specs.Keys.{keys_seen}
 use Rattle.timestamp_cache.proofs.Walking.{steps_left}
