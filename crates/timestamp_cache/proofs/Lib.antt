@@ -4,3 +4,9 @@ pub mod Asking
 pub mod Carrying
 pub mod Pushing
 pub mod ClearExamples
+pub mod Within
+pub mod Telling
+pub mod Walking
+pub mod Going
+pub mod TakingOver
+pub mod HandOverExamples

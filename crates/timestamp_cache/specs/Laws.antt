@@ -7,13 +7,14 @@ use Rattle.tsc_time.specs.Joint.{IsAtMost}
 use Rattle.tsc_span.specs.Span.{Interval, overlaps}
 use Rattle.tsc_nodes.specs.Page.{Mark}
 use Rattle.tsc_cache.specs.Settings.{Settings}
-use Rattle.tsc_cache.specs.State.{look}
+use Rattle.tsc_cache.specs.State.{CacheState, step_all, look}
 use Rattle.tsc_cache.specs.declared.history.Entry.{Entry}
-use Rattle.tsc_cache.specs.History.{History, state_of, BeginsWith}
+use Rattle.tsc_cache.specs.History.{History, state_from, state_of, BeginsWith}
 use Rattle.tsc_shared.specs.declared.answers.Receipt.{Receipt}
 use Rattle.tsc_shared.specs.Seats.{SeatView, FrontView}
 use Rattle.tsc_shared.specs.Answers.{Accepts, Learns, GoesOn, IsAbove}
-use Rattle.timestamp_cache.specs.Clear.{IsClearOf}
+use Rattle.timestamp_cache.specs.Clear.{IsClearOf, IsClearOfReads}
+use Rattle.timestamp_cache.specs.HandOver.{Summary, IsWithin, TellsOf, marks_told}
 
 -- An Add on one seat, and a lookup on another that had learned a front of it: the front has what the first seat had seen behind that Add, or more.
 pub record Carries (adder added guest told later : SeatView) (ms : List Mark) (span : Interval) (answer : OwnedTime) : Type 0 where
@@ -55,3 +56,9 @@ PushedByReadsAlone = (settings : Settings) (h : History) (span : Interval) (by :
 -- A write is clear of a read just where the read is at most the write's own time and owner.
 abbrev pub ClearIsAtMost : Type 0
 ClearIsAtMost = (read : OwnedTime) (by : Owner) (at : Time) → IsClearOf read by at ↔ IsAtMost read (record { time = at; owner = Some by })
+
+-- A summary tells of the state that a history left, and is applied to some other state, which goes on with whatever entries. A write that is clear of what that one answers then, on a span within the summary's, is clear of each read of the history there.
+abbrev pub ReadsAreHandedOn : Type 0
+ReadsAreHandedOn = (settings others : Settings) (h later : History) (s : CacheState) (told : Summary) (now : Time) (inner : Interval) (by : Owner) (at : Time)
+    → TellsOf (state_of settings h) told → IsWithin inner told.span
+    → IsClearOf (look (state_from others (step_all others s (marks_told told) now).state later) inner) by at → IsClearOfReads h inner by at

@@ -1,3 +1,5 @@
 pub mod Clear
 pub mod Earliest
+pub mod HandOver
+pub mod Stretches
 pub mod Laws

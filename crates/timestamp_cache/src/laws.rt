@@ -1,7 +1,7 @@
-//! Laws of histories of reads, over the definitions alone: those of `tsc_cache`, and three on what a store rests on.
+//! Laws of histories of reads, over the definitions alone: those of `tsc_cache`, and four on what a store rests on.
 //!
 //! No program needs to call these functions: their contracts are the laws.
-ghost use Rattle.timestamp_cache.specs.Laws.{ReadsAreCarried, PushedByReadsAlone, ClearIsAtMost};
+ghost use Rattle.timestamp_cache.specs.Laws.{ReadsAreCarried, PushedByReadsAlone, ClearIsAtMost, ReadsAreHandedOn};
 
 pub use tsc_cache::laws::{
     beginnings, can_all_be_added, can_be_added, evicts_the_expired, floor_behind, kept_up,
@@ -25,4 +25,10 @@ pub fn pushed_by_reads_alone()
 /// the ratchet order.
 pub fn clear_is_at_most()
     ensures { ClearIsAtMost }
+{}
+
+/// Where a summary of one cache was applied to another, a write on a span within the summary's that is clear of what the other one answers, then or
+/// after more Adds, is clear of each read there that was added to the first. So the new holder of a lease writes below no read that was answered under the old one.
+pub fn reads_are_handed_on()
+    ensures { ReadsAreHandedOn }
 {}

@@ -5,11 +5,15 @@
 //! it is clear of the reads so far, and [`earliest_write`] to which time it has to be pushed, so that no read that was
 //! answered is made wrong behind its back. [`may_write_at`] and [`earliest_write_at`] ask for a seat of a shared cache.
 //!
+//! Where the lease goes on to somebody else, [`summary`] tells what was read of a span, in as many marks as are to be sent, and [`apply`] adds it to the
+//! cache of the new holder.
+//!
 //! The rule is that of CockroachDB's `applyTimestampCache` (`pkg/kv/kvserver/replica_tscache.go`): a write goes above each read of its
 //! keys, save those of its own transaction. A write that is clear of what a lookup answers is clear of each read that was added.
 #![tactic(auto)]
 
 mod clear;
+mod hand_over;
 pub mod laws;
 mod next;
 #[cfg(test)]
@@ -17,6 +21,7 @@ mod tests;
 mod writes;
 
 pub use clear::{earliest_clear_of, is_clear_of};
+pub use hand_over::{ReadSummary, apply, summary};
 pub use next::next_time;
 pub use tsc_cache::{Added, Cache, CacheFault, Config, ConfigFault, Mark};
 pub use tsc_shared::{

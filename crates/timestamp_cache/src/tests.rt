@@ -1,6 +1,8 @@
 //! Writes that ask a cache, and a seat of a shared one.
 ghost use Rattle.std.specs.Prelude.{◌≡◌};
 
+mod hand_over;
+
 use crate::{
     Cache, Config, Key, Seat, SharedCache, Span, Timestamp, Uuid, Value, earliest_write,
     earliest_write_at, may_write, may_write_at, next_time,

@@ -1,0 +1,5 @@
+use Rattle.std.proofs.Common.{rules}
+use Rattle.timestamp_cache.proofs.hand_over.ReadSummary.to_marks.Goals as goal
+
+pub loop-mark-init : goal.loop-mark-init
+loop-mark-init c = search rules

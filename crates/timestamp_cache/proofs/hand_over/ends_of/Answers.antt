@@ -1,0 +1,5 @@
+use Rattle.std.proofs.Common.{rules}
+use Rattle.timestamp_cache.proofs.hand_over.ends_of.Goals as goal
+
+pub returns-clause-to : goal.returns-clause-to
+returns-clause-to c = search rules

@@ -1,0 +1,297 @@
+ghost use Rattle.std.specs.Prelude.{◌≡◌, ◌↔◌, [], ◌&&◌, not, option_map, true, false, IsOk, IfOk, IsErrOf, OnOk, OnErr};
+ghost use Rattle.tsc_time.specs.Time.{is_before};
+ghost use Rattle.tsc_span.specs.Span.{is_below, is_empty_span, key_of_cut, between};
+ghost use Rattle.tsc_span.specs.Cuts.{cut_of};
+ghost use Rattle.tsc_cache.specs.Settings.{Settings, fits};
+ghost use Rattle.tsc_cache.specs.State.{CacheState, step_all};
+ghost use Rattle.tsc_cache.specs.Batch.{all_fit, is_any_kept, AddsAll};
+ghost use Rattle.tsc_cache.specs.CacheView.{StandsForState};
+ghost use Rattle.tsc_cache.specs.Keys.{keys_seen};
+ghost use Rattle.timestamp_cache.specs.HandOver.{marks_told, Summarizes, TakesOver};
+ghost use Rattle.timestamp_cache.specs.Stretches.{is_after, stretch_end, IsStretch, told_more};
+
+use std::alloc::Global;
+use std::marker::Model;
+use tsc_cache::{Added, Cache, CacheFault, Mark};
+use tsc_span::{Cut, Ends, Key, Span, SpanRef};
+use tsc_time::{NoMemory, Timestamp, Value};
+
+/// What is told of the reads of a span to whoever takes its lease over. How it is sent is the caller's.
+#[derive(Debug, Drop)]
+pub struct ReadSummary {
+    /// What is told of.
+    pub span: Span,
+    /// No read on the span that no mark tells of was later.
+    pub floor: Timestamp,
+    /// Parts of the span that were read later, each with what the cache answers there.
+    pub marks: Vec<Mark>,
+}
+
+impl Model for ReadSummary {
+    ghost use Rattle.timestamp_cache.specs.HandOver.{Summary};
+
+    ghost Value = { Summary };
+
+    ghost view = { λ s. record { span = s.span; floor = s.floor; marks = s.marks.items } };
+}
+
+/// What is told of the reads of a span by a cache, in no more than so many marks.
+///
+/// It goes over the span from one end key of a mark to the next, and of each key and each gap between two keys it tells what
+/// [`get_max`](Cache::get_max) answers, where that is above the cache's floor. Where there are more of these than `most`, the first ones are told,
+/// and the floor is raised to the latest of the others. It costs a lookup for each of them, and a search in each page for each end key. It takes the memory
+/// of the span's keys and of the marks.
+///
+/// It restates `tscache.Cache.Serialize` of CockroachDB's `pkg/kv/kvserver/tscache`.
+pub fn summary(
+    alloc: Global,
+    cache: &Cache,
+    span: &Span,
+    most: usize,
+) -> Result<ReadSummary, NoMemory>
+    ensures { IfOk result (λ told. Summarizes cache.now span.now most told) }
+{
+    let told = ReadSummary {
+        span: span.try_copy()?,
+        floor: cache.low_water(),
+        marks: Vec::new(alloc),
+    };
+    match span.cuts() {
+        Some(cuts) => told.over(alloc, cache, cuts, most),
+        None => Ok(told),
+    }
+}
+
+impl ReadSummary {
+    /// Tells of each stretch between two cuts.
+    fn over(
+        self,
+        alloc: Global,
+        cache: &Cache,
+        cuts: (Cut<'_>, Cut<'_>),
+        most: usize,
+    ) -> Result<ReadSummary, NoMemory>
+        requires order { is_below (cut_of cuts.0) (cut_of cuts.1) ≡ true }
+        requires span { self.span ≡ between (cut_of cuts.0) (cut_of cuts.1) }
+        requires floor { self.floor ≡ cache.now.floor }
+        requires none { self.marks ≡ [] }
+        ensures { IfOk result (λ told. Summarizes cache.now self.span most told) }
+    {
+        let mut told = self;
+        let (mut at, to) = cuts;
+        while at.is_below(to) {
+            let end = stretch_end(cache, at, to);
+            let value = cache.get_max_in(&stretch(at, end));
+            told = told.with(alloc, (at, end), value, most)?;
+            at = end;
+        }
+        Ok(told)
+    }
+
+    /// Tells of one stretch more.
+    fn with(
+        mut self,
+        alloc: Global,
+        cuts: (Cut<'_>, Cut<'_>),
+        value: Value,
+        most: usize,
+    ) -> Result<ReadSummary, NoMemory>
+        requires order { is_below (cut_of cuts.0) (cut_of cuts.1) ≡ true }
+        ensures { IfOk result (λ told. told ≡ told_more most self (between (cut_of cuts.entry.0) (cut_of cuts.entry.1)) value) }
+    {
+        if self.floor < value.time() {
+            if self.marks.len() < most {
+                let span = owned(alloc, cuts.0, cuts.1)?;
+                self.marks.push(Mark { span, value })?;
+            } else {
+                self.floor = value.time();
+            }
+        }
+        Ok(self)
+    }
+
+    /// The marks that are added where the summary is applied.
+    fn to_marks(&self) -> Result<Vec<Mark>, NoMemory>
+        ensures { IfOk result (λ marks. marks.items ≡ marks_told self.now) }
+    {
+        let mut marks = Vec::new(*self.marks.allocator());
+        marks.push(mark_of(&self.span, Value::unowned(self.floor))?)?;
+        for mark in &self.marks {
+            marks.push(mark_of(&mark.span, mark.value)?)?;
+        }
+        Ok(marks)
+    }
+}
+
+/// Adds what a summary tells to a cache, at the moment `now`: all of it or nothing. From then on no answer on the summary's span is below what the summary
+/// tells there, so a write that is clear of an answer is clear of each read that the summary was made of.
+///
+/// It is one [`add_all`](Cache::add_all) of the whole span at the summary's floor, without an owner, and of the summary's marks, and is refused
+/// where that is. Where none of them is kept nothing changes, and no memory is taken; else it takes that of the marks once more.
+///
+/// It restates `applyReadSummaryToTimestampCache` of CockroachDB's `pkg/kv/kvserver/replica_tscache.go`.
+pub fn apply(cache: &mut Cache, summary: &ReadSummary, now: Timestamp) -> Result<Added, CacheFault>
+    ensures stands { OnOk result ((settings : Settings) (s : CacheState) → StandsForState cache.old settings s
+        → StandsForState cache.new settings (step_all settings s (marks_told summary.now) now).state) }
+    ensures takes_over { OnOk result ((settings : Settings) (s : CacheState) → StandsForState cache.old settings s
+        → TakesOver s (step_all settings s (marks_told summary.now) now).state summary.now) }
+    ensures added { IfOk result (λ added. (settings : Settings) (s : CacheState) → StandsForState cache.old settings s
+        → added ≡ (step_all settings s (marks_told summary.now) now).added) }
+    ensures seen { IfOk result (λ added. AddsAll cache.old cache.new (marks_told summary.now) now added) }
+    ensures too_large { IsErrOf result CacheFault.TooLarge ↔ (all_fit cache.old.settings (marks_told summary.now) ≡ false) }
+    ensures unchanged { OnErr result (cache.new ≡ cache.old) }
+    ensures memory { all_fit cache.old.settings (marks_told summary.now) ≡ true → is_any_kept cache.old.floor (marks_told summary.now) ≡ false → IsOk result }
+{
+    if !fits_all(cache, summary) {
+        return Err(CacheFault::TooLarge);
+    }
+    if !is_any_kept(cache.low_water(), summary) {
+        return Ok(Added {
+            kept: false,
+            rotated: false,
+            evicted: 0,
+        });
+    }
+    let marks = summary.to_marks()?;
+    cache.add_all(&marks, now)
+}
+
+/// Where the stretch from a cut on stops: at the next side of an end key, or at a third cut if that is lower.
+fn stretch_end<'a>(cache: &'a Cache, at: Cut<'a>, to: Cut<'a>) -> Cut<'a>
+    requires { is_below (cut_of at) (cut_of to) ≡ true }
+    ensures { IsStretch (keys_seen cache.now.pages) (cut_of at.entry) (cut_of to.entry) (cut_of result) }
+{
+    let end = end_of(at, cache.key_above(at));
+    if end.is_below(to) { end } else { to }
+}
+
+/// Where the stretch from a cut on stops by the least key above it: at the first side of the key that is above the cut.
+fn end_of<'a>(at: Cut<'a>, key: Option<&'a Key>) -> Cut<'a>
+    ensures { cut_of result ≡ stretch_end (cut_of at.entry) (option_map (λ k. k.now) key.entry) }
+{
+    match key {
+        Some(key) if at.is_below(Cut::Before(key.bytes())) => Cut::Before(key.bytes()),
+        Some(key) => Cut::After(key.bytes()),
+        None => Cut::Last,
+    }
+}
+
+/// The span between two cuts.
+fn stretch<'a>(from: Cut<'a>, to: Cut<'a>) -> SpanRef<'a>
+    requires { is_below (cut_of from) (cut_of to) ≡ true }
+    ensures { result ≡ between (cut_of from.entry) (cut_of to.entry) }
+{
+    SpanRef::between(start_of(from, to), key_of(to), ends_of(from, to))
+}
+
+/// The same span, with keys of its own.
+fn owned(alloc: Global, from: Cut<'_>, to: Cut<'_>) -> Result<Span, NoMemory>
+    requires { is_below (cut_of from) (cut_of to) ≡ true }
+    ensures { IfOk result (λ span. span ≡ between (cut_of from.entry) (cut_of to.entry)) }
+{
+    let start = own_key(alloc, start_of(from, to))?;
+    let ends = ends_of(from, to);
+    match key_of(to) {
+        Some(end) => Ok(Span::for_lookup(start, own_key(alloc, end)?, ends)),
+        None => Ok(Span::onward(start, ends.exclude_from)),
+    }
+}
+
+/// A key of these bytes, which are those of a key.
+fn own_key(alloc: Global, bytes: &[u8]) -> Result<Key, NoMemory>
+    ensures { IfOk result (λ key. key ≡ bytes.now) }
+{
+    match Key::new(alloc, bytes) {
+        Ok(key) => Ok(key),
+        Err(_) => Err(NoMemory),
+    }
+}
+
+/// The key of a cut; the last one has none.
+fn key_of(cut: Cut<'_>) -> Option<&[u8]>
+    ensures { option_map (λ k. k.now) result ≡ key_of_cut (cut_of cut.entry) }
+{
+    match cut {
+        Cut::Before(key) | Cut::After(key) => Some(key),
+        Cut::Last => None,
+    }
+}
+
+/// The key of a cut below another one.
+fn start_of<'a>(from: Cut<'a>, to: Cut<'_>) -> &'a [u8]
+    requires { is_below (cut_of from) (cut_of to) ≡ true }
+    ensures { key_of_cut (cut_of from.entry) ≡ Some result.now }
+{
+    match from {
+        Cut::Before(key) | Cut::After(key) => key,
+        Cut::Last => unreachable!(),
+    }
+}
+
+/// Which of the keys of two cuts lie outside of what is between them.
+fn ends_of(from: Cut<'_>, to: Cut<'_>) -> Ends
+    ensures from { result.exclude_from ≡ is_after (cut_of from.entry) }
+    ensures to { result.exclude_to ≡ not (is_after (cut_of to.entry)) }
+{
+    Ends {
+        exclude_from: matches!(from, Cut::After(_)),
+        exclude_to: !matches!(to, Cut::After(_)),
+    }
+}
+
+/// A mark of a copy of a span.
+fn mark_of(span: &Span, value: Value) -> Result<Mark, NoMemory>
+    ensures { IfOk result (λ mark. mark ≡ record { span = span.now; value = value }) }
+{
+    Ok(Mark {
+        span: span.try_copy()?,
+        value,
+    })
+}
+
+/// Whether each span that a summary adds fits a cache.
+fn fits_all(cache: &mut Cache, summary: &ReadSummary) -> bool
+    ensures value { result ≡ all_fit cache.old.settings (marks_told summary.now) }
+    ensures same { cache.new ≡ cache.old }
+{
+    if !fits(cache, &summary.span) {
+        return false;
+    }
+    for mark in &summary.marks {
+        if !fits(cache, &mark.span) {
+            return false;
+        }
+    }
+    true
+}
+
+/// Whether a span fits a cache: an Add at time zero, which is never kept, is refused where it doesn't.
+fn fits(cache: &mut Cache, span: &Span) -> bool
+    ensures value { result ≡ fits cache.old.settings span.now }
+    ensures same { cache.new ≡ cache.old }
+{
+    let zero = Value::unowned(Timestamp::ZERO);
+    cache.add(span, zero, Timestamp::ZERO).is_ok()
+}
+
+/// Whether any of the marks that a summary adds is kept above a floor.
+fn is_any_kept(floor: Timestamp, summary: &ReadSummary) -> bool
+    ensures { result ≡ is_any_kept floor (marks_told summary.now) }
+{
+    if is_kept(floor, &summary.span, summary.floor) {
+        return true;
+    }
+    for mark in &summary.marks {
+        if is_kept(floor, &mark.span, mark.value.time()) {
+            return true;
+        }
+    }
+    false
+}
+
+/// Whether an Add of this span and time is kept above a floor.
+fn is_kept(floor: Timestamp, span: &Span, time: Timestamp) -> bool
+    ensures { result ≡ (not (is_empty_span span.now) && is_before floor time) }
+{
+    !span.is_empty() && floor < time
+}
