@@ -32,11 +32,6 @@ struct Transaction {
     time: Time,
 }
 
-/// The time after another. Only where that is the last one there is none.
-fn after(time: Time) -> Time {
-    if time.logical < i32::MAX as u32 { Time::new(time.wall, time.logical + 1) } else { Time::new(time.wall + 1, 0) }
-}
-
 /// What holds the lease of the range of all keys: the reads since its start.
 struct Holder {
     reads: Cache,
@@ -63,13 +58,10 @@ impl Holder {
 
     /// Writes a key at the transaction's time, or at the first time after it that no read forbids, and gives that time.
     fn put(&mut self, versions: &mut Versions, by: Transaction, key: &[u8], value: &[u8]) -> Time {
-        let read = self.reads.get_max(&Span::Point(key));
-        // its own read forbids a transaction nothing, as long as no other one's has the same time
-        let own = read.owner == Some(by.id) && read.time <= by.time;
-        let mut time = if own { by.time } else { by.time.max(after(read.time)) };
+        let mut time = self.reads.earliest_write(&[Span::Point(key)], by.time, by.id).expect("no read is at the last time");
         let all = versions.entry(key.to_vec()).or_default();
         if let Some((&newest, _)) = all.iter().next_back() {
-            time = time.max(after(newest));
+            time = time.max(newest.next().expect("no version is at the last time"));
         }
         all.insert(time, value.to_vec());
         time

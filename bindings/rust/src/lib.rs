@@ -22,8 +22,10 @@ use std::ptr::null_mut;
 
 mod ffi;
 mod texts;
+mod writes;
 
 pub use texts::{check, replay, TextError};
+pub use writes::{earliest_clear_of, is_clear_of};
 
 /// A time of a hybrid logical clock. The smaller wall time comes first, and of two equal ones the smaller count.
 #[derive(Clone, Copy, Debug, Default, PartialEq, Eq, PartialOrd, Ord, Hash)]
