@@ -234,9 +234,16 @@ fn ends_of(from: Cut<'_>, to: Cut<'_>) -> Ends
     ensures to { result.exclude_to ≡ not (is_after (cut_of to.entry)) }
 {
     Ends {
-        exclude_from: matches!(from, Cut::After(_)),
-        exclude_to: !matches!(to, Cut::After(_)),
+        exclude_from: is_after(from),
+        exclude_to: !is_after(to),
     }
+}
+
+/// Whether a cut is the place after a key.
+fn is_after(cut: Cut<'_>) -> bool
+    ensures { result ≡ is_after (cut_of cut.entry) }
+{
+    matches!(cut, Cut::After(_))
 }
 
 /// A mark of a copy of a span.

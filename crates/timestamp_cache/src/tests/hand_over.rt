@@ -161,14 +161,18 @@ impl Keys {
     }
 }
 
-/// A cache whose first page has room for one key, with reads that were added at their own times.
-fn with_reads(alloc: Global, floor: Time, reads: &[On]) -> Result<Cache, Fail> {
+/// A cache whose first page has room for one key.
+fn empty(alloc: Global, floor: Time) -> Result<Cache, Fail> {
     let config = Config::new(64, 1 << 20, 2, 10, at(floor)?)?;
-    let mut cache = Cache::new(alloc, config)?;
+    Ok(Cache::new(alloc, config)?)
+}
+
+/// Adds reads at their own times.
+fn add(alloc: Global, cache: &mut Cache, reads: &[On]) -> Result<(), Fail> {
     for read in reads {
         cache.add(&read.span(alloc)?, read.value()?, at(read.1)?)?;
     }
-    Ok(cache)
+    Ok(())
 }
 
 /// Whether marks are those, one after another.
@@ -201,34 +205,58 @@ impl Row {
         )
     }
 
-    /// Whether the other cache answers as it has to, once that is added to it.
-    fn is_taken_over(&self, alloc: Global, told: &ReadSummary) -> Result<bool, Fail> {
-        let mut cache = with_reads(alloc, (3, 0), self.others)?;
-        let added = apply(&mut cache, told, at((30, 0))?)?;
-        Ok(added.kept && answers(alloc, &cache, self.answers)?)
+    /// Whether another cache answers as it has to, once that is added to it.
+    fn is_taken_over(
+        &self,
+        alloc: Global,
+        told: &ReadSummary,
+        other: &mut Cache,
+    ) -> Result<bool, Fail> {
+        add(alloc, other, self.others)?;
+        let added = apply(other, told, at((30, 0))?)?;
+        Ok(added.kept && self.is_told(alloc, told)? && answers(alloc, other, self.answers)?)
+    }
+
+    /// What is told of a cache.
+    fn told(&self, alloc: Global, cache: &Cache) -> Result<ReadSummary, Fail> {
+        let span = self.of.span(alloc)?;
+        Ok(summary(alloc, cache, &span, self.most)?)
+    }
+
+    /// Whether a new cache takes it over.
+    fn is_right(&self, alloc: Global, told: &ReadSummary) -> Result<bool, Fail> {
+        let mut other = empty(alloc, (3, 0))?;
+        self.is_taken_over(alloc, told, &mut other)
     }
 
     fn holds(&self, alloc: Global, cache: &Cache) -> Result<bool, Fail> {
-        let told = summary(alloc, cache, &self.of.span(alloc)?, self.most)?;
-        Ok(self.is_told(alloc, &told)? && self.is_taken_over(alloc, &told)?)
+        let told = self.told(alloc, cache)?;
+        self.is_right(alloc, &told)
     }
 }
 
-/// The first row that is told or answered otherwise.
-fn first_wrong(alloc: Global, case: &Case) -> Result<Option<&'static str>, Fail> {
-    let cache = with_reads(alloc, (5, 0), case.0)?;
-    for row in case.1 {
-        if !row.holds(alloc, &cache)? {
-            return Ok(Some(row.name));
+impl Case {
+    /// The first row that is told or answered otherwise of a cache with the reads.
+    fn wrong_of(&self, alloc: Global, cache: &mut Cache) -> Result<Option<&'static str>, Fail> {
+        add(alloc, cache, self.0)?;
+        for row in self.1 {
+            if !row.holds(alloc, cache)? {
+                return Ok(Some(row.name));
+            }
         }
+        Ok(None)
     }
-    Ok(None)
+
+    fn first_wrong(&self, alloc: Global) -> Result<Option<&'static str>, Fail> {
+        let mut cache = empty(alloc, (5, 0))?;
+        self.wrong_of(alloc, &mut cache)
+    }
 }
 
 #[test]
 fn what_was_read_is_handed_on(rt: HostRuntime) -> Result<(), Fail> {
     for case in &CASES {
-        let wrong = first_wrong(rt.alloc(), case)?;
+        let wrong = case.first_wrong(rt.alloc())?;
         assert!(rt; wrong.is_none(), "{wrong:?}");
     }
     Ok(())
