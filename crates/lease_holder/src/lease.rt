@@ -1,4 +1,6 @@
 //! The lease of a range: the cache of its reads, and its keys, each of them under a latch.
+//!
+//! Who holds the latch of a key reads or writes it at a seat of his own. What was read is handed on with the latch, so that a write is clear of it.
 ghost use Rattle.std.specs.Prelude.{◌≡◌, ◌++◌, ◌∷◌, [], true, All, IfOk, IfSome, OnOk, OnErr};
 ghost use Rattle.tsc_span.specs.Span.{overlaps};
 ghost use Rattle.tsc_cache.specs.State.{look};
@@ -52,7 +54,8 @@ pub struct Held<G: Range> {
     versions: Vec<Version>,
     /// The reads that were answered.
     answered: Vec<Value>,
-    /// It has seen what those who held the latch had seen: it learns the front of each read, and a writer's seat meets it.
+    /// What is handed on with the latch: a seat that learns the front of each read, and that a writer's seat meets. It is a seat and no front, since a
+    /// writer has no front to leave: only an Add gives one.
     handed: RangeSeat<G>,
     ghost whole: { overlaps span span ≡ true },
     ghost added: { All (HasRead span handed.seat.seen) answered.items },

@@ -1,7 +1,7 @@
 use Rattle.std.proofs.Common.{subst}
 use Rattle.std.specs.Prelude.{is_ok}
 use Rattle.tsc_time.specs.OwnedTime.{OwnedTime}
-use Rattle.lease_holder.specs.Reads.{HasRead}
+use Rattle.lease_holder.specs.Reads.{HasRead, read_of}
 use Rattle.lease_holder.proofs.Carried.{added_there, handed_on, kept_or_not, one_more}
 use Rattle.lease_holder.proofs.lease.Lease.read.Goals as goal
 
@@ -19,7 +19,7 @@ invariant_of-held g c =
 pub returns-in-Ok-clause-added : goal.returns-in-Ok-clause-added
 returns-in-Ok-clause-added g c =
     let held = c.args.held.now in
-    subst (λ (read : OwnedTime). HasRead held.span c.add.new.seat.seen read) c.of-read.ensures
+    subst (λ (read : OwnedTime). HasRead held.span c.add.new.seat.seen read) {y = read_of c.args.at c.args.by} c.of-read.ensures
     (added_there c.args.me.now.seat c.add.new.seat held.span c.of-read.result c.args.at c.in_ok-receipt.receipt c.in_ok-receipt.ensures.accepted held.whole)
 
 pub returns-in-Ok-clause-answered : goal.returns-in-Ok-clause-answered

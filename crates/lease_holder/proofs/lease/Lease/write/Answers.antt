@@ -1,4 +1,4 @@
-use Rattle.std.proofs.Common.{All, sym, subst}
+use Rattle.std.proofs.Common.{All, rules, sym, subst}
 use Rattle.std.specs.Prelude.{Option, IfSome}
 use Rattle.tsc_time.specs.Time.{Time}
 use Rattle.tsc_time.specs.OwnedTime.{OwnedTime}
@@ -18,3 +18,6 @@ returns-clause-clear g c =
       | in-Some+in_ok-push w ↦ subst P (sym w.told-is) (subst P w.in-Some.is clear)
       | in_default-told w ↦ subst P (sym w.told-is) clear
     ]
+
+pub returns-clause-written : goal.returns-clause-written
+returns-clause-written g c = search rules
