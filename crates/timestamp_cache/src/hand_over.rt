@@ -257,28 +257,18 @@ fn mark_of(span: &Span, value: Value) -> Result<Mark, NoMemory>
 }
 
 /// Whether each span that a summary adds fits a cache.
-fn fits_all(cache: &mut Cache, summary: &ReadSummary) -> bool
-    ensures value { result ≡ all_fit cache.old.settings (marks_told summary.now) }
-    ensures same { cache.new ≡ cache.old }
+fn fits_all(cache: &Cache, summary: &ReadSummary) -> bool
+    ensures { result ≡ all_fit cache.now.settings (marks_told summary.now) }
 {
-    if !fits(cache, &summary.span) {
+    if !cache.fits(&summary.span) {
         return false;
     }
     for mark in &summary.marks {
-        if !fits(cache, &mark.span) {
+        if !cache.fits(&mark.span) {
             return false;
         }
     }
     true
-}
-
-/// Whether a span fits a cache: an Add at time zero, which is never kept, is refused where it doesn't.
-fn fits(cache: &mut Cache, span: &Span) -> bool
-    ensures value { result ≡ fits cache.old.settings span.now }
-    ensures same { cache.new ≡ cache.old }
-{
-    let zero = Value::unowned(Timestamp::ZERO);
-    cache.add(span, zero, Timestamp::ZERO).is_ok()
 }
 
 /// Whether any of the marks that a summary adds is kept above a floor.

@@ -14,15 +14,15 @@ use Rattle.timestamp_cache.proofs.hand_over.apply.Goals as goal
 pub returns-then-not-is_any_kept-clause-seen : goal.returns-then-not-is_any_kept-clause-seen
 returns-then-not-is_any_kept-clause-seen c =
     let none : is_any_kept c.args.cache.now.floor (marks_told c.args.summary.now) ≡ false = search rules in
-    subst (λ (v : CacheView). AddsAll c.args.cache.now v (marks_told c.args.summary.now) c.args.now not_kept) (sym c.fits_all.ensures.same) (none_adds c.args.cache.now (marks_told c.args.summary.now) c.args.now none)
+    none_adds c.args.cache.now (marks_told c.args.summary.now) c.args.now none
 
 pub returns-then-not-is_any_kept-clause-stands : goal.returns-then-not-is_any_kept-clause-stands
 returns-then-not-is_any_kept-clause-stands c settings s stands =
-    (adds_all_stands c.args.cache.now c.fits_all.new.cache (marks_told c.args.summary.now) c.args.now not_kept (returns-then-not-is_any_kept-clause-seen c) settings s stands).0
+    (adds_all_stands c.args.cache.now c.args.cache.now (marks_told c.args.summary.now) c.args.now not_kept (returns-then-not-is_any_kept-clause-seen c) settings s stands).0
 
 pub returns-then-not-is_any_kept-clause-added : goal.returns-then-not-is_any_kept-clause-added
 returns-then-not-is_any_kept-clause-added c settings s stands =
-    (adds_all_stands c.args.cache.now c.fits_all.new.cache (marks_told c.args.summary.now) c.args.now not_kept (returns-then-not-is_any_kept-clause-seen c) settings s stands).1
+    (adds_all_stands c.args.cache.now c.args.cache.now (marks_told c.args.summary.now) c.args.now not_kept (returns-then-not-is_any_kept-clause-seen c) settings s stands).1
 
 pub returns-then-not-is_any_kept-clause-takes_over : goal.returns-then-not-is_any_kept-clause-takes_over
 returns-then-not-is_any_kept-clause-takes_over c settings s stands = takes_over settings s c.args.summary.now c.args.now
@@ -34,12 +34,10 @@ pub returns-clause-stands : goal.returns-clause-stands
 returns-clause-stands c =
     let all : c.deref.result.now ≡ marks_told c.args.summary.now = search rules in
     subst (λ (ms : List Mark). OnOk c.add_all.result ((settings : Settings) (s : CacheState) → StandsForState c.args.cache.now settings s → StandsForState c.add_all.new.self settings (step_all settings s ms c.args.now).state)) all
-    (subst (λ (v : CacheView). OnOk c.add_all.result ((settings : Settings) (s : CacheState) → StandsForState v settings s → StandsForState c.add_all.new.self settings (step_all settings s c.deref.result.now c.args.now).state))
-    c.fits_all.ensures.same c.add_all.ensures.stands)
+    c.add_all.ensures.stands
 
 pub returns-clause-added : goal.returns-clause-added
 returns-clause-added c =
     let all : c.deref.result.now ≡ marks_told c.args.summary.now = search rules in
     subst (λ (ms : List Mark). IfOk c.add_all.result (λ (a : Added). (settings : Settings) (s : CacheState) → StandsForState c.args.cache.now settings s → a ≡ (step_all settings s ms c.args.now).added)) all
-    (subst (λ (v : CacheView). IfOk c.add_all.result (λ (a : Added). (settings : Settings) (s : CacheState) → StandsForState v settings s → a ≡ (step_all settings s c.deref.result.now c.args.now).added))
-    c.fits_all.ensures.same c.add_all.ensures.added)
+    c.add_all.ensures.added
