@@ -1,11 +1,11 @@
 -- Where no mark is kept nothing changes, and else all that is told is added at once.
-use Rattle.std.proofs.Common.{◌≡◌, sym, subst, List, false, IfOk, OnOk, rules}
+use Rattle.std.proofs.Common.{◌≡◌, subst, List, false, IfOk, OnOk, rules}
 use Rattle.tsc_nodes.specs.Page.{Mark}
 use Rattle.tsc_cache.specs.declared.added.Added.{Added}
 use Rattle.tsc_cache.specs.Settings.{Settings}
 use Rattle.tsc_cache.specs.State.{CacheState, step_all, not_kept}
-use Rattle.tsc_cache.specs.CacheView.{CacheView, StandsForState}
-use Rattle.tsc_cache.specs.Batch.{is_any_kept, AddsAll}
+use Rattle.tsc_cache.specs.CacheView.{StandsForState}
+use Rattle.tsc_cache.specs.Batch.{is_any_kept}
 use Rattle.tsc_cache.proofs.Batches.{none_adds, adds_all_stands}
 use Rattle.timestamp_cache.specs.HandOver.{marks_told}
 use Rattle.timestamp_cache.proofs.TakingOver.{takes_over, where_ok}
