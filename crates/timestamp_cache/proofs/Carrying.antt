@@ -4,7 +4,7 @@ use Rattle.std.specs.List.{Contains}
 use Rattle.std.proofs.lemmas.List.Elements.{Contains-append_left}
 use Rattle.tsc_time.specs.OwnedTime.{OwnedTime}
 use Rattle.tsc_span.specs.Span.{Interval}
-use Rattle.tsc_nodes.specs.Page.{Mark}
+use Rattle.tsc_page_base.specs.Page.{Mark}
 use Rattle.tsc_cache.specs.declared.history.Entry.{Entry}
 use Rattle.tsc_cache.specs.History.{History, BeginsWith}
 use Rattle.tsc_shared.specs.Seats.{SeatView, FrontView}

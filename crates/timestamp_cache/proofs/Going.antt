@@ -8,7 +8,7 @@ use Rattle.tsc_time.proofs.Members.{IsIn-from_Contains}
 use Rattle.tsc_time.specs.OwnedTime.{OwnedTime}
 use Rattle.tsc_span.specs.Span.{Cut, is_below, Interval, nothing, between}
 use Rattle.tsc_span.proofs.Overlaps.{is_below-opposite, no_lower-transitive}
-use Rattle.tsc_nodes.specs.Page.{Mark}
+use Rattle.tsc_page_base.specs.Page.{Mark}
 use Rattle.tsc_cache.specs.Settings.{Settings}
 use Rattle.tsc_cache.specs.State.{CacheState, look}
 use Rattle.tsc_cache.specs.CacheView.{CacheView, StandsForState}

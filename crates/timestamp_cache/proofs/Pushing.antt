@@ -7,7 +7,7 @@ use Rattle.tsc_time.specs.Joint.{joint_above, IsAtMost}
 use Rattle.tsc_time.proofs.TimeOrder.{is_before-tells}
 use Rattle.tsc_time.proofs.Members.{IsIn, IsIn-from_Contains, Contains-from_IsIn}
 use Rattle.tsc_time.proofs.JointLemmas.{joint-least}
-use Rattle.tsc_nodes.specs.Page.{Mark}
+use Rattle.tsc_page_base.specs.Page.{Mark}
 use Rattle.tsc_cache.specs.Settings.{Settings}
 use Rattle.tsc_cache.specs.declared.history.Entry.{Entry}
 use Rattle.tsc_cache.specs.History.{History, state_of, marks_of, marks_on}

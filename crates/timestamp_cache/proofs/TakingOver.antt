@@ -11,7 +11,7 @@ use Rattle.tsc_time.proofs.Members.{IsIn-from_Contains, Contains-from_IsIn}
 use Rattle.tsc_time.proofs.RatchetOrder.{IsAtMost-itself, IsAtMost-antisymmetric, IsAtMost-transitive}
 use Rattle.tsc_time.proofs.JointLemmas.{latest-reached, joint-above, joint-least}
 use Rattle.tsc_span.specs.Span.{Interval}
-use Rattle.tsc_nodes.specs.Page.{Mark, values_on}
+use Rattle.tsc_page_base.specs.Page.{Mark, values_on}
 use Rattle.tsc_cache.specs.Settings.{Settings}
 use Rattle.tsc_cache.specs.State.{CacheState, look, step_all}
 use Rattle.tsc_cache.proofs.FloorJoints.{above_floor, above_each}

@@ -13,7 +13,7 @@ use Rattle.tsc_time.proofs.Members.{IsIn-from_Contains, Contains-from_IsIn}
 use Rattle.tsc_time.proofs.RatchetOrder.{IsAtMost-itself, IsAtMost-antisymmetric, IsAtMost-transitive}
 use Rattle.tsc_span.specs.Span.{Cut, is_below, Interval, nothing, between, overlaps}
 use Rattle.tsc_span.proofs.Overlaps.{is_below-opposite, no_lower-transitive}
-use Rattle.tsc_nodes.specs.Page.{Mark, values_on}
+use Rattle.tsc_page_base.specs.Page.{Mark, values_on}
 use Rattle.tsc_cache.specs.State.{CacheState, look}
 use Rattle.tsc_cache.proofs.FloorJoints.{above_floor, above_each, least_above, at_most_unowned}
 use Rattle.tsc_cache.proofs.MarkLists.{all_marks, look-is, values_on-has, values_on-from}

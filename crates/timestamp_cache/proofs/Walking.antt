@@ -13,9 +13,9 @@ use Rattle.tsc_span.proofs.CutOrder.{key_cmp-same, sides_in_order, no_cut_betwee
 use Rattle.tsc_span.proofs.MadeSpans.{only_less, less_before, less_or_equal}
 use Rattle.tsc_span.proofs.Ranges.{range_of_less, range_of_equal}
 use Rattle.tsc_span.proofs.Overlaps.{is_below-opposite, no_lower-transitive, is_below-transitive}
-use Rattle.tsc_nodes.specs.Page.{Mark, PageMarks, marked_keys}
-use Rattle.tsc_nodes.specs.PageView.{PageView, is_in}
-use Rattle.tsc_nodes.specs.KeysAbove.{lies_above, IsLeastAbove}
+use Rattle.tsc_page_base.specs.Page.{Mark, PageMarks, marked_keys}
+use Rattle.tsc_page_base.specs.PageView.{PageView, is_in}
+use Rattle.tsc_page_base.specs.KeysAbove.{lies_above, IsLeastAbove}
 use Rattle.tsc_cache.specs.CacheView.{EachStandsFor}
 use Rattle.tsc_cache.specs.Keys.{keys_on, keys_seen}
 use Rattle.tsc_cache.proofs.MarkLists.{all_marks}

@@ -5,7 +5,7 @@ use Rattle.tsc_time.specs.Time.{Time, is_before}
 use Rattle.tsc_time.specs.OwnedTime.{OwnedTime, unowned}
 use Rattle.tsc_time.specs.Joint.{joint, joint_above, IsAtMost}
 use Rattle.tsc_span.specs.Span.{Interval, nothing, between, is_below}
-use Rattle.tsc_nodes.specs.Page.{Mark, values_on}
+use Rattle.tsc_page_base.specs.Page.{Mark, values_on}
 use Rattle.tsc_cache.specs.Settings.{Settings}
 use Rattle.tsc_cache.specs.State.{CacheState, look}
 use Rattle.tsc_cache.specs.CacheView.{CacheView, StandsForState}

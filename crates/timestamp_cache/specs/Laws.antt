@@ -5,7 +5,7 @@ use Rattle.tsc_time.specs.Time.{Time, is_before, time_minus}
 use Rattle.tsc_time.specs.OwnedTime.{Owner, OwnedTime}
 use Rattle.tsc_time.specs.Joint.{IsAtMost}
 use Rattle.tsc_span.specs.Span.{Interval, overlaps}
-use Rattle.tsc_nodes.specs.Page.{Mark}
+use Rattle.tsc_page_base.specs.Page.{Mark}
 use Rattle.tsc_cache.specs.Settings.{Settings}
 use Rattle.tsc_cache.specs.State.{CacheState, step_all, look}
 use Rattle.tsc_cache.specs.declared.history.Entry.{Entry}

@@ -3,7 +3,7 @@ use Rattle.std.specs.Prelude.{◌≡◌, ◌⊎◌, ℕ, List, [], ◌∷◌, �
 use Rattle.tsc_time.specs.Time.{is_before}
 use Rattle.tsc_time.specs.OwnedTime.{OwnedTime}
 use Rattle.tsc_span.specs.Span.{KeyBytes, Cut, before, after, last, is_below, Interval}
-use Rattle.tsc_nodes.specs.PageView.{is_in}
+use Rattle.tsc_page_base.specs.PageView.{is_in}
 use Rattle.timestamp_cache.specs.HandOver.{Summary}
 
 -- whether a cut is the place after a key

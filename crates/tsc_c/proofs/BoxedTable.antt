@@ -27,7 +27,7 @@ use Rattle.std.specs.contracts.impls.GlobalAllocator.TheImpl.{ghosts, dict}
 use Rattle.std.proofs.BoxSteps.Form.{Bx, D, B, box_ty, box_typed}
 use Rattle.std.proofs.BoxSteps.Steps.{box_out, box_in}
 use Rattle.tsc_c.specs.Placing.{Kept}
-use Rattle.tsc_table.proofs.table.Table.TheLaws as table_laws
+use Rattle.tsc_c_table.proofs.table.Table.TheLaws as table_laws
 use Rattle.tsc_c.proofs.Destruct++none.drop.Symbol as stays_there
 
 -- a call spells a type without its name

@@ -15,10 +15,10 @@ use denote.Param.Glue.{Met}
 use denote.Triple.Clauses.{Ended, Lasts, lasts, at_exit}
 use denote.Triple.Walked.{Fit}
 use Rattle.tsc_c.proofs.BoxedTable.{Passed, passed_laws}
-use Rattle.tsc_c.proofs.tsc_table++table++Table+Destruct.drop.Symbol as goes
-use Rattle.tsc_c.proofs.tsc_table++table++Table+Destruct.drop.Kinds as kinds
-use Rattle.tsc_c.proofs.tsc_table++table++Table+Destruct.drop.Reads as reads
-use Rattle.tsc_c.proofs.tsc_table++table++Table+Destruct.drop.Met as going
+use Rattle.tsc_c.proofs.tsc_c_table++table++Table+Destruct.drop.Symbol as goes
+use Rattle.tsc_c.proofs.tsc_c_table++table++Table+Destruct.drop.Kinds as kinds
+use Rattle.tsc_c.proofs.tsc_c_table++table++Table+Destruct.drop.Reads as reads
+use Rattle.tsc_c.proofs.tsc_c_table++table++Table+Destruct.drop.Met as going
 
 abbrev pub table_drop : Dict
 table_drop = impl (goes.symbol ∷ []) tnil dnil

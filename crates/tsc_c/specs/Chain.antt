@@ -3,16 +3,16 @@ use Rattle.std.specs.Prelude.{◌≡◌, ℕ, List, [], ◌∷◌, ◌++◌, len
 use Rattle.tsc_time.specs.Time.{Time}
 use Rattle.tsc_time.specs.OwnedTime.{OwnedTime}
 use Rattle.tsc_span.specs.Span.{KeyBytes, Interval}
-use Rattle.tsc_nodes.specs.Page.{Mark}
+use Rattle.tsc_page_base.specs.Page.{Mark}
 use Rattle.tsc_cache.specs.declared.added.Added.{Added}
 use Rattle.tsc_cache.specs.Settings.{Settings}
 use Rattle.tsc_cache.specs.State.{look}
 use Rattle.tsc_cache.specs.declared.history.Entry.{Entry}
 use Rattle.tsc_cache.specs.History.{History, state_of}
 use Rattle.tsc_cache.specs.CacheView.{CacheView, StandsForState}
-use Rattle.tsc_table.specs.declared.words.TscMark.{TscMark}
-use Rattle.tsc_table.specs.Asked.{lookup_span}
-use Rattle.tsc_table.specs.Calls.{Opens, Looks, AddsTo, AddsAllTo}
+use Rattle.tsc_c_table.specs.declared.words.TscMark.{TscMark}
+use Rattle.tsc_c_table.specs.Asked.{lookup_span}
+use Rattle.tsc_c_table.specs.Calls.{Opens, Looks, AddsTo, AddsAllTo}
 
 -- the next entry of a history, all of which is one caller's
 abbrev pub next_entry : History → List Mark → Time → Entry

@@ -9,7 +9,7 @@ use Rattle.std.specs.contracts.impls.GlobalAllocator.TheImpl.{ghosts}
 use Rattle.std.specs.declared.option.Option.{Option}
 use Rattle.std.specs.declared.option.Option.TheVariants.{None, Some}
 use Rattle.std.specs.Box.Ownership.{box_owns}
-use Rattle.tsc_table.specs.contracts.table.Table.{the_row}
+use Rattle.tsc_c_table.specs.contracts.table.Table.{the_row}
 
 abbrev pub Kept : RattleType
 Kept = the_row

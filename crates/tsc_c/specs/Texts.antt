@@ -1,7 +1,7 @@
 -- Texts that go into a buffer of a program in C, and what it is told of them.
 use Rattle.std.specs.Prelude.{◌≡◌, ◌≤◌, ◌<◌, ◌++◌, ◌⊎◌, ℕ, List, length, drop}
-use Rattle.tsc_texts.specs.declared.outcome.Outcome.{Outcome}
-use Rattle.tsc_texts.specs.declared.outcome.Outcome.TheVariants.{Text, Refused}
+use Rattle.tsc_c_texts.specs.declared.outcome.Outcome.{Outcome}
+use Rattle.tsc_c_texts.specs.declared.outcome.Outcome.TheVariants.{Text, Refused}
 
 -- the text of what is said
 abbrev pub text_of : Outcome → List ℕ

@@ -7,12 +7,12 @@ use Rattle.tsc_cache.specs.declared.config.ConfigFault.TheVariants as fault
 use Rattle.tsc_cache.specs.Settings.{settings_of}
 use Rattle.tsc_cache.specs.CacheView.{CacheView}
 use Rattle.tsc_shared.specs.Seats.{SeatView}
-use Rattle.tsc_table.specs.declared.words.TscMark.{TscMark}
-use Rattle.tsc_table.specs.declared.refusal.Refusal.{Refusal}
-use Rattle.tsc_table.specs.declared.refusal.Refusal.TheVariants as refusal
-use Rattle.tsc_table.specs.Asked.{RefusesTime}
-use Rattle.tsc_table.specs.Calls.{RefusesAdd, RefusesAddAll}
-use Rattle.tsc_table.specs.SeatCalls.{RefusesSeats, RefusesRoom, RefusesSeatAdd, RefusesSeatAddAll}
+use Rattle.tsc_c_table.specs.declared.words.TscMark.{TscMark}
+use Rattle.tsc_c_table.specs.declared.refusal.Refusal.{Refusal}
+use Rattle.tsc_c_table.specs.declared.refusal.Refusal.TheVariants as refusal
+use Rattle.tsc_c_table.specs.Asked.{RefusesTime}
+use Rattle.tsc_c_table.specs.Calls.{RefusesAdd, RefusesAddAll}
+use Rattle.tsc_c_table.specs.SeatCalls.{RefusesSeats, RefusesRoom, RefusesSeatAdd, RefusesSeatAddAll}
 
 -- Why settings were refused.
 abbrev pub RefusesSettings : Refusal → ConfigFault → Type 0

@@ -2,19 +2,19 @@
 
 ghost use Rattle.std.specs.Prelude.{◌≡◌, ◌≢◌, ◌⊎◌, IfOk, IfErr, OnErr, Ok as Made, None};
 ghost use Rattle.tsc_cache.specs.Settings.{Settings, settings_of};
-ghost use Rattle.tsc_table.specs.Asked.{time_of, value_of};
-ghost use Rattle.tsc_table.specs.Table.{entries_of, seat_at, shared_at, Keeps};
-ghost use Rattle.tsc_table.specs.SeatCalls.{OpensShared, RefusesSeats, RefusesRoom, IsNoSeat, SeatLooks, RefusesSeatLookup, SeatStandsAt, SeatCounts, SeatAddsTo, SeatAddsAllTo, Spares, RefusesSeatAdd, RefusesSeatAddAll, Moves, RefusesMove, ClosesShared, RefusesCloseShared};
+ghost use Rattle.tsc_c_table.specs.Asked.{time_of, value_of};
+ghost use Rattle.tsc_c_table.specs.Table.{entries_of, seat_at, shared_at, Keeps};
+ghost use Rattle.tsc_c_table.specs.SeatCalls.{OpensShared, RefusesSeats, RefusesRoom, IsNoSeat, SeatLooks, RefusesSeatLookup, SeatStandsAt, SeatCounts, SeatAddsTo, SeatAddsAllTo, Spares, RefusesSeatAdd, RefusesSeatAddAll, Moves, RefusesMove, ClosesShared, RefusesCloseShared};
 ghost use Rattle.tsc_c.specs.Timed.{RefusesOpenShared, RefusesTimedSeatAdd, RefusesTimedSeatAddAll};
 
 use crate::held::{config, table_in};
 use crate::place::Place;
 use std::alloc::Global;
 use std::mem::replace;
+use tsc_c_table::asked::{time, value as value_asked};
+use tsc_c_table::{Placed, Refusal, Table, TscMark, TscTime, TscValue, may_seat};
 use tsc_cache::Config;
 use tsc_shared::{Answer, Figures, LowWater};
-use tsc_table::asked::{time, value as value_asked};
-use tsc_table::{Placed, Refusal, Table, TscMark, TscTime, TscValue, may_seat};
 use tsc_time::{Timestamp, Value};
 
 /// Opens a shared cache.

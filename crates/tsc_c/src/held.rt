@@ -3,18 +3,18 @@
 ghost use Rattle.std.specs.Prelude.{◌≡◌, ◌≢◌, IfOk, IfErr, OnErr, Ok as Made, Err as Refused, None};
 ghost use Rattle.tsc_cache.specs.Settings.{Settings, settings_of};
 ghost use Rattle.tsc_cache.specs.declared.config.ConfigFault.{ConfigFault as Fault};
-ghost use Rattle.tsc_table.specs.Asked.{time_of, value_of, added_of};
-ghost use Rattle.tsc_table.specs.Calls.{Opens, Looks, StandsAt, Counts, AddsTo, AddsAllTo, IsClosed, RefusesLookup, RefusesAdd, RefusesAddAll};
-ghost use Rattle.tsc_table.specs.Table.{cache_at, entries_of, Keeps, GivesNext};
-ghost use Rattle.tsc_table.specs.declared.refusal.Refusal.TheVariants.{NoMemory};
+ghost use Rattle.tsc_c_table.specs.Asked.{time_of, value_of, added_of};
+ghost use Rattle.tsc_c_table.specs.Calls.{Opens, Looks, StandsAt, Counts, AddsTo, AddsAllTo, IsClosed, RefusesLookup, RefusesAdd, RefusesAddAll};
+ghost use Rattle.tsc_c_table.specs.Table.{cache_at, entries_of, Keeps, GivesNext};
+ghost use Rattle.tsc_c_table.specs.declared.refusal.Refusal.TheVariants.{NoMemory};
 ghost use Rattle.tsc_c.specs.Timed.{RefusesConfig, RefusesOpen, RefusesSettings, RefusesTimedAdd, RefusesTimedAddAll};
 
 use crate::place::Place;
 use std::alloc::Global;
 use std::mem::replace;
+use tsc_c_table::asked::{time, value as value_asked};
+use tsc_c_table::{Refusal, Table, TscAdded, TscFigures, TscMark, TscTime, TscValue};
 use tsc_cache::{Added, Config, ConfigFault};
-use tsc_table::asked::{time, value as value_asked};
-use tsc_table::{Refusal, Table, TscAdded, TscFigures, TscMark, TscTime, TscValue};
 use tsc_time::{Timestamp, Value};
 
 /// Opens a cache.

@@ -8,11 +8,11 @@
 
 ghost use Rattle.std.specs.Prelude.{◌≡◌, ◌≢◌, Ok as Made, None};
 ghost use Rattle.tsc_cache.specs.Settings.{Settings, settings_of};
-ghost use Rattle.tsc_table.specs.Codes.{code_of};
-ghost use Rattle.tsc_table.specs.Asked.{time_of, value_of, added_of};
-ghost use Rattle.tsc_table.specs.Calls.{Opens, Looks, StandsAt, Counts, AddsTo, AddsAllTo, IsClosed, RefusesLookup};
-ghost use Rattle.tsc_table.specs.Table.{cache_at, entries_of, Keeps, GivesNext};
-ghost use Rattle.tsc_table.specs.declared.refusal.Refusal.{Refusal as Why};
+ghost use Rattle.tsc_c_table.specs.Codes.{code_of};
+ghost use Rattle.tsc_c_table.specs.Asked.{time_of, value_of, added_of};
+ghost use Rattle.tsc_c_table.specs.Calls.{Opens, Looks, StandsAt, Counts, AddsTo, AddsAllTo, IsClosed, RefusesLookup};
+ghost use Rattle.tsc_c_table.specs.Table.{cache_at, entries_of, Keeps, GivesNext};
+ghost use Rattle.tsc_c_table.specs.declared.refusal.Refusal.{Refusal as Why};
 ghost use Rattle.tsc_c.specs.Timed.{RefusesOpen, RefusesTimedAdd, RefusesTimedAddAll};
 
 mod halls;
@@ -28,7 +28,7 @@ mod texts_tests;
 
 use place::Place;
 use std::alloc::Global;
-use tsc_table::{OK, TscAdded, TscFigures, TscMark, TscTime, TscValue, asked};
+use tsc_c_table::{OK, TscAdded, TscFigures, TscMark, TscTime, TscValue, asked};
 
 /// Opens a cache, and writes its number, which was not given before. The place may be zeros.
 #[unsafe(no_mangle)]

@@ -2,13 +2,13 @@ ghost use Rattle.std.specs.Prelude.{◌≡◌};
 ghost use Rattle.std.specs.Option.{MatchOption};
 ghost use Rattle.std.specs.declared.option.Option.{Option as Maybe};
 ghost use Rattle.std.specs.declared.option.Option.TheVariants.{None, Some};
-ghost use Rattle.tsc_table.specs.declared.table.Table.{Table as Held};
+ghost use Rattle.tsc_c_table.specs.declared.table.Table.{Table as Held};
 ghost use Rattle.tsc_c.specs.Placing.{place_owns};
 
 use std::alloc::Global;
 use std::marker::Model;
 use std::ptr::null_mut;
-use tsc_table::Table;
+use tsc_c_table::Table;
 
 /// A place in the memory of a program in C, which owns a table of caches, or nothing.
 ///

@@ -2,17 +2,17 @@
 
 ghost use Rattle.std.specs.Prelude.{◌≡◌, ◌≢◌, Ok as Made, None};
 ghost use Rattle.tsc_cache.specs.Settings.{Settings, settings_of};
-ghost use Rattle.tsc_table.specs.Codes.{code_of};
-ghost use Rattle.tsc_table.specs.Asked.{time_of, value_of, added_of};
-ghost use Rattle.tsc_table.specs.Table.{entries_of, seat_at, shared_at, Keeps};
-ghost use Rattle.tsc_table.specs.SeatCalls.{OpensShared, IsNoSeat, SeatLooks, RefusesSeatLookup, SeatStandsAt, SeatCounts, SeatAddsTo, SeatAddsAllTo, Spares, Moves, RefusesMove, ClosesShared, RefusesCloseShared};
-ghost use Rattle.tsc_table.specs.declared.refusal.Refusal.{Refusal as Why};
+ghost use Rattle.tsc_c_table.specs.Codes.{code_of};
+ghost use Rattle.tsc_c_table.specs.Asked.{time_of, value_of, added_of};
+ghost use Rattle.tsc_c_table.specs.Table.{entries_of, seat_at, shared_at, Keeps};
+ghost use Rattle.tsc_c_table.specs.SeatCalls.{OpensShared, IsNoSeat, SeatLooks, RefusesSeatLookup, SeatStandsAt, SeatCounts, SeatAddsTo, SeatAddsAllTo, Spares, Moves, RefusesMove, ClosesShared, RefusesCloseShared};
+ghost use Rattle.tsc_c_table.specs.declared.refusal.Refusal.{Refusal as Why};
 ghost use Rattle.tsc_c.specs.Timed.{RefusesOpenShared, RefusesTimedSeatAdd, RefusesTimedSeatAddAll};
 
 use crate::place::Place;
 use crate::{halls, held};
 use std::alloc::Global;
-use tsc_table::{OK, TscAdded, TscFigures, TscMark, TscTime, TscValue, asked};
+use tsc_c_table::{OK, TscAdded, TscFigures, TscMark, TscTime, TscValue, asked};
 
 /// Opens a cache that threads share, and writes its number. Its seats have the numbers behind that, in their order.
 #[unsafe(no_mangle)]

@@ -10,7 +10,7 @@ use crate::{
 };
 use std::alloc::Global;
 use std::test::*;
-use tsc_table::{TscAdded, TscFigures, TscMark, TscTime, TscValue};
+use tsc_c_table::{TscAdded, TscFigures, TscMark, TscTime, TscValue};
 
 const LOW: TscTime = TscTime {
     wall: 5,

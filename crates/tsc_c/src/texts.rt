@@ -1,15 +1,15 @@
 //! The calls from bytes to texts: replays of traces, and checks of logs.
 
 ghost use Rattle.std.specs.Prelude.{◌≡◌, ◌≢◌};
-ghost use Rattle.tsc_texts.specs.Texts.{SaysOfReplay, SaysOfCheck};
-ghost use Rattle.tsc_texts.specs.declared.outcome.Outcome.{Outcome as Said};
-ghost use Rattle.tsc_table.specs.Codes.{code_of};
+ghost use Rattle.tsc_c_texts.specs.Texts.{SaysOfReplay, SaysOfCheck};
+ghost use Rattle.tsc_c_texts.specs.declared.outcome.Outcome.{Outcome as Said};
+ghost use Rattle.tsc_c_table.specs.Codes.{code_of};
 ghost use Rattle.tsc_c.specs.Texts.{text_of, told_of, Puts};
-ghost use Rattle.tsc_table.specs.declared.refusal.Refusal.TheVariants.{NoMemory};
+ghost use Rattle.tsc_c_table.specs.declared.refusal.Refusal.TheVariants.{NoMemory};
 
 use std::alloc::Global;
-use tsc_table::{OK, Refusal};
-use tsc_texts::{Outcome, check_bytes, replay_bytes};
+use tsc_c_table::{OK, Refusal};
+use tsc_c_texts::{Outcome, check_bytes, replay_bytes};
 
 /// What a call answers that has put into the buffer why the bytes were refused. It is the number of no `Refusal`.
 const REFUSED: u32 = 16;

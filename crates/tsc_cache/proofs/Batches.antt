@@ -4,8 +4,8 @@ use Rattle.std.proofs.lemmas.Bool.{cases_Bool, and_parts}
 use Rattle.std.proofs.lemmas.List.{length-append, length-take-le, take_more, drop_more, take_all}
 use Rattle.std.proofs.lemmas.List.Elements.{All-push}
 use Rattle.tsc_time.specs.Time.{Time}
-use Rattle.tsc_nodes.specs.Page.{Mark}
-use Rattle.tsc_nodes.specs.PageView.{PageView}
+use Rattle.tsc_page_base.specs.Page.{Mark}
+use Rattle.tsc_page_base.specs.PageView.{PageView}
 use Rattle.tsc_cache.specs.declared.added.Added.{Added}
 use Rattle.tsc_cache.specs.Settings.{Settings, fits}
 use Rattle.tsc_cache.specs.State.{CacheState, Stepped, is_kept, not_kept, added_with, step, step_all}

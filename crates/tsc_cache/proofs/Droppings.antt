@@ -6,8 +6,8 @@ use Rattle.std.proofs.lemmas.List.{map-append, length-append, length-map, length
 use Rattle.std.proofs.lemmas.List.Elements.{All-nil, All-cons}
 use Rattle.std.specs.Ordering.{ord_max}
 use Rattle.tsc_time.specs.Time.{Time, time_cmp, later}
-use Rattle.tsc_nodes.specs.PageView.{PageView}
-use Rattle.tsc_nodes.proofs.Standing.{later-max, later-swap}
+use Rattle.tsc_page_base.specs.PageView.{PageView}
+use Rattle.tsc_page_base.proofs.Standing.{later-max, later-swap}
 use Rattle.tsc_cache.specs.Settings.{Settings}
 use Rattle.tsc_cache.specs.State.{is_past_retention}
 use Rattle.tsc_cache.specs.Eviction.{highest, OldestStays}

@@ -6,8 +6,8 @@ use Rattle.std.proofs.lemmas.List.Elements.{All-nil, All-cons, All-head, All-tai
 use Rattle.std.proofs.lemmas.Grind.{reverse_onto}
 use Rattle.std.proofs.lemmas.Bool.{cases_Bool, and_parts, and_cases, le-leb, leb-true, leb-false}
 use Rattle.tsc_time.specs.Time.{Time, later}
-use Rattle.tsc_nodes.specs.Page.{PageMarks, top}
-use Rattle.tsc_nodes.proofs.Standing.{later-swap}
+use Rattle.tsc_page_base.specs.Page.{PageMarks, top}
+use Rattle.tsc_page_base.proofs.Standing.{later-swap}
 use Rattle.tsc_cache.specs.Settings.{Settings}
 use Rattle.tsc_cache.specs.State.{Eviction, is_past_retention, is_expired, evict}
 use Rattle.tsc_cache.specs.Eviction.{highest, Evicts}

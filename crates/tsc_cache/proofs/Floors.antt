@@ -8,7 +8,7 @@ use Rattle.tsc_time.specs.Time.{Time, is_before, later, time_minus}
 use Rattle.tsc_time.proofs.TimeOrder.{later-tells, is_before-itself, is_before-opposite, no_earlier-transitive}
 use Rattle.tsc_time.proofs.Members.{IsIn, IsIn-from_Contains, Contains-from_IsIn}
 use Rattle.tsc_time.proofs.JointLemmas.{latest-each}
-use Rattle.tsc_nodes.specs.Page.{Mark, PageMarks, top}
+use Rattle.tsc_page_base.specs.Page.{Mark, PageMarks, top}
 use Rattle.tsc_cache.specs.State.{is_past_retention}
 use Rattle.tsc_cache.specs.Eviction.{highest}
 use Rattle.tsc_cache.proofs.MarkLists.{all_marks}

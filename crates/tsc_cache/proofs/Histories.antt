@@ -10,7 +10,7 @@ use Rattle.tsc_time.specs.Joint.{joint_above, IsAtMost}
 use Rattle.tsc_time.proofs.TimeOrder.{is_before-itself, is_before-transitive, no_earlier-transitive}
 use Rattle.tsc_time.proofs.Members.{IsIn, IsIn-from_Contains}
 use Rattle.tsc_span.specs.Span.{Interval}
-use Rattle.tsc_nodes.specs.Page.{Mark}
+use Rattle.tsc_page_base.specs.Page.{Mark}
 use Rattle.tsc_cache.specs.Settings.{Settings}
 use Rattle.tsc_cache.specs.State.{CacheState, opening, step_all, look}
 use Rattle.tsc_cache.specs.History.{Entry, History, state_from, state_of, marks_of, marks_on, BeginsWith}

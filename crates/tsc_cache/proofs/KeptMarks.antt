@@ -10,7 +10,7 @@ use Rattle.tsc_time.specs.Joint.{joint_above, IsAtMost}
 use Rattle.tsc_time.proofs.TimeOrder.{no_earlier-transitive}
 use Rattle.tsc_time.proofs.RatchetOrder.{IsAtMost-antisymmetric, IsAtMost-transitive}
 use Rattle.tsc_span.specs.Span.{Interval, nothing, between, overlaps, is_empty_span}
-use Rattle.tsc_nodes.specs.Page.{Mark, PageMarks, top, values_on}
+use Rattle.tsc_page_base.specs.Page.{Mark, PageMarks, top, values_on}
 use Rattle.tsc_cache.specs.Settings.{Settings}
 use Rattle.tsc_cache.specs.State.{CacheState, opening, is_kept, marked, rotate, step, step_all, look}
 use Rattle.tsc_cache.specs.Eviction.{highest}

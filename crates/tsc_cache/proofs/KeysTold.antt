@@ -6,10 +6,10 @@ use Rattle.std.specs.Str.{bytes_eq}
 use Rattle.std.proofs.lemmas.Bool.{cases_Bool}
 use Rattle.std.proofs.lemmas.List.Folds.{list_any-append}
 use Rattle.tsc_span.specs.Span.{KeyBytes, Cut, before, is_below}
-use Rattle.tsc_nodes.specs.Page.{PageMarks, marked_keys}
-use Rattle.tsc_nodes.specs.PageView.{PageView, is_in}
-use Rattle.tsc_nodes.specs.KeysAbove.{IsLeastAbove}
-use Rattle.tsc_nodes.proofs.CutOrder.{Le-from_Lt, Le-chain}
+use Rattle.tsc_page_base.specs.Page.{PageMarks, marked_keys}
+use Rattle.tsc_page_base.specs.PageView.{PageView, is_in}
+use Rattle.tsc_page_base.specs.KeysAbove.{IsLeastAbove}
+use Rattle.tsc_page_base.proofs.CutOrder.{Le-from_Lt, Le-chain}
 use Rattle.tsc_cache.specs.CacheView.{EachStandsFor}
 use Rattle.tsc_cache.specs.Keys.{keys_on, keys_seen, lesser}
 

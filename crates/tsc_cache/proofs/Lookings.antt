@@ -10,8 +10,8 @@ use Rattle.tsc_time.proofs.Members.{IsIn, IsIn-from_Contains, Contains-from_IsIn
 use Rattle.tsc_time.proofs.JointLemmas.{joint-above, joint-least, joint-append}
 use Rattle.tsc_time.proofs.RatchetOrder.{IsAtMost-itself, IsAtMost-antisymmetric}
 use Rattle.tsc_span.specs.Span.{Interval}
-use Rattle.tsc_nodes.specs.Page.{values_on}
-use Rattle.tsc_nodes.specs.PageView.{PageView, answer}
+use Rattle.tsc_page_base.specs.Page.{values_on}
+use Rattle.tsc_page_base.specs.PageView.{PageView, answer}
 use Rattle.tsc_cache.specs.CacheView.{latest_answer, LooksIntoViews}
 use Rattle.tsc_cache.specs.Stacks.{HaveTopsUpTo, AreStacked, pages_answer}
 

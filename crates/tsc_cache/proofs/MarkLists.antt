@@ -8,7 +8,7 @@ use Rattle.tsc_time.specs.OwnedTime.{OwnedTime}
 use Rattle.tsc_time.specs.Joint.{joint_above}
 use Rattle.tsc_time.proofs.Members.{IsIn, IsIn-from_Contains, Contains-from_IsIn}
 use Rattle.tsc_span.specs.Span.{Interval, overlaps}
-use Rattle.tsc_nodes.specs.Page.{Mark, PageMarks, values_on}
+use Rattle.tsc_page_base.specs.Page.{Mark, PageMarks, values_on}
 use Rattle.tsc_cache.specs.State.{CacheState, look}
 
 -- the marks on all of some pages

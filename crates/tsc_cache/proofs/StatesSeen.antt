@@ -15,10 +15,10 @@ use Rattle.tsc_time.proofs.Members.{IsIn, IsIn-from_Contains, Contains-from_IsIn
 use Rattle.tsc_time.proofs.JointLemmas.{joint-above, joint-least, joint-append}
 use Rattle.tsc_time.proofs.RatchetOrder.{IsAtMost-antisymmetric, IsAtMost-transitive}
 use Rattle.tsc_span.specs.Span.{Interval, overlaps, end_keys, span_cost}
-use Rattle.tsc_nodes.specs.Page.{Mark, PageMarks, empty_page, with_mark, top, values_on, marked_keys}
-use Rattle.tsc_nodes.specs.PageView.{PageView, StandsFor, NoAnswerAboveTop, answer, is_in}
-use Rattle.tsc_nodes.proofs.Standing.{same_room, top_with}
-use Rattle.tsc_nodes.proofs.Lookups.{values_on-more}
+use Rattle.tsc_page_base.specs.Page.{Mark, PageMarks, empty_page, with_mark, top, values_on, marked_keys}
+use Rattle.tsc_page_base.specs.PageView.{PageView, StandsFor, NoAnswerAboveTop, answer, is_in}
+use Rattle.tsc_page_base.proofs.Standing.{same_room, top_with}
+use Rattle.tsc_page_base.proofs.Lookups.{values_on-more}
 use Rattle.tsc_cache.specs.declared.added.Added.{Added}
 use Rattle.tsc_cache.specs.Settings.{Settings}
 use Rattle.tsc_cache.specs.State.{CacheState, is_kept, kept_without_rotation, kept_after_rotation, counted_on, front_has_room, marked, on_front, front_top, front_size, next_size, new_front, evict, rotate, step, look, Eviction}

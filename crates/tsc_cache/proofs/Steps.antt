@@ -5,7 +5,7 @@ use Rattle.std.proofs.lemmas.List.Elements.{All-contains}
 use Rattle.tsc_time.specs.Time.{Time, is_before}
 use Rattle.tsc_time.proofs.TimeOrder.{is_before-itself, no_earlier-transitive}
 use Rattle.tsc_span.specs.Span.{Interval}
-use Rattle.tsc_nodes.specs.Page.{Mark, PageMarks, top}
+use Rattle.tsc_page_base.specs.Page.{Mark, PageMarks, top}
 use Rattle.tsc_cache.specs.declared.added.Added.{Added}
 use Rattle.tsc_cache.specs.Settings.{Settings}
 use Rattle.tsc_cache.specs.State.{CacheState, is_past_retention, is_kept, front_has_room, new_front, marked, counted_on, evict, rotate, added_with, not_kept, step, step_all}

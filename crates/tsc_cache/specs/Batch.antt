@@ -1,7 +1,7 @@
 -- Several marks that are added at one moment, all of them or none: which of them fit, whether any is kept, and what they make of all that can be seen of a cache.
 use Rattle.std.specs.Prelude.{◌≡◌, ◌<◌, ℕ, List, [], ◌∷◌, length, take, Bool, true, false, ◌||◌, ◌&&◌}
 use Rattle.tsc_time.specs.Time.{Time}
-use Rattle.tsc_nodes.specs.Page.{Mark}
+use Rattle.tsc_page_base.specs.Page.{Mark}
 use Rattle.tsc_cache.specs.declared.added.Added.{Added}
 use Rattle.tsc_cache.specs.declared.fault.CacheFault.{CacheFault}
 use Rattle.tsc_cache.specs.declared.fault.CacheFault.TheVariants.{TooLarge, NoMemory}

@@ -4,8 +4,8 @@ use Rattle.tsc_time.specs.Time.{Time, zero_time, later}
 use Rattle.tsc_time.specs.OwnedTime.{OwnedTime}
 use Rattle.tsc_time.specs.Joint.{joint, joint_above}
 use Rattle.tsc_span.specs.Span.{KeyBytes, Interval, overlaps, end_keys, span_cost}
-use Rattle.tsc_nodes.specs.Page.{Mark, PageMarks, empty_page, with_mark}
-use Rattle.tsc_nodes.specs.PageView.{PageView, StandsFor, answer, is_in, has_room_for}
+use Rattle.tsc_page_base.specs.Page.{Mark, PageMarks, empty_page, with_mark}
+use Rattle.tsc_page_base.specs.PageView.{PageView, StandsFor, answer, is_in, has_room_for}
 use Rattle.tsc_cache.specs.declared.added.Added.{Added}
 use Rattle.tsc_cache.specs.Settings.{Settings}
 use Rattle.tsc_cache.specs.State.{CacheState, is_kept, not_kept, kept_without_rotation, kept_after_rotation, counted_on, next_size}

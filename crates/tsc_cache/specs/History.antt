@@ -5,7 +5,7 @@ use Rattle.tsc_time.specs.Time.{Time, is_in_range}
 use Rattle.tsc_time.specs.OwnedTime.{OwnedTime, IsMadeValue}
 use Rattle.tsc_span.specs.Span.{Interval}
 use Rattle.tsc_span.specs.MadeSpan.{IsMadeSpan}
-use Rattle.tsc_nodes.specs.Page.{Mark, values_on}
+use Rattle.tsc_page_base.specs.Page.{Mark, values_on}
 use Rattle.tsc_cache.specs.Settings.{Settings, fits}
 use Rattle.tsc_cache.specs.State.{CacheState, opening, step_all}
 pub use Rattle.tsc_cache.specs.declared.history.Entry.{Entry}

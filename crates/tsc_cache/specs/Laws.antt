@@ -4,7 +4,7 @@ use Rattle.tsc_time.specs.Time.{Time, is_before, time_minus}
 use Rattle.tsc_time.specs.OwnedTime.{Owner, OwnedTime}
 use Rattle.tsc_time.specs.Joint.{joint_above, IsAtMost}
 use Rattle.tsc_span.specs.Span.{Interval, overlaps}
-use Rattle.tsc_nodes.specs.Page.{Mark, PageMarks, top}
+use Rattle.tsc_page_base.specs.Page.{Mark, PageMarks, top}
 use Rattle.tsc_cache.specs.Settings.{Settings}
 use Rattle.tsc_cache.specs.declared.added.Added.{Added}
 use Rattle.tsc_cache.specs.State.{CacheState, look, evict, doubled, next_size, added_with, step, step_all}

@@ -4,7 +4,7 @@ use Rattle.std.specs.List.{flat_map}
 use Rattle.tsc_time.specs.Time.{Time, zero_time, is_before}
 use Rattle.tsc_time.specs.Joint.{latest}
 use Rattle.tsc_span.specs.Span.{Interval}
-use Rattle.tsc_nodes.specs.Page.{PageMarks, top, values_on}
+use Rattle.tsc_page_base.specs.Page.{PageMarks, top, values_on}
 
 -- the latest time of the marks on some pages that overlap a span, or time zero where there are none
 abbrev pub latest_on : Interval → List PageMarks → Time

@@ -2,7 +2,7 @@
 use Rattle.std.specs.Prelude.{◌≡◌, ℕ, ◌&&◌, nat_le, not, Bool, true, Result, Ok, Err, if◌then◌else◌}
 use Rattle.tsc_time.specs.Time.{Time}
 use Rattle.tsc_span.specs.Span.{Interval, span_cost}
-use Rattle.tsc_nodes.specs.declared.TheConstants.{LEAST_SIZE, MOST_SIZE}
+use Rattle.tsc_page_base.specs.declared.TheConstants.{LEAST_SIZE, MOST_SIZE}
 use Rattle.tsc_cache.specs.declared.config.TheConstants.{LEAST_MIN_PAGES, MOST_MIN_PAGES, LONGEST_RETENTION}
 use Rattle.tsc_cache.specs.declared.config.ConfigFault.{ConfigFault}
 use Rattle.tsc_cache.specs.declared.config.ConfigFault.TheVariants.{PageSize, MinPages, Retention}

@@ -4,7 +4,7 @@ use Rattle.tsc_time.specs.Time.{Time, zero_time, is_before}
 use Rattle.tsc_time.specs.OwnedTime.{OwnedTime}
 use Rattle.tsc_time.specs.Joint.{joint_above}
 use Rattle.tsc_span.specs.Span.{Interval}
-use Rattle.tsc_nodes.specs.PageView.{PageView, NoAnswerAboveTop, answer}
+use Rattle.tsc_page_base.specs.PageView.{PageView, NoAnswerAboveTop, answer}
 use Rattle.tsc_cache.specs.Settings.{Settings}
 use Rattle.tsc_cache.specs.State.{is_past_retention}
 use Rattle.tsc_cache.specs.Eviction.{highest, OldestStays, Evicts}

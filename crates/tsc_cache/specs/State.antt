@@ -5,7 +5,7 @@ use Rattle.tsc_time.specs.Time.{Time, zero_time, time_minus, is_before, later}
 use Rattle.tsc_time.specs.OwnedTime.{OwnedTime}
 use Rattle.tsc_time.specs.Joint.{joint_above}
 use Rattle.tsc_span.specs.Span.{Interval, is_empty_span, span_cost}
-use Rattle.tsc_nodes.specs.Page.{Mark, PageMarks, empty_page, with_mark, top, values_on, has_room}
+use Rattle.tsc_page_base.specs.Page.{Mark, PageMarks, empty_page, with_mark, top, values_on, has_room}
 use Rattle.tsc_cache.specs.declared.added.Added.{Added}
 use Rattle.tsc_cache.specs.Settings.{Settings}
 

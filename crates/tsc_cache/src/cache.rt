@@ -3,7 +3,7 @@ ghost use Rattle.tsc_time.specs.Time.{Time};
 ghost use Rattle.tsc_span.specs.Span.{is_empty_span};
 ghost use Rattle.tsc_span.specs.LookupSpan.{span_for_lookup};
 ghost use Rattle.tsc_span.specs.Cuts.{cut_of};
-ghost use Rattle.tsc_nodes.specs.KeysAbove.{IsLeastAbove};
+ghost use Rattle.tsc_page_base.specs.KeysAbove.{IsLeastAbove};
 ghost use Rattle.tsc_cache.specs.Settings.{Settings, fits};
 ghost use Rattle.tsc_cache.specs.State.{CacheState, opening, step, step_all, look, is_kept, kept_after_rotation};
 ghost use Rattle.tsc_cache.specs.Lookup.{LooksIntoPages};

@@ -1,5 +1,5 @@
 ghost use Rattle.std.specs.Prelude.{◌≡◌, ◌≤◌, ◌<◌, ◌*◌, ◌^◌, length, min};
-ghost use Rattle.tsc_nodes.specs.declared.TheConstants.{LEAST_SIZE, MOST_SIZE};
+ghost use Rattle.tsc_page_base.specs.declared.TheConstants.{LEAST_SIZE, MOST_SIZE};
 ghost use Rattle.tsc_cache.specs.Settings.{Settings, settings_of, fits, IsWithinLimits};
 ghost use Rattle.tsc_cache.specs.State.{is_past_retention, next_size, counted_on};
 ghost use Rattle.tsc_cache.specs.Batch.{all_fit};

@@ -1,8 +1,8 @@
 ghost use Rattle.std.specs.Prelude.{◌≡◌, ◌∷◌, [], length, true, false, option_map, IfOk, OnOk, OnErr};
 ghost use Rattle.tsc_span.specs.Span.{is_empty_span};
 ghost use Rattle.tsc_span.specs.Cuts.{cut_of};
-ghost use Rattle.tsc_nodes.specs.KeysAbove.{IsLeastAbove};
-ghost use Rattle.tsc_nodes.specs.PageView.{has_room_for};
+ghost use Rattle.tsc_page_base.specs.KeysAbove.{IsLeastAbove};
+ghost use Rattle.tsc_page_base.specs.PageView.{has_room_for};
 ghost use Rattle.tsc_cache.specs.CacheView.{MarksFront, LooksIntoViews};
 ghost use Rattle.tsc_cache.specs.Stacks.{AreStacked, pages_answer, IsExpiredTop, Drops};
 ghost use Rattle.tsc_cache.specs.CacheParts.{front_of, older_of, pages_of};

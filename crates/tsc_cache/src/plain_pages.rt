@@ -1,6 +1,6 @@
 ghost use Rattle.std.specs.Prelude.{◌≡◌, ◌∷◌, [], length, true, false, IfOk, OnOk, OnErr};
 ghost use Rattle.tsc_span.specs.Span.{is_empty_span};
-ghost use Rattle.tsc_nodes.specs.PageView.{has_room_for};
+ghost use Rattle.tsc_page_base.specs.PageView.{has_room_for};
 ghost use Rattle.tsc_cache.specs.CacheView.{MarksFront};
 ghost use Rattle.tsc_cache.specs.Stacks.{pages_answer, IsExpiredTop, Drops};
 ghost use Rattle.tsc_cache.specs.CacheParts.{plain_front_of, plain_older_of, plain_pages_of};

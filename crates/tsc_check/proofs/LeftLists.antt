@@ -4,9 +4,9 @@ use Rattle.std.specs.Prelude.{slice_get}
 use Rattle.std.specs.List.{sum_by}
 use Rattle.std.proofs.lemmas.List.Sums.{sum_by-cons}
 use Rattle.std.proofs.lemmas.Option.{slice_get_within, get_or_from_slice_get}
-use Rattle.tsc_json.specs.Lists.{most_calls, fits_trace}
-use Rattle.tsc_json.proofs.Totals.{total_calls}
-use Rattle.tsc_json.specs.declared.trace.Call.{Call}
+use Rattle.tsc_trace_json.specs.Lists.{most_calls, fits_trace}
+use Rattle.tsc_trace_json.proofs.Totals.{total_calls}
+use Rattle.tsc_trace_json.specs.declared.trace.Call.{Call}
 use Rattle.tsc_trace.specs.declared.log.Line.{Line}
 use Rattle.tsc_check.specs.Verdict.{calls_of_list, calls_of_lists}
 use Rattle.tsc_check.specs.CheckParts.{first_other}

@@ -4,9 +4,9 @@ use Rattle.std.proofs.lemmas.List.Sums.{sum_by-cons}
 use Rattle.tsc_cache.specs.Settings.{Settings}
 use Rattle.tsc_cache.specs.History.{History, BeginsWith}
 use Rattle.tsc_cache.proofs.Beginnings.{begins_itself, begins_on}
-use Rattle.tsc_json.specs.Calls.{addition_of, adds}
-use Rattle.tsc_json.specs.declared.trace.Call.{Call}
-use Rattle.tsc_json.specs.Traces.{Trace}
+use Rattle.tsc_trace_json.specs.Calls.{addition_of, adds}
+use Rattle.tsc_trace_json.specs.declared.trace.Call.{Call}
+use Rattle.tsc_trace_json.specs.Traces.{Trace}
 use Rattle.tsc_trace.specs.Log.{said_after, after_call, after_calls, lines_of_list, lines_of_lists, log_of}
 use Rattle.tsc_check.specs.declared.verdict.Verdict.TheVariants.{Right}
 use Rattle.tsc_check.specs.Verdict.{is_add, reach, verdict_of}

@@ -10,9 +10,9 @@ use Rattle.tsc_cache.specs.Settings.{Settings}
 use Rattle.tsc_cache.specs.declared.added.Added.{Added}
 use Rattle.tsc_cache.specs.History.{History, BeginsWith}
 use Rattle.tsc_cache.proofs.Beginnings.{begins_on}
-use Rattle.tsc_json.specs.Calls.{addition_of, adds}
-use Rattle.tsc_json.specs.declared.trace.Call.{Call}
-use Rattle.tsc_json.specs.Traces.{Trace}
+use Rattle.tsc_trace_json.specs.Calls.{addition_of, adds}
+use Rattle.tsc_trace_json.specs.declared.trace.Call.{Call}
+use Rattle.tsc_trace_json.specs.Traces.{Trace}
 use Rattle.tsc_trace.specs.Log.{said_after, after_call}
 use Rattle.tsc_trace.proofs.Additions.{addition_begins, addition_length, no_addition}
 use Rattle.tsc_trace.proofs.SaidOfCalls.{tells_where_adds}

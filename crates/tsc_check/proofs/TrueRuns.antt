@@ -3,8 +3,8 @@ use Rattle.std.proofs.Common.{cond, ◌≡◌, ◌∙◌, sym, ap, refl, ℕ, su
 use Rattle.std.proofs.lemmas.List.Sums.{sum_by-cons, sum_by-append}
 use Rattle.tsc_cache.specs.Settings.{Settings}
 use Rattle.tsc_cache.specs.History.{History, BeginsWith, state_of}
-use Rattle.tsc_json.specs.Calls.{adds}
-use Rattle.tsc_json.specs.declared.trace.Call.{Call}
+use Rattle.tsc_trace_json.specs.Calls.{adds}
+use Rattle.tsc_trace_json.specs.declared.trace.Call.{Call}
 use Rattle.tsc_trace.specs.Log.{said_after, after_call}
 use Rattle.tsc_trace.specs.declared.log.Line.{Line}
 use Rattle.tsc_trace.proofs.SaidOfCalls.{front_in, tells_in}

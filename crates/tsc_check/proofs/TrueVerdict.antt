@@ -8,9 +8,9 @@ use Rattle.tsc_time.proofs.SharedOwner.{is_same_owner-Decides}
 use Rattle.tsc_cache.specs.Settings.{Settings}
 use Rattle.tsc_cache.specs.declared.history.Entry.{Entry}
 use Rattle.tsc_cache.specs.History.{History, BeginsWith, state_of}
-use Rattle.tsc_json.specs.Calls.{Addition, kind_of, is_same_kind, addition_of, adds}
-use Rattle.tsc_json.specs.declared.trace.Call.{Call}
-use Rattle.tsc_json.specs.Traces.{Trace}
+use Rattle.tsc_trace_json.specs.Calls.{Addition, kind_of, is_same_kind, addition_of, adds}
+use Rattle.tsc_trace_json.specs.declared.trace.Call.{Call}
+use Rattle.tsc_trace_json.specs.Traces.{Trace}
 use Rattle.tsc_trace.specs.Log.{said_after, entry_after, with_addition, after_call}
 use Rattle.tsc_trace.proofs.Additions.{begins_before}
 use Rattle.tsc_trace.proofs.SaidOfCalls.{kind_itself, kind_in}

@@ -1,10 +1,10 @@
 -- The verdict, by the first test that a line fails.
 use Rattle.std.proofs.Common.{◌≡◌, ◌∙◌, sym, ap, refl, ℕ, zero, suc, Bool, true, false, ◌+◌, ◌^◌, max, ◌<◌, ◌≤◌, List, length, Option, Some, None, add-one, arith}
 use Rattle.std.specs.Prelude.{slice_get, if◌then◌else◌, IfSome}
-use Rattle.tsc_json.specs.Lists.{most_calls}
+use Rattle.tsc_trace_json.specs.Lists.{most_calls}
 use Rattle.std.proofs.lemmas.Option.{slice_get_within}
-use Rattle.tsc_json.specs.declared.trace.Call.{Call}
-use Rattle.tsc_json.specs.Traces.{Trace}
+use Rattle.tsc_trace_json.specs.declared.trace.Call.{Call}
+use Rattle.tsc_trace_json.specs.Traces.{Trace}
 use Rattle.tsc_trace.specs.declared.log.Line.{Line}
 use Rattle.tsc_check.specs.declared.verdict.Verdict.TheVariants.{Right, WrongCall, WrongPlace, WrongAnswer}
 use Rattle.tsc_check.specs.Verdict.{calls_of, is_wrong_call, is_wrong_place, is_wrong_answer, or_this, least, named_or, verdict_of}

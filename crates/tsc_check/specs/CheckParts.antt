@@ -5,8 +5,8 @@ use Rattle.tsc_trace.specs.declared.log.Said.{Said}
 use Rattle.tsc_trace.specs.Sayings.{front_of}
 use Rattle.tsc_cache.specs.State.{CacheState}
 use Rattle.tsc_cache.specs.History.{state_of}
-use Rattle.tsc_json.specs.declared.trace.Call.{Call}
-use Rattle.tsc_json.specs.Traces.{Trace}
+use Rattle.tsc_trace_json.specs.declared.trace.Call.{Call}
+use Rattle.tsc_trace_json.specs.Traces.{Trace}
 use Rattle.tsc_check.specs.Verdict.{PlacedCall, calls_of, is_line_of, is_add, is_add_at, adds_in, reaches_above, is_wrong_place, least, first_adds}
 use Rattle.tsc_check.specs.declared.order.Order.{Order}
 

@@ -1,7 +1,7 @@
 -- What a check from two readers to a writer reads and writes, and why it may end early.
 use Rattle.std.specs.Prelude.{◌≡◌, ◌≢◌, ◌++◌, ◌∷◌, [], ◌⊎◌, List, ℕ, Err, codes, decimal}
-use Rattle.tsc_stream.specs.Stream.{KnownReader, KnownWriter, HasRead, CouldNotRead, HasReadTooMuch, RanOutReading, HasWritten, CouldNotWrite}
-use Rattle.tsc_json.specs.Traces.{Trace}
+use Rattle.tsc_trace_io.specs.Stream.{KnownReader, KnownWriter, HasRead, CouldNotRead, HasReadTooMuch, RanOutReading, HasWritten, CouldNotWrite}
+use Rattle.tsc_trace_json.specs.Traces.{Trace}
 use Rattle.tsc_trace.specs.LogText.{line_feed}
 use Rattle.tsc_trace.specs.LogReading.{IsTextOf, ReadsAs}
 use Rattle.tsc_trace.specs.Replay.{HasReadTrace, NotRead, TooMuchRead, RefusedAs, OutOfMemory, fault_text as stream_text}

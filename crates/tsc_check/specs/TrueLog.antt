@@ -2,9 +2,9 @@
 use Rattle.std.specs.Prelude.{◌≡◌, ℕ, suc, ◌+◌, ◌≤◌, List, [], ◌∷◌, ◌++◌, length, count_by}
 use Rattle.tsc_cache.specs.Settings.{Settings}
 use Rattle.tsc_cache.specs.History.{History, BeginsWith}
-use Rattle.tsc_json.specs.Calls.{adds}
-use Rattle.tsc_json.specs.declared.trace.Call.{Call}
-use Rattle.tsc_json.specs.Traces.{Trace}
+use Rattle.tsc_trace_json.specs.Calls.{adds}
+use Rattle.tsc_trace_json.specs.declared.trace.Call.{Call}
+use Rattle.tsc_trace_json.specs.Traces.{Trace}
 use Rattle.tsc_trace.specs.Log.{said_after, after_call, log_of}
 use Rattle.tsc_trace.specs.declared.log.Line.{Line}
 use Rattle.tsc_check.specs.Verdict.{reach, verdict_of}

@@ -5,9 +5,9 @@ use Rattle.tsc_time.specs.Time.{is_same_time}
 use Rattle.tsc_time.specs.OwnedTime.{OwnedTime, is_same_owner}
 use Rattle.tsc_cache.specs.History.{History}
 use Rattle.tsc_cache.specs.declared.added.Added.{Added}
-use Rattle.tsc_json.specs.Calls.{kind_of, is_same_kind}
-use Rattle.tsc_json.specs.declared.trace.Call.{Call}
-use Rattle.tsc_json.specs.Traces.{Trace}
+use Rattle.tsc_trace_json.specs.Calls.{kind_of, is_same_kind}
+use Rattle.tsc_trace_json.specs.declared.trace.Call.{Call}
+use Rattle.tsc_trace_json.specs.Traces.{Trace}
 use Rattle.tsc_trace.specs.Sayings.{kind_of_said, told_of, front_of}
 use Rattle.tsc_trace.specs.Log.{said_after, after_call}
 use Rattle.tsc_trace.specs.declared.log.Line.{Line}

@@ -1,6 +1,6 @@
 //! Checks of a log against its trace, both from readers, with the verdict to a writer.
 ghost use Rattle.std.specs.Prelude.{◌≡◌, ◌++◌, Some, IfOk, IfErr, OnOk, OnErr};
-ghost use Rattle.tsc_stream.specs.Stream.{CouldNotWrite, HasWritten};
+ghost use Rattle.tsc_trace_io.specs.Stream.{CouldNotWrite, HasWritten};
 ghost use Rattle.tsc_trace.specs.Replay.{fault_of_input};
 ghost use Rattle.tsc_trace.specs.declared.replays.ReplayFault.TheVariants as replay_fault;
 ghost use Rattle.tsc_check.specs.Checking.{Checked, HasReadLog, StopsCheck, StopsReadingLog, fault_of_log, fault_text};
@@ -12,9 +12,9 @@ use itoa::Buffer;
 use std::alloc::Global;
 use std::error::Error;
 use std::fmt;
-use tsc_stream::{InputFault, Sink, Source, WriteFailed, read_input, write_both, write_output};
 use tsc_time::NoMemory;
 use tsc_trace::{Log, LogFault, ReplayFault, read_log, read_trace_from};
+use tsc_trace_io::{InputFault, Sink, Source, WriteFailed, read_input, write_both, write_output};
 
 /// Why a check ended without a verdict. Only a failed write comes after a written byte.
 #[derive(Clone, Copy, Debug, PartialEq, Eq)]

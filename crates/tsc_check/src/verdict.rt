@@ -1,10 +1,10 @@
 ghost use Rattle.std.specs.Prelude.{◌≡◌, ◌++◌, Some, OnOk, OnErr};
 ghost use Rattle.tsc_check.specs.Checking.{verdict_line, verdict_text};
-ghost use Rattle.tsc_stream.specs.Stream.{CouldNotWrite, HasWritten};
+ghost use Rattle.tsc_trace_io.specs.Stream.{CouldNotWrite, HasWritten};
 
 use itoa::Buffer;
 use std::fmt;
-use tsc_stream::{Sink, WriteFailed, write_both, write_output};
+use tsc_trace_io::{Sink, WriteFailed, write_both, write_output};
 
 /// What a check says of a log. Lines are counted from 1.
 #[derive(Clone, Copy, Debug, PartialEq, Eq)]

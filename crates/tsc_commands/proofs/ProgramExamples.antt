@@ -1,7 +1,7 @@
 -- What the program comes to where it is known which bytes each file has.
 use Rattle.std.proofs.Common.{◌≡◌, ◌==◌, ◌++◌, ◌⊎◌, ◌∙◌, ℕ, List, [], ◌∷◌, Option, Result, Ok, Err, Some, None, IsNone, codes, false, true≢false, inl, inr, sym, ap, subst, refl}
 use Rattle.tsc_trace.specs.LogText.{line_feed}
-use Rattle.tsc_stream.specs.Stream.{KnownReader, KnownWriter, fresh_reader}
+use Rattle.tsc_trace_io.specs.Stream.{KnownReader, KnownWriter, fresh_reader}
 use Rattle.tsc_commands.specs.Check.{EndsCheck}
 use Rattle.tsc_commands.specs.Place.{Opening}
 use Rattle.tsc_commands.specs.Replay.{EndsReplay}

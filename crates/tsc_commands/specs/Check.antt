@@ -1,7 +1,7 @@
 -- How the command that checks a log against its trace ends: what it did, its exit status, and what it tells.
 use Rattle.std.specs.Prelude.{◌≡◌, ◌++◌, ℕ, List, ◌⊎◌, ◌∷◌, []}
 use Rattle.tsc_trace.specs.LogText.{line_feed}
-use Rattle.tsc_stream.specs.Stream.{KnownReader, KnownWriter}
+use Rattle.tsc_trace_io.specs.Stream.{KnownReader, KnownWriter}
 use Rattle.tsc_check.specs.Checking.{Checked, StopsCheck, fault_text}
 use Rattle.tsc_check.specs.declared.verdict.Verdict.{Verdict}
 use Rattle.tsc_check.specs.declared.verdict.Verdict.TheVariants.{Right, WrongCall, WrongPlace, WrongAnswer}

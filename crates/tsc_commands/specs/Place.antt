@@ -1,6 +1,6 @@
 -- What opening a file comes to.
 use Rattle.std.specs.Prelude.{◌≡◌, ℕ, List, Option, Result, Ok, Err}
-use Rattle.tsc_stream.specs.Stream.{KnownReader, fresh_reader}
+use Rattle.tsc_trace_io.specs.Stream.{KnownReader, fresh_reader}
 use Rattle.tsc_commands.specs.declared.place.OpenFault.{OpenFault}
 
 -- the bytes of a file, where they are known, or why it was not opened

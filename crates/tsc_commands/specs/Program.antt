@@ -3,7 +3,7 @@ use Rattle.std.specs.Prelude.{◌≡◌, ◌++◌, ℕ, List, [], ◌∷◌, map
 use Rattle.std.specs.declared.string.String.{String}
 use Rattle.std.specs.declared.alloc.Global.{Global}
 use Rattle.tsc_trace.specs.LogText.{line_feed}
-use Rattle.tsc_stream.specs.Stream.{KnownReader, KnownWriter, fresh_reader}
+use Rattle.tsc_trace_io.specs.Stream.{KnownReader, KnownWriter, fresh_reader}
 use Rattle.tsc_trace.specs.declared.replays.ReplayFault.{ReplayFault}
 use Rattle.tsc_trace.specs.declared.replays.ReplayFault.TheVariants.{Read, NoMemory}
 use Rattle.tsc_commands.specs.Check.{EndsCheck}

@@ -2,8 +2,8 @@
 use Rattle.std.specs.Prelude.{◌≡◌, ◌++◌, ℕ, List, ◌⊎◌, ◌∷◌, []}
 use Rattle.tsc_trace.specs.LogText.{line_feed}
 use Rattle.tsc_trace.specs.Replay.{Done, StopsReplay, fault_text}
-use Rattle.tsc_stream.specs.Stream.{KnownReader, KnownWriter, HasWritten, CouldNotWrite}
-use Rattle.tsc_json.specs.declared.read.TraceFault.TheVariants as trace_fault
+use Rattle.tsc_trace_io.specs.Stream.{KnownReader, KnownWriter, HasWritten, CouldNotWrite}
+use Rattle.tsc_trace_json.specs.declared.read.TraceFault.TheVariants as trace_fault
 use Rattle.tsc_trace.specs.declared.replays.ReplayFault.{ReplayFault}
 use Rattle.tsc_trace.specs.declared.replays.ReplayFault.TheVariants.{Read, TooLong, Trace as Refused, Write, NoMemory}
 

@@ -1,7 +1,7 @@
 -- How the command that runs a trace on threads ends: what it did, its exit status, and what it tells.
 use Rattle.std.specs.Prelude.{◌≡◌, ◌++◌, ℕ, List, ◌⊎◌, ◌∷◌, []}
 use Rattle.tsc_trace.specs.LogText.{line_feed}
-use Rattle.tsc_stream.specs.Stream.{KnownReader, KnownWriter}
+use Rattle.tsc_trace_io.specs.Stream.{KnownReader, KnownWriter}
 use Rattle.tsc_run.specs.Ending.{Ran, StopsRun, stop_text}
 use Rattle.tsc_run.specs.declared.streams.RunStop.{RunStop}
 use Rattle.tsc_run.specs.declared.streams.RunStop.TheVariants.{Stream, NoView, NoPlace, HistoryFull, NoThread}

@@ -1,13 +1,13 @@
 //! The command that checks a log against its trace, both from readers, and tells how it ended.
 ghost use Rattle.std.specs.Prelude.{◌≡◌, OnOk, OnErr};
-ghost use Rattle.tsc_stream.specs.Stream.{CouldNotWrite, HasWritten};
+ghost use Rattle.tsc_trace_io.specs.Stream.{CouldNotWrite, HasWritten};
 ghost use Rattle.tsc_commands.specs.Check.{EndsCheck, check_fault_line, check_fault_status, verdict_status};
 ghost use Rattle.tsc_commands.specs.Replay.{Tells};
 
 use crate::replay::status_of;
 use std::alloc::Global;
 use tsc_check::{CheckFault, Verdict, check_stream};
-use tsc_stream::{Sink, Source, WriteFailed, write_output};
+use tsc_trace_io::{Sink, Source, WriteFailed, write_output};
 
 /// Checks a log against its trace, writes the verdict as one line, tells a fault on `errors`, and gives the exit
 /// status.

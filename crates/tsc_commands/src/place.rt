@@ -3,7 +3,7 @@ ghost use Rattle.std.specs.Prelude.{ℕ, List, Option, Result};
 ghost use Rattle.tsc_commands.specs.Place.{IsOpening};
 ghost use Rattle.tsc_commands.specs.declared.place.OpenFault.{OpenFault};
 
-use tsc_stream::Source;
+use tsc_trace_io::Source;
 
 /// Why a file was not opened.
 #[derive(Clone, Copy, Debug, PartialEq, Eq)]

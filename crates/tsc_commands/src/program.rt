@@ -17,8 +17,8 @@ use std::process::ExitCode;
 use std::sync::Wait;
 use std::thread::Threads;
 use tsc_shared::NoGate;
-use tsc_stream::{Sink, Source, write_output};
 use tsc_trace::ReplayFault;
+use tsc_trace_io::{Sink, Source, write_output};
 
 /// Does what the program's words ask for, and gives the code with which the process is to end, whose number is the
 /// exit status.

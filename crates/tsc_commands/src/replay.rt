@@ -1,11 +1,11 @@
 //! The command that replays a trace from a reader to a writer, and tells how it ended.
 ghost use Rattle.std.specs.Prelude.{◌≡◌, OnOk, OnErr};
-ghost use Rattle.tsc_stream.specs.Stream.{CouldNotWrite, HasWritten};
+ghost use Rattle.tsc_trace_io.specs.Stream.{CouldNotWrite, HasWritten};
 ghost use Rattle.tsc_commands.specs.Replay.{EndsReplay, Tells, fault_line, status_of};
 
 use std::alloc::Global;
-use tsc_stream::{Sink, Source, WriteFailed, write_output};
 use tsc_trace::{ReplayFault, TraceFault, replay_stream};
+use tsc_trace_io::{Sink, Source, WriteFailed, write_output};
 
 /// Replays a trace from a reader to a writer, tells a fault on `errors`, and gives the exit status.
 ///

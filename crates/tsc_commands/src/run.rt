@@ -1,6 +1,6 @@
 //! The command that runs a trace on threads, from a reader to a writer, and tells how it ended.
 ghost use Rattle.std.specs.Prelude.{◌≡◌, OnOk, OnErr};
-ghost use Rattle.tsc_stream.specs.Stream.{CouldNotWrite, HasWritten};
+ghost use Rattle.tsc_trace_io.specs.Stream.{CouldNotWrite, HasWritten};
 ghost use Rattle.tsc_commands.specs.Replay.{Tells};
 ghost use Rattle.tsc_commands.specs.Run.{EndsRun, stop_line, stop_status};
 
@@ -10,7 +10,7 @@ use std::sync::Wait;
 use std::thread::Threads;
 use tsc_run::{RunStop, run_stream};
 use tsc_shared::Gate;
-use tsc_stream::{Sink, Source, WriteFailed, write_output};
+use tsc_trace_io::{Sink, Source, WriteFailed, write_output};
 
 /// Runs a trace from a reader on threads, writes its log, tells a fault on `errors`, and gives the exit
 /// status.

@@ -12,7 +12,7 @@ use std::env::Env;
 use std::io::{ErrorKind, Stderr, Stdout};
 use std::rt::Files;
 use std::{env, fs};
-use tsc_stream::Metered;
+use tsc_trace_io::Metered;
 
 /// The program's words, of which the first is its own name. A word that is no text is wrong.
 pub fn fetch_words<R: Env + AllocGlobal>(rt: &R) -> Result<Vec<String>, WordsFault> {

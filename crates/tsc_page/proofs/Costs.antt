@@ -8,13 +8,13 @@ use Rattle.std.proofs.lemmas.List.Sums.{sum_by-cons}
 use Rattle.tsc_time.specs.Time.{zero_time}
 use Rattle.tsc_time.specs.OwnedTime.{unowned}
 use Rattle.tsc_span.specs.Span.{KeyBytes, Interval, key_cost, end_keys}
-use Rattle.tsc_nodes.specs.Page.{cost_distinct}
-use Rattle.tsc_nodes.specs.PageView.{is_in, new_weight}
-use Rattle.tsc_nodes.specs.Nodes.{Node, node_keys, nodes_cost, found_cost, GrowsBy, IsSorted, IsNewKey, with_new, node_in_gap}
-use Rattle.tsc_tree.specs.Leaves.{HasNode}
-use Rattle.tsc_nodes.proofs.Costs.{cost-new}
-use Rattle.tsc_nodes.proofs.NewKeys.{with_new-length, new_fits}
-use Rattle.tsc_nodes.proofs.Standing.{weigh_with_ends}
+use Rattle.tsc_page_base.specs.Page.{cost_distinct}
+use Rattle.tsc_page_base.specs.PageView.{is_in, new_weight}
+use Rattle.tsc_page_base.specs.Nodes.{Node, node_keys, nodes_cost, found_cost, GrowsBy, IsSorted, IsNewKey, with_new, node_in_gap}
+use Rattle.tsc_page_tree.specs.Leaves.{HasNode}
+use Rattle.tsc_page_base.proofs.Costs.{cost-new}
+use Rattle.tsc_page_base.proofs.NewKeys.{with_new-length, new_fits}
+use Rattle.tsc_page_base.proofs.Standing.{weigh_with_ends}
 
 -- what nodes cost with the end keys of a span that are new
 pub cost_with_ends : (ns : List Node) (o p : Option KeyBytes) (s : Interval) (bytes : ℕ) → IsSorted ns → option_to_list o ++ option_to_list p ≡ end_keys s → bytes ≡ nodes_cost ns

@@ -6,10 +6,10 @@ use Rattle.std.specs.Str.{bytes_eq}
 use Rattle.std.proofs.lemmas.Bool.{cases_Bool}
 use Rattle.std.proofs.lemmas.Slice.Eq.{bytes_eq-Decides}
 use Rattle.tsc_span.specs.Span.{KeyBytes, Cut, before, after, is_below}
-use Rattle.tsc_nodes.specs.PageView.{is_in}
-use Rattle.tsc_nodes.specs.Nodes.{Node, IsSorted, node_keys}
-use Rattle.tsc_nodes.specs.KeysAbove.{lies_above, first_above, IsLeastAbove}
-use Rattle.tsc_nodes.proofs.CutOrder.{Lt, Le-from_Lt, Le-itself, Lt-chain, before-after}
+use Rattle.tsc_page_base.specs.PageView.{is_in}
+use Rattle.tsc_page_base.specs.Nodes.{Node, IsSorted, node_keys}
+use Rattle.tsc_page_base.specs.KeysAbove.{lies_above, first_above, IsLeastAbove}
+use Rattle.tsc_page_base.proofs.CutOrder.{Lt, Le-from_Lt, Le-itself, Lt-chain, before-after}
 
 -- lists with the same keys have the same least one above a cut
 pub least_among_same : (c : Cut) (ks ls : List KeyBytes) → ((k : KeyBytes) → is_in k ks ≡ is_in k ls) → (r : Option KeyBytes) → IsLeastAbove c ks r → IsLeastAbove c ls r

@@ -5,23 +5,23 @@ use Rattle.std.specs.List.{All, AllZip}
 use Rattle.std.specs.Vec.{with_items}
 use Rattle.std.proofs.lemmas.List.{with_items_is}
 use Rattle.tsc_span.specs.Span.{KeyBytes}
-use Rattle.tsc_nodes.specs.PageView.{is_in}
-use Rattle.tsc_nodes.specs.declared.nodes.Grown.{Grown}
-use Rattle.tsc_nodes.specs.Nodes.{Node, IsSorted, IsInOrder, IsSplitAt, node_keys, nodes_cost}
-use Rattle.tsc_tree.specs.Leaves.{nodes_of}
-use Rattle.tsc_tree.specs.Copies.{IsSameAs}
-use Rattle.tsc_tree.specs.Pending.{sizes_of, AreSizesOf, Addend, AddsSome}
-use Rattle.tsc_tree.specs.Trees.{IsLeafCopy, IsForkCopy, IsWholeLeaf, leaf_nodes, leaf_sizes, leaf_copied, fork_copied, AreFewParts}
+use Rattle.tsc_page_base.specs.PageView.{is_in}
+use Rattle.tsc_page_base.specs.declared.nodes.Grown.{Grown}
+use Rattle.tsc_page_base.specs.Nodes.{Node, IsSorted, IsInOrder, IsSplitAt, node_keys, nodes_cost}
+use Rattle.tsc_page_tree.specs.Leaves.{nodes_of}
+use Rattle.tsc_page_tree.specs.Copies.{IsSameAs}
+use Rattle.tsc_page_tree.specs.Pending.{sizes_of, AreSizesOf, Addend, AddsSome}
+use Rattle.tsc_page_tree.specs.Trees.{IsLeafCopy, IsForkCopy, IsWholeLeaf, leaf_nodes, leaf_sizes, leaf_copied, fork_copied, AreFewParts}
 use Rattle.tsc_page.specs.Roots.{two_nodes, two_sizes, IsWholeTwo, three_nodes, three_sizes, IsWholeThree, four_nodes, four_sizes, IsWholeFour, root_nodes, root_sizes, IsWholeRoot, IsCounted, tree_nodes}
-use Rattle.tsc_tree.specs.declared.leaf.Leaf.{Leaf}
-use Rattle.tsc_tree.specs.declared.fork.Fork.{Fork}
+use Rattle.tsc_page_tree.specs.declared.leaf.Leaf.{Leaf}
+use Rattle.tsc_page_tree.specs.declared.fork.Fork.{Fork}
 use Rattle.tsc_page.specs.declared.root.Root.{Root}
 use Rattle.tsc_page.specs.declared.root.Root.TheVariants.{One, Two, Three, Four}
 use Rattle.tsc_page.specs.declared.tree.Tree.{Tree}
-use Rattle.tsc_nodes.proofs.NewKeys.{with_new_splits}
-use Rattle.tsc_tree.proofs.PartSizes.{sizes_of_parts}
-use Rattle.tsc_tree.proofs.PartLists.{AreSameAs, copies_same, adds_sorted}
-use Rattle.tsc_tree.proofs.PartAdds.{not_false}
+use Rattle.tsc_page_base.proofs.NewKeys.{with_new_splits}
+use Rattle.tsc_page_tree.proofs.PartSizes.{sizes_of_parts}
+use Rattle.tsc_page_tree.proofs.PartLists.{AreSameAs, copies_same, adds_sorted}
+use Rattle.tsc_page_tree.proofs.PartAdds.{not_false}
 
 -- a root has the sizes of its leaves
 pub root_counted : (r : Root) → IsWholeRoot r → AreSizesOf (root_sizes r) (root_nodes r)

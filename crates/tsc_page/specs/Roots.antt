@@ -1,12 +1,12 @@
 -- What the root of a page's tree and the tree stand for, and when they are as they have to be.
 use Rattle.std.specs.Prelude.{◌≡◌, List, length, map, ℕ, ◌≤◌}
 use Rattle.std.specs.List.{All}
-use Rattle.tsc_nodes.specs.Nodes.{Node, IsSorted, nodes_cost}
-use Rattle.tsc_tree.specs.Leaves.{nodes_of}
-use Rattle.tsc_tree.specs.Pending.{sizes_of, AreSizesOf}
-use Rattle.tsc_tree.specs.Trees.{leaf_nodes, leaf_sizes, IsWholeLeaf, fork_nodes, fork_sizes, IsWholeFork, AreFewParts}
-use Rattle.tsc_tree.specs.declared.leaf.Leaf.{Leaf}
-use Rattle.tsc_tree.specs.declared.fork.Fork.{Fork}
+use Rattle.tsc_page_base.specs.Nodes.{Node, IsSorted, nodes_cost}
+use Rattle.tsc_page_tree.specs.Leaves.{nodes_of}
+use Rattle.tsc_page_tree.specs.Pending.{sizes_of, AreSizesOf}
+use Rattle.tsc_page_tree.specs.Trees.{leaf_nodes, leaf_sizes, IsWholeLeaf, fork_nodes, fork_sizes, IsWholeFork, AreFewParts}
+use Rattle.tsc_page_tree.specs.declared.leaf.Leaf.{Leaf}
+use Rattle.tsc_page_tree.specs.declared.fork.Fork.{Fork}
 use Rattle.tsc_page.specs.declared.root.Root.{Root}
 use Rattle.tsc_page.specs.declared.root.Root.TheVariants.{One, Two, Three, Four}
 use Rattle.tsc_page.specs.declared.tree.Tree.{Tree}

@@ -3,10 +3,10 @@ ghost use Rattle.tsc_time.specs.Joint.{joint, joint_above};
 ghost use Rattle.tsc_time.specs.Time.{zero_time, is_before, later};
 ghost use Rattle.tsc_span.specs.Span.{KeyBytes, Interval, is_empty_span, overlaps, end_keys, span_cost};
 ghost use Rattle.tsc_span.specs.Cuts.{cut_of};
-ghost use Rattle.tsc_nodes.specs.declared.TheConstants.{LEAST_SIZE, MOST_SIZE};
-ghost use Rattle.tsc_nodes.specs.Page.{PageMarks, Mark, empty_page, with_mark, top, values_on, marked_keys, count_distinct, cost_distinct, has_room};
-ghost use Rattle.tsc_nodes.specs.KeysAbove.{IsLeastAbove};
-ghost use Rattle.tsc_nodes.specs.PageView.{AreLeafSizes, StandsFor, NoAnswerAboveTop, answer, is_in, bytes_of, has_room_for};
+ghost use Rattle.tsc_page_base.specs.declared.TheConstants.{LEAST_SIZE, MOST_SIZE};
+ghost use Rattle.tsc_page_base.specs.Page.{PageMarks, Mark, empty_page, with_mark, top, values_on, marked_keys, count_distinct, cost_distinct, has_room};
+ghost use Rattle.tsc_page_base.specs.KeysAbove.{IsLeastAbove};
+ghost use Rattle.tsc_page_base.specs.PageView.{AreLeafSizes, StandsFor, NoAnswerAboveTop, answer, is_in, bytes_of, has_room_for};
 
 use crate::tree::Tree;
 use std::alloc::Global;
@@ -27,9 +27,9 @@ pub struct Page {
 
 impl Model for Page {
     ghost use Rattle.std.specs.Prelude.{◌≡◌, ◌≤◌};
-    ghost use Rattle.tsc_nodes.specs.declared.TheConstants.{LEAST_SIZE, MOST_SIZE};
-    ghost use Rattle.tsc_nodes.specs.PageView.{PageView, NoAnswerAboveTop};
-    ghost use Rattle.tsc_nodes.specs.Nodes.{page_of};
+    ghost use Rattle.tsc_page_base.specs.declared.TheConstants.{LEAST_SIZE, MOST_SIZE};
+    ghost use Rattle.tsc_page_base.specs.PageView.{PageView, NoAnswerAboveTop};
+    ghost use Rattle.tsc_page_base.specs.Nodes.{page_of};
     ghost use Rattle.tsc_page.specs.Roots.{tree_nodes, tree_sizes, IsCounted};
 
     ghost Value = { PageView };

@@ -4,21 +4,21 @@ ghost use Rattle.tsc_span.specs.Span.{is_below, between};
 ghost use Rattle.tsc_span.specs.Cuts.{cut_of};
 ghost use Rattle.tsc_time.specs.Time.{zero_time};
 ghost use Rattle.tsc_time.specs.OwnedTime.{unowned};
-ghost use Rattle.tsc_nodes.specs.PageView.{is_in};
-ghost use Rattle.tsc_nodes.specs.KeysAbove.{first_above};
-ghost use Rattle.tsc_nodes.specs.Nodes.{IsSorted, node_in_gap, node_keys, answer_of, raise_nodes};
-ghost use Rattle.tsc_tree.specs.Leaves.{HasNode, nodes_of};
-ghost use Rattle.tsc_tree.specs.Pending.{TellsSize, IsAddTold};
-ghost use Rattle.tsc_tree.specs.Copies.{IsSameAs};
-ghost use Rattle.tsc_tree.specs.Trees.{leaf_nodes, leaf_sizes, IsWholeLeaf, level_nodes, IsWholeLevel, AreFewParts};
+ghost use Rattle.tsc_page_base.specs.PageView.{is_in};
+ghost use Rattle.tsc_page_base.specs.KeysAbove.{first_above};
+ghost use Rattle.tsc_page_base.specs.Nodes.{IsSorted, node_in_gap, node_keys, answer_of, raise_nodes};
+ghost use Rattle.tsc_page_tree.specs.Leaves.{HasNode, nodes_of};
+ghost use Rattle.tsc_page_tree.specs.Pending.{TellsSize, IsAddTold};
+ghost use Rattle.tsc_page_tree.specs.Copies.{IsSameAs};
+ghost use Rattle.tsc_page_tree.specs.Trees.{leaf_nodes, leaf_sizes, IsWholeLeaf, level_nodes, IsWholeLevel, AreFewParts};
 ghost use Rattle.tsc_page.specs.Roots.{root_nodes, root_sizes, IsWholeRoot};
 
 use std::alloc::Global;
-use tsc_nodes::{Grown, Nodes, NumberedCut};
+use tsc_page_base::{Grown, Nodes, NumberedCut};
+use tsc_page_tree::fork::{self, Fork, Level};
+use tsc_page_tree::{Addition, Leaf, parts};
 use tsc_span::{Cut, Key};
 use tsc_time::{NoMemory, Value};
-use tsc_tree::fork::{self, Fork, Level};
-use tsc_tree::{Addition, Leaf, parts};
 
 /// The top of a tree: a list of parts, which are as high as it takes to have 64 of them at the most. Only that of the highest
 /// kind has no bound. A part has at least 32 of the next kind, so the greatest page fills it with some 30.

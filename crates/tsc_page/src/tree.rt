@@ -2,22 +2,22 @@ ghost use Rattle.std.specs.Prelude.{◌≡◌, None, ◌<◌, ◌≤◌, ◌+◌
 ghost use Rattle.std.specs.List.{All};
 ghost use Rattle.tsc_span.specs.Span.{is_below, after, between, end_keys, key_cost};
 ghost use Rattle.tsc_span.specs.Cuts.{cut_of};
-ghost use Rattle.tsc_nodes.specs.declared.TheConstants.{MOST_SIZE};
-ghost use Rattle.tsc_nodes.specs.Page.{cost_distinct};
-ghost use Rattle.tsc_nodes.specs.PageView.{is_new_among, new_weight};
-ghost use Rattle.tsc_nodes.specs.KeysAbove.{first_above};
+ghost use Rattle.tsc_page_base.specs.declared.TheConstants.{MOST_SIZE};
+ghost use Rattle.tsc_page_base.specs.Page.{cost_distinct};
+ghost use Rattle.tsc_page_base.specs.PageView.{is_new_among, new_weight};
+ghost use Rattle.tsc_page_base.specs.KeysAbove.{first_above};
 ghost use Rattle.tsc_time.specs.Time.{zero_time};
 ghost use Rattle.tsc_time.specs.OwnedTime.{unowned};
-ghost use Rattle.tsc_nodes.specs.Nodes.{IsSplitAt, IsSorted, GrowsBy, node_in_gap, node_keys, answer_of};
-ghost use Rattle.tsc_tree.specs.Leaves.{LiesAt, AddsTo};
+ghost use Rattle.tsc_page_base.specs.Nodes.{IsSplitAt, IsSorted, GrowsBy, node_in_gap, node_keys, answer_of};
+ghost use Rattle.tsc_page_tree.specs.Leaves.{LiesAt, AddsTo};
 ghost use Rattle.tsc_page.specs.Roots.{root_nodes, IsWholeRoot, tree_nodes, tree_sizes, IsCounted};
 
 use crate::root::Root;
 use std::alloc::Global;
-use tsc_nodes::{Grown, NumberedCut};
+use tsc_page_base::{Grown, NumberedCut};
+use tsc_page_tree::Addition;
 use tsc_span::{Cut, Key};
 use tsc_time::{NoMemory, Value};
-use tsc_tree::Addition;
 
 /// The nodes of a page in leaves that are all equally deep below a root, with how many there are and what their keys cost.
 /// What others hold too is never changed.
@@ -205,7 +205,7 @@ impl Tree {
         Ok(Some(Tree { root, count, bytes }))
     }
 
-    /// The same in place, as [`parts::add_within`](tsc_tree::parts::add_within) tells, where there is room. Says whether it did.
+    /// The same in place, as [`parts::add_within`](tsc_page_tree::parts::add_within) tells, where there is room. Says whether it did.
     fn add_in_place(
         &mut self,
         first: Option<&Key>,

@@ -3,11 +3,11 @@ use Rattle.std.proofs.Common.{◌≡◌, ◌∙◌, refl, sym, ap, subst, ℕ, z
 use Rattle.std.specs.List.{sum_by}
 use Rattle.std.proofs.lemmas.List.Sums.{sum_by-append, sum_by-cons}
 use Rattle.std.proofs.lemmas.List.Elements.{All-cons, All-nil, All-head, All-tail}
-use Rattle.tsc_json.specs.Lists.{most_calls}
+use Rattle.tsc_trace_json.specs.Lists.{most_calls}
 use Rattle.std.proofs.lemmas.List.{drop_all, length-map}
 use Rattle.tsc_shared.specs.Seats.{SharedView, SeatView, new_seat, new_seats}
 use Rattle.tsc_shared.specs.Answers.{GoesOn}
-use Rattle.tsc_json.specs.declared.trace.Call.{Call}
+use Rattle.tsc_trace_json.specs.declared.trace.Call.{Call}
 use Rattle.tsc_trace.specs.declared.log.Line.{Line}
 use Rattle.tsc_run.specs.Runs.{Says, Runs, RunsAll}
 

@@ -4,10 +4,10 @@ use Rattle.std.specs.Prelude.{cond, Ok, Err, IfOk, IfErr}
 use Rattle.std.proofs.lemmas.List.{length-map}
 use Rattle.std.proofs.lemmas.List.Sums.{sum_by-cons, sum_by_push}
 use Rattle.std.proofs.lemmas.List.Elements.{All-append, All-cons, All-nil, All-contains, Contains-append_left, Contains-push}
-use Rattle.tsc_desk.proofs.Prefixes.{begins_length}
+use Rattle.tsc_shared_desk.proofs.Prefixes.{begins_length}
 use Rattle.tsc_cache.specs.History.{BeginsWith}
-use Rattle.tsc_json.specs.Calls.{adds}
-use Rattle.tsc_json.specs.declared.trace.Call.{Call}
+use Rattle.tsc_trace_json.specs.Calls.{adds}
+use Rattle.tsc_trace_json.specs.declared.trace.Call.{Call}
 use Rattle.tsc_trace.specs.declared.log.Line.{Line}
 use Rattle.tsc_trace.specs.declared.log.Said.{Said}
 use Rattle.tsc_check.specs.TrueLog.{adds_of_list, adds_of_lists}

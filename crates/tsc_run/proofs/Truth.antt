@@ -7,10 +7,10 @@ use Rattle.std.proofs.lemmas.List.Elements.{All-head, All-tail}
 use Rattle.tsc_cache.specs.Settings.{Settings}
 use Rattle.tsc_cache.specs.declared.history.Entry.{Entry}
 use Rattle.tsc_cache.specs.History.{History, own_count, state_of, BeginsWith, IsLegal}
-use Rattle.tsc_json.specs.Calls.{Addition, one_mark, several_marks, adds}
-use Rattle.tsc_json.specs.declared.trace.Call.{Call}
-use Rattle.tsc_json.specs.declared.trace.Call.TheVariants.{Add, Batch, Get, Low}
-use Rattle.tsc_json.specs.Traces.{Trace}
+use Rattle.tsc_trace_json.specs.Calls.{Addition, one_mark, several_marks, adds}
+use Rattle.tsc_trace_json.specs.declared.trace.Call.{Call}
+use Rattle.tsc_trace_json.specs.declared.trace.Call.TheVariants.{Add, Batch, Get, Low}
+use Rattle.tsc_trace_json.specs.Traces.{Trace}
 use Rattle.tsc_trace.specs.Log.{made, said_after, entry_after, with_addition, after_call}
 use Rattle.tsc_trace.specs.declared.log.Line.{Line}
 use Rattle.tsc_trace.specs.declared.log.Said.{Said}
@@ -22,7 +22,7 @@ use Rattle.tsc_shared.specs.Answers.{GoesOn, Accepts, Closes, entry_by}
 use Rattle.tsc_shared.specs.declared.answers.Receipt.{Receipt}
 use Rattle.tsc_shared.specs.declared.answers.Closed.{Closed}
 use Rattle.tsc_cache.proofs.Beginnings.{begins_itself, begins_on}
-use Rattle.tsc_desk.proofs.Prefixes.{begins_length, own_append, own_of_one, own_of_other}
+use Rattle.tsc_shared_desk.proofs.Prefixes.{begins_length, own_append, own_of_one, own_of_other}
 use Rattle.tsc_run.specs.Runs.{Says, Runs, RunsAll}
 
 -- ---- each line

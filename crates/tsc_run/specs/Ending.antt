@@ -3,8 +3,8 @@ use Rattle.std.specs.Prelude.{◌≡◌, List, ℕ, codes}
 use Rattle.tsc_shared.specs.declared.answers.OpenFault.TheVariants as open_fault
 use Rattle.tsc_trace.specs.LogText.{log_text}
 use Rattle.tsc_trace.specs.Replay.{HasReadTrace, RefusedAs, NotRead, TooMuchRead, OutOfMemory, fault_text as stream_text}
-use Rattle.tsc_stream.specs.Stream.{KnownReader, KnownWriter, HasWritten, CouldNotWrite}
-use Rattle.tsc_json.specs.Traces.{Trace}
+use Rattle.tsc_trace_io.specs.Stream.{KnownReader, KnownWriter, HasWritten, CouldNotWrite}
+use Rattle.tsc_trace_json.specs.Traces.{Trace}
 use Rattle.tsc_trace.specs.declared.log.Line.{Line}
 use Rattle.tsc_trace.specs.declared.replays.ReplayFault.TheVariants.{Read, TooLong, Trace as Refused, Write, NoMemory}
 use Rattle.tsc_check.specs.Verdict.{verdict_of}

@@ -5,9 +5,9 @@ use Rattle.std.specs.declared.alloc.Global.{Global}
 use Rattle.tsc_shared.specs.Seats.{SharedView, SeatView, FrontView, new_seat}
 use Rattle.tsc_shared.specs.Answers.{GoesOn, Accepts, Looks, ReadsFloor}
 use Rattle.tsc_cache.specs.declared.added.Added.{Added}
-use Rattle.tsc_json.specs.Calls.{Addition, adds, one_mark, several_marks}
-use Rattle.tsc_json.specs.declared.trace.Call.{Call}
-use Rattle.tsc_json.specs.declared.trace.Call.TheVariants.{Add, Batch, Get, Low}
+use Rattle.tsc_trace_json.specs.Calls.{Addition, adds, one_mark, several_marks}
+use Rattle.tsc_trace_json.specs.declared.trace.Call.{Call}
+use Rattle.tsc_trace_json.specs.declared.trace.Call.TheVariants.{Add, Batch, Get, Low}
 use Rattle.tsc_trace.specs.declared.log.Line.{Line}
 use Rattle.tsc_trace.specs.declared.log.Said.{Said}
 use Rattle.tsc_trace.specs.declared.log.Said.TheVariants as said

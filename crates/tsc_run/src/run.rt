@@ -1,6 +1,6 @@
 ghost use Rattle.std.specs.Prelude.{◌≡◌, ◌≤◌, IfOk, IfErr, length, map};
 ghost use Rattle.std.specs.List.{sum_by};
-ghost use Rattle.tsc_json.specs.Lists.{most_calls};
+ghost use Rattle.tsc_trace_json.specs.Lists.{most_calls};
 ghost use Rattle.tsc_cache.specs.History.{History};
 ghost use Rattle.tsc_check.specs.Verdict.{verdict_of};
 ghost use Rattle.tsc_check.specs.declared.verdict.Verdict.TheVariants.{Right};

@@ -1,7 +1,7 @@
 //! The thread of one list.
 ghost use Rattle.std.specs.Prelude.{◌≡◌, ◌≤◌, IfOk, length};
-ghost use Rattle.tsc_json.specs.Traces.{EachFits};
-ghost use Rattle.tsc_json.specs.Lists.{most_calls};
+ghost use Rattle.tsc_trace_json.specs.Traces.{EachFits};
+ghost use Rattle.tsc_trace_json.specs.Lists.{most_calls};
 ghost use Rattle.tsc_run.specs.Runs.{EndsList};
 
 use crate::list::{ListRun, run_list};

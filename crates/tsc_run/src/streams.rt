@@ -1,6 +1,6 @@
 //! Runs of recorded traces from a reader to a writer.
 ghost use Rattle.std.specs.Prelude.{◌≡◌, Some, IfErr, OnOk, OnErr};
-ghost use Rattle.tsc_stream.specs.Stream.{CouldNotWrite, HasWritten};
+ghost use Rattle.tsc_trace_io.specs.Stream.{CouldNotWrite, HasWritten};
 ghost use Rattle.tsc_trace.specs.Replay.{fault_of_output};
 ghost use Rattle.tsc_run.specs.Ending.{Ran, StopsRun, stop_of_run, stop_text};
 ghost use Rattle.tsc_run.specs.declared.streams.RunStop.TheVariants.{Stream};
@@ -13,8 +13,8 @@ use std::fmt;
 use std::sync::Wait;
 use std::thread::Threads;
 use tsc_shared::{Gate, OpenFault};
-use tsc_stream::{Sink, Source, WriteFailed, write_output};
 use tsc_trace::{OutFault, ReplayFault, read_trace_from, write_log};
+use tsc_trace_io::{Sink, Source, WriteFailed, write_output};
 
 /// Why a run ended early. Only a failed write comes after a written byte.
 #[derive(Clone, Copy, Debug, PartialEq, Eq)]

@@ -1,8 +1,8 @@
 //! A thread for each list.
 ghost use Rattle.std.specs.Prelude.{◌≡◌, ◌≤◌, ◌++◌, ◌∷◌, [], IfOk, IfSome, IfNone, length, map, vec_capacity};
 ghost use Rattle.std.specs.List.{sum_by};
-ghost use Rattle.tsc_json.specs.Traces.{AllFit};
-ghost use Rattle.tsc_json.specs.Lists.{most_calls};
+ghost use Rattle.tsc_trace_json.specs.Traces.{AllFit};
+ghost use Rattle.tsc_trace_json.specs.Lists.{most_calls};
 ghost use Rattle.tsc_shared.specs.Seats.{new_seats};
 ghost use Rattle.tsc_run.specs.Runs.{EndsLists, Joins};
 

@@ -3,12 +3,12 @@ use Rattle.std.proofs.Common.{◌≡◌, ◌∙◌, refl, sym, ap, subst, false,
 use Rattle.std.specs.Prelude.{All, map, slice_index_or}
 use Rattle.std.proofs.lemmas.List.{length-append, length_push}
 use Rattle.atomic_table.specs.Seated.{TableId}
-use Rattle.tsc_desk.specs.declared.board.Terms.{Terms}
-use Rattle.tsc_desk.specs.declared.board.Post.{Post}
-use Rattle.tsc_desk.specs.Desk.{post, keeping, first_view, fresh_posts}
-use Rattle.tsc_desk.specs.DeskSteps.{At, seated, first_post, other_posts, number_of, seen_of, count_of}
-use Rattle.tsc_desk.specs.AtDesk.{DeskSeat, IsAtRest, IsSeatAt, KeepsPosts}
-use Rattle.tsc_desk.proofs.AsCalled.{still_at}
+use Rattle.tsc_shared_desk.specs.declared.board.Terms.{Terms}
+use Rattle.tsc_shared_desk.specs.declared.board.Post.{Post}
+use Rattle.tsc_shared_desk.specs.Desk.{post, keeping, first_view, fresh_posts}
+use Rattle.tsc_shared_desk.specs.DeskSteps.{At, seated, first_post, other_posts, number_of, seen_of, count_of}
+use Rattle.tsc_shared_desk.specs.AtDesk.{DeskSeat, IsAtRest, IsSeatAt, KeepsPosts}
+use Rattle.tsc_shared_desk.proofs.AsCalled.{still_at}
 use Rattle.tsc_shared.specs.Seats.{SeatView}
 use Rattle.tsc_shared.specs.Keeping.{post_of}
 

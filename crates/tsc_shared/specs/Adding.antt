@@ -5,17 +5,17 @@ use Rattle.std.specs.declared.sync.Arc.{Arc}
 use Rattle.std.specs.declared.alloc.Global.{Global}
 use Rattle.tsc_time.specs.Time.{Time}
 use Rattle.tsc_time.specs.declared.memory.NoMemory.{NoMemory}
-use Rattle.tsc_nodes.specs.Page.{Mark}
+use Rattle.tsc_page_base.specs.Page.{Mark}
 use Rattle.tsc_cache.specs.declared.added.Added.{Added}
 use Rattle.tsc_cache.specs.Batch.{all_fit}
 use Rattle.tsc_cache.specs.State.{is_kept}
 use Rattle.tsc_cache.specs.CacheView.{CacheView, front_has_room_for}
-use Rattle.tsc_desk.specs.declared.board.Marks.{Marks}
-use Rattle.tsc_desk.specs.declared.board.Marks.TheVariants.{One, Many}
-use Rattle.tsc_desk.specs.declared.board.Pending.{Pending}
-use Rattle.tsc_desk.specs.declared.board.Held.{Held}
-use Rattle.tsc_desk.specs.Desk.{marks_in}
-use Rattle.tsc_desk.specs.Waiting.{HasEnd}
+use Rattle.tsc_shared_desk.specs.declared.board.Marks.{Marks}
+use Rattle.tsc_shared_desk.specs.declared.board.Marks.TheVariants.{One, Many}
+use Rattle.tsc_shared_desk.specs.declared.board.Pending.{Pending}
+use Rattle.tsc_shared_desk.specs.declared.board.Held.{Held}
+use Rattle.tsc_shared_desk.specs.Desk.{marks_in}
+use Rattle.tsc_shared_desk.specs.Waiting.{HasEnd}
 use Rattle.tsc_shared.specs.declared.adding.InPlace.{InPlace}
 use Rattle.tsc_shared.specs.declared.adding.InPlace.TheVariants.{Made, Untouched, Spoiled}
 use Rattle.tsc_shared.specs.declared.answers.Receipt.{Receipt}

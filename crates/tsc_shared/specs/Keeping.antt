@@ -1,11 +1,11 @@
 -- A seat and a front, by the desk seat that they keep. (For private contracts and the models.)
 use Rattle.std.specs.Prelude.{◌≡◌, ℕ, length, false}
 use Rattle.atomic_table.specs.Seated.{TableId}
-use Rattle.tsc_desk.specs.declared.board.Terms.{Terms}
-use Rattle.tsc_desk.specs.declared.board.Post.{Post}
-use Rattle.tsc_desk.specs.Desk.{post}
-use Rattle.tsc_desk.specs.DeskSteps.{number_of, seen_of, count_of}
-use Rattle.tsc_desk.specs.AtDesk.{DeskSeat, IsAtRest, IsSized}
+use Rattle.tsc_shared_desk.specs.declared.board.Terms.{Terms}
+use Rattle.tsc_shared_desk.specs.declared.board.Post.{Post}
+use Rattle.tsc_shared_desk.specs.Desk.{post}
+use Rattle.tsc_shared_desk.specs.DeskSteps.{number_of, seen_of, count_of}
+use Rattle.tsc_shared_desk.specs.AtDesk.{DeskSeat, IsAtRest, IsSized}
 use Rattle.tsc_shared.specs.Seats.{SharedView, SeatView, FrontView, IsSeat}
 
 -- the cache of a desk that was made under these terms

@@ -4,7 +4,7 @@ ghost use Rattle.tsc_shared.specs.Adding.{IsCopyOf};
 
 use std::alloc::Global;
 use tsc_cache::Mark;
-use tsc_desk::{Marks, Pending};
+use tsc_shared_desk::{Marks, Pending};
 use tsc_span::Span;
 use tsc_time::{NoMemory, Timestamp, Value};
 

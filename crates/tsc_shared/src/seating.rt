@@ -1,14 +1,14 @@
 //! The seats of a cache, and fronts, by the desk seats that they keep.
 ghost use Rattle.std.specs.Prelude.{◌≡◌, [], ◌<◌, length, map, All, IfOk, IfSome, IfNone};
-ghost use Rattle.tsc_desk.specs.Desk.{first_view, keeping};
-ghost use Rattle.tsc_desk.specs.DeskSteps.{seen_of};
-ghost use Rattle.tsc_desk.specs.AtDesk.{IsSeatAt, IsAtRest};
+ghost use Rattle.tsc_shared_desk.specs.Desk.{first_view, keeping};
+ghost use Rattle.tsc_shared_desk.specs.DeskSteps.{seen_of};
+ghost use Rattle.tsc_shared_desk.specs.AtDesk.{IsSeatAt, IsAtRest};
 ghost use Rattle.tsc_shared.specs.Seats.{SharedView, IsFront, new_seats};
 ghost use Rattle.tsc_shared.specs.Keeping.{cache_of, shared_view, post_of};
 
 use crate::seat::{Front, Seat};
 use std::alloc::Global;
-use tsc_desk::{DeskSeat, SharedDesk, Terms, deal, gather, write_note};
+use tsc_shared_desk::{DeskSeat, SharedDesk, Terms, deal, gather, write_note};
 use tsc_time::NoMemory;
 
 /// A seat for each post that this desk seat keeps, in the order of their numbers.

@@ -2,7 +2,7 @@
 use Rattle.std.proofs.Common.{cond, ◌≡◌, refl, ℕ, ◌+◌, [], ◌∷◌, length, is_some, false, true≢false, Option, Some, None, length-append, arith}
 use Rattle.tsc_cache.specs.History.{History, BeginsWith}
 use Rattle.tsc_cache.proofs.Beginnings.{begins_itself, begins_on}
-use Rattle.tsc_json.specs.Calls.{Addition}
+use Rattle.tsc_trace_json.specs.Calls.{Addition}
 use Rattle.tsc_trace.specs.Log.{entry_after, with_addition}
 
 -- it goes on from there

@@ -5,7 +5,7 @@ use Rattle.std.proofs.lemmas.Option.{slice_get_within, get_or_from_slice_get, sl
 use Rattle.std.proofs.Math.ListN.{drop_of_length-le}
 use Rattle.tsc_cache.specs.Settings.{Settings}
 use Rattle.tsc_trace.specs.Play.{Standing, said_at, next, next_all, played, played_lists}
-use Rattle.tsc_json.specs.declared.trace.Call.{Call}
+use Rattle.tsc_trace_json.specs.declared.trace.Call.{Call}
 use Rattle.tsc_trace.specs.declared.log.Line.{Line}
 use Rattle.tsc_trace.specs.declared.log.Said.{Said}
 use Rattle.tsc_trace.specs.declared.player.Player.{Player}

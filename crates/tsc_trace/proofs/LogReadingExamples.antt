@@ -6,7 +6,7 @@ use Rattle.tsc_cache.proofs.ExampleSettings.{at}
 use Rattle.tsc_trace.specs.declared.log.Line.{Line}
 use Rattle.tsc_trace.specs.declared.log.Said.TheVariants as said
 use Rattle.tsc_trace.specs.LogReading.{IsWritable, ReadsAs}
-use Rattle.tsc_json.proofs.ExampleTraces.{ended}
+use Rattle.tsc_trace_json.proofs.ExampleTraces.{ended}
 
 -- the empty text is the log without lines
 pub the_empty_log_is_read : ReadsAs [] (Ok (record { lines = [] }))

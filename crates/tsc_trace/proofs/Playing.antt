@@ -5,8 +5,8 @@ use Rattle.tsc_cache.specs.State.{step_all}
 use Rattle.tsc_cache.specs.declared.history.Entry.{Entry}
 use Rattle.tsc_cache.specs.History.{History, state_of}
 use Rattle.tsc_cache.proofs.Histories.{state_of-push}
-use Rattle.tsc_json.specs.Calls.{Addition, addition_of}
-use Rattle.tsc_json.specs.declared.trace.Call.{Call}
+use Rattle.tsc_trace_json.specs.Calls.{Addition, addition_of}
+use Rattle.tsc_trace_json.specs.declared.trace.Call.{Call}
 use Rattle.tsc_trace.specs.Log.{said_after, entry_after, with_addition, after_call, after_calls, lines_of_list, lines_of_lists}
 use Rattle.tsc_trace.specs.Play.{Standing, with_made, next, next_all, played, played_lists}
 

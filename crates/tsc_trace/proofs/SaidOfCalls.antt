@@ -2,11 +2,11 @@
 use Rattle.std.proofs.Common.{◌≡◌, ◌∙◌, refl, sym, ap, ℕ, Bool, true, false, true≢false, is_some, option_map}
 use Rattle.tsc_cache.specs.Settings.{Settings}
 use Rattle.tsc_cache.specs.State.{CacheState}
-use Rattle.tsc_json.specs.Calls.{kind_of, is_same_kind, addition_of, adds}
-use Rattle.tsc_json.specs.declared.trace.Call.{Call}
-use Rattle.tsc_json.specs.declared.trace.Call.TheVariants.{Add, Batch, Get, Low}
-use Rattle.tsc_json.specs.declared.trace.Kind.{Kind}
-use Rattle.tsc_json.specs.declared.trace.Kind.TheVariants as kind
+use Rattle.tsc_trace_json.specs.Calls.{kind_of, is_same_kind, addition_of, adds}
+use Rattle.tsc_trace_json.specs.declared.trace.Call.{Call}
+use Rattle.tsc_trace_json.specs.declared.trace.Call.TheVariants.{Add, Batch, Get, Low}
+use Rattle.tsc_trace_json.specs.declared.trace.Kind.{Kind}
+use Rattle.tsc_trace_json.specs.declared.trace.Kind.TheVariants as kind
 use Rattle.tsc_trace.specs.Log.{made, said_in}
 use Rattle.tsc_trace.specs.Sayings.{kind_of_said, told_of, front_of}
 use Rattle.tsc_trace.specs.declared.log.Said.{Said}

@@ -6,5 +6,5 @@ pub mod ReadingBack
 pub mod Play
 pub mod PlayerParts
 pub mod Replay
-pub use Rattle.tsc_json.specs.TraceText
-pub use Rattle.tsc_stream.specs.Stream
+pub use Rattle.tsc_trace_json.specs.TraceText
+pub use Rattle.tsc_trace_io.specs.Stream

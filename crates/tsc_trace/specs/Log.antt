@@ -4,10 +4,10 @@ use Rattle.tsc_cache.specs.Settings.{Settings}
 use Rattle.tsc_cache.specs.State.{CacheState, Stepped, step_all, look}
 use Rattle.tsc_cache.specs.declared.history.Entry.{Entry}
 use Rattle.tsc_cache.specs.History.{History, own_count, state_of}
-use Rattle.tsc_json.specs.Calls.{Addition, one_mark, several_marks, addition_of}
-use Rattle.tsc_json.specs.declared.trace.Call.{Call}
-use Rattle.tsc_json.specs.declared.trace.Call.TheVariants.{Add, Batch, Get, Low}
-use Rattle.tsc_json.specs.Traces.{Trace}
+use Rattle.tsc_trace_json.specs.Calls.{Addition, one_mark, several_marks, addition_of}
+use Rattle.tsc_trace_json.specs.declared.trace.Call.{Call}
+use Rattle.tsc_trace_json.specs.declared.trace.Call.TheVariants.{Add, Batch, Get, Low}
+use Rattle.tsc_trace_json.specs.Traces.{Trace}
 use Rattle.tsc_trace.specs.declared.log.Line.{Line}
 use Rattle.tsc_trace.specs.declared.log.Said.{Said}
 use Rattle.tsc_trace.specs.declared.log.Said.TheVariants as said

@@ -1,14 +1,14 @@
 -- What a replay reads and writes, and why it may end early.
 use Rattle.std.specs.Prelude.{◌≡◌, ◌≢◌, ◌++◌, List, ℕ, Ok, Err, codes, decimal}
-use Rattle.tsc_json.specs.TraceText.{trace_of_bytes}
+use Rattle.tsc_trace_json.specs.TraceText.{trace_of_bytes}
 use Rattle.tsc_trace.specs.Log.{log_of}
 use Rattle.tsc_trace.specs.LogText.{log_text}
-use Rattle.tsc_stream.specs.Stream.{KnownReader, KnownWriter, HasRead, CouldNotRead, HasReadTooMuch, RanOutReading, HasWritten, CouldNotWrite}
-use Rattle.tsc_json.specs.Traces.{Trace}
-use Rattle.tsc_json.specs.declared.read.TraceFault.{TraceFault}
-use Rattle.tsc_json.specs.declared.read.TraceFault.TheVariants as trace_fault
-use Rattle.tsc_stream.specs.declared.input.InputFault.{InputFault}
-use Rattle.tsc_stream.specs.declared.input.InputFault.TheVariants as input_fault
+use Rattle.tsc_trace_io.specs.Stream.{KnownReader, KnownWriter, HasRead, CouldNotRead, HasReadTooMuch, RanOutReading, HasWritten, CouldNotWrite}
+use Rattle.tsc_trace_json.specs.Traces.{Trace}
+use Rattle.tsc_trace_json.specs.declared.read.TraceFault.{TraceFault}
+use Rattle.tsc_trace_json.specs.declared.read.TraceFault.TheVariants as trace_fault
+use Rattle.tsc_trace_io.specs.declared.input.InputFault.{InputFault}
+use Rattle.tsc_trace_io.specs.declared.input.InputFault.TheVariants as input_fault
 use Rattle.tsc_trace.specs.declared.replays.OutFault.{OutFault}
 use Rattle.tsc_trace.specs.declared.replays.OutFault.TheVariants as out_fault
 use Rattle.tsc_trace.specs.declared.replays.ReplayFault.{ReplayFault}

@@ -3,8 +3,8 @@
 //! A [`Trace`] is a configuration and lists of calls. [`read_trace`] reads one, [`play`] makes its calls one
 //! after another over a [`Cache`](tsc_cache::Cache), and [`log_text`] is the text of the [`Log`] of their
 //! answers. [`replay_stream`] does all three, from a reader to a writer. [`read_log`] reads the text of a
-//! log back. Which trace bytes are is `tsc_json`, how they are read
-//! `tsc_reader`, and what readers and writers promise `tsc_stream`.
+//! log back. Which trace bytes are is `tsc_trace_json`, how they are read
+//! `tsc_trace_reader`, and what readers and writers promise `tsc_trace_io`.
 #![tactic(auto)]
 
 mod log;
@@ -18,6 +18,6 @@ pub use log::{Line, Lines, Log, Said, Told, log_text};
 pub use log_reader::{LogFault, read_log};
 pub use player::{add_all_fitting, add_fitting, play};
 pub use replays::{OutFault, ReplayFault, read_trace_from, replay, replay_stream, write_log};
-pub use tsc_json::{Call, Kind, Lists, Marks, Trace, TraceFault};
-pub use tsc_reader::read_trace;
-pub use tsc_stream::{Metered, Sink, Source};
+pub use tsc_trace_io::{Metered, Sink, Source};
+pub use tsc_trace_json::{Call, Kind, Lists, Marks, Trace, TraceFault};
+pub use tsc_trace_reader::read_trace;

@@ -8,8 +8,8 @@ use std::alloc::Global;
 use std::fmt;
 use std::marker::Model;
 use tsc_cache::Added;
-use tsc_json::Kind;
 use tsc_time::{NoMemory, Timestamp, Value};
+use tsc_trace_json::Kind;
 
 /// What a call answered.
 #[derive(Clone, Copy, Debug, PartialEq, Eq)]

@@ -3,18 +3,18 @@ ghost use Rattle.tsc_cache.specs.Settings.{Settings, fits};
 ghost use Rattle.tsc_cache.specs.Batch.{all_fit};
 ghost use Rattle.tsc_cache.specs.State.{CacheState};
 ghost use Rattle.tsc_cache.specs.CacheView.{StandsForState};
-ghost use Rattle.tsc_json.specs.Calls.{call_fits, one_mark, several_marks};
-ghost use Rattle.tsc_json.specs.Traces.{EachFits};
-ghost use Rattle.tsc_json.specs.Lists.{most_calls};
+ghost use Rattle.tsc_trace_json.specs.Calls.{call_fits, one_mark, several_marks};
+ghost use Rattle.tsc_trace_json.specs.Traces.{EachFits};
+ghost use Rattle.tsc_trace_json.specs.Lists.{most_calls};
 ghost use Rattle.tsc_trace.specs.Log.{log_of, made};
 ghost use Rattle.tsc_trace.specs.Play.{Standing, said_at, next, next_all, played};
 
 use crate::log::{Line, Lines, Log, Said};
 use std::alloc::Global;
 use tsc_cache::{Added, Cache, CacheFault, Mark};
-use tsc_json::{Call, Trace};
 use tsc_span::Span;
 use tsc_time::{NoMemory, Timestamp, Value};
+use tsc_trace_json::{Call, Trace};
 
 /// Adds a span that fits the cache's pages, as each does that a call of a [`Trace`] adds. So memory alone may be
 /// wanting, and then the cache is as before.

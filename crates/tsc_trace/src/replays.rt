@@ -2,7 +2,7 @@
 ghost use Rattle.std.specs.Prelude.{◌≡◌, ◌++◌, Some, IfOk, IfErr, OnOk, OnErr};
 ghost use Rattle.tsc_trace.specs.LogText.{log_text};
 ghost use Rattle.tsc_trace.specs.Replay.{Done, HasReadTrace, StopsReadingTrace, StopsReplay, StopsWriting, fault_of_input, fault_of_output, fault_of_trace, fault_text, replay_text};
-ghost use Rattle.tsc_stream.specs.Stream.{CouldNotWrite, HasWritten};
+ghost use Rattle.tsc_trace_io.specs.Stream.{CouldNotWrite, HasWritten};
 ghost use Rattle.tsc_trace.specs.declared.replays.OutFault.TheVariants as out_fault;
 
 use crate::log::{Log, log_text};
@@ -12,10 +12,10 @@ use std::alloc::Global;
 use std::error::Error;
 use std::fmt;
 use thiserror::Error;
-use tsc_json::{Trace, TraceFault};
-use tsc_reader::read_trace;
-use tsc_stream::{InputFault, Sink, Source, WriteFailed, read_input, write_both, write_output};
 use tsc_time::NoMemory;
+use tsc_trace_io::{InputFault, Sink, Source, WriteFailed, read_input, write_both, write_output};
+use tsc_trace_json::{Trace, TraceFault};
+use tsc_trace_reader::read_trace;
 
 /// Why a log was not written.
 #[derive(Clone, Copy, Debug, PartialEq, Eq, Error)]

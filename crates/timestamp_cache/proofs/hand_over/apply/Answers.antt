@@ -1,6 +1,6 @@
 -- Where no mark is kept nothing changes, and else all that is told is added at once.
 use Rattle.std.proofs.Common.{◌≡◌, subst, List, false, IfOk, OnOk, rules}
-use Rattle.tsc_nodes.specs.Page.{Mark}
+use Rattle.tsc_page_base.specs.Page.{Mark}
 use Rattle.tsc_cache.specs.declared.added.Added.{Added}
 use Rattle.tsc_cache.specs.Settings.{Settings}
 use Rattle.tsc_cache.specs.State.{CacheState, step_all, not_kept}

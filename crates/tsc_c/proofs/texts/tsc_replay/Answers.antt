@@ -1,7 +1,7 @@
 -- What is said is what was put into the buffer.
 use Rattle.std.proofs.Common.{◌≡◌, ℕ, List, subst, rules}
-use Rattle.tsc_texts.specs.Texts.{SaysOfReplay}
-use Rattle.tsc_texts.specs.declared.outcome.Outcome.TheVariants.{Text, Refused}
+use Rattle.tsc_c_texts.specs.Texts.{SaysOfReplay}
+use Rattle.tsc_c_texts.specs.declared.outcome.Outcome.TheVariants.{Text, Refused}
 use Rattle.tsc_c.specs.Texts.{Puts}
 use Rattle.tsc_c.proofs.texts.tsc_replay.Goals as goal
 

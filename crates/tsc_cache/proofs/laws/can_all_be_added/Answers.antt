@@ -1,6 +1,6 @@
 -- One mark after another can be made.
 use Rattle.std.proofs.Common.{◌≡◌, rules, sym, subst, arith, true}
-use Rattle.tsc_nodes.specs.Page.{Mark}
+use Rattle.tsc_page_base.specs.Page.{Mark}
 use Rattle.tsc_cache.specs.Settings.{fits}
 use Rattle.tsc_cache.specs.History.{CanBeAdded}
 use Rattle.tsc_cache.proofs.Batches.{one_more_made, all_made}

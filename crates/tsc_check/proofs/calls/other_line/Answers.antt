@@ -2,9 +2,9 @@
 use Rattle.std.proofs.Common.{◌≡◌, ◌∙◌, sym, ap, subst, ◌<◌, ◌≤◌, ◌+◌, length, drop, Some, true, arith}
 use Rattle.std.proofs.lemmas.List.{length-map}
 use Rattle.std.specs.Prelude.{slice_get}
-use Rattle.tsc_json.specs.Lists.{fits_trace}
-use Rattle.tsc_json.specs.Traces.{Trace}
-use Rattle.tsc_json.proofs.Totals.{list_at}
+use Rattle.tsc_trace_json.specs.Lists.{fits_trace}
+use Rattle.tsc_trace_json.specs.Traces.{Trace}
+use Rattle.tsc_trace_json.proofs.Totals.{list_at}
 use Rattle.tsc_check.specs.Verdict.{calls_of, calls_of_lists}
 use Rattle.tsc_check.specs.CheckParts.{first_other}
 use Rattle.tsc_check.proofs.LeftLists.{next_list, no_list_left, some_line_left, no_line_left, few_lines, few_before}

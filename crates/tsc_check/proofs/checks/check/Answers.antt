@@ -1,6 +1,6 @@
 -- The first test that a line fails decides.
 use Rattle.std.proofs.Common.{◌≡◌, ◌∙◌, sym, ap, subst, ◌+◌, length, None, arith}
-use Rattle.tsc_json.specs.Traces.{Trace}
+use Rattle.tsc_trace_json.specs.Traces.{Trace}
 use Rattle.tsc_check.specs.declared.verdict.Verdict.TheVariants.{Right, WrongCall, WrongPlace, WrongAnswer}
 use Rattle.tsc_check.specs.Verdict.{is_wrong_place, named_or, least, verdict_of}
 use Rattle.tsc_check.proofs.Verdicts.{wrong_call, wrong_place, by_answers, few_answers, least_below, none_is, in_lists_bound}

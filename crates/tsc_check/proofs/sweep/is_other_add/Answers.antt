@@ -3,9 +3,9 @@ use Rattle.tsc_cache.specs.History.{state_of}
 use Rattle.tsc_cache.specs.CacheView.{StandsForState}
 use Rattle.tsc_cache.specs.declared.added.Added.{Added}
 use Rattle.tsc_cache.proofs.Histories.{state_of-push}
-use Rattle.tsc_json.specs.Calls.{one_mark, several_marks}
-use Rattle.tsc_json.specs.declared.trace.Call.{Call}
-use Rattle.tsc_json.specs.declared.trace.Call.TheVariants.{Add, Batch}
+use Rattle.tsc_trace_json.specs.Calls.{one_mark, several_marks}
+use Rattle.tsc_trace_json.specs.declared.trace.Call.{Call}
+use Rattle.tsc_trace_json.specs.declared.trace.Call.TheVariants.{Add, Batch}
 use Rattle.tsc_trace.specs.Log.{made, said_after, entry_after, after_call}
 use Rattle.tsc_trace.specs.Sayings.{told_of}
 use Rattle.tsc_check.specs.Verdict.{is_of_kind, is_same_answer}

@@ -2,8 +2,8 @@ use Rattle.std.proofs.Common.{[], ◌∷◌, rules}
 use Rattle.std.proofs.lemmas.Result.{on_err_weaker}
 use Rattle.tsc_trace.specs.LogText.{line_feed}
 use Rattle.tsc_check.specs.Checking.{fault_text}
-use Rattle.tsc_stream.specs.Stream.{HasWritten}
-use Rattle.tsc_stream.proofs.WrittenSoFar.{CouldNotWrite-behind}
+use Rattle.tsc_trace_io.specs.Stream.{HasWritten}
+use Rattle.tsc_trace_io.proofs.WrittenSoFar.{CouldNotWrite-behind}
 use Rattle.tsc_commands.proofs.check.write_check_fault.Goals as goal
 
 pub returns-clause-err : goal.returns-clause-err

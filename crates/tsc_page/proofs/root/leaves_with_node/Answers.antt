@@ -3,11 +3,11 @@ use Rattle.std.proofs.Common.{◌≡◌, sym, subst, List, [], ◌∷◌, map, a
 use Rattle.std.proofs.lemmas.List.{nil_from_length}
 use Rattle.tsc_time.specs.Time.{zero_time}
 use Rattle.tsc_time.specs.OwnedTime.{unowned}
-use Rattle.tsc_nodes.specs.Nodes.{Node, node_in_gap}
-use Rattle.tsc_tree.specs.Leaves.{nodes_of, HasNode}
-use Rattle.tsc_tree.specs.Trees.{leaf_nodes}
-use Rattle.tsc_tree.specs.declared.leaf.Leaf.{Leaf}
-use Rattle.tsc_tree.proofs.LeafKeys.{has_first}
+use Rattle.tsc_page_base.specs.Nodes.{Node, node_in_gap}
+use Rattle.tsc_page_tree.specs.Leaves.{nodes_of, HasNode}
+use Rattle.tsc_page_tree.specs.Trees.{leaf_nodes}
+use Rattle.tsc_page_tree.specs.declared.leaf.Leaf.{Leaf}
+use Rattle.tsc_page_tree.proofs.LeafKeys.{has_first}
 use Rattle.tsc_page.proofs.root.leaves_with_node.Goals as goal
 
 pub returns-in_ok-first_leaf-clause-made : goal.returns-in_ok-first_leaf-clause-made

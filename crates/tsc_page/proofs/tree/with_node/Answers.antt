@@ -2,10 +2,10 @@
 use Rattle.std.proofs.Common.{◌∙◌, sym, subst}
 use Rattle.std.specs.Prelude.{option_map}
 use Rattle.std.specs.Option.{option_to_list}
-use Rattle.tsc_nodes.specs.Nodes.{IsSplitAt}
+use Rattle.tsc_page_base.specs.Nodes.{IsSplitAt}
 use Rattle.tsc_page.specs.Roots.{root_nodes}
 use Rattle.tsc_page.proofs.Costs.{grown_by_node}
-use Rattle.tsc_tree.proofs.LeafKeys.{has_node_splits}
+use Rattle.tsc_page_tree.proofs.LeafKeys.{has_node_splits}
 use Rattle.tsc_page.proofs.tree.with_node.Goals as goal
 
 pub returns-in_ok-with_node-in-Some-clause-split :

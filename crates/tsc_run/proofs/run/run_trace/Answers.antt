@@ -1,8 +1,8 @@
 use Rattle.std.proofs.Common.{◌≡◌, ◌∙◌, sym, ap, subst, length, List, map, rules}
 use Rattle.std.proofs.lemmas.List.{length-map}
 use Rattle.tsc_cache.specs.Settings.{Settings}
-use Rattle.tsc_json.specs.declared.trace.Call.{Call}
-use Rattle.tsc_json.specs.Traces.{Trace, AllFit}
+use Rattle.tsc_trace_json.specs.declared.trace.Call.{Call}
+use Rattle.tsc_trace_json.specs.Traces.{Trace, AllFit}
 use Rattle.tsc_check.specs.Verdict.{verdict_of}
 use Rattle.tsc_check.specs.TrueLog.{IsRunOf, adds_of_lists}
 use Rattle.tsc_check.proofs.TrueVerdict.{run_is_right}

@@ -1,6 +1,6 @@
 use Rattle.std.proofs.Common.{◌≡◌, ◌∙◌, ap, subst, arith, ◌<◌, length, rules}
 use Rattle.tsc_shared.specs.Seats.{SeatView}
-use Rattle.tsc_json.specs.Traces.{AllFit, EachFits}
+use Rattle.tsc_trace_json.specs.Traces.{AllFit, EachFits}
 use Rattle.std.proofs.lemmas.List.{length-map}
 use Rattle.tsc_run.specs.Runs.{EndsList}
 use Rattle.tsc_run.proofs.Running.{as_many_seats, calls_in, seat_taken, last_fits, first_fits, fewer, first_all, last_all}

@@ -1,11 +1,11 @@
 use Rattle.std.proofs.Common.{◌≡◌, true, sym, subst, List, OnOk, IfOk}
-use Rattle.tsc_nodes.specs.Page.{Mark}
+use Rattle.tsc_page_base.specs.Page.{Mark}
 use Rattle.tsc_cache.specs.Settings.{Settings}
 use Rattle.tsc_cache.specs.Batch.{all_fit}
 use Rattle.tsc_cache.specs.State.{CacheState, step_all}
 use Rattle.tsc_cache.specs.CacheView.{StandsForState}
-use Rattle.tsc_desk.specs.declared.board.Marks.{Marks}
-use Rattle.tsc_desk.specs.Desk.{marks_in}
+use Rattle.tsc_shared_desk.specs.declared.board.Marks.{Marks}
+use Rattle.tsc_shared_desk.specs.Desk.{marks_in}
 use Rattle.tsc_shared.proofs.AddingUp.{one_fits}
 use Rattle.tsc_shared.proofs.adding.add_fitting.Goals as goal
 

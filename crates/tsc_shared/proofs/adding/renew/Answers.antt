@@ -2,7 +2,7 @@ use Rattle.std.proofs.Common.{sym, subst}
 use Rattle.tsc_cache.specs.State.{step_all}
 use Rattle.tsc_cache.specs.History.{state_of}
 use Rattle.tsc_cache.specs.CacheView.{StandsForState}
-use Rattle.tsc_desk.specs.Desk.{IsState, marks_in}
+use Rattle.tsc_shared_desk.specs.Desk.{IsState, marks_in}
 use Rattle.tsc_shared.proofs.adding.renew.Goals as goal
 
 pub returns-clause-stands : goal.returns-clause-stands

@@ -1,5 +1,5 @@
 use Rattle.std.proofs.Common.{◌≡◌, ◌++◌, [], List, map}
-use Rattle.tsc_desk.specs.Desk.{keeping}
+use Rattle.tsc_shared_desk.specs.Desk.{keeping}
 use Rattle.tsc_shared.specs.Seats.{SeatView}
 use Rattle.tsc_shared.specs.Keeping.{post_of}
 use Rattle.tsc_shared.proofs.seating.gather_all.Given as goal

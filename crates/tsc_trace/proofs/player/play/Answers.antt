@@ -4,14 +4,14 @@ use Rattle.std.specs.Prelude.{slice_get}
 use Rattle.tsc_cache.specs.Settings.{Settings}
 use Rattle.tsc_cache.specs.State.{opening}
 use Rattle.tsc_cache.specs.CacheView.{StandsForState}
-use Rattle.tsc_json.specs.Lists.{fits_trace, most_calls}
-use Rattle.tsc_json.specs.Traces.{Trace, EachFits, AllFit}
+use Rattle.tsc_trace_json.specs.Lists.{fits_trace, most_calls}
+use Rattle.tsc_trace_json.specs.Traces.{Trace, EachFits, AllFit}
 use Rattle.tsc_trace.specs.Play.{next_all, played}
 use Rattle.tsc_trace.specs.Log.{log_of}
 use Rattle.tsc_trace.proofs.Playing.{standing_after, lists_anew}
 use Rattle.tsc_trace.proofs.ListSteps.{told_with_list}
-use Rattle.tsc_json.proofs.Totals.{calls_within, list_at}
-use Rattle.tsc_json.proofs.Fitting.{list_fits}
+use Rattle.tsc_trace_json.proofs.Totals.{calls_within, list_at}
+use Rattle.tsc_trace_json.proofs.Fitting.{list_fits}
 use Rattle.tsc_trace.proofs.player.play.Goals as goal
 
 pub loop-thread-init : goal.loop-thread-init

@@ -9,9 +9,9 @@ use base.Fraction.{full_share}
 use denote.Param.SendFields.{declared_send, as_row_send, variants_send}
 use Rattle.std.proofs.Crossing.{crosses, frees}
 use Rattle.tsc_cache.proofs.Crossing.{cache_sends}
-use Rattle.tsc_hall.proofs.Crossing.{host_sends, chair_sends}
+use Rattle.tsc_c_hall.proofs.Crossing.{host_sends, chair_sends}
 use Rattle.tsc_c.specs.Placing.{Kept, heap, place_owns}
-use Rattle.tsc_table.specs.contracts.table.Entry.{the_row as entry}
+use Rattle.tsc_c_table.specs.contracts.table.Entry.{the_row as entry}
 use Rattle.tsc_c.specs.contracts.place.Place.{the_row, the_type}
 
 entry_sends : IsSend entry

@@ -91,7 +91,7 @@ module _ {M : Type 1} (𝓤 : Ura M) (𝓛 : Logic 𝓤) (𝓜 : Model 𝓤 𝓛
       let k = triple_of 𝓛 (taking.signature Passed Heap ghosts dict heap_drop table_drop) (taking.spec Passed Heap ghosts dict heap_drop table_drop 𝓛 𝓜.mem 𝓡.returns) in
       let heap_met = passed 𝓡.env (code.calls-std_heap::GlobalAllocator::allocate 𝓡.env wired) (code.calls-std_heap::GlobalAllocator::deallocate 𝓡.env wired) (code.calls-std_heap::GlobalAllocator::grow 𝓡.env wired) (code.calls-std_heap::GlobalAllocator::shrink 𝓡.env wired) M 𝓤 𝓛 𝓜 𝓡 in
       let takes = met 𝓤 𝓛 𝓜 𝓡 (code.calls-std_alloc::boxed::Box::into_raw 𝓡.env wired) Passed Heap passed_laws heap_passed_laws ghosts dict heap_drop table_drop heap_met
-      (heap_goes 𝓤 𝓛 𝓜 𝓡 (code.calls-tsc_c::Destruct++none::drop 𝓡.env wired)) (table_goes 𝓤 𝓛 𝓜 𝓡 (code.calls-tsc_c::tsc_table++table++Table+Destruct::drop 𝓡.env wired)) in
+      (heap_goes 𝓤 𝓛 𝓜 𝓡 (code.calls-tsc_c::Destruct++none::drop 𝓡.env wired)) (table_goes 𝓤 𝓛 𝓜 𝓡 (code.calls-tsc_c::tsc_c_table++table++Table+Destruct::drop 𝓡.env wired)) in
       let y : k.Ghost = ((Ever, shares, tt, (z.0.3.0, tt), (box.word E h b o ∷ [], tt)), tt) in
       qed 𝓛 (‵ ((box.B E).own_val z.0.3.0 (box.word E h b o ∷ [])) ∷ ‵ ftrue ∷ living ∷ []) ∵
       fjoin ! $ nothing ! $ move ! (1 ∷ 0 ∷ []) $ asks ! (owns (types_at Ends.signature.params Ever) y.0.3 y.0.4) ftrue $ use1 𝓛 (raw (k.pre y)) (id⊢ 𝓤 _) $

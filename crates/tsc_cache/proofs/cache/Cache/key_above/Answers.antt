@@ -3,7 +3,7 @@ use Rattle.std.proofs.Common.{subst}
 use Rattle.std.specs.Prelude.{Option, option_map}
 use Rattle.tsc_span.specs.Span.{KeyBytes, Cut}
 use Rattle.tsc_span.specs.Cuts.{cut_of}
-use Rattle.tsc_nodes.specs.KeysAbove.{IsLeastAbove}
+use Rattle.tsc_page_base.specs.KeysAbove.{IsLeastAbove}
 use Rattle.tsc_page.proofs.KeysAbove.{least_among_same}
 use Rattle.tsc_cache.specs.CacheView.{CacheView}
 use Rattle.tsc_cache.specs.Keys.{keys_on, keys_seen}

@@ -1,6 +1,6 @@
 -- What can be seen of the front page decides.
 use Rattle.std.proofs.Common.{◌≡◌, ◌∙◌, sym, ap, Bool, true, ◌&&◌, not}
-use Rattle.tsc_nodes.specs.Page.{Mark}
+use Rattle.tsc_page_base.specs.Page.{Mark}
 use Rattle.tsc_cache.specs.State.{is_kept}
 use Rattle.tsc_cache.specs.CacheView.{CacheView, front_has_room_for}
 use Rattle.tsc_cache.proofs.StatesSeen.{rotates_as_seen}

@@ -1,7 +1,7 @@
 -- The oldest page comes last.
 use Rattle.std.proofs.Common.{◌∙◌, refl, ap, sym, arith}
 use Rattle.std.specs.Arc.{arc_value}
-use Rattle.tsc_nodes.specs.PageView.{PageView}
+use Rattle.tsc_page_base.specs.PageView.{PageView}
 use Rattle.tsc_cache.proofs.Droppings.{found_expired}
 use Rattle.tsc_cache.proofs.pages.Pages.expired_top.Goals as goal
 

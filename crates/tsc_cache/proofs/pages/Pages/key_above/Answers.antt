@@ -5,8 +5,8 @@ use Rattle.std.specs.Arc.{arc_value}
 use Rattle.std.specs.VecDeque.Iter.{deque_iter_rest}
 use Rattle.tsc_span.specs.Span.{KeyBytes, Cut}
 use Rattle.tsc_span.specs.Cuts.{cut_of}
-use Rattle.tsc_nodes.specs.PageView.{PageView}
-use Rattle.tsc_nodes.specs.KeysAbove.{IsLeastAbove}
+use Rattle.tsc_page_base.specs.PageView.{PageView}
+use Rattle.tsc_page_base.specs.KeysAbove.{IsLeastAbove}
 use Rattle.tsc_cache.specs.CacheParts.{pages_of, front_of, older_of}
 use Rattle.tsc_cache.proofs.KeysTold.{Asking, asking-start, asking-more, asking-end}
 use Rattle.tsc_cache.proofs.pages.Pages.key_above.Goals as goal

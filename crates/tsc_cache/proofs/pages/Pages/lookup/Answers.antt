@@ -6,7 +6,7 @@ use Rattle.std.specs.VecDeque.Iter.{deque_iter_rest}
 use Rattle.tsc_time.specs.Time.{Time, is_before}
 use Rattle.tsc_time.specs.Joint.{joint}
 use Rattle.tsc_time.specs.OwnedTime.{OwnedTime}
-use Rattle.tsc_nodes.specs.PageView.{PageView, answer}
+use Rattle.tsc_page_base.specs.PageView.{PageView, answer}
 use Rattle.tsc_cache.specs.CacheParts.{pages_of, front_of, older_of}
 use Rattle.tsc_cache.proofs.Lookings.{Looking, looking-start, looking-more, looking-stop}
 use Rattle.tsc_cache.proofs.pages.Pages.lookup.Goals as goal

@@ -4,8 +4,8 @@ use Rattle.std.specs.Prelude.{Result, Ok, Err, IfOk, Option, Some, None, IfSome}
 use Rattle.tsc_time.specs.Time.{later}
 use Rattle.tsc_time.specs.Joint.{joint}
 use Rattle.tsc_span.specs.Span.{KeyBytes, Interval, end_keys, overlaps}
-use Rattle.tsc_nodes.specs.Page.{Mark}
-use Rattle.tsc_nodes.specs.PageView.{PageView, is_in, answer}
+use Rattle.tsc_page_base.specs.Page.{Mark}
+use Rattle.tsc_page_base.specs.PageView.{PageView, is_in, answer}
 use Rattle.tsc_cache.specs.CacheView.{IsMarked}
 use Rattle.tsc_cache.specs.CacheParts.{front_of}
 use Rattle.tsc_cache.proofs.pages.Pages.mark_front.Goals as goal

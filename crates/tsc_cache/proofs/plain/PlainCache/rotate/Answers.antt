@@ -1,7 +1,7 @@
 -- A new page in front, and the pages behind it that stay.
 use Rattle.std.proofs.Common.{◌≡◌, ◌∙◌, refl, sym, ap, subst}
-use Rattle.tsc_nodes.specs.Page.{Mark, empty_page}
-use Rattle.tsc_nodes.specs.PageView.{PageView, StandsFor}
+use Rattle.tsc_page_base.specs.Page.{Mark, empty_page}
+use Rattle.tsc_page_base.specs.PageView.{PageView, StandsFor}
 use Rattle.tsc_cache.specs.declared.added.Added.{Added}
 use Rattle.tsc_cache.specs.contracts.plain.PlainCache.{the_view}
 use Rattle.tsc_cache.specs.State.{counted_on, kept_after_rotation}

@@ -2,7 +2,7 @@
 use Rattle.std.proofs.Common.{◌≡◌, ◌∙◌, ◌≤◌, sym, subst, arith, length, List, ◌-◌, false}
 use Rattle.std.specs.Prelude.{Some, slice_get}
 use Rattle.std.proofs.lemmas.Option.{get_or_from_slice_get, slice_get_within}
-use Rattle.tsc_nodes.specs.PageView.{PageView}
+use Rattle.tsc_page_base.specs.PageView.{PageView}
 use Rattle.tsc_cache.specs.State.{is_past_retention}
 use Rattle.tsc_cache.proofs.Droppings.{found_none_plain}
 use Rattle.tsc_cache.proofs.plain_pages.PlainPages.expired_top.Goals as goal

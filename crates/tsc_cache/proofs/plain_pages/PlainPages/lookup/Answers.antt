@@ -3,7 +3,7 @@ use Rattle.std.proofs.Common.{◌≡◌, ◌∙◌, sym, ap, subst, [], ◌∷�
 use Rattle.std.proofs.lemmas.List.{take_more}
 use Rattle.tsc_time.specs.OwnedTime.{OwnedTime}
 use Rattle.tsc_time.specs.Joint.{joint}
-use Rattle.tsc_nodes.specs.PageView.{PageView}
+use Rattle.tsc_page_base.specs.PageView.{PageView}
 use Rattle.tsc_cache.specs.Stacks.{pages_answer}
 use Rattle.tsc_cache.proofs.Lookings.{answers-push}
 use Rattle.tsc_cache.proofs.plain_pages.PlainPages.lookup.Goals as goal

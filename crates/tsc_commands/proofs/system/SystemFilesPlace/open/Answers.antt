@@ -1,5 +1,5 @@
 use Rattle.std.proofs.Common.{◌∙◌, sym, ap}
-use Rattle.tsc_stream.specs.Stream.{fresh_reader}
+use Rattle.tsc_trace_io.specs.Stream.{fresh_reader}
 use Rattle.tsc_commands.proofs.system.SystemFilesPlace.open.Goals as goal
 
 pub returns-in-Ok : goal.returns-in-Ok

@@ -1,9 +1,9 @@
 -- Sorted nodes have each key once.
 use Rattle.std.proofs.Common.{◌∙◌, sym, ap}
 use Rattle.tsc_span.specs.Span.{key_cost}
-use Rattle.tsc_nodes.specs.PageView.{bytes_of}
+use Rattle.tsc_page_base.specs.PageView.{bytes_of}
 use Rattle.tsc_page.specs.Roots.{tree_nodes}
-use Rattle.tsc_nodes.proofs.Standing.{weigh_of_nodes, same_bytes}
+use Rattle.tsc_page_base.proofs.Standing.{weigh_of_nodes, same_bytes}
 use Rattle.tsc_page.proofs.page.Page.bytes.Goals as goal
 
 value : goal.returns-clause-value

@@ -3,10 +3,10 @@ use Rattle.std.proofs.Common.{sym, subst, List}
 use Rattle.std.specs.Prelude.{Option, option_map}
 use Rattle.tsc_span.specs.Span.{KeyBytes, Cut}
 use Rattle.tsc_span.specs.Cuts.{cut_of}
-use Rattle.tsc_nodes.specs.Page.{marked_keys}
-use Rattle.tsc_nodes.specs.PageView.{PageView}
-use Rattle.tsc_nodes.specs.Nodes.{node_keys}
-use Rattle.tsc_nodes.specs.KeysAbove.{IsLeastAbove}
+use Rattle.tsc_page_base.specs.Page.{marked_keys}
+use Rattle.tsc_page_base.specs.PageView.{PageView}
+use Rattle.tsc_page_base.specs.Nodes.{node_keys}
+use Rattle.tsc_page_base.specs.KeysAbove.{IsLeastAbove}
 use Rattle.tsc_page.specs.Roots.{tree_nodes}
 use Rattle.tsc_page.proofs.KeysAbove.{first_is_least, least_among_same}
 use Rattle.tsc_page.proofs.page.Page.key_above.Goals as goal

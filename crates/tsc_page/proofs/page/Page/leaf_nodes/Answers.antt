@@ -1,10 +1,10 @@
 -- The sizes of a page's leaves.
 use Rattle.std.proofs.Common.{◌∙◌, sym, ap, subst}
 use Rattle.std.specs.Prelude.{sum, slice_get}
-use Rattle.tsc_nodes.specs.Page.{count_distinct}
-use Rattle.tsc_nodes.specs.PageView.{PageView, AreLeafSizes}
+use Rattle.tsc_page_base.specs.Page.{count_distinct}
+use Rattle.tsc_page_base.specs.PageView.{PageView, AreLeafSizes}
 use Rattle.tsc_page.specs.Roots.{tree_nodes}
-use Rattle.tsc_nodes.proofs.Standing.{count_of_nodes}
+use Rattle.tsc_page_base.proofs.Standing.{count_of_nodes}
 use Rattle.tsc_page.proofs.page.Page.leaf_nodes.Goals as goal
 
 pub returns-in-Some : goal.returns-in-Some

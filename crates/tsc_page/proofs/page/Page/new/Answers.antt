@@ -1,6 +1,6 @@
 -- Nothing is later than time zero on a page without nodes, and it costs nothing.
 use Rattle.std.proofs.Common.{arith}
-use Rattle.tsc_nodes.proofs.Tops.{none_covers}
+use Rattle.tsc_page_base.proofs.Tops.{none_covers}
 use Rattle.tsc_page.proofs.page.Page.new.Goals as goal
 
 pub invariant_of-result : goal.invariant_of-result

@@ -1,10 +1,10 @@
 -- Sorted nodes have as many different keys as there are nodes.
 use Rattle.std.proofs.Common.{◌∙◌, sym, ap, arith}
-use Rattle.tsc_nodes.specs.Page.{count_distinct}
-use Rattle.tsc_nodes.specs.PageView.{PageView}
+use Rattle.tsc_page_base.specs.Page.{count_distinct}
+use Rattle.tsc_page_base.specs.PageView.{PageView}
 use Rattle.tsc_page.specs.Roots.{tree_nodes}
-use Rattle.tsc_nodes.proofs.Standing.{count_of_nodes, same_count}
-use Rattle.tsc_nodes.proofs.Costs.{node_costs}
+use Rattle.tsc_page_base.proofs.Standing.{count_of_nodes, same_count}
+use Rattle.tsc_page_base.proofs.Costs.{node_costs}
 use Rattle.tsc_page.proofs.page.Page.nodes.Goals as goal
 
 pub returns-clause-value : goal.returns-clause-value

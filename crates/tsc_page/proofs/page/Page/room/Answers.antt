@@ -1,9 +1,9 @@
 -- What the nodes cost, and each end key that is new.
 use Rattle.std.proofs.Common.{◌∙◌, ap}
 use Rattle.std.specs.Prelude.{option_map}
-use Rattle.tsc_nodes.specs.PageView.{PageView, has_room_for}
+use Rattle.tsc_page_base.specs.PageView.{PageView, has_room_for}
 use Rattle.tsc_page.specs.Roots.{tree_nodes}
-use Rattle.tsc_nodes.proofs.Standing.{same_room}
+use Rattle.tsc_page_base.proofs.Standing.{same_room}
 use Rattle.tsc_page.proofs.Costs.{room_told}
 use Rattle.tsc_page.proofs.page.Page.room.Goals as goal
 

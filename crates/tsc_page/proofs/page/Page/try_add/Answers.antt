@@ -7,15 +7,15 @@ use Rattle.tsc_time.specs.Time.{Time, time_cmp, later}
 use Rattle.tsc_time.specs.Joint.{joint}
 use Rattle.tsc_span.specs.Span.{KeyBytes, Cut, Interval, between, overlaps, end_keys, key_cost}
 use Rattle.tsc_span.specs.Cuts.{cut_of}
-use Rattle.tsc_nodes.specs.Page.{with_mark, cost_distinct}
-use Rattle.tsc_nodes.specs.PageView.{PageView, StandsFor, NoAnswerAboveTop, answer, is_in, has_room_for}
-use Rattle.tsc_nodes.specs.Nodes.{Node, answer_of, node_keys, nodes_cost, page_of}
-use Rattle.tsc_tree.specs.Leaves.{LiesAt}
+use Rattle.tsc_page_base.specs.Page.{with_mark, cost_distinct}
+use Rattle.tsc_page_base.specs.PageView.{PageView, StandsFor, NoAnswerAboveTop, answer, is_in, has_room_for}
+use Rattle.tsc_page_base.specs.Nodes.{Node, answer_of, node_keys, nodes_cost, page_of}
+use Rattle.tsc_page_tree.specs.Leaves.{LiesAt}
 use Rattle.tsc_page.specs.Roots.{tree_nodes, tree_sizes}
-use Rattle.tsc_tree.proofs.LeafAdds.{ends_lie}
+use Rattle.tsc_page_tree.proofs.LeafAdds.{ends_lie}
 use Rattle.tsc_page.proofs.Refusals.{on_refusal}
-use Rattle.tsc_nodes.proofs.Costs.{cost-raised}
-use Rattle.tsc_nodes.proofs.Standing.{later-max, split_weight, added_keys, added_answers, added_covers, added_stands}
+use Rattle.tsc_page_base.proofs.Costs.{cost-raised}
+use Rattle.tsc_page_base.proofs.Standing.{later-max, split_weight, added_keys, added_answers, added_covers, added_stands}
 use Rattle.tsc_page.proofs.page.Page.try_add.Goals as goal
 
 -- the same nodes in the same leaves look the same

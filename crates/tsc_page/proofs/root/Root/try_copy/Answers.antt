@@ -1,6 +1,6 @@
 -- Copies of the parts stand for the same.
 use Rattle.std.proofs.Common.{sym, subst}
-use Rattle.tsc_tree.specs.Copies.{IsSameAs}
+use Rattle.tsc_page_tree.specs.Copies.{IsSameAs}
 use Rattle.tsc_page.specs.Roots.{root_nodes, root_sizes, IsWholeRoot}
 use Rattle.tsc_page.specs.declared.root.Root.{Root}
 use Rattle.tsc_page.specs.declared.root.Root.TheVariants.{One, Two, Three, Four}

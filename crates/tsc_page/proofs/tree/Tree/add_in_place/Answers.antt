@@ -3,14 +3,14 @@ use Rattle.std.proofs.Common.{◌-◌, arith}
 use Rattle.std.specs.Prelude.{option_map}
 use Rattle.tsc_time.specs.declared.memory.NoMemory.{NoMemory}
 use Rattle.tsc_span.specs.Span.{between}
-use Rattle.tsc_nodes.specs.Nodes.{IsInOrder}
-use Rattle.tsc_nodes.proofs.Costs.{node_costs}
-use Rattle.tsc_nodes.proofs.Ends.{ends_in_order}
-use Rattle.tsc_tree.specs.Pending.{Addend}
+use Rattle.tsc_page_base.specs.Nodes.{IsInOrder}
+use Rattle.tsc_page_base.proofs.Costs.{node_costs}
+use Rattle.tsc_page_base.proofs.Ends.{ends_in_order}
+use Rattle.tsc_page_tree.specs.Pending.{Addend}
 use Rattle.tsc_page.specs.Roots.{root_nodes, root_sizes}
-use Rattle.tsc_tree.proofs.LeafAdds.{adds_to}
+use Rattle.tsc_page_tree.proofs.LeafAdds.{adds_to}
 use Rattle.tsc_page.proofs.TreeLists.{counted_added, counted_kept}
-use Rattle.tsc_tree.proofs.Wholes.{tells_some, tells_none}
+use Rattle.tsc_page_tree.proofs.Wholes.{tells_some, tells_none}
 use Rattle.tsc_page.proofs.tree.Tree.add_in_place.Goals as goal
 
 pub invariant_of-add : goal.invariant_of-add

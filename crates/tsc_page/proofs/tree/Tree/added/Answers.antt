@@ -5,13 +5,13 @@ use Rattle.std.specs.Option.{option_to_list}
 use Rattle.std.proofs.lemmas.Bool.{leb-true, leb-false}
 use Rattle.tsc_span.specs.Span.{KeyBytes, Cut, between, end_keys, key_cost}
 use Rattle.tsc_span.specs.Cuts.{cut_of}
-use Rattle.tsc_nodes.specs.Page.{cost_distinct}
-use Rattle.tsc_nodes.specs.Nodes.{Node, IsSorted, IsSplitAt, node_keys, nodes_cost}
+use Rattle.tsc_page_base.specs.Page.{cost_distinct}
+use Rattle.tsc_page_base.specs.Nodes.{Node, IsSorted, IsSplitAt, node_keys, nodes_cost}
 use Rattle.tsc_page.specs.Roots.{root_nodes, tree_nodes}
-use Rattle.tsc_nodes.proofs.NewKeys.{splits_chain}
-use Rattle.tsc_nodes.proofs.Standing.{split_weight}
-use Rattle.tsc_nodes.proofs.Costs.{cost-raised, node_costs}
-use Rattle.tsc_nodes.proofs.Edits.{raise_nodes-sorted, raise_nodes-length}
+use Rattle.tsc_page_base.proofs.NewKeys.{splits_chain}
+use Rattle.tsc_page_base.proofs.Standing.{split_weight}
+use Rattle.tsc_page_base.proofs.Costs.{cost-raised, node_costs}
+use Rattle.tsc_page_base.proofs.Edits.{raise_nodes-sorted, raise_nodes-length}
 use Rattle.tsc_page.proofs.Costs.{room_told}
 use Rattle.tsc_page.proofs.TreeLists.{counted_tree}
 use Rattle.tsc_page.proofs.tree.Tree.added.Goals as goal

@@ -1,6 +1,6 @@
 -- Where there is room for both keys, there is for the new ones.
 use Rattle.std.specs.Prelude.{option_map}
-use Rattle.tsc_nodes.specs.Nodes.{node_keys}
+use Rattle.tsc_page_base.specs.Nodes.{node_keys}
 use Rattle.tsc_page.specs.Roots.{tree_nodes}
 use Rattle.tsc_page.proofs.Costs.{fits_anyway}
 use Rattle.tsc_page.proofs.tree.Tree.has_room.Goals as goal

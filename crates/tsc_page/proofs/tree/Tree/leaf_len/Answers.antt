@@ -1,6 +1,6 @@
 -- No leaf is larger than 64.
 use Rattle.tsc_page.specs.Roots.{tree_sizes}
-use Rattle.tsc_tree.proofs.Wholes.{few_of_told}
+use Rattle.tsc_page_tree.proofs.Wholes.{few_of_told}
 use Rattle.tsc_page.proofs.tree.Tree.leaf_len.Goals as goal
 
 pub returns-clause-few : goal.returns-clause-few

@@ -1,11 +1,11 @@
 use Rattle.std.proofs.Common.{rules, refl, ◌∙◌, ◌+◌, sym, ap, subst, arith}
 use Rattle.std.specs.Prelude.{Result, None}
 use Rattle.tsc_time.specs.declared.memory.NoMemory.{NoMemory}
-use Rattle.tsc_desk.specs.declared.board.Slot.TheVariants.{Empty}
-use Rattle.tsc_desk.specs.declared.board.Pending.{Pending}
-use Rattle.tsc_desk.specs.Desk.{marks_in}
-use Rattle.tsc_desk.specs.DeskSteps.{number_of, seen_of, count_of}
-use Rattle.tsc_desk.proofs.AsCalled.{taken_desk, has_desk, cleared_back, cleared_long, cleared_again, flipped_back, flip_after, flip_made}
+use Rattle.tsc_shared_desk.specs.declared.board.Slot.TheVariants.{Empty}
+use Rattle.tsc_shared_desk.specs.declared.board.Pending.{Pending}
+use Rattle.tsc_shared_desk.specs.Desk.{marks_in}
+use Rattle.tsc_shared_desk.specs.DeskSteps.{number_of, seen_of, count_of}
+use Rattle.tsc_shared_desk.proofs.AsCalled.{taken_desk, has_desk, cleared_back, cleared_long, cleared_again, flipped_back, flip_after, flip_made}
 use Rattle.tsc_shared.specs.declared.answers.Receipt.{Receipt}
 use Rattle.tsc_shared.specs.Keeping.{seat_view, KeepsSeat}
 use Rattle.tsc_shared.specs.Adding.{AcceptsCopy}

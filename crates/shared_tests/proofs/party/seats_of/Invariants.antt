@@ -1,5 +1,0 @@
-use Rattle.std.proofs.Common.{◌≡◌, All}
-use Rattle.shared_tests.proofs.party.seats_of.Given as goal
-
-abbrev pub invariant-loop-guest : goal.invariant-loop-guest
-invariant-loop-guest g l = All (λ seat. seat.cache ≡ g.C.Of.cache) l.seats.items

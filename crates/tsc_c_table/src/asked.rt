@@ -1,0 +1,156 @@
+//! What the words of a call ask for: its times, its owner and its span.
+
+ghost use Rattle.std.specs.Prelude.{◌≡◌, IfOk, IfErr, Some};
+ghost use Rattle.tsc_span.specs.Span.{range};
+ghost use Rattle.tsc_c_table.specs.Asked.{time_of, value_of, form_of, add_span, lookup_span, RefusesTime, RefusesEnds, RefusesKey, RefusesRange, RefusesAddSpan};
+
+use crate::refusal::Refusal;
+use crate::words::{TscTime, TscValue};
+use std::alloc::Global;
+use tsc_span::{Ends, Key, Span, SpanFault, SpanRef};
+use tsc_time::{Timestamp, Value};
+use uuid::Uuid;
+
+/// Which keys a span has.
+#[derive(Clone, Copy)]
+pub enum Form {
+    /// The first key alone.
+    Point,
+    /// From the first key to the second.
+    Range(Ends),
+    /// From the first key on, which may be excluded, without an end.
+    Onward(bool),
+}
+
+/// The time of these words.
+pub fn time(words: &TscTime) -> Result<Timestamp, Refusal>
+    ensures value { IfOk result (λ time. time ≡ time_of words.now) }
+    ensures refused { IfErr result (λ refusal. RefusesTime refusal (time_of words.now)) }
+{
+    time_of_parts(words.wall, words.logical)
+}
+
+/// The time of a wall time and a logical count.
+fn time_of_parts(wall: u64, logical: u32) -> Result<Timestamp, Refusal>
+    ensures value { IfOk result (λ time. time ≡ record { wall = wall; logical = logical }) }
+    ensures refused { IfErr result (λ refusal. RefusesTime refusal (record { wall = wall; logical = logical })) }
+{
+    match Timestamp::new(wall, logical) {
+        Some(time) => Ok(time),
+        None => Err(Refusal::Time),
+    }
+}
+
+/// The value of these words.
+pub fn value(words: &TscValue) -> Result<Value, Refusal>
+    ensures value { IfOk result (λ value. value ≡ value_of words.now) }
+    ensures refused { IfErr result (λ refusal. RefusesTime refusal (value_of words.now).time) }
+{
+    let time = time_of_parts(words.wall, words.logical)?;
+    Ok(Value::of(time, Uuid::from_bytes(words.owner)))
+}
+
+/// The words of a time.
+pub fn words_of_time(time: Timestamp) -> TscTime
+    ensures { time ≡ time_of result }
+{
+    TscTime {
+        wall: time.wall(),
+        logical: time.logical(),
+    }
+}
+
+/// The words of a value.
+pub fn words_of(value: Value) -> TscValue
+    ensures { value ≡ value_of result }
+{
+    TscValue {
+        wall: value.time().wall(),
+        logical: value.time().logical(),
+        owner: owner_of(value),
+    }
+}
+
+/// The owner's bytes, and zeros where nobody owns the value.
+fn owner_of(value: Value) -> [u8; 16]
+    ensures { value ≡ value_of (record { wall = value.time.wall; logical = value.time.logical; owner = result }) }
+{
+    match value.owner() {
+        Some(owner) => owner.into_bytes(),
+        None => [0; 16],
+    }
+}
+
+/// The form that a number means.
+fn form_meant_by(ends: u32) -> Result<Form, Refusal>
+    ensures value { IfOk result (λ form. form_of ends ≡ Some form) }
+    ensures refused { IfErr result (λ refusal. RefusesEnds refusal ends) }
+{
+    let (exclude_from, exclude_to) = match ends {
+        0 => (false, false),
+        1 => (true, false),
+        2 => (false, true),
+        3 => (true, true),
+        4 => return Ok(Form::Onward(false)),
+        5 => return Ok(Form::Onward(true)),
+        8 => return Ok(Form::Point),
+        _ => return Err(Refusal::Ends),
+    };
+    Ok(Form::Range(Ends {
+        exclude_from,
+        exclude_to,
+    }))
+}
+
+/// The key of these bytes.
+fn key(alloc: Global, bytes: &[u8]) -> Result<Key, Refusal>
+    ensures value { IfOk result (λ key. key ≡ bytes.now) }
+    ensures refused { IfErr result (λ refusal. RefusesKey refusal bytes.now) }
+{
+    match Key::new(alloc, bytes) {
+        Ok(key) => Ok(key),
+        Err(SpanFault::KeyTooLong) => Err(Refusal::KeyTooLong),
+        Err(_) => Err(Refusal::NoMemory),
+    }
+}
+
+/// The span to be added that these keys and ends name.
+pub(crate) fn added_span(alloc: Global, from: &[u8], to: &[u8], ends: u32) -> Result<Span, Refusal>
+    ensures value { IfOk result (λ span. add_span from.now to.now ends ≡ Some span) }
+    ensures refused { IfErr result (λ refusal. RefusesAddSpan refusal from.now to.now ends) }
+{
+    match form_meant_by(ends)? {
+        Form::Point => Ok(Span::point(key(alloc, from)?)),
+        Form::Range(ends) => added_range(alloc, from, to, ends),
+        Form::Onward(excluded) => Ok(Span::onward(key(alloc, from)?, excluded)),
+    }
+}
+
+/// The range between two keys that is to be added. An inverted one is refused.
+fn added_range(alloc: Global, from: &[u8], to: &[u8], ends: Ends) -> Result<Span, Refusal>
+    ensures value { IfOk result (λ span. range from.now to.now ends.exclude_from ends.exclude_to ≡ Some span) }
+    ensures refused { IfErr result (λ refusal. RefusesRange refusal from.now to.now ends) }
+{
+    let from = key(alloc, from)?;
+    let to = key(alloc, to)?;
+    match Span::range(from, to, ends) {
+        Ok(span) => Ok(span),
+        Err(_) => Err(Refusal::Inverted),
+    }
+}
+
+/// The span to be looked up that these keys and ends name. It is over the keys where they lie, which may be of any length.
+pub(crate) fn looked_up_span<'a>(
+    from: &'a [u8],
+    to: &'a [u8],
+    ends: u32,
+) -> Result<SpanRef<'a>, Refusal>
+    ensures value { IfOk result (λ span. lookup_span from.now to.now ends ≡ Some span) }
+    ensures refused { IfErr result (λ refusal. RefusesEnds refusal ends) }
+{
+    match form_meant_by(ends)? {
+        Form::Point => Ok(SpanRef::point(from)),
+        Form::Range(ends) => Ok(SpanRef::for_lookup(from, to, ends)),
+        Form::Onward(excluded) => Ok(SpanRef::onward(from, excluded)),
+    }
+}

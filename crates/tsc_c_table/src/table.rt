@@ -1,0 +1,288 @@
+//! Caches by their numbers.
+
+ghost use Rattle.std.specs.Prelude.{◌≡◌, ◌≢◌, ◌⊎◌, IfOk, IfErr, OnErr, None, [], option_map};
+ghost use Rattle.tsc_c_table.specs.Calls.{Opens, Looks, LooksIn, AddsTo, AddsIn, AddsAllTo, AddsAllIn, StandsAt, Counts, RefusesLookup, RefusesAdd, RefusesAddIn, RefusesAddAll, RefusesAddAllIn, IsClosed};
+ghost use Rattle.tsc_c_table.specs.Asked.{RefusesEnds};
+ghost use Rattle.tsc_c_table.specs.Table.{cache_of, cache_at, Keeps, GivesNext};
+ghost use Rattle.tsc_c_table.specs.declared.refusal.Refusal.TheVariants.{NoMemory};
+
+use crate::asked::{added_span, looked_up_span};
+use crate::marks::marks;
+use crate::refusal::Refusal;
+use crate::words::{TscFigures, TscMark};
+use std::alloc::Global;
+use std::mem::replace;
+use tsc_c_hall::{Chair, Host};
+use tsc_cache::{Added, Cache, CacheFault, Config};
+use tsc_time::{Timestamp, Value};
+
+/// What a number that was given stands for.
+#[derive(Drop)]
+pub enum Entry {
+    /// A cache that was closed.
+    Closed,
+    /// A cache for calls of one thread at a time.
+    Own(Cache),
+    /// A cache that threads share, for who opened it.
+    Shared(Host),
+    /// A seat of one.
+    Seat(Chair),
+}
+
+impl Entry {
+    /// The cache that is held.
+    fn cache(&self) -> Option<&Cache>
+        ensures { option_map (λ c. c.now) result ≡ cache_of self.now }
+    {
+        match self {
+            Entry::Own(cache) => Some(cache),
+            Entry::Closed | Entry::Shared(_) | Entry::Seat(_) => None,
+        }
+    }
+
+    /// Adds a span to it.
+    fn add(
+        &mut self,
+        alloc: Global,
+        from: &[u8],
+        to: &[u8],
+        ends: u32,
+        value: Value,
+        now: Timestamp,
+    ) -> Result<Added, Refusal>
+        ensures added { IfOk result (λ added. AddsTo (cache_of self.old) (cache_of self.new) from.now to.now ends value now added) }
+        ensures refused { IfErr result (λ why. RefusesAdd why (cache_of self.old) from.now to.now ends) }
+        ensures unchanged { OnErr result (self.new ≡ self.old) }
+    {
+        match self {
+            Entry::Own(cache) => add_in(alloc, cache, from, to, ends, value, now),
+            Entry::Closed | Entry::Shared(_) | Entry::Seat(_) => Err(Refusal::Closed),
+        }
+    }
+
+    /// Adds several marks to it.
+    fn add_all(
+        &mut self,
+        alloc: Global,
+        keys: &[u8],
+        asked: &[TscMark],
+        now: Timestamp,
+    ) -> Result<Added, Refusal>
+        ensures added { IfOk result (λ added. AddsAllTo (cache_of self.old) (cache_of self.new) keys.now asked.now now added) }
+        ensures refused { IfErr result (λ why. RefusesAddAll why (cache_of self.old) keys.now asked.now) }
+        ensures unchanged { OnErr result (self.new ≡ self.old) }
+    {
+        match self {
+            Entry::Own(cache) => add_all_in(alloc, cache, keys, asked, now),
+            Entry::Closed | Entry::Shared(_) | Entry::Seat(_) => Err(Refusal::Closed),
+        }
+    }
+
+    /// Lets it go.
+    fn close(&mut self) -> Result<(), Refusal>
+        ensures closed { cache_of self.new ≡ None }
+        ensures refused { IfErr result (λ why. IsClosed why (cache_of self.old)) }
+        ensures done { IfOk result (λ _. cache_of self.old ≢ None) }
+        ensures unchanged { OnErr result (self.new ≡ self.old) }
+    {
+        match replace(self, Entry::Closed) {
+            Entry::Own(_) => Ok(()),
+            Entry::Closed => Err(Refusal::Closed),
+            Entry::Shared(cache) => {
+                *self = Entry::Shared(cache);
+                Err(Refusal::Closed)
+            }
+            Entry::Seat(seat) => {
+                *self = Entry::Seat(seat);
+                Err(Refusal::Closed)
+            }
+        }
+    }
+}
+
+/// Caches by their numbers, which count on from 0. No number is given twice.
+#[derive(Drop)]
+pub struct Table {
+    pub entries: Vec<Entry>,
+}
+
+impl Table {
+    /// A table that has given no number.
+    pub fn new(alloc: Global) -> Table
+        ensures { result.entries.items ≡ [] }
+    {
+        Table {
+            entries: Vec::new(alloc),
+        }
+    }
+
+    /// Opens a cache, and gives its number.
+    pub fn open(&mut self, alloc: Global, config: Config) -> Result<u64, Refusal>
+        ensures opened { IfOk result (λ n. Opens (cache_at self.old.entries.items n) (cache_at self.new.entries.items n) config) }
+        ensures given { IfOk result (λ n. GivesNext self.old.entries.items self.new.entries.items n) }
+        ensures refused { IfErr result (λ why. why ≡ NoMemory) }
+        ensures unchanged { OnErr result (self.new.entries.items ≡ self.old.entries.items) }
+    {
+        let Ok(cache) = Cache::new(alloc, config) else {
+            return Err(Refusal::NoMemory);
+        };
+        let number = self.entries.len() as u64;
+        match self.entries.push(Entry::Own(cache)) {
+            Ok(()) => Ok(number),
+            Err(_) => Err(Refusal::NoMemory),
+        }
+    }
+
+    /// The cache at a number.
+    fn cache(&self, number: u64) -> Option<&Cache>
+        ensures { option_map (λ c. c.now) result ≡ cache_at self.now.entries.items number }
+    {
+        match self.entries.get(number as usize) {
+            Some(entry) => entry.cache(),
+            None => None,
+        }
+    }
+
+    /// The latest time on a span in the cache at a number.
+    pub fn get_max(&self, number: u64, from: &[u8], to: &[u8], ends: u32) -> Result<Value, Refusal>
+        ensures value { IfOk result (λ v. Looks (cache_at self.now.entries.items number) from.now to.now ends v) }
+        ensures refused { IfErr result (λ why. RefusesLookup why (cache_at self.now.entries.items number) ends) }
+    {
+        match self.cache(number) {
+            Some(cache) => look_in(cache, from, to, ends),
+            None => Err(Refusal::Closed),
+        }
+    }
+
+    /// Where the floor of the cache at a number stands.
+    pub fn low_water(&self, number: u64) -> Result<Timestamp, Refusal>
+        ensures value { IfOk result (λ floor. StandsAt (cache_at self.now.entries.items number) floor) }
+        ensures refused { IfErr result (λ why. IsClosed why (cache_at self.now.entries.items number)) }
+    {
+        match self.cache(number) {
+            Some(cache) => Ok(cache.low_water()),
+            None => Err(Refusal::Closed),
+        }
+    }
+
+    /// What can be counted of the cache at a number.
+    pub fn figures(&self, number: u64) -> Result<TscFigures, Refusal>
+        ensures value { IfOk result (λ figures. Counts (cache_at self.now.entries.items number) figures) }
+        ensures refused { IfErr result (λ why. IsClosed why (cache_at self.now.entries.items number)) }
+    {
+        match self.cache(number) {
+            Some(cache) => Ok(TscFigures {
+                pages: cache.pages() as u64,
+                rotations: cache.rotations(),
+            }),
+            None => Err(Refusal::Closed),
+        }
+    }
+
+    /// Adds to the cache at a number.
+    pub fn add(
+        &mut self,
+        alloc: Global,
+        number: u64,
+        from: &[u8],
+        to: &[u8],
+        ends: u32,
+        value: Value,
+        now: Timestamp,
+    ) -> Result<Added, Refusal>
+        ensures added { IfOk result (λ added. AddsTo (cache_at self.old.entries.items number) (cache_at self.new.entries.items number) from.now to.now ends value now added) }
+        ensures others { Keeps self.old.entries.items self.new.entries.items number }
+        ensures refused { IfErr result (λ why. RefusesAdd why (cache_at self.old.entries.items number) from.now to.now ends) }
+        ensures unchanged { OnErr result (self.new.entries.items ≡ self.old.entries.items) }
+    {
+        match self.entries.get_mut(number as usize) {
+            Some(entry) => entry.add(alloc, from, to, ends, value, now),
+            None => Err(Refusal::Closed),
+        }
+    }
+
+    /// Adds several marks to the cache at a number, all of them or none.
+    pub fn add_all(
+        &mut self,
+        alloc: Global,
+        number: u64,
+        keys: &[u8],
+        asked: &[TscMark],
+        now: Timestamp,
+    ) -> Result<Added, Refusal>
+        ensures added { IfOk result (λ added. AddsAllTo (cache_at self.old.entries.items number) (cache_at self.new.entries.items number) keys.now asked.now now added) }
+        ensures others { Keeps self.old.entries.items self.new.entries.items number }
+        ensures refused { IfErr result (λ why. RefusesAddAll why (cache_at self.old.entries.items number) keys.now asked.now) }
+        ensures unchanged { OnErr result (self.new.entries.items ≡ self.old.entries.items) }
+    {
+        match self.entries.get_mut(number as usize) {
+            Some(entry) => entry.add_all(alloc, keys, asked, now),
+            None => Err(Refusal::Closed),
+        }
+    }
+
+    /// Frees the cache at a number.
+    pub fn close(&mut self, number: u64) -> Result<(), Refusal>
+        ensures closed { cache_at self.new.entries.items number ≡ None }
+        ensures others { Keeps self.old.entries.items self.new.entries.items number }
+        ensures refused { IfErr result (λ why. IsClosed why (cache_at self.old.entries.items number)) }
+        ensures done { IfOk result (λ _. cache_at self.old.entries.items number ≢ None) }
+        ensures unchanged { OnErr result (self.new.entries.items ≡ self.old.entries.items) }
+    {
+        match self.entries.get_mut(number as usize) {
+            Some(entry) => entry.close(),
+            None => Err(Refusal::Closed),
+        }
+    }
+}
+
+/// What a cache answers to the span of two keys.
+fn look_in(cache: &Cache, from: &[u8], to: &[u8], ends: u32) -> Result<Value, Refusal>
+    ensures value { IfOk result (λ v. LooksIn cache.now from.now to.now ends v) }
+    ensures refused { IfErr result (λ why. RefusesEnds why ends) }
+{
+    let span = looked_up_span(from, to, ends)?;
+    Ok(cache.get_max_in(&span))
+}
+
+/// Adds the span of two keys to a cache.
+fn add_in(
+    alloc: Global,
+    cache: &mut Cache,
+    from: &[u8],
+    to: &[u8],
+    ends: u32,
+    value: Value,
+    now: Timestamp,
+) -> Result<Added, Refusal>
+    ensures added { IfOk result (λ added. AddsIn cache.old cache.new from.now to.now ends value now added) }
+    ensures unchanged { OnErr result (cache.new ≡ cache.old) }
+    ensures refused { IfErr result (λ why. RefusesAddIn why cache.old from.now to.now ends) }
+{
+    let span = added_span(alloc, from, to, ends)?;
+    match cache.add(&span, value, now) {
+        Ok(added) => Ok(added),
+        Err(CacheFault::TooLarge) => Err(Refusal::TooLarge),
+        Err(CacheFault::NoMemory) => Err(Refusal::NoMemory),
+    }
+}
+
+/// Adds the marks that an array asks for to a cache.
+fn add_all_in(
+    alloc: Global,
+    cache: &mut Cache,
+    keys: &[u8],
+    asked: &[TscMark],
+    now: Timestamp,
+) -> Result<Added, Refusal>
+    ensures added { IfOk result (λ added. AddsAllIn cache.old cache.new keys.now asked.now now added) }
+    ensures unchanged { OnErr result (cache.new ≡ cache.old) }
+    ensures refused { IfErr result (λ why. RefusesAddAllIn why cache.old keys.now asked.now) }
+{
+    let marks = marks(alloc, keys, asked)?;
+    match cache.add_all(&marks, now) {
+        Ok(added) => Ok(added),
+        Err(CacheFault::TooLarge) => Err(Refusal::TooLarge),
+        Err(CacheFault::NoMemory) => Err(Refusal::NoMemory),
+    }
+}

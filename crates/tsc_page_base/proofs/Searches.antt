@@ -1,0 +1,152 @@
+-- What a binary search for a key finds: its node, or the place for it.
+use Rattle.std.proofs.Common.{◌≡◌, inl, inr, ◌∙◌, refl, sym, ap, subst, true, ℕ, zero, suc, ◌+◌, ◌<◌, ◌≤◌, List, [], ◌∷◌, length, get_or, Result, Ok, Err, arith}
+use mathlib.Core.Bool.{true≢false}
+use Rattle.std.specs.declared.cmp.Ordering.{Ordering}
+use Rattle.std.specs.declared.cmp.Ordering.TheVariants.{Less, Equal, Greater}
+use Rattle.std.specs.Ordering.{is_lt, is_eq, ordering_index, ordering_reverse, ordering_then}
+use Rattle.std.specs.Prelude.{Some, None}
+use Rattle.std.specs.Result.{result_err}
+use Rattle.std.specs.Str.{bytes_eq}
+use Rattle.std.specs.List.Sorted.{IsSearchInRange, IsBinarySearchResult, IsNonDecreasingBy}
+use Rattle.std.proofs.lemmas.Cmp.{nat_list_cmp_total, alike_right}
+use Rattle.std.proofs.lemmas.List.{get_or_default}
+use Rattle.std.proofs.lemmas.Map.Text.{is_eq-slice_cmp}
+use Rattle.std.proofs.lemmas.Slice.Eq.{bytes_eq-Decides}
+use Rattle.std.proofs.Math.Bool.{or-true}
+use Rattle.tsc_span.specs.Span.{KeyBytes, key_cmp, Cut, before, after, last}
+use Rattle.tsc_page_base.specs.PageView.{is_in}
+use Rattle.tsc_page_base.specs.Numbers.{IsKeyAt}
+use Rattle.tsc_page_base.specs.Nodes.{Node, node_keys, IsSorted, FitsAt, HasKeysBelow, StandsAt, FallsAt, place_of, IsPlaceFor, IsPlaceOf, IsFoundAt, IsNewKey}
+use Rattle.tsc_page_base.proofs.CutOrder.{Lt, Le, Le-from_Lt, after-before, below_last}
+use Rattle.tsc_page_base.proofs.Cuts.{lowest}
+use Rattle.tsc_page_base.proofs.Places.{sorted_at, before_or_past, some_node, all_smaller, falls_before}
+
+-- a key before another is less
+less_from_Lt : (k m : KeyBytes) → Lt (after k) (before m) → key_cmp k m ≡ Less
+less_from_Lt k m h = by (key_cmp k m) h
+  where
+    by : (o : Ordering) → is_lt (ordering_then o Greater) ≡ true → o ≡ Less
+    by Less e = refl
+    by Equal e = absurd (true≢false (sym e))
+    by Greater e = absurd (true≢false (sym e))
+
+pub turned : (k m : KeyBytes) → key_cmp k m ≡ Greater → key_cmp m k ≡ Less
+turned k m h = nat_list_cmp_total.antisymm m k ∙ ap ordering_reverse h
+
+-- of two keys in order the greater one compares no less with a third
+no_less : (k m q : KeyBytes) → key_cmp k m ≡ Less → ordering_index (key_cmp k q) ≤ ordering_index (key_cmp m q)
+no_less k m q h = by (key_cmp k q) (key_cmp m q) refl refl
+  where
+    by : (o p : Ordering) → key_cmp k q ≡ o → key_cmp m q ≡ p → ordering_index o ≤ ordering_index p
+    by Less Less e f = omega arith
+    by Less Equal e f = omega arith
+    by Less Greater e f = omega arith
+    by Equal Less e f = absurd (clash (sym e ∙ nat_list_cmp_total.trans k m q h f))
+      where
+        clash : Equal ≡ Less → ⊥
+        clash c = cc
+    by Equal Equal e f = omega arith
+    by Equal Greater e f = omega arith
+    by Greater Less e f = absurd (clash (sym e ∙ nat_list_cmp_total.trans k m q h f))
+      where
+        clash : Greater ≡ Less → ⊥
+        clash c = cc
+    by Greater Equal e f = absurd (clash (sym e ∙ sym (alike_right nat_list_cmp_total m q k f) ∙ h))
+      where
+        clash : Greater ≡ Less → ⊥
+        clash c = cc
+    by Greater Greater e f = omega arith
+
+comparisons_rise : (ns : List Node) → IsSorted ns → (k : KeyBytes) → IsNonDecreasingBy (λ (n : Node). ordering_index (key_cmp n.key k)) ns
+comparisons_rise ns sorted k i j d h g = elim (before_or_past i j) [
+  | inl l ↦ no_less (get_or ns i d).key (get_or ns j d).key k (less_from_Lt (get_or ns i d).key (get_or ns j d).key (sorted_at ns sorted i j d l g))
+  | inr l ↦ let e : i ≡ j = omega arith in rw e (omega arith)
+]
+
+-- a key that stands at some place is in the list
+is_in_at : (ns : List Node) (i : ℕ) (d : Node) (k : KeyBytes) → i < length ns → k ≡ (get_or ns i d).key → is_in k (node_keys ns) ≡ true
+is_in_at [] i d k h e = absurd (omega arith)
+is_in_at (n ∷ ns) zero d k h e = rw ((bytes_eq-Decides k n.key).1 e) refl
+is_in_at (n ∷ ns) (suc i) d k h e = rw (is_in_at ns i d k (omega arith) e) (or-true (bytes_eq k n.key))
+
+-- smaller keys below a place and greater ones from there on make room for a key there
+fits_from : (ns : List Node) (i : ℕ) (low : Cut) (k : KeyBytes) → i ≤ length ns → Le low (before k) → ((j : ℕ) (d : Node) → j < i → Lt (after (get_or ns j d).key) (before k)) → ((j : ℕ) (d : Node) → i ≤ j → j < length ns → Lt (after k) (before (get_or ns j d).key)) → FitsAt k low ns i
+fits_from [] zero low k h up smaller greater = (up, below_last k)
+fits_from (n ∷ ns) zero low k h up smaller greater = (up, greater zero some_node (omega arith) (omega arith))
+fits_from [] (suc i) low k h up smaller greater = absurd (omega arith)
+fits_from (n ∷ ns) (suc i) low k h up smaller greater = fits_from ns i (after n.key) k (omega arith) (Le-from_Lt (after n.key) (before k) (smaller zero some_node (omega arith))) (λ j d g. smaller (suc j) d (omega arith)) (λ j d g l. greater (suc j) d (omega arith) (omega arith))
+
+-- what a search finds
+pub searched : (ns : List Node) → IsSorted ns → (k : KeyBytes) (r : Result ℕ ℕ) → IsSearchInRange r (length ns) → IsBinarySearchResult (λ (n : Node). key_cmp n.key k) ns r → IsFoundAt ns k r
+searched ns sorted k (Ok i) bound at = record {
+  bound = bound;
+  key = λ d. (bytes_eq-Decides (get_or ns i d).key k).0 (sym (is_eq-slice_cmp (get_or ns i d).key k) ∙ ap is_eq (at d));
+}
+searched ns sorted k (Err i) bound at =
+    let parted = at (comparisons_rise ns sorted k) in
+    record {
+      low = record { bound = bound; below = λ j d h. after-before (get_or ns j d).key k (parted.0 j d (omega arith) h) };
+      high = λ j d h g. after-before k (get_or ns j d).key (turned (get_or ns j d).key k (parted.1 j d h g));
+    }
+
+-- a key that is found nowhere has a place
+pub placed : (ns : List Node) (k : KeyBytes) (r : Result ℕ ℕ) → IsFoundAt ns k r → IsPlaceFor k ns (place_of r)
+placed ns k (Ok i) at = is_in_at ns i some_node k at.bound (sym (at.key some_node))
+placed ns k (Err i) at = fits_from ns i (before []) k at.low.bound (lowest (before k)) at.low.below at.high
+
+-- and a copy of it is a new key there
+pub new_at : (ns : List Node) (k : KeyBytes) (i : ℕ) (copy : KeyBytes) → copy ≡ k → FallsAt ns k i → IsNewKey ns (Some k) (Some (i, copy))
+new_at ns k i copy same at = (same, placed ns k (Err i) at, at.low.bound)
+
+-- a key that compares as the same is the same
+pub stands_here : (ns : List Node) (k : KeyBytes) (i : ℕ) (e : Node) → i < length ns → key_cmp (get_or ns i e).key k ≡ Equal → StandsAt ns k i
+stands_here ns k i e inside same = record {
+  bound = inside;
+  key = λ d. ap (λ (n : Node). n.key) (get_or_default ns i d e inside) ∙ (bytes_eq-Decides (get_or ns i e).key k).0 (sym (is_eq-slice_cmp (get_or ns i e).key k) ∙ ap is_eq same);
+}
+
+-- a smaller one lies below, with all before it
+pub smaller_here : (ns : List Node) → IsSorted ns → (k : KeyBytes) (i : ℕ) (e : Node) → i < length ns → key_cmp (get_or ns i e).key k ≡ Less → HasKeysBelow ns k (i + 1)
+smaller_here ns sorted k i e inside less = all_smaller ns sorted k i e inside (after-before (get_or ns i e).key k less)
+
+-- and a greater one above, with all behind it
+pub greater_here : (ns : List Node) → IsSorted ns → (k : KeyBytes) (i : ℕ) (e : Node) → HasKeysBelow ns k i → i < length ns → key_cmp (get_or ns i e).key k ≡ Greater → FallsAt ns k i
+greater_here ns sorted k i e low inside greater = falls_before ns sorted k i e low inside (after-before k (get_or ns i e).key (turned (get_or ns i e).key k greater))
+
+-- one key in two options
+same : (j k : KeyBytes) → Some k ≡ Some j → k ≡ j
+same j k h = cc
+
+-- a cut lies where its key is found
+pub lies_at_key : (ns : List Node) (c : Cut) (k : KeyBytes) (r : Result ℕ ℕ) → IsKeyAt c (Some k) → IsFoundAt ns k r → IsPlaceOf ns c r
+lies_at_key ns (before j) k r h at = subst (λ (m : KeyBytes). IsFoundAt ns m r) (same j k h) at
+lies_at_key ns (after j) k r h at = subst (λ (m : KeyBytes). IsFoundAt ns m r) (same j k h) at
+lies_at_key ns last k r h at = absurd (clash h)
+  where
+    clash : Some k ≡ None → ⊥
+    clash e = cc
+
+-- and behind all nodes without one
+pub lies_behind : (ns : List Node) (c : Cut) (n : ℕ) → IsKeyAt c None → n ≡ length ns → IsPlaceOf ns c (Err n)
+lies_behind ns (before k) n h e = absurd (clash h)
+  where
+    clash : None ≡ Some k → ⊥
+    clash g = cc
+lies_behind ns (after k) n h e = absurd (clash h)
+  where
+    clash : None ≡ Some k → ⊥
+    clash g = cc
+lies_behind ns last n h e = ap Err e
+
+pub is_equal : (o : Ordering) → is_eq o ≡ true → o ≡ Equal
+is_equal Less h = absurd (true≢false (sym h))
+is_equal Equal h = refl
+is_equal Greater h = absurd (true≢false (sym h))
+
+-- and the same key compares so
+pub compares_same : (j k : KeyBytes) → j ≡ k → is_eq (key_cmp j k) ≡ true
+compares_same j k e = is_eq-slice_cmp j k ∙ (bytes_eq-Decides j k).1 e
+
+pub err_place : (r : Result ℕ ℕ) → result_err r ≡ place_of r
+err_place (Ok i) = refl
+err_place (Err i) = refl

@@ -1,0 +1,673 @@
+ghost use Rattle.std.specs.Prelude.{◌≡◌, ◌<◌, ◌≤◌, [], ◌∷◌, ◌↔◌, length, take, drop, true, false, IsTrue, Some, None, IsOk, IfOk, OnOk, OnErr, IfSome, is_some, ◌+◌, option_map, if◌then◌else◌};
+ghost use Rattle.std.specs.Vec.{vec_len, vec_capacity};
+ghost use Rattle.std.specs.Arc.{arc_value};
+ghost use Rattle.tsc_time.specs.Time.{zero_time};
+ghost use Rattle.tsc_time.specs.OwnedTime.{unowned};
+ghost use Rattle.tsc_time.specs.Joint.{joint};
+ghost use Rattle.tsc_span.specs.Span.{is_below, between};
+ghost use Rattle.tsc_span.specs.Cuts.{cut_of};
+ghost use Rattle.tsc_page_base.specs.Numbers.{IsCutNumber};
+ghost use Rattle.tsc_page_base.specs.PageView.{is_new_among};
+ghost use Rattle.tsc_page_base.specs.KeysAbove.{first_above};
+ghost use Rattle.tsc_page_base.specs.Nodes.{paired, IsSorted, FitsAt, IsPlaceFor, IsFoundAt, IsPlaceOf, IsPlaceTold, BothStandWhereTold, HasKeysBelow, StandsAt, LiesFrom, index_of, key_above, first_gap, IsNewKey, FitsIn, with_new, IsInOrder, HasNodes, MakesNodes, AddsNodes, GrowsBy, new_count, found_cost, new_cost, HoldsKeysOn, HoldsGapsOn, node_keys, answer_of, raise_nodes, node_in_gap, gap_value, next_cut, node_stretches};
+
+use crate::number::{KeyNumber, NumberedBytes, NumberedCut, NumberedKey};
+use std::alloc::{AllocError, Global};
+use std::cmp::Ordering;
+use std::marker::Model;
+use std::ops::Range;
+use std::sync::Arc;
+use tsc_span::{Cut, Key};
+use tsc_time::{NoMemory, Timestamp, Value, ratchet};
+
+/// How many nodes of a leaf that is cut stay in it.
+const LOWER_HALF: usize = 32;
+
+/// How much nodes grow: how many come in, and what their keys cost together.
+#[derive(Clone, Copy, Debug)]
+pub struct Grown {
+    /// How many nodes come in.
+    pub nodes: usize,
+    /// What their keys cost together.
+    pub bytes: u32,
+}
+
+/// The value of a key, and that of the open gap up to the next node.
+#[derive(Clone, Copy, Debug)]
+pub(crate) struct Values {
+    value: Value,
+    gap: Value,
+}
+
+/// Nodes in the order of their keys: a leaf of a page. The type itself keeps no order: calls that need it ask for it.
+/// The keys lie apart from the values, so nodes that differ in their values alone share them.
+#[derive(Debug, Drop)]
+pub struct Nodes {
+    /// The keys, in their order.
+    keys: Arc<Vec<NumberedKey>>,
+    /// The values of the node of each key.
+    values: Vec<Values>,
+}
+
+impl Model for Nodes {
+    ghost use Rattle.std.specs.Prelude.{◌≡◌, List, length};
+    ghost use Rattle.std.specs.Arc.{arc_value};
+    ghost use Rattle.tsc_page_base.specs.Nodes.{Node, paired};
+
+    ghost Value = { List Node };
+
+    ghost view = { λ n. paired (arc_value n.keys).items n.values.items };
+
+    ghost invariant = { λ n. length (arc_value n.keys).items ≡ length n.values.items };
+}
+
+impl Nodes {
+    /// A node of a key, with time zero without an owner. It takes the memory of two lists of one, and of a key.
+    pub fn of_key(alloc: Global, key: &Key) -> Result<Nodes, NoMemory>
+        ensures { IfOk result (λ nodes. nodes ≡ node_in_gap key.now (unowned zero_time) ∷ []) }
+    {
+        let mut keys = Vec::with_capacity(alloc, 1)?;
+        keys.push(NumberedKey::copy_of(alloc, key)?)?;
+        let mut values = Vec::with_capacity(alloc, 1)?;
+        let value = Value::unowned(Timestamp::ZERO);
+        values.push(Values { value, gap: value })?;
+        Ok(Nodes {
+            keys: Arc::new(alloc, keys)?,
+            values,
+        })
+    }
+
+    /// How many nodes there are.
+    pub fn len(&self) -> usize
+        ensures { result ≡ length self.now }
+    {
+        self.values.len()
+    }
+
+    /// The nodes to be read.
+    fn lists(&self) -> Lists<'_>
+        ensures { result ≡ self.now }
+    {
+        Lists {
+            keys: self.keys.as_slice(),
+            values: self.values.as_slice(),
+        }
+    }
+
+    /// Whether a cut lies below where the nodes begin, which where there are none is the last cut. It compares
+    /// numbers, and bytes only where these are the same.
+    pub fn starts_above(&self, cut: &NumberedCut<'_>) -> bool
+        ensures { result ≡ is_below cut.now (next_cut (node_stretches self.now)) }
+    {
+        match self.keys.first() {
+            Some(first) => cut.is_below_before(first),
+            None => cut.is_below_last(),
+        }
+    }
+
+    /// Whether a cut lies above where the nodes begin. It costs what `starts_above` does.
+    pub fn starts_below(&self, cut: &NumberedCut<'_>) -> bool
+        ensures { result ≡ is_below (next_cut (node_stretches self.now)) cut.now }
+    {
+        match self.keys.first() {
+            Some(first) => cut.is_above_before(first),
+            None => false,
+        }
+    }
+
+    /// The number of where the nodes begin: that of the first twenty-four bytes of their first key, or the greatest one
+    /// where there are no nodes. It lies beside the key, and is only read.
+    #[inline]
+    pub fn start_number(&self) -> KeyNumber
+        ensures { IsCutNumber result (next_cut (node_stretches self.now)) }
+    {
+        match self.keys.first() {
+            Some(first) => first.number(),
+            None => KeyNumber::greatest(),
+        }
+    }
+
+    /// The place for a key that has no node, or `None` for one that has. It costs a binary search.
+    pub fn place_for(&self, key: &Key) -> Option<usize>
+        requires sorted { IsSorted self.now }
+        ensures place { IsPlaceFor key.now self.now result }
+        ensures bound { IfSome result (λ i. i ≤ length self.now) }
+    {
+        self.lists().find(&NumberedBytes::new(key.bytes())).err()
+    }
+
+    /// The least key above a cut. It costs a binary search, and takes no memory.
+    pub fn key_above(&self, cut: &NumberedCut<'_>) -> Option<&Key>
+        requires sorted { IsSorted self.now }
+        ensures { option_map (λ k. k.now) result ≡ first_above cut.now (node_keys self.now) }
+    {
+        let place = self.keys.partition_point(|key| cut.is_above_before(key));
+        match self.keys.get(place) {
+            Some(key) => Some(key.key()),
+            None => None,
+        }
+    }
+
+    /// The joint value of the keys and gaps between two cuts. It costs a binary search for the first cut, a look at
+    /// one key after another from there to the second, and a step for each node between them.
+    pub fn joint_between(&self, from: &NumberedCut<'_>, to: &NumberedCut<'_>) -> Value
+        requires sorted { IsSorted self.now }
+        requires order { is_below from.now to.now ≡ true }
+        ensures { result ≡ answer_of self.now (between from.now to.now) }
+    {
+        let mut best = Value::unowned(Timestamp::ZERO);
+        let (keys, gaps) = self.lists().places_between(from, to, (None, None));
+        for place in keys {
+            join(&mut best, &self.values[place].value);
+        }
+        for place in gaps {
+            join(&mut best, &self.values[place].gap);
+        }
+        best
+    }
+
+    /// Ratchets a value into the keys and gaps between two cuts. It costs what `joint_between` does, and takes no memory.
+    pub fn raise_between(&mut self, from: &NumberedCut<'_>, to: &NumberedCut<'_>, value: Value)
+        requires sorted { IsSorted self.old }
+        requires order { is_below from.now to.now ≡ true }
+        ensures { self.new ≡ raise_nodes (between from.now to.now) value self.old }
+    {
+        self.raise_near(from, to, (None, None), value);
+    }
+
+    /// The same, where the keys of the cuts may stand at places that are told.
+    fn raise_near(
+        &mut self,
+        from: &NumberedCut<'_>,
+        to: &NumberedCut<'_>,
+        near: (Option<usize>, Option<usize>),
+        value: Value,
+    )
+        requires sorted { IsSorted self.old }
+        requires order { is_below from.now to.now ≡ true }
+        ensures { self.new ≡ raise_nodes (between from.now to.now) value self.old }
+    {
+        raise_values(
+            self.keys.as_slice(),
+            &mut self.values,
+            from,
+            to,
+            near,
+            value,
+        );
+    }
+
+    /// Copies of the keys that have no node, with the places for them. Where both have nodes no memory is
+    /// asked for. It costs a binary search for each key.
+    fn new_keys(&self, first: Option<&Key>, second: Option<&Key>) -> Result<NewKeys, NoMemory>
+        requires sorted { IsSorted self.now }
+        ensures first { IfOk result (λ new. IsNewKey self.now (option_map (λ k. k.now) first.entry) new.first) }
+        ensures second { IfOk result (λ new. IsNewKey self.now (option_map (λ k. k.now) second.entry) new.second) }
+        ensures memory { HasNodes self.now (option_map (λ k. k.now) first.entry) (option_map (λ k. k.now) second.entry) → IsOk result }
+        ensures known { IfOk result (λ new. HasNodes self.now (option_map (λ k. k.now) first.entry) (option_map (λ k. k.now) second.entry)
+            → new_count new.first new.second ≡ 0) }
+        ensures near { IfOk result (λ new. IsInOrder (option_map (λ k. k.now) first.entry) (option_map (λ k. k.now) second.entry)
+            → BothStandWhereTold (with_new (with_new self.now new.second) new.first) (option_map (λ k. k.now) first.entry) (option_map (λ k. k.now) second.entry) new.near) }
+    {
+        let alloc = *self.values.allocator();
+        let lists = self.lists();
+        let (low, first) = lists.new_key(alloc, first)?;
+        let (high, second) = lists.new_key(alloc, second)?;
+        let near = (low, moved(high, first.is_some()));
+        Ok(NewKeys {
+            first,
+            second,
+            near,
+        })
+    }
+
+    /// Makes nodes of new keys, of which the first is the smaller. A list of keys that others hold too is copied; then, and
+    /// where a list has no room, it takes memory. It costs a move of what stands above each new node.
+    fn make(&mut self, new: NewKeys) -> Result<(), NoMemory>
+        requires second { FitsIn self.old new.second }
+        requires first { FitsIn (with_new self.old new.second) new.first }
+        ensures { OnOk result (self.new ≡ with_new (with_new self.old new.second) new.first) }
+    {
+        own_keys(&mut self.keys)?;
+        let keys = Arc::make_mut(&mut self.keys)?;
+        reserve(keys, &mut self.values, &new)?;
+        split(keys, &mut self.values, new.second);
+        split(keys, &mut self.values, new.first);
+        Ok(())
+    }
+
+    /// Makes a node of a key, where it has none. A list of keys that others hold too is copied then, and it takes the memory of
+    /// a copy of the key. It costs a binary search, and a move of what stands above a new node.
+    pub fn make_node(&mut self, key: &Key) -> Result<(), NoMemory>
+        requires sorted { IsSorted self.old }
+        ensures { OnOk result (MakesNodes self.old self.new (Some key.now) None) }
+    {
+        let new = self.new_keys(Some(key), None)?;
+        self.make(new)
+    }
+
+    /// Makes nodes of the keys that have none, of which the first is the smaller, and ratchets a value into the keys and
+    /// gaps between two cuts; tells what came in. Where that would be more than `room`, or where something would and
+    /// others hold the list of keys too, nothing changes, and `None` says so; nor where memory is refused. Where both keys
+    /// have nodes no memory is asked for.
+    pub fn add_owned(
+        &mut self,
+        first: Option<&Key>,
+        second: Option<&Key>,
+        from: &NumberedCut<'_>,
+        to: &NumberedCut<'_>,
+        value: Value,
+        room: Grown,
+    ) -> Result<Option<Grown>, NoMemory>
+        requires sorted { IsSorted self.old }
+        requires order { is_below from.now to.now ≡ true }
+        requires in_order { IsInOrder (option_map (λ k. k.now) first) (option_map (λ k. k.now) second) }
+        ensures added { IfOk result (λ done. IfSome done (λ more. AddsNodes self.old self.new (option_map (λ k. k.now) first.entry) (option_map (λ k. k.now) second.entry) (between from.now to.now) value)) }
+        ensures grown { IfOk result (λ done. IfSome done (λ more. GrowsBy self.old self.new more)) }
+        ensures within { IfOk result (λ done. IfSome done (λ more. (more.nodes ≤ room.nodes) × (more.bytes ≤ room.bytes))) }
+        ensures left { IfOk result (λ done. done ≡ None → self.new ≡ self.old) }
+        ensures unchanged { OnErr result (self.new ≡ self.old) }
+    {
+        let new = self.new_keys(first, second)?;
+        let made = new.grown();
+        if made.nodes > room.nodes || made.bytes > room.bytes {
+            return Ok(None);
+        }
+        if made.nodes == 0 {
+            self.raise_near(from, to, new.near, value);
+            return Ok(Some(Grown { nodes: 0, bytes: 0 }));
+        }
+        let Some(keys) = Arc::get_mut(&mut self.keys) else {
+            return Ok(None)
+        };
+        let values = &mut self.values;
+        reserve(keys, values, &new)?;
+        add(keys, values, new, from, to, value);
+        Ok(Some(made))
+    }
+
+    /// Takes off the nodes behind the first 32. It takes the memory of two lists for them, and that of a copy of the list of
+    /// keys where others hold it too.
+    pub fn cut(&mut self) -> Result<Nodes, NoMemory>
+        requires long { 32 ≤ length self.old }
+        ensures kept { OnOk result (self.new ≡ take 32 self.old) }
+        ensures rest { IfOk result (λ upper. upper ≡ drop 32 self.old) }
+    {
+        let alloc = *self.values.allocator();
+        let (_, upper) = self.values.as_slice().split_at(LOWER_HALF);
+        let values = Vec::from_slice(alloc, upper)?;
+        let keys = Arc::make_mut(&mut self.keys)?.split_off(LOWER_HALF)?;
+        self.values.truncate(LOWER_HALF);
+        Ok(Nodes {
+            keys: Arc::new(alloc, keys)?,
+            values,
+        })
+    }
+}
+
+/// A clone shares the keys, and has room for the values of two nodes more. It takes the memory of a list of values.
+impl Clone for Nodes {
+    ghost is_clone = { λ nodes copy. copy ≡ nodes };
+
+    fn clone(&self) -> Result<Nodes, AllocError> {
+        let mut values = Vec::with_capacity(*self.values.allocator(), self.values.len() + 2)?;
+        values.extend_from_slice(self.values.as_slice())?;
+        Ok(Nodes {
+            keys: Arc::try_clone(&self.keys)?,
+            values,
+        })
+    }
+}
+
+/// Nodes to be read, as the list of their keys and that of their values.
+#[derive(Drop)]
+struct Lists<'a> {
+    keys: &'a [NumberedKey],
+    values: &'a [Values],
+}
+
+impl<'a> Model for Lists<'a> {
+    ghost use Rattle.std.specs.Prelude.{◌≡◌, List, length};
+    ghost use Rattle.tsc_page_base.specs.Nodes.{Node, paired};
+
+    ghost Value = { List Node };
+
+    ghost view = { λ l. paired l.keys.now l.values.now };
+
+    ghost invariant = { λ l. length l.keys.now ≡ length l.values.now };
+}
+
+impl<'a> Lists<'a> {
+    /// Where a key stands, or else the place for it.
+    fn find(&self, key: &NumberedBytes<'_>) -> Result<usize, usize>
+        requires sorted { IsSorted self.now }
+        ensures { IsFoundAt self.now key.now result }
+    {
+        self.keys.binary_search_by(|other| key.compare(other))
+    }
+
+    /// The same as `find`, by a look at one key after another from a place on, before which all are below.
+    fn find_from(&self, place: usize, key: &NumberedBytes<'_>) -> Result<usize, usize>
+        requires sorted { IsSorted self.now }
+        requires low { HasKeysBelow self.now key.now place }
+        ensures { IsFoundAt self.now key.now result }
+    {
+        for i in place..self.keys.len() {
+            match key.compare(&self.keys[i]) {
+                Ordering::Less => {}
+                Ordering::Equal => return Ok(i),
+                Ordering::Greater => return Err(i),
+            }
+        }
+        Err(self.keys.len())
+    }
+
+    /// Whether a key stands at a place.
+    fn stands_at(&self, place: usize, key: &NumberedBytes<'_>) -> bool
+        ensures { IsTrue result ↔ StandsAt self.now key.now place }
+    {
+        match self.keys.get(place) {
+            Some(other) => key.compare(other).is_eq(),
+            None => false,
+        }
+    }
+
+    /// Where a cut lies: where its key does, or behind all. The key may stand at a place that is told.
+    fn place_of(&self, cut: &NumberedCut<'_>, near: Option<usize>) -> Result<usize, usize>
+        requires sorted { IsSorted self.now }
+        ensures { IsPlaceOf self.now cut.now result }
+    {
+        let Some(key) = cut.key() else {
+            return Err(self.keys.len())
+        };
+        match near {
+            Some(place) if self.stands_at(place, &key) => Ok(place),
+            _ => self.find(&key),
+        }
+    }
+
+    /// The same, where no place is told by a look from a place on before which all keys are below the cut's.
+    fn place_from(
+        &self,
+        cut: &NumberedCut<'_>,
+        place: usize,
+        near: Option<usize>,
+    ) -> Result<usize, usize>
+        requires sorted { IsSorted self.now }
+        requires low { LiesFrom self.now cut.now place }
+        ensures { IsPlaceOf self.now cut.now result }
+    {
+        match cut.key() {
+            Some(key) if near.is_none() => self.find_from(place, &key),
+            _ => self.place_of(cut, near),
+        }
+    }
+
+    /// The place of the first key above a cut, by where the cut lies.
+    fn key_above(&self, place: Result<usize, usize>, cut: Cut<'_>) -> usize
+        requires { IsPlaceOf self.now (cut_of cut) place }
+        ensures { result ≡ key_above place (cut_of cut.entry) }
+    {
+        match (place, cut) {
+            (Ok(at), Cut::After(_)) => {
+                prove!(at < self.keys.len());
+                at + 1
+            }
+            _ => index_of(place),
+        }
+    }
+
+    /// The places of the nodes whose keys lie between two cuts, and of those whose gaps overlap what does. The
+    /// keys of the cuts may stand at places that are told; else the first is searched for, and the second looked for
+    /// from there on.
+    fn places_between(
+        &self,
+        from: &NumberedCut<'_>,
+        to: &NumberedCut<'_>,
+        near: (Option<usize>, Option<usize>),
+    ) -> (Range<usize>, Range<usize>)
+        requires sorted { IsSorted self.now }
+        requires order { is_below from.now to.now ≡ true }
+        ensures keys { HoldsKeysOn self.now (between from.now to.now) result.0.start result.0.end }
+        ensures gaps { HoldsGapsOn self.now (between from.now to.now) result.1.start result.1.end }
+    {
+        let low = self.place_of(from, near.0);
+        let high = self.place_from(to, index_of(low), near.1);
+        let keys = self.key_above(low, from.cut())..self.key_above(high, to.cut());
+        (keys, first_gap(low)..index_of(high))
+    }
+
+    /// The place of a key or for it, and where it has no node a copy with that place. For any other key it takes
+    /// no memory.
+    fn new_key(
+        &self,
+        alloc: Global,
+        key: Option<&Key>,
+    ) -> Result<(Option<usize>, Option<(usize, NumberedKey)>), NoMemory>
+        requires sorted { IsSorted self.now }
+        ensures value { IfOk result (λ found. IsNewKey self.now (option_map (λ k. k.now) key.entry) found.1) }
+        ensures memory { is_new_among (node_keys self.now) (option_map (λ k. k.now) key.entry) ≡ false → IsOk result }
+        ensures place { IfOk result (λ found. IsPlaceTold self.now (option_map (λ k. k.now) key.entry) found.1 found.0) }
+    {
+        let Some(key) = key else {
+            return Ok((None, None))
+        };
+        match self.find(&NumberedBytes::new(key.bytes())) {
+            Ok(place) => Ok((Some(place), None)),
+            Err(place) => {
+                let copy = NumberedKey::copy_of(alloc, key)?;
+                Ok((Some(place), Some((place, copy))))
+            }
+        }
+    }
+}
+
+/// Puts a copy in the place of a list of keys that others hold too.
+fn own_keys(keys: &mut Arc<Vec<NumberedKey>>) -> Result<(), NoMemory>
+    ensures { (arc_value keys.new).items ≡ (arc_value keys.old).items }
+{
+    if Arc::strong_count(keys) > 1 {
+        let alloc = *keys.allocator();
+        *keys = Arc::new(alloc, copy_of_keys(keys)?)?;
+    }
+    Ok(())
+}
+
+/// A copy of a list of keys, with room for two more. It shares the keys themselves.
+fn copy_of_keys(keys: &Vec<NumberedKey>) -> Result<Vec<NumberedKey>, NoMemory>
+    ensures { IfOk result (λ copy. copy.items ≡ keys.now.items) }
+{
+    let mut copy = Vec::with_capacity(*keys.allocator(), keys.len() + 2)?;
+    for key in keys {
+        copy.push(key.clone()?)?;
+    }
+    Ok(copy)
+}
+
+/// Makes room for nodes of new keys. Where memory is refused there are as many as before, and the list of values has
+/// not grown. Where there are no new keys no memory is asked for.
+fn reserve(
+    keys: &mut Vec<NumberedKey>,
+    values: &mut Vec<Values>,
+    new: &NewKeys,
+) -> Result<(), NoMemory>
+    ensures keys { keys.new.items ≡ keys.old.items }
+    ensures values { values.new.items ≡ values.old.items }
+    ensures key_room { OnOk result (vec_len keys.new + (new_count new.now.first new.now.second) ≤ vec_capacity keys.new) }
+    ensures value_room { OnOk result (vec_len values.new + (new_count new.now.first new.now.second) ≤ vec_capacity values.new) }
+    ensures capacity { OnErr result (vec_capacity values.new ≡ vec_capacity values.old) }
+    ensures memory { new_count new.now.first new.now.second ≡ 0 → IsOk result }
+{
+    let new = new.len();
+    if new == 0 {
+        return Ok(());
+    }
+    keys.reserve(new)?;
+    Ok(values.reserve(new)?)
+}
+
+/// Makes a node of a new key, with the value of the gap in which it falls, or time zero without an
+/// owner below the first node. It takes no memory.
+fn split(keys: &mut Vec<NumberedKey>, values: &mut Vec<Values>, new: Option<(usize, NumberedKey)>)
+    requires same { length keys.old.items ≡ length values.old.items }
+    requires fits { FitsIn (paired keys.old.items values.old.items) new }
+    requires key_room { vec_len keys.old + (if is_some new then 1 else 0) ≤ vec_capacity keys.old }
+    requires value_room { vec_len values.old + (if is_some new then 1 else 0) ≤ vec_capacity values.old }
+    ensures same { length keys.new.items ≡ length values.new.items }
+    ensures inserted { paired keys.new.items values.new.items ≡ with_new (paired keys.old.items values.old.items) new }
+    ensures key_len { vec_len keys.new ≡ vec_len keys.old + (if is_some new then 1 else 0) }
+    ensures key_capacity { vec_capacity keys.old ≤ vec_capacity keys.new }
+    ensures value_len { vec_len values.new ≡ vec_len values.old + (if is_some new then 1 else 0) }
+    ensures value_capacity { vec_capacity values.old ≤ vec_capacity values.new }
+{
+    let Some((place, key)) = new else { return };
+    let value = match place.checked_sub(1) {
+        Some(before) => values[before].gap,
+        None => Value::unowned(Timestamp::ZERO),
+    };
+    keys.insert(place, key).ok();
+    values.insert(place, Values { value, gap: value }).ok();
+}
+
+/// Ratchets a value into the keys and gaps between two cuts, whose keys may stand at places that are told.
+fn raise_values(
+    keys: &[NumberedKey],
+    values: &mut Vec<Values>,
+    from: &NumberedCut<'_>,
+    to: &NumberedCut<'_>,
+    near: (Option<usize>, Option<usize>),
+    value: Value,
+)
+    requires same { length keys.now ≡ length values.old.items }
+    requires sorted { IsSorted (paired keys.now values.old.items) }
+    requires order { is_below from.now to.now ≡ true }
+    ensures same { length keys.now ≡ length values.new.items }
+    ensures raised { paired keys.now values.new.items ≡ raise_nodes (between from.now to.now) value (paired keys.now values.old.items) }
+{
+    let lists = Lists {
+        keys,
+        values: values.as_slice(),
+    };
+    let (raised_keys, raised_gaps) = lists.places_between(from, to, near);
+    for place in raised_keys {
+        values[place].value = ratchet(values[place].value, value).0;
+    }
+    for place in raised_gaps {
+        values[place].gap = ratchet(values[place].gap, value).0;
+    }
+}
+
+/// Makes nodes of new keys, of which the first is the smaller, and ratchets a value into the keys and gaps
+/// between two cuts. It takes no memory. It costs a move of what stands above each new node, and a step for each node between
+/// the cuts. A cut is searched for only where its key doesn't stand at the place that `new_keys` found.
+fn add(
+    keys: &mut Vec<NumberedKey>,
+    values: &mut Vec<Values>,
+    new: NewKeys,
+    from: &NumberedCut<'_>,
+    to: &NumberedCut<'_>,
+    value: Value,
+)
+    requires same { length keys.old.items ≡ length values.old.items }
+    requires sorted { IsSorted (with_new (with_new (paired keys.old.items values.old.items) new.second) new.first) }
+    requires second { FitsIn (paired keys.old.items values.old.items) new.second }
+    requires first { FitsIn (with_new (paired keys.old.items values.old.items) new.second) new.first }
+    requires key_room { vec_len keys.old + (new_count new.first new.second) ≤ vec_capacity keys.old }
+    requires value_room { vec_len values.old + (new_count new.first new.second) ≤ vec_capacity values.old }
+    requires order { is_below from.now to.now ≡ true }
+    ensures same { length keys.new.items ≡ length values.new.items }
+    ensures added { paired keys.new.items values.new.items ≡ raise_nodes (between from.now to.now) value
+        (with_new (with_new (paired keys.old.items values.old.items) new.second) new.first) }
+{
+    split(keys, values, new.second);
+    split(keys, values, new.first);
+    raise_values(keys.as_slice(), values, from, to, new.near, value);
+}
+
+/// A place, and where a node came in before it the next one.
+fn moved(place: Option<usize>, more: bool) -> Option<usize>
+    ensures none { place ≡ None → result ≡ None }
+    ensures moved { IfSome place (λ i. i < usize.MAX → result ≡ Some (i + (if more then 1 else 0))) }
+{
+    Some(place?.saturating_add(usize::from(more)))
+}
+
+/// The place of a node at which a cut lies, or before which it does.
+fn index_of(place: Result<usize, usize>) -> usize
+    ensures { result ≡ index_of place }
+{
+    match place {
+        Ok(at) | Err(at) => at,
+    }
+}
+
+/// The place of the first gap that stops above a cut: a gap in which it lies is that of the node before.
+fn first_gap(place: Result<usize, usize>) -> usize
+    ensures { result ≡ first_gap place }
+{
+    match place {
+        Ok(at) => at,
+        Err(at) => at.saturating_sub(1),
+    }
+}
+
+/// Joins a value into the best so far, of which it mostly is the earlier one.
+#[inline]
+fn join(best: &mut Value, value: &Value)
+    ensures { best.new ≡ joint best.old (value.now ∷ []) }
+{
+    if value.time() >= best.time() {
+        *best = joint_of(best, value);
+    }
+}
+
+/// The joint value of two. It stays out of the loops, which else move the bytes of an owner at each step.
+#[inline(never)]
+fn joint_of(best: &Value, value: &Value) -> Value
+    ensures { result ≡ joint best.now (value.now ∷ []) }
+{
+    ratchet(*best, *value).0
+}
+
+/// Copies of up to two keys that have no node, of which the first is the smaller, with the places for them; and
+/// where both keys stand once they have nodes, as far as they are here.
+#[derive(Debug, Drop)]
+struct NewKeys {
+    /// The smaller key, with its place.
+    first: Option<(usize, NumberedKey)>,
+    /// The greater key, with its place before the smaller one has a node.
+    second: Option<(usize, NumberedKey)>,
+    /// Where both keys stand once they have nodes.
+    near: (Option<usize>, Option<usize>),
+}
+
+impl NewKeys {
+    /// How many there are: up to two.
+    fn len(&self) -> usize
+        ensures { result ≡ new_count self.now.first self.now.second }
+    {
+        usize::from(self.first.is_some()) + usize::from(self.second.is_some())
+    }
+
+    /// How many there are, and what they cost together.
+    fn grown(&self) -> Grown
+        ensures nodes { result.nodes ≡ new_count self.now.first self.now.second }
+        ensures bytes { result.bytes ≡ new_cost self.now.first self.now.second }
+    {
+        Grown {
+            nodes: self.len(),
+            bytes: found_cost(&self.first) + found_cost(&self.second),
+        }
+    }
+}
+
+/// What a new key costs, where this is one.
+fn found_cost(new: &Option<(usize, NumberedKey)>) -> u32
+    ensures value { result ≡ found_cost new.now }
+    ensures most { result ≤ 4128 }
+{
+    match new {
+        Some((_, key)) => key.cost(),
+        None => 0,
+    }
+}

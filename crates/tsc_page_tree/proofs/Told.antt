@@ -1,0 +1,53 @@
+-- What is told of a part's nodes, once a value was held back above them, pushed down or added below.
+use Rattle.std.proofs.Common.{◌∙◌, sym, ap, subst, cond, ℕ, ◌≤◌, List, [], ◌∷◌, length, arith}
+use Rattle.std.specs.Prelude.{Option, Some, None, Result, Ok, Err}
+use Rattle.tsc_time.specs.OwnedTime.{OwnedTime}
+use Rattle.tsc_time.specs.Joint.{joint}
+use Rattle.tsc_span.specs.Span.{is_below}
+use Rattle.tsc_page_base.specs.Numbers.{IsCutNumber}
+use Rattle.tsc_page_base.specs.declared.nodes.Grown.{Grown}
+use Rattle.tsc_page_base.specs.Nodes.{Node, IsSorted, IsInOrder}
+use Rattle.tsc_page_tree.specs.Leaves.{start_of}
+use Rattle.tsc_page_tree.specs.Pending.{with_pending, merged, all_joint, IsToldOf, Addend, IsAddTold, joint_after}
+use Rattle.tsc_page_base.proofs.CutOrder.{Lt}
+use Rattle.tsc_page_tree.proofs.Pending.{raise_merged, pending-start, pending-length}
+use Rattle.tsc_page_tree.proofs.AllJoint.{all_joint_whole, all_joint_added}
+
+-- where they begin
+pub told_start : (n : ℕ) (all : OwnedTime) (p : Option OwnedTime) (ns : List Node) → IsToldOf n all p ns → IsCutNumber n (start_of (with_pending p ns))
+told_start n all p ns told = subst (IsCutNumber n) (sym (pending-start p ns)) told.start
+
+-- and that there are some
+pub told_some : (n : ℕ) (all : OwnedTime) (p : Option OwnedTime) (ns : List Node) → IsToldOf n all p ns → 1 ≤ length (with_pending p ns)
+told_some n all p ns told = omega (arith, pending-length p ns, told.some)
+
+-- one more value is held back
+pub told_raised : (n : ℕ) (all v : OwnedTime) (p : Option OwnedTime) (ns : List Node) → IsSorted (with_pending p ns) → IsToldOf n all p ns → IsToldOf n (joint all (v ∷ [])) (Some (merged p v)) ns
+told_raised n all v p ns sorted told = record {
+  some = told.some;
+  start = told.start;
+  joint = ap (λ (w : OwnedTime). joint w (v ∷ [])) told.joint ∙ sym (all_joint_whole v (with_pending p ns) sorted (told_some n all p ns told)) ∙ ap (λ (ms : List Node). all_joint ms) (sym (raise_merged p v ns));
+}
+
+-- what was held back is pushed down
+pub told_pushed : (n : ℕ) (all : OwnedTime) (p : Option OwnedTime) (ns : List Node) → IsToldOf n all p ns → IsToldOf n all None (with_pending p ns)
+told_pushed n all p ns told = record { some = told_some n all p ns told; start = told_start n all p ns told; joint = told.joint }
+
+-- an Add below, where it was made
+pub told_added : {E : Type 0} (r : Result (Option Grown) E) (n m : ℕ) (all : OwnedTime) (old new : List Node) (was now : List ℕ) (a : Addend) (room : ℕ) → IsSorted old → IsInOrder a.first a.second → Lt a.from a.to
+    → IsCutNumber m (start_of new) → IsAddTold old new was now a room r → IsToldOf n all None old → IsToldOf m (joint_after r (is_below (start_of new) a.to) a.value all) None new
+told_added (Ok (Some more)) n m all old new was now a room sorted order up start made told = record {
+  some = omega (arith, told.some, made.grown.count);
+  start = start;
+  joint = ap (λ (w : OwnedTime). cond (is_below (start_of new) a.to) (joint w (a.value ∷ [])) w) told.joint ∙ sym (all_joint_added old new a.first a.second a.from a.to a.value sorted order up made.adds);
+}
+told_added (Ok None) n m all old new was now a room sorted order up start left told = record {
+  some = subst (λ (ns : List Node). 1 ≤ length ns) (sym left.0) told.some;
+  start = start;
+  joint = told.joint ∙ ap (λ (ns : List Node). all_joint ns) (sym left.0);
+}
+told_added (Err e) n m all old new was now a room sorted order up start left told = record {
+  some = subst (λ (ns : List Node). 1 ≤ length ns) (sym left.0) told.some;
+  start = start;
+  joint = told.joint ∙ ap (λ (ns : List Node). all_joint ns) (sym left.0);
+}

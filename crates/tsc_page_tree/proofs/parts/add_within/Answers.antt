@@ -1,0 +1,69 @@
+-- The span lies in one part, to which the Add is handed.
+use Rattle.std.proofs.Common.{◌≡◌, ◌∙◌, ◌<◌, sym, ap, subst, true, false, ℕ, suc, List, [], map, drop, get_or, length, arith}
+use Rattle.std.proofs.lemmas.List.{length-map}
+use Rattle.tsc_span.specs.Span.{Cut, is_below}
+use Rattle.tsc_page_base.specs.Nodes.{Node, IsSorted}
+use Rattle.tsc_page_tree.specs.Leaves.{nodes_of, start_of, IsLeafAt}
+use Rattle.tsc_page_tree.specs.Pending.{Addend, IsAddTold}
+use Rattle.tsc_page_base.proofs.CutOrder.{Le}
+use Rattle.tsc_page_tree.proofs.LeafLists.{all_some, leaf_sorted, part_read}
+use Rattle.tsc_page_tree.proofs.PartAdds.{IsAddend, not_true, not_false, told_in_part, told_before_next}
+use Rattle.tsc_page_tree.proofs.parts.add_within.Goals as goal
+
+pub add_within-requires-clause-sorted : goal.add_within-requires-clause-sorted
+add_within-requires-clause-sorted g c =
+    let read = g.P.Part.nodes in
+    let items = c.args.parts.now in
+    let p : ℕ = c.part_at-place.result in
+    let here : p < length items = omega (arith, c.if-place-parts.false) in
+    subst IsSorted (sym (part_read read items p c.index-parts-place.result here)) (leaf_sorted (map read items) p [] (omega (arith, here, length-map items read)) c.requires.parts.sorted)
+
+pub add_within-requires-else-stops_at_next-clause-sorted :
+    goal.add_within-requires-else-stops_at_next-clause-sorted
+add_within-requires-else-stops_at_next-clause-sorted g c =
+    let read = g.P.Part.nodes in
+    let items = c.args.parts.now in
+    let p : ℕ = c.part_at-place.result in
+    let here : p < length items = omega (arith, c.if-place-parts.false) in
+    subst IsSorted (sym (part_read read items p c.index-parts-place-else-stops_at_next.result here)) (leaf_sorted (map read items) p [] (omega (arith, here, length-map items read)) c.requires.parts.sorted)
+
+pub returns-then-stops_at_next-clause-told : goal.returns-then-stops_at_next-clause-told
+returns-then-stops_at_next-clause-told g c =
+    let read = g.P.Part.nodes in
+    let sizes = g.P.Part.sizes in
+    let items = c.args.parts.now in
+    let ls : List (List Node) = map read items in
+    let p : ℕ = c.part_at-place.result in
+    let d = c.index-parts-place.result in
+    let y = c.add_within.new.self in
+    let a : Addend = c.args.add.now in
+    let next : Cut = start_of (nodes_of (drop (suc p) ls)) in
+    let here : p < length items = omega (arith, c.if-place-parts.false) in
+    let fits : IsAddend a = subst IsAddend c.add.view_is c.add.invariant in
+    let from : c.add.inside.from.now ≡ a.from = ap (λ (v : Addend). v.from) c.add.view_is in
+    let to : c.add.inside.to.now ≡ a.to = ap (λ (v : Addend). v.to) c.add.view_is in
+    let at = subst (λ (x : Cut). IsLeafAt ls x p) from c.part_at-place.ensures in
+    let high = subst (λ (x : Cut). Le x next) to (sym c.goes_on.ensures ∙ c.if-goes_on.false) in
+    let below = subst (λ (x : Cut). is_below x next ≡ false) to (not_true (is_below c.add.inside.to.now next) (sym c.stops_at_next.ensures ∙ c.if-stops_at_next.true)) in
+    let told = subst (λ (b : Addend). IsAddTold (read (get_or items p d)) (read y) (sizes (get_or items p d)) (sizes y) b c.args.room c.add_within.result) c.before_second.ensures c.add_within.ensures.told in
+    told_before_next read items p d y a (all_some read g.P.Part.IsWhole items g.met.P.Part.some c.requires.parts.whole) c.requires.parts.sorted here at fits.0 fits.1 fits.2 fits.3 high sizes c.add_within.result c.args.room below told
+
+pub returns-else-stops_at_next-clause-told : goal.returns-else-stops_at_next-clause-told
+returns-else-stops_at_next-clause-told g c =
+    let read = g.P.Part.nodes in
+    let sizes = g.P.Part.sizes in
+    let items = c.args.parts.now in
+    let ls : List (List Node) = map read items in
+    let p : ℕ = c.part_at-place.result in
+    let d = c.index-parts-place-else-stops_at_next.result in
+    let y = c.add_within-else-stops_at_next.new.self in
+    let a : Addend = c.args.add.now in
+    let next : Cut = start_of (nodes_of (drop (suc p) ls)) in
+    let here : p < length items = omega (arith, c.if-place-parts.false) in
+    let fits : IsAddend a = subst IsAddend c.add.view_is c.add.invariant in
+    let from : c.add.inside.from.now ≡ a.from = ap (λ (v : Addend). v.from) c.add.view_is in
+    let to : c.add.inside.to.now ≡ a.to = ap (λ (v : Addend). v.to) c.add.view_is in
+    let at = subst (λ (x : Cut). IsLeafAt ls x p) from c.part_at-place.ensures in
+    let high = subst (λ (x : Cut). Le x next) to (sym c.goes_on.ensures ∙ c.if-goes_on.false) in
+    let below = subst (λ (x : Cut). is_below x next ≡ true) to (not_false (is_below c.add.inside.to.now next) (sym c.stops_at_next.ensures ∙ c.if-stops_at_next.false)) in
+    told_in_part read items p d y a (all_some read g.P.Part.IsWhole items g.met.P.Part.some c.requires.parts.whole) c.requires.parts.sorted here at fits.0 fits.1 fits.2 fits.3 high sizes c.add_within-else-stops_at_next.result c.args.room below c.add_within-else-stops_at_next.ensures.told

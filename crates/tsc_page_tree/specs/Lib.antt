@@ -1,0 +1,13 @@
+pub mod Leaves
+pub mod Pending
+pub mod Copies
+pub mod Across
+pub mod Trees
+pub use Rattle.tsc_time.specs.Time
+pub use Rattle.tsc_time.specs.Joint
+pub use Rattle.tsc_span.specs.Span
+pub use Rattle.tsc_page_base.specs.Page
+pub use Rattle.tsc_page_base.specs.PageView
+pub use Rattle.tsc_page_base.specs.Nodes
+pub use Rattle.tsc_page_base.specs.Numbers
+pub use Rattle.tsc_page_base.specs.KeysAbove

@@ -1,0 +1,98 @@
+ghost use Rattle.std.specs.Prelude.{◌≡◌, ◌≤◌, ◌<◌, suc, map, length, drop, true, false, if◌then◌else◌};
+ghost use Rattle.std.specs.List.{All};
+ghost use Rattle.tsc_span.specs.Span.{is_below};
+ghost use Rattle.tsc_page_base.specs.Nodes.{IsSorted};
+ghost use Rattle.tsc_page_tree.specs.Leaves.{AreParts, IsLeafAt, nodes_of, start_of};
+ghost use Rattle.tsc_page_tree.specs.Pending.{AddsSome, nothing_grown, before_second};
+ghost use Rattle.tsc_page_tree.specs.Across.{IsAcrossTold, IsLastReached};
+
+use crate::addition::Addition;
+use crate::parts::{Part, part_at, raise_all, stops_at_next};
+use tsc_page_base::NumberedCut;
+
+/// The last part that a span reaches which stops at a cut, or the first one.
+fn last_reached<P: Part>(parts: &[P], to: &NumberedCut<'_>) -> usize
+    requires parts { AreParts P.nodes P.IsWhole parts.now }
+    requires some { 1 ≤ length parts.now }
+    ensures { IsLastReached (map P.nodes parts.now) to.now result }
+{
+    let place = part_at(parts, to);
+    if place > 0 && !parts[place].starts_below(to) {
+        place - 1
+    } else {
+        place
+    }
+}
+
+/// Raises over two parts, where what stops right behind the second one keeps its end key from it.
+fn raise_ends<P: Part>(low: &mut P, high: &mut P, add: &Addition<'_>, stops: bool) -> bool
+    requires whole_low { P.IsWhole low.old }
+    requires whole_high { P.IsWhole high.old }
+    requires sorted_low { IsSorted (P.nodes low.old) }
+    requires sorted_high { IsSorted (P.nodes high.old) }
+    requires reaches { is_below (start_of (P.nodes high.old)) add.now.to ≡ true }
+    ensures told { IsAcrossTold (P.nodes low.old) (P.nodes low.new) (P.nodes high.old) (P.nodes high.new) (if stops then before_second add.now else add.now) result }
+    ensures sizes_low { P.sizes low.new ≡ P.sizes low.old }
+    ensures sizes_high { P.sizes high.new ≡ P.sizes high.old }
+    ensures low { P.IsWhole low.new }
+    ensures high { P.IsWhole high.new }
+{
+    if stops {
+        P::raise_across(low, high, &add.before_second())
+    } else {
+        P::raise_across(low, high, add)
+    }
+}
+
+/// Ratchets a value in place over two lists of parts: from the part of the first one in which the span starts up to that of the
+/// second one in which it stops. Says whether it did, as [`Part::raise_across`]; else nothing changes.
+pub(crate) fn raise_two<P: Part>(low: &mut [P], high: &mut [P], add: &Addition<'_>) -> bool
+    requires parts_low { AreParts P.nodes P.IsWhole low.old }
+    requires parts_high { AreParts P.nodes P.IsWhole high.old }
+    requires some_low { 1 ≤ length low.old }
+    requires some_high { 1 ≤ length high.old }
+    requires reaches { is_below (start_of (nodes_of (map P.nodes high.old))) add.now.to ≡ true }
+    ensures told { IsAcrossTold (nodes_of (map P.nodes low.old)) (nodes_of (map P.nodes low.new)) (nodes_of (map P.nodes high.old)) (nodes_of (map P.nodes high.new)) add.now result }
+    ensures sizes_low { map P.sizes low.new ≡ map P.sizes low.old }
+    ensures sizes_high { map P.sizes high.new ≡ map P.sizes high.old }
+    ensures low { All P.IsWhole low.new }
+    ensures high { All P.IsWhole high.new }
+    ensures len_low { length low.new ≡ length low.old }
+    ensures len_high { length high.new ≡ length high.old }
+{
+    let first = part_at(low, add.from);
+    let last = last_reached(high, add.to);
+    let stops = stops_at_next(high, last, add.to);
+    let (below, mid) = low.split_at_mut(first + 1);
+    let (others, above) = high.split_at_mut(last);
+    if !raise_ends(&mut below[first], &mut above[0], add, stops) {
+        return false;
+    }
+    raise_all(mid, add.value);
+    raise_all(others, add.value);
+    true
+}
+
+/// Ratchets a value in place over several parts of one list, from the one in which the span starts. Says whether it did, as
+/// [`Part::raise_across`]; else nothing changes.
+pub(crate) fn raise_over<P: Part>(parts: &mut [P], first: usize, add: &Addition<'_>) -> bool
+    requires parts { AreParts P.nodes P.IsWhole parts.old }
+    requires bound { first < length parts.old }
+    requires first { IsLeafAt (map P.nodes parts.old) add.now.from first }
+    requires beyond { is_below (start_of (nodes_of (drop (suc first) (map P.nodes parts.old)))) add.now.to ≡ true }
+    ensures raised { result ≡ true → AddsSome (nodes_of (map P.nodes parts.old)) (nodes_of (map P.nodes parts.new)) add.now 0 nothing_grown }
+    ensures left { result ≡ false → nodes_of (map P.nodes parts.new) ≡ nodes_of (map P.nodes parts.old) }
+    ensures sizes { map P.sizes parts.new ≡ map P.sizes parts.old }
+    ensures whole { All P.IsWhole parts.new }
+    ensures len { length parts.new ≡ length parts.old }
+{
+    let last = last_reached(parts, add.to);
+    let stops = stops_at_next(parts, last, add.to);
+    let (below, rest) = parts.split_at_mut(first + 1);
+    let (mid, above) = rest.split_at_mut(last - first - 1);
+    if !raise_ends(&mut below[first], &mut above[0], add, stops) {
+        return false;
+    }
+    raise_all(mid, add.value);
+    true
+}

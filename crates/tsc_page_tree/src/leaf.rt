@@ -1,0 +1,221 @@
+ghost use Rattle.std.specs.Prelude.{◌≡◌, ◌≤◌, ◌++◌, length, true, option_map, None, IfOk, OnOk, IfSome};
+ghost use Rattle.tsc_page_base.specs.Nodes.{IsSorted};
+ghost use Rattle.tsc_page_tree.specs.Leaves.{IsLeaf, HasNode};
+ghost use Rattle.tsc_page_tree.specs.Pending.{with_pending};
+ghost use Rattle.tsc_page_tree.specs.Across.{HasKey};
+ghost use Rattle.tsc_page_tree.specs.Trees.{nodes_in, leaf_nodes, leaf_sizes, leaf_copied, IsWholeLeaf, IsLeafCopy, IsTold};
+
+use crate::addition::Addition;
+use crate::parts::Part;
+use crate::summary::Summary;
+use std::alloc::{AllocError, Global};
+use std::sync::Arc;
+use tsc_page_base::{Grown, KeyNumber, Nodes, NumberedCut};
+use tsc_span::{Cut, Key};
+use tsc_time::{NoMemory, Value};
+
+/// How many nodes a leaf has at the most.
+const LEAF_NODES: usize = 64;
+
+/// Nodes that others may hold too, with what is known of them all. They don't change while others hold them.
+#[derive(Debug, Drop)]
+pub struct Leaf {
+    pub(crate) summary: Summary,
+    pub(crate) nodes: Arc<Nodes>,
+}
+
+impl Leaf {
+    /// A leaf of nodes, over which nothing is pending.
+    pub fn new(alloc: Global, nodes: Nodes) -> Result<Leaf, NoMemory>
+        requires leaf { IsLeaf nodes }
+        requires sorted { IsSorted nodes }
+        ensures nodes { IfOk result (λ leaf. leaf_nodes leaf ≡ nodes) }
+        ensures whole { IfOk result IsWholeLeaf }
+    {
+        Ok(Leaf {
+            summary: summary_of(&nodes),
+            nodes: Arc::new(alloc, nodes)?,
+        })
+    }
+}
+
+/// A clone shares the nodes.
+impl Clone for Leaf {
+    ghost is_clone = { IsLeafCopy };
+
+    fn clone(&self) -> Result<Leaf, AllocError> {
+        Ok(Leaf {
+            summary: self.summary,
+            nodes: Arc::try_clone(&self.nodes)?,
+        })
+    }
+}
+
+impl Part for Leaf {
+    ghost nodes = { leaf_nodes };
+
+    ghost sizes = { leaf_sizes };
+
+    ghost IsWhole = { IsWholeLeaf };
+
+    fn starts_above(&self, cut: &NumberedCut<'_>) -> bool {
+        match cut.is_below_number(&self.summary.start) {
+            Some(below) => below,
+            None => self.nodes.starts_above(cut),
+        }
+    }
+
+    fn starts_below(&self, cut: &NumberedCut<'_>) -> bool {
+        match cut.is_above_number(&self.summary.start) {
+            Some(above) => above,
+            None => self.nodes.starts_below(cut),
+        }
+    }
+
+    fn start_number(&self) -> KeyNumber {
+        self.summary.start
+    }
+
+    fn joint(&self) -> Value {
+        self.summary.joint
+    }
+
+    fn joint_between(&self, from: &NumberedCut<'_>, to: &NumberedCut<'_>) -> Value {
+        let below = self.nodes.joint_between(from, to);
+        self.summary.seen(below, self.starts_below(to))
+    }
+
+    fn is_new(&self, key: &Key) -> bool {
+        self.nodes.place_for(key).is_some()
+    }
+
+    fn key_above(&self, cut: &NumberedCut<'_>) -> Option<&Key> {
+        self.nodes.key_above(cut)
+    }
+
+    fn leaf_len(&self, place: usize) -> Result<usize, usize> {
+        match place.checked_sub(1) {
+            Some(rest) => Err(rest),
+            None => Ok(self.nodes.len()),
+        }
+    }
+
+    fn raise_whole(&mut self, value: Value) {
+        self.summary.raise(value);
+    }
+
+    fn raise_between(&mut self, from: Cut<'_>, to: Cut<'_>, value: Value) -> Result<(), NoMemory> {
+        let (from, to) = (NumberedCut::new(from), NumberedCut::new(to));
+        let nodes = Arc::make_mut(&mut self.nodes)?;
+        nodes.raise_between(&from, &to, value);
+        self.summary.reach(nodes.starts_below(&to), value);
+        Ok(())
+    }
+
+    fn make_node(&mut self, alloc: Global, key: &Key) -> Result<Option<Leaf>, NoMemory> {
+        let nodes = Arc::make_mut(&mut self.nodes)?;
+        push_down(nodes, &self.summary);
+        let upper = grow(nodes, key)?;
+        self.summary = summary_of(nodes);
+        match upper {
+            Some(upper) => Ok(Some(Leaf::new(alloc, upper)?)),
+            None => Ok(None),
+        }
+    }
+
+    fn add_within(&mut self, add: &Addition<'_>, room: u32) -> Result<Option<Grown>, NoMemory> {
+        let nodes = Arc::make_mut(&mut self.nodes)?;
+        push_down(nodes, &self.summary);
+        self.summary.pending = None;
+        let room = Grown {
+            nodes: LEAF_NODES - nodes.len(),
+            bytes: room,
+        };
+        let made = nodes.add_owned(add.first, add.second, add.from, add.to, add.value, room);
+        let reached = nodes.starts_below(add.to);
+        self.summary
+            .heed(&made, nodes.start_number(), reached, add.value);
+        made
+    }
+
+    fn raise_across(low: &mut Leaf, high: &mut Leaf, add: &Addition<'_>) -> bool {
+        let Some(below) = Arc::get_mut(&mut low.nodes) else {
+            return false
+        };
+        let Some(above) = Arc::get_mut(&mut high.nodes) else {
+            return false
+        };
+        if !has_key(below, add.first) {
+            return false;
+        }
+        if !has_key(above, add.second) {
+            return false;
+        }
+        below.raise_between(add.from, &NumberedCut::new(Cut::Last), add.value);
+        above.raise_between(&NumberedCut::new(Cut::Before(&[])), add.to, add.value);
+        low.summary.reach(true, add.value);
+        high.summary.reach(true, add.value);
+        true
+    }
+
+    ghost some = { λ l is. is.some };
+
+    ghost counted = { λ l is. is.sizes };
+
+    ghost copied = { leaf_copied };
+}
+
+/// What is known of nodes over which nothing is pending.
+fn summary_of(nodes: &Nodes) -> Summary
+    requires some { 1 ≤ length nodes.now }
+    requires sorted { IsSorted nodes.now }
+    ensures told { IsTold result nodes.now }
+    ensures pending { result.pending ≡ None }
+{
+    let least = NumberedCut::new(Cut::Before(&[]));
+    let last = NumberedCut::new(Cut::Last);
+    Summary {
+        start: nodes.start_number(),
+        joint: nodes.joint_between(&least, &last),
+        pending: None,
+    }
+}
+
+/// Ratchets what is pending into nodes.
+fn push_down(nodes: &mut Nodes, summary: &Summary)
+    requires sorted { IsSorted nodes.old }
+    ensures { nodes.new ≡ with_pending summary.now.pending nodes.old }
+{
+    if let Some(pending) = summary.pending {
+        let least = NumberedCut::new(Cut::Before(&[]));
+        let last = NumberedCut::new(Cut::Last);
+        nodes.raise_between(&least, &last, pending);
+    }
+}
+
+/// Makes a node of a key, where it has none. Where there are then more than a leaf has, those behind the first 32 come off.
+fn grow(nodes: &mut Nodes, key: &Key) -> Result<Option<Nodes>, NoMemory>
+    requires leaf { IsLeaf nodes.old }
+    requires sorted { IsSorted nodes.old }
+    ensures made { IfOk result (λ upper. HasNode nodes.old (nodes.new ++ nodes_in upper) key.now) }
+    ensures leaf { OnOk result (IsLeaf nodes.new) }
+    ensures upper { IfOk result (λ upper. IfSome upper (λ u. IsLeaf u)) }
+{
+    nodes.make_node(key)?;
+    if nodes.len() > LEAF_NODES {
+        Ok(Some(nodes.cut()?))
+    } else {
+        Ok(None)
+    }
+}
+
+/// Whether a key has a node, where it is one.
+fn has_key(nodes: &Nodes, key: Option<&Key>) -> bool
+    requires sorted { IsSorted nodes.now }
+    ensures { result ≡ true → HasKey (option_map (λ k. k.now) key.entry) nodes.now }
+{
+    match key {
+        Some(key) => nodes.place_for(key).is_none(),
+        None => true,
+    }
+}

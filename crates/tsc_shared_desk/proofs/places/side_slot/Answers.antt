@@ -1,0 +1,11 @@
+use Rattle.std.proofs.Common.{rules, arith}
+use Rattle.tsc_shared_desk.proofs.places.side_slot.Goals as goal
+
+pub returns-clause-value : goal.returns-clause-value
+returns-clause-value c = search rules
+
+pub returns-clause-apart : goal.returns-clause-apart
+returns-clause-apart c = λ before other low side. omega (arith, low, side)
+
+pub returns-clause-sides : goal.returns-clause-sides
+returns-clause-sides c = λ other low. omega (arith, low)

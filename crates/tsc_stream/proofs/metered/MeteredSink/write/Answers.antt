@@ -1,6 +1,0 @@
--- What was taken is told.
-use Rattle.std.proofs.Common.{rules}
-use Rattle.tsc_stream.proofs.metered.MeteredSink.write.Goals as goal
-
-pub returns-else-eq-clause-bytes : goal.returns-else-eq-clause-bytes
-returns-else-eq-clause-bytes g c = search rules

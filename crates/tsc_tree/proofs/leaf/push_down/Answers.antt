@@ -1,6 +1,0 @@
--- What is pending is raised everywhere.
-use Rattle.std.proofs.Common.{rules}
-use Rattle.tsc_tree.proofs.leaf.push_down.Goals as goal
-
-pub returns-in-Some : goal.returns-in-Some
-returns-in-Some c = search rules
