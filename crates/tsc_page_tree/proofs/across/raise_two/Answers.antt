@@ -16,57 +16,36 @@ use Rattle.tsc_page_tree.proofs.across.raise_two.Goals as goal
 pub raise_ends-requires-clause-sorted_low : goal.raise_ends-requires-clause-sorted_low
 raise_ends-requires-clause-sorted_low g c =
     let f = g.P.Part.nodes in
-    let s = g.P.Part.sizes in
     let Q = g.P.Part.IsWhole in
     let lows = c.args.low.now in
-    let highs = c.args.high.now in
     let p : ℕ = c.part_at-first.result in
-    let r : ℕ = c.last_reached-last.result in
-    let a : Addend = c.args.add.now in
-    let to : c.add.inside.to.now ≡ a.to = ap (λ (v : Addend). v.to) c.add.view_is in
-    let reached : IsLastReached (map f highs) a.to r = subst (λ (z : Cut). IsLastReached (map f highs) z r) to c.last_reached-last.ensures in
     let bl = c.split_at_mut-below.result.0.now in
     let md = c.split_at_mut-below.result.1.now in
-    let ot = c.split_at_mut-others.result.0.now in
-    let ab = c.split_at_mut-others.result.1.now in
     let shape_low : lows ≡ bl ++ md = c.split_at_mut-below.ensures.value in
-    let shape_high : highs ≡ ot ++ ab = c.split_at_mut-others.ensures.value in
     let long : length bl ≡ suc p = omega (arith, c.split_at_mut-below.ensures.front_len) in
-    let front : length ot ≡ r = c.split_at_mut-others.ensures.front_len in
-    let one : 1 ≤ length ab = omega (arith, front, ap length shape_high, length-append ot ab, reached.bound, length-map highs f, c.requires.some_high) in
     let parts_low : AreParts f Q (bl ++ md) = subst (AreParts f Q) shape_low c.requires.parts_low in
-    let parts_high : AreParts f Q (ot ++ ab) = subst (AreParts f Q) shape_high c.requires.parts_high in
     part_sorted f Q bl p c.index-below-first.result (omega (arith, long)) (parts_first f Q bl md parts_low)
 
 pub raise_ends-requires-clause-sorted_high : goal.raise_ends-requires-clause-sorted_high
 raise_ends-requires-clause-sorted_high g c =
     let f = g.P.Part.nodes in
-    let s = g.P.Part.sizes in
     let Q = g.P.Part.IsWhole in
-    let lows = c.args.low.now in
     let highs = c.args.high.now in
-    let p : ℕ = c.part_at-first.result in
     let r : ℕ = c.last_reached-last.result in
     let a : Addend = c.args.add.now in
     let to : c.add.inside.to.now ≡ a.to = ap (λ (v : Addend). v.to) c.add.view_is in
     let reached : IsLastReached (map f highs) a.to r = subst (λ (z : Cut). IsLastReached (map f highs) z r) to c.last_reached-last.ensures in
-    let bl = c.split_at_mut-below.result.0.now in
-    let md = c.split_at_mut-below.result.1.now in
     let ot = c.split_at_mut-others.result.0.now in
     let ab = c.split_at_mut-others.result.1.now in
-    let shape_low : lows ≡ bl ++ md = c.split_at_mut-below.ensures.value in
     let shape_high : highs ≡ ot ++ ab = c.split_at_mut-others.ensures.value in
-    let long : length bl ≡ suc p = omega (arith, c.split_at_mut-below.ensures.front_len) in
     let front : length ot ≡ r = c.split_at_mut-others.ensures.front_len in
     let one : 1 ≤ length ab = omega (arith, front, ap length shape_high, length-append ot ab, reached.bound, length-map highs f, c.requires.some_high) in
-    let parts_low : AreParts f Q (bl ++ md) = subst (AreParts f Q) shape_low c.requires.parts_low in
     let parts_high : AreParts f Q (ot ++ ab) = subst (AreParts f Q) shape_high c.requires.parts_high in
     part_sorted f Q ab 0 c.index-above-0.result one (parts_second f Q ot ab parts_high)
 
 pub raise_ends-requires-clause-reaches : goal.raise_ends-requires-clause-reaches
 raise_ends-requires-clause-reaches g c =
     let f = g.P.Part.nodes in
-    let s = g.P.Part.sizes in
     let Q = g.P.Part.IsWhole in
     let lows = c.args.low.now in
     let highs = c.args.high.now in
@@ -100,8 +79,6 @@ raise_ends-requires-clause-reaches g c =
 pub returns-then-not-raise_ends-clause-told : goal.returns-then-not-raise_ends-clause-told
 returns-then-not-raise_ends-clause-told g c =
     let f = g.P.Part.nodes in
-    let s = g.P.Part.sizes in
-    let Q = g.P.Part.IsWhole in
     let lows = c.args.low.now in
     let highs = c.args.high.now in
     let p : ℕ = c.part_at-first.result in
@@ -118,8 +95,6 @@ returns-then-not-raise_ends-clause-told g c =
     let long : length bl ≡ suc p = omega (arith, c.split_at_mut-below.ensures.front_len) in
     let front : length ot ≡ r = c.split_at_mut-others.ensures.front_len in
     let one : 1 ≤ length ab = omega (arith, front, ap length shape_high, length-append ot ab, reached.bound, length-map highs f, c.requires.some_high) in
-    let parts_low : AreParts f Q (bl ++ md) = subst (AreParts f Q) shape_low c.requires.parts_low in
-    let parts_high : AreParts f Q (ot ++ ab) = subst (AreParts f Q) shape_high c.requires.parts_high in
     let d = c.index-below-first.result in
     let e = c.index-above-0.result in
     let x = c.raise_ends.new.low in
@@ -131,141 +106,67 @@ returns-then-not-raise_ends-clause-told g c =
 
 pub returns-then-not-raise_ends-clause-sizes_low : goal.returns-then-not-raise_ends-clause-sizes_low
 returns-then-not-raise_ends-clause-sizes_low g c =
-    let f = g.P.Part.nodes in
     let s = g.P.Part.sizes in
-    let Q = g.P.Part.IsWhole in
     let lows = c.args.low.now in
-    let highs = c.args.high.now in
     let p : ℕ = c.part_at-first.result in
-    let r : ℕ = c.last_reached-last.result in
-    let a : Addend = c.args.add.now in
-    let to : c.add.inside.to.now ≡ a.to = ap (λ (v : Addend). v.to) c.add.view_is in
-    let reached : IsLastReached (map f highs) a.to r = subst (λ (z : Cut). IsLastReached (map f highs) z r) to c.last_reached-last.ensures in
     let bl = c.split_at_mut-below.result.0.now in
     let md = c.split_at_mut-below.result.1.now in
-    let ot = c.split_at_mut-others.result.0.now in
-    let ab = c.split_at_mut-others.result.1.now in
     let shape_low : lows ≡ bl ++ md = c.split_at_mut-below.ensures.value in
-    let shape_high : highs ≡ ot ++ ab = c.split_at_mut-others.ensures.value in
     let long : length bl ≡ suc p = omega (arith, c.split_at_mut-below.ensures.front_len) in
-    let front : length ot ≡ r = c.split_at_mut-others.ensures.front_len in
-    let one : 1 ≤ length ab = omega (arith, front, ap length shape_high, length-append ot ab, reached.bound, length-map highs f, c.requires.some_high) in
-    let parts_low : AreParts f Q (bl ++ md) = subst (AreParts f Q) shape_low c.requires.parts_low in
-    let parts_high : AreParts f Q (ot ++ ab) = subst (AreParts f Q) shape_high c.requires.parts_high in
     let d = c.index-below-first.result in
-    let e = c.index-above-0.result in
     let x = c.raise_ends.new.low in
-    let y = c.raise_ends.new.high in
     sizes_low s bl md md p d x long c.raise_ends.ensures.sizes_low refl ∙ ap (map s) (sym shape_low)
 
 pub returns-then-not-raise_ends-clause-low : goal.returns-then-not-raise_ends-clause-low
 returns-then-not-raise_ends-clause-low g c =
     let f = g.P.Part.nodes in
-    let s = g.P.Part.sizes in
     let Q = g.P.Part.IsWhole in
     let lows = c.args.low.now in
-    let highs = c.args.high.now in
     let p : ℕ = c.part_at-first.result in
-    let r : ℕ = c.last_reached-last.result in
-    let a : Addend = c.args.add.now in
-    let to : c.add.inside.to.now ≡ a.to = ap (λ (v : Addend). v.to) c.add.view_is in
-    let reached : IsLastReached (map f highs) a.to r = subst (λ (z : Cut). IsLastReached (map f highs) z r) to c.last_reached-last.ensures in
     let bl = c.split_at_mut-below.result.0.now in
     let md = c.split_at_mut-below.result.1.now in
-    let ot = c.split_at_mut-others.result.0.now in
-    let ab = c.split_at_mut-others.result.1.now in
     let shape_low : lows ≡ bl ++ md = c.split_at_mut-below.ensures.value in
-    let shape_high : highs ≡ ot ++ ab = c.split_at_mut-others.ensures.value in
-    let long : length bl ≡ suc p = omega (arith, c.split_at_mut-below.ensures.front_len) in
-    let front : length ot ≡ r = c.split_at_mut-others.ensures.front_len in
-    let one : 1 ≤ length ab = omega (arith, front, ap length shape_high, length-append ot ab, reached.bound, length-map highs f, c.requires.some_high) in
     let parts_low : AreParts f Q (bl ++ md) = subst (AreParts f Q) shape_low c.requires.parts_low in
-    let parts_high : AreParts f Q (ot ++ ab) = subst (AreParts f Q) shape_high c.requires.parts_high in
     let x = c.raise_ends.new.low in
-    let y = c.raise_ends.new.high in
     all_two Q (set bl p x) md (all_set Q bl p x (parts_first f Q bl md parts_low).whole c.raise_ends.ensures.low) (parts_second f Q bl md parts_low).whole
 
 pub returns-then-not-raise_ends-clause-high : goal.returns-then-not-raise_ends-clause-high
 returns-then-not-raise_ends-clause-high g c =
     let f = g.P.Part.nodes in
-    let s = g.P.Part.sizes in
     let Q = g.P.Part.IsWhole in
-    let lows = c.args.low.now in
     let highs = c.args.high.now in
-    let p : ℕ = c.part_at-first.result in
-    let r : ℕ = c.last_reached-last.result in
-    let a : Addend = c.args.add.now in
-    let to : c.add.inside.to.now ≡ a.to = ap (λ (v : Addend). v.to) c.add.view_is in
-    let reached : IsLastReached (map f highs) a.to r = subst (λ (z : Cut). IsLastReached (map f highs) z r) to c.last_reached-last.ensures in
-    let bl = c.split_at_mut-below.result.0.now in
-    let md = c.split_at_mut-below.result.1.now in
     let ot = c.split_at_mut-others.result.0.now in
     let ab = c.split_at_mut-others.result.1.now in
-    let shape_low : lows ≡ bl ++ md = c.split_at_mut-below.ensures.value in
     let shape_high : highs ≡ ot ++ ab = c.split_at_mut-others.ensures.value in
-    let long : length bl ≡ suc p = omega (arith, c.split_at_mut-below.ensures.front_len) in
-    let front : length ot ≡ r = c.split_at_mut-others.ensures.front_len in
-    let one : 1 ≤ length ab = omega (arith, front, ap length shape_high, length-append ot ab, reached.bound, length-map highs f, c.requires.some_high) in
-    let parts_low : AreParts f Q (bl ++ md) = subst (AreParts f Q) shape_low c.requires.parts_low in
     let parts_high : AreParts f Q (ot ++ ab) = subst (AreParts f Q) shape_high c.requires.parts_high in
-    let x = c.raise_ends.new.low in
     let y = c.raise_ends.new.high in
     all_two Q ot (set ab 0 y) (parts_first f Q ot ab parts_high).whole (all_set Q ab 0 y (parts_second f Q ot ab parts_high).whole c.raise_ends.ensures.high)
 
 pub raise_all-requires : goal.raise_all-requires
 raise_all-requires g c =
     let f = g.P.Part.nodes in
-    let s = g.P.Part.sizes in
     let Q = g.P.Part.IsWhole in
     let lows = c.args.low.now in
-    let highs = c.args.high.now in
-    let p : ℕ = c.part_at-first.result in
-    let r : ℕ = c.last_reached-last.result in
-    let a : Addend = c.args.add.now in
-    let to : c.add.inside.to.now ≡ a.to = ap (λ (v : Addend). v.to) c.add.view_is in
-    let reached : IsLastReached (map f highs) a.to r = subst (λ (z : Cut). IsLastReached (map f highs) z r) to c.last_reached-last.ensures in
     let bl = c.split_at_mut-below.result.0.now in
     let md = c.split_at_mut-below.result.1.now in
-    let ot = c.split_at_mut-others.result.0.now in
-    let ab = c.split_at_mut-others.result.1.now in
     let shape_low : lows ≡ bl ++ md = c.split_at_mut-below.ensures.value in
-    let shape_high : highs ≡ ot ++ ab = c.split_at_mut-others.ensures.value in
-    let long : length bl ≡ suc p = omega (arith, c.split_at_mut-below.ensures.front_len) in
-    let front : length ot ≡ r = c.split_at_mut-others.ensures.front_len in
-    let one : 1 ≤ length ab = omega (arith, front, ap length shape_high, length-append ot ab, reached.bound, length-map highs f, c.requires.some_high) in
     let parts_low : AreParts f Q (bl ++ md) = subst (AreParts f Q) shape_low c.requires.parts_low in
-    let parts_high : AreParts f Q (ot ++ ab) = subst (AreParts f Q) shape_high c.requires.parts_high in
     record { parts = parts_second f Q bl md parts_low }
 
 pub raise_all-requires-2 : goal.raise_all-requires-2
 raise_all-requires-2 g c =
     let f = g.P.Part.nodes in
-    let s = g.P.Part.sizes in
     let Q = g.P.Part.IsWhole in
-    let lows = c.args.low.now in
     let highs = c.args.high.now in
-    let p : ℕ = c.part_at-first.result in
-    let r : ℕ = c.last_reached-last.result in
-    let a : Addend = c.args.add.now in
-    let to : c.add.inside.to.now ≡ a.to = ap (λ (v : Addend). v.to) c.add.view_is in
-    let reached : IsLastReached (map f highs) a.to r = subst (λ (z : Cut). IsLastReached (map f highs) z r) to c.last_reached-last.ensures in
-    let bl = c.split_at_mut-below.result.0.now in
-    let md = c.split_at_mut-below.result.1.now in
     let ot = c.split_at_mut-others.result.0.now in
     let ab = c.split_at_mut-others.result.1.now in
-    let shape_low : lows ≡ bl ++ md = c.split_at_mut-below.ensures.value in
     let shape_high : highs ≡ ot ++ ab = c.split_at_mut-others.ensures.value in
-    let long : length bl ≡ suc p = omega (arith, c.split_at_mut-below.ensures.front_len) in
-    let front : length ot ≡ r = c.split_at_mut-others.ensures.front_len in
-    let one : 1 ≤ length ab = omega (arith, front, ap length shape_high, length-append ot ab, reached.bound, length-map highs f, c.requires.some_high) in
-    let parts_low : AreParts f Q (bl ++ md) = subst (AreParts f Q) shape_low c.requires.parts_low in
     let parts_high : AreParts f Q (ot ++ ab) = subst (AreParts f Q) shape_high c.requires.parts_high in
     record { parts = parts_first f Q ot ab parts_high }
 
 pub returns-clause-told : goal.returns-clause-told
 returns-clause-told g c =
     let f = g.P.Part.nodes in
-    let s = g.P.Part.sizes in
     let Q = g.P.Part.IsWhole in
     let lows = c.args.low.now in
     let highs = c.args.high.now in
@@ -310,83 +211,38 @@ returns-clause-told g c =
 
 pub returns-clause-sizes_low : goal.returns-clause-sizes_low
 returns-clause-sizes_low g c =
-    let f = g.P.Part.nodes in
     let s = g.P.Part.sizes in
-    let Q = g.P.Part.IsWhole in
     let lows = c.args.low.now in
-    let highs = c.args.high.now in
     let p : ℕ = c.part_at-first.result in
-    let r : ℕ = c.last_reached-last.result in
-    let a : Addend = c.args.add.now in
-    let to : c.add.inside.to.now ≡ a.to = ap (λ (v : Addend). v.to) c.add.view_is in
-    let reached : IsLastReached (map f highs) a.to r = subst (λ (z : Cut). IsLastReached (map f highs) z r) to c.last_reached-last.ensures in
     let bl = c.split_at_mut-below.result.0.now in
     let md = c.split_at_mut-below.result.1.now in
-    let ot = c.split_at_mut-others.result.0.now in
-    let ab = c.split_at_mut-others.result.1.now in
     let shape_low : lows ≡ bl ++ md = c.split_at_mut-below.ensures.value in
-    let shape_high : highs ≡ ot ++ ab = c.split_at_mut-others.ensures.value in
     let long : length bl ≡ suc p = omega (arith, c.split_at_mut-below.ensures.front_len) in
-    let front : length ot ≡ r = c.split_at_mut-others.ensures.front_len in
-    let one : 1 ≤ length ab = omega (arith, front, ap length shape_high, length-append ot ab, reached.bound, length-map highs f, c.requires.some_high) in
-    let parts_low : AreParts f Q (bl ++ md) = subst (AreParts f Q) shape_low c.requires.parts_low in
-    let parts_high : AreParts f Q (ot ++ ab) = subst (AreParts f Q) shape_high c.requires.parts_high in
     let d = c.index-below-first.result in
-    let e = c.index-above-0.result in
     let x = c.raise_ends.new.low in
-    let y = c.raise_ends.new.high in
     sizes_low s bl md c.raise_all.new.parts p d x long c.raise_ends.ensures.sizes_low c.raise_all.ensures.sizes ∙ ap (map s) (sym shape_low)
 
 pub returns-clause-low : goal.returns-clause-low
 returns-clause-low g c =
     let f = g.P.Part.nodes in
-    let s = g.P.Part.sizes in
     let Q = g.P.Part.IsWhole in
     let lows = c.args.low.now in
-    let highs = c.args.high.now in
     let p : ℕ = c.part_at-first.result in
-    let r : ℕ = c.last_reached-last.result in
-    let a : Addend = c.args.add.now in
-    let to : c.add.inside.to.now ≡ a.to = ap (λ (v : Addend). v.to) c.add.view_is in
-    let reached : IsLastReached (map f highs) a.to r = subst (λ (z : Cut). IsLastReached (map f highs) z r) to c.last_reached-last.ensures in
     let bl = c.split_at_mut-below.result.0.now in
     let md = c.split_at_mut-below.result.1.now in
-    let ot = c.split_at_mut-others.result.0.now in
-    let ab = c.split_at_mut-others.result.1.now in
     let shape_low : lows ≡ bl ++ md = c.split_at_mut-below.ensures.value in
-    let shape_high : highs ≡ ot ++ ab = c.split_at_mut-others.ensures.value in
-    let long : length bl ≡ suc p = omega (arith, c.split_at_mut-below.ensures.front_len) in
-    let front : length ot ≡ r = c.split_at_mut-others.ensures.front_len in
-    let one : 1 ≤ length ab = omega (arith, front, ap length shape_high, length-append ot ab, reached.bound, length-map highs f, c.requires.some_high) in
     let parts_low : AreParts f Q (bl ++ md) = subst (AreParts f Q) shape_low c.requires.parts_low in
-    let parts_high : AreParts f Q (ot ++ ab) = subst (AreParts f Q) shape_high c.requires.parts_high in
     let x = c.raise_ends.new.low in
-    let y = c.raise_ends.new.high in
     all_two Q (set bl p x) c.raise_all.new.parts (all_set Q bl p x (parts_first f Q bl md parts_low).whole c.raise_ends.ensures.low) c.raise_all.ensures.whole
 
 pub returns-clause-high : goal.returns-clause-high
 returns-clause-high g c =
     let f = g.P.Part.nodes in
-    let s = g.P.Part.sizes in
     let Q = g.P.Part.IsWhole in
-    let lows = c.args.low.now in
     let highs = c.args.high.now in
-    let p : ℕ = c.part_at-first.result in
-    let r : ℕ = c.last_reached-last.result in
-    let a : Addend = c.args.add.now in
-    let to : c.add.inside.to.now ≡ a.to = ap (λ (v : Addend). v.to) c.add.view_is in
-    let reached : IsLastReached (map f highs) a.to r = subst (λ (z : Cut). IsLastReached (map f highs) z r) to c.last_reached-last.ensures in
-    let bl = c.split_at_mut-below.result.0.now in
-    let md = c.split_at_mut-below.result.1.now in
     let ot = c.split_at_mut-others.result.0.now in
     let ab = c.split_at_mut-others.result.1.now in
-    let shape_low : lows ≡ bl ++ md = c.split_at_mut-below.ensures.value in
     let shape_high : highs ≡ ot ++ ab = c.split_at_mut-others.ensures.value in
-    let long : length bl ≡ suc p = omega (arith, c.split_at_mut-below.ensures.front_len) in
-    let front : length ot ≡ r = c.split_at_mut-others.ensures.front_len in
-    let one : 1 ≤ length ab = omega (arith, front, ap length shape_high, length-append ot ab, reached.bound, length-map highs f, c.requires.some_high) in
-    let parts_low : AreParts f Q (bl ++ md) = subst (AreParts f Q) shape_low c.requires.parts_low in
     let parts_high : AreParts f Q (ot ++ ab) = subst (AreParts f Q) shape_high c.requires.parts_high in
-    let x = c.raise_ends.new.low in
     let y = c.raise_ends.new.high in
     all_two Q c.raise_all-2.new.parts (set ab 0 y) c.raise_all-2.ensures.whole (all_set Q ab 0 y (parts_second f Q ot ab parts_high).whole c.raise_ends.ensures.high)

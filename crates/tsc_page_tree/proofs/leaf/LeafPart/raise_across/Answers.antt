@@ -54,8 +54,6 @@ pub returns-clause-sizes_low : goal.returns-clause-sizes_low
 returns-clause-sizes_low c =
     let ns : List Node = arc_value c.args.low.now.nodes in
     let ms : List Node = arc_value c.args.high.now.nodes in
-    let p = c.args.low.now.summary.pending in
-    let q = c.args.high.now.summary.pending in
     let nl : List Node = c.raise_between.new.self in
     let nh : List Node = c.raise_between-2.new.self in
     let a : Addend = c.args.add.now in
@@ -76,8 +74,6 @@ pub returns-clause-sizes_high : goal.returns-clause-sizes_high
 returns-clause-sizes_high c =
     let ns : List Node = arc_value c.args.low.now.nodes in
     let ms : List Node = arc_value c.args.high.now.nodes in
-    let p = c.args.low.now.summary.pending in
-    let q = c.args.high.now.summary.pending in
     let nl : List Node = c.raise_between.new.self in
     let nh : List Node = c.raise_between-2.new.self in
     let a : Addend = c.args.add.now in
@@ -99,7 +95,6 @@ returns-clause-low c =
     let ns : List Node = arc_value c.args.low.now.nodes in
     let ms : List Node = arc_value c.args.high.now.nodes in
     let p = c.args.low.now.summary.pending in
-    let q = c.args.high.now.summary.pending in
     let nl : List Node = c.raise_between.new.self in
     let nh : List Node = c.raise_between-2.new.self in
     let a : Addend = c.args.add.now in
@@ -125,7 +120,6 @@ pub returns-clause-high : goal.returns-clause-high
 returns-clause-high c =
     let ns : List Node = arc_value c.args.low.now.nodes in
     let ms : List Node = arc_value c.args.high.now.nodes in
-    let p = c.args.low.now.summary.pending in
     let q = c.args.high.now.summary.pending in
     let nl : List Node = c.raise_between.new.self in
     let nh : List Node = c.raise_between-2.new.self in
