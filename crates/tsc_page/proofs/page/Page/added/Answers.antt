@@ -56,8 +56,6 @@ returns-clause-stands c p stands =
     let f : Cut = cut_of c.in-Some.from in
     let t : Cut = cut_of c.in-Some.to in
     let added : AddsTo old (tree_nodes new) (between f t) c.args.value = subst (λ o. IfSome o (λ (u : Tree). AddsTo old (tree_nodes u) (between f t) c.args.value)) c.in-Some-2.is c.in_ok-tree.ensures.added in
-    let within = subst (λ o. IfSome o (λ (u : Tree). u.bytes ≤ c.self.inside.size)) c.in-Some-2.is c.in_ok-tree.ensures.within in
-    let counted : IsCounted new = subst (λ o. IfSome o IsCounted) c.in-Some-2.is c.in_ok-tree.ensures.counted in
     let is = c.max.ensures ∙ ap (ord_max time_cmp c.self.inside.top) c.time.ensures ∙ later-max c.self.inside.top c.args.value.time in
     let after_it : Time = c.max.result in
     let view_at = λ (ns : List Node). page_of c.self.inside.size after_it ns (tree_sizes new) in
@@ -73,8 +71,6 @@ returns-clause-keys c k =
     let f : Cut = cut_of c.in-Some.from in
     let t : Cut = cut_of c.in-Some.to in
     let added : AddsTo old (tree_nodes new) (between f t) c.args.value = subst (λ o. IfSome o (λ (u : Tree). AddsTo old (tree_nodes u) (between f t) c.args.value)) c.in-Some-2.is c.in_ok-tree.ensures.added in
-    let within = subst (λ o. IfSome o (λ (u : Tree). u.bytes ≤ c.self.inside.size)) c.in-Some-2.is c.in_ok-tree.ensures.within in
-    let counted : IsCounted new = subst (λ o. IfSome o IsCounted) c.in-Some-2.is c.in_ok-tree.ensures.counted in
     ap (λ (ns : List Node). is_in k (node_keys ns)) added.raised ∙ added_keys old added.mid f t c.in-Some.ensures.order c.args.value added.split k
     ∙ ap (λ (v : PageView). is_in k v.keys || is_in k (end_keys (between f t))) c.self.view_is ∙ ap (λ (s : Interval). is_in k c.args.self.now.keys || is_in k (end_keys s)) c.in-Some.ensures.value
 
@@ -85,8 +81,6 @@ returns-clause-answers c s =
     let f : Cut = cut_of c.in-Some.from in
     let t : Cut = cut_of c.in-Some.to in
     let added : AddsTo old (tree_nodes new) (between f t) c.args.value = subst (λ o. IfSome o (λ (u : Tree). AddsTo old (tree_nodes u) (between f t) c.args.value)) c.in-Some-2.is c.in_ok-tree.ensures.added in
-    let within = subst (λ o. IfSome o (λ (u : Tree). u.bytes ≤ c.self.inside.size)) c.in-Some-2.is c.in_ok-tree.ensures.within in
-    let counted : IsCounted new = subst (λ o. IfSome o IsCounted) c.in-Some-2.is c.in_ok-tree.ensures.counted in
     ap (λ (ns : List Node). answer_of ns s) added.raised ∙ added_answers old added.mid f t c.in-Some.ensures.order c.args.value added.split s
     ∙ ap (λ (v : PageView). cond (overlaps (between f t) s) (joint (answer v s) (c.args.value ∷ [])) (answer v s)) c.self.view_is
     ∙ ap (λ (q : Interval). cond (overlaps q s) (joint (answer c.args.self.now s) (c.args.value ∷ [])) (answer c.args.self.now s)) c.in-Some.ensures.value
