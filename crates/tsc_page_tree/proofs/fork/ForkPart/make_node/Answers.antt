@@ -2,6 +2,7 @@
 use Rattle.std.proofs.Common.{◌≡◌, ◌∙◌, ◌++◌, inl, inr, sym, ap, subst, map, [], List, length, arith, rules}
 use Rattle.std.specs.Prelude.{Option}
 use Rattle.std.specs.Arc.{arc_value}
+use Rattle.std.specs.Vec.{with_items}
 use Rattle.std.proofs.lemmas.List.{with_items_is}
 use Rattle.tsc_time.specs.OwnedTime.{OwnedTime}
 use Rattle.tsc_page_base.specs.Nodes.{Node, IsSorted}
@@ -12,6 +13,8 @@ use Rattle.tsc_page_tree.proofs.Joins.{sorted_left, sorted_right}
 use Rattle.tsc_page_tree.proofs.LeafMakes.{append_nil}
 use Rattle.tsc_page_tree.proofs.PartLists.{AreSameAs, same_list, copies_same, copies_sorted, made_sorted}
 use Rattle.tsc_page_tree.proofs.Wholes.{fork_whole, fork_parts}
+use Rattle.tsc_page_tree.proofs.fork.ForkPart.make_node.Given.{Over}
+use Rattle.tsc_page_tree.proofs.fork.ForkPart.make_node.Goals.{After-push_down}
 use Rattle.tsc_page_tree.proofs.fork.ForkPart.make_node.Goals as goal
 
 pub push_down-requires : goal.push_down-requires
@@ -24,8 +27,10 @@ push_down-requires g c =
     let same : AreSameAs f s Q xs ys = elim c.in_ok-parts.ensures.value [ inl h ↦ same_list f s Q xs ys (ap (λ v. v.items) h) | inr h ↦ copies_same f s Q _ xs ys g.met.P.Part.copied h.0 ] in
     record { parts = subst (AreParts f Q) (sym c.deref_mut.ensures.value) (copies_sorted f s Q xs ys same (fork_parts f s Q c.args.self.now.summary xs c.requires.whole c.requires.sorted)) }
 
-pub grow-requires-clause-sorted : goal.grow-requires-clause-sorted
-grow-requires-clause-sorted g c =
+-- the parts have what was pending
+all_pushed : (g : Over) (c : After-push_down g)
+    → nodes_of (map g.P.Part.nodes (with_items c.in_ok-parts.parts.now c.push_down.new.parts).items) ≡ with_pending c.args.self.now.summary.pending (nodes_of (map g.P.Part.nodes (arc_value c.args.self.now.parts).items))
+all_pushed g c =
     let f = g.P.Part.nodes in
     let s = g.P.Part.sizes in
     let Q = g.P.Part.IsWhole in
@@ -34,60 +39,39 @@ grow-requires-clause-sorted g c =
     let p = c.args.self.now.summary.pending in
     let same : AreSameAs f s Q xs v.items = elim c.in_ok-parts.ensures.value [ inl h ↦ same_list f s Q xs v.items (ap (λ u. u.items) h) | inr h ↦ copies_same f s Q _ xs v.items g.met.P.Part.copied h.0 ] in
     let zs = c.push_down.new.parts in
-    let pushed : nodes_of (map f zs) ≡ with_pending p (nodes_of (map f xs)) =
-    c.push_down.ensures.nodes ∙ ap (λ (is : List g.row.P.Denot). with_pending p (nodes_of (map f is))) c.deref_mut.ensures.value ∙ ap (λ (ls : List (List Node)). with_pending p (nodes_of ls)) same.nodes in
     let kept = with_items_is v zs (omega (arith, c.push_down.ensures.len, ap length c.deref_mut.ensures.value, v.ok.0)) in
-    subst (λ (is : List g.row.P.Denot). IsSorted (nodes_of (map f is))) (sym kept) (subst IsSorted (sym pushed) c.requires.sorted)
+    ap (λ (is : List g.row.P.Denot). nodes_of (map f is)) kept ∙ c.push_down.ensures.nodes
+    ∙ ap (λ (is : List g.row.P.Denot). with_pending p (nodes_of (map f is))) c.deref_mut.ensures.value ∙ ap (λ (ls : List (List Node)). with_pending p (nodes_of ls)) same.nodes
+
+pub grow-requires-clause-sorted : goal.grow-requires-clause-sorted
+grow-requires-clause-sorted g c =
+    subst IsSorted (sym (all_pushed g (goal.at.grow-requires-clause-sorted g c).After-push_down)) c.requires.sorted
 
 pub summary_of-self-requires-clause-sorted : goal.summary_of-self-requires-clause-sorted
 summary_of-self-requires-clause-sorted g c =
     let f = g.P.Part.nodes in
-    let s = g.P.Part.sizes in
-    let Q = g.P.Part.IsWhole in
     let xs = (arc_value c.args.self.now.parts).items in
-    let v = c.in_ok-parts.parts.now in
     let p = c.args.self.now.summary.pending in
-    let same : AreSameAs f s Q xs v.items = elim c.in_ok-parts.ensures.value [ inl h ↦ same_list f s Q xs v.items (ap (λ u. u.items) h) | inr h ↦ copies_same f s Q _ xs v.items g.met.P.Part.copied h.0 ] in
-    let zs = c.push_down.new.parts in
-    let pushed : nodes_of (map f zs) ≡ with_pending p (nodes_of (map f xs)) =
-    c.push_down.ensures.nodes ∙ ap (λ (is : List g.row.P.Denot). with_pending p (nodes_of (map f is))) c.deref_mut.ensures.value ∙ ap (λ (ls : List (List Node)). with_pending p (nodes_of ls)) same.nodes in
-    let kept = with_items_is v zs (omega (arith, c.push_down.ensures.len, ap length c.deref_mut.ensures.value, v.ok.0)) in
     let gs = c.grow.new.parts.items in
-    let made = subst (λ (ns : List Node). HasNode ns (nodes_of (map f gs) ++ nodes_of (map f (items_in c.in_ok-upper.upper))) c.args.key.now) (ap (λ (is : List g.row.P.Denot). nodes_of (map f is)) kept ∙ pushed) c.in_ok-upper.ensures.made in
+    let made = subst (λ (ns : List Node). HasNode ns (nodes_of (map f gs) ++ nodes_of (map f (items_in c.in_ok-upper.upper))) c.args.key.now) (all_pushed g (goal.at.summary_of-self-requires-clause-sorted g c).After-push_down) c.in_ok-upper.ensures.made in
     subst (λ (is : List g.row.P.Denot). IsSorted (nodes_of (map f is))) (sym c.deref.ensures.value) (sorted_left (nodes_of (map f gs)) (nodes_of (map f (items_in c.in_ok-upper.upper))) (made_sorted (with_pending p (nodes_of (map f xs))) _ c.args.key.now c.requires.sorted made))
 
 pub new-requires-clause-sorted : goal.new-requires-clause-sorted
 new-requires-clause-sorted g c =
     let f = g.P.Part.nodes in
-    let s = g.P.Part.sizes in
-    let Q = g.P.Part.IsWhole in
     let xs = (arc_value c.args.self.now.parts).items in
-    let v = c.in_ok-parts.parts.now in
     let p = c.args.self.now.summary.pending in
-    let same : AreSameAs f s Q xs v.items = elim c.in_ok-parts.ensures.value [ inl h ↦ same_list f s Q xs v.items (ap (λ u. u.items) h) | inr h ↦ copies_same f s Q _ xs v.items g.met.P.Part.copied h.0 ] in
-    let zs = c.push_down.new.parts in
-    let pushed : nodes_of (map f zs) ≡ with_pending p (nodes_of (map f xs)) =
-    c.push_down.ensures.nodes ∙ ap (λ (is : List g.row.P.Denot). with_pending p (nodes_of (map f is))) c.deref_mut.ensures.value ∙ ap (λ (ls : List (List Node)). with_pending p (nodes_of ls)) same.nodes in
-    let kept = with_items_is v zs (omega (arith, c.push_down.ensures.len, ap length c.deref_mut.ensures.value, v.ok.0)) in
     let gs = c.grow.new.parts.items in
-    let made = subst (λ (ns : List Node). HasNode ns (nodes_of (map f gs) ++ nodes_of (map f (items_in c.in_ok-upper.upper))) c.args.key.now) (ap (λ (is : List g.row.P.Denot). nodes_of (map f is)) kept ∙ pushed) c.in_ok-upper.ensures.made in
+    let made = subst (λ (ns : List Node). HasNode ns (nodes_of (map f gs) ++ nodes_of (map f (items_in c.in_ok-upper.upper))) c.args.key.now) (all_pushed g (goal.at.new-requires-clause-sorted g c).After-push_down) c.in_ok-upper.ensures.made in
     sorted_right (nodes_of (map f gs)) (nodes_of (map f c.in-Some.upper.items)) (subst (λ o. IsSorted (nodes_of (map f gs) ++ nodes_of (map f (items_in o)))) c.in-Some.is (made_sorted (with_pending p (nodes_of (map f xs))) _ c.args.key.now c.requires.sorted made))
 
 pub returns-in_ok-new-in-Some-clause-made : goal.returns-in_ok-new-in-Some-clause-made
 returns-in_ok-new-in-Some-clause-made g c =
     let f = g.P.Part.nodes in
-    let s = g.P.Part.sizes in
-    let Q = g.P.Part.IsWhole in
     let xs = (arc_value c.args.self.now.parts).items in
-    let v = c.in_ok-parts.parts.now in
     let p = c.args.self.now.summary.pending in
-    let same : AreSameAs f s Q xs v.items = elim c.in_ok-parts.ensures.value [ inl h ↦ same_list f s Q xs v.items (ap (λ u. u.items) h) | inr h ↦ copies_same f s Q _ xs v.items g.met.P.Part.copied h.0 ] in
-    let zs = c.push_down.new.parts in
-    let pushed : nodes_of (map f zs) ≡ with_pending p (nodes_of (map f xs)) =
-    c.push_down.ensures.nodes ∙ ap (λ (is : List g.row.P.Denot). with_pending p (nodes_of (map f is))) c.deref_mut.ensures.value ∙ ap (λ (ls : List (List Node)). with_pending p (nodes_of ls)) same.nodes in
-    let kept = with_items_is v zs (omega (arith, c.push_down.ensures.len, ap length c.deref_mut.ensures.value, v.ok.0)) in
     let gs = c.grow.new.parts.items in
-    let made = subst (λ (ns : List Node). HasNode ns (nodes_of (map f gs) ++ nodes_of (map f (items_in c.in_ok-upper.upper))) c.args.key.now) (ap (λ (is : List g.row.P.Denot). nodes_of (map f is)) kept ∙ pushed) c.in_ok-upper.ensures.made in
+    let made = subst (λ (ns : List Node). HasNode ns (nodes_of (map f gs) ++ nodes_of (map f (items_in c.in_ok-upper.upper))) c.args.key.now) (all_pushed g (goal.at.returns-in_ok-new-in-Some-clause-made g c).After-push_down) c.in_ok-upper.ensures.made in
     let held = ap (λ u. u.items) (c.make_mut.follows.holds c.grow.new.parts (search rules)) in
     let first = ap (λ (o : Option OwnedTime). with_pending o (nodes_of (map f (arc_value (c.make_mut.follows.lender c.grow.new.parts)).items))) c.summary_of-self.ensures.pending ∙ ap (λ (is : List g.row.P.Denot). nodes_of (map f is)) held in
     let told = subst (λ o. HasNode (with_pending p (nodes_of (map f xs))) (nodes_of (map f gs) ++ nodes_of (map f (items_in o))) c.args.key.now) c.in-Some.is made in
@@ -107,18 +91,10 @@ returns-in_ok-new-in-Some-clause-whole g c =
 pub returns-in-None-clause-made : goal.returns-in-None-clause-made
 returns-in-None-clause-made g c =
     let f = g.P.Part.nodes in
-    let s = g.P.Part.sizes in
-    let Q = g.P.Part.IsWhole in
     let xs = (arc_value c.args.self.now.parts).items in
-    let v = c.in_ok-parts.parts.now in
     let p = c.args.self.now.summary.pending in
-    let same : AreSameAs f s Q xs v.items = elim c.in_ok-parts.ensures.value [ inl h ↦ same_list f s Q xs v.items (ap (λ u. u.items) h) | inr h ↦ copies_same f s Q _ xs v.items g.met.P.Part.copied h.0 ] in
-    let zs = c.push_down.new.parts in
-    let pushed : nodes_of (map f zs) ≡ with_pending p (nodes_of (map f xs)) =
-    c.push_down.ensures.nodes ∙ ap (λ (is : List g.row.P.Denot). with_pending p (nodes_of (map f is))) c.deref_mut.ensures.value ∙ ap (λ (ls : List (List Node)). with_pending p (nodes_of ls)) same.nodes in
-    let kept = with_items_is v zs (omega (arith, c.push_down.ensures.len, ap length c.deref_mut.ensures.value, v.ok.0)) in
     let gs = c.grow.new.parts.items in
-    let made = subst (λ (ns : List Node). HasNode ns (nodes_of (map f gs) ++ nodes_of (map f (items_in c.in_ok-upper.upper))) c.args.key.now) (ap (λ (is : List g.row.P.Denot). nodes_of (map f is)) kept ∙ pushed) c.in_ok-upper.ensures.made in
+    let made = subst (λ (ns : List Node). HasNode ns (nodes_of (map f gs) ++ nodes_of (map f (items_in c.in_ok-upper.upper))) c.args.key.now) (all_pushed g (goal.at.returns-in-None-clause-made g c).After-push_down) c.in_ok-upper.ensures.made in
     let held = ap (λ u. u.items) (c.make_mut.follows.holds c.grow.new.parts (search rules)) in
     let first = ap (λ (o : Option OwnedTime). with_pending o (nodes_of (map f (arc_value (c.make_mut.follows.lender c.grow.new.parts)).items))) c.summary_of-self.ensures.pending ∙ ap (λ (is : List g.row.P.Denot). nodes_of (map f is)) held in
     let told = subst (λ o. HasNode (with_pending p (nodes_of (map f xs))) (nodes_of (map f gs) ++ nodes_of (map f (items_in o))) c.args.key.now) c.in-None.is made in
