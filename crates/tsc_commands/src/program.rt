@@ -16,6 +16,7 @@ use std::alloc::Global;
 use std::process::ExitCode;
 use std::sync::Wait;
 use std::thread::Threads;
+use tsc_run::Starts;
 use tsc_shared::NoGate;
 use tsc_trace::ReplayFault;
 use tsc_trace_io::{Sink, Source, write_output};
@@ -26,7 +27,7 @@ use tsc_trace_io::{Sink, Source, write_output};
 /// `words` are the words, its own name first, or why they are not to be had. Only a log or a verdict goes
 /// to the output. A fault is told by one line on `errors`, and telling it changes no status. `rt` starts the
 /// threads of a run, for whose end the call waits.
-pub fn program<T: Threads + Wait + Sync, P: Place, W: Sink, E: Sink>(
+pub fn program<T: Starts + Threads + Wait + Sync, P: Place, W: Sink, E: Sink>(
     rt: &T,
     alloc: Global,
     words: Result<Vec<String>, WordsFault>,
@@ -34,7 +35,7 @@ pub fn program<T: Threads + Wait + Sync, P: Place, W: Sink, E: Sink>(
     output: &mut Output<W>,
     errors: &mut Errors<E>,
 ) -> ExitCode
-    ensures { RunsProgram (texts_of words) (P.opens place.now) (exit_status result)
+    ensures { RunsProgram (T.WasRefused rt.now) (texts_of words) (P.opens place.now) (exit_status result)
         (W.known output.old.writer) (W.known output.new.writer) (E.known errors.old.writer) (E.known errors.new.writer) }
 {
     let status = do_asked(
@@ -49,7 +50,7 @@ pub fn program<T: Threads + Wait + Sync, P: Place, W: Sink, E: Sink>(
 }
 
 /// Does what the words ask for, and gives the exit status.
-fn do_asked<T: Threads + Wait + Sync, P: Place, W: Sink, E: Sink>(
+fn do_asked<T: Starts + Threads + Wait + Sync, P: Place, W: Sink, E: Sink>(
     rt: &T,
     alloc: Global,
     words: Result<Vec<String>, WordsFault>,
@@ -57,7 +58,7 @@ fn do_asked<T: Threads + Wait + Sync, P: Place, W: Sink, E: Sink>(
     writer: &mut W,
     errors: &mut E,
 ) -> u8
-    ensures { RunsProgram (texts_of words) (P.opens place.now) result
+    ensures { RunsProgram (T.WasRefused rt.now) (texts_of words) (P.opens place.now) result
         (W.known writer.old) (W.known writer.new) (E.known errors.old) (E.known errors.new) }
 {
     match asked(alloc, words) {
@@ -98,7 +99,7 @@ fn replay_file<P: Place, W: Sink, E: Sink>(
 }
 
 /// Runs the trace in the file of a name on threads.
-fn run_file<T: Threads + Wait + Sync, P: Place, W: Sink, E: Sink>(
+fn run_file<T: Starts + Threads + Wait + Sync, P: Place, W: Sink, E: Sink>(
     rt: &T,
     alloc: Global,
     place: &P,
@@ -106,7 +107,7 @@ fn run_file<T: Threads + Wait + Sync, P: Place, W: Sink, E: Sink>(
     writer: &mut W,
     errors: &mut E,
 ) -> u8
-    ensures { GoesOver EndsRun (P.opens place.now file.now) result
+    ensures { GoesOver (EndsRun (T.WasRefused rt.now)) (P.opens place.now file.now) result
         (W.known writer.old) (W.known writer.new) (E.known errors.old) (E.known errors.new) }
 {
     match place.open(file) {
