@@ -9,7 +9,9 @@ use std::process::{Abort, ExitCode};
 use std::sync::Wait;
 use std::thread::Threads;
 use tsc_commands::program::program;
-use tsc_commands::{Errors, OpenFault, Output, Place, SystemFiles, WordsFault, fetch_words};
+use tsc_commands::{
+    Errors, NoMeter, OpenFault, Output, Place, SystemFiles, WordsFault, fetch_words,
+};
 use tsc_trace_io::Metered;
 use tsc_trace_io::fakes::Mishap;
 
@@ -305,7 +307,7 @@ fn check_call<R: Abort + Threads + Wait + Sync, P: Place>(
     let mut errors = Errors {
         writer: new_writer(alloc, (9, telling)),
     };
-    let code = program(rt, alloc, words, place, &mut output, &mut errors);
+    let code = program(rt, alloc, words, place, &mut output, &mut errors, &NoMeter);
     assert_eq!(rt; code, ExitCode::from(wanted_status));
     assert_written(rt, output.writer, log, log);
     assert_written(rt, errors.writer, line, line);

@@ -2,6 +2,7 @@
 ghost use Rattle.std.specs.Prelude.{◌≡◌};
 
 mod hand_over;
+mod many;
 
 use crate::{
     Cache, Config, Key, Seat, SharedCache, Span, Timestamp, Uuid, Value, earliest_write,

@@ -9,6 +9,7 @@ use crate::verdict::Verdict;
 use std::alloc::Global;
 use tsc_time::NoMemory;
 use tsc_trace::{Log, Trace};
+use tsc_trace_io::{NoProgress, Progress};
 
 /// The verdict on answers, by the least line whose answer is wrong.
 fn verdict_on_answers(wrong: Option<usize>) -> Verdict
@@ -28,6 +29,18 @@ fn verdict_on_answers(wrong: Option<usize>) -> Verdict
 pub fn check(alloc: Global, trace: &Trace, log: &Log) -> Result<Verdict, NoMemory>
     ensures { IfOk result (λ verdict. verdict ≡ verdict_of trace.now log.now.lines) }
 {
+    check_with_progress(alloc, trace, log, &NoProgress)
+}
+
+/// The same verdict, where each call is told as it is made once more.
+pub fn check_with_progress<P: Progress>(
+    alloc: Global,
+    trace: &Trace,
+    log: &Log,
+    progress: &P,
+) -> Result<Verdict, NoMemory>
+    ensures { IfOk result (λ verdict. verdict ≡ verdict_of trace.now log.now.lines) }
+{
     let lines = log.lines.slice();
     if let Some(i) = other_line(trace, lines) {
         return Ok(Verdict::WrongCall(i as u64 + 1));
@@ -36,5 +49,5 @@ pub fn check(alloc: Global, trace: &Trace, log: &Log) -> Result<Verdict, NoMemor
     if let Some(i) = order.put_all(lines)? {
         return Ok(Verdict::WrongPlace(i as u64 + 1));
     }
-    Ok(verdict_on_answers(least_untrue(alloc, trace, lines, &order)?))
+    Ok(verdict_on_answers(least_untrue(alloc, trace, lines, &order, progress)?))
 }

@@ -9,6 +9,6 @@ mod streams;
 mod sweep;
 mod verdict;
 
-pub use checks::check;
+pub use checks::{check, check_with_progress};
 pub use streams::{CheckFault, check_stream};
 pub use verdict::Verdict;

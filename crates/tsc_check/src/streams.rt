@@ -6,7 +6,7 @@ ghost use Rattle.tsc_trace.specs.declared.replays.ReplayFault.TheVariants as rep
 ghost use Rattle.tsc_check.specs.Checking.{Checked, HasReadLog, StopsCheck, StopsReadingLog, fault_of_log, fault_text};
 ghost use Rattle.tsc_check.specs.declared.streams.CheckFault.TheVariants.{Stream};
 
-use crate::checks::check;
+use crate::checks::check_with_progress;
 use crate::verdict::Verdict;
 use itoa::Buffer;
 use std::alloc::Global;
@@ -14,7 +14,9 @@ use std::error::Error;
 use std::fmt;
 use tsc_time::NoMemory;
 use tsc_trace::{Log, LogFault, ReplayFault, read_log, read_trace_from};
-use tsc_trace_io::{InputFault, Sink, Source, WriteFailed, read_input, write_both, write_output};
+use tsc_trace_io::{
+    InputFault, Progress, Sink, Source, WriteFailed, read_input, write_both, write_output,
+};
 
 /// Why a check ended without a verdict. Only a failed write comes after a written byte.
 #[derive(Clone, Copy, Debug, PartialEq, Eq)]
@@ -116,13 +118,14 @@ fn read_log_from<L: Source>(alloc: Global, log: &mut L) -> Result<Log, CheckFaul
 /// Reads a trace to its end and then a log, and writes the verdict on the log as one line.
 ///
 /// The log's reader is called only once the trace is read and accepted. Both inputs are freed before the check
-/// begins, and nothing is written before the verdict is known. Once a read or a write has failed, no later call
+/// begins, and nothing is written before the verdict is known. Each call is told as it is made once more. Once a read or a write has failed, no later call
 /// makes up for it.
-pub fn check_stream<R: Source, L: Source, W: Sink>(
+pub fn check_stream<R: Source, L: Source, W: Sink, P: Progress>(
     alloc: Global,
     trace: &mut R,
     log: &mut L,
     writer: &mut W,
+    progress: &P,
 ) -> Result<Verdict, CheckFault>
     ensures ok { IfOk result (λ verdict. Checked verdict (R.known trace.old) (R.known trace.new)
         (L.known log.old) (L.known log.new) (W.known writer.old) (W.known writer.new)) }
@@ -131,7 +134,7 @@ pub fn check_stream<R: Source, L: Source, W: Sink>(
 {
     let read = read_trace_from(alloc, trace)?;
     let lines = read_log_from(alloc, log)?;
-    let verdict = check(alloc, &read, &lines)?;
+    let verdict = check_with_progress(alloc, &read, &lines, progress)?;
     verdict.write_line(writer)?;
     Ok(verdict)
 }

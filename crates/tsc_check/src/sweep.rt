@@ -14,6 +14,7 @@ use std::alloc::Global;
 use tsc_cache::{Added, Cache};
 use tsc_time::{NoMemory, Value};
 use tsc_trace::{Call, Line, Said, Trace, add_all_fitting, add_fitting};
+use tsc_trace_io::Progress;
 
 /// Whether two values are not the same.
 fn differ(value: Value, other: Value) -> bool
@@ -124,13 +125,14 @@ fn make_add(
 }
 
 /// Lowers a line number to the least of a lookup with this front whose answer is another than the cache gives.
-fn look_up_all(
+fn look_up_all<P: Progress>(
     cache: &Cache,
     trace: &Trace,
     lines: &[Line],
     order: &Order,
     front: usize,
     least: usize,
+    progress: &P,
 ) -> usize
     requires stands { StandsForState cache.now trace.now.config (state_at trace.now lines.now front) }
     requires order { AreInOrder trace.now lines.now }
@@ -142,19 +144,21 @@ fn look_up_all(
     let mut next = order.lookups[front];
     while let Some(i) = next {
         lowest = look_up(cache, trace, lines, i, lowest);
+        progress.made();
         next = order.earlier[i];
     }
     lowest
 }
 
 /// Answers all lines that tell of so many Adds before them, the Add last.
-fn pass(
+fn pass<P: Progress>(
     cache: &mut Cache,
     trace: &Trace,
     lines: &[Line],
     order: &Order,
     front: usize,
     least: usize,
+    progress: &P,
 ) -> Result<usize, NoMemory>
     requires stands { StandsForState cache.old trace.now.config (state_at trace.now lines.now front) }
     requires order { AreInOrder trace.now lines.now }
@@ -163,19 +167,23 @@ fn pass(
     ensures lowers { IfOk result (λ new. Lowers (is_wrong_answer trace.now lines.now) (λ j. looks_up_there lines.now front j || adds_there lines.now front j) least new) }
     ensures stands { OnOk result (StandsForState cache.new trace.now.config (state_at trace.now lines.now (suc front))) }
 {
-    let least = look_up_all(cache, trace, lines, order, front, least);
+    let least = look_up_all(cache, trace, lines, order, front, least, progress);
     match order.adds[front] {
-        Some(i) => make_add(cache, trace, lines, i, least),
+        Some(i) => {
+            progress.made();
+            make_add(cache, trace, lines, i, least)
+        }
         None => Ok(least),
     }
 }
 
-/// The least line whose answer is wrong.
-pub fn least_untrue(
+/// The least line whose answer is wrong. Each call is told as it is made.
+pub fn least_untrue<P: Progress>(
     alloc: Global,
     trace: &Trace,
     lines: &[Line],
     order: &Order,
+    progress: &P,
 ) -> Result<Option<usize>, NoMemory>
     requires order { AreInOrder trace.now lines.now }
     requires placed { HasPlaced order.now lines.now (length lines.now) }
@@ -184,7 +192,7 @@ pub fn least_untrue(
     let mut cache = Cache::new(alloc, trace.config)?;
     let mut lowest = lines.len();
     for front in 0..order.adds.len() {
-        lowest = pass(&mut cache, trace, lines, order, front, lowest)?;
+        lowest = pass(&mut cache, trace, lines, order, front, lowest, progress)?;
     }
     if lowest < lines.len() {
         Ok(Some(lowest))

@@ -7,7 +7,7 @@ ghost use Rattle.tsc_commands.specs.Replay.{Tells};
 use crate::replay::status_of;
 use std::alloc::Global;
 use tsc_check::{CheckFault, Verdict, check_stream};
-use tsc_trace_io::{Sink, Source, WriteFailed, write_output};
+use tsc_trace_io::{NoProgress, Progress, Sink, Source, WriteFailed, write_output};
 
 /// Checks a log against its trace, writes the verdict as one line, tells a fault on `errors`, and gives the exit
 /// status.
@@ -25,7 +25,22 @@ pub fn check_command<R: Source, L: Source, W: Sink, E: Sink>(
     ensures { EndsCheck result (R.known trace.old) (R.known trace.new) (L.known log.old) (L.known log.new)
         (W.known writer.old) (W.known writer.new) (E.known errors.old) (E.known errors.new) }
 {
-    match check_stream(alloc, trace, log, writer) {
+    check_with_progress(alloc, trace, log, writer, errors, &NoProgress)
+}
+
+/// The same, where each call is told as it is made once more.
+pub fn check_with_progress<R: Source, L: Source, W: Sink, E: Sink, P: Progress>(
+    alloc: Global,
+    trace: &mut R,
+    log: &mut L,
+    writer: &mut W,
+    errors: &mut E,
+    progress: &P,
+) -> u8
+    ensures { EndsCheck result (R.known trace.old) (R.known trace.new) (L.known log.old) (L.known log.new)
+        (W.known writer.old) (W.known writer.new) (E.known errors.old) (E.known errors.new) }
+{
+    match check_stream(alloc, trace, log, writer, progress) {
         Ok(verdict) => status_of_verdict(verdict),
         Err(fault) => {
             tell_check_fault(errors, fault);

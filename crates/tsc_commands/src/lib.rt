@@ -5,10 +5,12 @@
 //! [`replay_command`] makes the calls of a trace on one thread, [`run_command`] those of each list on a thread of its own,
 //! and [`check_command`] holds a log against its trace. Each gives the exit status, and tells a fault by one line.
 //! [`words::words`] tells what words ask for. [`SystemFiles`] and [`fetch_words`] are the files and the words of the system,
-//! and [`standard_output`] and [`standard_errors`] where the program writes.
+//! and [`standard_output`] and [`standard_errors`] where the program writes. A [`Meter`] tells at a terminal how far a
+//! command is.
 #![tactic(auto)]
 
 mod check;
+mod meter;
 mod place;
 pub mod program;
 mod replay;
@@ -17,9 +19,10 @@ mod streams;
 mod system;
 pub mod words;
 
-pub use check::{check_command, status_of_check_fault, tell_check_fault};
+pub use check::{check_command, check_with_progress, status_of_check_fault, tell_check_fault};
+pub use meter::{Meter, NoMeter};
 pub use place::{OpenFault, Place};
-pub use replay::{replay_command, tell_fault};
+pub use replay::{replay_command, replay_with_progress, tell_fault};
 pub use run::{run_command, tell_stop};
 pub use streams::{Errors, Output};
 pub use system::{SystemFiles, fetch_words, standard_errors, standard_output};

@@ -6,9 +6,9 @@ ghost use Rattle.tsc_commands.specs.Replay.{EndsReplay, Tells, fault_line, statu
 ghost use Rattle.tsc_commands.specs.Run.{EndsRun};
 ghost use Rattle.tsc_commands.specs.Words.{asked_as};
 
-use crate::check::check_command;
+use crate::check::check_with_progress;
 use crate::place::{OpenFault, Place};
-use crate::replay::{replay_command, status_of, tell_fault};
+use crate::replay::{replay_with_progress, status_of, tell_fault};
 use crate::run::run_command;
 use crate::streams::{Errors, Output};
 use crate::words::{Asked, WordsFault, request};
@@ -16,25 +16,33 @@ use std::alloc::Global;
 use std::process::ExitCode;
 use std::sync::Wait;
 use std::thread::Threads;
-use tsc_shared::NoGate;
+use tsc_run::Starts;
+use tsc_shared::Gate;
 use tsc_trace::ReplayFault;
-use tsc_trace_io::{Sink, Source, write_output};
+use tsc_trace_io::{Progress, Sink, Source, write_output};
 
 /// Does what the program's words ask for, and gives the code with which the process is to end, whose number is the
 /// exit status.
 ///
 /// `words` are the words, its own name first, or why they are not to be had. Only a log or a verdict goes
 /// to the output. A fault is told by one line on `errors`, and telling it changes no status. `rt` starts the
-/// threads of a run, for whose end the call waits.
-pub fn program<T: Threads + Wait + Sync, P: Place, W: Sink, E: Sink>(
+/// threads of a run, for whose end the call waits. `meter` is told of each call that a command makes.
+pub fn program<
+    T: Starts + Threads + Wait + Sync,
+    P: Place,
+    W: Sink,
+    E: Sink,
+    M: Progress + Gate + Sync,
+>(
     rt: &T,
     alloc: Global,
     words: Result<Vec<String>, WordsFault>,
     place: &P,
     output: &mut Output<W>,
     errors: &mut Errors<E>,
+    meter: &M,
 ) -> ExitCode
-    ensures { RunsProgram (texts_of words) (P.opens place.now) (exit_status result)
+    ensures { RunsProgram (T.WasRefused rt.now) (texts_of words) (P.opens place.now) (exit_status result)
         (W.known output.old.writer) (W.known output.new.writer) (E.known errors.old.writer) (E.known errors.new.writer) }
 {
     let status = do_asked(
@@ -44,27 +52,35 @@ pub fn program<T: Threads + Wait + Sync, P: Place, W: Sink, E: Sink>(
         place,
         &mut output.writer,
         &mut errors.writer,
+        meter,
     );
     ExitCode::from(status)
 }
 
 /// Does what the words ask for, and gives the exit status.
-fn do_asked<T: Threads + Wait + Sync, P: Place, W: Sink, E: Sink>(
+fn do_asked<
+    T: Starts + Threads + Wait + Sync,
+    P: Place,
+    W: Sink,
+    E: Sink,
+    M: Progress + Gate + Sync,
+>(
     rt: &T,
     alloc: Global,
     words: Result<Vec<String>, WordsFault>,
     place: &P,
     writer: &mut W,
     errors: &mut E,
+    meter: &M,
 ) -> u8
-    ensures { RunsProgram (texts_of words) (P.opens place.now) result
+    ensures { RunsProgram (T.WasRefused rt.now) (texts_of words) (P.opens place.now) result
         (W.known writer.old) (W.known writer.new) (E.known errors.old) (E.known errors.new) }
 {
     match asked(alloc, words) {
-        Ok(Asked::Replay { file }) => replay_file(alloc, place, &file, writer, errors),
-        Ok(Asked::Run { file }) => run_file(rt, alloc, place, &file, writer, errors),
+        Ok(Asked::Replay { file }) => replay_file(alloc, place, &file, writer, errors, meter),
+        Ok(Asked::Run { file }) => run_file(rt, alloc, place, &file, writer, errors, meter),
         Ok(Asked::Check { trace, log }) => {
-            check_files(alloc, place, &trace, &log, writer, errors)
+            check_files(alloc, place, &trace, &log, writer, errors, meter)
         }
         Err(fault) => {
             tell_line(errors, fault.line());
@@ -81,74 +97,78 @@ fn asked(alloc: Global, words: Result<Vec<String>, WordsFault>) -> Result<Asked,
 }
 
 /// Replays the trace in the file of a name.
-fn replay_file<P: Place, W: Sink, E: Sink>(
+fn replay_file<P: Place, W: Sink, E: Sink, M: Progress>(
     alloc: Global,
     place: &P,
     file: &str,
     writer: &mut W,
     errors: &mut E,
+    meter: &M,
 ) -> u8
     ensures { GoesOver EndsReplay (P.opens place.now file.now) result
         (W.known writer.old) (W.known writer.new) (E.known errors.old) (E.known errors.new) }
 {
     match place.open(file) {
-        Ok(mut reader) => replay_command(alloc, &mut reader, writer, errors),
+        Ok(mut reader) => replay_with_progress(alloc, &mut reader, writer, errors, meter),
         Err(fault) => end_unopened(errors, fault),
     }
 }
 
 /// Runs the trace in the file of a name on threads.
-fn run_file<T: Threads + Wait + Sync, P: Place, W: Sink, E: Sink>(
+fn run_file<T: Starts + Threads + Wait + Sync, P: Place, W: Sink, E: Sink, M: Gate + Sync>(
     rt: &T,
     alloc: Global,
     place: &P,
     file: &str,
     writer: &mut W,
     errors: &mut E,
+    meter: &M,
 ) -> u8
-    ensures { GoesOver EndsRun (P.opens place.now file.now) result
+    ensures { GoesOver (EndsRun (T.WasRefused rt.now)) (P.opens place.now file.now) result
         (W.known writer.old) (W.known writer.new) (E.known errors.old) (E.known errors.new) }
 {
     match place.open(file) {
-        Ok(mut reader) => run_command(rt, alloc, &mut reader, writer, errors, &NoGate),
+        Ok(mut reader) => run_command(rt, alloc, &mut reader, writer, errors, meter),
         Err(fault) => end_unopened(errors, fault),
     }
 }
 
 /// Checks the log in the file of a name against the trace in that of another, which is opened first. Neither
 /// is read before both are opened.
-fn check_files<P: Place, W: Sink, E: Sink>(
+fn check_files<P: Place, W: Sink, E: Sink, M: Progress>(
     alloc: Global,
     place: &P,
     trace: &str,
     log: &str,
     writer: &mut W,
     errors: &mut E,
+    meter: &M,
 ) -> u8
     ensures { GoesOver (EndsCheckOf (P.opens place.now log.now)) (P.opens place.now trace.now) result
         (W.known writer.old) (W.known writer.new) (E.known errors.old) (E.known errors.new) }
 {
     match place.open(trace) {
-        Ok(mut reader) => check_file(alloc, &mut reader, place, log, writer, errors),
+        Ok(mut reader) => check_file(alloc, &mut reader, place, log, writer, errors, meter),
         Err(fault) => end_unopened(errors, fault),
     }
 }
 
 /// Checks the log in the file of a name against the trace of a reader, which is called only once that file is
 /// opened.
-fn check_file<R: Source, P: Place, W: Sink, E: Sink>(
+fn check_file<R: Source, P: Place, W: Sink, E: Sink, M: Progress>(
     alloc: Global,
     trace: &mut R,
     place: &P,
     log: &str,
     writer: &mut W,
     errors: &mut E,
+    meter: &M,
 ) -> u8
     ensures { EndsCheckOf (P.opens place.now log.now) result (R.known trace.old) (R.known trace.new)
         (W.known writer.old) (W.known writer.new) (E.known errors.old) (E.known errors.new) }
 {
     match place.open(log) {
-        Ok(mut reader) => check_command(alloc, trace, &mut reader, writer, errors),
+        Ok(mut reader) => check_with_progress(alloc, trace, &mut reader, writer, errors, meter),
         Err(fault) => end_unopened(errors, fault),
     }
 }

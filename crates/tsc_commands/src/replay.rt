@@ -4,8 +4,8 @@ ghost use Rattle.tsc_trace_io.specs.Stream.{CouldNotWrite, HasWritten};
 ghost use Rattle.tsc_commands.specs.Replay.{EndsReplay, Tells, fault_line, status_of};
 
 use std::alloc::Global;
-use tsc_trace::{ReplayFault, TraceFault, replay_stream};
-use tsc_trace_io::{Sink, Source, WriteFailed, write_output};
+use tsc_trace::{ReplayFault, TraceFault, replay_stream_with_progress};
+use tsc_trace_io::{NoProgress, Progress, Sink, Source, WriteFailed, write_output};
 
 /// Replays a trace from a reader to a writer, tells a fault on `errors`, and gives the exit status.
 ///
@@ -20,7 +20,21 @@ pub fn replay_command<R: Source, W: Sink, E: Sink>(
     ensures { EndsReplay result (R.known reader.old) (R.known reader.new)
         (W.known writer.old) (W.known writer.new) (E.known errors.old) (E.known errors.new) }
 {
-    match replay_stream(alloc, reader, writer) {
+    replay_with_progress(alloc, reader, writer, errors, &NoProgress)
+}
+
+/// The same, where each call of the trace is told as soon as it was made.
+pub fn replay_with_progress<R: Source, W: Sink, E: Sink, P: Progress>(
+    alloc: Global,
+    reader: &mut R,
+    writer: &mut W,
+    errors: &mut E,
+    progress: &P,
+) -> u8
+    ensures { EndsReplay result (R.known reader.old) (R.known reader.new)
+        (W.known writer.old) (W.known writer.new) (E.known errors.old) (E.known errors.new) }
+{
+    match replay_stream_with_progress(alloc, reader, writer, progress) {
         Ok(()) => 0,
         Err(fault) => {
             tell_fault(errors, fault);

@@ -14,4 +14,5 @@ mod threads;
 
 pub use fault::RunFault;
 pub use run::run_trace;
+pub use start::Starts;
 pub use streams::{RunStop, run_stream};

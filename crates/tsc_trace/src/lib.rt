@@ -16,8 +16,11 @@ mod replays;
 
 pub use log::{Line, Lines, Log, Said, Told, log_text};
 pub use log_reader::{LogFault, read_log};
-pub use player::{add_all_fitting, add_fitting, play};
-pub use replays::{OutFault, ReplayFault, read_trace_from, replay, replay_stream, write_log};
+pub use player::{add_all_fitting, add_fitting, play, play_with_progress};
+pub use replays::{
+    OutFault, ReplayFault, read_trace_from, replay, replay_stream, replay_stream_with_progress,
+    write_log,
+};
 pub use tsc_trace_io::{Metered, Sink, Source};
 pub use tsc_trace_json::{Call, Kind, Lists, Marks, Trace, TraceFault};
 pub use tsc_trace_reader::read_trace;

@@ -14,6 +14,7 @@ use std::alloc::Global;
 use tsc_cache::{Added, Cache, CacheFault, Mark};
 use tsc_span::Span;
 use tsc_time::{NoMemory, Timestamp, Value};
+use tsc_trace_io::{NoProgress, Progress};
 use tsc_trace_json::{Call, Trace};
 
 /// Adds a span that fits the cache's pages, as each does that a call of a [`Trace`] adds. So memory alone may be
@@ -108,7 +109,12 @@ impl Player {
     }
 
     /// Makes the calls of the list with this number, and adds their lines.
-    fn play_list(&mut self, thread: u32, calls: &[Call]) -> Result<(), NoMemory>
+    fn play_list<P: Progress>(
+        &mut self,
+        thread: u32,
+        calls: &[Call],
+        progress: &P,
+    ) -> Result<(), NoMemory>
         requires count { self.old.adds + length calls.now < 2 ^ 64 }
         requires index { length calls.now ≤ most_calls }
         requires fits { EachFits self.old.cache.settings calls.now }
@@ -121,6 +127,7 @@ impl Player {
     {
         for (index, call) in calls.iter().enumerate() {
             let said = self.answer(call)?;
+            progress.made();
             self.lines.push(Line {
                 thread,
                 index: index as u32,
@@ -137,13 +144,24 @@ impl Player {
 pub fn play(alloc: Global, trace: &Trace) -> Result<Log, NoMemory>
     ensures { IfOk result (λ log. log.lines ≡ log_of trace.now) }
 {
+    play_with_progress(alloc, trace, &NoProgress)
+}
+
+/// The same log, of which each call is told as soon as it was made.
+pub fn play_with_progress<P: Progress>(
+    alloc: Global,
+    trace: &Trace,
+    progress: &P,
+) -> Result<Log, NoMemory>
+    ensures { IfOk result (λ log. log.lines ≡ log_of trace.now) }
+{
     let mut player = Player {
         cache: Cache::new(alloc, trace.config)?,
         adds: 0,
         lines: Vec::new(alloc),
     };
     for (thread, calls) in trace.threads.slice().iter().enumerate() {
-        player.play_list(thread as u32, calls)?;
+        player.play_list(thread as u32, calls, progress)?;
     }
     Ok(Log {
         lines: Lines::of(player.lines),

@@ -6,14 +6,17 @@ ghost use Rattle.tsc_trace_io.specs.Stream.{CouldNotWrite, HasWritten};
 ghost use Rattle.tsc_trace.specs.declared.replays.OutFault.TheVariants as out_fault;
 
 use crate::log::{Log, log_text};
-use crate::player::play;
+use crate::player::play_with_progress;
 use itoa::Buffer;
 use std::alloc::Global;
 use std::error::Error;
 use std::fmt;
 use thiserror::Error;
 use tsc_time::NoMemory;
-use tsc_trace_io::{InputFault, Sink, Source, WriteFailed, read_input, write_both, write_output};
+use tsc_trace_io::{
+    InputFault, NoProgress, Progress, Sink, Source, WriteFailed, read_input, write_both,
+    write_output,
+};
 use tsc_trace_json::{Trace, TraceFault};
 use tsc_trace_reader::read_trace;
 
@@ -175,7 +178,21 @@ pub fn replay<W: Sink>(alloc: Global, trace: &Trace, writer: &mut W) -> Result<(
     ensures err { IfErr result (λ fault.
         StopsWriting fault (W.known writer.old) (W.known writer.new) (replay_text trace.now)) }
 {
-    let log = play(alloc, trace)?;
+    replay_with_progress(alloc, trace, writer, &NoProgress)
+}
+
+/// The same, where each call is told as soon as it was made.
+fn replay_with_progress<W: Sink, P: Progress>(
+    alloc: Global,
+    trace: &Trace,
+    writer: &mut W,
+    progress: &P,
+) -> Result<(), OutFault>
+    ensures ok { OnOk result (HasWritten (W.known writer.old) (W.known writer.new) (replay_text trace.now)) }
+    ensures err { IfErr result (λ fault.
+        StopsWriting fault (W.known writer.old) (W.known writer.new) (replay_text trace.now)) }
+{
+    let log = play_with_progress(alloc, trace, progress)?;
     write_log(alloc, &log, writer)
 }
 
@@ -204,6 +221,21 @@ pub fn replay_stream<R: Source, W: Sink>(
     ensures err { IfErr result (λ fault. StopsReplay fault (R.known reader.old) (R.known reader.new)
         (W.known writer.old) (W.known writer.new)) }
 {
+    replay_stream_with_progress(alloc, reader, writer, &NoProgress)
+}
+
+/// The same, where each call of the trace is told as soon as it was made.
+pub fn replay_stream_with_progress<R: Source, W: Sink, P: Progress>(
+    alloc: Global,
+    reader: &mut R,
+    writer: &mut W,
+    progress: &P,
+) -> Result<(), ReplayFault>
+    ensures ok { OnOk result (Done (R.known reader.old) (R.known reader.new)
+        (W.known writer.old) (W.known writer.new)) }
+    ensures err { IfErr result (λ fault. StopsReplay fault (R.known reader.old) (R.known reader.new)
+        (W.known writer.old) (W.known writer.new)) }
+{
     let trace = read_trace_from(alloc, reader)?;
-    Ok(replay(alloc, &trace, writer)?)
+    Ok(replay_with_progress(alloc, &trace, writer, progress)?)
 }

@@ -4,13 +4,14 @@
 //! contract over them tells why a command gave up. A [`Metered`] reader or writer is one of `std` with its
 //! calls counted. What it makes of a call to the one inside is proved; that it makes that call is for its few
 //! lines, and for tests. [`read_input`] reads all that a reader has left, and [`write_output`] writes a whole
-//! text.
+//! text. A [`Progress`] is told how far a long work is.
 #![tactic(auto)]
 
 pub mod fakes;
 mod input;
 mod metered;
 mod output;
+mod progress;
 mod stream;
 #[cfg(test)]
 mod tests;
@@ -18,4 +19,5 @@ mod tests;
 pub use input::{InputFault, read_input};
 pub use metered::Metered;
 pub use output::{WriteFailed, write_both, write_output};
+pub use progress::{NoProgress, Progress};
 pub use stream::{Phase, Sink, Source, Trouble};

@@ -5,12 +5,12 @@
 //! a log is right beside its trace, or which of its lines is wrong. The exit status is 0 where that was done,
 //! 1 for a trace or a log that was refused, 2 for wrong words, 3 for a log that is wrong, 4 where reading or
 //! writing failed or a thread could not be started, and 5 where a growth was refused. A fault is one line on
-//! standard error.
+//! standard error. What takes longer than two seconds tells there how many calls were made, where that is a terminal.
 #![tactic(auto)]
 
 use std::process::ExitCode;
 use tsc_commands::program::program;
-use tsc_commands::{SystemFiles, fetch_words, standard_errors, standard_output};
+use tsc_commands::{Meter, SystemFiles, fetch_words, standard_errors, standard_output};
 
 fn main(rt: HostRuntime) -> ExitCode {
     let mut output = standard_output(rt.stdout());
@@ -22,5 +22,6 @@ fn main(rt: HostRuntime) -> ExitCode {
         &SystemFiles::of(&rt),
         &mut output,
         &mut errors,
+        &Meter::new(&rt, rt.stderr()),
     )
 }

@@ -162,7 +162,7 @@ impl Keys {
 }
 
 /// A cache whose first page has room for one key.
-fn empty(alloc: Global, floor: Time) -> Result<Cache, Fail> {
+pub(super) fn empty(alloc: Global, floor: Time) -> Result<Cache, Fail> {
     let config = Config::new(64, 1 << 20, 2, 10, at(floor)?)?;
     Ok(Cache::new(alloc, config)?)
 }

@@ -6,7 +6,7 @@ use Rattle.tsc_check.proofs.Sweeping.{lowers_next, found_least, found_none}
 use Rattle.tsc_check.proofs.sweep.least_untrue.Goals as goal
 
 pub loop-front-preserved : goal.loop-front-preserved
-loop-front-preserved c =
+loop-front-preserved g c =
     let trace = c.args.trace.now in
     let lines = c.args.lines.now in
     let front = c.loop-front.front in
@@ -18,7 +18,7 @@ loop-front-preserved c =
     }
 
 pub returns-then-lowest-lines : goal.returns-then-lowest-lines
-returns-then-lowest-lines c =
+returns-then-lowest-lines g c =
     let trace = c.args.trace.now in
     let lines = c.args.lines.now in
     let o = c.args.order.now in
@@ -26,7 +26,7 @@ returns-then-lowest-lines c =
     found_least trace lines (is_wrong_answer trace lines) c.requires.order c.loop-front.front c.loop-front.lowest all c.loop-front.invariant.lowers c.if-lowest-lines.true
 
 pub returns : goal.returns
-returns c =
+returns g c =
     let trace = c.args.trace.now in
     let lines = c.args.lines.now in
     let o = c.args.order.now in

@@ -6,7 +6,7 @@ use Rattle.tsc_check.proofs.sweep.least_untrue.Given as goal
 
 -- the lines with a lower front are done, and the cache has as many Adds
 abbrev pub invariant-loop-front : goal.invariant-loop-front
-invariant-loop-front l =
+invariant-loop-front g l =
     record {
       stands : StandsForState l.cache l.trace.config (state_at l.trace l.lines l.front);
       lowers : Lowers (is_wrong_answer l.trace l.lines) (is_before_front l.lines l.front) (length l.lines) l.lowest;

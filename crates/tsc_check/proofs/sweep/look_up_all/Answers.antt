@@ -6,7 +6,7 @@ use Rattle.tsc_check.proofs.sweep.look_up_all.Goals as goal
 use Rattle.tsc_check.proofs.Sweeping.{number_from_1}
 
 pub look_up-lowest-requires-clause-index : goal.look_up-lowest-requires-clause-index
-look_up-lowest-requires-clause-index c =
+look_up-lowest-requires-clause-index g c =
     let trace = c.args.trace.now in
     let lines = c.args.lines.now in
     let o = c.args.order.now in
@@ -17,7 +17,7 @@ look_up-lowest-requires-clause-index c =
     omega (arith, last.below, inv.within)
 
 pub index-next-requires-in-Some : goal.index-next-requires-in-Some
-index-next-requires-in-Some c =
+index-next-requires-in-Some g c =
     let trace = c.args.trace.now in
     let lines = c.args.lines.now in
     let o = c.args.order.now in
@@ -32,7 +32,7 @@ none_after test i None e = omega arith
 none_after test i (Some j) e = omega (arith, (last_is test i j (sym e)).below)
 
 pub loop-next-smaller : goal.loop-next-smaller
-loop-next-smaller c =
+loop-next-smaller g c =
     let trace = c.args.trace.now in
     let lines = c.args.lines.now in
     let o = c.args.order.now in
@@ -46,7 +46,7 @@ loop-next-smaller c =
     subst (λ n. number_from_1 next < number_from_1 n) (sym c.in-Some.is) (none_after (looks_up_there lines front) i next is)
 
 pub loop-next-preserved : goal.loop-next-preserved
-loop-next-preserved c =
+loop-next-preserved g c =
     let trace = c.args.trace.now in
     let lines = c.args.lines.now in
     let o = c.args.order.now in
@@ -70,7 +70,7 @@ none_is None f = refl
 none_is (Some x) f = absurd (f x refl)
 
 pub returns : goal.returns
-returns c =
+returns g c =
     let lines = c.args.lines.now in
     let inv = c.loop-next.invariant in
     let none = none_is c.loop-next.next (λ x. c.in_default.not-Some x) in

@@ -6,7 +6,7 @@ use Rattle.tsc_check.proofs.sweep.look_up_all.Given as goal
 
 -- the lines from one on are done, and the next one is the last before it
 abbrev pub invariant-loop-next : goal.invariant-loop-next
-invariant-loop-next l =
+invariant-loop-next g l =
     record {
       above : ℕ;
       within : above ≤ length l.lines;
@@ -15,4 +15,4 @@ invariant-loop-next l =
     }
 
 abbrev pub decreases-loop-next : goal.decreases-loop-next
-decreases-loop-next l = number_from_1 l.next
+decreases-loop-next g l = number_from_1 l.next

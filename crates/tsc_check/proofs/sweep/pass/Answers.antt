@@ -8,7 +8,7 @@ use Rattle.tsc_check.proofs.Sweeping.{no_more_adds, last_is, lowers_pass, lowers
 use Rattle.tsc_check.proofs.sweep.pass.Goals as goal
 
 pub make_add-requires-clause-index : goal.make_add-requires-clause-index
-make_add-requires-clause-index c =
+make_add-requires-clause-index g c =
     let trace = c.args.trace.now in
     let lines = c.args.lines.now in
     let o = c.args.order.now in
@@ -19,7 +19,7 @@ make_add-requires-clause-index c =
     last.below
 
 pub returns-in-Some-clause-lowers : goal.returns-in-Some-clause-lowers
-returns-in-Some-clause-lowers c =
+returns-in-Some-clause-lowers g c =
     let trace = c.args.trace.now in
     let lines = c.args.lines.now in
     let o = c.args.order.now in
@@ -32,7 +32,7 @@ returns-in-Some-clause-lowers c =
     c.make_add.ensures.lowers
 
 pub returns-in-Some-clause-stands : goal.returns-in-Some-clause-stands
-returns-in-Some-clause-stands c =
+returns-in-Some-clause-stands g c =
     let trace = c.args.trace.now in
     let lines = c.args.lines.now in
     let o = c.args.order.now in
@@ -43,7 +43,7 @@ returns-in-Some-clause-stands c =
     on_ok_weaker c.make_add.result (λ h. h front last.passes c.requires.stands) c.make_add.ensures.stands
 
 pub returns-in-None-clause-lowers : goal.returns-in-None-clause-lowers
-returns-in-None-clause-lowers c =
+returns-in-None-clause-lowers g c =
     let trace = c.args.trace.now in
     let lines = c.args.lines.now in
     let o = c.args.order.now in
@@ -52,7 +52,7 @@ returns-in-None-clause-lowers c =
     lowers_no_add (is_wrong_answer trace lines) (looks_up_there lines front) (adds_there lines front) c.args.least c.look_up_all-least.result c.look_up_all-least.ensures (no_add_there lines front at)
 
 pub returns-in-None-clause-stands : goal.returns-in-None-clause-stands
-returns-in-None-clause-stands c =
+returns-in-None-clause-stands g c =
     let trace = c.args.trace.now in
     let lines = c.args.lines.now in
     let o = c.args.order.now in

@@ -4,7 +4,7 @@ use Rattle.tsc_trace.proofs.ListSteps.{one_more_call, all_told, all_made}
 use Rattle.tsc_trace.proofs.player.Player.play_list.Goals as goal
 
 pub loop-index-preserved : goal.loop-index-preserved
-loop-index-preserved c =
+loop-index-preserved g c =
     let l = c.loop-index in
     let lines : c.push.new.self.items ≡ l.self.lines.items ++ record { thread = c.args.thread; index = l.index; said = c.in_ok-said.said } ∷ []
     = c.in_ok-push.ensures.items ∙ ap (λ ls. ls.items ++ record { thread = c.args.thread; index = l.index; said = c.in_ok-said.said } ∷ []) c.answer.ensures.lines in
@@ -18,11 +18,11 @@ loop-index-preserved c =
     }
 
 pub returns-clause-lines : goal.returns-clause-lines
-returns-clause-lines c = λ settings from stands.
+returns-clause-lines g c = λ settings from stands.
     let l = c.loop-index in
     all_told c.args.self.now l.self settings c.args.thread l.index c.args.calls.now from (omega arith) (l.invariant.under_way settings from stands)
 
 pub returns-clause-stands : goal.returns-clause-stands
-returns-clause-stands c = λ settings from stands.
+returns-clause-stands g c = λ settings from stands.
     let l = c.loop-index in
     all_made c.args.self.now l.self settings c.args.thread l.index c.args.calls.now from (omega arith) (l.invariant.under_way settings from stands)

@@ -7,7 +7,7 @@ use Rattle.tsc_trace.proofs.player.Player.play_list.Given as goal
 
 -- from wherever it stood, it is under way
 abbrev pub invariant-loop-index : goal.invariant-loop-index
-invariant-loop-index l =
+invariant-loop-index g l =
     record {
       under_way : (settings : Settings) (from : Standing) → StandsAt l.fn.self settings from → IsUnderWay l.fn.self l.self settings l.thread l.index l.calls (drop l.index l.calls) from;
       counted : l.self.adds ≤ l.fn.self.adds + l.index;

@@ -12,10 +12,10 @@ use Rattle.tsc_trace.proofs.Playing.{standing_after, lists_anew}
 use Rattle.tsc_trace.proofs.ListSteps.{told_with_list}
 use Rattle.tsc_trace_json.proofs.Totals.{calls_within, list_at}
 use Rattle.tsc_trace_json.proofs.Fitting.{list_fits}
-use Rattle.tsc_trace.proofs.player.play.Goals as goal
+use Rattle.tsc_trace.proofs.player.play_with_progress.Goals as goal
 
 pub loop-thread-init : goal.loop-thread-init
-loop-thread-init c =
+loop-thread-init g c =
     let trace = c.args.trace.now in
     let config = ap (λ (t : Trace). t.config) c.trace.view_is in
     let stands : StandsForState c.in_ok-new.field-0 c.trace.inside.config (opening c.trace.inside.config) = c.in_ok-new.ensures.stands in
@@ -28,7 +28,7 @@ loop-thread-init c =
     }
 
 pub play_list-requires-clause-fits : goal.play_list-requires-clause-fits
-play_list-requires-clause-fits c =
+play_list-requires-clause-fits g c =
     let trace = c.args.trace.now in
     let slices = c.slice-calls-items.result.now in
     let thread = c.loop-thread.thread in
@@ -41,14 +41,14 @@ play_list-requires-clause-fits c =
     subst (λ (s : Settings). EachFits s calls) (sym c.loop-thread.invariant.settings) (list_fits trace.config trace.threads thread calls here fit)
 
 pub play_list-requires-clause-index : goal.play_list-requires-clause-index
-play_list-requires-clause-index c =
+play_list-requires-clause-index g c =
     let slices = c.slice-calls-items.result.now in
     let fits = subst (λ lists. fits_trace lists ≡ true) (sym c.slice-calls-items.ensures.value) c.slice-calls-items.ensures.fits in
     let within : c.loop-thread.thread < length slices = omega arith in
     rw c.deref.ensures.value (calls_within slices c.loop-thread.thread c.calls-item.result fits within c.calls-item.is)
 
 pub loop-thread-preserved : goal.loop-thread-preserved
-loop-thread-preserved c =
+loop-thread-preserved g c =
     let settings = c.args.trace.now.config in
     let lists = c.args.trace.now.threads in
     let slices = c.slice-calls-items.result.now in

@@ -2,11 +2,11 @@ use Rattle.std.proofs.Common.{◌≡◌, ◌*◌, ◌≤◌, ◌++◌, drop}
 use Rattle.tsc_trace.specs.Log.{log_of}
 use Rattle.tsc_trace.specs.Play.{Standing, played_lists}
 use Rattle.tsc_trace.specs.PlayerParts.{StandsAt}
-use Rattle.tsc_trace.proofs.player.play.Given as goal
+use Rattle.tsc_trace.proofs.player.play_with_progress.Given as goal
 
 -- the lines so far and those of the lists that are left are the log of the trace
 abbrev pub invariant-loop-thread : goal.invariant-loop-thread
-invariant-loop-thread l =
+invariant-loop-thread g l =
     record {
       at : Standing;
       stands : StandsAt l.player l.trace.config at;
