@@ -22,7 +22,7 @@ bytes_on pages = sum_by (λ p. cost_distinct (marked_keys p.marks)) pages
 
 -- The figures of a state: how many pages there are and how often they rotated, their different end keys, page by page, with what these cost, and the floor.
 abbrev pub figures_of : CacheState → Figures
-figures_of s = record { pages = up_to_end (length s.pages); rotations = s.rotations; nodes = up_to_end (nodes_on s.pages); bytes = up_to_end (bytes_on s.pages); floor = s.floor }
+figures_of s = record { pages = length s.pages; rotations = s.rotations; nodes = up_to_end (nodes_on s.pages); bytes = up_to_end (bytes_on s.pages); floor = s.floor }
 
 -- how many end keys the pages have as they can be seen
 abbrev pub nodes_seen : List PageView → ℕ
@@ -34,7 +34,7 @@ bytes_seen pages = sum_by bytes_of pages
 
 -- the figures of some pages as they can be seen, with a floor and a number of rotations
 abbrev pub figures_with : Time → ℕ → List PageView → Figures
-figures_with floor rotations pages = record { pages = up_to_end (length pages); rotations = rotations; nodes = up_to_end (nodes_seen pages); bytes = up_to_end (bytes_seen pages); floor = floor }
+figures_with floor rotations pages = record { pages = length pages; rotations = rotations; nodes = up_to_end (nodes_seen pages); bytes = up_to_end (bytes_seen pages); floor = floor }
 
 -- and of a cache
 abbrev pub figures_seen : CacheView → Figures

@@ -1,7 +1,7 @@
 use tsc_page::Page;
 use tsc_time::Timestamp;
 
-/// What can be counted of a cache, and where its floor stands. Each count stays at 2^64 - 1 once it is there.
+/// What can be counted of a cache, and where its floor stands. Rotations, nodes and bytes stay at 2^64 - 1 once they are there.
 #[derive(Clone, Copy, Debug, PartialEq, Eq)]
 pub struct Figures {
     /// How many pages there are.
@@ -17,17 +17,17 @@ pub struct Figures {
 }
 
 impl Figures {
-    ghost use Rattle.std.specs.Prelude.{◌≡◌, ◌+◌, []};
+    ghost use Rattle.std.specs.Prelude.{◌≡◌, ◌+◌};
     ghost use Rattle.tsc_page_base.specs.Page.{count_distinct};
     ghost use Rattle.tsc_page_base.specs.PageView.{bytes_of};
-    ghost use Rattle.tsc_cache.specs.Counts.{up_to_end, figures_with};
+    ghost use Rattle.tsc_cache.specs.Counts.{up_to_end};
 
-    /// What can be counted where there are no pages yet.
-    pub(crate) fn without_pages(floor: Timestamp, rotations: u64) -> Figures
-        ensures { result ≡ figures_with floor rotations [] }
+    /// The figures of so many pages, before what they hold is counted.
+    pub(crate) fn of_pages(pages: u64, floor: Timestamp, rotations: u64) -> Figures
+        ensures { result ≡ record { pages = pages; rotations = rotations; nodes = 0; bytes = 0; floor = floor } }
     {
         Figures {
-            pages: 0,
+            pages,
             rotations,
             nodes: 0,
             bytes: 0,
@@ -35,12 +35,12 @@ impl Figures {
         }
     }
 
-    /// What can be counted with one more page.
+    /// The figures with what one page more holds.
     pub(crate) fn with(self, page: &Page) -> Figures
-        ensures { result ≡ record { pages = up_to_end (self.pages + 1); rotations = self.rotations; nodes = up_to_end (self.nodes + count_distinct page.now.keys); bytes = up_to_end (self.bytes + bytes_of page.now); floor = self.floor } }
+        ensures { result ≡ record { pages = self.pages; rotations = self.rotations; nodes = up_to_end (self.nodes + count_distinct page.now.keys); bytes = up_to_end (self.bytes + bytes_of page.now); floor = self.floor } }
     {
         Figures {
-            pages: self.pages.saturating_add(1),
+            pages: self.pages,
             rotations: self.rotations,
             nodes: self.nodes.saturating_add(u64::from(page.nodes())),
             bytes: self.bytes.saturating_add(u64::from(page.bytes())),

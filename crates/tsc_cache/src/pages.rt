@@ -177,7 +177,7 @@ impl Pages {
     pub(crate) fn figures(&self, floor: Timestamp, rotations: u64) -> Figures
         ensures { result ≡ figures_with floor rotations (pages_of self.now) }
     {
-        let mut figures = Figures::without_pages(floor, rotations).with(&self.front);
+        let mut figures = Figures::of_pages(self.len() as u64, floor, rotations).with(&self.front);
         for page in &self.older {
             figures = figures.with(page);
         }

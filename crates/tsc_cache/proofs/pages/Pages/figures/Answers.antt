@@ -1,17 +1,18 @@
 -- One page after another.
-use Rattle.std.proofs.Common.{rules, ◌≡◌, ◌∙◌, ap, subst, List, map}
+use Rattle.std.proofs.Common.{rules, ◌≡◌, ◌∙◌, ap, subst, List, [], length, map}
 use Rattle.std.specs.Arc.{arc_value}
 use Rattle.std.specs.VecDeque.Iter.{deque_iter_rest}
 use Rattle.tsc_page_base.specs.PageView.{PageView}
 use Rattle.tsc_cache.specs.CacheParts.{pages_of, front_of, older_of}
-use Rattle.tsc_cache.proofs.CountsTold.{Counting, with_page, counting-start, counting-more, counting-end}
+use Rattle.tsc_cache.proofs.CountsTold.{Counting, figures_so_far, with_page, counting-start, counting-more, counting-end}
 use Rattle.tsc_cache.proofs.pages.Pages.figures.Goals as goal
 
 pub loop-page-init : goal.loop-page-init
 loop-page-init c =
     let all : deque_iter_rest c.into_iter-page-iterator.result ≡ c.args.self.now.older.items = search rules in
-    let first : c.with-figures.result ≡ with_page c.without_pages.result (front_of c.args.self.now) = c.with-figures.ensures ∙ ap (with_page c.without_pages.result) c.deref.ensures in
-    rw all (counting-start (front_of c.args.self.now) (older_of c.args.self.now) c.args.floor c.args.rotations c.without_pages.result c.with-figures.result c.without_pages.ensures first)
+    let first : c.with-figures.result ≡ with_page c.of_pages.result (front_of c.args.self.now) = c.with-figures.ensures ∙ ap (with_page c.of_pages.result) c.deref.ensures in
+    let none : c.of_pages.result ≡ figures_so_far (length (pages_of c.args.self.now)) c.args.floor c.args.rotations [] = c.of_pages.ensures ∙ ap (λ n. figures_so_far n c.args.floor c.args.rotations []) c.len.ensures in
+    rw all (counting-start (front_of c.args.self.now) (older_of c.args.self.now) c.args.floor c.args.rotations c.of_pages.result c.with-figures.result none first)
 
 pub loop-page-preserved : goal.loop-page-preserved
 loop-page-preserved c =
