@@ -14,5 +14,4 @@ mod threads;
 
 pub use fault::RunFault;
 pub use run::run_trace;
-pub use start::Starts;
 pub use streams::{RunStop, run_stream};

@@ -16,7 +16,7 @@ use tsc_trace::{Call, Line, Said};
 
 /// What a list's run leaves: its seat, and a line for each of its calls, or why it ended early.
 #[derive(Drop)]
-pub struct ListRun {
+pub(crate) struct ListRun {
     pub seat: Seat,
     pub told: Result<Vec<Line>, RunFault>,
 }

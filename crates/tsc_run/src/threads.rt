@@ -1,5 +1,5 @@
 //! A thread for each list.
-ghost use Rattle.std.specs.Prelude.{◌≡◌, ◌≤◌, ◌++◌, ◌∷◌, [], IfOk, IfErr, IfSome, IfNone, length, map, vec_capacity};
+ghost use Rattle.std.specs.Prelude.{◌≡◌, ◌≤◌, ◌++◌, ◌∷◌, [], IfOk, IfSome, IfNone, length, map, vec_capacity};
 ghost use Rattle.std.specs.List.{sum_by};
 ghost use Rattle.tsc_trace_json.specs.Traces.{AllFit};
 ghost use Rattle.tsc_trace_json.specs.Lists.{most_calls};
@@ -8,7 +8,7 @@ ghost use Rattle.tsc_run.specs.Runs.{EndsLists, Joins};
 
 use crate::fault::RunFault;
 use crate::list::ListRun;
-use crate::start::{NotStarted, Starts};
+use crate::start::{NotStarted, start_list};
 use std::alloc::Global;
 use std::sync::Wait;
 use std::thread;
@@ -46,7 +46,7 @@ fn split_last(lists: &[Vec<Call>]) -> Option<(&[Call], &[Vec<Call>])>
 }
 
 /// Starts a thread for the last list, has the others run, and waits for all. All seats come back.
-fn run_in<'s, E, R: Starts + Threads + Wait + Sync, G: Gate + Sync>(
+fn run_in<'s, E, R: Threads + Wait + Sync, G: Gate + Sync>(
     scope: &Scope<'s, E>,
     rt: &'s R,
     alloc: Global,
@@ -59,7 +59,6 @@ fn run_in<'s, E, R: Starts + Threads + Wait + Sync, G: Gate + Sync>(
     requires calls { sum_by length (map (λ calls. calls.items) lists.now) ≤ most_calls }
     requires fits { AllFit cache.now.config (map (λ calls. calls.items) lists.now) }
     ensures runs { IfOk result (λ runs. EndsLists cache.now (map (λ calls. calls.items) lists.now) runs.told runs.seats.items) }
-    ensures refused { IfErr result (λ _. R.WasRefused rt.now) }
     ensures room { IfOk result (λ runs. vec_capacity seats ≤ vec_capacity runs.seats) }
 {
     let Some(seat) = seats.pop() else {
@@ -71,7 +70,7 @@ fn run_in<'s, E, R: Starts + Threads + Wait + Sync, G: Gate + Sync>(
     let Some((calls, others)) = split_last(lists) else {
         unreachable!()
     };
-    let child = rt.start_list(scope, alloc, cache, seat, calls, gate)?;
+    let child = start_list(scope, rt, alloc, cache, seat, calls, gate)?;
     let runs = run_in(scope, rt, alloc, cache, seats, others, gate);
     let run = child.join(rt);
     let AllRuns { mut seats, told } = runs?;
@@ -86,7 +85,7 @@ fn run_in<'s, E, R: Starts + Threads + Wait + Sync, G: Gate + Sync>(
 }
 
 /// Runs each list on a thread of its own, at the seat of the same number, and waits for all.
-pub(crate) fn run_lists<R: Starts + Threads + Wait + Sync, G: Gate + Sync>(
+pub(crate) fn run_lists<R: Threads + Wait + Sync, G: Gate + Sync>(
     rt: &R,
     alloc: Global,
     cache: &SharedCache,
@@ -97,15 +96,14 @@ pub(crate) fn run_lists<R: Starts + Threads + Wait + Sync, G: Gate + Sync>(
     requires seats { seats.items ≡ new_seats cache.now 0 (length lists.now) }
     requires calls { sum_by length (map (λ calls. calls.items) lists.now) ≤ most_calls }
     requires fits { AllFit cache.now.config (map (λ calls. calls.items) lists.now) }
-    ensures runs { IfOk result (λ runs. EndsLists cache.now (map (λ calls. calls.items) lists.now) runs.told runs.seats.items) }
-    ensures refused { IfErr result (λ _. R.WasRefused rt.now) }
+    ensures { IfOk result (λ runs. EndsLists cache.now (map (λ calls. calls.items) lists.now) runs.told runs.seats.items) }
 {
     thread::scope(
         thread::scope_env(),
         rt,
         |scope| -> Result<AllRuns, NotStarted>
             requires { (seats.items ≡ new_seats cache.now 0 (length lists.now)) × (sum_by length (map (λ calls. calls.items) lists.now) ≤ most_calls) × AllFit cache.now.config (map (λ calls. calls.items) lists.now) }
-            ensures { IfOk result (λ runs. EndsLists cache.entry.now (map (λ calls. calls.items) lists.entry.now) runs.told runs.seats.items) × IfErr result (λ _. R.WasRefused rt.entry.now) }
+            ensures { IfOk result (λ runs. EndsLists cache.entry.now (map (λ calls. calls.items) lists.entry.now) runs.told runs.seats.items) }
         { run_in(scope, rt, alloc, cache, seats, lists, gate) },
     )
 }
