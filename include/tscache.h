@@ -124,10 +124,12 @@ typedef struct {
     uint32_t ends;
 } tsc_mark;
 
-/* How many pages a cache has, and how often they rotated. */
+/* What can be counted of a cache. Each count stays at 2^64 - 1 once it is there. */
 typedef struct {
-    uint64_t pages;
-    uint64_t rotations;
+    uint64_t pages;     /* how many there are */
+    uint64_t rotations; /* how often they rotated */
+    uint64_t nodes;     /* how many end keys the pages hold, each counted once for each page that holds it */
+    uint64_t bytes;     /* what these cost: for each as many bytes as it has, and 32 more */
 } tsc_figures;
 
 /* Opens a cache, and writes its number. Numbers count on from 0 and none is given twice, until the place is freed; each takes
@@ -154,7 +156,7 @@ uint32_t tsc_get_max(tsc_place *place, uint64_t number, const uint8_t *from, siz
 /* Where the floor stands. */
 uint32_t tsc_low_water(tsc_place *place, uint64_t number, tsc_time *out);
 
-/* What can be counted. */
+/* What can be counted. It costs a step for each page. */
 uint32_t tsc_figures_of(tsc_place *place, uint64_t number, tsc_figures *out);
 
 /* Frees a cache that `tsc_open` opened. Its number is answered by TSC_CLOSED from then on. */

@@ -48,8 +48,16 @@ static bool answers(tsc_place *place, uint64_t seat, const char *key, uint64_t w
 static bool has(tsc_place *place, uint64_t seat, uint64_t pages, uint64_t rotations, uint64_t seen)
 {
     uint64_t long_ = 99;
-    tsc_figures f = {99, 99};
+    tsc_figures f = {99, 99, 99, 99};
     return tsc_seat_try_figures_of(place, seat, &long_, &f) == TSC_OK && f.pages == pages && f.rotations == rotations && long_ == seen;
+}
+
+/* How many keys the pages hold, each counted once for each page, and what they cost. */
+static bool counts(tsc_place *place, uint64_t seat, uint64_t nodes, uint64_t bytes)
+{
+    uint64_t long_ = 99;
+    tsc_figures f = {99, 99, 99, 99};
+    return tsc_seat_try_figures_of(place, seat, &long_, &f) == TSC_OK && f.nodes == nodes && f.bytes == bytes;
 }
 
 /* What one thread sees of another's seat, one call after another. */
@@ -91,7 +99,7 @@ static void nulls(void)
     tsc_added a = {99, false, true};
     tsc_value v = {7, 7, {7}};
     tsc_time floor = {7, 7};
-    tsc_figures f = {7, 7};
+    tsc_figures f = {7, 7, 7, 7};
     tsc_mark mark = {0, 1, 0, 0, {30, 0, {0}}, TSC_POINT};
     CHECK(open_shared(p, 1, 9, &n) == TSC_OK && n == 0);
     CHECK(tsc_seat_try_add(NULL, 1, "a", 1, NULL, 0, TSC_POINT, &READ, &NOW, 1, &at, &a) == TSC_NULL && tsc_seat_try_add(p, 1, NULL, 1, NULL, 0, TSC_POINT, &READ, &NOW, 1, &at, &a) == TSC_NULL);
@@ -106,7 +114,7 @@ static void nulls(void)
     CHECK(tsc_seat_try_get_max(p, 1, "a", 1, NULL, 0, TSC_POINT, &seen, NULL) == TSC_NULL);
     CHECK(tsc_seat_try_low_water(NULL, 1, &seen, &floor) == TSC_NULL && tsc_seat_try_low_water(p, 1, NULL, &floor) == TSC_NULL && tsc_seat_try_low_water(p, 1, &seen, NULL) == TSC_NULL);
     CHECK(tsc_seat_try_figures_of(NULL, 1, &seen, &f) == TSC_NULL && tsc_seat_try_figures_of(p, 1, NULL, &f) == TSC_NULL && tsc_seat_try_figures_of(p, 1, &seen, NULL) == TSC_NULL);
-    CHECK(at == 77 && seen == 77 && a.evicted == 99 && v.wall == 7 && floor.wall == 7 && f.pages == 7);
+    CHECK(at == 77 && seen == 77 && a.evicted == 99 && v.wall == 7 && floor.wall == 7 && f.pages == 7 && f.nodes == 7 && f.bytes == 7);
     CHECK(answers(p, 1, "a", 5, 0) && has(p, 1, 1, 0, 0));
     CHECK(tsc_seat_try_low_water(p, 1, &seen, &floor) == TSC_OK && seen == 0 && floor.wall == 5);
     tsc_free(p);
@@ -119,8 +127,9 @@ static void figures(void)
     uint64_t n = 77, at = 77;
     CHECK(tsc_open_shared(&place, 132, 132, 2, 10, &LOW, 2, 9, &n) == TSC_OK);
     for (const char *key = "abcd"; *key; key++)
-        CHECK(add(&place, 1, (char[]){*key, 0}, 1, &at) == TSC_OK && has(&place, 2, 1, 0, at + 1));
-    CHECK(add(&place, 2, "e", 1, &at) == TSC_OK && at == 4 && has(&place, 1, 2, 1, 5) && has(&place, 2, 2, 1, 5));
+        CHECK(add(&place, 1, (char[]){*key, 0}, 1, &at) == TSC_OK && has(&place, 2, 1, 0, at + 1) && counts(&place, 2, at + 1, 33 * (at + 1)));
+    CHECK(add(&place, 2, "e", 1, &at) == TSC_OK && at == 4 && has(&place, 1, 2, 1, 5) && has(&place, 2, 2, 1, 5) && counts(&place, 1, 5, 165));
+    CHECK(add(&place, 2, "a", 1, &at) == TSC_OK && at == 5 && has(&place, 1, 2, 1, 6) && counts(&place, 1, 6, 198)); /* the key of two pages counts twice */
     tsc_free(&place);
 }
 
@@ -130,7 +139,7 @@ static void refusals(void)
     uint64_t n = 77, own = 77, at = 77, seen = 77, adds = 77;
     tsc_added added = {99, false, true};
     tsc_value v = {7, 7, {7}};
-    tsc_figures f = {7, 7};
+    tsc_figures f = {7, 7, 7, 7};
     uint32_t not_allowed[] = {0, 65, 100000000, UINT32_MAX};
     for (size_t i = 0; i < sizeof not_allowed / sizeof *not_allowed; i++)
         CHECK(open_shared(&place, not_allowed[i], 9, &n) == TSC_SEATS && n == 77 && place.at == NULL);
@@ -143,7 +152,7 @@ static void refusals(void)
     CHECK(add(&place, n, "a", 1, &at) == TSC_CLOSED && add(&place, own, "a", 1, &at) == TSC_CLOSED && add(&place, 66, "a", 1, &at) == TSC_CLOSED);
     CHECK(tsc_get_max(&place, 1, (const uint8_t *)"a", 1, (const uint8_t *)"", 0, TSC_POINT, &v) == TSC_CLOSED && v.wall == 7);
     CHECK(tsc_seat_figures_of(&place, n, &seen, &f) == TSC_CLOSED && tsc_seat_figures_of(&place, own, &seen, &f) == TSC_CLOSED && seen == 77);
-    CHECK(tsc_figures_of(&place, n, &f) == TSC_CLOSED && tsc_figures_of(&place, 1, &f) == TSC_CLOSED && f.pages == 7);
+    CHECK(tsc_figures_of(&place, n, &f) == TSC_CLOSED && tsc_figures_of(&place, 1, &f) == TSC_CLOSED && f.pages == 7 && f.nodes == 7 && f.bytes == 7);
     CHECK(tsc_close(&place, n) == TSC_CLOSED && tsc_close(&place, 1) == TSC_CLOSED && tsc_seat_close(&place, n) == TSC_CLOSED && tsc_seat_close(&place, own) == TSC_CLOSED);
     CHECK(tsc_close_shared(&place, 1, &adds) == TSC_CLOSED && tsc_close_shared(&place, own, &adds) == TSC_CLOSED && adds == 77);
 

@@ -152,6 +152,13 @@ static bool has(struct cache *c, uint64_t pages, uint64_t rotations, uint64_t wa
         && tsc_low_water(&c->place, c->number, &floor) == TSC_OK && floor.wall == wall && floor.logical == logical;
 }
 
+/* How many keys the pages hold, each counted once for each page, and what they cost. */
+static bool counts(struct cache *c, uint64_t nodes, uint64_t bytes)
+{
+    tsc_figures f = {99, 99, 99, 99};
+    return tsc_figures_of(&c->place, c->number, &f) == TSC_OK && f.nodes == nodes && f.bytes == bytes;
+}
+
 static const tsc_time AT_20 = {20, 0}, AT_40 = {40, 0}, AT_80 = {80, 0};
 
 /* What a lookup answers after a few reads. */
@@ -260,7 +267,21 @@ static void rows_of_pages(void)
     tsc_free(&c.place);
 
     c = open_cache(66, 264, 2); /* pages grow, each twice as large as the one before, up to the largest */
-    CHECK(adds_keys(&c, "abcdefghijklmno", 20, AT_20) && has(&c, 4, 3, 5, 0));
+    CHECK(adds_keys(&c, "abcdefghijklmno", 20, AT_20) && has(&c, 4, 3, 5, 0) && counts(&c, 15, 495));
+    tsc_free(&c.place);
+}
+
+/* How many keys all pages hold, and what they cost. Four keys of one byte fill 132 bytes. */
+static void rows_of_figures(void)
+{
+    struct cache c = open_cache(132, 132, 2);
+    CHECK(counts(&c, 0, 0));
+    CHECK(adds(&c, "[b,d)", 20, 'A') && counts(&c, 2, 66) && adds(&c, "b", 21, 'A') && counts(&c, 2, 66)); /* a key of a page counts once */
+    CHECK(adds(&c, "(d..", 20, 'A') && counts(&c, 2, 66));
+    CHECK(adds_at(&c, "z", 5, 'A', AT_20, false, false, 0) && counts(&c, 2, 66)); /* what isn't kept */
+    CHECK(adds(&c, "ccc", 20, 'A') && counts(&c, 3, 101));
+    CHECK(adds_at(&c, "[a,d)", 20, 'A', AT_20, true, true, 0) && counts(&c, 5, 167) && has(&c, 2, 1, 5, 0)); /* the key of two pages counts twice */
+    CHECK(adds_keys(&c, "ef", 41, AT_40) && adds_at(&c, "g", 41, 'A', AT_40, true, true, 1) && counts(&c, 5, 165) && has(&c, 2, 2, 21, 0)); /* a page is dropped */
     tsc_free(&c.place);
 }
 
@@ -440,7 +461,7 @@ static void nulls(void)
     tsc_added a = {99, true, true};
     tsc_mark mark = {0, 1, 0, 0, {20, 0, {0}}, TSC_POINT};
     tsc_time floor = {7, 8};
-    tsc_figures f = {7, 8};
+    tsc_figures f = {7, 8, 9, 10};
     CHECK(tsc_try_add(NULL, n, "b", 1, NULL, 0, TSC_POINT, &v, &AT_20, &a) == TSC_NULL && tsc_try_add(p, n, NULL, 1, NULL, 0, TSC_POINT, &v, &AT_20, &a) == TSC_NULL);
     CHECK(tsc_try_add(p, n, "b", 1, NULL, 1, 0, &v, &AT_20, &a) == TSC_NULL && tsc_try_add(p, n, "b", 1, NULL, 0, TSC_POINT, NULL, &AT_20, &a) == TSC_NULL);
     CHECK(tsc_try_add(p, n, "b", 1, NULL, 0, TSC_POINT, &v, NULL, &a) == TSC_NULL && tsc_try_add(p, n, "b", 1, NULL, 0, TSC_POINT, &v, &AT_20, NULL) == TSC_NULL);
@@ -451,9 +472,9 @@ static void nulls(void)
     CHECK(tsc_try_get_max(p, n, "b", 1, NULL, 1, 0, &out) == TSC_NULL && tsc_try_get_max(p, n, "b", 1, NULL, 0, TSC_POINT, NULL) == TSC_NULL);
     CHECK(tsc_try_low_water(NULL, n, &floor) == TSC_NULL && tsc_try_low_water(p, n, NULL) == TSC_NULL);
     CHECK(tsc_try_figures_of(NULL, n, &f) == TSC_NULL && tsc_try_figures_of(p, n, NULL) == TSC_NULL);
-    CHECK(a.evicted == 99 && a.kept && a.rotated && out.wall == 1 && out.logical == 2 && out.owner[0] == 3 && floor.wall == 7 && f.pages == 7);
-    CHECK(answers(&c, "b", 5, 0, '-') && has(&c, 1, 0, 5, 0));
-    CHECK(tsc_try_low_water(p, n, &floor) == TSC_OK && floor.wall == 5 && floor.logical == 0 && tsc_try_figures_of(p, n, &f) == TSC_OK && f.pages == 1 && f.rotations == 0);
+    CHECK(a.evicted == 99 && a.kept && a.rotated && out.wall == 1 && out.logical == 2 && out.owner[0] == 3 && floor.wall == 7 && f.pages == 7 && f.rotations == 8 && f.nodes == 9 && f.bytes == 10);
+    CHECK(answers(&c, "b", 5, 0, '-') && has(&c, 1, 0, 5, 0) && counts(&c, 0, 0));
+    CHECK(tsc_try_low_water(p, n, &floor) == TSC_OK && floor.wall == 5 && floor.logical == 0 && tsc_try_figures_of(p, n, &f) == TSC_OK && f.pages == 1 && f.rotations == 0 && f.nodes == 0 && f.bytes == 0);
     tsc_free(p);
 }
 
@@ -555,7 +576,7 @@ static bool one_run(void)
         tsc_figures before, after;
         right = right && tsc_figures_of(&c.place, c.number, &before) == TSC_OK;
         if (tried(add_at(&c, span, wall, 0, 'A', AT_20, &a)) == TSC_NO_MEMORY) {
-            right = right && tsc_figures_of(&c.place, c.number, &after) == TSC_OK && after.pages == before.pages && after.rotations == before.rotations;
+            right = right && tsc_figures_of(&c.place, c.number, &after) == TSC_OK && after.pages == before.pages && after.rotations == before.rotations && after.nodes == before.nodes && after.bytes == before.bytes;
             right = right && answers(&c, "y", *key == 'a' ? 5 : wall - 1, 0, *key == 'a' ? '-' : 'A');
             right = right && add_at(&c, span, wall, 0, 'A', AT_20, &a) == TSC_OK;
         }
@@ -712,6 +733,7 @@ int main(int argc, char **argv)
         return measure();
     rows_of_spans();
     rows_of_pages();
+    rows_of_figures();
     batches();
     limits();
     large_page();

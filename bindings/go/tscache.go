@@ -82,9 +82,14 @@ type Added struct {
 	Evicted       uint64
 }
 
-// Figures is how many pages there are, and how often they rotated.
+// Figures is how many pages there are, how often they rotated, how many end keys they hold, each counted once for each page that
+// holds it, and what these cost: for each as many bytes as it has, and 32 more. Each count stays at 2^64 - 1 once it is there.
 type Figures struct {
-	Pages, Rotations uint64
+	Pages, Rotations, Nodes, Bytes uint64
+}
+
+func figuresOf(words C.tsc_figures) Figures {
+	return Figures{uint64(words.pages), uint64(words.rotations), uint64(words.nodes), uint64(words.bytes)}
 }
 
 // Refused is why a call was refused, by its code in tscache.h. A call that is refused adds nothing.
@@ -218,7 +223,7 @@ func (c *Cache) Figures() (Figures, error) {
 	var out C.tsc_figures
 	code := C.tsc_figures_of(c.place, c.number, &out)
 	runtime.KeepAlive(c)
-	return Figures{uint64(out.pages), uint64(out.rotations)}, done(code)
+	return figuresOf(out), done(code)
 }
 
 // Shared is a timestamp cache that goroutines share, for who opened it. They use it by its seats.
@@ -378,7 +383,7 @@ func (s *Seat) Figures() (Figures, uint64, error) {
 	var out C.tsc_figures
 	code := C.tsc_seat_figures_of(s.place, s.number, &seen, &out)
 	runtime.KeepAlive(s)
-	return Figures{uint64(out.pages), uint64(out.rotations)}, uint64(seen), done(code)
+	return figuresOf(out), uint64(seen), done(code)
 }
 
 func newPlace() *C.tsc_place {

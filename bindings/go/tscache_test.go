@@ -52,7 +52,7 @@ func TestPagesRotate(t *testing.T) {
 	if a, err := c.Add(Point([]byte("e")), at(20, one), Time{20, 0}); err != nil || a != (Added{Kept: true, Rotated: true}) {
 		t.Errorf("got %v, %v", a, err)
 	}
-	if f, err := c.Figures(); err != nil || f != (Figures{2, 1}) {
+	if f, err := c.Figures(); err != nil || f != (Figures{2, 1, 5, 165}) {
 		t.Errorf("got %v, %v", f, err)
 	}
 	if low, err := c.LowWater(); err != nil || low != (Time{5, 0}) {
@@ -141,7 +141,7 @@ func TestSeats(t *testing.T) {
 			if _, seen, err := seat.LowWater(); err != nil || seen < n {
 				t.Errorf("got %v, %v", seen, err)
 			}
-			if f, seen, err := seat.Figures(); err != nil || f != (Figures{1, 0}) || seen < n {
+			if f, seen, err := seat.Figures(); err != nil || f != (Figures{1, 0, 1, 33}) || seen < n {
 				t.Errorf("got %v, %v, %v", f, seen, err)
 			}
 			seat.Close()

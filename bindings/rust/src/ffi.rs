@@ -46,6 +46,13 @@ pub struct Mark {
 pub struct Figures {
     pub pages: u64,
     pub rotations: u64,
+    pub nodes: u64,
+    pub bytes: u64,
+}
+
+impl Figures {
+    /// What a call writes over.
+    pub const NONE: Figures = Figures { pages: 0, rotations: 0, nodes: 0, bytes: 0 };
 }
 
 extern "C" {

@@ -136,13 +136,23 @@ pub struct Added {
     pub evicted: u64,
 }
 
-/// What can be counted of a cache.
+/// What can be counted of a cache. Each count stays at 2^64 - 1 once it is there.
 #[derive(Clone, Copy, Debug, PartialEq, Eq)]
 pub struct Figures {
     /// How many pages there are.
     pub pages: u64,
     /// How often they rotated.
     pub rotations: u64,
+    /// How many end keys the pages hold, each counted once for each page that holds it.
+    pub nodes: u64,
+    /// What these cost: for each as many bytes as it has, and 32 more.
+    pub bytes: u64,
+}
+
+impl Figures {
+    fn told(words: ffi::Figures) -> Figures {
+        Figures { pages: words.pages, rotations: words.rotations, nodes: words.nodes, bytes: words.bytes }
+    }
 }
 
 /// Why a call was refused. A call that is refused adds nothing.
@@ -351,10 +361,10 @@ impl Cache {
 
     /// What can be counted.
     pub fn figures(&mut self) -> Figures {
-        let mut figures = ffi::Figures { pages: 0, rotations: 0 };
+        let mut figures = ffi::Figures::NONE;
         // it is refused only where the number names no cache
         answered(unsafe { ffi::tsc_figures_of(&mut self.place, self.number, &mut figures) });
-        Figures { pages: figures.pages, rotations: figures.rotations }
+        Figures::told(figures)
     }
 }
 
@@ -495,10 +505,10 @@ impl Seat {
 
     /// What can be counted, and how many Adds the seat has seen then.
     pub fn figures(&mut self) -> (Figures, u64) {
-        let (mut seen, mut figures) = (0, ffi::Figures { pages: 0, rotations: 0 });
+        let (mut seen, mut figures) = (0, ffi::Figures::NONE);
         // it is refused only where the number names no seat
         answered(unsafe { ffi::tsc_seat_figures_of(&mut self.place, self.number, &mut seen, &mut figures) });
-        (Figures { pages: figures.pages, rotations: figures.rotations }, seen)
+        (Figures::told(figures), seen)
     }
 }
 
@@ -544,11 +554,12 @@ mod tests {
             assert!(cache.add(&Span::Point(key), at(20, ONE), Time::new(20, 0)).unwrap().kept);
         }
         assert_eq!(cache.add(&Span::Point(b"e"), at(20, ONE), Time::new(20, 0)), Ok(Added { kept: true, rotated: true, evicted: 0 }));
-        assert_eq!(cache.figures(), Figures { pages: 2, rotations: 1 });
+        assert_eq!(cache.figures(), Figures { pages: 2, rotations: 1, nodes: 5, bytes: 165 });
         for key in [b"f", b"g", b"h"] {
             cache.add(&Span::Point(key), at(41, ONE), Time::new(40, 0)).unwrap();
         }
         assert_eq!(cache.add(&Span::Point(b"i"), at(41, ONE), Time::new(40, 0)), Ok(Added { kept: true, rotated: true, evicted: 1 }));
+        assert_eq!(cache.figures(), Figures { pages: 2, rotations: 2, nodes: 5, bytes: 165 });
         assert_eq!(cache.low_water(), Time::new(20, 0));
         assert_eq!(cache.get_max(&Span::Point(b"a")), at(20, None));
     }
@@ -565,7 +576,7 @@ mod tests {
         assert_eq!(cache.add(&Span::Point(b"a"), at(20, ONE), Time::new(0, 1 << 31)), Err(Error::Time));
         assert_eq!(Cache::open(&Config { min_pages: 0, ..Config::default() }).err(), Some(Error::MinPages));
         assert_eq!(Cache::open(&Config { retention: 1 << 63, ..Config::default() }).err(), Some(Error::Retention));
-        assert_eq!(cache.figures(), Figures { pages: 1, rotations: 0 });
+        assert_eq!(cache.figures(), Figures { pages: 1, rotations: 0, nodes: 0, bytes: 0 });
     }
 
     #[test]
@@ -623,7 +634,7 @@ mod tests {
         let marks = [Mark { span: Span::Point(b"a"), value: at(20, ONE) }, Mark { span: Span::Point(b"b"), value: at(21, TWO) }];
         assert_eq!(seats[0].add_all(&marks, now, 1), Ok((0, Added { kept: true, rotated: false, evicted: 0 })));
         assert_eq!(seats[1].get_max(&Span::until(b"a", &[b'z'; 5000])), (at(21, TWO), 1));
-        assert_eq!(seats[1].figures(), (Figures { pages: 1, rotations: 0 }, 1));
+        assert_eq!(seats[1].figures(), (Figures { pages: 1, rotations: 0, nodes: 2, bytes: 66 }, 1));
         assert_eq!(seats[1].add(&Span::Point(b"a"), at(20, ONE), now, 1), Err(Error::Full));
         drop(seats);
         assert_eq!(shared.close().unwrap(), 1);

@@ -10,6 +10,8 @@ mod between;
 #[cfg(test)]
 mod cache;
 #[cfg(test)]
+mod figures;
+#[cfg(test)]
 mod growths;
 #[cfg(test)]
 mod keys;

@@ -9,7 +9,7 @@ use std::marker::{Brand, PhantomData};
 use std::process::Abort;
 use std::sync::Wait;
 use std::test::Fail;
-use tsc_cache::{Config, ConfigFault};
+use tsc_cache::{Config, ConfigFault, Figures};
 use tsc_shared::{
     AddFault, Closed, Front, Gate, NoGate, OpenFault, Receipt, Seat, SharedCache, TryAddFault,
 };
@@ -62,6 +62,9 @@ pub struct Mark {
     pub now: Timestamp,
 }
 
+/// The pages, the rotations, the nodes, the bytes, and the wall time of the floor.
+pub type Counts = (u64, u64, u64, u64, u64);
+
 /// What a seat is told.
 #[derive(Clone, Copy, Debug, PartialEq, Eq)]
 pub enum Told {
@@ -72,8 +75,8 @@ pub enum Told {
     Full(u64),
     /// The wall time and the logical count, its owner, and the length of the front.
     Value((u64, u32), Owner, u64),
-    /// How many pages there are, how often they rotated, and the length of the front.
-    Pages(u64, u64, u64),
+    /// What is counted of the cache, and the length of the front.
+    Counted(Counts, u64),
     /// A length.
     Long(u64),
     TooLarge,
@@ -130,6 +133,13 @@ fn owner_of(value: Value) -> Owner {
     } else {
         Owner::Other
     }
+}
+
+/// What is told of these figures.
+pub fn counted_of(figures: Figures, front: u64) -> Told {
+    let (pages, rotations) = (figures.pages, figures.rotations);
+    let counts = (pages, rotations, figures.nodes, figures.bytes, figures.floor.wall());
+    Told::Counted(counts, front)
 }
 
 /// What a lookup tells that is answered so.
@@ -302,10 +312,10 @@ impl<C: Of> Home<C> {
         }
     }
 
-    /// How many pages there are, and how often they rotated.
-    pub fn pages(&self, guest: &mut Guest<C>) -> Told {
+    /// What is counted of the cache.
+    pub fn figures(&self, guest: &mut Guest<C>) -> Told {
         match self.cache.figures(&mut guest.seat) {
-            Ok(figures) => Told::Pages(figures.pages, figures.rotations, figures.front),
+            Ok(answer) => counted_of(answer.figures, answer.front),
             Err(_gone) => Told::Gone,
         }
     }

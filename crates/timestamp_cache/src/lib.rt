@@ -8,6 +8,9 @@
 //! Where the lease goes on to somebody else, [`summary`] tells what was read of a span, in as many marks as are to be sent, and [`apply`] adds it to the
 //! cache of the new holder.
 //!
+//! For who runs it, [`Cache::figures`] tells how many pages there are, how often they rotated, how many end keys they hold and what these
+//! cost, and where the floor stands, as [`Figures`]; [`SharedCache::figures`] tells the same of what a seat was shown, as [`SeatFigures`].
+//!
 //! The rule is that of CockroachDB's `applyTimestampCache` (`pkg/kv/kvserver/replica_tscache.go`): a write goes above each read of its
 //! keys, save those of its own transaction. A write that is clear of what a lookup answers is clear of each read that was added.
 #![tactic(auto)]
@@ -23,10 +26,10 @@ mod writes;
 pub use clear::{earliest_clear_of, is_clear_of};
 pub use hand_over::{ReadSummary, apply, summary};
 pub use next::next_time;
-pub use tsc_cache::{Added, Cache, CacheFault, Config, ConfigFault, Mark};
+pub use tsc_cache::{Added, Cache, CacheFault, Config, ConfigFault, Figures, Mark};
 pub use tsc_shared::{
-    AddFault, Answer, Closed, Front, Gone, LowWater, OpenFault, Receipt, Seat, SharedCache,
-    StillOut, TryAddFault,
+    AddFault, Answer, Closed, Front, Gone, LowWater, OpenFault, Receipt, Seat, SeatFigures,
+    SharedCache, StillOut, TryAddFault,
 };
 pub use tsc_span::{Ends, Key, Span, SpanFault, SpanRef};
 pub use tsc_time::{NoMemory, Timestamp, Value, ratchet};

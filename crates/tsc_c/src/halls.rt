@@ -2,7 +2,7 @@
 
 ghost use Rattle.std.specs.Prelude.{◌≡◌, ◌≢◌, ◌⊎◌, IfOk, IfErr, OnErr, Ok as Made, None};
 ghost use Rattle.tsc_cache.specs.Settings.{Settings, settings_of};
-ghost use Rattle.tsc_c_table.specs.Asked.{time_of, value_of};
+ghost use Rattle.tsc_c_table.specs.Asked.{time_of, value_of, figures_told};
 ghost use Rattle.tsc_c_table.specs.Table.{entries_of, seat_at, shared_at, Keeps};
 ghost use Rattle.tsc_c_table.specs.SeatCalls.{OpensShared, RefusesSeats, RefusesRoom, IsNoSeat, SeatLooks, RefusesSeatLookup, SeatStandsAt, SeatCounts, SeatAddsTo, SeatAddsAllTo, Spares, RefusesSeatAdd, RefusesSeatAddAll, Moves, RefusesMove, ClosesShared, RefusesCloseShared};
 ghost use Rattle.tsc_c.specs.Timed.{RefusesOpenShared, RefusesTimedSeatAdd, RefusesTimedSeatAddAll};
@@ -14,7 +14,7 @@ use std::mem::replace;
 use tsc_c_table::asked::{time, value as value_asked};
 use tsc_c_table::{Placed, Refusal, Table, TscMark, TscTime, TscValue, may_seat};
 use tsc_cache::Config;
-use tsc_shared::{Answer, Figures, LowWater};
+use tsc_shared::{Answer, LowWater, SeatFigures};
 use tsc_time::{Timestamp, Value};
 
 /// Opens a shared cache.
@@ -102,8 +102,8 @@ pub fn seat_low_water(alloc: Global, place: &mut Place, number: u64) -> Result<L
 }
 
 /// What can be counted of the cache of the seat at a number.
-pub fn seat_figures(alloc: Global, place: &mut Place, number: u64) -> Result<Figures, Refusal>
-    ensures figures { IfOk result (λ answer. SeatCounts (seat_at (entries_of place.old.table) number) (seat_at (entries_of place.new.table) number) answer.front (record { pages = answer.pages; rotations = answer.rotations })) }
+pub fn seat_figures(alloc: Global, place: &mut Place, number: u64) -> Result<SeatFigures, Refusal>
+    ensures figures { IfOk result (λ answer. SeatCounts (seat_at (entries_of place.old.table) number) (seat_at (entries_of place.new.table) number) answer.front (figures_told answer.figures)) }
     ensures others { Keeps (entries_of place.old.table) (entries_of place.new.table) number }
     ensures unchanged { OnErr result (entries_of place.new.table ≡ entries_of place.old.table) }
     ensures refused { IfErr result (λ why. IsNoSeat why (seat_at (entries_of place.old.table) number)) }

@@ -161,7 +161,7 @@ pub extern "C" fn tsc_low_water(
     }
 }
 
-/// How many pages there are, and how often they rotated.
+/// What can be counted of a cache.
 #[unsafe(no_mangle)]
 pub extern "C" fn tsc_figures_of(
     alloc: Global,

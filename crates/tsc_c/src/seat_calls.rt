@@ -164,7 +164,7 @@ pub extern "C" fn tsc_seat_low_water(
     }
 }
 
-/// How many pages there are and how often they rotated, at a seat, and how many Adds the seat has seen then.
+/// What can be counted of the cache at a seat, and how many Adds the seat has seen then.
 #[unsafe(no_mangle)]
 pub extern "C" fn tsc_seat_figures_of(
     alloc: Global,
@@ -181,10 +181,7 @@ pub extern "C" fn tsc_seat_figures_of(
     match halls::seat_figures(alloc, place, number) {
         Ok(answer) => {
             *seen = answer.front;
-            *out = TscFigures {
-                pages: answer.pages,
-                rotations: answer.rotations,
-            };
+            *out = asked::words_of_figures(answer.figures);
             OK
         }
         Err(why) => why.code(),

@@ -79,14 +79,20 @@ fn low_water(alloc: Global, place: &mut Place, number: u64) -> (u32, u64, u32) {
     (code, floor.wall, floor.logical)
 }
 
-/// The code, the pages and the rotations.
-fn figures(alloc: Global, place: &mut Place, number: u64) -> (u32, u64, u64) {
-    let mut figures = TscFigures {
+fn nothing_counted() -> TscFigures {
+    TscFigures {
         pages: 9,
         rotations: 9,
-    };
-    let code = tsc_figures_of(alloc, place, number, &mut figures);
-    (code, figures.pages, figures.rotations)
+        nodes: 9,
+        bytes: 9,
+    }
+}
+
+/// The code, the pages, the rotations, the nodes and the bytes.
+fn figures(alloc: Global, place: &mut Place, number: u64) -> (u32, u64, u64, u64, u64) {
+    let mut told = nothing_counted();
+    let code = tsc_figures_of(alloc, place, number, &mut told);
+    (code, told.pages, told.rotations, told.nodes, told.bytes)
 }
 
 #[test]
@@ -102,7 +108,9 @@ fn each_call_answers(rt: HostRuntime) {
     assert_eq!(rt; get_max(alloc, &mut place, 1, b"d"), (0, 20, 1, 0x11));
     assert_eq!(rt; get_max(alloc, &mut place, 0, b"d"), (0, 5, 0, 0));
     assert_eq!(rt; low_water(alloc, &mut place, 1), (0, 5, 0));
-    assert_eq!(rt; figures(alloc, &mut place, 1), (0, 1, 0));
+    assert_eq!(rt; figures(alloc, &mut place, 0), (0, 1, 0, 0, 0));
+    assert_eq!(rt; figures(alloc, &mut place, 1), (0, 1, 0, 3, 99));
+    assert_eq!(rt; figures(alloc, &mut place, 2), (1, 9, 9, 9, 9));
     assert_eq!(rt; tsc_close(alloc, &mut place, 1), 0);
     assert_eq!(rt; tsc_close(alloc, &mut place, 1), 1);
     tsc_free(alloc, &mut place);
@@ -161,15 +169,16 @@ fn seat_low_water(alloc: Global, place: &mut Place, seat: u64) -> (u32, u64, u64
     (code, floor.wall, seen)
 }
 
-/// The code, the pages, the rotations, and how many Adds the seat has seen then.
-fn seat_figures(alloc: Global, place: &mut Place, seat: u64) -> (u32, u64, u64, u64) {
+/// The code, the pages, the rotations, the nodes and the bytes, and how many Adds the seat has seen then.
+fn seat_figures(
+    alloc: Global,
+    place: &mut Place,
+    seat: u64,
+) -> (u32, u64, u64, u64, u64, u64) {
     let mut seen = 9;
-    let mut figures = TscFigures {
-        pages: 9,
-        rotations: 9,
-    };
-    let code = tsc_seat_figures_of(alloc, place, seat, &mut seen, &mut figures);
-    (code, figures.pages, figures.rotations, seen)
+    let mut told = nothing_counted();
+    let code = tsc_seat_figures_of(alloc, place, seat, &mut seen, &mut told);
+    (code, told.pages, told.rotations, told.nodes, told.bytes, seen)
 }
 
 /// The code, and how many Adds there were.
@@ -202,8 +211,8 @@ fn each_call_of_a_shared_cache_answers(rt: HostRuntime) {
     assert_eq!(rt; seat_add(alloc, &mut place, 1, 1), (15, 9, false));
     assert_eq!(rt; seat_get_max(alloc, &mut place, 1, b"d"), (0, 20, 2));
     assert_eq!(rt; seat_low_water(alloc, &mut place, 1), (0, 5, 2));
-    assert_eq!(rt; seat_figures(alloc, &mut place, 1), (0, 1, 0, 2));
-    assert_eq!(rt; seat_figures(alloc, &mut place, 0), (1, 9, 9, 9));
+    assert_eq!(rt; seat_figures(alloc, &mut place, 1), (0, 1, 0, 3, 99, 2));
+    assert_eq!(rt; seat_figures(alloc, &mut place, 0), (1, 9, 9, 9, 9, 9));
     assert_eq!(rt; tsc_seat_close(alloc, &mut place, 1), 0);
     assert_eq!(rt; tsc_seat_close(alloc, &mut place, 1), 1);
     assert_eq!(rt; close_shared(alloc, &mut place, 0), (13, 9));

@@ -17,7 +17,7 @@ use std::alloc::Global;
 use std::marker::Model;
 use std::sync::Arc;
 use tsc_cache::Mark;
-use tsc_shared::{Answer, Figures, LowWater, Receipt, Seat, TryAddFault};
+use tsc_shared::{Answer, LowWater, Receipt, Seat, SeatFigures, TryAddFault};
 use tsc_span::{Span, SpanRef};
 use tsc_time::{NoMemory, Timestamp, Value};
 
@@ -79,8 +79,8 @@ impl Chair {
         }
     }
 
-    /// How many pages there are and how often they rotated, as [`SharedCache::figures`](tsc_shared::SharedCache::figures) answers.
-    pub fn figures(&mut self) -> Figures
+    /// What can be counted of the cache, as [`SharedCache::figures`](tsc_shared::SharedCache::figures) answers.
+    pub fn figures(&mut self) -> SeatFigures
         ensures { ReadsFigures self.old self.new result }
     {
         match self.hall.cache.figures(&mut self.seat) {

@@ -5,9 +5,11 @@ use Rattle.tsc_time.specs.OwnedTime.{OwnedTime, owner_of}
 use Rattle.tsc_span.specs.declared.span.Ends.{Ends}
 use Rattle.tsc_span.specs.Span.{KeyBytes, Interval, longest_key, point, range, range_for_lookup, onward}
 use Rattle.tsc_cache.specs.declared.added.Added.{Added}
+use Rattle.tsc_cache.specs.declared.figures.Figures.{Figures}
 use Rattle.tsc_c_table.specs.declared.words.TscTime.{TscTime}
 use Rattle.tsc_c_table.specs.declared.words.TscValue.{TscValue}
 use Rattle.tsc_c_table.specs.declared.words.TscAdded.{TscAdded}
+use Rattle.tsc_c_table.specs.declared.words.TscFigures.{TscFigures}
 use Rattle.tsc_c_table.specs.declared.asked.Form.{Form}
 use Rattle.tsc_c_table.specs.declared.asked.Form.TheVariants.{Point, Range, Onward}
 use Rattle.tsc_c_table.specs.declared.refusal.Refusal.{Refusal}
@@ -24,6 +26,10 @@ value_of words = record { time = record { wall = words.wall; logical = words.log
 -- what an Add did, by the words that tell it
 abbrev pub added_of : TscAdded → Added
 added_of words = record { kept = words.kept; rotated = words.rotated; evicted = words.evicted }
+
+-- the words that tell figures: all but the floor
+abbrev pub figures_told : Figures → TscFigures
+figures_told figures = record { pages = figures.pages; rotations = figures.rotations; nodes = figures.nodes; bytes = figures.bytes }
 
 -- a range, and which of its ends are excluded
 abbrev pub ranged : Bool → Bool → Form

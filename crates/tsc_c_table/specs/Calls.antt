@@ -1,5 +1,5 @@
 -- What a call makes of the cache that it names, and why it is refused.
-use Rattle.std.specs.Prelude.{◌≡◌, ◌⊎◌, ℕ, List, length, false, Option, Some, None}
+use Rattle.std.specs.Prelude.{◌≡◌, ◌⊎◌, ℕ, List, false, Option, Some, None}
 use Rattle.tsc_time.specs.Time.{Time}
 use Rattle.tsc_time.specs.OwnedTime.{OwnedTime}
 use Rattle.tsc_span.specs.Span.{KeyBytes, Interval}
@@ -8,12 +8,13 @@ use Rattle.tsc_cache.specs.declared.added.Added.{Added}
 use Rattle.tsc_cache.specs.Settings.{Settings, fits}
 use Rattle.tsc_cache.specs.State.{CacheState, opening, step, step_all, look}
 use Rattle.tsc_cache.specs.CacheView.{CacheView, StandsForState, Adds, cache_answer}
+use Rattle.tsc_cache.specs.Counts.{figures_of, figures_seen}
 use Rattle.tsc_cache.specs.Batch.{AddsAll, all_fit}
 use Rattle.tsc_c_table.specs.declared.words.TscMark.{TscMark}
 use Rattle.tsc_c_table.specs.declared.words.TscFigures.{TscFigures}
 use Rattle.tsc_c_table.specs.declared.refusal.Refusal.{Refusal}
 use Rattle.tsc_c_table.specs.declared.refusal.Refusal.TheVariants as refusal
-use Rattle.tsc_c_table.specs.Asked.{add_span, lookup_span, RefusesEnds, RefusesAddSpan}
+use Rattle.tsc_c_table.specs.Asked.{add_span, lookup_span, figures_told, RefusesEnds, RefusesAddSpan}
 use Rattle.tsc_c_table.specs.Marks.{AreMarks, RefusesMarks}
 
 -- Where there was none, a cache without Adds is held.
@@ -43,13 +44,12 @@ pub record StandsAt (held : Option CacheView) (floor : Time) : Type 0 where
   pub value : floor ≡ cache.floor
   pub stands : (settings : Settings) (s : CacheState) → StandsForState cache settings s → floor ≡ s.floor
 
--- How many pages a cache that is held has, and how often they rotated.
+-- The figures of a cache that is held.
 pub record Counts (held : Option CacheView) (figures : TscFigures) : Type 0 where
   pub cache : CacheView
   pub holds : held ≡ Some cache
-  pub pages : figures.pages ≡ length cache.pages
-  pub rotations : figures.rotations ≡ cache.rotations
-  pub stands : (settings : Settings) (s : CacheState) → StandsForState cache settings s → (figures.pages ≡ length s.pages) × (figures.rotations ≡ s.rotations)
+  pub value : figures ≡ figures_told (figures_seen cache)
+  pub stands : (settings : Settings) (s : CacheState) → StandsForState cache settings s → figures ≡ figures_told (figures_of s)
 
 -- What an Add of the span that two keys and their ends name makes of a cache.
 pub record AddsIn (cache after : CacheView) (from to : KeyBytes) (ends : ℕ) (v : OwnedTime) (now : Time) (added : Added) : Type 0 where

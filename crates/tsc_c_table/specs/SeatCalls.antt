@@ -5,6 +5,7 @@ use Rattle.tsc_time.specs.OwnedTime.{OwnedTime}
 use Rattle.tsc_span.specs.Span.{KeyBytes, Interval}
 use Rattle.tsc_page_base.specs.Page.{Mark}
 use Rattle.tsc_cache.specs.declared.added.Added.{Added}
+use Rattle.tsc_cache.specs.declared.figures.Figures.{Figures}
 use Rattle.tsc_cache.specs.Settings.{Settings, fits}
 use Rattle.tsc_cache.specs.Batch.{all_fit}
 use Rattle.tsc_shared.specs.declared.answers.Receipt.{Receipt}
@@ -20,7 +21,7 @@ use Rattle.tsc_c_table.specs.declared.words.TscMark.{TscMark}
 use Rattle.tsc_c_table.specs.declared.words.TscFigures.{TscFigures}
 use Rattle.tsc_c_table.specs.declared.refusal.Refusal.{Refusal}
 use Rattle.tsc_c_table.specs.declared.refusal.Refusal.TheVariants as refusal
-use Rattle.tsc_c_table.specs.Asked.{add_span, lookup_span, RefusesEnds, RefusesAddSpan}
+use Rattle.tsc_c_table.specs.Asked.{add_span, lookup_span, figures_told, RefusesEnds, RefusesAddSpan}
 use Rattle.tsc_c_table.specs.Marks.{AreMarks, RefusesMarks}
 use Rattle.tsc_c_table.specs.Table.{cache_at, shared_at, seat_at}
 
@@ -73,13 +74,15 @@ pub record SeatStandsAt (held after : Option SeatView) (seen : ℕ) (floor : Tim
   pub leaves : after ≡ Some next
   pub reads : ReadsFloor seat next (record { time = floor; front = seen })
 
--- How many pages the cache of a seat that is held has and how often they rotated, after all that the seat has seen then.
+-- The figures of the cache of a seat that is held, after all that the seat has seen then, as words tell them.
 pub record SeatCounts (held after : Option SeatView) (seen : ℕ) (figures : TscFigures) : Type 0 where
   pub seat : SeatView
   pub next : SeatView
   pub holds : held ≡ Some seat
   pub leaves : after ≡ Some next
-  pub reads : ReadsFigures seat next (record { pages = figures.pages; rotations = figures.rotations; front = seen })
+  pub counted : Figures
+  pub told : figures ≡ figures_told counted
+  pub reads : ReadsFigures seat next (record { figures = counted; front = seen })
 
 -- An Add of some marks at a seat, which has this place in the history of its cache, and did this.
 pub record SeatAccepts (old new : SeatView) (marks : List Mark) (now : Time) (place : ℕ) (added : Added) : Type 0 where

@@ -2,11 +2,12 @@
 
 ghost use Rattle.std.specs.Prelude.{◌≡◌, IfOk, IfErr, Some};
 ghost use Rattle.tsc_span.specs.Span.{range};
-ghost use Rattle.tsc_c_table.specs.Asked.{time_of, value_of, form_of, add_span, lookup_span, RefusesTime, RefusesEnds, RefusesKey, RefusesRange, RefusesAddSpan};
+ghost use Rattle.tsc_c_table.specs.Asked.{time_of, value_of, figures_told, form_of, add_span, lookup_span, RefusesTime, RefusesEnds, RefusesKey, RefusesRange, RefusesAddSpan};
 
 use crate::refusal::Refusal;
-use crate::words::{TscTime, TscValue};
+use crate::words::{TscFigures, TscTime, TscValue};
 use std::alloc::Global;
+use tsc_cache::Figures;
 use tsc_span::{Ends, Key, Span, SpanFault, SpanRef};
 use tsc_time::{Timestamp, Value};
 use uuid::Uuid;
@@ -68,6 +69,18 @@ pub fn words_of(value: Value) -> TscValue
         wall: value.time().wall(),
         logical: value.time().logical(),
         owner: owner_of(value),
+    }
+}
+
+/// The words of figures, which leave the floor out.
+pub fn words_of_figures(figures: Figures) -> TscFigures
+    ensures { result ≡ figures_told figures }
+{
+    TscFigures {
+        pages: figures.pages,
+        rotations: figures.rotations,
+        nodes: figures.nodes,
+        bytes: figures.bytes,
     }
 }
 

@@ -5,7 +5,7 @@ ghost use Rattle.std.specs.Vec.{vec_len, vec_capacity};
 ghost use Rattle.tsc_cache.specs.declared.added.Added.{Added as Did};
 ghost use Rattle.tsc_shared.specs.Seats.{SharedView, SeatView, new_seats, is_seat_count};
 ghost use Rattle.tsc_shared.specs.Answers.{Opens, Refuses, GoesOn};
-ghost use Rattle.tsc_c_table.specs.Asked.{RefusesEnds};
+ghost use Rattle.tsc_c_table.specs.Asked.{figures_told, RefusesEnds};
 ghost use Rattle.tsc_c_table.specs.Table.{cache_at, seat_of, seat_at, shared_of, shared_at, Keeps};
 ghost use Rattle.tsc_c_table.specs.SeatCalls.{OpensShared, RefusesSeats, RefusesRoom, IsNoSeat, SeatLooksIn, SeatLooks, RefusesSeatLookup, SeatStandsAt, SeatCounts, SeatAddsIn, SeatAddsTo, SeatAddsAllIn, SeatAddsAllTo, IsSpared, Spares, RefusesTried, RefusesSeatAddIn, RefusesSeatAdd, RefusesSeatAddAllIn, RefusesSeatAddAll, Moves, RefusesMove, IsCodeOf, ClosesShared, RefusesCloseShared};
 ghost use Rattle.tsc_c_table.specs.declared.table.Entry.TheVariants as kinds;
@@ -20,7 +20,7 @@ use std::alloc::Global;
 use std::mem::replace;
 use tsc_c_hall::{Chair, Host};
 use tsc_cache::{Added, Config};
-use tsc_shared::{AddFault, Answer, Figures, LowWater, Receipt, TryAddFault};
+use tsc_shared::{AddFault, Answer, LowWater, Receipt, SeatFigures, TryAddFault};
 use tsc_time::{Timestamp, Value};
 
 /// What an Add at a seat did, and which place it has in the history.
@@ -63,8 +63,8 @@ impl Entry {
     }
 
     /// What can be counted of the cache of the seat that is held.
-    fn seat_figures(&mut self) -> Result<Figures, Refusal>
-        ensures figures { IfOk result (λ answer. SeatCounts (seat_of self.old) (seat_of self.new) answer.front (record { pages = answer.pages; rotations = answer.rotations })) }
+    fn seat_figures(&mut self) -> Result<SeatFigures, Refusal>
+        ensures figures { IfOk result (λ answer. SeatCounts (seat_of self.old) (seat_of self.new) answer.front (figures_told answer.figures)) }
         ensures refused { IfErr result (λ why. IsNoSeat why (seat_of self.old)) }
         ensures unchanged { OnErr result (self.new ≡ self.old) }
     {
@@ -246,8 +246,8 @@ impl Table {
     }
 
     /// What can be counted of the cache of the seat at a number.
-    pub fn seat_figures(&mut self, number: u64) -> Result<Figures, Refusal>
-        ensures figures { IfOk result (λ answer. SeatCounts (seat_at self.old.entries.items number) (seat_at self.new.entries.items number) answer.front (record { pages = answer.pages; rotations = answer.rotations })) }
+    pub fn seat_figures(&mut self, number: u64) -> Result<SeatFigures, Refusal>
+        ensures figures { IfOk result (λ answer. SeatCounts (seat_at self.old.entries.items number) (seat_at self.new.entries.items number) answer.front (figures_told answer.figures)) }
         ensures others { Keeps self.old.entries.items self.new.entries.items number }
         ensures refused { IfErr result (λ why. IsNoSeat why (seat_at self.old.entries.items number)) }
         ensures unchanged { OnErr result (self.new.entries.items ≡ self.old.entries.items) }

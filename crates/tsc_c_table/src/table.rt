@@ -6,7 +6,7 @@ ghost use Rattle.tsc_c_table.specs.Asked.{RefusesEnds};
 ghost use Rattle.tsc_c_table.specs.Table.{cache_of, cache_at, Keeps, GivesNext};
 ghost use Rattle.tsc_c_table.specs.declared.refusal.Refusal.TheVariants.{NoMemory};
 
-use crate::asked::{added_span, looked_up_span};
+use crate::asked::{added_span, looked_up_span, words_of_figures};
 use crate::marks::marks;
 use crate::refusal::Refusal;
 use crate::words::{TscFigures, TscMark};
@@ -171,10 +171,7 @@ impl Table {
         ensures refused { IfErr result (λ why. IsClosed why (cache_at self.now.entries.items number)) }
     {
         match self.cache(number) {
-            Some(cache) => Ok(TscFigures {
-                pages: cache.pages() as u64,
-                rotations: cache.rotations(),
-            }),
+            Some(cache) => Ok(words_of_figures(cache.figures())),
             None => Err(Refusal::Closed),
         }
     }

@@ -45,4 +45,6 @@ pub struct TscAdded {
 pub struct TscFigures {
     pub pages: u64,
     pub rotations: u64,
+    pub nodes: u64,
+    pub bytes: u64,
 }

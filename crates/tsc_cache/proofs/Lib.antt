@@ -19,3 +19,5 @@ pub mod RotationExamples
 pub mod SizeExamples
 pub mod BatchExamples
 pub mod KeysTold
+pub mod CountsTold
+pub mod CountExamples

@@ -9,4 +9,5 @@ pub mod Stacks
 pub mod CacheParts
 pub mod Laws
 pub mod Keys
+pub mod Counts
 pub use Rattle.tsc_span.specs.Span

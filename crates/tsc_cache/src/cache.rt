@@ -9,12 +9,13 @@ ghost use Rattle.tsc_cache.specs.State.{CacheState, opening, step, step_all, loo
 ghost use Rattle.tsc_cache.specs.Lookup.{LooksIntoPages};
 ghost use Rattle.tsc_cache.specs.Keys.{keys_on, keys_seen};
 ghost use Rattle.tsc_cache.specs.CacheView.{StandsForState, Adds, RotatesWith, front_has_room_for, cache_answer, LooksIntoViews};
+ghost use Rattle.tsc_cache.specs.Counts.{figures_of, figures_seen};
 ghost use Rattle.tsc_cache.specs.Batch.{all_fit, is_any_kept, AddsAll, AddsSome, LeavesSome};
 
 use crate::config::counted_on;
 use crate::mark::is_any_kept;
 use crate::pages::Pages;
-use crate::{Added, CacheFault, Config, Mark};
+use crate::{Added, CacheFault, Config, Figures, Mark};
 use std::alloc::Global;
 use std::marker::Model;
 use tsc_page::Page;
@@ -262,6 +263,15 @@ impl Cache {
         ensures stands { (settings : Settings) (s : CacheState) → StandsForState self.now settings s → result ≡ s.rotations }
     {
         self.rotations
+    }
+
+    /// How many pages there are, how often they rotated, how many end keys they hold and what these cost, and where the floor
+    /// stands. It costs a step for each page, and takes no memory.
+    pub fn figures(&self) -> Figures
+        ensures value { result ≡ figures_seen self.now }
+        ensures stands { (settings : Settings) (s : CacheState) → StandsForState self.now settings s → result ≡ figures_of s }
+    {
+        self.pages.figures(self.floor, self.rotations)
     }
 
     /// Whether an Add of this span and value would rotate the pages, at whatever moment. It costs a search for each end key

@@ -7,8 +7,9 @@ ghost use Rattle.tsc_cache.specs.CacheView.{MarksFront, LooksIntoViews};
 ghost use Rattle.tsc_cache.specs.Stacks.{AreStacked, pages_answer, IsExpiredTop, Drops};
 ghost use Rattle.tsc_cache.specs.CacheParts.{front_of, older_of, pages_of};
 ghost use Rattle.tsc_cache.specs.Keys.{keys_seen, lesser};
+ghost use Rattle.tsc_cache.specs.Counts.{figures_with};
 
-use crate::Config;
+use crate::{Config, Figures};
 use std::alloc::Global;
 use std::collections::VecDeque;
 use std::mem;
@@ -170,6 +171,17 @@ impl Pages {
             least = lesser(least, page.key_above(cut));
         }
         least
+    }
+
+    /// What can be counted of all pages, with a floor and a number of rotations.
+    pub(crate) fn figures(&self, floor: Timestamp, rotations: u64) -> Figures
+        ensures { result ≡ figures_with floor rotations (pages_of self.now) }
+    {
+        let mut figures = Figures::without_pages(floor, rotations).with(&self.front);
+        for page in &self.older {
+            figures = figures.with(page);
+        }
+        figures
     }
 }
 

@@ -4,4 +4,3 @@ pub mod AtDesk
 pub mod Waiting
 pub mod Closing
 pub mod Opening
-pub mod PageFigures

@@ -26,7 +26,7 @@ mod waiting;
 pub use board::{Desk, DeskSeat, Held, Marks, Pending, Post, SharedDesk, Slot, Terms, Turns, View};
 pub use closing::{end_desk, gather};
 pub use desk::{clear_all, fill, flip, give_back};
-pub use looking::{PageCounts, read_figures, read_floor, read_max};
+pub use looking::{read_figures, read_floor, read_max};
 pub use notes::{catch_up, see_newest, write_note};
 pub use opening::{deal, new_desk};
 pub use waiting::{Endless, Patience, Tries};

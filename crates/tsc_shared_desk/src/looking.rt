@@ -3,26 +3,20 @@
 ghost use Rattle.std.specs.Prelude.{◌≡◌, ◌<◌, ◌+◌, ◌∷◌, [], ℕ, false};
 ghost use Rattle.tsc_shared_desk.specs.DeskSteps.{Sees, HasLooked, HasHandle, IsSide, number_of, seen_of, count_of, seated};
 ghost use Rattle.tsc_shared_desk.specs.AtDesk.{IsSeatAt, IsAtRest, IsLooking};
-ghost use Rattle.tsc_shared_desk.specs.PageFigures.{CountsPages};
 ghost use Rattle.tsc_shared_desk.specs.Desk.{shown_at, side_slot, Shows};
 ghost use Rattle.tsc_shared_desk.specs.declared.board.Slot.{Slot};
 ghost use Rattle.tsc_cache.specs.Settings.{Settings};
 ghost use Rattle.tsc_cache.specs.State.{CacheState};
 ghost use Rattle.tsc_cache.specs.State as state;
 ghost use Rattle.tsc_cache.specs.CacheView.{CacheView, StandsForState};
+ghost use Rattle.tsc_cache.specs.Counts.{figures_of};
 
 use crate::board::{DeskSeat, SharedDesk, Slot};
 use crate::places::{HEAD, epoch_word, side_slot};
 use crate::steps::{Enter, Leave, PickUp};
+use tsc_cache::Figures;
 use tsc_span::SpanRef;
 use tsc_time::{Timestamp, Value};
-
-/// How many pages a cache has, and how often they rotated.
-#[derive(Clone, Copy)]
-pub struct PageCounts {
-    pub pages: u64,
-    pub rotations: u64,
-}
 
 /// The seat goes inside, and has its slot of the side that is shown. The answer is how many Adds there are.
 fn pick_up(desk: &SharedDesk, at_desk: &mut DeskSeat, number: u32) -> u64
@@ -71,16 +65,13 @@ fn floor_of(slot: &Slot) -> Timestamp
     }
 }
 
-/// How many pages there are and how often they rotated, by what a slot has.
-fn counts_of(slot: &Slot) -> PageCounts
+/// What can be counted of a cache, by what a slot has.
+fn figures_by(slot: &Slot) -> Figures
     requires { IsSide slot.now }
-    ensures { HasHandle slot.now (λ cache. (settings : Settings) (s : CacheState) → StandsForState cache settings s → CountsPages s result) }
+    ensures { HasHandle slot.now (λ cache. (settings : Settings) (s : CacheState) → StandsForState cache settings s → result ≡ figures_of s) }
 {
     match slot {
-        Slot::Side(cache) => PageCounts {
-            pages: cache.pages() as u64,
-            rotations: cache.rotations(),
-        },
+        Slot::Side(cache) => cache.figures(),
         _ => unreachable!(),
     }
 }
@@ -122,18 +113,18 @@ pub fn read_floor(desk: &SharedDesk, at_desk: &mut DeskSeat, number: u32) -> (Ti
     (time, front)
 }
 
-/// How many pages there are and how often they rotated, and after how long a history.
-pub fn read_figures(desk: &SharedDesk, at_desk: &mut DeskSeat, number: u32) -> (PageCounts, u64)
+/// What can be counted of the cache, and after how long a history.
+pub fn read_figures(desk: &SharedDesk, at_desk: &mut DeskSeat, number: u32) -> (Figures, u64)
     requires at_desk { IsSeatAt at_desk.old desk.now.table_id }
     requires rest { IsAtRest at_desk.old.me }
     requires number { number ≡ number_of at_desk.old.me.0 }
     requires low { number < at_desk.old.me.0.terms.seats }
     ensures table { at_desk.new.table_id ≡ at_desk.old.table_id }
-    ensures looked { (cache : CacheView) × HasLooked at_desk.old.me.0 at_desk.new.me result.1 cache × ((settings : Settings) (s : CacheState) → StandsForState cache settings s → CountsPages s result.0) }
+    ensures looked { (cache : CacheView) × HasLooked at_desk.old.me.0 at_desk.new.me result.1 cache × ((settings : Settings) (s : CacheState) → StandsForState cache settings s → result.0 ≡ figures_of s) }
 {
     let front = pick_up(desk, at_desk, number);
     let slot = at_desk.slot_mut(desk, side_slot(number, front % 2));
-    let counts = counts_of(slot);
+    let figures = figures_by(slot);
     leave(desk, at_desk, number);
-    (counts, front)
+    (figures, front)
 }

@@ -10,5 +10,5 @@ invariant_of-seat c = let l = c.read_figures-front.ensures.looked in
 
 pub returns-clause-figures : goal.returns-clause-figures
 returns-clause-figures c = let l = c.read_figures-front.ensures.looked in
-    subst (λ old. ReadsFigures old (seat_view c.read_figures-front.new.at_desk) (record { pages = c.read_figures-front.result.0.pages; rotations = c.read_figures-front.result.0.rotations; front = c.read_figures-front.result.1 })) c.seat.view_is
+    subst (λ old. ReadsFigures old (seat_view c.read_figures-front.new.at_desk) (record { figures = c.read_figures-front.result.0; front = c.read_figures-front.result.1 })) c.seat.view_is
     (counts_now c.seat.inside.at_desk c.read_figures-front.new.at_desk c.read_figures-front.result.1 l.0 c.read_figures-front.result.0 c.seat.invariant.seat l.1 c.read_figures-front.ensures.table l.2)

@@ -1,0 +1,50 @@
+use tsc_page::Page;
+use tsc_time::Timestamp;
+
+/// What can be counted of a cache, and where its floor stands. Each count stays at 2^64 - 1 once it is there.
+#[derive(Clone, Copy, Debug, PartialEq, Eq)]
+pub struct Figures {
+    /// How many pages there are.
+    pub pages: u64,
+    /// How often they rotated.
+    pub rotations: u64,
+    /// How many end keys the pages hold, each of them counted once for each page that holds it.
+    pub nodes: u64,
+    /// What these cost: for each as many bytes as it has, and 32 more.
+    pub bytes: u64,
+    /// Where the floor stands.
+    pub floor: Timestamp,
+}
+
+impl Figures {
+    ghost use Rattle.std.specs.Prelude.{◌≡◌, ◌+◌, []};
+    ghost use Rattle.tsc_page_base.specs.Page.{count_distinct};
+    ghost use Rattle.tsc_page_base.specs.PageView.{bytes_of};
+    ghost use Rattle.tsc_cache.specs.Counts.{up_to_end, figures_with};
+
+    /// What can be counted where there are no pages yet.
+    pub(crate) fn without_pages(floor: Timestamp, rotations: u64) -> Figures
+        ensures { result ≡ figures_with floor rotations [] }
+    {
+        Figures {
+            pages: 0,
+            rotations,
+            nodes: 0,
+            bytes: 0,
+            floor,
+        }
+    }
+
+    /// What can be counted with one more page.
+    pub(crate) fn with(self, page: &Page) -> Figures
+        ensures { result ≡ record { pages = up_to_end (self.pages + 1); rotations = self.rotations; nodes = up_to_end (self.nodes + count_distinct page.now.keys); bytes = up_to_end (self.bytes + bytes_of page.now); floor = self.floor } }
+    {
+        Figures {
+            pages: self.pages.saturating_add(1),
+            rotations: self.rotations,
+            nodes: self.nodes.saturating_add(u64::from(page.nodes())),
+            bytes: self.bytes.saturating_add(u64::from(page.bytes())),
+            floor: self.floor,
+        }
+    }
+}
