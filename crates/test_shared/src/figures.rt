@@ -148,7 +148,12 @@ impl Scene for Asked {
         for row in &ROWS {
             add_row(rt, alloc, &home, &mut first, &mut alone, row)?;
             assert_eq!(rt; home.figures(&mut first), row.told(), "{}", row.front);
-            assert_eq!(rt; counted_of(alone.figures(), row.front), row.told(), "{}", row.front);
+            assert_eq!(rt;
+                counted_of(alone.figures(), row.front),
+                row.told(),
+                "{}",
+                row.front
+            );
             assert!(rt; second_is_told(&home, &mut second, row), "{}", row.front);
         }
         Ok(())

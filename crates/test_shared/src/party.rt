@@ -138,7 +138,13 @@ fn owner_of(value: Value) -> Owner {
 /// What is told of these figures.
 pub fn counted_of(figures: Figures, front: u64) -> Told {
     let (pages, rotations) = (figures.pages, figures.rotations);
-    let counts = (pages, rotations, figures.nodes, figures.bytes, figures.floor.wall());
+    let counts = (
+        pages,
+        rotations,
+        figures.nodes,
+        figures.bytes,
+        figures.floor.wall(),
+    );
     Told::Counted(counts, front)
 }
 

@@ -170,15 +170,18 @@ fn seat_low_water(alloc: Global, place: &mut Place, seat: u64) -> (u32, u64, u64
 }
 
 /// The code, the pages, the rotations, the nodes and the bytes, and how many Adds the seat has seen then.
-fn seat_figures(
-    alloc: Global,
-    place: &mut Place,
-    seat: u64,
-) -> (u32, u64, u64, u64, u64, u64) {
+fn seat_figures(alloc: Global, place: &mut Place, seat: u64) -> (u32, u64, u64, u64, u64, u64) {
     let mut seen = 9;
     let mut told = nothing_counted();
     let code = tsc_seat_figures_of(alloc, place, seat, &mut seen, &mut told);
-    (code, told.pages, told.rotations, told.nodes, told.bytes, seen)
+    (
+        code,
+        told.pages,
+        told.rotations,
+        told.nodes,
+        told.bytes,
+        seen,
+    )
 }
 
 /// The code, and how many Adds there were.

@@ -1,9 +1,9 @@
 -- What is counted of the pages of a cache, one page after another.
-use Rattle.std.proofs.Common.{◌≡◌, refl, ◌∙◌, sym, ap, subst, ℕ, ◌+◌, List, [], ◌∷◌, ◌++◌, length, map, append_assoc, append-nil, arith}
+use Rattle.std.proofs.Common.{◌≡◌, refl, ◌∙◌, sym, ap, ℕ, ◌+◌, List, [], ◌∷◌, ◌++◌, length, map, append_assoc, append-nil, arith}
 use Rattle.std.proofs.lemmas.List.{length_push}
-use Rattle.std.proofs.lemmas.List.Sums.{sum_by_push}
+use Rattle.std.proofs.lemmas.List.Sums.{sum_by_push, sum_by-cons}
 use Rattle.tsc_time.specs.Time.{Time}
-use Rattle.tsc_page_base.specs.Page.{PageMarks, count_distinct}
+use Rattle.tsc_page_base.specs.Page.{PageMarks, marked_keys, count_distinct, cost_distinct}
 use Rattle.tsc_page_base.specs.PageView.{PageView, bytes_of}
 use Rattle.tsc_page_base.proofs.Standing.{same_count, same_bytes}
 use Rattle.tsc_cache.specs.declared.figures.Figures.{Figures}
@@ -61,14 +61,20 @@ pub same_nodes : (vs : List PageView) (ps : List PageMarks) → EachStandsFor vs
 same_nodes [] [] each = refl
 same_nodes [] (p ∷ ps) each = absurd each
 same_nodes (v ∷ vs) [] each = absurd each
-same_nodes (v ∷ vs) (p ∷ ps) each = (λ i. same_count v p each.0 i + same_nodes vs ps each.1 i)
+same_nodes (v ∷ vs) (p ∷ ps) each =
+    sum_by-cons (λ (q : PageView). count_distinct q.keys) v vs
+    ∙ (λ i. same_count v p each.0 i + same_nodes vs ps each.1 i)
+    ∙ sym (sum_by-cons (λ (q : PageMarks). count_distinct (marked_keys q.marks)) p ps)
 
 -- and they cost as much
 pub same_costs : (vs : List PageView) (ps : List PageMarks) → EachStandsFor vs ps → bytes_seen vs ≡ bytes_on ps
 same_costs [] [] each = refl
 same_costs [] (p ∷ ps) each = absurd each
 same_costs (v ∷ vs) [] each = absurd each
-same_costs (v ∷ vs) (p ∷ ps) each = (λ i. same_bytes v p each.0 i + same_costs vs ps each.1 i)
+same_costs (v ∷ vs) (p ∷ ps) each =
+    sum_by-cons bytes_of v vs
+    ∙ (λ i. same_bytes v p each.0 i + same_costs vs ps each.1 i)
+    ∙ sym (sum_by-cons (λ (q : PageMarks). cost_distinct (marked_keys q.marks)) p ps)
 
 -- a cache has the figures of each state that it stands for
 pub same_figures : (v : CacheView) (settings : Settings) (s : CacheState) → StandsForState v settings s → figures_seen v ≡ figures_of s

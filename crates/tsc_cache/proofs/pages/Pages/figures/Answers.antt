@@ -1,5 +1,5 @@
 -- One page after another.
-use Rattle.std.proofs.Common.{rules, ◌≡◌, ◌∙◌, sym, ap, subst, List, map}
+use Rattle.std.proofs.Common.{rules, ◌≡◌, ◌∙◌, ap, subst, List, map}
 use Rattle.std.specs.Arc.{arc_value}
 use Rattle.std.specs.VecDeque.Iter.{deque_iter_rest}
 use Rattle.tsc_page_base.specs.PageView.{PageView}
@@ -18,8 +18,8 @@ loop-page-preserved c =
     let rest = map (λ a. arc_value a) (deque_iter_rest c.next.new.self) in
     let left = ap (map (λ a. arc_value a)) c.in-Some.ensures.steps in
     let so_far = subst (λ (ps : List PageView). Counting (pages_of c.args.self.now) ps c.args.floor c.args.rotations c.loop-page.figures) left c.loop-page.invariant in
-    let more : c.with.result ≡ with_page c.loop-page.figures (arc_value c.in-Some.page.now) = c.with.ensures ∙ ap (with_page c.loop-page.figures) c.deref-in-loop-page.ensures in
-    counting-more (pages_of c.args.self.now) (arc_value c.in-Some.page.now) rest c.args.floor c.args.rotations c.loop-page.figures c.with.result so_far more
+    let more : c.with-figures-in-loop-page.result ≡ with_page c.loop-page.figures (arc_value c.in-Some.page.now) = c.with-figures-in-loop-page.ensures ∙ ap (with_page c.loop-page.figures) c.deref-in-loop-page.ensures in
+    counting-more (pages_of c.args.self.now) (arc_value c.in-Some.page.now) rest c.args.floor c.args.rotations c.loop-page.figures c.with-figures-in-loop-page.result so_far more
 
 pub returns : goal.returns
 returns c =
