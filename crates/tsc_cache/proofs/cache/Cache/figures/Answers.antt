@@ -1,6 +1,5 @@
 -- The pages tell, and those that they stand for have the same figures.
 use Rattle.std.proofs.Common.{◌∙◌, ap}
-use Rattle.tsc_cache.specs.CacheView.{CacheView}
 use Rattle.tsc_cache.specs.Counts.{figures_seen}
 use Rattle.tsc_cache.proofs.CountsTold.{same_figures}
 use Rattle.tsc_cache.proofs.cache.Cache.figures.Goals as goal
