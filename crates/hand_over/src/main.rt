@@ -136,24 +136,25 @@ fn told<R: Print>(
 }
 
 /// The next holder is asked for a write.
-fn ask<F: Former, R: Print>(rt: &R, alloc: Global, next: &Next<F>, write: &Write) -> Result<()> {
+fn ask<F: Former, R: Print>(
+    rt: &R,
+    alloc: Global,
+    next: &Next<F>,
+    write: &Write,
+    span: &Span,
+) -> Result<()> {
     let (name, key, wall) = *write;
-    let span = span_of(alloc, key, "")?;
-    let told = next.write(&span, at(wall), id_of(name));
-    let why = because(alloc, key, next.answer(&span))?;
-    print_write(
-        rt,
-        alloc,
-        write,
-        told.context("no time is late enough")?,
-        &why,
-    )
+    let told = next.write(span, at(wall), id_of(name));
+    let told = told.context("no time is late enough")?;
+    let why = because(alloc, key, next.answer(span))?;
+    print_write(rt, alloc, write, told, &why)
 }
 
 /// The next holder is asked for all of them.
 fn ask_all<F: Former, R: Print>(rt: &R, alloc: Global, next: &Next<F>) -> Result<()> {
     for write in &WRITES {
-        ask(rt, alloc, next, write)?;
+        let span = span_of(alloc, write.1, "")?;
+        ask(rt, alloc, next, write, &span)?;
     }
     Ok(())
 }
