@@ -63,17 +63,17 @@ EndsCheckOf may_be status trace trace' writer writer' errors errors' =
     GoesOver (λ ended log log'. EndsCheck ended trace trace' log log') may_be status writer writer' errors errors'
 
 -- How the program ends, by what it is asked to do: to replay or to run the file of a name, to check the log in a file against the trace in
--- another, which is opened first, or nothing.
-abbrev pub DoesAsked : Result Request WordsFault → (Word → Opening → Type 0) → ℕ → KnownWriter → KnownWriter → KnownWriter → KnownWriter → Type 0
-DoesAsked (Ok (replay file)) opens status writer writer' errors errors' = GoesOver EndsReplay (opens file) status writer writer' errors errors'
-DoesAsked (Ok (run file)) opens status writer writer' errors errors' = GoesOver EndsRun (opens file) status writer writer' errors errors'
-DoesAsked (Ok (check trace log)) opens status writer writer' errors errors' =
+-- another, which is opened first, or nothing. It tells of a run that a thread was not started only where the start of one was refused.
+abbrev pub DoesAsked : Type 0 → Result Request WordsFault → (Word → Opening → Type 0) → ℕ → KnownWriter → KnownWriter → KnownWriter → KnownWriter → Type 0
+DoesAsked refused (Ok (replay file)) opens status writer writer' errors errors' = GoesOver EndsReplay (opens file) status writer writer' errors errors'
+DoesAsked refused (Ok (run file)) opens status writer writer' errors errors' = GoesOver (EndsRun refused) (opens file) status writer writer' errors errors'
+DoesAsked refused (Ok (check trace log)) opens status writer writer' errors errors' =
     GoesOver (EndsCheckOf (opens log)) (opens trace) status writer writer' errors errors'
-DoesAsked (Err fault) opens status writer writer' errors errors' =
+DoesAsked refused (Err fault) opens status writer writer' errors errors' =
     OnlyTells (refusal_text fault ++ line_feed ∷ []) (refusal_status fault) status writer writer' errors errors'
 
 -- The program did what its words ask for, with what opening the file of a name may come to.
-pub record RunsProgram (words : Result (List Word) WordsFault) (opens : Word → Opening → Type 0) (status : ℕ) (writer writer' errors errors' : KnownWriter) : Type 0 where
+pub record RunsProgram (refused : Type 0) (words : Result (List Word) WordsFault) (opens : Word → Opening → Type 0) (status : ℕ) (writer writer' errors errors' : KnownWriter) : Type 0 where
   pub asked : Result Request WordsFault
   pub is_asked : AskFor words asked
-  pub ends : DoesAsked asked opens status writer writer' errors errors'
+  pub ends : DoesAsked refused asked opens status writer writer' errors errors'

@@ -1,4 +1,3 @@
-use crate::start::NotStarted;
 use std::alloc::{AllocError, AllocFailed};
 use thiserror::Error;
 use tsc_shared::{Gone, OpenFault};
@@ -44,17 +43,6 @@ impl From<Gone> for RunFault {
 
     fn from(_why: Gone) -> RunFault {
         RunFault::Gone
-    }
-}
-
-impl From<NotStarted> for RunFault {
-    ghost use Rattle.std.specs.Prelude.{◌≡◌};
-    ghost use Rattle.tsc_run.specs.declared.fault.RunFault.TheVariants.{NoThread};
-
-    ghost from_gives = { λ _ fault. fault ≡ NoThread };
-
-    fn from(_why: NotStarted) -> RunFault {
-        RunFault::NoThread
     }
 }
 

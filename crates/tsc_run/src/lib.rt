@@ -14,4 +14,5 @@ mod threads;
 
 pub use fault::RunFault;
 pub use run::run_trace;
+pub use start::{NotStarted, RefusesThreads};
 pub use streams::{RunStop, run_stream};

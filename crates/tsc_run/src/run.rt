@@ -8,6 +8,7 @@ ghost use Rattle.tsc_check.specs.TrueLog.{adds_of_list, adds_of_lists, IsRunOf};
 ghost use Rattle.tsc_run.specs.Ending.{CanEndRun};
 
 use crate::fault::RunFault;
+use crate::start::RefusesThreads;
 use crate::threads::run_lists;
 use std::alloc::Global;
 use std::sync::Wait;
@@ -49,7 +50,7 @@ fn count_all_adds(lists: &[Vec<Call>]) -> u64
 /// published, from the thread of its list. Where a thread cannot be started, those that were started run to their
 /// end first. Else each list is run, and the cache is closed with all seats before a fault is told: so it is known then
 /// that no Add found the history full.
-pub fn run_trace<R: Threads + Wait + Sync, G: Gate + Sync>(
+pub fn run_trace<R: RefusesThreads + Threads + Wait + Sync, G: Gate + Sync>(
     rt: &R,
     alloc: Global,
     trace: &Trace,
@@ -57,7 +58,7 @@ pub fn run_trace<R: Threads + Wait + Sync, G: Gate + Sync>(
 ) -> Result<Log, RunFault>
     ensures right { IfOk result (λ log. verdict_of trace.now log.lines ≡ Right) }
     ensures run { IfOk result (λ log. (h : History) × IsRunOf trace.now log.lines h) }
-    ensures why { IfErr result CanEndRun }
+    ensures why { IfErr result (CanEndRun (R.HasRefused rt.now)) }
 {
     let lists = trace.threads.slice();
     let adds = count_all_adds(lists);

@@ -3,7 +3,9 @@ ghost use Rattle.std.specs.Prelude.{◌≡◌, ◌≤◌, IfOk, length};
 ghost use Rattle.tsc_trace_json.specs.Traces.{EachFits};
 ghost use Rattle.tsc_trace_json.specs.Lists.{most_calls};
 ghost use Rattle.tsc_run.specs.Runs.{EndsList};
+ghost use Rattle.tsc_run.specs.declared.fault.RunFault.TheVariants.{NoThread};
 
+use crate::fault::RunFault;
 use crate::list::{ListRun, run_list};
 use std::alloc::Global;
 use std::snapshot::Snapshot;
@@ -12,10 +14,33 @@ use std::thread::{Promise, PromisedHandle, Scope, Threads};
 use tsc_shared::{Gate, Seat, SharedCache};
 use tsc_trace::Call;
 
-/// A thread could not be started. None but [`start_list`] can say so.
+/// A thread could not be started. None but `start_list` can say so.
 #[derive(Drop)]
-pub(crate) struct NotStarted {
+pub struct NotStarted {
     seal: (),
+}
+
+/// What threads are started by, and may refuse to start one.
+///
+/// Whoever runs a trace knows no more of it than this: so it cannot answer that a thread could not be started but for a
+/// [`NotStarted`], and of these there is one only where a start was refused.
+pub trait RefusesThreads {
+    /// The start of a thread was refused.
+    ghost HasRefused: { Self → Type 0 };
+
+    /// How a run ends in which a thread could not be started.
+    fn fault_of(&self, start: NotStarted) -> RunFault
+        ensures known { HasRefused self.now }
+        ensures fault { result ≡ NoThread };
+}
+
+impl<R: Threads> RefusesThreads for R {
+    ghost HasRefused = { λ _. Unit {0} };
+
+    fn fault_of(&self, start: NotStarted) -> RunFault {
+        drop(start);
+        RunFault::NoThread
+    }
 }
 
 /// A thread's promise: what it answers is how a run of this list ends, from this seat on.

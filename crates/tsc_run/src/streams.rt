@@ -7,6 +7,7 @@ ghost use Rattle.tsc_run.specs.declared.streams.RunStop.TheVariants.{Stream};
 
 use crate::fault::RunFault;
 use crate::run::run_trace;
+use crate::start::RefusesThreads;
 use std::alloc::Global;
 use std::error::Error;
 use std::fmt;
@@ -99,7 +100,7 @@ impl From<RunFault> for RunStop {
 ///
 /// The input is freed before the run begins, and the log is whole before any of it is written. Once a read
 /// or a write has failed, no later call makes up for it.
-pub fn run_stream<T: Threads + Wait + Sync, R: Source, W: Sink, G: Gate + Sync>(
+pub fn run_stream<T: RefusesThreads + Threads + Wait + Sync, R: Source, W: Sink, G: Gate + Sync>(
     rt: &T,
     alloc: Global,
     reader: &mut R,
@@ -107,7 +108,7 @@ pub fn run_stream<T: Threads + Wait + Sync, R: Source, W: Sink, G: Gate + Sync>(
     gate: &G,
 ) -> Result<(), RunStop>
     ensures ok { OnOk result (Ran (R.known reader.old) (R.known reader.new) (W.known writer.old) (W.known writer.new)) }
-    ensures err { IfErr result (λ stop. StopsRun stop (R.known reader.old) (R.known reader.new)
+    ensures err { IfErr result (λ stop. StopsRun (T.HasRefused rt.now) stop (R.known reader.old) (R.known reader.new)
         (W.known writer.old) (W.known writer.new)) }
 {
     let trace = read_trace_from(alloc, reader)?;

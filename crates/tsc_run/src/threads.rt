@@ -1,14 +1,15 @@
 //! A thread for each list.
-ghost use Rattle.std.specs.Prelude.{◌≡◌, ◌≤◌, ◌++◌, ◌∷◌, [], IfOk, IfSome, IfNone, length, map, vec_capacity};
+ghost use Rattle.std.specs.Prelude.{◌≡◌, ◌≤◌, ◌++◌, ◌∷◌, [], IfOk, IfErr, IfSome, IfNone, length, map, vec_capacity};
 ghost use Rattle.std.specs.List.{sum_by};
 ghost use Rattle.tsc_trace_json.specs.Traces.{AllFit};
 ghost use Rattle.tsc_trace_json.specs.Lists.{most_calls};
 ghost use Rattle.tsc_shared.specs.Seats.{new_seats};
 ghost use Rattle.tsc_run.specs.Runs.{EndsLists, Joins};
+ghost use Rattle.tsc_run.specs.Ending.{CanEndRun};
 
 use crate::fault::RunFault;
 use crate::list::ListRun;
-use crate::start::{NotStarted, start_list};
+use crate::start::{NotStarted, RefusesThreads, start_list};
 use std::alloc::Global;
 use std::sync::Wait;
 use std::thread;
@@ -85,25 +86,30 @@ fn run_in<'s, E, R: Threads + Wait + Sync, G: Gate + Sync>(
 }
 
 /// Runs each list on a thread of its own, at the seat of the same number, and waits for all.
-pub(crate) fn run_lists<R: Threads + Wait + Sync, G: Gate + Sync>(
+pub(crate) fn run_lists<R: RefusesThreads + Threads + Wait + Sync, G: Gate + Sync>(
     rt: &R,
     alloc: Global,
     cache: &SharedCache,
     seats: Vec<Seat>,
     lists: &[Vec<Call>],
     gate: &G,
-) -> Result<AllRuns, NotStarted>
+) -> Result<AllRuns, RunFault>
     requires seats { seats.items ≡ new_seats cache.now 0 (length lists.now) }
     requires calls { sum_by length (map (λ calls. calls.items) lists.now) ≤ most_calls }
     requires fits { AllFit cache.now.config (map (λ calls. calls.items) lists.now) }
-    ensures { IfOk result (λ runs. EndsLists cache.now (map (λ calls. calls.items) lists.now) runs.told runs.seats.items) }
+    ensures runs { IfOk result (λ runs. EndsLists cache.now (map (λ calls. calls.items) lists.now) runs.told runs.seats.items) }
+    ensures why { IfErr result (CanEndRun (R.HasRefused rt.now)) }
 {
-    thread::scope(
+    let ended = thread::scope(
         thread::scope_env(),
         rt,
         |scope| -> Result<AllRuns, NotStarted>
             requires { (seats.items ≡ new_seats cache.now 0 (length lists.now)) × (sum_by length (map (λ calls. calls.items) lists.now) ≤ most_calls) × AllFit cache.now.config (map (λ calls. calls.items) lists.now) }
             ensures { IfOk result (λ runs. EndsLists cache.entry.now (map (λ calls. calls.items) lists.entry.now) runs.told runs.seats.items) }
         { run_in(scope, rt, alloc, cache, seats, lists, gate) },
-    )
+    );
+    match ended {
+        Ok(runs) => Ok(runs),
+        Err(start) => Err(rt.fault_of(start)),
+    }
 }

@@ -51,4 +51,4 @@ returns-in_err-lines-clause-why g c =
     let limit : cache.limit ≡ adds_of_lists lists = c.in_ok-cache.ensures.opened.limit_kept ∙ c.count_all_adds-adds.ensures.value in
     let stopped = subst (λ (told : Told). IfErr told (λ why. StopsLists why cache lists seats)) c.in_err-lines.was c.in_ok-runs.ensures.stopped in
     let same : c.from_residual-in_err-lines.result ≡ Err why = search rules in
-    rw same (can_end why cache lists seats c.in-Ok._closed limit stopped c.in-Ok.ensures.closed)
+    rw same (can_end _ why cache lists seats c.in-Ok._closed limit stopped c.in-Ok.ensures.closed)
