@@ -20,12 +20,12 @@ run_lists-requires-clause-fits g c κs within =
     subst (λ (s : Settings). AllFit s lists) (sym c.in_ok-cache.ensures.opened.settings_kept) fit
 
 pub close-requires : goal.close-requires
-close-requires g c = record { seats = c.in_ok-runs.ensures.of_cache }
+close-requires g c = record { seats = c.in_ok-runs.ensures.runs.of_cache }
 
 pub unreachable-requires : goal.unreachable-requires
 unreachable-requires g c =
     let slices = c.slice-lists.result.now in
-    let many = c.in_ok-runs.ensures.as_many ∙ length-map slices (λ calls. calls.items) in
+    let many = c.in_ok-runs.ensures.runs.as_many ∙ length-map slices (λ calls. calls.items) in
     let seats : c.in_ok-cache.cache.seats ≡ length slices = c.in_ok-cache.ensures.opened.count_kept in
     let e = c.in_default.ensures.exactly.1 (many ∙ sym seats) in cc
 
@@ -35,7 +35,7 @@ returns g c =
     let opened = c.in_ok-cache.ensures.opened in
     let lists = c.slice-lists.ensures.value ∙ ap (λ (t : Trace). t.threads) c.trace.view_is in
     let config = opened.settings_kept ∙ ap (λ (t : Trace). t.config) c.trace.view_is in
-    let ran_all = subst (λ (told : Told). IfOk told (λ all. RunsAll cache 0 (map (λ calls. calls.items) slices) all.items c.in_ok-runs.runs.seats.items)) c.in_ok-lines.was c.in_ok-runs.ensures.ran in
+    let ran_all = subst (λ (told : Told). IfOk told (λ all. RunsAll cache 0 (map (λ calls. calls.items) slices) all.items c.in_ok-runs.runs.seats.items)) c.in_ok-lines.was c.in_ok-runs.ensures.runs.ran in
     let runs = subst (λ (ls : List (List Call)). RunsAll cache 0 ls lines c.in_ok-runs.runs.seats.items) lists ran_all in
     let many : cache.seats ≡ length c.args.trace.now.threads = opened.count_kept ∙ sym (length-map slices (λ calls. calls.items)) ∙ ap length lists in
     let ran = run_of c.args.trace.now cache lines c.in_ok-runs.runs.seats.items c.in-Ok._closed config many runs c.in-Ok.ensures.closed in
@@ -49,6 +49,6 @@ pub returns-in_err-lines-clause-why : goal.returns-in_err-lines-clause-why
 returns-in_err-lines-clause-why g c =
     let cache = c.in_ok-cache.cache in let lists = map (λ calls. calls.items) c.slice-lists.result.now in let seats = c.in_ok-runs.runs.seats.items in let why = c.in_err-lines.field-0.0 in
     let limit : cache.limit ≡ adds_of_lists lists = c.in_ok-cache.ensures.opened.limit_kept ∙ c.count_all_adds-adds.ensures.value in
-    let stopped = subst (λ (told : Told). IfErr told (λ why. StopsLists why cache lists seats)) c.in_err-lines.was c.in_ok-runs.ensures.stopped in
+    let stopped = subst (λ (told : Told). IfErr told (λ why. StopsLists why cache lists seats)) c.in_err-lines.was c.in_ok-runs.ensures.runs.stopped in
     let same : c.from_residual-in_err-lines.result ≡ Err why = search rules in
     rw same (can_end _ why cache lists seats c.in-Ok._closed limit stopped c.in-Ok.ensures.closed)
