@@ -22,8 +22,8 @@
  *     reads, writes or frees it. A place may be moved (the old memory is a place no more); it is never copied and used twice.
  *   - Each pointer leads to as much as its type and the length after it say, which nothing else writes until the call returns.
  *     What a call writes (a place, a number, an `out`) overlaps nothing else that it is given; `from` and `to` may be the same
- *     bytes. No pointer is null, and none but those of bytes and marks has a length. The calls with `_try_` in their
- *     names, below, test for null, and take null for no bytes.
+ *     bytes. No pointer is null, and none but those of bytes and marks has a length. Each call has one with `_try_` in its
+ *     name, below, that tests for null, and takes null for no bytes.
  *   - The calls of one place come one at a time, and each sees what the last one did: one thread, or a lock round each call, or
  *     the start or the end of a thread between them. A place may go from thread to thread in this way. Different places may be
  *     used at once, also where both have seats of one shared cache, which is all that they can have in common.
@@ -214,7 +214,50 @@ uint32_t tsc_replay(const uint8_t *trace, size_t trace_len, uint8_t *out, size_t
 /* Checks a log against its trace. The text is the line of the verdict, with its line feed. */
 uint32_t tsc_check(const uint8_t *trace, size_t trace_len, const uint8_t *log, size_t log_len, uint8_t *out, size_t room, size_t *len);
 
-/* The same calls where a pointer may be null. */
+/* The same calls where a pointer may be null. Then all but tsc_try_free, which does nothing, answer TSC_NULL. */
+
+static inline uint32_t tsc_try_open(tsc_place *place, uint32_t page_first, uint32_t page_max, uint32_t min_pages, uint64_t retention,
+                                    const tsc_time *low_water, uint64_t *number)
+{
+    if (!place || !low_water || !number)
+        return TSC_NULL;
+    return tsc_open(place, page_first, page_max, min_pages, retention, low_water, number);
+}
+
+static inline uint32_t tsc_try_open_shared(tsc_place *place, uint32_t page_first, uint32_t page_max, uint32_t min_pages,
+                                           uint64_t retention, const tsc_time *low_water, uint32_t seats, uint64_t limit,
+                                           uint64_t *number)
+{
+    if (!place || !low_water || !number)
+        return TSC_NULL;
+    return tsc_open_shared(place, page_first, page_max, min_pages, retention, low_water, seats, limit, number);
+}
+
+static inline uint32_t tsc_try_move(tsc_place *place, uint64_t number, tsc_place *other, uint64_t *other_number)
+{
+    return place && other && other_number ? tsc_move(place, number, other, other_number) : (uint32_t)TSC_NULL;
+}
+
+static inline uint32_t tsc_try_close(tsc_place *place, uint64_t number)
+{
+    return place ? tsc_close(place, number) : (uint32_t)TSC_NULL;
+}
+
+static inline uint32_t tsc_seat_try_close(tsc_place *place, uint64_t seat)
+{
+    return place ? tsc_seat_close(place, seat) : (uint32_t)TSC_NULL;
+}
+
+static inline uint32_t tsc_try_close_shared(tsc_place *place, uint64_t number, uint64_t *length)
+{
+    return place && length ? tsc_close_shared(place, number, length) : (uint32_t)TSC_NULL;
+}
+
+static inline void tsc_try_free(tsc_place *place)
+{
+    if (place)
+        tsc_free(place);
+}
 
 static inline const uint8_t *tsc_bytes(const void *bytes)
 {

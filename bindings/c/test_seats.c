@@ -115,10 +115,18 @@ static void nulls(void)
     CHECK(tsc_seat_try_get_max(p, 1, "a", 1, NULL, 0, TSC_POINT, &seen, NULL) == TSC_NULL);
     CHECK(tsc_seat_try_low_water(NULL, 1, &seen, &floor) == TSC_NULL && tsc_seat_try_low_water(p, 1, NULL, &floor) == TSC_NULL && tsc_seat_try_low_water(p, 1, &seen, NULL) == TSC_NULL);
     CHECK(tsc_seat_try_figures_of(NULL, 1, &seen, &f) == TSC_NULL && tsc_seat_try_figures_of(p, 1, NULL, &f) == TSC_NULL && tsc_seat_try_figures_of(p, 1, &seen, NULL) == TSC_NULL);
+    tsc_place empty = {NULL};
+    uint64_t opened = 77, adds = 77;
+    CHECK(tsc_try_open_shared(NULL, 132, 1024, 2, 10, &LOW, 1, 9, &opened) == TSC_NULL && tsc_try_open_shared(&empty, 132, 1024, 2, 10, NULL, 1, 9, &opened) == TSC_NULL && tsc_try_open_shared(&empty, 132, 1024, 2, 10, &LOW, 1, 9, NULL) == TSC_NULL);
+    CHECK(tsc_seat_try_close(NULL, 1) == TSC_NULL && tsc_try_close_shared(NULL, n, &adds) == TSC_NULL && tsc_try_close_shared(p, n, NULL) == TSC_NULL);
+    CHECK(opened == 77 && adds == 77 && empty.at == NULL);
     CHECK(at == 77 && seen == 77 && a.evicted == 99 && v.wall == 7 && floor.wall == 7 && f.pages == 7 && f.nodes == 7 && f.bytes == 7);
     CHECK(answers(p, 1, "a", 5, 0) && has(p, 1, 1, 0, 0));
     CHECK(tsc_seat_try_low_water(p, 1, &seen, &floor) == TSC_OK && seen == 0 && floor.wall == 5);
-    tsc_free(p);
+    CHECK(tsc_seat_try_close(p, 1) == TSC_OK && tsc_seat_try_close(p, 1) == TSC_CLOSED && tsc_try_close_shared(p, n, &adds) == TSC_OK && adds == 0);
+    CHECK(tsc_try_open_shared(p, 132, 1024, 2, 10, &LOW, 1, 9, &opened) == TSC_OK && opened == n + 2 && answers(p, opened + 1, "a", 5, 0));
+    tsc_try_free(p);
+    CHECK(place.at == NULL);
 }
 
 /* What can be counted is of the history that the seat has seen. */

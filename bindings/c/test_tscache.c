@@ -472,10 +472,21 @@ static void nulls(void)
     CHECK(tsc_try_get_max(p, n, "b", 1, NULL, 1, 0, &out) == TSC_NULL && tsc_try_get_max(p, n, "b", 1, NULL, 0, TSC_POINT, NULL) == TSC_NULL);
     CHECK(tsc_try_low_water(NULL, n, &floor) == TSC_NULL && tsc_try_low_water(p, n, NULL) == TSC_NULL);
     CHECK(tsc_try_figures_of(NULL, n, &f) == TSC_NULL && tsc_try_figures_of(p, n, NULL) == TSC_NULL);
+    tsc_place empty = {NULL};
+    uint64_t opened = 77;
+    CHECK(tsc_try_open(NULL, 132, 132, 2, 10, &AT_20, &opened) == TSC_NULL && tsc_try_open(&empty, 132, 132, 2, 10, NULL, &opened) == TSC_NULL && tsc_try_open(&empty, 132, 132, 2, 10, &AT_20, NULL) == TSC_NULL);
+    CHECK(tsc_try_move(NULL, n, &empty, &opened) == TSC_NULL && tsc_try_move(p, n, NULL, &opened) == TSC_NULL && tsc_try_move(p, n, &empty, NULL) == TSC_NULL);
+    CHECK(tsc_try_close(NULL, n) == TSC_NULL);
+    tsc_try_free(NULL);
     CHECK(a.evicted == 99 && a.kept && a.rotated && out.wall == 1 && out.logical == 2 && out.owner[0] == 3 && floor.wall == 7 && f.pages == 7 && f.rotations == 8 && f.nodes == 9 && f.bytes == 10);
+    CHECK(opened == 77 && empty.at == NULL);
     CHECK(answers(&c, "b", 5, 0, '-') && has(&c, 1, 0, 5, 0) && counts(&c, 0, 0));
     CHECK(tsc_try_low_water(p, n, &floor) == TSC_OK && floor.wall == 5 && floor.logical == 0 && tsc_try_figures_of(p, n, &f) == TSC_OK && f.pages == 1 && f.rotations == 0 && f.nodes == 0 && f.bytes == 0);
-    tsc_free(p);
+    CHECK(tsc_try_open(&empty, 132, 132, 2, 10, &AT_20, &opened) == TSC_OK && opened == 0 && tsc_try_move(p, n, &empty, &opened) == TSC_OK && opened == 1);
+    CHECK(tsc_try_low_water(&empty, 1, &floor) == TSC_OK && floor.wall == 5 && tsc_try_close(&empty, 1) == TSC_OK && tsc_try_close(&empty, 1) == TSC_CLOSED && tsc_try_close(p, n) == TSC_CLOSED);
+    tsc_try_free(&empty);
+    CHECK(empty.at == NULL);
+    tsc_try_free(p);
 }
 
 /* Lookups ask for no memory, and take keys of any length. */
