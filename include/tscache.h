@@ -167,7 +167,7 @@ uint32_t tsc_close(tsc_place *place, uint64_t number);
 void tsc_free(tsc_place *place);
 
 /* What a number names goes to another place, where it gets the next number, which is written. The number names nothing from then
- * on. The two places are different ones. */
+ * on. The two places are different ones. Where it is refused the other one may own some memory too, which `tsc_free` frees. */
 uint32_t tsc_move(tsc_place *place, uint64_t number, tsc_place *other, uint64_t *other_number);
 
 /* Opens a cache that threads share, and writes its number. Its `seats` have the numbers behind that, in their order: 1 to 64 of them.
