@@ -233,6 +233,9 @@ type Shared struct {
 }
 
 // Seat is a seat of a shared cache, in a place of its own. Its calls come one at a time; those of different seats may come at once.
+//
+// There is one history of all Adds of the cache, and what a seat has seen are the first so many of it. So a lookup that tells more of them than the
+// place of an Add counts that Add, whichever seat made it, and so does each later lookup of its seat.
 type Seat struct {
 	place  *C.tsc_place
 	number C.uint64_t

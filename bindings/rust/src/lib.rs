@@ -401,6 +401,9 @@ pub struct Shared {
 
 /// A seat of a [shared](Shared) cache, in a place of its own. It is handed in where it is dropped.
 ///
+/// There is one history of all Adds of the cache, and what a seat has seen are the first so many of it. So a lookup that tells more of them than the place
+/// of an Add counts that Add, whichever seat made it, and so does each later lookup of its seat.
+///
 /// It may go to another thread, and is used by one at a time:
 ///
 /// ```compile_fail
