@@ -26,7 +26,8 @@
  *     name, below, that tests for null, and takes null for no bytes.
  *   - The calls of one place come one at a time, and each sees what the last one did: one thread, or a lock round each call, or
  *     the start or the end of a thread between them. A place may go from thread to thread in this way. Different places may be
- *     used at once, also where both have seats of one shared cache, which is all that they can have in common.
+ *     used at once, also where both have seats of one shared cache, which is all that they can have in common. Each call writes to its
+ *     place, so places that threads use at once should lie 128 bytes apart, or their calls are up to twice as slow.
  *   - No call comes from a signal handler, or from the forked child of a process that has threads.
  *   - `malloc`, `realloc` and `free` are one allocator, which aligns a block to each power of two up to 16 that divides its size.
  *

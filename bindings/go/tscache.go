@@ -389,8 +389,9 @@ func (s *Seat) Figures() (Figures, uint64, error) {
 	return figuresOf(out), uint64(seen), done(code)
 }
 
+// newPlace gives a place with room behind it, so that no two lie in one line of the processor's caches: each call writes to its place.
 func newPlace() *C.tsc_place {
-	return (*C.tsc_place)(C.calloc(1, C.size_t(unsafe.Sizeof(C.tsc_place{}))))
+	return (*C.tsc_place)(C.calloc(128, 1))
 }
 
 // flat gives the keys of some marks, one behind the other, and the marks with their places there, and the first of these.
