@@ -179,12 +179,15 @@ uint32_t tsc_open_shared(tsc_place *place, uint32_t page_first, uint32_t page_ma
 /* The calls of a seat. Each answers after a history of Adds, of whichever seats, that begins with all that the seat had seen before:
  * its own Adds, and what its answers came from. None waits.
  *
- * There is one history of all Adds of a shared cache, and what a seat has seen are the first so many of it. So a lookup whose `seen` is above an
- * Add's `place_in_history` counts that Add, whichever seats the two are of. This is how one thread goes on from another's Add: the number goes along,
- * with a lock or through a queue, and who takes over asks `tsc_seat_low_water` until `seen` is above it; each later lookup of that seat counts the Add
- * then. A lookup that begins once an Add has returned counts it the first time; this alone is tested, and not proved. There is no call
- * that has a seat learn what another one has seen, none that tells the reads of a span to the next holder of a lease (that one opens its cache with
- * `low_water` at or above each time at which a read was answered), and none for the earliest time of a write, which is what a lookup and a comparison tell.
+ * There is one history of all Adds of a shared cache, and what a seat has seen are the first so many of it. So a lookup whose `seen` is
+ * above an Add's `place_in_history` counts that Add, whichever seats the two are of. This is how one thread goes on from another's Add: the
+ * number goes along, with a lock or through a queue, and who takes over asks `tsc_seat_low_water` until `seen` is above it; each later lookup
+ * of that seat counts the Add then. A lookup that begins once an Add has returned counts it the first time; this alone is tested, and not
+ * proved.
+ *
+ * There is no call that has a seat learn what another one has seen, none that tells the reads of a span to the next holder of a lease (that
+ * one opens its cache with `low_water` at or above each time at which a read was answered), and none for the earliest time of a write, which
+ * is what a lookup and a comparison tell.
  *
  * An Add takes its turn. It tries so many times to begin, where another seat is at it, and looks so many times at each seat that is inside a
  * lookup. Where others are in the way each time it is refused by TSC_BUSY and may be tried again; with 0 tries it always is. TSC_FULL
