@@ -22,11 +22,12 @@
  *     reads, writes or frees it. A place may be moved (the old memory is a place no more); it is never copied and used twice.
  *   - Each pointer leads to as much as its type and the length after it say, which nothing else writes until the call returns.
  *     What a call writes (a place, a number, an `out`) overlaps nothing else that it is given; `from` and `to` may be the same
- *     bytes. No pointer is null, and none but those of bytes and marks has a length. The calls with `_try_` in their
- *     names, below, test for null, and take null for no bytes.
+ *     bytes. No pointer is null, and none but those of bytes and marks has a length. Each call has one with `_try_` in its
+ *     name, below, that tests for null, and takes null for no bytes.
  *   - The calls of one place come one at a time, and each sees what the last one did: one thread, or a lock round each call, or
  *     the start or the end of a thread between them. A place may go from thread to thread in this way. Different places may be
- *     used at once, also where both have seats of one shared cache, which is all that they can have in common.
+ *     used at once, also where both have seats of one shared cache, which is all that they can have in common. Each call writes to its
+ *     place, so places that threads use at once should lie 128 bytes apart, or their calls are up to twice as slow.
  *   - No call comes from a signal handler, or from the forked child of a process that has threads.
  *   - `malloc`, `realloc` and `free` are one allocator, which aligns a block to each power of two up to 16 that divides its size.
  *
@@ -167,7 +168,7 @@ uint32_t tsc_close(tsc_place *place, uint64_t number);
 void tsc_free(tsc_place *place);
 
 /* What a number names goes to another place, where it gets the next number, which is written. The number names nothing from then
- * on. The two places are different ones. */
+ * on. The two places are different ones. Where it is refused the other one may own some memory too, which `tsc_free` frees. */
 uint32_t tsc_move(tsc_place *place, uint64_t number, tsc_place *other, uint64_t *other_number);
 
 /* Opens a cache that threads share, and writes its number. Its `seats` have the numbers behind that, in their order: 1 to 64 of them.
@@ -177,6 +178,16 @@ uint32_t tsc_open_shared(tsc_place *place, uint32_t page_first, uint32_t page_ma
 
 /* The calls of a seat. Each answers after a history of Adds, of whichever seats, that begins with all that the seat had seen before:
  * its own Adds, and what its answers came from. None waits.
+ *
+ * There is one history of all Adds of a shared cache, and what a seat has seen are the first so many of it. So a lookup whose `seen` is
+ * above an Add's `place_in_history` counts that Add, whichever seats the two are of. This is how one thread goes on from another's Add: the
+ * number goes along, with a lock or through a queue, and who takes over asks `tsc_seat_low_water` until `seen` is above it; each later lookup
+ * of that seat counts the Add then. A lookup that begins once an Add has returned counts it the first time; this alone is tested, and not
+ * proved.
+ *
+ * There is no call that has a seat learn what another one has seen, none that tells the reads of a span to the next holder of a lease (that
+ * one opens its cache with `low_water` at or above each time at which a read was answered), and none for the earliest time of a write, which
+ * is what a lookup and a comparison tell.
  *
  * An Add takes its turn. It tries so many times to begin, where another seat is at it, and looks so many times at each seat that is inside a
  * lookup. Where others are in the way each time it is refused by TSC_BUSY and may be tried again; with 0 tries it always is. TSC_FULL
@@ -214,7 +225,50 @@ uint32_t tsc_replay(const uint8_t *trace, size_t trace_len, uint8_t *out, size_t
 /* Checks a log against its trace. The text is the line of the verdict, with its line feed. */
 uint32_t tsc_check(const uint8_t *trace, size_t trace_len, const uint8_t *log, size_t log_len, uint8_t *out, size_t room, size_t *len);
 
-/* The same calls where a pointer may be null. */
+/* The same calls where a pointer may be null. Then all but tsc_try_free, which does nothing, answer TSC_NULL. */
+
+static inline uint32_t tsc_try_open(tsc_place *place, uint32_t page_first, uint32_t page_max, uint32_t min_pages, uint64_t retention,
+                                    const tsc_time *low_water, uint64_t *number)
+{
+    if (!place || !low_water || !number)
+        return TSC_NULL;
+    return tsc_open(place, page_first, page_max, min_pages, retention, low_water, number);
+}
+
+static inline uint32_t tsc_try_open_shared(tsc_place *place, uint32_t page_first, uint32_t page_max, uint32_t min_pages,
+                                           uint64_t retention, const tsc_time *low_water, uint32_t seats, uint64_t limit,
+                                           uint64_t *number)
+{
+    if (!place || !low_water || !number)
+        return TSC_NULL;
+    return tsc_open_shared(place, page_first, page_max, min_pages, retention, low_water, seats, limit, number);
+}
+
+static inline uint32_t tsc_try_move(tsc_place *place, uint64_t number, tsc_place *other, uint64_t *other_number)
+{
+    return place && other && other_number ? tsc_move(place, number, other, other_number) : (uint32_t)TSC_NULL;
+}
+
+static inline uint32_t tsc_try_close(tsc_place *place, uint64_t number)
+{
+    return place ? tsc_close(place, number) : (uint32_t)TSC_NULL;
+}
+
+static inline uint32_t tsc_seat_try_close(tsc_place *place, uint64_t seat)
+{
+    return place ? tsc_seat_close(place, seat) : (uint32_t)TSC_NULL;
+}
+
+static inline uint32_t tsc_try_close_shared(tsc_place *place, uint64_t number, uint64_t *length)
+{
+    return place && length ? tsc_close_shared(place, number, length) : (uint32_t)TSC_NULL;
+}
+
+static inline void tsc_try_free(tsc_place *place)
+{
+    if (place)
+        tsc_free(place);
+}
 
 static inline const uint8_t *tsc_bytes(const void *bytes)
 {

@@ -49,12 +49,19 @@ int main(int words, char **word)
     }
     for (uint64_t i = 0; i < PLACES; i++)
         key_of(i * STRIDE % nodes, keys[i]);
+    uint64_t latest = 0;
     double least[2] = {1e18, 1e18};
     for (int turn = 0; turn < TURNS; turn++) {
         double start = now();
-        for (int i = 0; i < PLACES; i++)
+        for (int i = 0; i < PLACES; i++) {
             must(tsc_get_max(&place, cache, keys[i], 8, keys[i], 0, TSC_POINT, &found));
+            latest = found.wall > latest ? found.wall : latest;
+        }
         double middle = now();
+        if (latest != value.wall) {
+            fprintf(stderr, "a lookup answered another time than that of the last Add\n");
+            return 1;
+        }
         value.wall++;
         for (int i = 0; i < PLACES; i++)
             must(tsc_add(&place, cache, keys[i], 8, keys[i], 0, TSC_POINT, &value, &moment, &added));

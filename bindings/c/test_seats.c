@@ -1,5 +1,6 @@
 /* Tests shared caches, which threads use by their seats, through the header as a program in C would, and says at the end
  * `N passed, M failed`. */
+#define _POSIX_C_SOURCE 200112L
 #include <inttypes.h>
 #include <pthread.h>
 #include <sched.h>
@@ -114,10 +115,18 @@ static void nulls(void)
     CHECK(tsc_seat_try_get_max(p, 1, "a", 1, NULL, 0, TSC_POINT, &seen, NULL) == TSC_NULL);
     CHECK(tsc_seat_try_low_water(NULL, 1, &seen, &floor) == TSC_NULL && tsc_seat_try_low_water(p, 1, NULL, &floor) == TSC_NULL && tsc_seat_try_low_water(p, 1, &seen, NULL) == TSC_NULL);
     CHECK(tsc_seat_try_figures_of(NULL, 1, &seen, &f) == TSC_NULL && tsc_seat_try_figures_of(p, 1, NULL, &f) == TSC_NULL && tsc_seat_try_figures_of(p, 1, &seen, NULL) == TSC_NULL);
+    tsc_place empty = {NULL};
+    uint64_t opened = 77, adds = 77;
+    CHECK(tsc_try_open_shared(NULL, 132, 1024, 2, 10, &LOW, 1, 9, &opened) == TSC_NULL && tsc_try_open_shared(&empty, 132, 1024, 2, 10, NULL, 1, 9, &opened) == TSC_NULL && tsc_try_open_shared(&empty, 132, 1024, 2, 10, &LOW, 1, 9, NULL) == TSC_NULL);
+    CHECK(tsc_seat_try_close(NULL, 1) == TSC_NULL && tsc_try_close_shared(NULL, n, &adds) == TSC_NULL && tsc_try_close_shared(p, n, NULL) == TSC_NULL);
+    CHECK(opened == 77 && adds == 77 && empty.at == NULL);
     CHECK(at == 77 && seen == 77 && a.evicted == 99 && v.wall == 7 && floor.wall == 7 && f.pages == 7 && f.nodes == 7 && f.bytes == 7);
     CHECK(answers(p, 1, "a", 5, 0) && has(p, 1, 1, 0, 0));
     CHECK(tsc_seat_try_low_water(p, 1, &seen, &floor) == TSC_OK && seen == 0 && floor.wall == 5);
-    tsc_free(p);
+    CHECK(tsc_seat_try_close(p, 1) == TSC_OK && tsc_seat_try_close(p, 1) == TSC_CLOSED && tsc_try_close_shared(p, n, &adds) == TSC_OK && adds == 0);
+    CHECK(tsc_try_open_shared(p, 132, 1024, 2, 10, &LOW, 1, 9, &opened) == TSC_OK && opened == n + 2 && answers(p, opened + 1, "a", 5, 0));
+    tsc_try_free(p);
+    CHECK(place.at == NULL);
 }
 
 /* What can be counted is of the history that the seat has seen. */
@@ -199,22 +208,37 @@ static void refusals(void)
 
 enum { THREADS = 8, CALLS = 10000, KEYS = 64 };
 
+/* An Add at its place in the history. A wall of 0: none was there. */
+struct entry {
+    int key;
+    tsc_value value;
+};
+
+/* What a lookup answered, and how many Adds its seat had seen then. */
+struct answer {
+    int key;
+    uint64_t seen;
+    tsc_value value;
+};
+
 struct thread {
     tsc_place place;
     uint64_t seat, accepted, busy;
-    uint8_t *taken; /* of each place in the history whether an Add had it */
+    struct entry *history; /* of all threads */
+    struct answer answers[CALLS];
+    int lookups, number;
     bool right;
-    int number;
 };
 
 static pthread_mutex_t taking = PTHREAD_MUTEX_INITIALIZER;
+static pthread_barrier_t start; /* all begin at once, since each alone is done in some milliseconds */
 
-static bool takes(uint8_t *taken, uint64_t at)
+static bool takes(struct entry *history, uint64_t at, struct entry entry)
 {
     pthread_mutex_lock(&taking);
-    bool first = at < (uint64_t)THREADS * CALLS && !taken[at];
+    bool first = at < (uint64_t)THREADS * CALLS && !history[at].value.wall;
     if (first)
-        taken[at] = 1;
+        history[at] = entry;
     pthread_mutex_unlock(&taking);
     return first;
 }
@@ -223,11 +247,13 @@ static void *work(void *handed)
 {
     struct thread *t = handed;
     uint64_t latest[KEYS] = {0}, seen = 0, last = 0, random = (uint64_t)t->number + 1;
+    pthread_barrier_wait(&start);
     for (int i = 0; i < CALLS; i++) {
         random = random * UINT64_C(6364136223846793005) + UINT64_C(1442695040888963407);
         uint8_t k = (uint8_t)((random >> 40) % KEYS), key[2] = {'k', k};
         if ((random >> 60) < 6) {
-            tsc_value v = {100 + (uint64_t)i * THREADS + (uint64_t)t->number, 0, {0}};
+            /* no two Adds have one time */
+            tsc_value v = {100 + (uint64_t)i * THREADS + (uint64_t)t->number, 0, {(uint8_t)(t->number + 1)}};
             tsc_added added;
             uint64_t at = 0;
             tsc_mark mark = {0, 2, 0, 0, v, TSC_POINT};
@@ -238,11 +264,13 @@ static void *work(void *handed)
                 : tsc_seat_try_add_all(&t->place, t->seat, key, 2, &mark, 1, &NOW, tries, &at, &added);
             if (answer == TSC_OK) {
                 /* it is behind all that was seen, at a place of its own, and is seen from now on */
-                t->right = t->right && at >= seen && (t->accepted == 0 || at > last) && takes(t->taken, at);
+                t->right = t->right && at >= seen && (t->accepted == 0 || at > last) && takes(t->history, at, (struct entry){k, v});
+                /* its time is above the floor, and no page is older than the retention, so none is dropped */
+                t->right = t->right && added.kept && added.evicted == 0;
                 last = at;
                 seen = at + 1;
                 t->accepted++;
-                if (added.kept && v.wall > latest[k])
+                if (v.wall > latest[k])
                     latest[k] = v.wall;
             } else {
                 t->right = t->right && answer == TSC_BUSY && tries == 16;
@@ -256,6 +284,7 @@ static void *work(void *handed)
             t->right = t->right && answer == TSC_OK && long_ >= seen && v.wall >= latest[k];
             seen = long_;
             latest[k] = v.wall;
+            t->answers[t->lookups++] = (struct answer){k, long_, v};
         }
     }
     t->right = t->right && tsc_seat_close(&t->place, t->seat) == TSC_OK;
@@ -263,32 +292,65 @@ static void *work(void *handed)
     return NULL;
 }
 
+static bool same(const tsc_value *a, const tsc_value *b)
+{
+    return a->wall == b->wall && a->logical == b->logical && memcmp(a->owner, b->owner, 16) == 0;
+}
+
+/* Each lookup of a thread answered the latest of its key among the first Adds of the history, as many as its seat had seen, or the floor. What
+ * a seat has seen never goes back, so one pass over the history does for all of them. */
+static bool as_in_history(const struct thread *t, const struct entry *history, uint64_t length)
+{
+    tsc_value latest[KEYS];
+    uint64_t at = 0;
+    bool each = t->lookups > 0;
+    for (int k = 0; k < KEYS; k++)
+        latest[k] = (tsc_value){LOW.wall, LOW.logical, {0}};
+    for (const struct answer *a = t->answers; a < t->answers + t->lookups; a++) {
+        each = each && at <= a->seen && a->seen <= length;
+        for (; each && at < a->seen; at++)
+            if (history[at].value.wall > latest[history[at].key].wall)
+                latest[history[at].key] = history[at].value;
+        each = each && same(&a->value, &latest[a->key]);
+    }
+    return each;
+}
+
 static void threads(void)
 {
     static struct thread all[THREADS];
-    static uint8_t taken[THREADS * CALLS];
+    static struct entry history[THREADS * CALLS];
     pthread_t running[THREADS];
     tsc_place place = {NULL};
-    uint64_t n, adds = 77, accepted = 0, busy = 0;
+    uint64_t n, adds = 77, accepted = 0, busy = 0, lookups = 0;
     CHECK(tsc_open_shared(&place, 65536, 1 << 20, 2, 10, &LOW, THREADS, (uint64_t)THREADS * CALLS, &n) == TSC_OK);
     for (int i = 0; i < THREADS; i++) {
-        all[i] = (struct thread){.taken = taken, .right = true, .number = i};
+        all[i].history = history;
+        all[i].right = true;
+        all[i].number = i;
         CHECK(tsc_move(&place, n + 1 + (uint64_t)i, &all[i].place, &all[i].seat) == TSC_OK);
     }
+    CHECK(pthread_barrier_init(&start, NULL, THREADS) == 0);
     for (int i = 0; i < THREADS; i++)
-        CHECK(pthread_create(&running[i], NULL, work, &all[i]) == 0);
+        if (pthread_create(&running[i], NULL, work, &all[i]) != 0) {
+            printf("a thread was not started\n");
+            exit(1);
+        }
     for (int i = 0; i < THREADS; i++) {
         CHECK(pthread_join(running[i], NULL) == 0 && all[i].right);
         accepted += all[i].accepted;
         busy += all[i].busy;
+        lookups += (uint64_t)all[i].lookups;
     }
     bool each = true; /* the places are those of one history */
     for (uint64_t at = 0; at < (uint64_t)THREADS * CALLS; at++)
-        each = each && taken[at] == (at < accepted);
+        each = each && (history[at].value.wall != 0) == (at < accepted);
     CHECK(each && accepted > 0);
+    for (int i = 0; i < THREADS; i++)
+        CHECK(as_in_history(&all[i], history, accepted));
     CHECK(tsc_close_shared(&place, n, &adds) == TSC_OK && adds == accepted);
     tsc_free(&place);
-    printf("%d threads made %d calls each: %" PRIu64 " Adds, and %" PRIu64 " that others were in the way of\n", THREADS, CALLS, accepted, busy);
+    printf("%d threads made %d calls each: %" PRIu64 " Adds, %" PRIu64 " that others were in the way of, and %" PRIu64 " lookups\n", THREADS, CALLS, accepted, busy, lookups);
 }
 
 int main(void)

@@ -472,10 +472,21 @@ static void nulls(void)
     CHECK(tsc_try_get_max(p, n, "b", 1, NULL, 1, 0, &out) == TSC_NULL && tsc_try_get_max(p, n, "b", 1, NULL, 0, TSC_POINT, NULL) == TSC_NULL);
     CHECK(tsc_try_low_water(NULL, n, &floor) == TSC_NULL && tsc_try_low_water(p, n, NULL) == TSC_NULL);
     CHECK(tsc_try_figures_of(NULL, n, &f) == TSC_NULL && tsc_try_figures_of(p, n, NULL) == TSC_NULL);
+    tsc_place empty = {NULL};
+    uint64_t opened = 77;
+    CHECK(tsc_try_open(NULL, 132, 132, 2, 10, &AT_20, &opened) == TSC_NULL && tsc_try_open(&empty, 132, 132, 2, 10, NULL, &opened) == TSC_NULL && tsc_try_open(&empty, 132, 132, 2, 10, &AT_20, NULL) == TSC_NULL);
+    CHECK(tsc_try_move(NULL, n, &empty, &opened) == TSC_NULL && tsc_try_move(p, n, NULL, &opened) == TSC_NULL && tsc_try_move(p, n, &empty, NULL) == TSC_NULL);
+    CHECK(tsc_try_close(NULL, n) == TSC_NULL);
+    tsc_try_free(NULL);
     CHECK(a.evicted == 99 && a.kept && a.rotated && out.wall == 1 && out.logical == 2 && out.owner[0] == 3 && floor.wall == 7 && f.pages == 7 && f.rotations == 8 && f.nodes == 9 && f.bytes == 10);
+    CHECK(opened == 77 && empty.at == NULL);
     CHECK(answers(&c, "b", 5, 0, '-') && has(&c, 1, 0, 5, 0) && counts(&c, 0, 0));
     CHECK(tsc_try_low_water(p, n, &floor) == TSC_OK && floor.wall == 5 && floor.logical == 0 && tsc_try_figures_of(p, n, &f) == TSC_OK && f.pages == 1 && f.rotations == 0 && f.nodes == 0 && f.bytes == 0);
-    tsc_free(p);
+    CHECK(tsc_try_open(&empty, 132, 132, 2, 10, &AT_20, &opened) == TSC_OK && opened == 0 && tsc_try_move(p, n, &empty, &opened) == TSC_OK && opened == 1);
+    CHECK(tsc_try_low_water(&empty, 1, &floor) == TSC_OK && floor.wall == 5 && tsc_try_close(&empty, 1) == TSC_OK && tsc_try_close(&empty, 1) == TSC_CLOSED && tsc_try_close(p, n) == TSC_CLOSED);
+    tsc_try_free(&empty);
+    CHECK(empty.at == NULL);
+    tsc_try_free(p);
 }
 
 /* Lookups ask for no memory, and take keys of any length. */
@@ -507,40 +518,83 @@ static void lookups(void)
     tsc_free(&c.place);
 }
 
-/* Numbers that were never given, and such as were given and closed. */
+/* How many of the calls that take a number don't answer that this one names nothing, or write something. */
+static uint64_t names_something(tsc_place *place, uint64_t number)
+{
+    static const tsc_value READ = {30, 0, {0x11}};
+    static const tsc_mark MARK = {0, 1, 0, 0, {30, 0, {0x11}}, TSC_POINT};
+    tsc_place other = {NULL};
+    tsc_value v = {7, 7, {7}};
+    tsc_added a = {7, false, true};
+    tsc_time floor = {7, 7};
+    tsc_figures f = {7, 7, 7, 7};
+    uint64_t at = 7, seen = 7, moved = 7, adds = 7, wrong = 0;
+    wrong += tsc_try_get_max(place, number, "b", 1, NULL, 0, TSC_POINT, &v) != TSC_CLOSED;
+    wrong += tsc_low_water(place, number, &floor) != TSC_CLOSED;
+    wrong += tsc_figures_of(place, number, &f) != TSC_CLOSED;
+    wrong += tsc_try_add(place, number, "b", 1, NULL, 0, TSC_POINT, &READ, &AT_20, &a) != TSC_CLOSED;
+    wrong += tsc_try_add_all(place, number, "b", 1, &MARK, 1, &AT_20, &a) != TSC_CLOSED;
+    wrong += tsc_close(place, number) != TSC_CLOSED;
+    wrong += tsc_seat_try_get_max(place, number, "b", 1, NULL, 0, TSC_POINT, &seen, &v) != TSC_CLOSED;
+    wrong += tsc_seat_low_water(place, number, &seen, &floor) != TSC_CLOSED;
+    wrong += tsc_seat_figures_of(place, number, &seen, &f) != TSC_CLOSED;
+    wrong += tsc_seat_try_add(place, number, "b", 1, NULL, 0, TSC_POINT, &READ, &AT_20, 1, &at, &a) != TSC_CLOSED;
+    wrong += tsc_seat_try_add_all(place, number, "b", 1, &MARK, 1, &AT_20, 1, &at, &a) != TSC_CLOSED;
+    wrong += tsc_seat_close(place, number) != TSC_CLOSED;
+    wrong += tsc_close_shared(place, number, &adds) != TSC_CLOSED;
+    wrong += tsc_move(place, number, &other, &moved) != TSC_CLOSED || tsc_close(&other, 0) != TSC_CLOSED;
+    wrong += at != 7 || seen != 7 || moved != 7 || adds != 7 || v.wall != 7 || a.evicted != 7 || a.kept || !a.rotated || floor.wall != 7 || f.pages != 7;
+    tsc_free(&other); /* which a refused move may have given some memory */
+    return wrong;
+}
+
+/* Numbers that were never given, and such as were given and closed, or moved. */
 static void numbers(void)
 {
-    static tsc_place place; /* zeros */
+    enum { LIVE_CACHE, SECOND_CACHE, LIVE_SHARED, LIVE_SEAT, CLOSED_SEAT, MOVED_SEAT, CLOSED_CACHE, MOVED_CACHE, CLOSED_SHARED, ITS_SEAT, GIVEN };
+    static const uint64_t STALE[] = {CLOSED_SEAT, MOVED_SEAT, CLOSED_CACHE, MOVED_CACHE, CLOSED_SHARED, ITS_SEAT};
+    static tsc_place place, other; /* zeros */
     tsc_value v = {20, 0, {0}};
     tsc_added a;
     tsc_time low = {5, 0}, floor;
     tsc_figures f;
-    uint64_t first = 77, second = 78, third = 79;
+    uint64_t first = 77, second = 78, third = 79, shared = 77, last = 77, at = 77, seen = 77, adds = 77;
+    CHECK(names_something(&place, 0) == 0 && place.at == NULL);
     CHECK(tsc_close(&place, 0) == TSC_CLOSED && tsc_low_water(&place, 0, &floor) == TSC_CLOSED && tsc_figures_of(&place, 0, &f) == TSC_CLOSED);
     CHECK(tsc_try_get_max(&place, 0, "b", 1, NULL, 0, TSC_POINT, &v) == TSC_CLOSED);
-    CHECK(tsc_open(&place, 132, 132, 2, 10, &low, &first) == TSC_OK && tsc_open(&place, 132, 132, 2, 10, &low, &second) == TSC_OK && first != second);
+    CHECK(tsc_open(&place, 132, 132, 2, 10, &low, &first) == TSC_OK && tsc_open(&place, 132, 132, 2, 10, &low, &second) == TSC_OK && first == LIVE_CACHE && second == SECOND_CACHE);
     CHECK(tsc_try_add(&place, first, "b", 1, NULL, 0, TSC_POINT, &v, &AT_20, &a) == TSC_OK && a.kept);
+    CHECK(tsc_open_shared(&place, 132, 132, 2, 10, &low, 3, 9, &shared) == TSC_OK && shared == LIVE_SHARED);
+    CHECK(tsc_seat_try_add(&place, LIVE_SEAT, "b", 1, NULL, 0, TSC_POINT, &v, &AT_20, 1, &at, &a) == TSC_OK && at == 0);
+    CHECK(tsc_seat_close(&place, CLOSED_SEAT) == TSC_OK && tsc_move(&place, MOVED_SEAT, &other, &at) == TSC_OK && at == 0);
+    CHECK(tsc_open(&place, 132, 132, 2, 10, &low, &at) == TSC_OK && at == CLOSED_CACHE && tsc_close(&place, CLOSED_CACHE) == TSC_OK);
+    CHECK(tsc_open(&place, 132, 132, 2, 10, &low, &at) == TSC_OK && at == MOVED_CACHE && tsc_move(&place, MOVED_CACHE, &other, &at) == TSC_OK && at == 1);
+    CHECK(tsc_open_shared(&place, 132, 132, 2, 10, &low, 1, 9, &last) == TSC_OK && last == CLOSED_SHARED);
+    CHECK(tsc_seat_close(&place, ITS_SEAT) == TSC_OK && tsc_close_shared(&place, CLOSED_SHARED, &adds) == TSC_OK && adds == 0);
 
     uint64_t x = UINT64_C(88172645463325252), wrong = 0;
     for (int i = 0; i < 100000; i++) {
         x ^= x << 13;
         x ^= x >> 7;
         x ^= x << 17;
-        uint64_t number = i % 2 ? x : 2 + x % 1000;
-        wrong += tsc_try_get_max(&place, number, "b", 1, NULL, 0, TSC_POINT, &v) != TSC_CLOSED;
-        wrong += tsc_try_add(&place, number, "b", 1, NULL, 0, TSC_POINT, &v, &AT_20, &a) != TSC_CLOSED;
-        wrong += tsc_close(&place, number) != TSC_CLOSED;
+        uint64_t made_up = i % 2 ? x : GIVEN + x % 1000;
+        wrong += names_something(&place, i % 3 ? made_up : STALE[x % (sizeof STALE / sizeof *STALE)]);
     }
     CHECK(wrong == 0);
     CHECK(tsc_try_get_max(&place, first, "b", 1, NULL, 0, TSC_POINT, &v) == TSC_OK && v.wall == 20);
     CHECK(tsc_try_get_max(&place, second, "b", 1, NULL, 0, TSC_POINT, &v) == TSC_OK && v.wall == 5);
+    CHECK(tsc_seat_try_get_max(&place, LIVE_SEAT, "b", 1, NULL, 0, TSC_POINT, &seen, &v) == TSC_OK && v.wall == 20 && seen == 1);
+    CHECK(tsc_seat_try_get_max(&other, 0, "b", 1, NULL, 0, TSC_POINT, &seen, &v) == TSC_OK && v.wall == 20 && seen == 1);
+    CHECK(tsc_close_shared(&place, shared, &adds) == TSC_STILL_OUT && tsc_seat_close(&place, LIVE_SEAT) == TSC_OK && tsc_close(&other, 1) == TSC_OK);
+    tsc_free(&other);
+    CHECK(tsc_close_shared(&place, shared, &adds) == TSC_OK && adds == 1);
 
     CHECK(tsc_close(&place, first) == TSC_OK && tsc_close(&place, first) == TSC_CLOSED); /* closed twice */
     CHECK(tsc_try_get_max(&place, first, "b", 1, NULL, 0, TSC_POINT, &v) == TSC_CLOSED);
     CHECK(tsc_open(&place, 132, 132, 2, 10, &low, &third) == TSC_OK && third != first && third != second);
     wrong = 0;
     for (int i = 0; i < 1000; i++) /* the stale number stays stale */
-        wrong += tsc_try_add(&place, first, "b", 1, NULL, 0, TSC_POINT, &v, &AT_20, &a) != TSC_CLOSED;
+        wrong += names_something(&place, first);
     CHECK(wrong == 0);
     CHECK(tsc_try_get_max(&place, second, "b", 1, NULL, 0, TSC_POINT, &v) == TSC_OK && v.wall == 5);
 

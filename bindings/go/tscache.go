@@ -233,6 +233,9 @@ type Shared struct {
 }
 
 // Seat is a seat of a shared cache, in a place of its own. Its calls come one at a time; those of different seats may come at once.
+//
+// There is one history of all Adds of the cache, and what a seat has seen are the first so many of it. So a lookup that tells more of them than the
+// place of an Add counts that Add, whichever seat made it, and so does each later lookup of its seat.
 type Seat struct {
 	place  *C.tsc_place
 	number C.uint64_t
@@ -386,8 +389,9 @@ func (s *Seat) Figures() (Figures, uint64, error) {
 	return figuresOf(out), uint64(seen), done(code)
 }
 
+// newPlace gives a place with room behind it, so that no two lie in one line of the processor's caches: each call writes to its place.
 func newPlace() *C.tsc_place {
-	return (*C.tsc_place)(C.calloc(1, C.size_t(unsafe.Sizeof(C.tsc_place{}))))
+	return (*C.tsc_place)(C.calloc(128, 1))
 }
 
 // flat gives the keys of some marks, one behind the other, and the marks with their places there, and the first of these.

@@ -105,6 +105,7 @@ impl<'a> Span<'a> {
         Span::Range { from, to, exclude_from: false, exclude_to: true }
     }
 
+    #[inline]
     fn parts(&self) -> (&'a [u8], &'a [u8], u32) {
         match *self {
             Span::Point(key) => (key, &[], ffi::POINT),
@@ -207,11 +208,13 @@ impl std::error::Error for Error {}
 
 /// Ends the program where a call that only reads was refused, which none of this crate brings about: what it would tell else is a time of
 /// zero, below which any write passes.
+#[inline]
 #[track_caller]
 fn answered(code: u32) {
     assert_eq!(code, 0, "a call that only reads was refused");
 }
 
+#[inline]
 fn done(code: u32) -> Result<(), Error> {
     Err(match code {
         0 => return Ok(()),
@@ -231,18 +234,21 @@ fn done(code: u32) -> Result<(), Error> {
 }
 
 impl From<Time> for ffi::Time {
+    #[inline]
     fn from(time: Time) -> ffi::Time {
         ffi::Time { wall: time.wall, logical: time.logical }
     }
 }
 
 impl From<Value> for ffi::Value {
+    #[inline]
     fn from(value: Value) -> ffi::Value {
         ffi::Value { wall: value.time.wall, logical: value.time.logical, owner: value.owner.unwrap_or([0; 16]) }
     }
 }
 
 impl From<ffi::Value> for Value {
+    #[inline]
     fn from(value: ffi::Value) -> Value {
         let owner = Some(value.owner).filter(|owner| *owner != [0; 16]);
         Value { time: Time::new(value.wall, value.logical), owner }
@@ -250,6 +256,7 @@ impl From<ffi::Value> for Value {
 }
 
 impl From<ffi::Added> for Added {
+    #[inline]
     fn from(added: ffi::Added) -> Added {
         Added { kept: added.kept, rotated: added.rotated, evicted: added.evicted }
     }
@@ -282,7 +289,9 @@ fn flat(marks: &[Mark<'_>]) -> (Vec<u8>, Vec<ffi::Mark>) {
 /// fn moved<T: Send>() {}
 /// moved::<tscache::Cache>();
 /// ```
+// Each call writes to its place, so those that threads use at once lie in different lines of the processor's caches, and not beside each other.
 #[derive(Debug)]
+#[repr(align(128))]
 pub struct Cache {
     place: ffi::Place,
     number: u64,
@@ -310,6 +319,7 @@ impl Cache {
     }
 
     /// Adds a span that was read, with the time and the owner of the read, at the moment `now`.
+    #[inline]
     pub fn add(&mut self, span: &Span<'_>, value: Value, now: Time) -> Result<Added, Error> {
         let (from, to, ends) = span.parts();
         let mut added = ffi::Added { evicted: 0, kept: false, rotated: false };
@@ -343,6 +353,7 @@ impl Cache {
 
     /// The latest time on a span, with its owner where all reads of that time are one transaction's, or the floor. A range whose
     /// first key is greater than the second is empty, and the floor answers. Keys may be of any length, and no memory is taken.
+    #[inline]
     pub fn get_max(&mut self, span: &Span<'_>) -> Value {
         let (from, to, ends) = span.parts();
         let mut found = ffi::Value { wall: 0, logical: 0, owner: [0; 16] };
@@ -401,6 +412,9 @@ pub struct Shared {
 
 /// A seat of a [shared](Shared) cache, in a place of its own. It is handed in where it is dropped.
 ///
+/// There is one history of all Adds of the cache, and what a seat has seen are the first so many of it. So a lookup that tells more of them than the place
+/// of an Add counts that Add, whichever seat made it, and so does each later lookup of its seat.
+///
 /// It may go to another thread, and is used by one at a time:
 ///
 /// ```compile_fail
@@ -413,7 +427,9 @@ pub struct Shared {
 /// moved::<tscache::Seat>();
 /// moved::<tscache::Shared>();
 /// ```
+// It lies apart as a `Cache` does.
 #[derive(Debug)]
+#[repr(align(128))]
 pub struct Seat {
     place: ffi::Place,
     number: u64,
@@ -463,6 +479,7 @@ impl Drop for Shared {
 impl Seat {
     /// Adds a span that was read, and tells which place the Add has among all of the cache, counted from 0. It waits for nobody:
     /// where others are in the way at each of so many tries it is refused as [`Error::Busy`], and may be tried again.
+    #[inline]
     pub fn add(&mut self, span: &Span<'_>, value: Value, now: Time, tries: u32) -> Result<(u64, Added), Error> {
         let (from, to, ends) = span.parts();
         let (mut place, mut added) = (0, ffi::Added { evicted: 0, kept: false, rotated: false });
@@ -487,6 +504,7 @@ impl Seat {
     }
 
     /// The latest time on a span, as [`Cache::get_max`] answers, and how many Adds the seat has seen then. It waits for nobody.
+    #[inline]
     pub fn get_max(&mut self, span: &Span<'_>) -> (Value, u64) {
         let (from, to, ends) = span.parts();
         let (mut seen, mut found) = (0, ffi::Value { wall: 0, logical: 0, owner: [0; 16] });
