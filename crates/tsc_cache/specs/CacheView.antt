@@ -8,7 +8,7 @@ use Rattle.tsc_page_base.specs.Page.{Mark, PageMarks, empty_page, with_mark}
 use Rattle.tsc_page_base.specs.PageView.{PageView, StandsFor, answer, is_in, has_room_for}
 use Rattle.tsc_cache.specs.declared.added.Added.{Added}
 use Rattle.tsc_cache.specs.Settings.{Settings}
-use Rattle.tsc_cache.specs.State.{CacheState, is_kept, not_kept, kept_without_rotation, kept_after_rotation, counted_on, next_size}
+use Rattle.tsc_cache.specs.State.{CacheState, step, step_all, is_kept, not_kept, kept_without_rotation, kept_after_rotation, counted_on, next_size}
 use Rattle.tsc_cache.specs.Eviction.{highest, Evicts}
 use Rattle.tsc_cache.specs.Lookup.{LooksInto}
 
@@ -32,6 +32,22 @@ pub record StandsForState (v : CacheView) (settings : Settings) (s : CacheState)
   pub floor : v.floor ≡ s.floor
   pub pages : EachStandsFor v.pages s.pages
   pub rotations : v.rotations ≡ s.rotations
+
+-- Whatever state a cache stood for, it stands for the one after an Add then.
+abbrev pub StandsAfter : CacheView → CacheView → Mark → Time → Type 0
+StandsAfter old new m now = (settings : Settings) (s : CacheState) → StandsForState old settings s → StandsForState new settings (step settings s m now).state
+
+-- this is what an Add did, whatever state the cache stood for before it
+abbrev pub TellsAdded : CacheView → Mark → Time → Added → Type 0
+TellsAdded old m now added = (settings : Settings) (s : CacheState) → StandsForState old settings s → added ≡ (step settings s m now).added
+
+-- The same of several marks, one after another at a moment.
+abbrev pub StandsAfterAll : CacheView → CacheView → List Mark → Time → Type 0
+StandsAfterAll old new ms now = (settings : Settings) (s : CacheState) → StandsForState old settings s → StandsForState new settings (step_all settings s ms now).state
+
+-- and of what they did together
+abbrev pub TellsAddedAll : CacheView → List Mark → Time → Added → Type 0
+TellsAddedAll old ms now added = (settings : Settings) (s : CacheState) → StandsForState old settings s → added ≡ (step_all settings s ms now).added
 
 -- what a cache answers to a span: what its floor and the answer of each page come to together
 abbrev pub cache_answer : CacheView → Interval → OwnedTime

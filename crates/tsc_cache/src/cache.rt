@@ -5,10 +5,10 @@ ghost use Rattle.tsc_span.specs.LookupSpan.{span_for_lookup};
 ghost use Rattle.tsc_span.specs.Cuts.{cut_of};
 ghost use Rattle.tsc_page_base.specs.KeysAbove.{IsLeastAbove};
 ghost use Rattle.tsc_cache.specs.Settings.{Settings, fits};
-ghost use Rattle.tsc_cache.specs.State.{CacheState, opening, step, step_all, look, is_kept, kept_after_rotation};
+ghost use Rattle.tsc_cache.specs.State.{CacheState, opening, step, look, is_kept, kept_after_rotation};
 ghost use Rattle.tsc_cache.specs.Lookup.{LooksIntoPages};
 ghost use Rattle.tsc_cache.specs.Keys.{keys_on, keys_seen};
-ghost use Rattle.tsc_cache.specs.CacheView.{StandsForState, Adds, RotatesWith, front_has_room_for, cache_answer, LooksIntoViews};
+ghost use Rattle.tsc_cache.specs.CacheView.{StandsForState, StandsAfter, StandsAfterAll, TellsAdded, TellsAddedAll, Adds, RotatesWith, front_has_room_for, cache_answer, LooksIntoViews};
 ghost use Rattle.tsc_cache.specs.Counts.{figures_of, figures_seen};
 ghost use Rattle.tsc_cache.specs.Batch.{all_fit, is_any_kept, AddsAll, AddsSome, LeavesSome};
 
@@ -77,10 +77,8 @@ impl Cache {
     ///
     /// It restates `intervalSkl.AddRange` of CockroachDB's `pkg/kv/kvserver/tscache/interval_skl.go`.
     pub fn add(&mut self, span: &Span, value: Value, now: Timestamp) -> Result<Added, CacheFault>
-        ensures stands { OnOk result ((settings : Settings) (s : CacheState) → StandsForState self.old settings s
-            → StandsForState self.new settings (step settings s (record { span = span.now; value = value }) now).state) }
-        ensures added { IfOk result (λ added. (settings : Settings) (s : CacheState) → StandsForState self.old settings s
-            → added ≡ (step settings s (record { span = span.now; value = value }) now).added) }
+        ensures stands { OnOk result (StandsAfter self.old self.new (record { span = span.now; value = value }) now) }
+        ensures added { IfOk result (TellsAdded self.old (record { span = span.now; value = value }) now) }
         ensures seen { IfOk result (λ added. Adds self.old self.new (record { span = span.now; value = value }) now added) }
         ensures too_large { IsErrOf result CacheFault.TooLarge ↔ (fits self.old.settings span.now ≡ false) }
         ensures unchanged { OnErr result (self.new ≡ self.old) }
@@ -102,10 +100,8 @@ impl Cache {
         value: Value,
         now: Timestamp,
     ) -> Result<(Cache, Added), CacheFault>
-        ensures stands { IfOk result (λ next. (settings : Settings) (s : CacheState) → StandsForState self.now settings s
-            → StandsForState next.0 settings (step settings s (record { span = span.now; value = value }) now).state) }
-        ensures added { IfOk result (λ next. (settings : Settings) (s : CacheState) → StandsForState self.now settings s
-            → next.1 ≡ (step settings s (record { span = span.now; value = value }) now).added) }
+        ensures stands { IfOk result (λ next. StandsAfter self.now next.0 (record { span = span.now; value = value }) now) }
+        ensures added { IfOk result (λ next. TellsAdded self.now (record { span = span.now; value = value }) now next.1) }
         ensures seen { IfOk result (λ next. Adds self.now next.0 (record { span = span.now; value = value }) now next.1) }
         ensures too_large { IsErrOf result CacheFault.TooLarge ↔ (fits self.now.settings span.now ≡ false) }
     {
@@ -123,10 +119,8 @@ impl Cache {
     /// Where none is kept nothing changes, and no memory is taken. Any other batch is made as by
     /// [`next_all`](Cache::next_all), and then takes the cache's place.
     pub fn add_all(&mut self, marks: &[Mark], now: Timestamp) -> Result<Added, CacheFault>
-        ensures stands { OnOk result ((settings : Settings) (s : CacheState) → StandsForState self.old settings s
-            → StandsForState self.new settings (step_all settings s marks.now now).state) }
-        ensures added { IfOk result (λ added. (settings : Settings) (s : CacheState) → StandsForState self.old settings s
-            → added ≡ (step_all settings s marks.now now).added) }
+        ensures stands { OnOk result (StandsAfterAll self.old self.new marks.now now) }
+        ensures added { IfOk result (TellsAddedAll self.old marks.now now) }
         ensures seen { IfOk result (λ added. AddsAll self.old self.new marks.now now added) }
         ensures too_large { IsErrOf result CacheFault.TooLarge ↔ (all_fit self.old.settings marks.now ≡ false) }
         ensures unchanged { OnErr result (self.new ≡ self.old) }
@@ -145,10 +139,8 @@ impl Cache {
     ///
     /// Where none is kept nothing changes, and no memory is taken. Else it costs an [`add`](Cache::add) for each mark.
     pub fn add_each(&mut self, marks: &[Mark], now: Timestamp) -> Result<Added, CacheFault>
-        ensures stands { OnOk result ((settings : Settings) (s : CacheState) → StandsForState self.old settings s
-            → StandsForState self.new settings (step_all settings s marks.now now).state) }
-        ensures added { IfOk result (λ added. (settings : Settings) (s : CacheState) → StandsForState self.old settings s
-            → added ≡ (step_all settings s marks.now now).added) }
+        ensures stands { OnOk result (StandsAfterAll self.old self.new marks.now now) }
+        ensures added { IfOk result (TellsAddedAll self.old marks.now now) }
         ensures seen { IfOk result (λ added. AddsAll self.old self.new marks.now now added) }
         ensures too_large { IsErrOf result CacheFault.TooLarge ↔ (all_fit self.old.settings marks.now ≡ false) }
         ensures left { IfErr result (λ fault. LeavesSome self.old self.new marks.now now fault) }
@@ -170,10 +162,8 @@ impl Cache {
     /// the way to a mark's leaf and that leaf are copied where this cache shares them, which is once for all marks. A mark for which a leaf is cut, or
     /// whose span reaches over several leaves that are shared, copies the list at the top once more.
     pub fn next_all(&self, marks: &[Mark], now: Timestamp) -> Result<(Cache, Added), CacheFault>
-        ensures stands { IfOk result (λ next. (settings : Settings) (s : CacheState) → StandsForState self.now settings s
-            → StandsForState next.0 settings (step_all settings s marks.now now).state) }
-        ensures added { IfOk result (λ next. (settings : Settings) (s : CacheState) → StandsForState self.now settings s
-            → next.1 ≡ (step_all settings s marks.now now).added) }
+        ensures stands { IfOk result (λ next. StandsAfterAll self.now next.0 marks.now now) }
+        ensures added { IfOk result (λ next. TellsAddedAll self.now marks.now now next.1) }
         ensures seen { IfOk result (λ next. AddsAll self.now next.0 marks.now now next.1) }
         ensures too_large { IsErrOf result CacheFault.TooLarge ↔ (all_fit self.now.settings marks.now ≡ false) }
     {
@@ -298,10 +288,8 @@ impl Cache {
     /// Adds a span that fits.
     fn add_fitting(&mut self, span: &Span, value: Value, now: Timestamp) -> Result<Added, NoMemory>
         requires fits { fits self.old.settings span.now ≡ true }
-        ensures stands { OnOk result ((settings : Settings) (s : CacheState) → StandsForState self.old settings s
-            → StandsForState self.new settings (step settings s (record { span = span.now; value = value }) now).state) }
-        ensures added { IfOk result (λ added. (settings : Settings) (s : CacheState) → StandsForState self.old settings s
-            → added ≡ (step settings s (record { span = span.now; value = value }) now).added) }
+        ensures stands { OnOk result (StandsAfter self.old self.new (record { span = span.now; value = value }) now) }
+        ensures added { IfOk result (TellsAdded self.old (record { span = span.now; value = value }) now) }
         ensures seen { IfOk result (λ added. Adds self.old self.new (record { span = span.now; value = value }) now added) }
         ensures unchanged { OnErr result (self.new ≡ self.old) }
         ensures memory { is_kept self.old.floor (record { span = span.now; value = value }) ≡ false → IsOk result }

@@ -1,8 +1,8 @@
 ghost use Rattle.std.specs.Prelude.{◌≡◌, ◌↔◌, ◌<◌, ◌+◌, ◌^◌, length, true, false, IsOk, IfOk, IsErrOf, OnOk, OnErr};
 ghost use Rattle.tsc_span.specs.Span.{is_empty_span};
 ghost use Rattle.tsc_cache.specs.Settings.{Settings, fits};
-ghost use Rattle.tsc_cache.specs.State.{CacheState, opening, step, step_all, look, is_kept, kept_after_rotation};
-ghost use Rattle.tsc_cache.specs.CacheView.{StandsForState, Adds, RotatesWith, cache_answer};
+ghost use Rattle.tsc_cache.specs.State.{CacheState, opening, look, is_kept, kept_after_rotation};
+ghost use Rattle.tsc_cache.specs.CacheView.{StandsForState, StandsAfter, StandsAfterAll, TellsAdded, TellsAddedAll, Adds, RotatesWith, cache_answer};
 ghost use Rattle.tsc_cache.specs.Batch.{all_fit, is_any_kept, AddsAll};
 
 use crate::config::counted_on;
@@ -58,10 +58,8 @@ impl PlainCache {
     /// cache is as before. An Add of the empty span, or with a time at or below the floor, is not kept: it
     /// changes nothing and takes no memory.
     pub fn add(&mut self, span: &Span, value: Value, now: Timestamp) -> Result<Added, CacheFault>
-        ensures stands { OnOk result ((settings : Settings) (s : CacheState) → StandsForState self.old settings s
-            → StandsForState self.new settings (step settings s (record { span = span.now; value = value }) now).state) }
-        ensures added { IfOk result (λ added. (settings : Settings) (s : CacheState) → StandsForState self.old settings s
-            → added ≡ (step settings s (record { span = span.now; value = value }) now).added) }
+        ensures stands { OnOk result (StandsAfter self.old self.new (record { span = span.now; value = value }) now) }
+        ensures added { IfOk result (TellsAdded self.old (record { span = span.now; value = value }) now) }
         ensures seen { IfOk result (λ added. Adds self.old self.new (record { span = span.now; value = value }) now added) }
         ensures too_large { IsErrOf result CacheFault.TooLarge ↔ (fits self.old.settings span.now ≡ false) }
         ensures unchanged { OnErr result (self.new ≡ self.old) }
@@ -77,10 +75,8 @@ impl PlainCache {
     /// refused, the cache is as before. Where none is kept nothing changes, and no memory is taken. Any other batch
     /// costs a copy of the whole cache.
     pub fn add_all(&mut self, marks: &[Mark], now: Timestamp) -> Result<Added, CacheFault>
-        ensures stands { OnOk result ((settings : Settings) (s : CacheState) → StandsForState self.old settings s
-            → StandsForState self.new settings (step_all settings s marks.now now).state) }
-        ensures added { IfOk result (λ added. (settings : Settings) (s : CacheState) → StandsForState self.old settings s
-            → added ≡ (step_all settings s marks.now now).added) }
+        ensures stands { OnOk result (StandsAfterAll self.old self.new marks.now now) }
+        ensures added { IfOk result (TellsAddedAll self.old marks.now now) }
         ensures seen { IfOk result (λ added. AddsAll self.old self.new marks.now now added) }
         ensures too_large { IsErrOf result CacheFault.TooLarge ↔ (all_fit self.old.settings marks.now ≡ false) }
         ensures unchanged { OnErr result (self.new ≡ self.old) }
@@ -133,10 +129,8 @@ impl PlainCache {
     /// Adds a span that fits.
     fn add_fitting(&mut self, span: &Span, value: Value, now: Timestamp) -> Result<Added, NoMemory>
         requires fits { fits self.old.settings span.now ≡ true }
-        ensures stands { OnOk result ((settings : Settings) (s : CacheState) → StandsForState self.old settings s
-            → StandsForState self.new settings (step settings s (record { span = span.now; value = value }) now).state) }
-        ensures added { IfOk result (λ added. (settings : Settings) (s : CacheState) → StandsForState self.old settings s
-            → added ≡ (step settings s (record { span = span.now; value = value }) now).added) }
+        ensures stands { OnOk result (StandsAfter self.old self.new (record { span = span.now; value = value }) now) }
+        ensures added { IfOk result (TellsAdded self.old (record { span = span.now; value = value }) now) }
         ensures seen { IfOk result (λ added. Adds self.old self.new (record { span = span.now; value = value }) now added) }
         ensures unchanged { OnErr result (self.new ≡ self.old) }
         ensures memory { is_kept self.old.floor (record { span = span.now; value = value }) ≡ false → IsOk result }
