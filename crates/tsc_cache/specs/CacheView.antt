@@ -1,11 +1,11 @@
 -- What can be seen of a cache, which state it stands for, and what an Add makes of it.
-use Rattle.std.specs.Prelude.{◌≡◌, ℕ, List, [], ◌∷◌, ◌++◌, map, length, Bool, true, false, ◌||◌, if◌then◌else◌}
+use Rattle.std.specs.Prelude.{◌≡◌, ℕ, List, [], ◌∷◌, ◌++◌, map, length, Bool, true, false}
 use Rattle.tsc_time.specs.Time.{Time, zero_time, later}
 use Rattle.tsc_time.specs.OwnedTime.{OwnedTime}
-use Rattle.tsc_time.specs.Joint.{joint, joint_above}
-use Rattle.tsc_span.specs.Span.{KeyBytes, Interval, overlaps, end_keys, span_cost}
+use Rattle.tsc_time.specs.Joint.{joint_above}
+use Rattle.tsc_span.specs.Span.{Interval, span_cost}
 use Rattle.tsc_page_base.specs.Page.{Mark, PageMarks, empty_page, with_mark}
-use Rattle.tsc_page_base.specs.PageView.{PageView, StandsFor, answer, is_in, has_room_for}
+use Rattle.tsc_page_base.specs.PageView.{PageView, StandsFor, HasKeysWith, AnswersWith, answer, has_room_for}
 use Rattle.tsc_cache.specs.declared.added.Added.{Added}
 use Rattle.tsc_cache.specs.Settings.{Settings}
 use Rattle.tsc_cache.specs.State.{CacheState, step, step_all, is_kept, not_kept, kept_without_rotation, kept_after_rotation, counted_on, next_size}
@@ -72,8 +72,8 @@ front_view_size (front ∷ older) = front.size
 pub record IsMarked (old new : PageView) (m : Mark) : Type 0 where
   pub size : new.size ≡ old.size
   pub top : new.top ≡ later old.top m.value.time
-  pub keys : (k : KeyBytes) → is_in k new.keys ≡ (is_in k old.keys || is_in k (end_keys m.span))
-  pub answers : (s : Interval) → answer new s ≡ (if overlaps m.span s then joint (answer old s) (m.value ∷ []) else answer old s)
+  pub keys : HasKeysWith old new m.span
+  pub answers : AnswersWith old new m.span m.value
 
 -- the front page has one more mark, and the older ones are as before
 abbrev pub MarksFront : List PageView → List PageView → Mark → Type 0

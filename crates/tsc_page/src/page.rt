@@ -1,12 +1,12 @@
-ghost use Rattle.std.specs.Prelude.{sum, slice_get, is_some, option_map, ◌≡◌, ◌≤◌, ◌*◌, nat_le, ◌||◌, ◌∷◌, [], true, false, IsOk, IfOk, IfSome, OnOk, OnErr, if◌then◌else◌};
+ghost use Rattle.std.specs.Prelude.{sum, slice_get, is_some, option_map, ◌≡◌, ◌≤◌, ◌*◌, nat_le, true, false, IsOk, IfOk, IfSome, OnOk, OnErr};
 ghost use Rattle.tsc_time.specs.Joint.{joint, joint_above};
 ghost use Rattle.tsc_time.specs.Time.{zero_time, is_before, later};
-ghost use Rattle.tsc_span.specs.Span.{KeyBytes, Interval, is_empty_span, overlaps, end_keys, span_cost};
+ghost use Rattle.tsc_span.specs.Span.{Interval, is_empty_span, overlaps, end_keys, span_cost};
 ghost use Rattle.tsc_span.specs.Cuts.{cut_of};
 ghost use Rattle.tsc_page_base.specs.declared.TheConstants.{LEAST_SIZE, MOST_SIZE};
-ghost use Rattle.tsc_page_base.specs.Page.{PageMarks, Mark, empty_page, with_mark, top, values_on, marked_keys, count_distinct, cost_distinct, has_room};
+ghost use Rattle.tsc_page_base.specs.Page.{PageMarks, empty_page, top, values_on, marked_keys, count_distinct, cost_distinct, has_room};
 ghost use Rattle.tsc_page_base.specs.KeysAbove.{IsLeastAbove};
-ghost use Rattle.tsc_page_base.specs.PageView.{AreLeafSizes, StandsFor, NoAnswerAboveTop, answer, is_in, bytes_of, has_room_for};
+ghost use Rattle.tsc_page_base.specs.PageView.{AreLeafSizes, StandsFor, StandsWith, HasKeysWith, AnswersWith, NoAnswerAboveTop, answer, bytes_of, has_room_for};
 
 use crate::tree::Tree;
 use std::alloc::Global;
@@ -103,13 +103,11 @@ impl Page {
     pub fn add(&mut self, span: &Span, value: Value) -> Result<(), NoMemory>
         requires not_empty { is_empty_span span.now ≡ false }
         requires room { has_room_for self.old span.now ≡ true }
-        ensures stands { OnOk result ((p : PageMarks) → StandsFor self.old p
-            → StandsFor self.new (with_mark p (record { span = span.now; value = value }))) }
+        ensures stands { OnOk result (StandsWith self.old self.new (record { span = span.now; value = value })) }
         ensures size { self.new.size ≡ self.old.size }
         ensures top { OnOk result (self.new.top ≡ later self.old.top value.time) }
-        ensures keys { OnOk result ((k : KeyBytes) → is_in k self.new.keys ≡ (is_in k self.old.keys || is_in k (end_keys span.now))) }
-        ensures answers { OnOk result ((s : Interval) → answer self.new s
-            ≡ (if overlaps span.now s then joint (answer self.old s) (value ∷ []) else answer self.old s)) }
+        ensures keys { OnOk result (HasKeysWith self.old self.new span.now) }
+        ensures answers { OnOk result (AnswersWith self.old self.new span.now value) }
         ensures unchanged { OnErr result (self.new ≡ self.old) }
     {
         self.try_add(span, value)?;
@@ -123,13 +121,11 @@ impl Page {
     pub fn try_add(&mut self, span: &Span, value: Value) -> Result<bool, NoMemory>
         requires not_empty { is_empty_span span.now ≡ false }
         ensures room { IfOk result (λ done. done ≡ has_room_for self.old span.now) }
-        ensures stands { IfOk result (λ done. done ≡ true → (p : PageMarks) → StandsFor self.old p
-            → StandsFor self.new (with_mark p (record { span = span.now; value = value }))) }
+        ensures stands { IfOk result (λ done. done ≡ true → StandsWith self.old self.new (record { span = span.now; value = value })) }
         ensures size { self.new.size ≡ self.old.size }
         ensures top { IfOk result (λ done. done ≡ true → self.new.top ≡ later self.old.top value.time) }
-        ensures keys { IfOk result (λ done. done ≡ true → (k : KeyBytes) → is_in k self.new.keys ≡ (is_in k self.old.keys || is_in k (end_keys span.now))) }
-        ensures answers { IfOk result (λ done. done ≡ true → (s : Interval) → answer self.new s
-            ≡ (if overlaps span.now s then joint (answer self.old s) (value ∷ []) else answer self.old s)) }
+        ensures keys { IfOk result (λ done. done ≡ true → HasKeysWith self.old self.new span.now) }
+        ensures answers { IfOk result (λ done. done ≡ true → AnswersWith self.old self.new span.now value) }
         ensures full { IfOk result (λ done. done ≡ false → self.new ≡ self.old) }
         ensures unchanged { OnErr result (self.new ≡ self.old) }
     {
@@ -155,13 +151,11 @@ impl Page {
     pub fn added(&self, span: &Span, value: Value) -> Result<Option<Page>, NoMemory>
         requires not_empty { is_empty_span span.now ≡ false }
         ensures room { IfOk result (λ made. is_some made ≡ has_room_for self.now span.now) }
-        ensures stands { IfOk result (λ made. IfSome made (λ page. (p : PageMarks) → StandsFor self.now p
-            → StandsFor page (with_mark p (record { span = span.now; value = value })))) }
+        ensures stands { IfOk result (λ made. IfSome made (λ page. StandsWith self.now page (record { span = span.now; value = value }))) }
         ensures size { IfOk result (λ made. IfSome made (λ page. page.size ≡ self.now.size)) }
         ensures top { IfOk result (λ made. IfSome made (λ page. page.top ≡ later self.now.top value.time)) }
-        ensures keys { IfOk result (λ made. IfSome made (λ page. (k : KeyBytes) → is_in k page.keys ≡ (is_in k self.now.keys || is_in k (end_keys span.now)))) }
-        ensures answers { IfOk result (λ made. IfSome made (λ page. (s : Interval) → answer page s
-            ≡ (if overlaps span.now s then joint (answer self.now s) (value ∷ []) else answer self.now s))) }
+        ensures keys { IfOk result (λ made. IfSome made (λ page. HasKeysWith self.now page span.now)) }
+        ensures answers { IfOk result (λ made. IfSome made (λ page. AnswersWith self.now page span.now value)) }
     {
         let Some((from, to)) = span.cuts() else {
             return Ok(None);

@@ -1,12 +1,12 @@
 -- What can be seen of a page, and which list of marks it stands for.
-use Rattle.std.specs.Prelude.{◌≡◌, ℕ, ◌≤◌, List, [], ◌∷◌, ◌++◌, nat_le, Bool, false, not, Option, Some, None, if◌then◌else◌}
+use Rattle.std.specs.Prelude.{◌≡◌, ℕ, ◌≤◌, List, [], ◌∷◌, ◌++◌, nat_le, Bool, false, not, ◌||◌, Option, Some, None, if◌then◌else◌}
 use Rattle.std.specs.List.{list_any}
 use Rattle.std.specs.Str.{bytes_eq}
 use Rattle.tsc_time.specs.Time.{Time, zero_time, is_before}
 use Rattle.tsc_time.specs.OwnedTime.{OwnedTime}
-use Rattle.tsc_time.specs.Joint.{joint_above}
-use Rattle.tsc_span.specs.Span.{KeyBytes, Interval, end_keys}
-use Rattle.tsc_page_base.specs.Page.{Mark, PageMarks, top, values_on, marked_keys, cost_distinct}
+use Rattle.tsc_time.specs.Joint.{joint, joint_above}
+use Rattle.tsc_span.specs.Span.{KeyBytes, Interval, end_keys, overlaps}
+use Rattle.tsc_page_base.specs.Page.{Mark, PageMarks, with_mark, top, values_on, marked_keys, cost_distinct}
 
 -- How many bytes a page may have, its top, its end keys, spans with values that tell its answers, and how many nodes each of its leaves has.
 pub record PageView : Type 0 where
@@ -39,6 +39,18 @@ pub record StandsFor (v : PageView) (p : PageMarks) : Type 0 where
   pub top : v.top ≡ top p
   pub keys : (k : KeyBytes) → is_in k v.keys ≡ is_in k (marked_keys p.marks)
   pub answers : (span : Interval) → answer v span ≡ joint_above zero_time (values_on span p.marks)
+
+-- Whatever list of marks a page stood for, it stands for that list with one more mark then.
+abbrev pub StandsWith : PageView → PageView → Mark → Type 0
+StandsWith old new m = (p : PageMarks) → StandsFor old p → StandsFor new (with_mark p m)
+
+-- the end keys are those that there were, and those of a span
+abbrev pub HasKeysWith : PageView → PageView → Interval → Type 0
+HasKeysWith old new span = (k : KeyBytes) → is_in k new.keys ≡ (is_in k old.keys || is_in k (end_keys span))
+
+-- What overlaps a span is answered what it was with one more value, and all else what it was.
+abbrev pub AnswersWith : PageView → PageView → Interval → OwnedTime → Type 0
+AnswersWith old new span value = (s : Interval) → answer new s ≡ (if overlaps span s then joint (answer old s) (value ∷ []) else answer old s)
 
 -- what the end keys of a page cost together, each of them once
 abbrev pub bytes_of : PageView → ℕ

@@ -1,10 +1,10 @@
-ghost use Rattle.std.specs.Prelude.{◌≡◌, ◌≤◌, ◌*◌, nat_le, ◌||◌, ◌∷◌, [], true, false, IsOk, IfOk, OnOk, OnErr, option_map, if◌then◌else◌};
+ghost use Rattle.std.specs.Prelude.{◌≡◌, ◌≤◌, ◌*◌, nat_le, ◌||◌, true, false, IsOk, IfOk, OnOk, OnErr, option_map};
 ghost use Rattle.tsc_time.specs.Joint.{joint, joint_above};
 ghost use Rattle.tsc_time.specs.Time.{zero_time, is_before, later};
-ghost use Rattle.tsc_span.specs.Span.{KeyBytes, Interval, is_empty_span, overlaps, end_keys, key_cost, span_cost};
+ghost use Rattle.tsc_span.specs.Span.{Interval, is_empty_span, overlaps, end_keys, key_cost, span_cost};
 ghost use Rattle.tsc_page_base.specs.declared.TheConstants.{LEAST_SIZE, MOST_SIZE};
-ghost use Rattle.tsc_page_base.specs.Page.{PageMarks, Mark, empty_page, with_mark, top, values_on, marked_keys, count_distinct, cost_distinct, has_room};
-ghost use Rattle.tsc_page_base.specs.PageView.{StandsFor, NoAnswerAboveTop, answer, is_in, bytes_of, has_room_for, new_weight, is_new_among};
+ghost use Rattle.tsc_page_base.specs.Page.{PageMarks, Mark, empty_page, top, values_on, marked_keys, count_distinct, cost_distinct, has_room};
+ghost use Rattle.tsc_page_base.specs.PageView.{StandsFor, StandsWith, HasKeysWith, AnswersWith, NoAnswerAboveTop, answer, is_in, bytes_of, has_room_for, new_weight, is_new_among};
 
 use std::alloc::Global;
 use std::marker::Model;
@@ -107,13 +107,11 @@ impl PlainPage {
     pub fn add(&mut self, span: &Span, value: Value) -> Result<(), NoMemory>
         requires not_empty { is_empty_span span.now ≡ false }
         requires room { has_room_for self.old span.now ≡ true }
-        ensures stands { OnOk result ((p : PageMarks) → StandsFor self.old p
-            → StandsFor self.new (with_mark p (record { span = span.now; value = value }))) }
+        ensures stands { OnOk result (StandsWith self.old self.new (record { span = span.now; value = value })) }
         ensures size { self.new.size ≡ self.old.size }
         ensures top { OnOk result (self.new.top ≡ later self.old.top value.time) }
-        ensures keys { OnOk result ((k : KeyBytes) → is_in k self.new.keys ≡ (is_in k self.old.keys || is_in k (end_keys span.now))) }
-        ensures answers { OnOk result ((s : Interval) → answer self.new s
-            ≡ (if overlaps span.now s then joint (answer self.old s) (value ∷ []) else answer self.old s)) }
+        ensures keys { OnOk result (HasKeysWith self.old self.new span.now) }
+        ensures answers { OnOk result (AnswersWith self.old self.new span.now value) }
         ensures unchanged { OnErr result (self.new ≡ self.old) }
     {
         let span = span.try_copy()?;
@@ -126,13 +124,11 @@ impl PlainPage {
     pub fn try_add(&mut self, span: &Span, value: Value) -> Result<bool, NoMemory>
         requires not_empty { is_empty_span span.now ≡ false }
         ensures room { IfOk result (λ done. done ≡ has_room_for self.old span.now) }
-        ensures stands { IfOk result (λ done. done ≡ true → (p : PageMarks) → StandsFor self.old p
-            → StandsFor self.new (with_mark p (record { span = span.now; value = value }))) }
+        ensures stands { IfOk result (λ done. done ≡ true → StandsWith self.old self.new (record { span = span.now; value = value })) }
         ensures size { self.new.size ≡ self.old.size }
         ensures top { IfOk result (λ done. done ≡ true → self.new.top ≡ later self.old.top value.time) }
-        ensures keys { IfOk result (λ done. done ≡ true → (k : KeyBytes) → is_in k self.new.keys ≡ (is_in k self.old.keys || is_in k (end_keys span.now))) }
-        ensures answers { IfOk result (λ done. done ≡ true → (s : Interval) → answer self.new s
-            ≡ (if overlaps span.now s then joint (answer self.old s) (value ∷ []) else answer self.old s)) }
+        ensures keys { IfOk result (λ done. done ≡ true → HasKeysWith self.old self.new span.now) }
+        ensures answers { IfOk result (λ done. done ≡ true → AnswersWith self.old self.new span.now value) }
         ensures full { IfOk result (λ done. done ≡ false → self.new ≡ self.old) }
         ensures unchanged { OnErr result (self.new ≡ self.old) }
     {
