@@ -134,7 +134,7 @@ impl Page {
         ensures unchanged { OnErr result (self.new ≡ self.old) }
     {
         let Some((from, to)) = span.cuts() else {
-            return Ok(true);
+            unreachable!()
         };
         let (first, second) = span.end_keys();
         if !self
@@ -164,7 +164,7 @@ impl Page {
             ≡ (if overlaps span.now s then joint (answer self.now s) (value ∷ []) else answer self.now s))) }
     {
         let Some((from, to)) = span.cuts() else {
-            return Ok(None);
+            unreachable!()
         };
         let (first, second) = span.end_keys();
         let Some(tree) = self.tree.added(first, second, from, to, value, self.size)? else {
