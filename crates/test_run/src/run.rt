@@ -31,7 +31,7 @@ const OVERLAPPING_READS_LOG: &str = "0 0 add 0 1 0 0
 ";
 
 /// Lists of calls that cannot be answered in another way, and their log.
-static RUNS: [(&str, &str); 5] = [
+static RUNS: [(&str, &str); 6] = [
     (OVERLAPPING_READS, OVERLAPPING_READS_LOG),
     ("[[]]}", ""),
     (r#"[[],[{"op":"low"}],[]]}"#, "1 0 low 0 5.0\n"),
@@ -42,6 +42,10 @@ static RUNS: [(&str, &str); 5] = [
     (
         r#"[[{"op":"batch","marks":[{"span":{"start":"61"},"time":[20,0]},{"span":{"start":"62"},"time":[30,0]}],"now":[20,0]},{"op":"get","span":{"start":"61"}},{"op":"batch","marks":[],"now":[20,0]},{"op":"low"}],[]]}"#,
         "0 0 batch 0 1 0 0\n0 1 get 1 20.0 none\n0 2 batch 1 0 0 0\n0 3 low 2 5.0\n",
+    ),
+    (
+        r#"[[{"op":"batch","marks":[],"now":[20,0]},{"op":"low"}]]}"#,
+        "0 0 batch 0 0 0 0\n0 1 low 1 5.0\n",
     ),
 ];
 

@@ -1,7 +1,7 @@
 //! Batches: several marks that are added as one entry, seen by all seats as a whole or not at all.
 use crate::crowd::Counting;
 use crate::party::{
-    Guest, Home, Of, Owner, Scene, Told, adds_of_two, at, mark_at, play_in, point, two,
+    self, Guest, Home, Of, Owner, Scene, Told, adds_of_two, at, mark_at, play_in, point, two,
 };
 use crate::threads::{Script, at_once};
 use std::alloc::Global;
@@ -48,6 +48,10 @@ enum Step {
     Get(&'static str, &'static str),
     Low,
 }
+
+/// A row, and whether a gate is told of its Adds, or they are made by the calls without one.
+#[derive(Clone, Copy)]
+struct Played(&'static Row, bool);
 
 /// The first and the largest page, the least number of pages, the limit of the history, the steps with what is told, and how many Adds
 /// there are in the end.
@@ -125,6 +129,28 @@ static KEPT_OR_NOT: Row = Row(
         (Step::Get("f", "h"), Told::Value((20, 0), Owner::First, 6)),
     ],
     6,
+);
+
+/// A mark of the empty span, alone and beside another.
+static EMPTY_SPAN: Row = Row(
+    (132, 132, 2),
+    10,
+    &[
+        (
+            Step::Batch(&[("a", "a", 20, Owner::First)], 20),
+            Told::Place(0, (false, false, 0), 1),
+        ),
+        (
+            Step::Batch(
+                &[("a", "a", 20, Owner::First), ("b", "", 20, Owner::First)],
+                20,
+            ),
+            Told::Place(1, (true, false, 0), 2),
+        ),
+        (Step::Get("a", ""), Told::Value((5, 0), Owner::None, 2)),
+        (Step::Get("b", ""), Told::Value((20, 0), Owner::First, 2)),
+    ],
+    2,
 );
 
 /// One that drops the page that it filled.
@@ -229,20 +255,18 @@ static IN_TURN: Row = Row(
     5,
 );
 
-/// A range is up to its second key, without that.
-const UP_TO: Ends = Ends {
-    exclude_from: false,
-    exclude_to: true,
-};
-
-/// The span of a key, or of the range up to a second one.
+/// The span of a key, or of the range up to a second one; from a key up to itself it is the empty span.
 pub fn span_of(alloc: Global, start: &str, end: &str) -> Result<Span, SpanFault> {
     if end.is_empty() {
         return point(alloc, start);
     }
+    let ends = Ends {
+        exclude_from: start == end,
+        exclude_to: true,
+    };
     let start = Key::new(alloc, start.as_bytes())?;
     let end = Key::new(alloc, end.as_bytes())?;
-    Span::range(start, end, UP_TO)
+    Span::range(start, end, ends)
 }
 
 fn value_of(wall: u64, owner: Owner) -> Value {
@@ -295,6 +319,20 @@ fn look<C: Of>(
     (home.get(second, all), home.low(first), first.count())
 }
 
+/// A batch, by the call with a gate or the one without.
+fn add_batch<C: Of, R: Wait>(
+    rt: &R,
+    home: &Home<C>,
+    first: &mut Guest<C>,
+    batch: &Batch,
+    gate: Option<&Counting>,
+) -> Option<Told> {
+    match gate {
+        Some(gate) => home.add_batch(rt, first, batch, gate),
+        None => home.add_together(rt, first, batch),
+    }
+}
+
 /// A batch, made once more where it is refused memory. After the refusal all is as before.
 fn add_again<C: Of, R: Wait>(
     rt: &R,
@@ -302,17 +340,31 @@ fn add_again<C: Of, R: Wait>(
     first: &mut Guest<C>,
     second: &mut Guest<C>,
     batch: &Batch,
-    (gate, all): (&Counting, &Span),
+    (gate, all): (Option<&Counting>, &Span),
 ) -> Result<Told, Fail> {
     let before = look(home, first, second, all);
-    if let Some(told) = home.add_batch(rt, first, batch, gate) {
+    if let Some(told) = add_batch(rt, home, first, batch, gate) {
         return Ok(told);
     }
     if look(home, first, second, all) != before {
         return Err("a refused batch changed what can be seen".into());
     }
-    let told = home.add_batch(rt, first, batch, gate);
+    let told = add_batch(rt, home, first, batch, gate);
     Ok(told.ok_or("a batch was refused again")?)
+}
+
+/// An Add of one mark, by the call with a gate or the one without.
+fn add_one<C: Of, R: Wait>(
+    rt: &R,
+    home: &Home<C>,
+    first: &mut Guest<C>,
+    mark: &party::Mark,
+    gate: Option<&Counting>,
+) -> Option<Told> {
+    match gate {
+        Some(gate) => home.add_gated(rt, first, mark, gate),
+        None => home.add(rt, first, mark),
+    }
 }
 
 /// An Add of one mark, made once more where it is refused memory.
@@ -322,11 +374,11 @@ fn add_one_again<C: Of, R: Wait>(
     home: &Home<C>,
     first: &mut Guest<C>,
     key: &str,
-    gate: &Counting,
+    gate: Option<&Counting>,
 ) -> Result<Told, Fail> {
     let mark = mark_at(alloc, key, 20, 20)?;
-    let told = home.add_gated(rt, first, &mark, gate);
-    let told = told.or_else(|| home.add_gated(rt, first, &mark, gate));
+    let told = add_one(rt, home, first, &mark, gate);
+    let told = told.or_else(|| add_one(rt, home, first, &mark, gate));
     Ok(told.ok_or(NoMemory)?)
 }
 
@@ -338,7 +390,7 @@ fn take<C: Of, R: Wait>(
     first: &mut Guest<C>,
     second: &mut Guest<C>,
     step: &Step,
-    gate: &Counting,
+    gate: Option<&Counting>,
 ) -> Result<Told, Fail> {
     match step {
         Step::Batch(rows, now) => {
@@ -352,7 +404,7 @@ fn take<C: Of, R: Wait>(
     }
 }
 
-impl Scene for Row {
+impl Scene for Played {
     fn play<C: Of, R: Wait + Abort>(
         &self,
         rt: &R,
@@ -361,13 +413,16 @@ impl Scene for Row {
         guests: Vec<Guest<C>>,
     ) -> Result<(), Fail> {
         let (mut first, mut second) = two(guests).ok_or("two seats")?;
-        let gate = Counting::new();
-        for (step, wanted) in self.2 {
-            let told = take(rt, alloc, &home, &mut first, &mut second, step, &gate)?;
+        let Played(row, gated) = *self;
+        let counting = Counting::new();
+        let gate = if gated { Some(&counting) } else { None };
+        for (step, wanted) in row.2 {
+            let told = take(rt, alloc, &home, &mut first, &mut second, step, gate)?;
             assert_eq!(rt; told, *wanted, "{step:?}");
         }
         let adds = adds_of_two(rt, alloc, home, first, second)?;
-        assert_eq!(rt; (adds, gate.told()), (Some(self.3), self.3));
+        let counted = if gated { row.3 } else { 0 };
+        assert_eq!(rt; (adds, counting.told()), (Some(row.3), counted));
         Ok(())
     }
 }
@@ -376,18 +431,20 @@ impl Scene for Row {
 #[test]
 fn a_batch_is_one_entry(rt: HostRuntime) -> Result<(), Fail> {
     let rows = [
-        &IN_ORDER,
-        &SEEN_AS_A_WHOLE,
-        &KEPT_OR_NOT,
-        &DROPS_ITS_OWN,
-        &TOO_LARGE,
-        &FULL,
-        &IN_TURN,
+        Played(&IN_ORDER, true),
+        Played(&IN_ORDER, false),
+        Played(&SEEN_AS_A_WHOLE, true),
+        Played(&KEPT_OR_NOT, true),
+        Played(&EMPTY_SPAN, true),
+        Played(&DROPS_ITS_OWN, true),
+        Played(&TOO_LARGE, true),
+        Played(&FULL, true),
+        Played(&IN_TURN, true),
     ];
-    for row in rows {
-        let (page_first, page_max, min_pages) = row.0;
+    for played in &rows {
+        let (page_first, page_max, min_pages) = played.0.0;
         let config = Config::new(page_first, page_max, min_pages, 10, at(5))?;
-        play_in(&rt, rt.alloc(), config, row.1, true, row)?;
+        play_in(&rt, rt.alloc(), config, played.0.1, true, played)?;
     }
     Ok(())
 }

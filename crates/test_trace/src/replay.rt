@@ -28,7 +28,7 @@ const OVERLAPPING_READS_LOG: &str = "0 0 add 0 1 0 0
 ";
 
 /// What stands behind the head of a trace, and the log of its replay.
-static REPLAYS: [(&str, &str); 12] = [
+static REPLAYS: [(&str, &str); 13] = [
     (OVERLAPPING_READS, OVERLAPPING_READS_LOG),
     ("[[]]}", ""),
     ("[[],[]]}", ""),
@@ -174,6 +174,13 @@ static REPLAYS: [(&str, &str); 12] = [
 1 0 add 1 1 0 0
 1 1 batch 2 0 0 0
 1 2 low 3 5.0
+",
+    ),
+    // a batch without marks before all else
+    (
+        r#"[[{"op":"batch","marks":[],"now":[20,0]},{"op":"low"}]]}"#,
+        "0 0 batch 0 0 0 0
+0 1 low 1 5.0
 ",
     ),
 ];

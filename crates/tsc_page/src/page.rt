@@ -130,7 +130,7 @@ impl Page {
         ensures unchanged { OnErr result (self.new ≡ self.old) }
     {
         let Some((from, to)) = span.cuts() else {
-            return Ok(true);
+            unreachable!()
         };
         let (first, second) = span.end_keys();
         if !self
@@ -158,7 +158,7 @@ impl Page {
         ensures answers { IfOk result (λ made. IfSome made (λ page. AnswersWith self.now page span.now value)) }
     {
         let Some((from, to)) = span.cuts() else {
-            return Ok(None);
+            unreachable!()
         };
         let (first, second) = span.end_keys();
         let Some(tree) = self.tree.added(first, second, from, to, value, self.size)? else {
