@@ -3,7 +3,8 @@ use crate::pages::{
     FIRST, NOBODY, Pages, Row, SECOND, add_to, add_to_plain, all_spans, at, between, has_leaves,
     play, value,
 };
-use std::alloc::Global;
+use crate::unchanged::{Shown, looks};
+use std::alloc::{AllocError, Global};
 use std::test::Fail;
 use tsc_page::Page;
 use tsc_span::{Ends, Key, Span, SpanFault};
@@ -35,35 +36,29 @@ pub(crate) fn gap(alloc: Global, bytes: [u8; 2]) -> Result<Span, SpanFault> {
     byte_range(alloc, bytes, ends)
 }
 
-/// Adds a value to a span, and once more where memory was refused, which leaves the leaves as they were. Says whether they did, and
+/// Adds a value to a span, and once more where memory was refused, which leaves the page as it was. Says whether it did, and
 /// whether there was room.
-fn add_once(page: &mut Page, span: &Span, value: Value) -> Result<bool, NoMemory> {
-    let before = (page.nodes(), page.leaf_nodes(0));
-    match add_to(page, span, value) {
-        Err(NoMemory) => {
-            let same = (page.nodes(), page.leaf_nodes(0)) == before;
-            Ok(same && add_to(page, span, value)?)
-        }
-        told => told,
-    }
-}
-
-/// The same of a span that is handed over.
-fn add(page: &mut Page, span: Span, value: Value) -> Result<bool, NoMemory> {
-    add_once(page, &span, value)
+fn add(
+    alloc: Global,
+    page: &mut Page,
+    looks: &[Span],
+    span: Span,
+    value: Value,
+) -> Result<bool, AllocError> {
+    Ok(Shown::of(alloc, page, looks)?.add_again(page, looks, &span, value))
 }
 
 /// Adds to the key of a byte a time of its own.
-fn add_byte(alloc: Global, page: &mut Page, byte: u8) -> Result<bool, Fail> {
+fn add_byte(alloc: Global, page: &mut Page, looks: &[Span], byte: u8) -> Result<bool, Fail> {
     let value = value(u64::from(byte) + 1, 0, FIRST);
-    Ok(add(page, bytes_up_to(alloc, [byte, byte])?, value)?)
+    Ok(add(alloc, page, looks, bytes_up_to(alloc, [byte, byte])?, value)?)
 }
 
 /// Adds so to each of some keys.
-fn add_bytes(alloc: Global, page: &mut Page, end: u8, stride: usize) -> Result<bool, Fail> {
+fn add_bytes(alloc: Global, page: &mut Page, looks: &[Span], end: u8) -> Result<bool, Fail> {
     let mut all = true;
-    for byte in (0..end).step_by(stride.max(1)) {
-        all &= add_byte(alloc, page, byte)?;
+    for byte in 0..end {
+        all &= add_byte(alloc, page, looks, byte)?;
     }
     Ok(all)
 }
@@ -124,12 +119,13 @@ static LOOKS: [Look; 29] = [
     Look::CopyLeaves(&[32, 32, 32, 34]),
 ];
 
-/// A page, and a copy of it.
+/// A page, a copy of it, and what is looked up where an Add is refused memory.
 #[derive(Drop)]
 struct Copied {
     alloc: Global,
     page: Page,
     copy: Page,
+    looks: Vec<Span>,
 }
 
 /// Whether a page has so many nodes, and this wall time at its top.
@@ -149,7 +145,8 @@ fn tells_of_key(alloc: Global, page: &Page, byte: u8, value: Value) -> Result<bo
 
 impl Copied {
     fn add(&mut self, bytes: [u8; 2], value: Value) -> Result<bool, Fail> {
-        Ok(add(&mut self.page, bytes_up_to(self.alloc, bytes)?, value)?)
+        let span = bytes_up_to(self.alloc, bytes)?;
+        Ok(add(self.alloc, &mut self.page, &self.looks, span, value)?)
     }
 
     fn tells_of_gap(&self, bytes: [u8; 2], value: Value) -> Result<bool, Fail> {
@@ -178,12 +175,18 @@ impl Row<Copied> for Look {
 
 /// A page with the keys 0 to 129, each with a time of its own, and a copy of it.
 fn page_and_copy(alloc: Global) -> Result<Copied, Fail> {
+    let looks = looks(alloc)?;
     let mut page = Page::new(alloc, 6600, Timestamp::ZERO)?;
-    if !add_bytes(alloc, &mut page, 130, 1)? {
-        return Err(Fail::new("no room, or a refused Add changed the page"));
+    if !add_bytes(alloc, &mut page, &looks, 130)? {
+        return Err(Fail::new("no room, or a refused Add changed the page or was refused again"));
     }
     let copy = page.try_copy()?;
-    Ok(Copied { alloc, page, copy })
+    Ok(Copied {
+        alloc,
+        page,
+        copy,
+        looks,
+    })
 }
 
 /// An Add over leaves of a page of which a copy shares all but one: the copy answers as before. And one over
@@ -259,9 +262,9 @@ fn add_beside(
         Err(NoMemory) => {
             let alike = pages.alike_in_leaves(&THREE_LEAVES, all)
                 && copies.alike_in_leaves(&THREE_LEAVES, all);
-            alike && add_to(&mut pages.page, span, value)?
+            alike && add_to(&mut pages.page, span, value) == Ok(true)
         }
-        told => told?,
+        Ok(added) => added,
     };
     Ok(added && add_to_plain(&mut pages.plain, span, value)?)
 }

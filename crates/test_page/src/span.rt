@@ -375,34 +375,40 @@ fn spans(rt: HostRuntime) -> Result<(), Fail> {
 }
 
 /// A key. Where memory is refused the same call then succeeds.
-fn key_again(alloc: Global, bytes: &[u8]) -> Result<Key, SpanFault> {
+fn key_again(alloc: Global, bytes: &[u8]) -> Result<Key, Fail> {
     match Key::new(alloc, bytes) {
-        Err(SpanFault::NoMemory) => Key::new(alloc, bytes),
-        made => made,
+        Err(SpanFault::NoMemory) => Ok(
+            Key::new(alloc, bytes)
+                .ok()
+                .ok_or("a key was refused again")?,
+        ),
+        made => Ok(made?),
     }
 }
 
 /// Whether a key can be copied. Where memory is refused it still has these bytes, and the same call then
 /// succeeds.
-fn copies_key(key: &Key, bytes: &[u8]) -> Result<bool, Fail> {
+fn copies_key(key: &Key, bytes: &[u8]) -> bool {
     match key.try_copy() {
-        Ok(copy) => Ok(copy == *key),
-        Err(_) => Ok(key.bytes() == bytes && is_copied_key(key)?),
+        Ok(copy) => copy == *key,
+        Err(NoMemory) => key.bytes() == bytes && is_copied_key(key) == Ok(true),
     }
 }
 
 /// Whether a span has a copy that is the same.
-fn is_copied_span(span: &Span) -> Result<bool, Fail> {
-    let copy = span.try_copy()?;
-    Ok(copy == *span)
+fn is_copied_span(span: &Span) -> bool {
+    match span.try_copy() {
+        Ok(copy) => copy == *span,
+        Err(NoMemory) => false,
+    }
 }
 
 /// Whether a span can be copied. Where memory is refused it is still as this other one, and the same call
 /// then succeeds.
-fn copies_span(span: &Span, same: &Span) -> Result<bool, Fail> {
+fn copies_span(span: &Span, same: &Span) -> bool {
     match span.try_copy() {
-        Ok(copy) => Ok(copy == *same),
-        Err(_) => Ok(span == same && is_copied_span(span)?),
+        Ok(copy) => copy == *same,
+        Err(NoMemory) => span == same && is_copied_span(span),
     }
 }
 
@@ -415,21 +421,22 @@ static SAMPLES: [Made; 4] = [
 ];
 
 /// A span, for whose keys the calls that are refused memory are made again.
-fn sample(alloc: Global, (way, from, to): Made) -> Result<Span, SpanFault> {
-    span_to(way, key_again(alloc, from)?, key_again(alloc, to))
+fn sample(alloc: Global, (way, from, to): Made) -> Result<Span, Fail> {
+    let from = key_again(alloc, from)?;
+    Ok(span_of(way, from, key_again(alloc, to)?)?)
 }
 
 impl Row<Global> for Made {
     /// Whether it can be copied.
     fn holds(&self, alloc: &mut Global) -> Result<bool, Fail> {
         let (span, same) = (sample(*alloc, *self)?, sample(*alloc, *self)?);
-        copies_span(&span, &same)
+        Ok(copies_span(&span, &same))
     }
 }
 
 #[test]
 fn a_refused_growth_changes_nothing(rt: HostRuntime) -> Result<(), Fail> {
     let key = key_again(rt.alloc(), b"a")?;
-    assert!(rt; copies_key(&key, b"a")?);
+    assert!(rt; copies_key(&key, b"a"));
     play(&rt, &mut rt.alloc(), &SAMPLES)
 }

@@ -1,4 +1,5 @@
-//! Calls over a page of several leaves that are refused memory: the page then shows all that it showed before.
+//! Calls over a page of several leaves that are refused memory: the page then shows all that it showed before. A call that is refused once more
+//! leaves its row wrong.
 use crate::pages::{FIRST, Row, SECOND, add_to, added, has_leaves, play, value};
 use crate::shared::{bytes_up_to, gap};
 use std::alloc::{AllocError, Global};
@@ -8,14 +9,14 @@ use tsc_span::Span;
 use tsc_time::{NoMemory, Timestamp, Value};
 
 /// What a page shows: how many nodes it has and what they cost, its top, the sizes of all its leaves, and what it answers to each of
-/// some spans.
+/// some spans and whether it has room for that.
 #[derive(Drop)]
-struct Shown {
+pub(crate) struct Shown {
     nodes: u32,
     bytes: u32,
     top: Timestamp,
     leaves: Vec<u32>,
-    answers: Vec<Value>,
+    answers: Vec<(Value, bool)>,
 }
 
 /// The sizes of all leaves.
@@ -29,17 +30,26 @@ fn leaves_of(alloc: Global, page: &Page) -> Result<Vec<u32>, AllocError> {
     Ok(leaves)
 }
 
-/// What is answered to each span.
-fn answers_of(alloc: Global, page: &Page, looks: &[Span]) -> Result<Vec<Value>, AllocError> {
+/// What is answered to a span, and whether there is room for it.
+fn answer_of(page: &Page, look: &Span) -> (Value, bool) {
+    (page.lookup(look), page.room(look))
+}
+
+/// The same of each span.
+fn answers_of(
+    alloc: Global,
+    page: &Page,
+    looks: &[Span],
+) -> Result<Vec<(Value, bool)>, AllocError> {
     let mut answers = Vec::with_capacity(alloc, looks.len())?;
     for look in looks {
-        answers.push(page.lookup(look))?;
+        answers.push(answer_of(page, look))?;
     }
     Ok(answers)
 }
 
 impl Shown {
-    fn of(alloc: Global, page: &Page, looks: &[Span]) -> Result<Shown, AllocError> {
+    pub(crate) fn of(alloc: Global, page: &Page, looks: &[Span]) -> Result<Shown, AllocError> {
         Ok(Shown {
             nodes: page.nodes(),
             bytes: page.bytes(),
@@ -62,16 +72,31 @@ impl Shown {
     fn answers(&self, page: &Page, looks: &[Span]) -> bool {
         let mut alike = true;
         for (look, answer) in looks.iter().zip(&self.answers) {
-            alike &= page.lookup(look) == *answer;
+            alike &= answer_of(page, look) == *answer;
         }
         alike
     }
 
     /// Whether a page shows the same.
-    fn is_of(&self, page: &Page, looks: &[Span]) -> bool {
+    pub(crate) fn is_of(&self, page: &Page, looks: &[Span]) -> bool {
         let counts = page.nodes() == self.nodes && page.bytes() == self.bytes;
         let same = counts && page.top() == self.top && self.has_leaves(page);
         same && self.answers(page, looks)
+    }
+
+    /// Adds a value to a span of the page that shows this, and says whether there was room. Where that is refused memory, the page shows
+    /// the same as before, and the same Add then succeeds.
+    pub(crate) fn add_again(
+        &self,
+        page: &mut Page,
+        looks: &[Span],
+        span: &Span,
+        value: Value,
+    ) -> bool {
+        match add_to(page, span, value) {
+            Err(NoMemory) => self.is_of(page, looks) && add_to(page, span, value) == Ok(true),
+            Ok(added) => added,
+        }
     }
 }
 
@@ -121,67 +146,50 @@ fn tells(page: Option<&Page>, span: &Span, told: Value, leaves: &[u32]) -> bool 
 }
 
 impl Looked {
-    /// Adds a value to a span. Where that is refused memory, the page shows what it did before, and the same Add then succeeds.
-    fn add(&mut self, before: &Shown, span: &Span, value: Value) -> Result<bool, NoMemory> {
-        match add_to(&mut self.page, span, value) {
-            Err(NoMemory) => {
-                let same = before.is_of(&self.page, &self.looks);
-                Ok(same && add_to(&mut self.page, span, value)?)
-            }
-            told => told,
-        }
+    /// Adds a value to a span, and says whether there was room.
+    fn add(&mut self, before: &Shown, span: &Span, value: Value) -> bool {
+        before.add_again(&mut self.page, &self.looks, span, value)
     }
 
     /// The page with one more value beside this one, in the same way.
-    fn added(&self, before: &Shown, span: &Span, value: Value) -> Result<Option<Page>, NoMemory> {
+    fn added(&self, before: &Shown, span: &Span, value: Value) -> Option<Page> {
         match added(&self.page, span, value) {
             Err(NoMemory) if before.is_of(&self.page, &self.looks) => {
-                added(&self.page, span, value)
+                added(&self.page, span, value).unwrap_or(None)
             }
-            Err(NoMemory) => Ok(None),
-            made => made,
+            made => made.unwrap_or(None),
         }
     }
 
     /// A copy of the page, in the same way.
-    fn copy(&self, before: &Shown) -> Result<Option<Page>, NoMemory> {
+    fn copy(&self, before: &Shown) -> Option<Page> {
         match self.page.try_copy() {
-            Err(NoMemory) if before.is_of(&self.page, &self.looks) => {
-                self.page.try_copy().map(Some)
-            }
-            Err(NoMemory) => Ok(None),
-            made => made.map(Some),
+            Err(NoMemory) if before.is_of(&self.page, &self.looks) => self.page.try_copy().ok(),
+            made => made.ok(),
         }
     }
 }
 
 impl Looked {
-    /// The same of a page of which there is a copy, which shows what the page did before.
+    /// Adds to a page of which there is a copy, which shows what the page did before.
     fn add_beside(&mut self, before: &Shown, span: &Span, value: Value) -> Result<bool, NoMemory> {
         let copy = self.page.try_copy()?;
         let added = self.add(before, span, value);
-        let same = before.is_of(&copy, &self.looks);
-        Ok(added? && same)
+        Ok(added && before.is_of(&copy, &self.looks))
     }
 
     /// Whether there is a page with one more value beside this one, and this one stays as it is.
-    fn tells_beside(
-        &self,
-        before: &Shown,
-        span: &Span,
-        value: Value,
-        leaves: &[u32],
-    ) -> Result<bool, NoMemory> {
-        let made = self.added(before, span, value)?;
+    fn tells_beside(&self, before: &Shown, span: &Span, value: Value, leaves: &[u32]) -> bool {
+        let made = self.added(before, span, value);
         let told = tells(made.as_ref(), span, value, leaves);
-        Ok(told && before.is_of(&self.page, &self.looks))
+        told && before.is_of(&self.page, &self.looks)
     }
 
     /// Whether there is a copy that shows the same, and the page stays as it is.
-    fn is_copied(&self, before: &Shown) -> Result<bool, NoMemory> {
-        let copy = self.copy(before)?;
+    fn is_copied(&self, before: &Shown) -> bool {
+        let copy = self.copy(before);
         let same = copy.is_some_and(|copy| before.is_of(&copy, &self.looks));
-        Ok(same && before.is_of(&self.page, &self.looks))
+        same && before.is_of(&self.page, &self.looks)
     }
 
     /// Makes a row's call, and says whether what comes of it is as it has to be.
@@ -189,14 +197,15 @@ impl Looked {
         let told = value(row.2, 0, SECOND);
         match row.0 {
             Call::Add => {
-                Ok(self.add(before, span, told)? && tells(Some(&self.page), span, told, row.3))
+                let added = self.add(before, span, told);
+                Ok(added && tells(Some(&self.page), span, told, row.3))
             }
             Call::AddBeside => {
                 let added = self.add_beside(before, span, told)?;
                 Ok(added && tells(Some(&self.page), span, told, row.3))
             }
-            Call::Added => self.tells_beside(before, span, told, row.3),
-            Call::Copy => self.is_copied(before),
+            Call::Added => Ok(self.tells_beside(before, span, told, row.3)),
+            Call::Copy => Ok(self.is_copied(before)),
         }
     }
 }
@@ -210,7 +219,7 @@ impl Row<Looked> for Tried {
 }
 
 /// The first keys of the page, and the gaps between them.
-fn looks(alloc: Global) -> Result<Vec<Span>, Fail> {
+pub(crate) fn looks(alloc: Global) -> Result<Vec<Span>, Fail> {
     let mut looks = Vec::with_capacity(alloc, 256)?;
     for byte in (0..=254_u8).step_by(2) {
         let next = byte.saturating_add(2);

@@ -326,7 +326,10 @@ fn replays(rt: HostRuntime) -> Result<(), Fail> {
 /// A trace. Where memory is refused the same call then succeeds.
 fn read_again(alloc: Global, text: &str) -> Result<Trace, Fail> {
     match read_trace(alloc, text.as_bytes()) {
-        Err(TraceFault::NoMemory) => Ok(read_trace(alloc, text.as_bytes())?),
+        Err(TraceFault::NoMemory) => {
+            let read = read_trace(alloc, text.as_bytes()).ok();
+            Ok(read.ok_or("a trace was refused again")?)
+        }
         read => Ok(read?),
     }
 }
@@ -334,15 +337,18 @@ fn read_again(alloc: Global, text: &str) -> Result<Trace, Fail> {
 /// A log, in the same way.
 fn play_again(alloc: Global, trace: &Trace) -> Result<Log, Fail> {
     match play(alloc, trace) {
-        Err(NoMemory) => Ok(play(alloc, trace)?),
-        played => Ok(played?),
+        Err(NoMemory) => Ok(play(alloc, trace).ok().ok_or("a log was refused again")?),
+        Ok(played) => Ok(played),
     }
 }
 
 /// Whether a log is read back from its text, in the same way.
 fn is_read_back(alloc: Global, log: &Log, text: &[u8]) -> Result<bool, Fail> {
     let back = match read_log(alloc, text) {
-        Err(LogFault::NoMemory) => read_log(alloc, text)?,
+        Err(LogFault::NoMemory) => {
+            let back = read_log(alloc, text).ok();
+            back.ok_or("the reading of a log was refused again")?
+        }
         read => read?,
     };
     Ok(back.lines.slice() == log.lines.slice())
@@ -351,8 +357,8 @@ fn is_read_back(alloc: Global, log: &Log, text: &[u8]) -> Result<bool, Fail> {
 /// Its text, in the same way, read back.
 fn text_again(alloc: Global, log: &Log) -> Result<Vec<u8>, Fail> {
     let text = match log_text(alloc, log) {
-        Err(NoMemory) => log_text(alloc, log)?,
-        made => made?,
+        Err(NoMemory) => log_text(alloc, log).ok().ok_or("a text was refused again")?,
+        Ok(made) => made,
     };
     if !is_read_back(alloc, log, text.as_slice())? {
         return Err(Fail::from("read back as another log"));
@@ -368,7 +374,9 @@ fn write_again(alloc: Global, log: &Log) -> Result<Vec<u8>, Fail> {
     }
     // A writer that has failed takes nothing more.
     let mut again = Metered::new(writer.into_inner());
-    write_log(alloc, log, &mut again)?;
+    if write_log(alloc, log, &mut again).is_err() {
+        return Err(Fail::from("the writing of a log was refused again"));
+    }
     Ok(again.into_inner())
 }
 
@@ -379,7 +387,9 @@ fn replay_again(alloc: Global, trace: &Trace) -> Result<Vec<u8>, Fail> {
         return Ok(writer.into_inner());
     }
     let mut again = Metered::new(writer.into_inner());
-    replay(alloc, trace, &mut again)?;
+    if replay(alloc, trace, &mut again).is_err() {
+        return Err(Fail::from("a replay was refused again"));
+    }
     Ok(again.into_inner())
 }
 
