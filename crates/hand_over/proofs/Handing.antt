@@ -3,18 +3,12 @@ use Rattle.std.proofs.Common.{◌≡◌, sym, subst, [], ◌∷◌, inl, inr, ar
 use Rattle.std.specs.Prelude.{Option, Some, None, IfSome}
 use Rattle.std.proofs.Math.Logic.{∥∥₁_elim}
 use Rattle.std.proofs.lemmas.List.Elements.{All-nil, All-push, Contains-push}
-use Rattle.tsc_time.specs.Time.{Time}
-use Rattle.tsc_time.specs.OwnedTime.{Owner, OwnedTime}
-use Rattle.tsc_time.specs.Joint.{IsAtMost}
 use Rattle.tsc_time.proofs.RatchetOrder.{IsAtMost-transitive}
-use Rattle.tsc_span.specs.Span.{Interval}
-use Rattle.tsc_cache.specs.Settings.{Settings}
 use Rattle.tsc_cache.specs.State.{CacheState, opening, step, step_all, look}
-use Rattle.tsc_cache.specs.History.{state_of, entry_of_mark}
-use Rattle.tsc_cache.specs.CacheView.{CacheView, StandsForState, cache_answer}
 use Rattle.tsc_cache.proofs.FloorJoints.{above_each}
 use Rattle.tsc_cache.proofs.Histories.{state_from-append, kept_up, clear_below}
 use Rattle.tsc_cache.proofs.StatesSeen.{answers_look}
+use Rattle.timestamp_cache.specs.Words.{Time, Owner, OwnedTime, IsAtMost, Interval, Settings, state_of, entry_of_mark, CacheView, StandsForState, cache_answer}
 use Rattle.timestamp_cache.specs.Clear.{IsClearOf, IsClearOfAnswers}
 use Rattle.timestamp_cache.specs.Earliest.{TellsEarliest}
 use Rattle.timestamp_cache.specs.HandOver.{Summary, summary_answer, IsWithin, TellsOf, marks_told, TakesOver}

@@ -1,13 +1,6 @@
 -- The reads that a former holder of a lease answered, and what the next one owes them.
 use Rattle.std.specs.Prelude.{ℕ, [], ◌∷◌, ◌++◌}
-use Rattle.tsc_time.specs.Time.{Time}
-use Rattle.tsc_time.specs.OwnedTime.{Owner, OwnedTime, owner_of}
-use Rattle.tsc_time.specs.Joint.{IsAtMost}
-use Rattle.tsc_span.specs.Span.{Interval, nothing}
-use Rattle.tsc_cache.specs.Settings.{Settings}
-use Rattle.tsc_cache.specs.State.{CacheState, look}
-use Rattle.tsc_cache.specs.History.{History, state_of, entry_of_mark}
-use Rattle.tsc_cache.specs.CacheView.{CacheView, StandsForState, cache_answer}
+use Rattle.timestamp_cache.specs.Words.{Time, Owner, OwnedTime, owner_of, IsAtMost, Interval, nothing, Settings, CacheState, look, History, state_of, entry_of_mark, CacheView, StandsForState, cache_answer}
 use Rattle.timestamp_cache.specs.Clear.{IsClearOfReads}
 use Rattle.timestamp_cache.specs.HandOver.{Summary, IsWithin, TellsOf}
 

@@ -1,6 +1,6 @@
 //! A lease that goes on to another holder: what the former one read, and what the next one answers.
 ghost use Rattle.std.specs.Prelude.{◌≡◌, [], IfOk, IfSome, OnOk};
-ghost use Rattle.tsc_cache.specs.CacheView.{cache_answer};
+ghost use Rattle.timestamp_cache.specs.Words.{cache_answer};
 ghost use Rattle.timestamp_cache.specs.Clear.{IsClearOf};
 ghost use Rattle.timestamp_cache.specs.Earliest.{TellsEarliest};
 ghost use Rattle.hand_over.specs.FormerReads.{HasReads, AnswersOneMore, TellsOfCache, AnswersNoLess, IsClearOfFormerReads, read_of};
@@ -16,8 +16,7 @@ use timestamp_cache::{
 
 /// From whom a lease is taken over: the former holder's cache, as it was summarized, and the range. By it the next holder shows in its type whose reads it minds.
 pub trait Former {
-    ghost use Rattle.tsc_span.specs.Span.{Interval};
-    ghost use Rattle.tsc_cache.specs.CacheView.{CacheView};
+    ghost use Rattle.timestamp_cache.specs.Words.{Interval, CacheView};
 
     ghost cache: { CacheView };
 

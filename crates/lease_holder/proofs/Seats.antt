@@ -1,8 +1,8 @@
 -- The seats of a new cache are all of that cache.
 use Rattle.std.proofs.Common.{◌≡◌, ℕ, zero, suc, ◌<◌, List, ◌∷◌, length, slice_index_or, refl, sym, subst, arith}
-use Rattle.tsc_cache.specs.Settings.{Settings}
 use Rattle.tsc_shared.specs.Seats.{SharedView, SeatView, new_seats}
 use Rattle.tsc_shared.specs.Answers.{Opens}
+use Rattle.timestamp_cache.specs.Words.{Settings}
 
 -- what holds of each element holds of each but the first
 pub others_too : {A : Type 0} (P : A → Type 0) (xs ys : List A) (x : A) → xs ≡ x ∷ ys → ((k : ℕ) (d : A) → k < length xs → P (slice_index_or xs k d)) → (k : ℕ) (d : A) → k < length ys → P (slice_index_or ys k d)

@@ -1,6 +1,6 @@
 -- A cache that stands for any other.
 use Rattle.std.specs.Prelude.{[]}
-use Rattle.tsc_shared.specs.Seats.{SharedView}
+use Rattle.timestamp_cache.specs.Words.{SharedView}
 
 -- The one that a range has of which nobody says more. Where a range is opened, it is the cache that was opened.
 abbrev pub any_cache : SharedView

@@ -1,12 +1,7 @@
 -- The reads of a store.
 use Rattle.std.specs.Prelude.{◌≡◌, true}
 use Rattle.std.specs.List.{Contains}
-use Rattle.tsc_time.specs.Time.{Time}
-use Rattle.tsc_time.specs.OwnedTime.{Owner, OwnedTime, owner_of}
-use Rattle.tsc_span.specs.Span.{Interval, overlaps}
-use Rattle.tsc_page_base.specs.Page.{Mark}
-use Rattle.tsc_cache.specs.declared.history.Entry.{Entry}
-use Rattle.tsc_cache.specs.History.{History}
+use Rattle.timestamp_cache.specs.Words.{Time, Owner, OwnedTime, owner_of, Interval, overlaps, Mark, History, Entry}
 
 -- a read at a time, by a transaction
 abbrev pub read_of : Time → Owner → OwnedTime

@@ -1,6 +1,6 @@
 -- The versions of a key.
 use Rattle.std.specs.Prelude.{ℕ, List, [], ◌∷◌, Option, Some, None, ◌||◌, if◌then◌else◌}
-use Rattle.tsc_time.specs.Time.{Time, is_before, zero_time}
+use Rattle.timestamp_cache.specs.Words.{Time, is_before, zero_time}
 use Rattle.lease_holder.specs.declared.lease.Version.{Version}
 
 -- the value of the latest version up to a time, where so much was found among those before; of two at one time it is the one that was written last

@@ -1,11 +1,11 @@
 //! The lease of a range: the cache of its reads, and its keys, each of them under a latch.
 //!
 //! Who holds the latch of a key reads or writes it at a seat of his own. What was read is handed on with the latch, so that a write is clear of it.
-ghost use Rattle.std.specs.Prelude.{◌≡◌, ◌++◌, ◌∷◌, [], true, All, IfOk, IfSome, OnOk, OnErr};
-ghost use Rattle.tsc_span.specs.Span.{overlaps};
-ghost use Rattle.tsc_cache.specs.State.{look};
-ghost use Rattle.tsc_cache.specs.History.{state_of, BeginsWith};
-ghost use Rattle.timestamp_cache.specs.Clear.{IsClearOf, IsClearOfReads};
+ghost use Rattle.std.specs.Prelude.{◌≡◌, ◌++◌, ◌∷◌, [], true, All, Some, option_map, IfOk, IfSome, OnOk, OnErr};
+ghost use Rattle.std.specs.List.{find};
+ghost use Rattle.std.specs.Str.{bytes_eq};
+ghost use Rattle.timestamp_cache.specs.Words.{zero_time, point, overlaps, look, state_of, BeginsWith};
+ghost use Rattle.timestamp_cache.specs.Clear.{IsClearOf, IsClearOfReads, AsksEarliestAt};
 ghost use Rattle.timestamp_cache.specs.Earliest.{TellsEarliest};
 ghost use Rattle.lease_holder.specs.Reads.{HasRead, read_of};
 ghost use Rattle.lease_holder.specs.Versions.{value_at, written};
@@ -13,6 +13,7 @@ ghost use Rattle.lease_holder.specs.Versions.{value_at, written};
 use anyhow::Result;
 use std::alloc::Global;
 use std::marker::{Brand, PhantomData};
+use std::slice;
 use std::sync::{Mutex, Wait};
 use timestamp_cache::{
     AddFault, Front, Key, NoMemory, Seat, SharedCache, Span, Timestamp, Uuid, Value,
@@ -21,7 +22,7 @@ use timestamp_cache::{
 
 /// Which range it is. By it a lease, its seats and its latches show in their types that they belong together.
 pub trait Range {
-    ghost use Rattle.tsc_shared.specs.Seats.{SharedView};
+    ghost use Rattle.timestamp_cache.specs.Words.{SharedView};
 
     ghost cache: { SharedView };
 }
@@ -78,7 +79,11 @@ pub struct Lease<G: Range> {
 
 impl<G: Range> Held<G> {
     /// A key that nobody has read yet, with its value from the beginning of time on.
-    pub fn new(alloc: Global, key: &str, value: u64, handed: RangeSeat<G>) -> Result<Held<G>> {
+    pub fn new(alloc: Global, key: &str, value: u64, handed: RangeSeat<G>) -> Result<Held<G>>
+        ensures key { IfOk result (λ held. held.span ≡ point key.now) }
+        ensures versions { IfOk result (λ held. held.versions.items ≡ written (Some zero_time) value) }
+        ensures answered { IfOk result (λ held. held.answered.items ≡ []) }
+    {
         let span = Span::point(Key::new(alloc, key.as_bytes())?);
         let mut versions = Vec::new(alloc);
         let at = Timestamp::ZERO;
@@ -108,8 +113,10 @@ impl<G: Range> Held<G> {
 }
 
 impl<G: Range> Lease<G> {
-    /// The latch of a key of the range.
-    pub fn latch(&self, key: &str) -> Option<&Mutex<Held<G>>> {
+    /// The latch of a key of the range: the first one that has this key.
+    pub fn latch(&self, key: &str) -> Option<&Mutex<Held<G>>>
+        ensures { option_map (λ held. held.now) result ≡ option_map (λ latch. latch.held) (find (λ latch. bytes_eq latch.key.now key.now) self.now.latches.items) }
+    {
         let latch = self.latches.iter().find(|latch| latch.key == key)?;
         Some(&latch.held)
     }
@@ -170,13 +177,28 @@ impl<G: Range> Lease<G> {
         ensures key { (held.new.span ≡ held.old.span) × (held.new.answered.items ≡ held.old.answered.items) }
     {
         self.take_over(rt, me, held);
-        let Ok(told) = earliest_write_at(&self.cache, &mut me.seat, &held.span, wanted, by) else {
-            unreachable!()
-        };
+        let told = self.earliest(me, held, wanted, by);
         if let Some(at) = told {
             held.versions.push(Version { at, value })?;
         }
         Ok(told)
+    }
+
+    /// The earliest time from the wanted one on at which a write of the key is clear of what the seat is answered.
+    fn earliest(
+        &self,
+        me: &mut RangeSeat<G>,
+        held: &Held<G>,
+        wanted: Timestamp,
+        by: Uuid,
+    ) -> Option<Timestamp>
+        ensures { AsksEarliestAt me.old.seat me.new.seat held.now.span by wanted result }
+    {
+        let spans = slice::from_ref(&held.span);
+        let Ok(told) = earliest_write_at(&self.cache, &mut me.seat, spans, wanted, by) else {
+            unreachable!()
+        };
+        told
     }
 
     /// The seat takes in all that the latch hands on.

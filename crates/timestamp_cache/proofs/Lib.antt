@@ -1,6 +1,7 @@
 pub mod Deciding
 pub mod Earliest
 pub mod Asking
+pub mod AskingAll
 pub mod Carrying
 pub mod Pushing
 pub mod ClearExamples

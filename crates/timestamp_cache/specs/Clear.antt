@@ -1,13 +1,13 @@
 -- When a write is clear of reads, and of what lookups answer.
-use Rattle.std.specs.Prelude.{◌≡◌, ◌↔◌, List, true, All, Bool, IsTrue, Option, IfSome}
+use Rattle.std.specs.Prelude.{◌≡◌, ◌↔◌, List, [], ◌∷◌, true, false, All, Bool, IsTrue, Option, Some, None, IfSome}
 use Rattle.std.specs.List.{Contains}
-use Rattle.tsc_time.specs.Time.{Time}
+use Rattle.tsc_time.specs.Time.{Time, is_before}
 use Rattle.tsc_time.specs.OwnedTime.{Owner}
 use Rattle.tsc_span.specs.Span.{Interval, overlaps}
 use Rattle.tsc_page_base.specs.Page.{Mark}
 use Rattle.tsc_cache.specs.State.{look}
 use Rattle.tsc_cache.specs.declared.history.Entry.{Entry}
-use Rattle.tsc_cache.specs.History.{History, state_of}
+use Rattle.tsc_cache.specs.History.{History, state_of, BeginsWith}
 use Rattle.tsc_cache.specs.CacheView.{CacheView, cache_answer}
 pub use Rattle.tsc_cache.specs.Laws.{IsClearOf}
 use Rattle.tsc_shared.specs.Seats.{SeatView}
@@ -39,3 +39,20 @@ pub record AsksEarliestAt (old new : SeatView) (span : Interval) (by : Owner) (f
   pub count : new.count ≡ old.count
   pub earliest : TellsEarliest (λ t. IsClearOf (look (state_of old.cache.config new.seen) span) by t) from told
   pub reads : IfSome told (λ t. IsClearOfReads new.seen span by t)
+
+-- A seat asks of some spans in turn, of each from the time on that it was told of the one before it. Where it is told none, it asks no further.
+pub data AsksInTurn (by : Owner) : SeatView → SeatView → List Interval → Time → Option Time → Type 0 where
+  all_asked : (seat : SeatView) (at : Time) → AsksInTurn by seat seat [] at (Some at)
+  none_told : (old new : SeatView) (span : Interval) (others : List Interval) (from : Time) → AsksEarliestAt old new span by from None → AsksInTurn by old new (span ∷ others) from None
+  one_told : (old next new : SeatView) (span : Interval) (others : List Interval) (from at : Time) (told : Option Time)
+      → AsksEarliestAt old next span by from (Some at) → AsksInTurn by next new others at told → AsksInTurn by old new (span ∷ others) from told
+
+-- A seat asks for the earliest time, from one on, at which a write of all of some spans is clear: it asks of them in turn. A time that it is told is not before the one from which it asked, and there the write is clear of each read on any of the spans that the seat had seen when it was called.
+pub record AsksOfAllAt (old new : SeatView) (spans : List Interval) (by : Owner) (from : Time) (told : Option Time) : Type 0 where
+  pub cache : new.cache ≡ old.cache
+  pub number : new.number ≡ old.number
+  pub count : new.count ≡ old.count
+  pub begins : BeginsWith new.seen old.seen
+  pub in_turn : AsksInTurn by old new spans from told
+  pub from_on : IfSome told (λ t. is_before t from ≡ false)
+  pub reads : IfSome told (λ t. IsClearOfAllReads old.seen spans by t)

@@ -3,3 +3,4 @@ pub mod Earliest
 pub mod HandOver
 pub mod Stretches
 pub mod Laws
+pub mod Words

@@ -8,8 +8,16 @@
 //! Where the lease goes on to somebody else, [`summary`] tells what was read of a span, in as many marks as are to be sent, and [`apply`] adds it to the
 //! cache of the new holder.
 //!
+//! A span that is sent is taken apart by its [`cuts`](Span::cuts), of which each [`Cut`] has a key or is above all keys. A [`Gate`] is told when an Add
+//! of a shared cache is about to be published, so that a test can hold it up; [`NoGate`] holds nobody up.
+//!
+//! The limits are [`LONGEST_KEY`], in bytes, [`LEAST_SIZE`] and [`MOST_SIZE`] of a page, [`LEAST_MIN_PAGES`] and [`MOST_MIN_PAGES`], and
+//! [`LONGEST_RETENTION`], in nanoseconds.
+//!
 //! For who runs it, [`Cache::figures`] tells how many pages there are, how often they rotated, how many end keys they hold and what these
 //! cost, and where the floor stands, as [`Figures`]; [`SharedCache::figures`] tells the same of what a seat was shown, as [`SeatFigures`].
+//!
+//! Contracts over this crate speak of keys, times, histories and seats by the definitions in `specs/`, of which `Words` has those of the crates below.
 //!
 //! The rule is that of CockroachDB's `applyTimestampCache` (`pkg/kv/kvserver/replica_tscache.go`): a write goes above each read of its
 //! keys, save those of its own transaction. A write that is clear of what a lookup answers is clear of each read that was added.
@@ -26,12 +34,16 @@ mod writes;
 pub use clear::{earliest_clear_of, is_clear_of};
 pub use hand_over::{ReadSummary, apply, summary};
 pub use next::next_time;
-pub use tsc_cache::{Added, Cache, CacheFault, Config, ConfigFault, Figures, Mark};
-pub use tsc_shared::{
-    AddFault, Answer, Closed, Front, Gone, LowWater, OpenFault, Receipt, Seat, SeatFigures,
-    SharedCache, StillOut, TryAddFault,
+pub use tsc_cache::{
+    Added, Cache, CacheFault, Config, ConfigFault, Figures, LEAST_MIN_PAGES, LONGEST_RETENTION,
+    MOST_MIN_PAGES, Mark,
 };
-pub use tsc_span::{Ends, Key, Span, SpanFault, SpanRef};
+pub use tsc_page_base::{LEAST_SIZE, MOST_SIZE};
+pub use tsc_shared::{
+    AddFault, Answer, Closed, Front, Gate, Gone, LowWater, NoGate, OpenFault, Receipt, Seat,
+    SeatFigures, SharedCache, StillOut, TryAddFault,
+};
+pub use tsc_span::{Cut, Ends, Key, LONGEST_KEY, Span, SpanFault, SpanRef};
 pub use tsc_time::{NoMemory, Timestamp, Value, ratchet};
 pub use uuid::Uuid;
 pub use writes::{earliest_write, earliest_write_at, may_write, may_write_at};

@@ -264,12 +264,12 @@ fn are_next(rows: &[(Time, Option<Time>)]) -> Result<bool, Fail> {
 fn told(
     cache: &SharedCache,
     seat: &mut Seat,
-    keys: (&Span, &Span),
+    keys: &[Span],
     times: (Timestamp, Timestamp),
 ) -> Option<[bool; 5]>
     requires { seat.old.cache ≡ cache.now }
 {
-    let (a, b) = keys;
+    let (a, b) = (keys.first()?, keys.last()?);
     let (now, floor) = times;
     let (first, second) = (Uuid::from_u128(FIRST), Uuid::from_u128(SECOND));
     if cache
@@ -278,7 +278,7 @@ fn told(
     {
         return None;
     }
-    let pushed = earliest_write_at(cache, seat, a, floor, second).ok()?;
+    let pushed = earliest_write_at(cache, seat, keys, floor, second).ok()?;
     Some([
         may_write_at(cache, seat, a, now, first).ok()?,
         may_write_at(cache, seat, a, now, second).ok()?,
@@ -291,10 +291,13 @@ fn told(
 /// The same of the one seat of a new cache.
 fn told_by_a_seat(alloc: Global) -> Result<Option<[bool; 5]>, Fail> {
     let times = (at((20, 0))?, at(FLOOR)?);
-    let (a, b) = (point(alloc, "a")?, point(alloc, "b")?);
+    let mut keys = Vec::new(alloc);
+    for key in ["a", "b"] {
+        keys.push(point(alloc, key)?)?;
+    }
     let (cache, mut seats) = SharedCache::open(alloc, config()?, 1, 10)?;
     match seats.pop() {
-        Some(mut seat) => Ok(told(&cache, &mut seat, (&a, &b), times)),
+        Some(mut seat) => Ok(told(&cache, &mut seat, &keys, times)),
         None => Ok(None),
     }
 }

@@ -2,7 +2,7 @@ ghost use Rattle.std.specs.Prelude.{◌≡◌, ◌↔◌, IsTrue, IsOk, IfOk, If
 ghost use Rattle.tsc_cache.specs.Settings.{Settings};
 ghost use Rattle.tsc_cache.specs.History.{History, state_of};
 ghost use Rattle.tsc_cache.specs.CacheView.{StandsForState, cache_answer};
-ghost use Rattle.timestamp_cache.specs.Clear.{IsClearOf, IsClearOfReads, IsClearOfAnswers, IsClearOfAllReads, AsksAt, AsksEarliestAt};
+ghost use Rattle.timestamp_cache.specs.Clear.{IsClearOf, IsClearOfReads, IsClearOfAnswers, IsClearOfAllReads, AsksAt, AsksEarliestAt, AsksOfAllAt};
 ghost use Rattle.timestamp_cache.specs.Earliest.{TellsEarliest};
 
 use crate::{earliest_clear_of, is_clear_of};
@@ -57,12 +57,35 @@ pub fn earliest_write(cache: &Cache, spans: &[Span], at: Timestamp, by: Uuid) ->
     Some(time)
 }
 
-/// As [`earliest_write`], of one span, for a seat of a shared cache: the earliest time, not before `at`, at which the write is clear of what a
-/// lookup by the seat answers. The seat has then seen the history that is answered from, and the write is clear of each read on the span in it.
+/// As [`earliest_write`], for a seat of a shared cache: the earliest time, not before `at`, at which the write is clear of what lookups of the spans
+/// by the seat answer, one after another. It is then clear of each read on one of the spans that the seat had seen before.
 ///
-/// Who writes several spans asks for one after another, each from the time on that the one before was told. It waits for nobody, takes no
-/// memory, and is never [`Gone`].
+/// Each lookup may see more than the one before it, so what is told is the time from the one lookup's on that is clear of the next: it is
+/// exact for each of them, and `None` where one of them tells none. It waits for nobody, takes no memory, and is never [`Gone`].
 pub fn earliest_write_at(
+    cache: &SharedCache,
+    seat: &mut Seat,
+    spans: &[Span],
+    at: Timestamp,
+    by: Uuid,
+) -> Result<Option<Timestamp>, Gone>
+    requires cache { seat.old.cache ≡ cache.now }
+    ensures answered { IsOk result }
+    ensures asked { IfOk result (λ told. AsksOfAllAt seat.old seat.new spans.now by at told) }
+    ensures reads { IfOk result (λ told. IfSome told (λ t. IsClearOfAllReads seat.old.seen spans.now by t)) }
+{
+    let mut time = at;
+    for span in spans {
+        match earliest_of_one(cache, seat, span, time, by)? {
+            Some(next) => time = next,
+            None => return Ok(None),
+        }
+    }
+    Ok(Some(time))
+}
+
+/// The earliest time, not before `at`, at which a write of one span is clear of what a lookup by the seat answers.
+fn earliest_of_one(
     cache: &SharedCache,
     seat: &mut Seat,
     span: &Span,

@@ -1,5 +1,5 @@
 use Rattle.std.proofs.Common.{subst}
-use Rattle.tsc_cache.specs.CacheView.{CacheView}
+use Rattle.timestamp_cache.specs.Words.{CacheView}
 use Rattle.hand_over.specs.FormerReads.{TellsOfCache}
 use Rattle.hand_over.proofs.hand_on.Goals as goal
 

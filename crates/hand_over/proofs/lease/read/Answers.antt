@@ -1,5 +1,5 @@
 use Rattle.std.proofs.Common.{subst}
-use Rattle.tsc_time.specs.OwnedTime.{OwnedTime}
+use Rattle.timestamp_cache.specs.Words.{OwnedTime}
 use Rattle.hand_over.specs.FormerReads.{AnswersOneMore, read_of}
 use Rattle.hand_over.proofs.Handing.{one_more}
 use Rattle.hand_over.proofs.lease.read.Goals as goal

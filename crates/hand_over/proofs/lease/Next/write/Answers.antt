@@ -1,6 +1,5 @@
 use Rattle.std.proofs.Common.{List, subst}
-use Rattle.tsc_time.specs.Time.{Time}
-use Rattle.tsc_span.specs.Span.{Interval}
+use Rattle.timestamp_cache.specs.Words.{Time, Interval}
 use Rattle.timestamp_cache.specs.Clear.{IsClearOfAnswers}
 use Rattle.timestamp_cache.specs.Earliest.{TellsEarliest}
 use Rattle.hand_over.proofs.Handing.{earliest_of_one, clear_of_former}

@@ -1,6 +1,6 @@
 use Rattle.std.proofs.Common.{List, All, sym, subst}
 use Rattle.std.proofs.lemmas.List.Elements.{All-nil}
-use Rattle.tsc_time.specs.OwnedTime.{OwnedTime}
+use Rattle.timestamp_cache.specs.Words.{OwnedTime}
 use Rattle.lease_holder.specs.Reads.{HasRead}
 use Rattle.lease_holder.proofs.Carried.{point_overlaps_itself}
 use Rattle.lease_holder.proofs.lease.Held.new.Goals as goal

@@ -1,6 +1,6 @@
 use Rattle.std.proofs.Common.{subst}
 use Rattle.std.specs.Prelude.{is_ok}
-use Rattle.tsc_time.specs.OwnedTime.{OwnedTime}
+use Rattle.timestamp_cache.specs.Words.{OwnedTime}
 use Rattle.lease_holder.specs.Reads.{HasRead, read_of}
 use Rattle.lease_holder.proofs.Carried.{added_there, handed_on, kept_or_not, one_more}
 use Rattle.lease_holder.proofs.lease.Lease.read.Goals as goal
