@@ -20,3 +20,9 @@ returns-clause-clear g c =
 
 pub returns-clause-written : goal.returns-clause-written
 returns-clause-written g c = search rules
+
+pub returns-clause-seen : goal.returns-clause-seen
+returns-clause-seen g c = search rules
+
+pub returns-clause-pushed : goal.returns-clause-pushed
+returns-clause-pushed g c = search rules
