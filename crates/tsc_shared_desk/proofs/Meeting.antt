@@ -1,5 +1,5 @@
 -- Desk seats that are divided and put together, and what is noted there.
-use Rattle.std.proofs.Common.{◌≡◌, ◌≢◌, ◌⊎◌, ◌∙◌, inl, inr, refl, sym, subst, false, ℕ, zero, suc, ◌+◌, ◌<◌, List, [], ◌∷◌, ◌++◌, length, set, arith, slice_index}
+use Rattle.std.proofs.Common.{◌≡◌, ◌≢◌, ◌⊎◌, ◌∙◌, inl, inr, refl, sym, subst, false, ℕ, zero, suc, ◌+◌, ◌<◌, List, [], ◌∷◌, ◌++◌, length, set, arith, slice_index, sum_by}
 use Rattle.std.specs.Prelude.{◌==◌}
 use mathlib.Core.Option as maybe
 use mathlib.Core.Option.{some-injective, some-ne-none}
@@ -19,14 +19,13 @@ use Rattle.tsc_shared_desk.specs.AtDesk.{IsAtRest, KeepsPosts}
 use Rattle.tsc_cache.proofs.Beginnings.{begins_itself, legal_beginning}
 use Rattle.tsc_shared_desk.proofs.Prefixes.{begins_empty, begins_length, own_between, longer_begins}
 use Rattle.tsc_shared_desk.proofs.Totals.{total_set}
-use Rattle.tsc_shared_desk.proofs.DeskMoves.{Board, Fits, of_one, Moved, moved_kept, false_is_no}
+use Rattle.tsc_shared_desk.proofs.DeskMoves.{Board, Fits, of_one, false_is_no}
 
--- a desk seat is divided in two that fit, and each post goes with one of them
-pub split_kept : (terms : Terms) (s : Board) (k : DeskRule terms s) (id : ℕ) (v left right : View) → get_elem? s.views id ≡ maybe.some v
-    → Fits terms s k left → Fits terms s k right
-    → ((number : ℕ) → posts_of number left + posts_of number right ≡ posts_of number v) → holders left + holders right ≡ holders v
-    → DeskRule terms (record { words = s.words; homes = s.homes; views = set s.views id left ++ right ∷ [] })
-split_kept terms s k id v left right at l r each one = record {
+-- Nothing but the views differs: each of them fits, and they keep the same posts together.
+viewed : (terms : Terms) (s : Board) (k : DeskRule terms s) (views : List View) → ((j : ℕ) (u : View) → get_elem? views j ≡ maybe.some u → Fits terms s k u)
+    → ((number : ℕ) → sum_by (posts_of number) views ≡ sum_by (posts_of number) s.views) → sum_by holders views ≡ sum_by holders s.views
+    → DeskRule terms (record { words = s.words; homes = s.homes; views = views })
+viewed terms s k views fits each one = record {
   history = k.history;
   word = k.word;
   stage_of = k.stage_of;
@@ -39,18 +38,36 @@ split_kept terms s k id v left right at l r each one = record {
   word_is = k.word_is;
   head_is = k.head_is;
   seats = k.seats;
-  views = λ other u e. elim (at_snoc (set s.views id left) right u other e) [
-    | inl old ↦ (elim (at_set s.views id other left u old) [
-      | inl same ↦ subst (Fits terms s k) same.1 l
-      | inr apart ↦ k.views other u apart.1
-    ])
-    | inr new ↦ subst (Fits terms s k) new r
-  ];
-  each = λ number. omega (arith, sum_by_push (posts_of number) (set s.views id left) right, total_set (posts_of number) s.views id v left at, each number, k.each number);
-  one = omega (arith, sum_by_push holders (set s.views id left) right, total_set holders s.views id v left at, one, k.one);
+  views = fits;
+  each = λ number. each number ∙ k.each number;
+  one = one ∙ k.one;
   idle = k.idle;
   free = k.free;
 }
+
+-- so it is where one of them is another one
+changed : (terms : Terms) (s : Board) (k : DeskRule terms s) (id : ℕ) (v w : View) → get_elem? s.views id ≡ maybe.some v → Fits terms s k w
+    → ((number : ℕ) → posts_of number w ≡ posts_of number v) → holders w ≡ holders v → DeskRule terms (record { words = s.words; homes = s.homes; views = set s.views id w })
+changed terms s k id v w at fits each one = viewed terms s k (set s.views id w)
+    (λ j u e. elim (at_set s.views id j w u e) [ inl same ↦ subst (Fits terms s k) same.1 fits | inr apart ↦ k.views j u apart.1 ])
+    (λ number. omega (arith, total_set (posts_of number) s.views id v w at, each number))
+    (omega (arith, total_set holders s.views id v w at, one))
+
+-- a desk seat is divided in two that fit, and each post goes with one of them
+pub split_kept : (terms : Terms) (s : Board) (k : DeskRule terms s) (id : ℕ) (v left right : View) → get_elem? s.views id ≡ maybe.some v
+    → Fits terms s k left → Fits terms s k right
+    → ((number : ℕ) → posts_of number left + posts_of number right ≡ posts_of number v) → holders left + holders right ≡ holders v
+    → DeskRule terms (record { words = s.words; homes = s.homes; views = set s.views id left ++ right ∷ [] })
+split_kept terms s k id v left right at l r each one = viewed terms s k (set s.views id left ++ right ∷ [])
+    (λ other u e. elim (at_snoc (set s.views id left) right u other e) [
+      | inl old ↦ (elim (at_set s.views id other left u old) [
+        | inl same ↦ subst (Fits terms s k) same.1 l
+        | inr apart ↦ k.views other u apart.1
+      ])
+      | inr new ↦ subst (Fits terms s k) new r
+    ])
+    (λ number. omega (arith, sum_by_push (posts_of number) (set s.views id left) right, total_set (posts_of number) s.views id v left at, each number))
+    (omega (arith, sum_by_push holders (set s.views id left) right, total_set holders s.views id v left at, one))
 
 spent_fits : (terms : Terms) (s : Board) (k : DeskRule terms s) → Fits terms s k spent
 spent_fits terms s k = record { settled = λ e. absurd (false_is_no e); posts = λ i p e. absurd (some-ne-none p (sym e)); noted = begins_empty k.history }
@@ -62,31 +79,17 @@ pub join_kept : (terms : Terms) (s : Board) (k : DeskRule terms s) (id : ℕ) (v
     → ((number : ℕ) → posts_of number both ≡ posts_of number v + posts_of number w) → holders both ≡ holders v + holders w
     → DeskRule terms (record { words = s.words; homes = s.homes; views = set (set s.views id both) other spent })
 join_kept terms s k id v other w both at apart at_other fits each one =
-    let at_joined : get_elem? (set s.views id both) other ≡ maybe.some w = set_else s.views id other both apart ∙ at_other in record {
-      history = k.history;
-      word = k.word;
-      stage_of = k.stage_of;
-      cleared = k.cleared;
-      watched = k.watched;
-      legal = k.legal;
-      limit = k.limit;
-      wide = k.wide;
-      deep = k.deep;
-      word_is = k.word_is;
-      head_is = k.head_is;
-      seats = k.seats;
-      views = λ j u e. elim (at_set (set s.views id both) other j spent u e) [
-        | inl same ↦ subst (Fits terms s k) same.1 (spent_fits terms s k)
-        | inr old ↦ (elim (at_set s.views id j both u old.1) [
-          | inl same ↦ subst (Fits terms s k) same.1 fits
-          | inr others ↦ k.views j u others.1
-        ])
-      ];
-      each = λ number. omega (arith, total_set (posts_of number) (set s.views id both) other w spent at_joined, total_set (posts_of number) s.views id v both at, each number, k.each number);
-      one = omega (arith, total_set holders (set s.views id both) other w spent at_joined, total_set holders s.views id v both at, one, k.one);
-      idle = k.idle;
-      free = k.free;
-    }
+    let at_joined : get_elem? (set s.views id both) other ≡ maybe.some w = set_else s.views id other both apart ∙ at_other in
+    viewed terms s k (set (set s.views id both) other spent)
+    (λ j u e. elim (at_set (set s.views id both) other j spent u e) [
+      | inl same ↦ subst (Fits terms s k) same.1 (spent_fits terms s k)
+      | inr old ↦ (elim (at_set s.views id j both u old.1) [
+        | inl same ↦ subst (Fits terms s k) same.1 fits
+        | inr others ↦ k.views j u others.1
+      ])
+    ])
+    (λ number. omega (arith, total_set (posts_of number) (set s.views id both) other w spent at_joined, total_set (posts_of number) s.views id v both at, each number))
+    (omega (arith, total_set holders (set s.views id both) other w spent at_joined, total_set holders s.views id v both at, one))
 
 -- the view of a seat where a history is noted
 abbrev pub noting : Terms → ℕ → History → ℕ → History → View
@@ -129,26 +132,11 @@ meet_allowed terms slots st id t number seen count noted s k deep at small =
     let w : View = seated t number (longer seen noted) count false in
     let words : List ℕ = set s.words 0 (slice_index s.words 0) in
     let same_words : words ≡ s.words = set-get_or s.words 0 0 in
-    let moved : Moved terms s id v w k.history k.word k.stage_of k.cleared k.watched s.words s.homes = record {
-      at = at;
-      legal = k.legal;
-      limit = k.limit;
-      wide = k.wide;
-      deep = k.deep;
-      word_is = k.word_is;
-      head_is = k.head_is;
-      seats = k.seats;
-      fits = of_one t (post number (longer seen noted) count false) same (record { begins = long.2; own = mine.own; own_seen = own; at_stage = mine.at_stage; sees = λ e. absurd (omega (arith, e)); holding = λ e. absurd (false_is_no e) });
-      others = λ other u apart e. k.views other u e;
-      each = λ _. refl;
-      one = omega (arith, k.one);
-      idle = k.idle;
-      free = k.free;
-    } in (
+    let fit : Fits terms s k w = of_one t (post number (longer seen noted) count false) same (record { begins = long.2; own = mine.own; own_seen = own; at_stage = mine.at_stage; sees = λ e. absurd (omega (arith, e)); holding = λ e. absurd (false_is_no e) }) in (
       w,
       act_keeps,
       tt,
-      subst (λ (ws : List ℕ). DeskRule terms (record { words = ws; homes = s.homes; views = set s.views id w })) (sym same_words) (moved_kept terms s k id v w k.history k.word k.stage_of k.cleared k.watched s.words s.homes moved),
+      subst (λ (ws : List ℕ). DeskRule terms (record { words = ws; homes = s.homes; views = set s.views id w })) (sym same_words) (changed terms s k id v w at fit (λ _. refl) refl),
       record {
         history = longer seen noted;
         is_longer = refl;
@@ -172,26 +160,11 @@ newest_allowed terms slots st id t number seen count noted s k deep at small =
     let w : View = seated t number k.history count false in
     let words : List ℕ = set s.words 16 (slice_index s.words 16) in
     let same_words : words ≡ s.words = set-get_or s.words 16 0 in
-    let moved : Moved terms s id v w k.history k.word k.stage_of k.cleared k.watched s.words s.homes = record {
-      at = at;
-      legal = k.legal;
-      limit = k.limit;
-      wide = k.wide;
-      deep = k.deep;
-      word_is = k.word_is;
-      head_is = k.head_is;
-      seats = k.seats;
-      fits = of_one t (post number k.history count false) same (record { begins = begins_itself k.history; own = mine.own; own_seen = mine.own; at_stage = mine.at_stage; sees = λ z. absurd (omega (arith, z)); holding = λ e. absurd (false_is_no e) });
-      others = λ other u apart e. k.views other u e;
-      each = λ _. refl;
-      one = omega (arith, k.one);
-      idle = k.idle;
-      free = k.free;
-    } in (
+    let fit : Fits terms s k w = of_one t (post number k.history count false) same (record { begins = begins_itself k.history; own = mine.own; own_seen = mine.own; at_stage = mine.at_stage; sees = λ z. absurd (omega (arith, z)); holding = λ e. absurd (false_is_no e) }) in (
       w,
       act_keeps,
       tt,
-      subst (λ (ws : List ℕ). DeskRule terms (record { words = ws; homes = s.homes; views = set s.views id w })) (sym same_words) (moved_kept terms s k id v w k.history k.word k.stage_of k.cleared k.watched s.words s.homes moved),
+      subst (λ (ws : List ℕ). DeskRule terms (record { words = ws; homes = s.homes; views = set s.views id w })) (sym same_words) (changed terms s k id v w at fit (λ _. refl) refl),
       record {
         history = k.history;
         after = refl;
