@@ -85,6 +85,24 @@ static SINGLE: Course = (
     LETTERS,
 );
 
+/// Points alone: the fifth rotates the pages, and nothing is dropped; the ninth rotates them again, and drops the first page.
+static POINTS: Course = (
+    (132, 132, 2),
+    b"",
+    &[
+        (&[(b"a", AT_20, FIRST)], AT_20, KEPT),
+        (&[(b"b", AT_20, FIRST)], AT_20, KEPT),
+        (&[(b"c", AT_20, FIRST)], AT_20, KEPT),
+        (&[(b"d", AT_20, FIRST)], AT_20, KEPT),
+        (&[(b"e", AT_20, FIRST)], AT_20, ROTATED),
+        (&[(b"f", AT_41, FIRST)], AT_40, KEPT),
+        (&[(b"g", AT_41, FIRST)], AT_40, KEPT),
+        (&[(b"h", AT_41, FIRST)], AT_40, KEPT),
+        (&[(b"i", AT_41, FIRST)], AT_40, DROPPED),
+    ],
+    LETTERS,
+);
+
 /// Marks that are added together, of which some rotate the pages, once or twice.
 static TOGETHER: Course = (
     (132, 132, 2),
@@ -476,6 +494,11 @@ fn play(rt: &impl Abort, alloc: Global, course: &Course, calls: &[Call]) -> Resu
 #[test]
 fn single_marks_over_rotations(rt: HostRuntime) -> Result<(), Fail> {
     play(&rt, rt.alloc(), &SINGLE, &CALLS)
+}
+
+#[test]
+fn points_over_rotations(rt: HostRuntime) -> Result<(), Fail> {
+    play(&rt, rt.alloc(), &POINTS, &CALLS)
 }
 
 #[test]
