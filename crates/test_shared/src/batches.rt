@@ -379,7 +379,7 @@ fn add_one_again<C: Of, R: Wait>(
     let mark = mark_at(alloc, key, 20, 20)?;
     let told = add_one(rt, home, first, &mark, gate);
     let told = told.or_else(|| add_one(rt, home, first, &mark, gate));
-    Ok(told.ok_or(NoMemory)?)
+    Ok(told.ok_or("an Add was refused again")?)
 }
 
 /// One step of a row.
