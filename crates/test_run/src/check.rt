@@ -248,11 +248,11 @@ static LOGS: [(&str, Verdict); 2] = [
     ),
 ];
 
-/// A check. Where memory is refused the same call then succeeds.
-fn check_again(alloc: Global, trace: &Trace, log: &Log) -> Result<Verdict, NoMemory> {
+/// A check. Where memory is refused the same call then succeeds, or there is no verdict.
+fn check_again(alloc: Global, trace: &Trace, log: &Log) -> Option<Verdict> {
     match check(alloc, trace, log) {
-        Err(NoMemory) => check(alloc, trace, log),
-        told => told,
+        Err(NoMemory) => check(alloc, trace, log).ok(),
+        told => told.ok(),
     }
 }
 
@@ -264,7 +264,7 @@ fn wrong_check_again(
 ) -> Result<Option<usize>, Fail> {
     for (i, (lines, want)) in rows.iter().enumerate() {
         let log = read_log(alloc, lines.as_bytes())?;
-        if check_again(alloc, trace, &log)? != *want {
+        if check_again(alloc, trace, &log) != Some(*want) {
             return Ok(Some(i));
         }
     }

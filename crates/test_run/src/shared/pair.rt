@@ -7,7 +7,7 @@ use std::process::Abort;
 use std::sync::Wait;
 use std::test::Fail;
 use tsc_cache::Config;
-use tsc_shared::{AddFault, Answer, LowWater, OpenFault, Seat, SharedCache};
+use tsc_shared::{AddFault, Answer, LowWater, Seat, SharedCache};
 use tsc_span::{Ends, Key, Span};
 use tsc_time::{NoMemory, Timestamp, Value};
 use uuid::Uuid;
@@ -203,16 +203,15 @@ fn take_step<R: Wait>(
 }
 
 /// A cache of two seats. Where it is refused memory it is opened once more.
-fn open_again(
-    alloc: Global,
-    config: Config,
-    limit: u64,
-) -> Result<(SharedCache, Vec<Seat>), OpenFault>
+fn open_again(alloc: Global, config: Config, limit: u64) -> Result<(SharedCache, Vec<Seat>), Fail>
     ensures { IfOk result (λ opened. Opens config 2 limit opened.0 opened.1.items) }
 {
     match SharedCache::open(alloc, config, 2, limit) {
         Ok(opened) => Ok(opened),
-        Err(_) => SharedCache::open(alloc, config, 2, limit),
+        Err(_refused) => match SharedCache::open(alloc, config, 2, limit) {
+            Ok(opened) => Ok(opened),
+            Err(_refused) => Err("a cache was refused again".into()),
+        },
     }
 }
 
