@@ -327,7 +327,7 @@ fn add_one_again<C: Of, R: Wait>(
     let mark = mark_at(alloc, key, 20, 20)?;
     let told = home.add_gated(rt, first, &mark, gate);
     let told = told.or_else(|| home.add_gated(rt, first, &mark, gate));
-    Ok(told.ok_or(NoMemory)?)
+    Ok(told.ok_or("an Add was refused again")?)
 }
 
 /// One step of a row.

@@ -99,7 +99,7 @@ impl Scene for KnownKeys {
         }
         let told = home.add_together(rt, last, &batch);
         let told = told.or_else(|| home.add_together(rt, last, &batch));
-        assert_eq!(rt; told.ok_or(NoMemory)?, Told::Place(3, (true, false, 0), 4));
+        assert_eq!(rt; told, Some(Told::Place(3, (true, false, 0), 4)));
         Ok(())
     }
 }

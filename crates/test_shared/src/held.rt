@@ -244,7 +244,7 @@ impl<C: Of> Script<C> for Held<'_> {
     ) -> Option<()> {
         let plan = self.plan;
         if guest.number() == 0 {
-            assert_eq!(rt; self.add_again(rt, home, guest)?, plan.told);
+            assert_eq!(rt; self.add_again(rt, home, guest), Some(plan.told));
             return Some(());
         }
         if !self.is_held() {

@@ -10,9 +10,7 @@ use std::process::Abort;
 use std::sync::Wait;
 use std::test::Fail;
 use tsc_cache::{Config, ConfigFault, Figures};
-use tsc_shared::{
-    AddFault, Closed, Front, Gate, NoGate, OpenFault, Receipt, Seat, SharedCache, TryAddFault,
-};
+use tsc_shared::{AddFault, Closed, Front, Gate, NoGate, Receipt, Seat, SharedCache, TryAddFault};
 use tsc_span::{Ends, Key, Span, SpanFault};
 use tsc_time::{NoMemory, Timestamp, Value};
 use uuid::Uuid;
@@ -501,12 +499,16 @@ fn open(
     config: Config,
     limit: u64,
     tries_again: bool,
-) -> Result<(SharedCache, Vec<Seat>), OpenFault>
+) -> Result<(SharedCache, Vec<Seat>), Fail>
     ensures { IfOk result (λ opened. Opens config 2 limit opened.0 opened.1.items) }
 {
     match SharedCache::open(alloc, config, 2, limit) {
-        Err(_refused) if tries_again => SharedCache::open(alloc, config, 2, limit),
-        opened => opened,
+        Ok(opened) => Ok(opened),
+        Err(_refused) if tries_again => match SharedCache::open(alloc, config, 2, limit) {
+            Ok(opened) => Ok(opened),
+            Err(_refused) => Err("a cache was refused again".into()),
+        },
+        Err(refused) => Err(refused.into()),
     }
 }
 
