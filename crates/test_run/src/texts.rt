@@ -1,4 +1,5 @@
 //! The text of each fault and of each verdict, word for word.
+use crate::rows::none;
 use std::alloc::Global;
 use std::fmt::Display;
 use std::test::Fail;
@@ -67,15 +68,10 @@ fn first_other<F: Display>(
 }
 
 #[test]
-fn texts_of_runs(rt: HostRuntime) -> Result<(), Fail> {
-    assert_eq!(rt; first_other(rt.alloc(), &RUN_FAULTS)?, None);
-    assert_eq!(rt; first_other(rt.alloc(), &RUN_STOPS)?, None);
-    Ok(())
-}
-
-#[test]
-fn texts_of_checks(rt: HostRuntime) -> Result<(), Fail> {
-    assert_eq!(rt; first_other(rt.alloc(), &CHECK_FAULTS)?, None);
-    assert_eq!(rt; first_other(rt.alloc(), &VERDICTS)?, None);
-    Ok(())
+fn texts_of_runs_and_checks(rt: HostRuntime) -> Result<(), Fail> {
+    let alloc = rt.alloc();
+    none(&rt, first_other(alloc, &RUN_FAULTS))?;
+    none(&rt, first_other(alloc, &RUN_STOPS))?;
+    none(&rt, first_other(alloc, &CHECK_FAULTS))?;
+    none(&rt, first_other(alloc, &VERDICTS))
 }

@@ -45,11 +45,6 @@ pub fn in_order(
     Ok(all.iter().all(|adds| adds.is_empty()).then_some(cache))
 }
 
-/// The keys from `a` on, up to `e`, which is not among them.
-pub fn first_four(alloc: Global) -> Result<Span, Fail> {
-    Ok(Span::of(Key::new(alloc, b"a")?, Key::new(alloc, b"e")?)?)
-}
-
 /// Whether two caches answer alike at each key, over all keys, and of how they stand.
 pub fn are_alike(alloc: Global, plan: Plan, one: &Cache, other: &Cache) -> Result<bool, Fail> {
     for turn in 0..26 {
@@ -65,4 +60,10 @@ pub fn are_alike(alloc: Global, plan: Plan, one: &Cache, other: &Cache) -> Resul
             && one.pages() == other.pages()
             && one.rotations() == other.rotations(),
     )
+}
+
+/// Whether the latest value on the keys from `a` on up to `e`, which is not among them, is that of all Adds, where these don't differ.
+pub fn has_values(alloc: Global, plan: Plan, cache: &Cache) -> Result<bool, Fail> {
+    let first_four = Span::of(Key::new(alloc, b"a")?, Key::new(alloc, b"e")?)?;
+    Ok(plan.differ || Some(cache.get_max(&first_four)) == plan.value(0, 0))
 }

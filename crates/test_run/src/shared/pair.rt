@@ -42,9 +42,9 @@ pub enum Told {
 /// How many Adds of its own a seat counts, and how many it has seen.
 type Counts = (u64, u64);
 
-/// The limit of the history, the steps with what is told and how the seat counts then, and how many Adds
-/// there are at closing.
-pub type Row = (u64, &'static [(Step, Told, Counts)], u64);
+/// The bytes of a page, and how many pages are kept at the least; the limit of the history, the steps with what is told and how the seat
+/// counts then, and how many Adds there are at closing.
+pub type Row = ((u32, u32), u64, &'static [(Step, Told, Counts)], u64);
 
 #[derive(Drop)]
 pub struct Pair {
