@@ -1,6 +1,6 @@
 //! Runs whose logs are known, and runs that are held up until all their lists run.
 use crate::rows::none;
-use std::alloc::Global;
+use std::alloc::{AllocError, Global};
 use std::sync::Wait;
 use std::sync::atomic::{AtomicU64, Ordering};
 use std::test::Fail;
@@ -348,24 +348,28 @@ fn first_wrong<R: Threads + Wait + Sync>(
 
 #[test]
 fn logs_of_runs(rt: HostRuntime) -> Result<(), Fail> {
-    none(&rt, first_wrong(&rt, rt.alloc(), &RUNS))
+    none(&rt, first_wrong(&rt, rt.alloc(), &RUNS)?);
+    Ok(())
 }
 
 #[test]
 fn lists_run_while_others_are_held_up(rt: HostRuntime) -> Result<(), Fail> {
-    none(&rt, first_wrong(&rt, rt.alloc(), &HELD))
+    none(&rt, first_wrong(&rt, rt.alloc(), &HELD)?);
+    Ok(())
 }
 
 #[test]
 fn an_add_is_not_seen_before_its_gate_was_told(rt: HostRuntime) -> Result<(), Fail> {
-    none(&rt, first_wrong(&rt, rt.alloc(), &UNSEEN))
+    none(&rt, first_wrong(&rt, rt.alloc(), &UNSEEN)?);
+    Ok(())
 }
 
 /// `scripts/refuse-each-growth tests test_run run::..` refuses each growth of this test in turn: a call that was refused
 /// its memory is done too, and the last one of its list.
 #[test]
 fn a_gate_is_told_of_each_call_in_its_order(rt: HostRuntime) -> Result<(), Fail> {
-    none(&rt, first_wrong(&rt, rt.alloc(), &COUNTED))
+    none(&rt, first_wrong(&rt, rt.alloc(), &COUNTED)?);
+    Ok(())
 }
 
 /// A list adds a time of its own to a key that some other lists add to as well, and looks it up.
@@ -376,13 +380,12 @@ const AT: &str = r#""},"time":["#;
 const AND_LOOK: &str = r#",0],"now":[20,0]},{"op":"get","span":{"start":"61"}},{"op":"low"}]"#;
 
 /// The text of a trace of so many such lists.
-fn text_of_many(alloc: Global, lists: u32) -> Result<String, Fail> {
+fn text_of_many(alloc: Global, lists: u32) -> Result<String, AllocError> {
     let mut text = format!(in alloc; "{HEAD}[")?;
     for i in 0..lists {
         let comma = if i > 0 { "," } else { "" };
         let (key, time) = (i % 10, 20 + i % 100);
-        let list = format!(in alloc; "{comma}{ADD_TO}{key}{AT}{time}{AND_LOOK}")?;
-        text.push_str(list.as_str())?;
+        text = format!(in alloc; "{text}{comma}{ADD_TO}{key}{AT}{time}{AND_LOOK}")?;
     }
     text.push_str("]}")?;
     Ok(text)

@@ -4,14 +4,14 @@ mod threads;
 
 use self::order::{are_alike, has_values, in_order};
 use self::pair::{Pair, Row, Step, Told};
-use self::threads::{Plan, run};
+use self::threads::{Adds, Plan, run};
 use crate::rows::none;
 use std::alloc::Global;
 use std::sync::Wait;
 use std::test::Fail;
 use std::thread::Threads;
 use tsc_cache::Config;
-use tsc_shared::{OpenFault, SharedCache};
+use tsc_shared::{Closed, OpenFault, SharedCache};
 use tsc_time::Timestamp;
 
 /// A floor at 5.0, and pages of so many bytes, of which so many are kept at the least.
@@ -31,7 +31,7 @@ static SEEN_BY_THE_OTHER: Row = (
     (132, 2),
     100,
     &[
-        (Step::Add(0, "a"), Told::Place(0, true, 1), (1, 1)),
+        (Step::Add(0, "a", 20), Told::Place(0, true, 1), (1, 1)),
         (Step::Get(1, "a"), OWNED_BY_ONE, (0, 1)),
     ],
     1,
@@ -42,10 +42,10 @@ static FULL: Row = (
     (132, 2),
     3,
     &[
-        (Step::Add(0, "a"), Told::Place(0, true, 1), (1, 1)),
-        (Step::Add(0, "b"), Told::Place(1, true, 2), (2, 2)),
-        (Step::Add(1, "c"), Told::Place(2, true, 3), (1, 3)),
-        (Step::Add(0, "d"), Told::Full(3), (2, 3)),
+        (Step::Add(0, "a", 20), Told::Place(0, true, 1), (1, 1)),
+        (Step::Add(0, "b", 20), Told::Place(1, true, 2), (2, 2)),
+        (Step::Add(1, "c", 20), Told::Place(2, true, 3), (1, 3)),
+        (Step::Add(0, "d", 20), Told::Full(3), (2, 3)),
         (
             Step::Get(0, "a"),
             Told::Value {
@@ -66,7 +66,7 @@ static UNUSED: Row = ((132, 2), 100, &[], 0);
 static NONE_AT_ALL: Row = (
     (132, 2),
     0,
-    &[(Step::Add(0, "a"), Told::Full(0), (0, 0))],
+    &[(Step::Add(0, "a", 20), Told::Full(0), (0, 0))],
     0,
 );
 
@@ -76,8 +76,8 @@ static MET: Row = (
     10,
     &[
         (Step::Low(1), Told::Floor(5, 0), (0, 0)),
-        (Step::Add(0, "a"), Told::Place(0, true, 1), (1, 1)),
-        (Step::Add(0, "b"), Told::Place(1, true, 2), (2, 2)),
+        (Step::Add(0, "a", 20), Told::Place(0, true, 1), (1, 1)),
+        (Step::Add(0, "b", 20), Told::Place(1, true, 2), (2, 2)),
         (Step::Meet, Told::Met(2), (2, 2)),
         (Step::AddNothing(1), Told::Place(2, false, 3), (1, 3)),
     ],
@@ -90,10 +90,10 @@ static RISEN: Row = (
     (66, 1),
     10,
     &[
-        (Step::Add(0, "a"), Told::Place(0, true, 1), (1, 1)),
-        (Step::Add(0, "b"), Told::Place(1, true, 2), (2, 2)),
+        (Step::Add(0, "a", 20), Told::Place(0, true, 1), (1, 1)),
+        (Step::Add(0, "b", 20), Told::Place(1, true, 2), (2, 2)),
         (Step::Low(1), Told::Floor(5, 2), (0, 2)),
-        (Step::AddAt(0, "c", 40), Told::Place(2, true, 3), (3, 3)),
+        (Step::Add(0, "c", 40), Told::Place(2, true, 3), (3, 3)),
         (Step::Low(1), Told::Floor(20, 3), (0, 3)),
         (
             Step::Get(1, "a"),
@@ -133,15 +133,15 @@ fn first_wrong<R: Wait>(rt: &R, alloc: Global, rows: &[&Row]) -> Result<Option<u
     Ok(None)
 }
 
-/// The first of some numbers of seats of which a cache is opened, or refused for something else.
-fn first_opened(alloc: Global, numbers: &[u32]) -> Result<Option<usize>, Fail> {
+/// The number of the first number of seats, from 0, for which a cache is opened, or refused for something else.
+fn first_opened(alloc: Global, config: Config, numbers: &[u32]) -> Option<usize> {
     for (i, seats) in numbers.iter().enumerate() {
-        match SharedCache::open(alloc, config(132, 2)?, *seats, 1) {
+        match SharedCache::open(alloc, config, *seats, 1) {
             Err(OpenFault::Seats) => {}
-            _ => return Ok(Some(i)),
+            _ => return Some(i),
         }
     }
-    Ok(None)
+    None
 }
 
 /// For `scripts/refuse-each-growth`.
@@ -155,8 +155,9 @@ fn what_two_seats_are_told(rt: HostRuntime) -> Result<(), Fail> {
         &MET,
         &RISEN,
     ];
-    none(&rt, first_wrong(&rt, rt.alloc(), &rows))?;
-    none(&rt, first_opened(rt.alloc(), &[0, 65]))
+    none(&rt, first_wrong(&rt, rt.alloc(), &rows)?);
+    none(&rt, first_opened(rt.alloc(), config(132, 2)?, &[0, 65]));
+    Ok(())
 }
 
 /// Two seats and four, each on a thread of its own. The places of their Adds are 0, 1, .. each once, and rise
@@ -178,31 +179,36 @@ static ON_THREADS: [(u32, Plan); 2] = [
     ),
 ];
 
-/// Whether seats on threads of their own come to what their plan says.
-fn runs<R: Threads + Wait + Sync>(
-    rt: &R,
+/// Whether this is what such seats come to.
+fn is_as_planned(
     alloc: Global,
+    config: Config,
     seats: u32,
     plan: Plan,
-) -> Result<bool, Fail> {
-    let (closed, adds) = run(rt, alloc, config(132, 2)?, seats, plan)?;
+    closed: &Closed,
+    adds: Adds,
+) -> bool {
     if closed.adds != u64::from(seats) * u64::from(plan.turns) {
-        return Ok(false);
+        return false;
     }
-    let Some(plain) = in_order(alloc, config(132, 2)?, plan, adds, closed.adds)? else {
-        return Ok(false);
-    };
-    Ok(are_alike(alloc, plan, &closed.cache, &plain)? && has_values(alloc, plan, &closed.cache)?)
+    match in_order(alloc, config, plan, adds, closed.adds) {
+        Some(plain) => {
+            are_alike(alloc, plan, &closed.cache, &plain) && has_values(alloc, plan, &closed.cache)
+        }
+        None => false,
+    }
 }
 
-/// The number of the first plan, from 0, that comes to something else.
+/// The number of the first plan, from 0, of which seats on threads of their own come to something else.
 fn first_wrong_plan<R: Threads + Wait + Sync>(
     rt: &R,
     alloc: Global,
+    config: Config,
     plans: &[(u32, Plan)],
 ) -> Result<Option<usize>, Fail> {
     for (i, (seats, plan)) in plans.iter().enumerate() {
-        if !runs(rt, alloc, *seats, *plan)? {
+        let (closed, adds) = run(rt, alloc, config, *seats, *plan)?;
+        if !is_as_planned(alloc, config, *seats, *plan, &closed, adds) {
             return Ok(Some(i));
         }
     }
@@ -211,5 +217,7 @@ fn first_wrong_plan<R: Threads + Wait + Sync>(
 
 #[test]
 fn each_seat_on_a_thread(rt: HostRuntime) -> Result<(), Fail> {
-    none(&rt, first_wrong_plan(&rt, rt.alloc(), &ON_THREADS))
+    let config = config(132, 2)?;
+    none(&rt, first_wrong_plan(&rt, rt.alloc(), config, &ON_THREADS)?);
+    Ok(())
 }
