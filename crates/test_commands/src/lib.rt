@@ -1,10 +1,12 @@
-//! Tests of the program's commands, of its words and of the program itself, through their public calls.
+//! Tests of the program's commands, of the same from bytes to bytes, of its words and of the program itself, through their public calls.
 //!
 //! They stand apart because a crate that has tests is proved once with them and once without.
 #![tactic(auto)]
 
 #[cfg(test)]
 mod check;
+#[cfg(test)]
+mod lines;
 #[cfg(test)]
 mod memory;
 #[cfg(test)]
@@ -15,6 +17,8 @@ mod program;
 mod replay;
 #[cfg(test)]
 mod run;
+#[cfg(test)]
+mod texts;
 #[cfg(test)]
 mod traces;
 #[cfg(test)]

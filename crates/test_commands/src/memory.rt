@@ -1,34 +1,161 @@
-//! Readers and writers over memory whose calls may go wrong, and what was written to such a writer.
+//! Commands over memory, whose readers and writers may go wrong, and what comes of them.
 use std::alloc::Global;
 use std::process::Abort;
+use std::sync::Wait;
+use std::thread::Threads;
+use tsc_commands::{check_command, replay_command, run_command};
+use tsc_shared::{Gate, NoGate};
 use tsc_trace_io::Metered;
 use tsc_trace_io::fakes::{Faulty, Mishap};
 
 /// How many bytes a call moves, and which calls go wrong.
-pub type Calls = (usize, Mishap);
+pub(crate) type Calls = (usize, Mishap);
 
 /// Calls that move all bytes, and none of which goes wrong.
-pub const CALM: Calls = (65_536, Mishap::Never);
+pub(crate) const CALM: Calls = (65_536, Mishap::Never);
+
+/// How the trace and the log are read, the output written and a fault told.
+pub(crate) type Ways = (Calls, Calls, Calls, Calls);
+
+pub(crate) const CALMLY: Ways = (CALM, CALM, CALM, CALM);
+
+pub(crate) const READ_FAILED: &str = "read failed\n";
+
+pub(crate) const WRITE_FAILED: &str = "write failed\n";
+
+/// Which command is called.
+#[derive(Clone, Copy)]
+pub(crate) enum Command {
+    Replay,
+    Check,
+    Run,
+}
+
+/// A command, the trace that it reads, and the log that a check reads beside it.
+pub(crate) type Call<'a> = (Command, &'a [u8], &'a [u8]);
+
+/// The status, what is written, and what is told of a fault.
+pub(crate) type End<'a> = (u8, &'a [u8], &'a [u8]);
+
+/// A command, its trace and its log, the status, what is written, and what is told of a fault.
+pub(crate) type Row = (
+    Command,
+    &'static str,
+    &'static str,
+    u8,
+    &'static str,
+    &'static str,
+);
+
+/// Rows whose readers and writers go wrong alike.
+pub(crate) type Mishaps = (Ways, &'static [Row]);
+
+/// What came of a command.
+#[derive(Drop)]
+pub(crate) struct Came {
+    pub(crate) status: u8,
+    pub(crate) written: Vec<u8>,
+    pub(crate) told: Vec<u8>,
+}
 
 /// A reader of bytes.
-pub type Input<'a> = Metered<Faulty<&'a [u8]>>;
-
-/// A writer that keeps what was written.
-pub type Output = Metered<Faulty<Vec<u8>>>;
-
-pub fn reader_of(bytes: &[u8], calls: Calls) -> Input<'_> {
+fn reader_of(bytes: &[u8], calls: Calls) -> Metered<Faulty<&[u8]>> {
     Metered::new(Faulty::new(bytes, calls.0, calls.1))
 }
 
-pub fn new_writer(alloc: Global, calls: Calls) -> Output {
+/// A writer that keeps what was written.
+pub(crate) fn new_writer(alloc: Global, calls: Calls) -> Metered<Faulty<Vec<u8>>> {
     Metered::new(Faulty::new(Vec::new(alloc), calls.0, calls.1))
 }
 
-/// Holds what was written in the test of a text against what is wanted.
-pub fn assert_written(rt: &impl Abort, writer: Output, wanted: &str, of: &str) {
-    assert_eq!(rt;
-        writer.into_inner().inner.as_slice(),
-        wanted.as_bytes(),
-        "{of}"
-    );
+/// What was written.
+pub(crate) fn written(writer: Metered<Faulty<Vec<u8>>>) -> Vec<u8> {
+    writer.into_inner().inner
+}
+
+/// What comes of a command that is called in these ways.
+pub(crate) fn call<R: Threads + Wait + Sync, G: Gate + Sync>(
+    rt: &R,
+    alloc: Global,
+    gate: &G,
+    call: Call,
+    ways: Ways,
+) -> Came {
+    let mut trace = reader_of(call.1, ways.0);
+    let mut log = reader_of(call.2, ways.1);
+    let mut writer = new_writer(alloc, ways.2);
+    let mut errors = new_writer(alloc, ways.3);
+    let status = match call.0 {
+        Command::Replay => replay_command(alloc, &mut trace, &mut writer, &mut errors),
+        Command::Check => check_command(alloc, &mut trace, &mut log, &mut writer, &mut errors),
+        Command::Run => run_command(rt, alloc, &mut trace, &mut writer, &mut errors, gate),
+    };
+    Came {
+        status,
+        written: written(writer),
+        told: written(errors),
+    }
+}
+
+/// Whether a command ends so where it is called in these ways.
+pub(crate) fn ends<R: Threads + Wait + Sync, G: Gate + Sync>(
+    rt: &R,
+    alloc: Global,
+    gate: &G,
+    of: Call,
+    ways: Ways,
+    end: End,
+) -> bool {
+    let came = call(rt, alloc, gate, of, ways);
+    came.status == end.0 && came.written.as_slice() == end.1 && came.told.as_slice() == end.2
+}
+
+/// Whether a row's command ends as it says.
+pub(crate) fn holds<R: Threads + Wait + Sync, G: Gate + Sync>(
+    rt: &R,
+    alloc: Global,
+    gate: &G,
+    ways: Ways,
+    row: &Row,
+) -> bool {
+    let (command, trace, log, status, output, told) = *row;
+    let of = (command, trace.as_bytes(), log.as_bytes());
+    let end = (status, output.as_bytes(), told.as_bytes());
+    ends(rt, alloc, gate, of, ways, end)
+}
+
+/// The trace and the log of the first row whose command ends otherwise, where it is called in these ways.
+fn first_wrong<R: Threads + Wait + Sync>(
+    rt: &R,
+    alloc: Global,
+    ways: Ways,
+    rows: &[Row],
+) -> Option<(&'static str, &'static str)> {
+    for row in rows {
+        if !holds(rt, alloc, &NoGate, ways, row) {
+            return Some((row.1, row.2));
+        }
+    }
+    None
+}
+
+/// Calls the command of each row, which has to end as the row says.
+pub(crate) fn play<R: Abort + Threads + Wait + Sync>(
+    rt: &R,
+    alloc: Global,
+    ways: Ways,
+    rows: &[Row],
+) {
+    assert_eq!(rt; first_wrong(rt, alloc, ways, rows), None);
+}
+
+/// The same where readers and writers go wrong.
+pub(crate) fn play_mishaps<R: Abort + Threads + Wait + Sync>(
+    rt: &R,
+    alloc: Global,
+    all: &[Mishaps],
+) {
+    for (ways, rows) in all {
+        play(rt, alloc, *ways, rows);
+    }
 }

@@ -1,7 +1,7 @@
 //! The program over words and files in memory, and over the system's files.
 ghost use Rattle.tsc_commands.specs.Place.{says_nothing};
 
-use crate::memory::{CALM, assert_written, new_writer};
+use crate::memory::{CALM, READ_FAILED, new_writer, written};
 use crate::traces::{NO_JSON, TWO_READERS, TWO_READERS_LOG};
 use std::alloc::Global;
 use std::env::{Env, FillError};
@@ -16,8 +16,6 @@ use tsc_trace_io::Metered;
 use tsc_trace_io::fakes::Mishap;
 
 const USAGE: &str = "usage: tscache replay FILE, run FILE or check FILE LOG\n";
-
-const READ_FAILED: &str = "read failed\n";
 
 const OUT_OF_MEMORY: &str = "out of memory\n";
 
@@ -291,30 +289,11 @@ static SYSTEM_ROWS: [Row; 16] = [
     ),
 ];
 
-/// Holds what a call of the program comes to against what is wanted.
-fn check_call<R: Abort + Threads + Wait + Sync, P: Place>(
-    rt: &R,
-    alloc: Global,
-    place: &P,
-    words: Result<Vec<String>, WordsFault>,
-    telling: Mishap,
-    wanted: (u8, &str, &str),
-) {
-    let (wanted_status, log, line) = wanted;
-    let mut output = Output {
-        writer: new_writer(alloc, CALM),
-    };
-    let mut errors = Errors {
-        writer: new_writer(alloc, (9, telling)),
-    };
-    let code = program(rt, alloc, words, place, &mut output, &mut errors, &NoMeter);
-    assert_eq!(rt; code, ExitCode::from(wanted_status));
-    assert_written(rt, output.writer, log, log);
-    assert_written(rt, errors.writer, line, line);
-}
+/// Words that are no text.
+static GARBLED: [Row; 1] = [(&["tscache", "replay", "two_readers.json"], 2, "", USAGE)];
 
 /// The words of a call, as the program gets them.
-fn words_of(
+pub(crate) fn words_of(
     alloc: Global,
     words: &'static [&'static str],
     is_garbled: bool,
@@ -322,54 +301,78 @@ fn words_of(
     fetch_words(&(Called { words, is_garbled }, alloc))
 }
 
-/// Calls the program with the words of each row, also where no fault can be told.
-fn check_rows<R: Abort + Threads + Wait + Sync, P: Place>(
+/// Whether a call of the program comes to this status, and to what is written and told.
+fn comes_to<R: Threads + Wait + Sync, P: Place>(
+    rt: &R,
+    alloc: Global,
+    place: &P,
+    words: Result<Vec<String>, WordsFault>,
+    telling: Mishap,
+    wanted: (u8, &str, &str),
+) -> bool {
+    let mut output = Output {
+        writer: new_writer(alloc, CALM),
+    };
+    let mut errors = Errors {
+        writer: new_writer(alloc, (9, telling)),
+    };
+    let code = program(rt, alloc, words, place, &mut output, &mut errors, &NoMeter);
+    code == ExitCode::from(wanted.0)
+        && written(output.writer).as_slice() == wanted.1.as_bytes()
+        && written(errors.writer).as_slice() == wanted.2.as_bytes()
+}
+
+/// The number of the first row, from 0, with whose words the program comes to something else, also where no fault can be told.
+fn first_wrong<R: Threads + Wait + Sync, P: Place>(
     rt: &R,
     alloc: Global,
     place: &P,
     rows: &[Row],
-) {
-    for (words, status, log, line) in rows {
-        let calm = words_of(alloc, words, false);
-        check_call(
-            rt,
-            alloc,
-            place,
-            calm,
-            Mishap::Never,
-            (*status, *log, *line),
-        );
-        let mute = words_of(alloc, words, false);
-        check_call(
-            rt,
-            alloc,
-            place,
-            mute,
-            Mishap::FailsAt(0),
-            (*status, *log, ""),
-        );
+    is_garbled: bool,
+) -> Option<usize> {
+    for (i, (words, status, log, line)) in rows.iter().enumerate() {
+        for (telling, told) in [(Mishap::Never, *line), (Mishap::FailsAt(0), "")] {
+            let fetched = words_of(alloc, words, is_garbled);
+            if !comes_to(rt, alloc, place, fetched, telling, (*status, *log, told)) {
+                return Some(i);
+            }
+        }
     }
+    None
 }
 
-/// Calls the program where its words are no text, and where memory is wanting for them.
-fn check_without_words<R: Abort + Threads + Wait + Sync>(rt: &R, alloc: Global, place: &Shelf) {
-    let garbled = words_of(alloc, &["tscache", "replay", "two_readers.json"], true);
-    check_call(rt, alloc, place, garbled, Mishap::Never, (2, "", USAGE));
-    let refused = Err(WordsFault::NoMemory);
-    check_call(
-        rt,
-        alloc,
-        place,
-        refused,
-        Mishap::Never,
-        (5, "", OUT_OF_MEMORY),
-    );
+/// Calls the program with the words of each row.
+fn play<R: Abort + Threads + Wait + Sync, P: Place>(
+    rt: &R,
+    alloc: Global,
+    place: &P,
+    rows: &[Row],
+    is_garbled: bool,
+) {
+    assert_eq!(rt; first_wrong(rt, alloc, place, rows, is_garbled), None);
 }
 
 #[test]
 fn calls_end_as_their_rows_say(rt: HostRuntime) {
     let shelf = Shelf(&FILES);
-    check_rows(&rt, rt.alloc(), &shelf, &ROWS);
-    check_without_words(&rt, rt.alloc(), &shelf);
-    check_rows(&rt, rt.alloc(), &SystemFiles::of(&rt), &SYSTEM_ROWS);
+    play(&rt, rt.alloc(), &shelf, &ROWS, false);
+    play(&rt, rt.alloc(), &shelf, &GARBLED, true);
+    play(&rt, rt.alloc(), &SystemFiles::of(&rt), &SYSTEM_ROWS, false);
+}
+
+/// Memory is wanting for the words.
+#[test]
+fn a_call_without_memory_for_its_words(rt: HostRuntime) {
+    let wanted = (5, "", OUT_OF_MEMORY);
+    let refused = Err(WordsFault::NoMemory);
+    assert!(rt;
+        comes_to(
+            &rt,
+            rt.alloc(),
+            &Shelf(&FILES),
+            refused,
+            Mishap::Never,
+            wanted
+        )
+    );
 }

@@ -1,225 +1,166 @@
 //! Runs over memory: of traces whose logs are known, and of those whose logs a check finds right.
-use crate::memory::{CALM, assert_written, new_writer, reader_of};
+use crate::memory::Command::{Check, Run};
+use crate::memory::{CALMLY, Row, call, ends, holds, play};
 use crate::traces;
 use crate::traces::{
-    NO_JSON, OVERLAPPING_READS, OVERLAPPING_READS_LOG, RACE, Row, TWO_READERS, TWO_READERS_LOG,
+    NO_JSON, OVERLAPPING_READS, OVERLAPPING_READS_LOG, RACE, TWO_READERS, TWO_READERS_LOG,
 };
 use std::alloc::Global;
-use std::process::Abort;
 use std::sync::Wait;
-use std::sync::atomic::{AtomicBool, AtomicU64, Ordering};
+use std::sync::atomic::{AtomicU64, Ordering};
 use std::thread;
 use std::thread::Threads;
-use tsc_commands::{check_command, run_command, tell_stop};
-use tsc_run::RunStop;
 use tsc_shared::{Gate, NoGate};
-use tsc_trace::ReplayFault;
 
 /// Traces of one list, and those that are refused.
 static ROWS: [Row; 6] = [
-    (OVERLAPPING_READS, 0, OVERLAPPING_READS_LOG, ""),
-    (TWO_READERS, 0, TWO_READERS_LOG, ""),
+    (Run, OVERLAPPING_READS, "", 0, OVERLAPPING_READS_LOG, ""),
+    (Run, TWO_READERS, "", 0, TWO_READERS_LOG, ""),
     (
+        Run,
         r#"{"page_first":132,"page_max":132,"min_pages":2,"retention":10,"low_water":[5,0],"threads":[[],[]]}"#,
+        "",
         0,
         "",
         "",
     ),
     (
+        Run,
         r#"{"page_first":132,"page_max":132,"min_pages":2,"retention":10,"low_water":[5,0],"threads":[]}"#,
+        "",
         1,
         "",
         "trace refused: fault 7\n",
     ),
-    ("", 1, "", NO_JSON),
+    (Run, "", "", 1, "", NO_JSON),
     (
+        Run,
         r#"{"page_first":132,"page_max":132,"min_pages":2,"retention":10,"low_water":[5,0],"threads":[[{"op":"low","x":1}]]}"#,
+        "",
         1,
         "",
         "trace refused: fault 2 at call 1\n",
     ),
 ];
 
-/// The line that tells why a run ended.
-static LINES: [(RunStop, &str); 6] = [
-    (RunStop::Stream(ReplayFault::Read), "read failed\n"),
-    (RunStop::Stream(ReplayFault::NoMemory), "out of memory\n"),
-    (RunStop::NoView, "no view\n"),
-    (RunStop::NoPlace, "no place\n"),
-    (RunStop::HistoryFull, "history full\n"),
-    (RunStop::NoThread, "no thread\n"),
-];
-
-fn run_rows<R: Abort + Threads + Wait + Sync>(rt: &R, alloc: Global, rows: &[Row]) {
-    for row in rows {
-        run_row(rt, alloc, *row, &NoGate);
-    }
-}
-
-/// Runs a row's trace, and holds what comes of it against the row.
-fn run_row<R: Abort + Threads + Wait + Sync, G: Gate + Sync>(
-    rt: &R,
-    alloc: Global,
-    row: Row,
-    gate: &G,
-) {
-    let (trace, wanted, log, told) = row;
-    let mut reader = reader_of(trace.as_bytes(), CALM);
-    let mut writer = new_writer(alloc, CALM);
-    let mut errors = new_writer(alloc, CALM);
-    let status = run_command(rt, alloc, &mut reader, &mut writer, &mut errors, gate);
-    assert_eq!(rt; status, wanted, "{trace}");
-    assert_written(rt, writer, log, trace);
-    assert_written(rt, errors, told, trace);
-}
-
-fn tell_each(rt: &impl Abort, alloc: Global, lines: &[(RunStop, &str)]) {
-    for (stop, line) in lines {
-        let mut errors = new_writer(alloc, CALM);
-        tell_stop(&mut errors, *stop);
-        assert_written(rt, errors, *line, *line);
-    }
-}
-
-/// Checks what a run of a trace writes.
-fn check_run<R: Abort + Threads + Wait + Sync>(rt: &R, alloc: Global, trace: &str) {
-    let log = log_of_run(rt, alloc, trace);
-    let mut reader = reader_of(trace.as_bytes(), CALM);
-    let mut lines = reader_of(&log, CALM);
-    let mut verdict = new_writer(alloc, CALM);
-    let mut errors = new_writer(alloc, CALM);
-    let checked = check_command(alloc, &mut reader, &mut lines, &mut verdict, &mut errors);
-    assert_eq!(rt; checked, 0, "{trace}");
-    assert_written(rt, verdict, "right\n", trace);
-    assert_written(rt, errors, "", trace);
-}
-
-/// What a run of a trace writes.
-fn log_of_run<R: Abort + Threads + Wait + Sync>(rt: &R, alloc: Global, trace: &str) -> Vec<u8> {
-    let mut reader = reader_of(trace.as_bytes(), CALM);
-    let mut writer = new_writer(alloc, CALM);
-    let mut errors = new_writer(alloc, CALM);
-    let ran = run_command(rt, alloc, &mut reader, &mut writer, &mut errors, &NoGate);
-    assert_eq!(rt; ran, 0, "{trace}");
-    assert_written(rt, errors, "", trace);
-    writer.into_inner().inner
-}
-
-/// Checks so many runs of a trace.
-fn check_runs<R: Abort + Threads + Wait + Sync>(rt: &R, alloc: Global, trace: &str, runs: u32) {
+/// Whether a check finds the log of each of so many runs of a trace right.
+fn are_right<R: Threads + Wait + Sync>(rt: &R, alloc: Global, trace: &str, runs: u32) -> bool {
+    let trace = trace.as_bytes();
     for _ in 0..runs {
-        check_run(rt, alloc, trace);
-    }
-}
-
-/// Checks runs of each trace that is not refused.
-fn check_each_run<R: Abort + Threads + Wait + Sync>(rt: &R, alloc: Global, rows: &[Row]) {
-    for (trace, status, _, _) in rows {
-        if *status == 0 {
-            check_runs(rt, alloc, trace, 20);
+        let ran = call(rt, alloc, &NoGate, (Run, trace, b""), CALMLY);
+        let log = ran.written.as_slice();
+        let is_right = ends(
+            rt,
+            alloc,
+            &NoGate,
+            (Check, trace, log),
+            CALMLY,
+            (0, b"right\n", b""),
+        );
+        if ran.status != 0 || !ran.told.is_empty() || !is_right {
+            return false;
         }
     }
+    true
+}
+
+/// The first trace that is not refused, and has a run whose log a check doesn't find right.
+fn first_wrong_run<R: Threads + Wait + Sync>(
+    rt: &R,
+    alloc: Global,
+    rows: &[Row],
+) -> Option<&'static str> {
+    for row in rows {
+        if row.3 == 0 && !are_right(rt, alloc, row.1, 20) {
+            return Some(row.1);
+        }
+    }
+    None
 }
 
 #[test]
 fn runs_end_as_their_rows_say(rt: HostRuntime) {
-    let alloc = rt.alloc();
-    run_rows(&rt, alloc, &ROWS);
-    tell_each(&rt, alloc, &LINES);
+    play(&rt, rt.alloc(), CALMLY, &ROWS);
 }
 
 #[test]
 fn checks_find_the_logs_of_runs_right(rt: HostRuntime) {
-    let alloc = rt.alloc();
-    check_each_run(&rt, alloc, &traces::ROWS);
-    check_runs(&rt, alloc, RACE, 100);
+    assert_eq!(rt; first_wrong_run(&rt, rt.alloc(), &traces::ROWS), None);
+    assert!(rt; are_right(&rt, rt.alloc(), RACE, 100));
 }
 
 /// How often a thread looks whether another has come so far.
 const TURNS: u32 = 10_000_000;
 
-/// What was told of two lists, and how often a thread saw what it waited for.
+/// Holds calls up. It counts what it is told, and the threads that saw what they waited for.
 #[derive(Drop)]
-struct Seen {
-    first: AtomicBool,
-    second: AtomicBool,
+struct Held {
+    /// Whether each of two lists is held up before its first call, until the other has come there too. Else each Add is, before it
+    /// can be seen, until the first call of the second list is done, and that one until an Add is held up.
+    is_together: bool,
+    started: AtomicU64,
+    published: AtomicU64,
+    done: AtomicU64,
     met: AtomicU64,
 }
 
-impl Seen {
-    fn nothing() -> Seen {
-        Seen {
-            first: AtomicBool::new(false),
-            second: AtomicBool::new(false),
+impl Held {
+    fn new(is_together: bool) -> Held {
+        Held {
+            is_together,
+            started: AtomicU64::new(0),
+            published: AtomicU64::new(0),
+            done: AtomicU64::new(0),
             met: AtomicU64::new(0),
         }
     }
 
-    /// Waits until this was told.
-    fn wait_for(&self, told: &AtomicBool) {
+    /// Waits until this was told so often.
+    fn wait_for(&self, told: &AtomicU64, count: u64) {
         for _ in 0..TURNS {
-            if told.load(Ordering::SeqCst) {
+            if told.load(Ordering::SeqCst) >= count {
                 self.met.fetch_add(1, Ordering::SeqCst);
                 return;
             }
             thread::yield_now();
         }
     }
-
-    fn met(&self) -> u64 {
-        self.met.load(Ordering::SeqCst)
-    }
 }
 
-/// Holds each of two lists up before its first call, until the other has come there too.
-#[derive(Drop)]
-struct Meeting(Seen);
-
-impl Gate for Meeting {
+impl Gate for Held {
     fn start(&self, thread: u32, call: u32) {
-        let (mine, other) = match (thread, call) {
-            (0, 0) => (&self.0.first, &self.0.second),
-            (1, 0) => (&self.0.second, &self.0.first),
-            _ => return,
-        };
-        mine.store(true, Ordering::SeqCst);
-        self.0.wait_for(other);
-    }
-
-    fn done(&self, _thread: u32, _call: u32) {}
-
-    fn publish(&self, _seat: u32) {}
-}
-
-/// Holds each Add up before it can be seen, until the first call of the second list is done, and that one until an Add is
-/// held up.
-#[derive(Drop)]
-struct Unseen(Seen);
-
-impl Gate for Unseen {
-    fn start(&self, thread: u32, call: u32) {
-        if (thread, call) == (1, 0) {
-            self.0.wait_for(&self.0.first);
+        if call > 0 {
+            return;
+        }
+        self.started.fetch_add(1, Ordering::SeqCst);
+        if self.is_together {
+            self.wait_for(&self.started, 2);
+        } else if thread == 1 {
+            self.wait_for(&self.published, 1);
         }
     }
 
     fn done(&self, thread: u32, call: u32) {
         if (thread, call) == (1, 0) {
-            self.0.second.store(true, Ordering::SeqCst);
+            self.done.fetch_add(1, Ordering::SeqCst);
         }
     }
 
     fn publish(&self, _seat: u32) {
-        self.0.first.store(true, Ordering::SeqCst);
-        self.0.wait_for(&self.0.second);
+        self.published.fetch_add(1, Ordering::SeqCst);
+        if !self.is_together {
+            self.wait_for(&self.done, 1);
+        }
     }
 }
 
 /// Two lists that have one log in any order.
-const TWO_LOOKS: Row = (
+static TWO_LOOKS: Row = (
+    Run,
     r#"{"page_first":132,"page_max":132,"min_pages":2,"retention":10,"low_water":[5,0],"threads":[
 [{"op":"get","span":{"start":"61"}},{"op":"low"}],
 [{"op":"low"},{"op":"get","span":{"start":"61"}}]]}"#,
+    "",
     0,
     "0 0 get 0 5.0 none
 0 1 low 0 5.0
@@ -230,10 +171,12 @@ const TWO_LOOKS: Row = (
 );
 
 /// One list adds a key, and the other asks for it before that can be seen.
-const ADD_AND_GET: Row = (
+static ADD_AND_GET: Row = (
+    Run,
     r#"{"page_first":132,"page_max":132,"min_pages":2,"retention":10,"low_water":[5,0],"threads":[
 [{"op":"add","span":{"start":"61"},"time":[20,0],"owner":"11111111-1111-4111-8111-111111111111","now":[20,0]}],
 [{"op":"get","span":{"start":"61"}}]]}"#,
+    "",
     0,
     "0 0 add 0 1 0 0
 1 0 get 0 5.0 none
@@ -241,16 +184,18 @@ const ADD_AND_GET: Row = (
     "",
 );
 
+/// Whether a row's run ends as it says where its lists are held up, and both saw what they waited for.
+fn is_held<R: Threads + Wait + Sync>(rt: &R, alloc: Global, is_together: bool, row: &Row) -> bool {
+    let gate = Held::new(is_together);
+    holds(rt, alloc, &gate, CALMLY, row) && gate.met.load(Ordering::SeqCst) == 2
+}
+
 #[test]
 fn lists_of_the_command_run_at_the_same_time(rt: HostRuntime) {
-    let gate = Meeting(Seen::nothing());
-    run_row(&rt, rt.alloc(), TWO_LOOKS, &gate);
-    assert_eq!(rt; gate.0.met(), 2);
+    assert!(rt; is_held(&rt, rt.alloc(), true, &TWO_LOOKS));
 }
 
 #[test]
 fn the_command_shows_no_add_before_its_gate_was_told(rt: HostRuntime) {
-    let gate = Unseen(Seen::nothing());
-    run_row(&rt, rt.alloc(), ADD_AND_GET, &gate);
-    assert_eq!(rt; gate.0.met(), 2);
+    assert!(rt; is_held(&rt, rt.alloc(), false, &ADD_AND_GET));
 }

@@ -1,3 +1,4 @@
+use crate::rows::none;
 use std::alloc::Global;
 use std::test::Fail;
 use tsc_check::{Verdict, check};
@@ -44,7 +45,9 @@ const BATCH_OVER_PAGES: &str = r#"[[{"op":"batch","marks":[{"span":{"start":"61"
 {"op":"low"}]]}"#;
 
 /// What stands behind the head of a trace, a log, and the verdict.
-static CHECKS: [(&str, &str, Verdict); 34] = [
+type Row = (&'static str, &'static str, Verdict);
+
+static CHECKS: [Row; 34] = [
     (
         THREE_LISTS,
         "0 0 add 0 1 0 0\n1 0 add 1 1 0 0\n2 0 get 1 20.0 11111111-1111-4111-8111-111111111111\n",
@@ -208,25 +211,6 @@ static CHECKS: [(&str, &str, Verdict); 34] = [
     ("[[],[]]}", "0 0 low 0 5.0\n", Verdict::WrongCall(1)),
 ];
 
-/// The first row of a table of checks that doesn't hold.
-fn wrong_check(alloc: Global, rows: &[(&str, &str, Verdict)]) -> Result<Option<usize>, Fail> {
-    for (i, (lists, lines, want)) in rows.iter().enumerate() {
-        let text = format!(in alloc; "{HEAD}{lists}")?;
-        let trace = read_trace(alloc, text.as_bytes())?;
-        let log = read_log(alloc, lines.as_bytes())?;
-        if check(alloc, &trace, &log)? != *want {
-            return Ok(Some(i));
-        }
-    }
-    Ok(None)
-}
-
-#[test]
-fn checks(rt: HostRuntime) -> Result<(), Fail> {
-    assert_eq!(rt; wrong_check(rt.alloc(), &CHECKS)?, None);
-    Ok(())
-}
-
 /// Two Adds, of which the second overlaps the first, lookups and a call for the floor.
 const OVERLAPPING_READS: &str = r#"[[
 {"op":"add","span":{"start":"61","end":"63"},"time":[20,0],"owner":"11111111-1111-4111-8111-111111111111","now":[20,0]},
@@ -237,45 +221,57 @@ const OVERLAPPING_READS: &str = r#"[[
 {"op":"low"}]]}"#;
 
 /// Its log, and one whose answer after the first Add is wrong.
-static LOGS: [(&str, Verdict); 2] = [
+static LOGS: [Row; 2] = [
     (
+        OVERLAPPING_READS,
         "0 0 add 0 1 0 0\n0 1 get 1 20.0 11111111-1111-4111-8111-111111111111\n0 2 get 1 5.0 none\n0 3 add 1 1 0 0\n0 4 get 2 20.0 none\n0 5 low 2 5.0\n",
         Verdict::Right,
     ),
     (
+        OVERLAPPING_READS,
         "0 0 add 0 1 0 0\n0 1 get 1 20.0 none\n0 2 get 1 5.0 none\n0 3 add 1 1 0 0\n0 4 get 2 20.0 none\n0 5 low 2 5.0\n",
         Verdict::WrongAnswer(2),
     ),
 ];
 
-/// A check. Where memory is refused the same call then succeeds, or there is no verdict.
-fn check_again(alloc: Global, trace: &Trace, log: &Log) -> Option<Verdict> {
+/// The verdict on a log. Where memory is refused, and the check may be made again, that succeeds.
+fn verdict(alloc: Global, trace: &Trace, log: &Log, again: bool) -> Result<Verdict, Fail> {
     match check(alloc, trace, log) {
-        Err(NoMemory) => check(alloc, trace, log).ok(),
-        told => told.ok(),
+        Err(NoMemory) if again => match check(alloc, trace, log) {
+            Ok(verdict) => Ok(verdict),
+            Err(NoMemory) => Err(Fail::from("a check was refused again")),
+        },
+        verdict => Ok(verdict?),
     }
 }
 
-/// The number of the first log, from 0, that has another verdict.
-fn wrong_check_again(
-    alloc: Global,
-    trace: &Trace,
-    rows: &[(&str, Verdict)],
-) -> Result<Option<usize>, Fail> {
-    for (i, (lines, want)) in rows.iter().enumerate() {
-        let log = read_log(alloc, lines.as_bytes())?;
-        if check_again(alloc, trace, &log) != Some(*want) {
+/// The verdict on a log, of which both are read.
+fn verdict_on(alloc: Global, lists: &str, lines: &str, again: bool) -> Result<Verdict, Fail> {
+    let text = format!(in alloc; "{HEAD}{lists}")?;
+    let trace = read_trace(alloc, text.as_bytes())?;
+    let log = read_log(alloc, lines.as_bytes())?;
+    verdict(alloc, &trace, &log, again)
+}
+
+/// The number of the first row, from 0, that has another verdict.
+fn first_wrong(alloc: Global, rows: &[Row], again: bool) -> Result<Option<usize>, Fail> {
+    for (i, (lists, lines, want)) in rows.iter().enumerate() {
+        if verdict_on(alloc, lists, lines, again)? != *want {
             return Ok(Some(i));
         }
     }
     Ok(None)
 }
 
+#[test]
+fn checks(rt: HostRuntime) -> Result<(), Fail> {
+    none(&rt, first_wrong(rt.alloc(), &CHECKS, false)?);
+    Ok(())
+}
+
 /// For `scripts/refuse-each-growth`.
 #[test]
 fn a_refused_check_can_be_made_again(rt: HostRuntime) -> Result<(), Fail> {
-    let text = format!(in rt.alloc(); "{HEAD}{OVERLAPPING_READS}")?;
-    let trace = read_trace(rt.alloc(), text.as_bytes())?;
-    assert_eq!(rt; wrong_check_again(rt.alloc(), &trace, &LOGS)?, None);
+    none(&rt, first_wrong(rt.alloc(), &LOGS, true)?);
     Ok(())
 }

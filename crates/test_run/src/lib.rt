@@ -6,6 +6,8 @@
 #[cfg(test)]
 mod check;
 #[cfg(test)]
+mod rows;
+#[cfg(test)]
 mod run;
 #[cfg(test)]
 mod shared;

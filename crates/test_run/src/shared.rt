@@ -2,15 +2,16 @@ mod order;
 mod pair;
 mod threads;
 
-use self::order::{are_alike, first_four, in_order};
+use self::order::{are_alike, has_values, in_order};
 use self::pair::{Pair, Row, Step, Told};
-use self::threads::{Plan, run};
+use self::threads::{Adds, Plan, run};
+use crate::rows::none;
 use std::alloc::Global;
-use std::process::Abort;
 use std::sync::Wait;
 use std::test::Fail;
+use std::thread::Threads;
 use tsc_cache::Config;
-use tsc_shared::{OpenFault, SharedCache};
+use tsc_shared::{Closed, OpenFault, SharedCache};
 use tsc_time::Timestamp;
 
 /// A floor at 5.0, and pages of so many bytes, of which so many are kept at the least.
@@ -27,9 +28,10 @@ const OWNED_BY_ONE: Told = Told::Value {
 
 /// One seat adds, and the other sees it.
 static SEEN_BY_THE_OTHER: Row = (
+    (132, 2),
     100,
     &[
-        (Step::Add(0, "a"), Told::Place(0, true, 1), (1, 1)),
+        (Step::Add(0, "a", 20), Told::Place(0, true, 1), (1, 1)),
         (Step::Get(1, "a"), OWNED_BY_ONE, (0, 1)),
     ],
     1,
@@ -37,12 +39,13 @@ static SEEN_BY_THE_OTHER: Row = (
 
 /// The history holds three Adds, and no more.
 static FULL: Row = (
+    (132, 2),
     3,
     &[
-        (Step::Add(0, "a"), Told::Place(0, true, 1), (1, 1)),
-        (Step::Add(0, "b"), Told::Place(1, true, 2), (2, 2)),
-        (Step::Add(1, "c"), Told::Place(2, true, 3), (1, 3)),
-        (Step::Add(0, "d"), Told::Full(3), (2, 3)),
+        (Step::Add(0, "a", 20), Told::Place(0, true, 1), (1, 1)),
+        (Step::Add(0, "b", 20), Told::Place(1, true, 2), (2, 2)),
+        (Step::Add(1, "c", 20), Told::Place(2, true, 3), (1, 3)),
+        (Step::Add(0, "d", 20), Told::Full(3), (2, 3)),
         (
             Step::Get(0, "a"),
             Told::Value {
@@ -56,16 +59,25 @@ static FULL: Row = (
     3,
 );
 
+/// No Add is made.
+static UNUSED: Row = ((132, 2), 100, &[], 0);
+
 /// It may hold none.
-static NONE_AT_ALL: Row = (0, &[(Step::Add(0, "a"), Told::Full(0), (0, 0))], 0);
+static NONE_AT_ALL: Row = (
+    (132, 2),
+    0,
+    &[(Step::Add(0, "a", 20), Told::Full(0), (0, 0))],
+    0,
+);
 
 /// Two seats meet. An Add that the cache does not keep has its place too.
 static MET: Row = (
+    (132, 2),
     10,
     &[
         (Step::Low(1), Told::Floor(5, 0), (0, 0)),
-        (Step::Add(0, "a"), Told::Place(0, true, 1), (1, 1)),
-        (Step::Add(0, "b"), Told::Place(1, true, 2), (2, 2)),
+        (Step::Add(0, "a", 20), Told::Place(0, true, 1), (1, 1)),
+        (Step::Add(0, "b", 20), Told::Place(1, true, 2), (2, 2)),
         (Step::Meet, Told::Met(2), (2, 2)),
         (Step::AddNothing(1), Told::Place(2, false, 3), (1, 3)),
     ],
@@ -75,12 +87,13 @@ static MET: Row = (
 /// On pages of two nodes, of which one is kept at the least: the first page is dropped, and the floor rises to
 /// its top, which has no owner. The other seat sees that.
 static RISEN: Row = (
+    (66, 1),
     10,
     &[
-        (Step::Add(0, "a"), Told::Place(0, true, 1), (1, 1)),
-        (Step::Add(0, "b"), Told::Place(1, true, 2), (2, 2)),
+        (Step::Add(0, "a", 20), Told::Place(0, true, 1), (1, 1)),
+        (Step::Add(0, "b", 20), Told::Place(1, true, 2), (2, 2)),
         (Step::Low(1), Told::Floor(5, 2), (0, 2)),
-        (Step::AddAt(0, "c", 40), Told::Place(2, true, 3), (3, 3)),
+        (Step::Add(0, "c", 40), Told::Place(2, true, 3), (3, 3)),
         (Step::Low(1), Told::Floor(20, 3), (0, 3)),
         (
             Step::Get(1, "a"),
@@ -95,36 +108,55 @@ static RISEN: Row = (
     3,
 );
 
-fn play<R: Abort + Wait>(
-    rt: &R,
-    alloc: Global,
-    config: Config,
-    row: &Row,
-    tries_again: bool,
-) -> Result<(), Fail> {
-    let mut pair = Pair::open(alloc, config, row.0, tries_again)?;
-    for (step, told, after) in row.1 {
-        let found = pair.take(rt, alloc, step)?;
-        assert_eq!(rt; found, (*told, *after));
+/// Whether two seats are told what a row says.
+fn holds<R: Wait>(rt: &R, alloc: Global, row: &Row, tries_again: bool) -> Result<bool, Fail> {
+    let ((page_size, min_pages), limit, steps, adds) = row;
+    let config = config(*page_size, *min_pages)?;
+    let mut pair = Pair::open(alloc, config, *limit, tries_again)?;
+    for (step, told, after) in *steps {
+        if pair.take(rt, alloc, step)? != (*told, *after) {
+            return Ok(false);
+        }
     }
-    assert_eq!(rt; pair.close(rt, alloc)?, row.2);
-    Ok(())
+    Ok(pair.close(rt, alloc)? == *adds)
 }
 
-/// The rows once as they are. Then an Add that is refused memory is made once more, for
-/// `scripts/refuse-each-growth`.
+/// The number of the first row, from 0, that doesn't hold: as it is, and where an Add that is refused memory is made once more.
+fn first_wrong<R: Wait>(rt: &R, alloc: Global, rows: &[&Row]) -> Result<Option<usize>, Fail> {
+    for (i, row) in rows.iter().enumerate() {
+        for tries_again in [false, true] {
+            if !holds(rt, alloc, row, tries_again)? {
+                return Ok(Some(i));
+            }
+        }
+    }
+    Ok(None)
+}
+
+/// The number of the first number of seats, from 0, for which a cache is opened, or refused for something else.
+fn first_opened(alloc: Global, config: Config, numbers: &[u32]) -> Option<usize> {
+    for (i, seats) in numbers.iter().enumerate() {
+        match SharedCache::open(alloc, config, *seats, 1) {
+            Err(OpenFault::Seats) => {}
+            _ => return Some(i),
+        }
+    }
+    None
+}
+
+/// For `scripts/refuse-each-growth`.
 #[test]
 fn what_two_seats_are_told(rt: HostRuntime) -> Result<(), Fail> {
-    for tries_again in [false, true] {
-        for row in [&SEEN_BY_THE_OTHER, &FULL, &NONE_AT_ALL, &MET] {
-            play(&rt, rt.alloc(), config(132, 2)?, row, tries_again)?;
-        }
-        play(&rt, rt.alloc(), config(66, 1)?, &RISEN, tries_again)?;
-    }
-    for seats in [0, 65] {
-        let opened = SharedCache::open(rt.alloc(), config(132, 2)?, seats, 1);
-        assert!(rt; matches!(opened, Err(OpenFault::Seats)));
-    }
+    let rows = [
+        &UNUSED,
+        &SEEN_BY_THE_OTHER,
+        &FULL,
+        &NONE_AT_ALL,
+        &MET,
+        &RISEN,
+    ];
+    none(&rt, first_wrong(&rt, rt.alloc(), &rows)?);
+    none(&rt, first_opened(rt.alloc(), config(132, 2)?, &[0, 65]));
     Ok(())
 }
 
@@ -147,20 +179,45 @@ static ON_THREADS: [(u32, Plan); 2] = [
     ),
 ];
 
+/// Whether this is what such seats come to.
+fn is_as_planned(
+    alloc: Global,
+    config: Config,
+    seats: u32,
+    plan: Plan,
+    closed: &Closed,
+    adds: Adds,
+) -> bool {
+    if closed.adds != u64::from(seats) * u64::from(plan.turns) {
+        return false;
+    }
+    match in_order(alloc, config, plan, adds, closed.adds) {
+        Some(plain) => {
+            are_alike(alloc, plan, &closed.cache, &plain) && has_values(alloc, plan, &closed.cache)
+        }
+        None => false,
+    }
+}
+
+/// The number of the first plan, from 0, of which seats on threads of their own come to something else.
+fn first_wrong_plan<R: Threads + Wait + Sync>(
+    rt: &R,
+    alloc: Global,
+    config: Config,
+    plans: &[(u32, Plan)],
+) -> Result<Option<usize>, Fail> {
+    for (i, (seats, plan)) in plans.iter().enumerate() {
+        let (closed, adds) = run(rt, alloc, config, *seats, *plan)?;
+        if !is_as_planned(alloc, config, *seats, *plan, &closed, adds) {
+            return Ok(Some(i));
+        }
+    }
+    Ok(None)
+}
+
 #[test]
 fn each_seat_on_a_thread(rt: HostRuntime) -> Result<(), Fail> {
-    let alloc = rt.alloc();
-    for (seats, plan) in &ON_THREADS {
-        let (closed, adds) = run(&rt, alloc, config(132, 2)?, *seats, *plan)?;
-        assert_eq!(rt; closed.adds, u64::from(*seats) * u64::from(plan.turns));
-        let plain = in_order(alloc, config(132, 2)?, *plan, adds, closed.adds)?;
-        let plain = plain.ok_or("each place once, and rising for each seat")?;
-        assert!(rt; are_alike(alloc, *plan, &closed.cache, &plain)?, "{plan:?}");
-        let first = closed.cache.get_max(&first_four(alloc)?);
-        assert!(rt; plan.differ || Some(first) == plan.value(0, 0));
-    }
-    let (cache, seats) = SharedCache::open(alloc, config(132, 2)?, 2, 100)?;
-    let closed = cache.close(&rt, seats).ok().ok_or("still out")?;
-    assert_eq!(rt; closed.adds, 0);
+    let config = config(132, 2)?;
+    none(&rt, first_wrong_plan(&rt, rt.alloc(), config, &ON_THREADS)?);
     Ok(())
 }

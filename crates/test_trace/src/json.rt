@@ -1,8 +1,12 @@
-use crate::readers::{Told, told};
+use crate::readers::{Told, told, told_of};
+use crate::rows::{none, text_of};
 use std::alloc::Global;
-use std::test::*;
+use tsc_span::Span;
+use tsc_time::{Timestamp, Value};
 use tsc_trace::read_trace;
 use tsc_trace_json::{Call, Trace, TraceFault};
+
+const NOT_JSON: Told = Err(TraceFault::NotJson);
 
 const CONFIG: Told = Err(TraceFault::Config);
 
@@ -24,165 +28,208 @@ const SPAN: Told = Err(TraceFault::Span(1));
 
 const TOO_LARGE: Told = Err(TraceFault::TooLarge(1));
 
-/// The members of a head beside its lists. A page is large enough for any span.
-const HEAD: &str =
-    r#""page_first":132,"page_max":8256,"min_pages":2,"retention":10,"low_water":[5,0]"#;
+/// What stands before a piece and behind it, how many calls stand before it, and how many in all beside it.
+struct Place {
+    before: &'static str,
+    behind: &'static str,
+    earlier: u64,
+    others: usize,
+}
 
-/// The same with smaller pages.
-const NARROW: &str =
-    r#""page_first":66,"page_max":264,"min_pages":2,"retention":10,"low_water":[5,0]"#;
+/// The pieces are all that there is.
+static WHOLE: Place = Place {
+    before: "",
+    behind: "",
+    earlier: 0,
+    others: 0,
+};
 
-/// `page_first`, `page_max`, `min_pages`, `retention`, `low_water` and `threads`, and what is told of them.
-type Head = (
-    &'static str,
-    &'static str,
-    &'static str,
-    &'static str,
-    &'static str,
-    &'static str,
-    Told,
-);
+static MEMBERS: Place = Place {
+    before: "{",
+    behind: "}",
+    earlier: 0,
+    others: 0,
+};
 
-static HEADS: [Head; 27] = [
-    ("132", "132", "2", "10", "[5]", "[[]]", HEAD_SHAPE),
-    ("132", "132", "2", "10", "[5,0,0]", "[[]]", HEAD_SHAPE),
-    ("132", "132", "2", "10", "[5,null]", "[[]]", HEAD_SHAPE),
-    (r#""132""#, "132", "2", "10", "[5,0]", "[[]]", HEAD_SHAPE),
-    ("132", "[132]", "2", "10", "[5,0]", "[[]]", HEAD_SHAPE),
-    ("4294967296", "132", "2", "10", "[5]", "[[]]", HEAD_SHAPE),
-    ("4294967296", "132", "2", "10", "[5,0]", "[7]", HEAD_SHAPE),
-    ("4294967296", "132", "2", "10", "[5,0]", "[[]]", HEAD_NUMBER),
+/// A page is large enough for any span.
+static LISTS: Place = Place {
+    before: r#"{"page_first":132,"page_max":8256,"min_pages":2,"retention":10,"low_water":[5,0],"threads":"#,
+    behind: "}",
+    earlier: 0,
+    others: 0,
+};
+
+static ONLY_CALL: Place = Place {
+    before: r#"{"page_first":132,"page_max":8256,"min_pages":2,"retention":10,"low_water":[5,0],"threads":[["#,
+    behind: "]]}",
+    earlier: 0,
+    others: 0,
+};
+
+static THIRD_CALL: Place = Place {
+    before: r#"{"page_first":132,"page_max":8256,"min_pages":2,"retention":10,"low_water":[5,0],"threads":[[{"op":"low"}],[{"op":"low"},"#,
+    behind: r#",{"op":"low"}]]}"#,
+    earlier: 2,
+    others: 3,
+};
+
+/// The lists of a trace with smaller pages.
+static NARROW_LISTS: Place = Place {
+    before: r#"{"page_first":66,"page_max":264,"min_pages":2,"retention":10,"low_water":[5,0],"threads":"#,
+    behind: "}",
+    earlier: 0,
+    others: 0,
+};
+
+/// A piece of a text, and what is told of that.
+type Piece = (&'static str, Told);
+
+/// The members of a trace.
+static HEADS: [Piece; 35] = [
     (
-        "4294967296",
-        "132",
-        "2",
-        "10",
-        "[5,0]",
-        "[[{}]]",
-        HEAD_NUMBER,
-    ),
-    ("132", "4294967296", "2", "10", "[5,0]", "[[]]", HEAD_NUMBER),
-    ("132", "132", "4294967296", "10", "[5,0]", "[]", HEAD_NUMBER),
-    (
-        "132",
-        "132",
-        "2",
-        "18446744073709551616",
-        "[5,0]",
-        "[[]]",
-        HEAD_NUMBER,
-    ),
-    (
-        "132",
-        "132",
-        "2",
-        "10",
-        "[9223372036854775808,0]",
-        "[[]]",
-        HEAD_NUMBER,
-    ),
-    (
-        "132",
-        "132",
-        "2",
-        "10",
-        "[5,2147483648]",
-        "[[]]",
-        HEAD_NUMBER,
+        r#""page_first":132,"page_max":132,"min_pages":2,"retention":10,"low_water":[5],"threads":[[]]"#,
+        HEAD_SHAPE,
     ),
     (
-        "132",
-        "132",
-        "2",
-        "10",
-        "[5,4294967296]",
-        "[[]]",
+        r#""page_first":132,"page_max":132,"min_pages":2,"retention":10,"low_water":[5,0,0],"threads":[[]]"#,
+        HEAD_SHAPE,
+    ),
+    (
+        r#""page_first":132,"page_max":132,"min_pages":2,"retention":10,"low_water":[5,null],"threads":[[]]"#,
+        HEAD_SHAPE,
+    ),
+    (
+        r#""page_first":"132","page_max":132,"min_pages":2,"retention":10,"low_water":[5,0],"threads":[[]]"#,
+        HEAD_SHAPE,
+    ),
+    (
+        r#""page_first":132,"page_max":[132],"min_pages":2,"retention":10,"low_water":[5,0],"threads":[[]]"#,
+        HEAD_SHAPE,
+    ),
+    (
+        r#""page_first":4294967296,"page_max":132,"min_pages":2,"retention":10,"low_water":[5],"threads":[[]]"#,
+        HEAD_SHAPE,
+    ),
+    (
+        r#""page_first":4294967296,"page_max":132,"min_pages":2,"retention":10,"low_water":[5,0],"threads":[7]"#,
+        HEAD_SHAPE,
+    ),
+    (
+        r#""page_first":4294967296,"page_max":132,"min_pages":2,"retention":10,"low_water":[5,0],"threads":[[]]"#,
         HEAD_NUMBER,
     ),
-    ("132.0", "132", "2", "10", "[5,0]", "[[]]", HEAD_NUMBER),
-    ("132", "132", "2", "-0", "[5,0]", "[[]]", HEAD_NUMBER),
-    ("132", "132", "2", "2e1", "[5,0]", "[[]]", HEAD_NUMBER),
-    ("63", "132", "2", "10", "[5,0]", "[[]]", CONFIG),
-    ("200", "132", "2", "10", "[5,0]", "[[]]", CONFIG),
-    ("132", "1073741825", "2", "10", "[5,0]", "[[]]", CONFIG),
-    ("132", "4294967295", "2", "10", "[5,0]", "[[]]", CONFIG),
-    ("132", "132", "65", "10", "[5,0]", "[[]]", CONFIG),
     (
-        "132",
-        "132",
-        "2",
-        "18446744073709551615",
-        "[5,0]",
-        "[[]]",
+        r#""page_first":4294967296,"page_max":132,"min_pages":2,"retention":10,"low_water":[5,0],"threads":[[{}]]"#,
+        HEAD_NUMBER,
+    ),
+    (
+        r#""page_first":132,"page_max":4294967296,"min_pages":2,"retention":10,"low_water":[5,0],"threads":[[]]"#,
+        HEAD_NUMBER,
+    ),
+    (
+        r#""page_first":132,"page_max":132,"min_pages":4294967296,"retention":10,"low_water":[5,0],"threads":[]"#,
+        HEAD_NUMBER,
+    ),
+    (
+        r#""page_first":132,"page_max":132,"min_pages":2,"retention":18446744073709551616,"low_water":[5,0],"threads":[[]]"#,
+        HEAD_NUMBER,
+    ),
+    (
+        r#""page_first":132,"page_max":132,"min_pages":2,"retention":10,"low_water":[9223372036854775808,0],"threads":[[]]"#,
+        HEAD_NUMBER,
+    ),
+    (
+        r#""page_first":132,"page_max":132,"min_pages":2,"retention":10,"low_water":[5,2147483648],"threads":[[]]"#,
+        HEAD_NUMBER,
+    ),
+    (
+        r#""page_first":132,"page_max":132,"min_pages":2,"retention":10,"low_water":[5,4294967296],"threads":[[]]"#,
+        HEAD_NUMBER,
+    ),
+    (
+        r#""page_first":132.0,"page_max":132,"min_pages":2,"retention":10,"low_water":[5,0],"threads":[[]]"#,
+        HEAD_NUMBER,
+    ),
+    (
+        r#""page_first":132,"page_max":132,"min_pages":2,"retention":-0,"low_water":[5,0],"threads":[[]]"#,
+        HEAD_NUMBER,
+    ),
+    (
+        r#""page_first":132,"page_max":132,"min_pages":2,"retention":2e1,"low_water":[5,0],"threads":[[]]"#,
+        HEAD_NUMBER,
+    ),
+    (
+        r#""page_first":63,"page_max":132,"min_pages":2,"retention":10,"low_water":[5,0],"threads":[[]]"#,
         CONFIG,
     ),
     (
-        "63",
-        "132",
-        "2",
-        "10",
-        "[5,0]",
-        r#"[[{"op":"low","x":1}]]"#,
+        r#""page_first":200,"page_max":132,"min_pages":2,"retention":10,"low_water":[5,0],"threads":[[]]"#,
         CONFIG,
     ),
     (
-        "63",
-        "63",
-        "2",
-        "10",
-        "[5,0]",
-        r#"[[{"op":"add","span":{"start":"61","end":"62"},"time":[20,0],"now":[20,0]}]]"#,
+        r#""page_first":132,"page_max":1073741825,"min_pages":2,"retention":10,"low_water":[5,0],"threads":[[]]"#,
         CONFIG,
     ),
     (
-        "64",
-        "1073741824",
-        "64",
-        "9223372036854775807",
-        "[9223372036854775807,2147483647]",
-        "[[]]",
+        r#""page_first":132,"page_max":4294967295,"min_pages":2,"retention":10,"low_water":[5,0],"threads":[[]]"#,
+        CONFIG,
+    ),
+    (
+        r#""page_first":132,"page_max":132,"min_pages":65,"retention":10,"low_water":[5,0],"threads":[[]]"#,
+        CONFIG,
+    ),
+    (
+        r#""page_first":132,"page_max":132,"min_pages":2,"retention":18446744073709551615,"low_water":[5,0],"threads":[[]]"#,
+        CONFIG,
+    ),
+    (
+        r#""page_first":63,"page_max":132,"min_pages":2,"retention":10,"low_water":[5,0],"threads":[[{"op":"low","x":1}]]"#,
+        CONFIG,
+    ),
+    (
+        r#""page_first":63,"page_max":63,"min_pages":2,"retention":10,"low_water":[5,0],"threads":[[{"op":"add","span":{"start":"61","end":"62"},"time":[20,0],"now":[20,0]}]]"#,
+        CONFIG,
+    ),
+    (
+        r#""page_first":64,"page_max":1073741824,"min_pages":64,"retention":9223372036854775807,"low_water":[9223372036854775807,2147483647],"threads":[[]]"#,
         Ok(0),
     ),
-];
-
-/// The members of a head beside one empty list.
-static MEMBERS: [(&str, Told); 8] = [
     (
-        r#""page_first":132,"page_max":132,"min_pages":2,"retention":10"#,
+        r#""page_first":132,"page_max":132,"min_pages":2,"retention":10,"threads":[[]]"#,
         HEAD_SHAPE,
     ),
     (
-        r#""page_first":132,"min_pages":2,"retention":10,"low_water":[5,0]"#,
+        r#""page_first":132,"min_pages":2,"retention":10,"low_water":[5,0],"threads":[[]]"#,
         HEAD_SHAPE,
     ),
     (
-        r#""page_nodes":4,"min_pages":2,"retention":10,"low_water":[5,0]"#,
+        r#""page_nodes":4,"min_pages":2,"retention":10,"low_water":[5,0],"threads":[[]]"#,
         HEAD_SHAPE,
     ),
     (
-        r#""page_nodes":4,"page_first":132,"page_max":132,"min_pages":2,"retention":10,"low_water":[5,0]"#,
+        r#""page_nodes":4,"page_first":132,"page_max":132,"min_pages":2,"retention":10,"low_water":[5,0],"threads":[[]]"#,
         HEAD_SHAPE,
     ),
     (
-        r#""page_first":132,"page_max":132,"min_pages":2,"retention":10,"low_water":[5,0],"x":1"#,
+        r#""page_first":132,"page_max":132,"min_pages":2,"retention":10,"low_water":[5,0],"x":1,"threads":[[]]"#,
         HEAD_SHAPE,
     ),
     (
-        r#""page_first":4294967296,"page_max":132,"min_pages":2,"retention":10,"low_water":[5,0],"x":1"#,
+        r#""page_first":4294967296,"page_max":132,"min_pages":2,"retention":10,"low_water":[5,0],"x":1,"threads":[[]]"#,
         HEAD_SHAPE,
     ),
     (
-        r#""page_first":63,"page_first":66,"page_max":66,"min_pages":2,"retention":10,"low_water":[5,0]"#,
+        r#""page_first":63,"page_first":66,"page_max":66,"min_pages":2,"retention":10,"low_water":[5,0],"threads":[[]]"#,
         Ok(0),
     ),
     (
-        r#""page_first":66,"page_first":63,"page_max":66,"min_pages":2,"retention":10,"low_water":[5,0]"#,
+        r#""page_first":66,"page_first":63,"page_max":66,"min_pages":2,"retention":10,"low_water":[5,0],"threads":[[]]"#,
         CONFIG,
     ),
 ];
 
 /// A call that is the only one of a trace.
-static CALLS: [(&str, Told); 45] = [
+static CALLS: [Piece; 45] = [
     (r#"{"op":"low","op":"get","span":{"start":"61"}}"#, Ok(1)),
     ("7", SHAPE),
     ("{}", SHAPE),
@@ -300,7 +347,7 @@ static CALLS: [(&str, Told); 45] = [
 ];
 
 /// A batch that is the only call of a trace. The least fault of all its marks is told, and of the moment.
-static BATCHES: [(&str, Told); 28] = [
+static BATCHES: [Piece; 28] = [
     (r#"{"op":"batch","marks":[],"now":[20,0]}"#, Ok(1)),
     (
         r#"{"op":"batch","marks":[{"span":{"start":"61"},"time":[20,0]}],"now":[20,0]}"#,
@@ -392,7 +439,7 @@ static BATCHES: [(&str, Told); 28] = [
 ];
 
 /// Lists of calls, which are numbered on through all of them; the first that has a fault decides.
-static THREADS: [(&str, Told); 10] = [
+static THREADS: [Piece; 10] = [
     ("[[]]", Ok(0)),
     ("[[],[]]", Ok(0)),
     (r#"[[{"op":"low"}],[{"op":"low"},{"op":"low"}]]"#, Ok(3)),
@@ -411,7 +458,7 @@ static THREADS: [(&str, Told); 10] = [
     (r#"[[],[{"op":"x"}]]"#, SHAPE),
 ];
 
-/// The text of `threads` as a front, a piece with how often it comes, and a tail; and what is told of it.
+/// A text as a front, a piece with how often it comes, and a tail; and what is told of it.
 type Long = (&'static str, &'static str, usize, &'static str, Told);
 
 static LONG_TRACES: [Long; 16] = [
@@ -622,119 +669,54 @@ static LARGE_SPANS: [Long; 16] = [
 ];
 
 /// Texts that are no JSON.
-static NO_JSON: [&[u8]; 6] = [
-    b"",
-    b"1e999",
-    &[b'['; 200],
-    b"{\"page_first\":132",
-    b"{} {}",
-    b"{\"threads\":\"\xff\"}",
+static NO_JSON: [Piece; 4] = [
+    ("", NOT_JSON),
+    ("1e999", NOT_JSON),
+    (r#"{"page_first":132"#, NOT_JSON),
+    ("{} {}", NOT_JSON),
 ];
 
-/// The first of the heads, from 0, of which something else is told.
-fn wrong_head(alloc: Global, rows: &[Head]) -> Result<Option<usize>, Fail> {
-    for (i, (page_first, page_max, min_pages, retention, low_water, threads, want)) in rows
-        .iter()
-        .enumerate()
-    {
-        let text = format!(in alloc;
-            "{{\"page_first\":{page_first},\"page_max\":{page_max},\"min_pages\":{min_pages},\"retention\":{retention},\"low_water\":{low_water},\"threads\":{threads}}}"
-        )?;
-        if told(alloc, text.as_bytes()) != Some(*want) {
-            return Ok(Some(i));
-        }
-    }
-    Ok(None)
-}
+static LONG_NO_JSON: [Long; 1] = [("", "[", 200, "", NOT_JSON)];
 
-/// The first of the texts, from 0, of which something else is told between these two.
-fn wrong_text(
-    alloc: Global,
-    before: &str,
-    rows: &[(&str, Told)],
-    behind: &str,
-) -> Result<Option<usize>, Fail> {
-    for (i, (row, want)) in rows.iter().enumerate() {
-        let text = format!(in alloc; "{before}{row}{behind}")?;
-        if told(alloc, text.as_bytes()) != Some(*want) {
-            return Ok(Some(i));
-        }
-    }
-    Ok(None)
-}
-
-/// The first of the lists of calls, from 0, of which something else is told.
-fn wrong_threads(alloc: Global, rows: &[(&str, Told)]) -> Result<Option<usize>, Fail> {
-    let before = format!(in alloc; "{{{HEAD},\"threads\":")?;
-    wrong_text(alloc, &before, rows, "}")
-}
-
-/// The first of the calls, from 0, of which something else is told where it is a trace's only one.
-fn wrong_call(alloc: Global, rows: &[(&str, Told)]) -> Result<Option<usize>, Fail> {
-    let before = format!(in alloc; "{{{HEAD},\"threads\":[[")?;
-    wrong_text(alloc, &before, rows, "]]}")
-}
-
-/// A fault of the call two places further on.
-fn two_later(fault: TraceFault) -> TraceFault {
-    match fault {
-        TraceFault::Shape(call) => TraceFault::Shape(call.saturating_add(2)),
-        TraceFault::Number(call) => TraceFault::Number(call.saturating_add(2)),
-        TraceFault::Hex(call) => TraceFault::Hex(call.saturating_add(2)),
-        TraceFault::Uuid(call) => TraceFault::Uuid(call.saturating_add(2)),
-        TraceFault::Span(call) => TraceFault::Span(call.saturating_add(2)),
-        TraceFault::TooLarge(call) => TraceFault::TooLarge(call.saturating_add(2)),
+/// The same of what stands behind some calls, of which there are more in all.
+fn later(told: Told, place: &Place) -> Told {
+    let fault = match told {
+        Ok(calls) => return Ok(calls.saturating_add(place.others)),
+        Err(fault) => fault,
+    };
+    Err(match fault {
+        TraceFault::Shape(call) => TraceFault::Shape(call.saturating_add(place.earlier)),
+        TraceFault::Number(call) => TraceFault::Number(call.saturating_add(place.earlier)),
+        TraceFault::Hex(call) => TraceFault::Hex(call.saturating_add(place.earlier)),
+        TraceFault::Uuid(call) => TraceFault::Uuid(call.saturating_add(place.earlier)),
+        TraceFault::Span(call) => TraceFault::Span(call.saturating_add(place.earlier)),
+        TraceFault::TooLarge(call) => TraceFault::TooLarge(call.saturating_add(place.earlier)),
         TraceFault::NotJson | TraceFault::Config | TraceFault::NoMemory => fault,
-    }
+    })
 }
 
-/// The first of the calls, from 0, of which something else is told where it is the third of four.
-fn wrong_third_call(alloc: Global, rows: &[(&str, Told)]) -> Result<Option<usize>, Fail> {
-    for (i, (row, want)) in rows.iter().enumerate() {
-        let text = format!(in alloc;
-            "{{{HEAD},\"threads\":[[{{\"op\":\"low\"}}],[{{\"op\":\"low\"}},{row},{{\"op\":\"low\"}}]]}}"
-        )?;
-        let want = want.map(|calls| calls.saturating_add(3)).map_err(two_later);
-        if told(alloc, text.as_bytes()) != Some(want) {
-            return Ok(Some(i));
+/// The number of the first piece, from 0, of which something else is told at a place.
+fn wrong_piece(alloc: Global, place: &Place, pieces: &[Piece]) -> Option<usize> {
+    for (i, (piece, want)) in pieces.iter().enumerate() {
+        let parts = [(place.before, 1), (*piece, 1), (place.behind, 1)];
+        if told_of(alloc, &parts) != Some(later(*want, place)) {
+            return Some(i);
         }
     }
-    Ok(None)
+    None
 }
 
-/// A trace with these members, and `threads` of a front, a piece as often as this, and a tail.
-fn long_trace(
-    alloc: Global,
-    head: &str,
-    front: &str,
-    piece: &str,
-    times: usize,
-    tail: &str,
-) -> Result<String, Fail> {
-    let mut text = format!(in alloc; "{{{head},\"threads\":{front}")?;
-    for _ in 0..times {
-        text.push_str(piece)?;
-    }
-    text.push_str(tail)?;
-    text.push_str("}")?;
-    Ok(text)
-}
-
-/// The first of the long traces, from 0, of which something else is told.
-fn wrong_long_trace(alloc: Global, head: &str, rows: &[Long]) -> Result<Option<usize>, Fail> {
-    for (i, (front, piece, times, tail, want)) in rows.iter().enumerate() {
-        let text = long_trace(alloc, head, front, piece, *times, tail)?;
-        if told(alloc, text.as_bytes()) != Some(*want) {
-            return Ok(Some(i));
-        }
-    }
-    Ok(None)
-}
-
-/// The first of the texts, from 0, that is not told as no JSON.
-fn first_json(alloc: Global, texts: &[&[u8]]) -> Option<usize> {
-    for (i, text) in texts.iter().enumerate() {
-        if told(alloc, text) != Some(Err(TraceFault::NotJson)) {
+/// The same of long pieces.
+fn wrong_long(alloc: Global, place: &Place, pieces: &[Long]) -> Option<usize> {
+    for (i, (front, piece, times, tail, want)) in pieces.iter().enumerate() {
+        let parts = [
+            (place.before, 1),
+            (*front, 1),
+            (*piece, *times),
+            (*tail, 1),
+            (place.behind, 1),
+        ];
+        if told_of(alloc, &parts) != Some(*want) {
             return Some(i);
         }
     }
@@ -742,168 +724,191 @@ fn first_json(alloc: Global, texts: &[&[u8]]) -> Option<usize> {
 }
 
 #[test]
-fn tells_what_decides_in_the_head(rt: HostRuntime) -> Result<(), Fail> {
-    assert_eq!(rt; wrong_head(rt.alloc(), &HEADS)?, None);
-    let behind = ",\"threads\":[[]]}";
-    assert_eq!(rt; wrong_text(rt.alloc(), "{", &MEMBERS, behind)?, None);
-    assert_eq!(rt; first_json(rt.alloc(), &NO_JSON), None);
-    Ok(())
+fn tells_what_decides_in_the_head(rt: HostRuntime) {
+    none(&rt, wrong_piece(rt.alloc(), &MEMBERS, &HEADS));
+    none(&rt, wrong_piece(rt.alloc(), &WHOLE, &NO_JSON));
+    none(&rt, wrong_long(rt.alloc(), &WHOLE, &LONG_NO_JSON));
+    let no_text = told(rt.alloc(), b"{\"threads\":\"\xff\"}");
+    assert!(rt; no_text == Some(NOT_JSON));
 }
 
 #[test]
-fn tells_what_decides_in_calls(rt: HostRuntime) -> Result<(), Fail> {
-    assert_eq!(rt; wrong_threads(rt.alloc(), &THREADS)?, None);
-    assert_eq!(rt; wrong_call(rt.alloc(), &CALLS)?, None);
-    assert_eq!(rt; wrong_call(rt.alloc(), &BATCHES)?, None);
-    assert_eq!(rt; wrong_third_call(rt.alloc(), &CALLS)?, None);
-    assert_eq!(rt; wrong_third_call(rt.alloc(), &BATCHES)?, None);
-    Ok(())
+fn tells_what_decides_in_calls(rt: HostRuntime) {
+    none(&rt, wrong_piece(rt.alloc(), &LISTS, &THREADS));
+    none(&rt, wrong_piece(rt.alloc(), &ONLY_CALL, &CALLS));
+    none(&rt, wrong_piece(rt.alloc(), &ONLY_CALL, &BATCHES));
+    none(&rt, wrong_piece(rt.alloc(), &THIRD_CALL, &CALLS));
+    none(&rt, wrong_piece(rt.alloc(), &THIRD_CALL, &BATCHES));
 }
 
 #[test]
-fn tells_what_decides_in_long_traces(rt: HostRuntime) -> Result<(), Fail> {
-    assert_eq!(rt; wrong_long_trace(rt.alloc(), HEAD, &LONG_TRACES)?, None);
-    assert_eq!(rt; wrong_long_trace(rt.alloc(), NARROW, &LARGE_SPANS)?, None);
-    Ok(())
+fn tells_what_decides_in_long_traces(rt: HostRuntime) {
+    none(&rt, wrong_long(rt.alloc(), &LISTS, &LONG_TRACES));
+    none(&rt, wrong_long(rt.alloc(), &NARROW_LISTS, &LARGE_SPANS));
 }
 
-/// A span, and whether it covers each of the keys `a`, `b`, `c` and `d`.
-static SPANS: [(&str, [bool; 4]); 14] = [
-    (r#"{"start":"62"}"#, [false, true, false, false]),
-    (r#"{"start":"61","end":"63"}"#, [true, true, false, false]),
-    (r#"{"start":"62","end":""}"#, [false, true, false, false]),
-    (r#"{"start":"63","end":"61"}"#, [false, false, false, false]),
-    (
-        r#"{"start":"61","end":"63","ends":"[]"}"#,
-        [true, true, true, false],
-    ),
-    (
-        r#"{"start":"61","end":"63","ends":"[)"}"#,
-        [true, true, false, false],
-    ),
-    (
-        r#"{"start":"61","end":"63","ends":"(]"}"#,
-        [false, true, true, false],
-    ),
-    (
-        r#"{"start":"61","end":"63","ends":"()"}"#,
-        [false, true, false, false],
-    ),
-    (
-        r#"{"start":"62","end":"62","ends":"[)"}"#,
-        [false, true, false, false],
-    ),
-    (
-        r#"{"start":"62","end":"62","ends":"()"}"#,
-        [false, false, false, false],
-    ),
-    (
-        r#"{"start":"63","end":"61","ends":"[]"}"#,
-        [false, false, false, false],
-    ),
-    (r#"{"start":"62","onward":"["}"#, [false, true, true, true]),
-    (r#"{"start":"62","onward":"("}"#, [false, false, true, true]),
-    (r#"{"start":"","onward":"["}"#, [true, true, true, true]),
-];
-
-static KEYS: [&[u8]; 4] = [b"a", b"b", b"c", b"d"];
-
-/// The first call of a trace's first list.
-fn first_call(trace: &Trace) -> Result<&Call, Fail> {
-    let calls = trace.threads.list(0).ok_or("no list")?;
-    Ok(calls.first().ok_or("no call")?)
-}
-
-/// Whether the span of a lookup covers those of the keys that it has to.
-fn call_covers(call: &Call, want: &[bool]) -> Result<bool, Fail> {
-    let Call::Get { span } = call else {
-        return Err(Fail::from("no lookup"));
-    };
-    let mut alike = want.len() == KEYS.len();
-    for (key, want) in KEYS.iter().zip(want) {
-        alike &= span.covers(key) == *want;
-    }
-    Ok(alike)
-}
-
-/// Whether the span of a trace's only call covers those of the keys that it has to.
-fn covers(alloc: Global, span: &str, want: &[bool]) -> Result<bool, Fail> {
-    let text = format!(in alloc; "{{{HEAD},\"threads\":[[{{\"op\":\"get\",\"span\":{span}}}]]}}")?;
-    let trace = read_trace(alloc, text.as_bytes())?;
-    call_covers(first_call(&trace)?, want)
-}
-
-/// The first of the spans, from 0, that covers other keys.
-fn wrong_span(alloc: Global, rows: &[(&str, [bool; 4])]) -> Result<Option<usize>, Fail> {
-    for (i, (span, want)) in rows.iter().enumerate() {
-        if !covers(alloc, span, want)? {
-            return Ok(Some(i));
-        }
-    }
-    Ok(None)
-}
-
-#[test]
-fn reads_spans(rt: HostRuntime) -> Result<(), Fail> {
-    assert_eq!(rt; wrong_span(rt.alloc(), &SPANS)?, None);
-    Ok(())
+/// What a call is read as.
+enum Want {
+    /// A lookup, whose span covers those of the keys `a`, `b`, `c` and `d`.
+    Covers([bool; 4]),
+    /// An Add at 20 with the moment 30, of this owner.
+    Adds(Option<u128>),
 }
 
 const OWNER: u128 = 0x0011_2233_4455_6677_8899_aabb_ccdd_eeff;
 
-/// An owner as a member behind `now`, and whose the value is.
-static OWNERS: [(&str, Option<u128>); 7] = [
-    ("", None),
-    (r#","owner":null"#, None),
-    (r#","owner":"00000000-0000-0000-0000-000000000000""#, None),
+/// Calls, and what each is read as.
+static READ: [(&str, Want); 21] = [
     (
-        r#","owner":"00112233-4455-6677-8899-AABBCCDDEEFF""#,
-        Some(OWNER),
+        r#"{"op":"get","span":{"start":"62"}}"#,
+        Want::Covers([false, true, false, false]),
     ),
     (
-        r#","owner":"00112233445566778899aabbccddeeff""#,
-        Some(OWNER),
+        r#"{"op":"get","span":{"start":"61","end":"63"}}"#,
+        Want::Covers([true, true, false, false]),
     ),
     (
-        r#","owner":"{00112233-4455-6677-8899-aabbccddeeff}""#,
-        Some(OWNER),
+        r#"{"op":"get","span":{"start":"62","end":""}}"#,
+        Want::Covers([false, true, false, false]),
     ),
     (
-        r#","owner":"urn:uuid:00112233-4455-6677-8899-aabbccddeeff""#,
-        Some(OWNER),
+        r#"{"op":"get","span":{"start":"63","end":"61"}}"#,
+        Want::Covers([false, false, false, false]),
+    ),
+    (
+        r#"{"op":"get","span":{"start":"61","end":"63","ends":"[]"}}"#,
+        Want::Covers([true, true, true, false]),
+    ),
+    (
+        r#"{"op":"get","span":{"start":"61","end":"63","ends":"[)"}}"#,
+        Want::Covers([true, true, false, false]),
+    ),
+    (
+        r#"{"op":"get","span":{"start":"61","end":"63","ends":"(]"}}"#,
+        Want::Covers([false, true, true, false]),
+    ),
+    (
+        r#"{"op":"get","span":{"start":"61","end":"63","ends":"()"}}"#,
+        Want::Covers([false, true, false, false]),
+    ),
+    (
+        r#"{"op":"get","span":{"start":"62","end":"62","ends":"[)"}}"#,
+        Want::Covers([false, true, false, false]),
+    ),
+    (
+        r#"{"op":"get","span":{"start":"62","end":"62","ends":"()"}}"#,
+        Want::Covers([false, false, false, false]),
+    ),
+    (
+        r#"{"op":"get","span":{"start":"63","end":"61","ends":"[]"}}"#,
+        Want::Covers([false, false, false, false]),
+    ),
+    (
+        r#"{"op":"get","span":{"start":"62","onward":"["}}"#,
+        Want::Covers([false, true, true, true]),
+    ),
+    (
+        r#"{"op":"get","span":{"start":"62","onward":"("}}"#,
+        Want::Covers([false, false, true, true]),
+    ),
+    (
+        r#"{"op":"get","span":{"start":"","onward":"["}}"#,
+        Want::Covers([true, true, true, true]),
+    ),
+    (
+        r#"{"op":"add","span":{"start":"61"},"time":[20,1],"now":[30,2]}"#,
+        Want::Adds(None),
+    ),
+    (
+        r#"{"op":"add","span":{"start":"61"},"time":[20,1],"now":[30,2],"owner":null}"#,
+        Want::Adds(None),
+    ),
+    (
+        r#"{"op":"add","span":{"start":"61"},"time":[20,1],"now":[30,2],"owner":"00000000-0000-0000-0000-000000000000"}"#,
+        Want::Adds(None),
+    ),
+    (
+        r#"{"op":"add","span":{"start":"61"},"time":[20,1],"now":[30,2],"owner":"00112233-4455-6677-8899-AABBCCDDEEFF"}"#,
+        Want::Adds(Some(OWNER)),
+    ),
+    (
+        r#"{"op":"add","span":{"start":"61"},"time":[20,1],"now":[30,2],"owner":"00112233445566778899aabbccddeeff"}"#,
+        Want::Adds(Some(OWNER)),
+    ),
+    (
+        r#"{"op":"add","span":{"start":"61"},"time":[20,1],"now":[30,2],"owner":"{00112233-4455-6677-8899-aabbccddeeff}"}"#,
+        Want::Adds(Some(OWNER)),
+    ),
+    (
+        r#"{"op":"add","span":{"start":"61"},"time":[20,1],"now":[30,2],"owner":"urn:uuid:00112233-4455-6677-8899-aabbccddeeff"}"#,
+        Want::Adds(Some(OWNER)),
     ),
 ];
 
-/// Whether a call is the Add with its times, and this owner.
-fn call_adds(call: &Call, want: Option<u128>) -> Result<bool, Fail> {
-    let Call::Add { value, now, .. } = call else {
-        return Err(Fail::from("no Add"));
-    };
-    let owner = value.owner().map(|owner| owner.as_u128());
-    Ok(value.time().wall() == 20 && now.wall() == 30 && owner == want)
-}
+static KEYS: [&[u8]; 4] = [b"a", b"b", b"c", b"d"];
 
-/// Whether the Add that is a trace's only call has its times, and this owner.
-fn is_added(alloc: Global, owner: &str, want: Option<u128>) -> Result<bool, Fail> {
-    let text = format!(in alloc;
-        "{{{HEAD},\"threads\":[[{{\"op\":\"add\",\"span\":{{\"start\":\"61\"}},\"time\":[20,1],\"now\":[30,2]{owner}}}]]}}"
-    )?;
-    let trace = read_trace(alloc, text.as_bytes())?;
-    call_adds(first_call(&trace)?, want)
-}
-
-/// The first of the owners, from 0, that is read otherwise.
-fn wrong_owner(alloc: Global, rows: &[(&str, Option<u128>)]) -> Result<Option<usize>, Fail> {
-    for (i, (owner, want)) in rows.iter().enumerate() {
-        if !is_added(alloc, owner, *want)? {
-            return Ok(Some(i));
+/// Whether a span covers those of the keys that it has to.
+fn covers(span: &Span, want: &[bool; 4]) -> bool {
+    for (key, want) in KEYS.iter().zip(want) {
+        if span.covers(key) != *want {
+            return false;
         }
     }
-    Ok(None)
+    true
+}
+
+/// Whether an Add has its times and this owner.
+fn adds(value: &Value, now: Timestamp, want: Option<u128>) -> bool {
+    let owner = match value.owner() {
+        Some(owner) => Some(owner.as_u128()),
+        None => None,
+    };
+    value.time().wall() == 20 && now.wall() == 30 && owner == want
+}
+
+/// Whether a call is what it has to be.
+fn is_call(call: &Call, want: &Want) -> bool {
+    match (call, want) {
+        (Call::Get { span }, Want::Covers(keys)) => covers(span, keys),
+        (Call::Add { value, now, .. }, Want::Adds(owner)) => adds(value, *now, *owner),
+        _ => false,
+    }
+}
+
+/// Whether the first list of a trace begins with such a call.
+fn begins_with(trace: &Trace, want: &Want) -> bool {
+    let Some(calls) = trace.threads.list(0) else {
+        return false;
+    };
+    match calls.first() {
+        Some(call) => is_call(call, want),
+        None => false,
+    }
+}
+
+/// Whether a call that is a trace's only one is read so.
+fn is_read(alloc: Global, call: &str, want: &Want) -> bool {
+    let parts = [(ONLY_CALL.before, 1), (call, 1), (ONLY_CALL.behind, 1)];
+    let Ok(text) = text_of(alloc, &parts) else {
+        return false;
+    };
+    match read_trace(alloc, &text) {
+        Ok(trace) => begins_with(&trace, want),
+        Err(_) => false,
+    }
+}
+
+/// The number of the first call, from 0, that is read as something else.
+fn wrong_reading(alloc: Global, rows: &[(&str, Want)]) -> Option<usize> {
+    for (i, (call, want)) in rows.iter().enumerate() {
+        if !is_read(alloc, call, want) {
+            return Some(i);
+        }
+    }
+    None
 }
 
 #[test]
-fn reads_owners(rt: HostRuntime) -> Result<(), Fail> {
-    assert_eq!(rt; wrong_owner(rt.alloc(), &OWNERS)?, None);
-    Ok(())
+fn reads_spans_and_owners(rt: HostRuntime) {
+    none(&rt, wrong_reading(rt.alloc(), &READ));
 }

@@ -2,28 +2,24 @@
 //!
 //! Each table of pieces is tried at each of some places. What is to be told of a text stands in the tables of `json`.
 
-use crate::readers::told;
-use std::alloc::Global;
+use crate::readers::{Told, told, told_of};
+use crate::rows::{Part, none, text_of};
+use std::alloc::{AllocError, Global};
 use std::test::*;
 
 /// What stands before a piece, and what behind it.
 type Place = (&'static str, &'static str);
 
-/// The first piece, and the place from 0, of which the readers tell different things.
-fn first_apart<'p>(
-    alloc: Global,
-    places: &[Place],
-    pieces: &[&'p str],
-) -> Result<Option<(usize, &'p str)>, Fail> {
+/// The number of the first place, from 0, at which the readers tell different things of a piece.
+fn first_apart(alloc: Global, places: &[Place], pieces: &[&str]) -> Option<usize> {
     for (i, (before, behind)) in places.iter().enumerate() {
         for piece in pieces {
-            let text = format!(in alloc; "{before}{piece}{behind}")?;
-            if told(alloc, text.as_bytes()).is_none() {
-                return Ok(Some((i, *piece)));
+            if told_of(alloc, &[(*before, 1), (*piece, 1), (*behind, 1)]).is_none() {
+                return Some(i);
             }
         }
     }
-    Ok(None)
+    None
 }
 
 /// Where a number stands, once as each of those that a trace has.
@@ -429,21 +425,19 @@ const SAMPLE: &str =
     r#"{"page_first":132,"page_max":8256,"min_pages":2,"retention":10,"low_water":[5,0],"threads":[[{"op":"add","span":{"start":"61","end":"6F"},"time":[20,1],"owner":"11111111-1111-4111-8111-11111111111A","now":[21,2]},{"op":"get","span":{"start":"62","end":"61","ends":"(]"}}],[],[{"op":"batch","marks":[{"span":{"start":"","onward":"("},"time":[9,0],"owner":null}],"now":[20,0]},{"op":"low"}]]}"#;
 
 #[test]
-fn both_readers_tell_the_same_of_pieces(rt: HostRuntime) -> Result<(), Fail> {
-    let alloc = rt.alloc();
-    assert_eq!(rt; first_apart(alloc, &NUMBER_PLACES, &NUMBERS)?, None);
-    assert_eq!(rt; first_apart(alloc, &TEXT_PLACES, &TEXTS)?, None);
-    assert_eq!(rt; first_apart(alloc, &MEMBER_PLACES, &MEMBERS)?, None);
-    assert_eq!(rt; first_apart(alloc, &CALL_PLACES, &ORDERS)?, None);
-    assert_eq!(rt; first_apart(alloc, &AROUND, &[SAMPLE])?, None);
-    Ok(())
+fn both_readers_tell_the_same_of_pieces(rt: HostRuntime) {
+    none(&rt, first_apart(rt.alloc(), &NUMBER_PLACES, &NUMBERS));
+    none(&rt, first_apart(rt.alloc(), &TEXT_PLACES, &TEXTS));
+    none(&rt, first_apart(rt.alloc(), &MEMBER_PLACES, &MEMBERS));
+    none(&rt, first_apart(rt.alloc(), &CALL_PLACES, &ORDERS));
+    none(&rt, first_apart(rt.alloc(), &AROUND, &[SAMPLE]));
 }
 
 /// Bytes that are put in the place of another.
 static BYTES: [&[u8]; 8] = [b"", b"\"", b"\\", b"}", b"]", b",", b"0", b"\xff"];
 
 /// These bytes with others in the place of the one there.
-fn changed(alloc: Global, bytes: &[u8], at: usize, other: &[u8]) -> Result<Vec<u8>, Fail> {
+fn changed(alloc: Global, bytes: &[u8], at: usize, other: &[u8]) -> Result<Vec<u8>, AllocError> {
     let (before, rest) = bytes.split_at(at.min(bytes.len()));
     let mut all = Vec::from_slice(alloc, before)?;
     all.extend_from_slice(other)?;
@@ -451,83 +445,104 @@ fn changed(alloc: Global, bytes: &[u8], at: usize, other: &[u8]) -> Result<Vec<u
     Ok(all)
 }
 
+/// What both readers tell of them then.
+fn told_when_changed(alloc: Global, bytes: &[u8], at: usize, other: &[u8]) -> Option<Told> {
+    match changed(alloc, bytes, at, other) {
+        Ok(all) => told(alloc, &all),
+        Err(_) => None,
+    }
+}
+
 /// The first place in these bytes at which a change makes the readers tell different things, or the first that cuts them so.
-fn first_apart_when_changed(
-    alloc: Global,
-    bytes: &[u8],
-    others: &[&[u8]],
-) -> Result<Option<usize>, Fail> {
+fn first_apart_when_changed(alloc: Global, bytes: &[u8], others: &[&[u8]]) -> Option<usize> {
     for at in 0..bytes.len() {
         if told(alloc, &bytes[..at]).is_none() {
-            return Ok(Some(at));
+            return Some(at);
         }
         for other in others {
-            if told(alloc, &changed(alloc, bytes, at, other)?).is_none() {
-                return Ok(Some(at));
+            if told_when_changed(alloc, bytes, at, other).is_none() {
+                return Some(at);
             }
         }
     }
-    Ok(None)
+    None
 }
 
 #[test]
-fn both_readers_tell_the_same_of_changed_bytes(rt: HostRuntime) -> Result<(), Fail> {
-    assert_eq!(rt;
-        first_apart_when_changed(rt.alloc(), SAMPLE.as_bytes(), &BYTES)?,
-        None
+fn both_readers_tell_the_same_of_changed_bytes(rt: HostRuntime) {
+    none(
+        &rt,
+        first_apart_when_changed(rt.alloc(), SAMPLE.as_bytes(), &BYTES),
     );
-    Ok(())
 }
 
-/// What stands before nested lists, how many of them, and what stands behind them.
-static NESTED: [(&str, usize, &str); 10] = [
-    ("", 126, ""),
-    ("", 127, ""),
-    ("", 128, ""),
-    ("", 129, ""),
-    (r#"{"x":"#, 126, "}"),
-    (r#"{"x":"#, 127, "}"),
-    (
-        r#"{"page_first":132,"page_max":8256,"min_pages":2,"retention":10,"low_water":[5,0],"threads":"#,
-        126,
-        "}",
-    ),
-    (
-        r#"{"page_first":132,"page_max":8256,"min_pages":2,"retention":10,"low_water":[5,0],"threads":"#,
-        127,
-        "}",
-    ),
-    (
-        r#"{"page_first":132,"page_max":8256,"min_pages":2,"retention":10,"low_water":[5,0],"threads":[[{"op":"low","x":"#,
-        124,
-        "}]]}",
-    ),
-    (
-        r#"{"page_first":132,"page_max":8256,"min_pages":2,"retention":10,"low_water":[5,0],"threads":[[{"op":"low","x":"#,
-        125,
-        "}]]}",
-    ),
+/// Texts with as many lists, one in another.
+static NESTED: [&[Part]; 10] = [
+    &[("[", 126), ("]", 126)],
+    &[("[", 127), ("]", 127)],
+    &[("[", 128), ("]", 128)],
+    &[("[", 129), ("]", 129)],
+    &[(r#"{"x":"#, 1), ("[", 126), ("]", 126), ("}", 1)],
+    &[(r#"{"x":"#, 1), ("[", 127), ("]", 127), ("}", 1)],
+    &[
+        (
+            r#"{"page_first":132,"page_max":8256,"min_pages":2,"retention":10,"low_water":[5,0],"threads":"#,
+            1,
+        ),
+        ("[", 126),
+        ("]", 126),
+        ("}", 1),
+    ],
+    &[
+        (
+            r#"{"page_first":132,"page_max":8256,"min_pages":2,"retention":10,"low_water":[5,0],"threads":"#,
+            1,
+        ),
+        ("[", 127),
+        ("]", 127),
+        ("}", 1),
+    ],
+    &[
+        (
+            r#"{"page_first":132,"page_max":8256,"min_pages":2,"retention":10,"low_water":[5,0],"threads":[[{"op":"low","x":"#,
+            1,
+        ),
+        ("[", 124),
+        ("]", 124),
+        ("}]]}", 1),
+    ],
+    &[
+        (
+            r#"{"page_first":132,"page_max":8256,"min_pages":2,"retention":10,"low_water":[5,0],"threads":[[{"op":"low","x":"#,
+            1,
+        ),
+        ("[", 125),
+        ("]", 125),
+        ("}]]}", 1),
+    ],
 ];
 
-/// A text with as many lists, one in another.
-fn nested(alloc: Global, before: &str, depth: usize, behind: &str) -> Result<String, Fail> {
-    let mut text = String::new(alloc);
-    text.push_str(before)?;
-    for _ in 0..depth {
-        text.push_str("[")?;
-    }
-    for _ in 0..depth {
-        text.push_str("]")?;
-    }
-    text.push_str(behind)?;
-    Ok(text)
-}
+/// A trace, and texts with a fault in the head, in the last call, and in what JSON is.
+static FEW: [&[Part]; 4] = [
+    &[(SAMPLE, 1)],
+    &[(
+        r#"{"page_first":132,"page_max":8256,"min_pages":2,"retention":10,"low_water":[5],"threads":[[{"op":"low"}]]}"#,
+        1,
+    )],
+    &[(
+        r#"{"page_first":132,"page_max":8256,"min_pages":2,"retention":10,"low_water":[5,0],"threads":[[{"op":"low"},{"op":"get","span":{"start":"6"}}]]}"#,
+        1,
+    )],
+    &[(
+        r#"{"page_first":132,"page_max":8256,"min_pages":2,"retention":10,"low_water":[5,0],"threads":[[{"op":"low"}]]"#,
+        1,
+    )],
+];
 
-/// The first of these, from 0, of which the readers tell different things.
-fn first_nested_apart(alloc: Global, rows: &[(&str, usize, &str)]) -> Result<Option<usize>, Fail> {
-    for (i, (before, depth, behind)) in rows.iter().enumerate() {
-        let text = nested(alloc, before, *depth, behind)?;
-        if told(alloc, text.as_bytes()).is_none() {
+/// The number of the first text, from 0, of which the readers tell different things.
+fn first_text_apart(alloc: Global, texts: &[&[Part]]) -> Result<Option<usize>, AllocError> {
+    for (i, parts) in texts.iter().enumerate() {
+        if told(alloc, &text_of(alloc, parts)?).is_none() {
             return Ok(Some(i));
         }
     }
@@ -536,30 +551,13 @@ fn first_nested_apart(alloc: Global, rows: &[(&str, usize, &str)]) -> Result<Opt
 
 #[test]
 fn both_readers_tell_the_same_of_nested_lists(rt: HostRuntime) -> Result<(), Fail> {
-    assert_eq!(rt; first_nested_apart(rt.alloc(), &NESTED)?, None);
+    none(&rt, first_text_apart(rt.alloc(), &NESTED)?);
     Ok(())
 }
 
-/// A trace, and texts with a fault in the head, in the last call, and in what JSON is.
-static FEW: [&str; 4] = [
-    SAMPLE,
-    r#"{"page_first":132,"page_max":8256,"min_pages":2,"retention":10,"low_water":[5],"threads":[[{"op":"low"}]]}"#,
-    r#"{"page_first":132,"page_max":8256,"min_pages":2,"retention":10,"low_water":[5,0],"threads":[[{"op":"low"},{"op":"get","span":{"start":"6"}}]]}"#,
-    r#"{"page_first":132,"page_max":8256,"min_pages":2,"retention":10,"low_water":[5,0],"threads":[[{"op":"low"}]]"#,
-];
-
-/// The first of the texts, from 0, of which the readers tell different things.
-fn first_text_apart(alloc: Global, texts: &[&str]) -> Option<usize> {
-    for (i, text) in texts.iter().enumerate() {
-        if told(alloc, text.as_bytes()).is_none() {
-            return Some(i);
-        }
-    }
-    None
-}
-
+/// For `scripts/refuse-each-growth`.
 #[test]
 fn a_refused_growth_changes_no_answer(rt: HostRuntime) -> Result<(), Fail> {
-    assert_eq!(rt; first_text_apart(rt.alloc(), &FEW), None);
+    none(&rt, first_text_apart(rt.alloc(), &FEW)?);
     Ok(())
 }

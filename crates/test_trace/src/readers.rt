@@ -1,10 +1,12 @@
 //! The two readers of traces, and whether they tell the same.
 
+use crate::rows::text_of;
 use std::alloc::Global;
 use tsc_trace_json::{Call, Marks, Trace, TraceFault};
+use tsc_trace_reader::quick_trace;
 
 /// What reading tells: how many calls there are, or the fault.
-pub type Told = Result<usize, TraceFault>;
+pub(crate) type Told = Result<usize, TraceFault>;
 
 /// What the reader tells that takes a trace from its tokens where it can. Where memory is refused it is asked once more.
 fn read_quickly(alloc: Global, bytes: &[u8]) -> Result<Trace, TraceFault> {
@@ -23,27 +25,53 @@ fn read_by_values(alloc: Global, bytes: &[u8]) -> Result<Trace, TraceFault> {
 }
 
 /// What both readers tell of these bytes, or none where they differ.
-pub fn told(alloc: Global, bytes: &[u8]) -> Option<Told> {
-    let trace = match read_quickly(alloc, bytes) {
-        Ok(trace) => trace,
-        Err(fault) => return told_fault(alloc, bytes, fault),
-    };
-    let Ok(other) = read_by_values(alloc, bytes) else {
-        return None;
-    };
-    if is_same_trace(&trace, &other) {
-        Some(Ok(count_calls(&trace)))
-    } else {
-        None
+pub(crate) fn told(alloc: Global, bytes: &[u8]) -> Option<Told> {
+    told_by_both(&read_quickly(alloc, bytes), &read_by_values(alloc, bytes))
+}
+
+/// What both readers tell of a text of these parts, or none where they differ.
+pub(crate) fn told_of(alloc: Global, parts: &[(&str, usize)]) -> Option<Told> {
+    match text_of(alloc, parts) {
+        Ok(text) => told(alloc, &text),
+        Err(_) => None,
     }
 }
 
-/// The fault that the quick reader told, where the other tells it too.
-fn told_fault(alloc: Global, bytes: &[u8], fault: TraceFault) -> Option<Told> {
-    if read_by_values(alloc, bytes).err() == Some(fault) {
-        Some(Err(fault))
-    } else {
-        None
+/// What is told by two readers, or none where that differs.
+fn told_by_both(
+    first: &Result<Trace, TraceFault>,
+    second: &Result<Trace, TraceFault>,
+) -> Option<Told> {
+    match first {
+        Ok(trace) => match second {
+            Ok(other) if is_same_trace(trace, other) => Some(Ok(count_calls(trace))),
+            _ => None,
+        },
+        Err(fault) => match second {
+            Err(other) if fault == other => Some(Err(*fault)),
+            _ => None,
+        },
+    }
+}
+
+/// What comes of a text in one pass.
+#[derive(Clone, Copy, Debug, PartialEq, Eq)]
+pub(crate) enum OnePass {
+    /// Nothing.
+    None,
+    /// The trace that the reader of JSON values gives.
+    Same,
+    /// Another trace.
+    Other,
+}
+
+pub(crate) fn read_once(alloc: Global, bytes: &[u8]) -> OnePass {
+    let Some(trace) = quick_trace(alloc, bytes) else {
+        return OnePass::None;
+    };
+    match tsc_trace_json::read_trace(alloc, bytes) {
+        Ok(wanted) if is_same_trace(&trace, &wanted) => OnePass::Same,
+        _ => OnePass::Other,
     }
 }
 

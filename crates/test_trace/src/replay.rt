@@ -1,5 +1,5 @@
+use crate::rows::none;
 use std::alloc::Global;
-use std::process::Abort;
 use std::test::Fail;
 use tsc_time::NoMemory;
 use tsc_trace::log_laws::reads_again;
@@ -185,94 +185,183 @@ static REPLAYS: [(&str, &str); 13] = [
     ),
 ];
 
-/// A writer that takes a byte at a time, and is interrupted now and then.
-fn slow_writer(alloc: Global) -> Metered<Faulty<Vec<u8>>> {
-    Metered::new(Faulty::new(Vec::new(alloc), 1, Mishap::InterruptedNowAndThen))
+/// A trace of four calls.
+static FOUR_CALLS: [(&str, &str); 1] = [(
+    r#"[[{"op":"add","span":{"start":"61","end":"63"},"time":[20,0],"owner":"11111111-1111-4111-8111-111111111111","now":[20,0]},{"op":"batch","marks":[{"span":{"start":"62"},"time":[30,0]},{"span":{"start":"64"},"time":[20,0],"owner":"22222222-2222-4222-8222-222222222222"}],"now":[20,0]},{"op":"get","span":{"start":"62"}},{"op":"low"}]]}"#,
+    "0 0 add 0 1 0 0\n0 1 batch 1 1 0 0\n0 2 get 2 30.0 none\n0 3 low 2 5.0\n",
+)];
+
+/// How many bytes a call moves, and which calls go wrong.
+type Calls = (usize, Mishap);
+
+/// How a trace's text is read and a log written, and whether a call that is refused memory is made again, and then succeeds.
+struct Way {
+    calls: Calls,
+    again: bool,
 }
 
-/// Whether a slow writer holds this text.
-fn holds(writer: Metered<Faulty<Vec<u8>>>, text: &str) -> bool {
-    writer.into_inner().inner.as_slice() == text.as_bytes()
+/// A byte at a time, with an interruption now and then.
+static SLOWLY: Way = Way {
+    calls: (1, Mishap::InterruptedNowAndThen),
+    again: false,
+};
+
+/// All bytes at once, so that nothing is written by a call that is refused memory.
+static AGAIN: Way = Way {
+    calls: (65_536, Mishap::Never),
+    again: true,
+};
+
+/// A writer that keeps what was written.
+type Output = Metered<Faulty<Vec<u8>>>;
+
+fn reader_of(text: &str, calls: Calls) -> Metered<Faulty<&[u8]>> {
+    Metered::new(Faulty::new(text.as_bytes(), calls.0, calls.1))
 }
 
-/// Whether a log is written as this text.
-fn is_written(alloc: Global, played: &Log, log: &str) -> Result<bool, Fail> {
-    let mut writer = slow_writer(alloc);
-    write_log(alloc, played, &mut writer)?;
-    Ok(holds(writer, log))
+fn new_writer(alloc: Global, calls: Calls) -> Output {
+    Metered::new(Faulty::new(Vec::new(alloc), calls.0, calls.1))
+}
+
+/// A trace and the log of its replay.
+#[derive(Drop)]
+struct Played {
+    trace: Trace,
+    log: Log,
+}
+
+/// A trace. Where memory is refused the same call then succeeds.
+fn read(alloc: Global, way: &Way, text: &str) -> Result<Trace, Fail> {
+    match read_trace(alloc, text.as_bytes()) {
+        Err(TraceFault::NoMemory) if way.again => match read_trace(alloc, text.as_bytes()) {
+            Ok(trace) => Ok(trace),
+            Err(_) => Err(Fail::from("a trace was refused again")),
+        },
+        read => Ok(read?),
+    }
+}
+
+/// A log, in the same way.
+fn play_all(alloc: Global, way: &Way, trace: &Trace) -> Result<Log, Fail> {
+    match play(alloc, trace) {
+        Err(NoMemory) if way.again => match play(alloc, trace) {
+            Ok(log) => Ok(log),
+            Err(NoMemory) => Err(Fail::from("a log was refused again")),
+        },
+        played => Ok(played?),
+    }
+}
+
+/// The text of a log, in the same way.
+fn text_of(alloc: Global, way: &Way, log: &Log) -> Result<Vec<u8>, Fail> {
+    match log_text(alloc, log) {
+        Err(NoMemory) if way.again => match log_text(alloc, log) {
+            Ok(text) => Ok(text),
+            Err(NoMemory) => Err(Fail::from("a text was refused again")),
+        },
+        text => Ok(text?),
+    }
+}
+
+/// What a text is read as, in the same way.
+fn read_back(alloc: Global, way: &Way, text: &[u8]) -> Result<Log, Fail> {
+    match read_log(alloc, text) {
+        Err(LogFault::NoMemory) if way.again => match read_log(alloc, text) {
+            Ok(log) => Ok(log),
+            Err(_) => Err(Fail::from("the reading of a log was refused again")),
+        },
+        read => Ok(read?),
+    }
+}
+
+/// What comes of a text.
+fn comes_of(alloc: Global, way: &Way, text: &str) -> Result<Played, Fail> {
+    let trace = read(alloc, way, text)?;
+    let log = play_all(alloc, way, &trace)?;
+    Ok(Played { trace, log })
 }
 
 /// Whether this is the text of a log, from which it is read again.
-fn is_read_again(alloc: Global, played: &Log, log: &str) -> Result<bool, Fail> {
-    let made = log_text(alloc, played)?;
-    let back = read_log(alloc, made.as_slice())?;
-    Ok(made.as_slice() == log.as_bytes() && back.lines.slice() == played.lines.slice())
+fn is_text(alloc: Global, way: &Way, log: &Log, want: &str) -> Result<bool, Fail> {
+    let text = text_of(alloc, way, log)?;
+    let back = read_back(alloc, way, &text)?;
+    Ok(text.as_slice() == want.as_bytes() && back.lines.slice() == log.lines.slice())
 }
 
 /// Whether a log is what its own text reads as.
-fn is_its_own_reading(alloc: Global, played: &Log) -> Result<bool, Fail> {
-    let again = reads_again(alloc, played)?;
-    Ok(again.lines.slice() == played.lines.slice())
+fn is_its_own_reading(alloc: Global, log: &Log) -> Result<bool, Fail> {
+    let again = reads_again(alloc, log)?;
+    Ok(again.lines.slice() == log.lines.slice())
 }
 
-/// Whether the replay of a trace writes this log.
-fn is_replayed(alloc: Global, trace: &Trace, log: &str) -> Result<bool, Fail> {
-    let mut writer = slow_writer(alloc);
-    replay(alloc, trace, &mut writer)?;
-    Ok(holds(writer, log))
+/// What is written.
+#[derive(Clone, Copy)]
+enum Written {
+    /// The log.
+    Log,
+    /// The replay of the trace.
+    Replay,
+    /// The replay of its text.
+    Stream,
 }
 
-/// Whether the replay of a trace's text, of which each read gives a byte, writes this log.
-fn is_streamed(alloc: Global, text: &str, log: &str) -> Result<bool, Fail> {
-    let slow = Faulty::new(text.as_bytes(), 1, Mishap::InterruptedNowAndThen);
-    let mut writer = slow_writer(alloc);
-    replay_stream(alloc, &mut Metered::new(slow), &mut writer)?;
-    Ok(holds(writer, log))
+/// Whether a call wrote to its end.
+fn write(
+    alloc: Global,
+    what: Written,
+    text: &str,
+    played: &Played,
+    calls: Calls,
+    writer: &mut Output,
+) -> bool {
+    match what {
+        Written::Log => write_log(alloc, &played.log, writer).is_ok(),
+        Written::Replay => replay(alloc, &played.trace, writer).is_ok(),
+        Written::Stream => replay_stream(alloc, &mut reader_of(text, calls), writer).is_ok(),
+    }
 }
 
-/// Whether a log is written as this text, read again from it, and what it reads as.
-fn is_logged(alloc: Global, played: &Log, log: &str) -> Result<bool, Fail> {
-    Ok(
-        is_written(alloc, played, log)?
-            && is_read_again(alloc, played, log)?
-            && is_its_own_reading(alloc, played)?,
-    )
-}
-
-/// Whether playing and replaying a trace give this log.
-fn is_played(alloc: Global, trace: &Trace, log: &str) -> Result<bool, Fail> {
-    let played = play(alloc, trace)?;
-    Ok(is_logged(alloc, &played, log)? && is_replayed(alloc, trace, log)?)
+/// Whether this is written. A call that is refused memory has written nothing, nor has one whose writer was refused.
+fn is_written(
+    alloc: Global,
+    way: &Way,
+    what: Written,
+    text: &str,
+    played: &Played,
+    want: &str,
+) -> bool {
+    let mut writer = new_writer(alloc, way.calls);
+    if write(alloc, what, text, played, way.calls, &mut writer) {
+        return writer.into_inner().inner.as_slice() == want.as_bytes();
+    }
+    // A writer that has failed takes nothing more.
+    let mut again = Metered::new(writer.into_inner());
+    if !way.again || !write(alloc, what, text, played, way.calls, &mut again) {
+        return false;
+    }
+    again.into_inner().inner.as_slice() == want.as_bytes()
 }
 
 /// Whether each call gives this log of a trace.
-fn gives(alloc: Global, text: &str, log: &str) -> Result<bool, Fail> {
-    let trace = read_trace(alloc, text.as_bytes())?;
-    Ok(is_played(alloc, &trace, log)? && is_streamed(alloc, text, log)?)
+fn gives(alloc: Global, way: &Way, text: &str, log: &str) -> Result<bool, Fail> {
+    let played = comes_of(alloc, way, text)?;
+    for what in [Written::Log, Written::Replay, Written::Stream] {
+        if !is_written(alloc, way, what, text, &played, log) {
+            return Ok(false);
+        }
+    }
+    Ok(is_text(alloc, way, &played.log, log)? && is_its_own_reading(alloc, &played.log)?)
 }
 
-/// The first row of a table of replays that doesn't hold.
-fn wrong_replay(alloc: Global, rows: &[(&str, &str)]) -> Result<Option<usize>, Fail> {
+/// The number of the first row, from 0, of whose trace a call gives another log.
+fn first_wrong(alloc: Global, way: &Way, rows: &[(&str, &str)]) -> Result<Option<usize>, Fail> {
     for (i, (lists, log)) in rows.iter().enumerate() {
         let text = format!(in alloc; "{HEAD}{lists}")?;
-        if !gives(alloc, text.as_str(), log)? {
+        if !gives(alloc, way, text.as_str(), log)? {
             return Ok(Some(i));
         }
     }
     Ok(None)
-}
-
-/// How a replay ends whose reader and writer go wrong so, and how much is written. Each call moves 100 bytes.
-fn ends(
-    alloc: Global,
-    reading: Mishap,
-    writing: Mishap,
-) -> Result<(Option<ReplayFault>, usize), Fail> {
-    let text = format!(in alloc; "{HEAD}{OVERLAPPING_READS}")?;
-    let mut reader = Metered::new(Faulty::new(text.as_bytes(), 100, reading));
-    let mut writer = Metered::new(Faulty::new(Vec::new(alloc), 100, writing));
-    let ended = replay_stream(alloc, &mut reader, &mut writer);
-    Ok((ended.err(), writer.into_inner().inner.len()))
 }
 
 /// How a reader and a writer go wrong, how the replay ends, and how much is written.
@@ -305,145 +394,37 @@ static ENDS: [End; 4] = [
     ),
 ];
 
-/// The first of the replays, from 0, that ends otherwise.
-fn wrong_end(alloc: Global, rows: &[End]) -> Result<Option<usize>, Fail> {
+/// The number of the first replay, from 0, that ends otherwise. Each call moves 100 bytes.
+fn wrong_end(alloc: Global, text: &str, rows: &[End]) -> Option<usize> {
     for (i, (reading, writing, fault, length)) in rows.iter().enumerate() {
-        let (ended, written) = ends(alloc, *reading, *writing)?;
-        if ended != *fault || written != *length {
-            return Ok(Some(i));
+        let mut reader = reader_of(text, (100, *reading));
+        let mut writer = new_writer(alloc, (100, *writing));
+        let ended = replay_stream(alloc, &mut reader, &mut writer).err();
+        if ended != *fault || writer.into_inner().inner.len() != *length {
+            return Some(i);
         }
     }
-    Ok(None)
+    None
 }
 
 #[test]
 fn replays(rt: HostRuntime) -> Result<(), Fail> {
-    assert_eq!(rt; wrong_replay(rt.alloc(), &REPLAYS)?, None);
-    assert_eq!(rt; wrong_end(rt.alloc(), &ENDS)?, None);
+    none(&rt, first_wrong(rt.alloc(), &SLOWLY, &REPLAYS)?);
+    let text = format!(in rt.alloc(); "{HEAD}{OVERLAPPING_READS}")?;
+    none(&rt, wrong_end(rt.alloc(), &text, &ENDS));
     Ok(())
 }
 
-/// A trace. Where memory is refused the same call then succeeds.
-fn read_again(alloc: Global, text: &str) -> Result<Trace, Fail> {
-    match read_trace(alloc, text.as_bytes()) {
-        Err(TraceFault::NoMemory) => {
-            let read = read_trace(alloc, text.as_bytes()).ok();
-            Ok(read.ok_or("a trace was refused again")?)
-        }
-        read => Ok(read?),
-    }
-}
-
-/// A log, in the same way.
-fn play_again(alloc: Global, trace: &Trace) -> Result<Log, Fail> {
-    match play(alloc, trace) {
-        Err(NoMemory) => Ok(play(alloc, trace).ok().ok_or("a log was refused again")?),
-        Ok(played) => Ok(played),
-    }
-}
-
-/// Whether a log is read back from its text, in the same way.
-fn is_read_back(alloc: Global, log: &Log, text: &[u8]) -> Result<bool, Fail> {
-    let back = match read_log(alloc, text) {
-        Err(LogFault::NoMemory) => {
-            let back = read_log(alloc, text).ok();
-            back.ok_or("the reading of a log was refused again")?
-        }
-        read => read?,
-    };
-    Ok(back.lines.slice() == log.lines.slice())
-}
-
-/// Its text, in the same way, read back.
-fn text_again(alloc: Global, log: &Log) -> Result<Vec<u8>, Fail> {
-    let text = match log_text(alloc, log) {
-        Err(NoMemory) => log_text(alloc, log).ok().ok_or("a text was refused again")?,
-        Ok(made) => made,
-    };
-    if !is_read_back(alloc, log, text.as_slice())? {
-        return Err(Fail::from("read back as another log"));
-    }
-    Ok(text)
-}
-
-/// What is written of a log, where a refused call has written nothing: nor has one whose writer was refused.
-fn write_again(alloc: Global, log: &Log) -> Result<Vec<u8>, Fail> {
-    let mut writer = Metered::new(Vec::new(alloc));
-    if write_log(alloc, log, &mut writer).is_ok() {
-        return Ok(writer.into_inner());
-    }
-    // A writer that has failed takes nothing more.
-    let mut again = Metered::new(writer.into_inner());
-    if write_log(alloc, log, &mut again).is_err() {
-        return Err(Fail::from("the writing of a log was refused again"));
-    }
-    Ok(again.into_inner())
-}
-
-/// What is written of a replay, in the same way.
-fn replay_again(alloc: Global, trace: &Trace) -> Result<Vec<u8>, Fail> {
-    let mut writer = Metered::new(Vec::new(alloc));
-    if replay(alloc, trace, &mut writer).is_ok() {
-        return Ok(writer.into_inner());
-    }
-    let mut again = Metered::new(writer.into_inner());
-    if replay(alloc, trace, &mut again).is_err() {
-        return Err(Fail::from("a replay was refused again"));
-    }
-    Ok(again.into_inner())
-}
-
-/// A trace of four calls.
-const FOUR_CALLS: &str =
-    r#"{"page_first":132,"page_max":132,"min_pages":2,"retention":10,"low_water":[5,0],"threads":[[{"op":"add","span":{"start":"61","end":"63"},"time":[20,0],"owner":"11111111-1111-4111-8111-111111111111","now":[20,0]},{"op":"batch","marks":[{"span":{"start":"62"},"time":[30,0]},{"span":{"start":"64"},"time":[20,0],"owner":"22222222-2222-4222-8222-222222222222"}],"now":[20,0]},{"op":"get","span":{"start":"62"}},{"op":"low"}]]}"#;
-
-/// And the log of its replay.
-const FOUR_CALLS_LOG: &str =
-    "0 0 add 0 1 0 0\n0 1 batch 1 1 0 0\n0 2 get 2 30.0 none\n0 3 low 2 5.0\n";
-
-/// Whether this is the text of a log.
-fn is_text(alloc: Global, log: &Log, want: &str) -> Result<bool, Fail> {
-    Ok(text_again(alloc, log)?.as_slice() == want.as_bytes())
-}
-
-/// Whether this is written of it.
-fn is_written_once(alloc: Global, log: &Log, want: &str) -> Result<bool, Fail> {
-    Ok(write_again(alloc, log)?.as_slice() == want.as_bytes())
-}
-
-/// Whether this is written of a replay.
-fn is_replayed_once(alloc: Global, trace: &Trace, want: &str) -> Result<bool, Fail> {
-    Ok(replay_again(alloc, trace)?.as_slice() == want.as_bytes())
-}
-
-/// What comes of a trace and of its log, where each call that is refused memory is made again.
-fn gives_again(
-    rt: &impl Abort,
-    alloc: Global,
-    trace: &Trace,
-    log: &Log,
-    want: &str,
-) -> Result<(), Fail> {
-    assert!(rt; is_text(alloc, log, want)?);
-    assert!(rt; is_written_once(alloc, log, want)?);
-    assert!(rt; is_replayed_once(alloc, trace, want)?);
-    Ok(())
-}
-
-/// What comes of the text of a trace, in the same way.
-fn gives_all_again(rt: &impl Abort, alloc: Global, text: &str, want: &str) -> Result<(), Fail> {
-    let trace = read_again(alloc, text)?;
-    let log = play_again(alloc, &trace)?;
-    gives_again(rt, alloc, &trace, &log, want)
-}
-
+/// For `scripts/refuse-each-growth`.
 #[test]
 fn a_refused_growth_writes_nothing(rt: HostRuntime) -> Result<(), Fail> {
-    gives_all_again(&rt, rt.alloc(), FOUR_CALLS, FOUR_CALLS_LOG)
+    none(&rt, first_wrong(rt.alloc(), &AGAIN, &FOUR_CALLS)?);
+    Ok(())
 }
 
+/// The same.
 #[test]
 fn a_refused_growth_of_overlapping_reads_writes_nothing(rt: HostRuntime) -> Result<(), Fail> {
-    let text = format!(in rt.alloc(); "{HEAD}{OVERLAPPING_READS}")?;
-    gives_all_again(&rt, rt.alloc(), text.as_str(), OVERLAPPING_READS_LOG)
+    none(&rt, first_wrong(rt.alloc(), &AGAIN, &REPLAYS[..1])?);
+    Ok(())
 }

@@ -1,7 +1,7 @@
 //! The text of each fault, word for word.
+use crate::rows::none;
 use std::alloc::Global;
 use std::fmt::Display;
-use std::test::Fail;
 use tsc_trace::{LogFault, OutFault, ReplayFault, TraceFault};
 use tsc_trace_io::{InputFault, WriteFailed};
 
@@ -77,39 +77,25 @@ static REPLAY_FAULTS: [(ReplayFault, &str); 13] = [
     (ReplayFault::NoMemory, "out of memory"),
 ];
 
-/// The first of some faults, from 0, whose text is another.
-fn first_other<F: Display>(
-    alloc: Global,
-    rows: &[(F, &'static str)],
-) -> Result<Option<usize>, Fail> {
+static WRITE_FAULTS: [(WriteFailed, &str); 1] = [(WriteFailed, "a write failed")];
+
+/// The number of the first fault, from 0, whose text is another.
+fn first_other<F: Display>(alloc: Global, rows: &[(F, &'static str)]) -> Option<usize> {
     for (i, (fault, text)) in rows.iter().enumerate() {
-        if format!(in alloc; "{fault}")?.as_str() != *text {
-            return Ok(Some(i));
+        match String::format(alloc, fault) {
+            Ok(told) if told.as_str() == *text => {}
+            _ => return Some(i),
         }
     }
-    Ok(None)
+    None
 }
 
 #[test]
-fn texts_of_faults_of_traces_and_logs(rt: HostRuntime) -> Result<(), Fail> {
-    assert_eq!(rt; first_other(rt.alloc(), &TRACE_FAULTS)?, None);
-    assert_eq!(rt; first_other(rt.alloc(), &LOG_FAULTS)?, None);
-    Ok(())
-}
-
-#[test]
-fn texts_of_faults_of_streams(rt: HostRuntime) -> Result<(), Fail> {
-    assert_eq!(rt; first_other(rt.alloc(), &INPUT_FAULTS)?, None);
-    assert_eq!(rt; first_other(rt.alloc(), &OUT_FAULTS)?, None);
-    assert_eq!(rt;
-        format!(in rt.alloc(); "{WriteFailed}")?.as_str(),
-        "a write failed"
-    );
-    Ok(())
-}
-
-#[test]
-fn texts_of_faults_of_replays(rt: HostRuntime) -> Result<(), Fail> {
-    assert_eq!(rt; first_other(rt.alloc(), &REPLAY_FAULTS)?, None);
-    Ok(())
+fn texts_of_faults(rt: HostRuntime) {
+    none(&rt, first_other(rt.alloc(), &TRACE_FAULTS));
+    none(&rt, first_other(rt.alloc(), &LOG_FAULTS));
+    none(&rt, first_other(rt.alloc(), &INPUT_FAULTS));
+    none(&rt, first_other(rt.alloc(), &OUT_FAULTS));
+    none(&rt, first_other(rt.alloc(), &WRITE_FAULTS));
+    none(&rt, first_other(rt.alloc(), &REPLAY_FAULTS));
 }

@@ -9,7 +9,6 @@ use crate::{
     tsc_add, tsc_add_all, tsc_close, tsc_figures_of, tsc_free, tsc_get_max, tsc_low_water, tsc_open,
 };
 use std::alloc::Global;
-use std::test::*;
 use tsc_c_table::{TscAdded, TscFigures, TscMark, TscTime, TscValue};
 
 const LOW: TscTime = TscTime {
@@ -28,11 +27,39 @@ const READ: TscValue = TscValue {
     owner: [0x11; 16],
 };
 
-/// The code, and the number of the cache.
-fn open(alloc: Global, place: &mut Place) -> (u32, u64) {
+/// A call, with the numbers, the tries and the key that it takes.
+enum Call {
+    Open,
+    Add(u64),
+    AddAll(u64),
+    GetMax(u64, &'static [u8]),
+    LowWater(u64),
+    Figures(u64),
+    Close(u64),
+    Free,
+    OpenShared(u32),
+    Move(u64),
+    SeatAdd(u64, u32),
+    SeatAddAll(u64),
+    SeatGetMax(u64, &'static [u8]),
+    SeatLowWater(u64),
+    SeatFigures(u64),
+    SeatClose(u64),
+    CloseShared(u64),
+}
+
+/// The code, and what the call tells in the order in which it tells it, with zeros behind. A call that is refused tells the nines, or the
+/// value, that stood there.
+type Told = (u32, u64, u64, u64, u64, u64);
+
+/// Whether the call is made in the second place, the call, and what is told.
+type Row = (bool, Call, Told);
+
+/// The number of the cache.
+fn open(alloc: Global, place: &mut Place) -> Told {
     let mut number = 9;
     let code = tsc_open(alloc, place, 132, 1024, 2, 10, &LOW, &mut number);
-    (code, number)
+    (code, number, 0, 0, 0, 0)
 }
 
 fn nothing_done() -> TscAdded {
@@ -43,40 +70,66 @@ fn nothing_done() -> TscAdded {
     }
 }
 
-/// The code, and what an Add of the keys from `a` to before `c` did.
-fn add(alloc: Global, place: &mut Place, number: u64) -> (u32, bool, bool, u64) {
+/// `d` alone, behind another byte.
+const MARKS: [TscMark; 1] = [TscMark {
+    from_at: 1,
+    from_len: 1,
+    to_at: 0,
+    to_len: 0,
+    value: READ,
+    ends: 8,
+}];
+
+/// Whether an Add of the keys from `a` to before `c` was kept, whether pages rotated, and how many were dropped.
+fn add(alloc: Global, place: &mut Place, number: u64) -> Told {
     let mut added = nothing_done();
     let code = tsc_add(alloc, place, number, b"a", b"c", 2, &READ, &NOW, &mut added);
-    (code, added.kept, added.rotated, added.evicted)
+    told_of(code, 0, &added)
 }
 
 /// The same of `d` alone, as one mark of several.
-fn add_all(alloc: Global, place: &mut Place, number: u64) -> (u32, bool, bool, u64) {
-    let marks = [TscMark {
-        from_at: 1,
-        from_len: 1,
-        to_at: 0,
-        to_len: 0,
-        value: READ,
-        ends: 8,
-    }];
+fn add_all(alloc: Global, place: &mut Place, number: u64) -> Told {
     let mut added = nothing_done();
-    let code = tsc_add_all(alloc, place, number, b"xd", &marks, &NOW, &mut added);
-    (code, added.kept, added.rotated, added.evicted)
+    let code = tsc_add_all(alloc, place, number, b"xd", &MARKS, &NOW, &mut added);
+    told_of(code, 0, &added)
 }
 
-/// The code, the time, and the first byte of the owner.
-fn get_max(alloc: Global, place: &mut Place, number: u64, key: &[u8]) -> (u32, u64, u32, u8) {
+/// What an Add tells that was, in a shared cache, the one of this place.
+fn told_of(code: u32, at: u64, added: &TscAdded) -> Told {
+    (
+        code,
+        u64::from(added.kept),
+        u64::from(added.rotated),
+        added.evicted,
+        at,
+        0,
+    )
+}
+
+/// The time, and the first byte of the owner.
+fn get_max(alloc: Global, place: &mut Place, number: u64, key: &[u8]) -> Told {
     let mut found = READ;
     let code = tsc_get_max(alloc, place, number, key, b"", 8, &mut found);
-    (code, found.wall, found.logical, found.owner[0])
+    told_value(code, 0, &found)
 }
 
-/// The code, and where the floor stands.
-fn low_water(alloc: Global, place: &mut Place, number: u64) -> (u32, u64, u32) {
+/// A value, which answers a seat that has then seen so many Adds.
+fn told_value(code: u32, seen: u64, found: &TscValue) -> Told {
+    (
+        code,
+        found.wall,
+        u64::from(found.logical),
+        u64::from(found.owner[0]),
+        seen,
+        0,
+    )
+}
+
+/// Where the floor stands.
+fn low_water(alloc: Global, place: &mut Place, number: u64) -> Told {
     let mut floor = NOW;
     let code = tsc_low_water(alloc, place, number, &mut floor);
-    (code, floor.wall, floor.logical)
+    (code, floor.wall, u64::from(floor.logical), 0, 0, 0)
 }
 
 fn nothing_counted() -> TscFigures {
@@ -88,89 +141,58 @@ fn nothing_counted() -> TscFigures {
     }
 }
 
-/// The code, the pages, the rotations, the nodes and the bytes.
-fn figures(alloc: Global, place: &mut Place, number: u64) -> (u32, u64, u64, u64, u64) {
+/// The pages, the rotations, the nodes and the bytes.
+fn figures(alloc: Global, place: &mut Place, number: u64) -> Told {
     let mut told = nothing_counted();
     let code = tsc_figures_of(alloc, place, number, &mut told);
-    (code, told.pages, told.rotations, told.nodes, told.bytes)
+    (code, told.pages, told.rotations, told.nodes, told.bytes, 0)
 }
 
-#[test]
-fn each_call_answers(rt: HostRuntime) {
-    let alloc = rt.alloc();
-    let mut place = Place::empty();
-    assert_eq!(rt; open(alloc, &mut place), (0, 0));
-    assert_eq!(rt; open(alloc, &mut place), (0, 1));
-    assert_eq!(rt; add(alloc, &mut place, 1), (0, true, false, 0));
-    assert_eq!(rt; add_all(alloc, &mut place, 1), (0, true, false, 0));
-    assert_eq!(rt; get_max(alloc, &mut place, 1, b"b"), (0, 20, 1, 0x11));
-    assert_eq!(rt; get_max(alloc, &mut place, 1, b"c"), (0, 5, 0, 0));
-    assert_eq!(rt; get_max(alloc, &mut place, 1, b"d"), (0, 20, 1, 0x11));
-    assert_eq!(rt; get_max(alloc, &mut place, 0, b"d"), (0, 5, 0, 0));
-    assert_eq!(rt; low_water(alloc, &mut place, 1), (0, 5, 0));
-    assert_eq!(rt; figures(alloc, &mut place, 0), (0, 1, 0, 0, 0));
-    assert_eq!(rt; figures(alloc, &mut place, 1), (0, 1, 0, 3, 99));
-    assert_eq!(rt; figures(alloc, &mut place, 2), (1, 9, 9, 9, 9));
-    assert_eq!(rt; tsc_close(alloc, &mut place, 1), 0);
-    assert_eq!(rt; tsc_close(alloc, &mut place, 1), 1);
-    tsc_free(alloc, &mut place);
-    assert_eq!(rt; open(alloc, &mut place), (0, 0));
-    tsc_free(alloc, &mut place);
-}
-
-/// The code, and the number of a shared cache of so many seats, whose history may have two Adds.
-fn open_shared(alloc: Global, place: &mut Place, seats: u32) -> (u32, u64) {
+/// The number of a shared cache of so many seats, whose history may have two Adds.
+fn open_shared(alloc: Global, place: &mut Place, seats: u32) -> Told {
     let mut number = 9;
     let code = tsc_open_shared(alloc, place, 132, 1024, 2, 10, &LOW, seats, 2, &mut number);
-    (code, number)
+    (code, number, 0, 0, 0, 0)
 }
 
-/// The code, the place in the history, and whether an Add at a seat of the keys from `a` to before `c` was kept.
-fn seat_add(alloc: Global, place: &mut Place, seat: u64, tries: u32) -> (u32, u64, bool) {
+/// What an Add at a seat of the keys from `a` to before `c` did, and its place in the history.
+fn seat_add(alloc: Global, place: &mut Place, seat: u64, tries: u32) -> Told {
     let mut at = 9;
     let mut added = nothing_done();
     let code = tsc_seat_add(
         alloc, place, seat, b"a", b"c", 2, &READ, &NOW, tries, &mut at, &mut added,
     );
-    (code, at, added.kept)
+    told_of(code, at, &added)
 }
 
 /// The same of `d` alone, as one mark of several.
-fn seat_add_all(alloc: Global, place: &mut Place, seat: u64) -> (u32, u64, bool) {
-    let marks = [TscMark {
-        from_at: 1,
-        from_len: 1,
-        to_at: 0,
-        to_len: 0,
-        value: READ,
-        ends: 8,
-    }];
+fn seat_add_all(alloc: Global, place: &mut Place, seat: u64) -> Told {
     let mut at = 9;
     let mut added = nothing_done();
     let code = tsc_seat_add_all(
-        alloc, place, seat, b"xd", &marks, &NOW, 1, &mut at, &mut added,
+        alloc, place, seat, b"xd", &MARKS, &NOW, 1, &mut at, &mut added,
     );
-    (code, at, added.kept)
+    told_of(code, at, &added)
 }
 
-/// The code, the time, and how many Adds the seat has seen then.
-fn seat_get_max(alloc: Global, place: &mut Place, seat: u64, key: &[u8]) -> (u32, u64, u64) {
+/// The time, the first byte of the owner, and how many Adds the seat has seen then.
+fn seat_get_max(alloc: Global, place: &mut Place, seat: u64, key: &[u8]) -> Told {
     let mut seen = 9;
     let mut found = READ;
     let code = tsc_seat_get_max(alloc, place, seat, key, b"", 8, &mut seen, &mut found);
-    (code, found.wall, seen)
+    told_value(code, seen, &found)
 }
 
-/// The code, where the floor stands, and how many Adds the seat has seen then.
-fn seat_low_water(alloc: Global, place: &mut Place, seat: u64) -> (u32, u64, u64) {
+/// Where the floor stands, and how many Adds the seat has seen then.
+fn seat_low_water(alloc: Global, place: &mut Place, seat: u64) -> Told {
     let mut seen = 9;
     let mut floor = NOW;
     let code = tsc_seat_low_water(alloc, place, seat, &mut seen, &mut floor);
-    (code, floor.wall, seen)
+    (code, floor.wall, u64::from(floor.logical), seen, 0, 0)
 }
 
-/// The code, the pages, the rotations, the nodes and the bytes, and how many Adds the seat has seen then.
-fn seat_figures(alloc: Global, place: &mut Place, seat: u64) -> (u32, u64, u64, u64, u64, u64) {
+/// The pages, the rotations, the nodes and the bytes, and how many Adds the seat has seen then.
+fn seat_figures(alloc: Global, place: &mut Place, seat: u64) -> Told {
     let mut seen = 9;
     let mut told = nothing_counted();
     let code = tsc_seat_figures_of(alloc, place, seat, &mut seen, &mut told);
@@ -184,44 +206,115 @@ fn seat_figures(alloc: Global, place: &mut Place, seat: u64) -> (u32, u64, u64, 
     )
 }
 
-/// The code, and how many Adds there were.
-fn close_shared(alloc: Global, place: &mut Place, number: u64) -> (u32, u64) {
+/// How many Adds there were.
+fn close_shared(alloc: Global, place: &mut Place, number: u64) -> Told {
     let mut length = 9;
     let code = tsc_close_shared(alloc, place, number, &mut length);
-    (code, length)
+    (code, length, 0, 0, 0, 0)
 }
 
-/// The code, and the number in the other place.
-fn moved(alloc: Global, place: &mut Place, number: u64, other: &mut Place) -> (u32, u64) {
+/// The number in the other place.
+fn moved(alloc: Global, place: &mut Place, number: u64, other: &mut Place) -> Told {
     let mut there = 9;
     let code = tsc_move(alloc, place, number, other, &mut there);
-    (code, there)
+    (code, there, 0, 0, 0, 0)
 }
+
+fn freed(alloc: Global, place: &mut Place) -> Told {
+    tsc_free(alloc, place);
+    (0, 0, 0, 0, 0, 0)
+}
+
+/// Makes a call in a place, beside another place.
+fn make(alloc: Global, place: &mut Place, other: &mut Place, call: &Call) -> Told {
+    match call {
+        Call::Open => open(alloc, place),
+        Call::Add(number) => add(alloc, place, *number),
+        Call::AddAll(number) => add_all(alloc, place, *number),
+        Call::GetMax(number, key) => get_max(alloc, place, *number, key),
+        Call::LowWater(number) => low_water(alloc, place, *number),
+        Call::Figures(number) => figures(alloc, place, *number),
+        Call::Close(number) => (tsc_close(alloc, place, *number), 0, 0, 0, 0, 0),
+        Call::Free => freed(alloc, place),
+        Call::OpenShared(seats) => open_shared(alloc, place, *seats),
+        Call::Move(number) => moved(alloc, place, *number, other),
+        Call::SeatAdd(seat, tries) => seat_add(alloc, place, *seat, *tries),
+        Call::SeatAddAll(seat) => seat_add_all(alloc, place, *seat),
+        Call::SeatGetMax(seat, key) => seat_get_max(alloc, place, *seat, key),
+        Call::SeatLowWater(seat) => seat_low_water(alloc, place, *seat),
+        Call::SeatFigures(seat) => seat_figures(alloc, place, *seat),
+        Call::SeatClose(seat) => (tsc_seat_close(alloc, place, *seat), 0, 0, 0, 0, 0),
+        Call::CloseShared(number) => close_shared(alloc, place, *number),
+    }
+}
+
+/// The number of the first call, from 0, that tells something else.
+fn first_wrong(alloc: Global, rows: &[Row]) -> Option<usize> {
+    let mut first = Place::empty();
+    let mut second = Place::empty();
+    for (i, (is_second, call, wanted)) in rows.iter().enumerate() {
+        let told = if *is_second {
+            make(alloc, &mut second, &mut first, call)
+        } else {
+            make(alloc, &mut first, &mut second, call)
+        };
+        if told != *wanted {
+            return Some(i);
+        }
+    }
+    None
+}
+
+static CALLS: [Row; 17] = [
+    (false, Call::Open, (0, 0, 0, 0, 0, 0)),
+    (false, Call::Open, (0, 1, 0, 0, 0, 0)),
+    (false, Call::Add(1), (0, 1, 0, 0, 0, 0)),
+    (false, Call::AddAll(1), (0, 1, 0, 0, 0, 0)),
+    (false, Call::GetMax(1, b"b"), (0, 20, 1, 0x11, 0, 0)),
+    (false, Call::GetMax(1, b"c"), (0, 5, 0, 0, 0, 0)),
+    (false, Call::GetMax(1, b"d"), (0, 20, 1, 0x11, 0, 0)),
+    (false, Call::GetMax(0, b"d"), (0, 5, 0, 0, 0, 0)),
+    (false, Call::LowWater(1), (0, 5, 0, 0, 0, 0)),
+    (false, Call::Figures(0), (0, 1, 0, 0, 0, 0)),
+    (false, Call::Figures(1), (0, 1, 0, 3, 99, 0)),
+    (false, Call::Figures(2), (1, 9, 9, 9, 9, 0)),
+    (false, Call::Close(1), (0, 0, 0, 0, 0, 0)),
+    (false, Call::Close(1), (1, 0, 0, 0, 0, 0)),
+    (false, Call::Free, (0, 0, 0, 0, 0, 0)),
+    (false, Call::Open, (0, 0, 0, 0, 0, 0)),
+    (false, Call::Free, (0, 0, 0, 0, 0, 0)),
+];
+
+#[test]
+fn each_call_answers(rt: HostRuntime) {
+    assert_eq!(rt; first_wrong(rt.alloc(), &CALLS), None);
+}
+
+static SHARED_CALLS: [Row; 21] = [
+    (false, Call::OpenShared(65), (12, 9, 0, 0, 0, 0)),
+    (false, Call::OpenShared(2), (0, 0, 0, 0, 0, 0)),
+    (false, Call::Move(2), (0, 0, 0, 0, 0, 0)),
+    (false, Call::Move(2), (1, 9, 0, 0, 0, 0)),
+    (false, Call::SeatAdd(1, 0), (14, 0, 1, 9, 9, 0)),
+    (false, Call::SeatAdd(1, 1), (0, 1, 0, 0, 0, 0)),
+    (true, Call::SeatGetMax(0, b"b"), (0, 20, 1, 0x11, 1, 0)),
+    (true, Call::SeatAddAll(0), (0, 1, 0, 0, 1, 0)),
+    (false, Call::SeatAdd(1, 1), (15, 0, 1, 9, 9, 0)),
+    (false, Call::SeatGetMax(1, b"d"), (0, 20, 1, 0x11, 2, 0)),
+    (false, Call::SeatLowWater(1), (0, 5, 0, 2, 0, 0)),
+    (false, Call::SeatFigures(1), (0, 1, 0, 3, 99, 2)),
+    (false, Call::SeatFigures(0), (1, 9, 9, 9, 9, 9)),
+    (false, Call::SeatClose(1), (0, 0, 0, 0, 0, 0)),
+    (false, Call::SeatClose(1), (1, 0, 0, 0, 0, 0)),
+    (false, Call::CloseShared(0), (13, 9, 0, 0, 0, 0)),
+    (true, Call::SeatClose(0), (0, 0, 0, 0, 0, 0)),
+    (false, Call::CloseShared(0), (0, 2, 0, 0, 0, 0)),
+    (false, Call::CloseShared(0), (1, 9, 0, 0, 0, 0)),
+    (false, Call::Free, (0, 0, 0, 0, 0, 0)),
+    (true, Call::Free, (0, 0, 0, 0, 0, 0)),
+];
 
 #[test]
 fn each_call_of_a_shared_cache_answers(rt: HostRuntime) {
-    let alloc = rt.alloc();
-    let mut place = Place::empty();
-    let mut other = Place::empty();
-    assert_eq!(rt; open_shared(alloc, &mut place, 65), (12, 9));
-    assert_eq!(rt; open_shared(alloc, &mut place, 2), (0, 0));
-    assert_eq!(rt; moved(alloc, &mut place, 2, &mut other), (0, 0));
-    assert_eq!(rt; moved(alloc, &mut place, 2, &mut other), (1, 9));
-    assert_eq!(rt; seat_add(alloc, &mut place, 1, 0), (14, 9, false));
-    assert_eq!(rt; seat_add(alloc, &mut place, 1, 1), (0, 0, true));
-    assert_eq!(rt; seat_get_max(alloc, &mut other, 0, b"b"), (0, 20, 1));
-    assert_eq!(rt; seat_add_all(alloc, &mut other, 0), (0, 1, true));
-    assert_eq!(rt; seat_add(alloc, &mut place, 1, 1), (15, 9, false));
-    assert_eq!(rt; seat_get_max(alloc, &mut place, 1, b"d"), (0, 20, 2));
-    assert_eq!(rt; seat_low_water(alloc, &mut place, 1), (0, 5, 2));
-    assert_eq!(rt; seat_figures(alloc, &mut place, 1), (0, 1, 0, 3, 99, 2));
-    assert_eq!(rt; seat_figures(alloc, &mut place, 0), (1, 9, 9, 9, 9, 9));
-    assert_eq!(rt; tsc_seat_close(alloc, &mut place, 1), 0);
-    assert_eq!(rt; tsc_seat_close(alloc, &mut place, 1), 1);
-    assert_eq!(rt; close_shared(alloc, &mut place, 0), (13, 9));
-    assert_eq!(rt; tsc_seat_close(alloc, &mut other, 0), 0);
-    assert_eq!(rt; close_shared(alloc, &mut place, 0), (0, 2));
-    assert_eq!(rt; close_shared(alloc, &mut place, 0), (1, 9));
-    tsc_free(alloc, &mut place);
-    tsc_free(alloc, &mut other);
+    assert_eq!(rt; first_wrong(rt.alloc(), &SHARED_CALLS), None);
 }

@@ -8,15 +8,16 @@ const TRACE: &str =
 
 const LOG: &str = "0 0 add 0 1 0 0\n0 1 get 1 20.0 none\n";
 
-/// Of each trace: the code where there is room, and the text.
-static REPLAYS: [(&str, u32, &str); 2] = [(TRACE, 0, LOG), ("[", 16, "trace refused: fault 1")];
+/// A trace; a log, where it is checked against the trace; the code where there is room, and the text.
+type Row = (&'static str, Option<&'static str>, u32, &'static str);
 
-/// The same of each trace with a log.
-static CHECKS: [(&str, &str, u32, &str); 4] = [
-    (TRACE, LOG, 0, "right\n"),
-    (TRACE, "", 0, "wrong call 1\n"),
-    (TRACE, "0 0 add", 16, "log refused: fault 1 at line 1"),
-    ("[", LOG, 16, "trace refused: fault 1"),
+static ROWS: [Row; 6] = [
+    (TRACE, None, 0, LOG),
+    ("[", None, 16, "trace refused: fault 1"),
+    (TRACE, Some(LOG), 0, "right\n"),
+    (TRACE, Some(""), 0, "wrong call 1\n"),
+    (TRACE, Some("0 0 add"), 16, "log refused: fault 1 at line 1"),
+    ("[", Some(LOG), 16, "trace refused: fault 1"),
 ];
 
 /// Whether a buffer of sevens was told so: it begins with the text where that fits, and is as before where it doesn't.
@@ -34,57 +35,37 @@ fn is_told(text: &str, wanted: u32, out: &[u8], code: u32, len: usize) -> bool {
         && sevens
 }
 
-fn replays_as(
-    alloc: Global,
-    trace: &str,
-    wanted: u32,
-    text: &str,
-    room: usize,
-) -> Result<bool, AllocError> {
+/// Whether a row is told so in a buffer that has room for so many bytes.
+fn holds(alloc: Global, row: &Row, room: usize) -> Result<bool, AllocError> {
+    let (trace, log, wanted, text) = *row;
     let mut out = Vec::from_elem(alloc, 7u8, room)?;
     let mut len = 99;
-    let code = tsc_replay(alloc, trace.as_bytes(), out.as_mut_slice(), &mut len);
+    let room = out.as_mut_slice();
+    let code = match log {
+        Some(log) => tsc_check(alloc, trace.as_bytes(), log.as_bytes(), room, &mut len),
+        None => tsc_replay(alloc, trace.as_bytes(), room, &mut len),
+    };
     Ok(is_told(text, wanted, out.as_slice(), code, len))
 }
 
-fn checks_as(
-    alloc: Global,
-    trace: &str,
-    log: &str,
-    wanted: u32,
-    text: &str,
-    room: usize,
-) -> Result<bool, AllocError> {
-    let mut out = Vec::from_elem(alloc, 7u8, room)?;
-    let mut len = 99;
-    let code = tsc_check(
-        alloc,
-        trace.as_bytes(),
-        log.as_bytes(),
-        out.as_mut_slice(),
-        &mut len,
-    );
-    Ok(is_told(text, wanted, out.as_slice(), code, len))
+/// The number of the first row, from 0, that is told otherwise in a buffer of two bytes less than its text, up to one more.
+fn first_wrong(alloc: Global, rows: &[Row]) -> Result<Option<usize>, AllocError> {
+    for (i, row) in rows.iter().enumerate() {
+        for more in 0..4 {
+            if !holds(
+                alloc,
+                row,
+                row.3.len().saturating_add(more).saturating_sub(2),
+            )? {
+                return Ok(Some(i));
+            }
+        }
+    }
+    Ok(None)
 }
 
 #[test]
-fn replays(rt: HostRuntime) -> Result<(), AllocError> {
-    for (trace, code, text) in &REPLAYS {
-        for more in 0..4 {
-            let room = text.len().saturating_add(more).saturating_sub(2);
-            assert!(rt; replays_as(rt.alloc(), trace, *code, text, room)?);
-        }
-    }
-    Ok(())
-}
-
-#[test]
-fn checks(rt: HostRuntime) -> Result<(), AllocError> {
-    for (trace, log, code, text) in &CHECKS {
-        for more in 0..4 {
-            let room = text.len().saturating_add(more).saturating_sub(2);
-            assert!(rt; checks_as(rt.alloc(), trace, log, *code, text, room)?);
-        }
-    }
+fn replays_and_checks(rt: HostRuntime) -> Result<(), AllocError> {
+    assert_eq!(rt; first_wrong(rt.alloc(), &ROWS)?, None);
     Ok(())
 }

@@ -13,8 +13,6 @@ mod metered;
 mod output;
 mod progress;
 mod stream;
-#[cfg(test)]
-mod tests;
 
 pub use input::{InputFault, read_input};
 pub use metered::Metered;

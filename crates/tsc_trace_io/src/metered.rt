@@ -8,7 +8,7 @@ use std::io::{ErrorKind, Read, Write};
 /// How often a command reads before it gives up, and how often it writes.
 pub(crate) const MOST_TURNS: u32 = 33_554_432;
 
-/// A reader or a writer of `std` that may be called 33,554,432 times.
+/// A reader or a writer of `std` that may be called 33,554,432 times, unless it is made with another number.
 ///
 /// Once a call has failed, or a read has told the end, the one inside is not asked again.
 #[derive(Drop)]
@@ -35,9 +35,12 @@ impl<T> Metered<T> {
         }
     }
 
-    /// `inner`, with so many calls.
-    #[cfg(test)]
-    pub(crate) fn with_turns(inner: T, turns: u32) -> Metered<T> {
+    /// `inner`, which may be called so many times. It is public so that tests reach the last call.
+    pub fn with_turns(inner: T, turns: u32) -> Metered<T>
+        ensures inner { inner_of result ≡ inner }
+        ensures turns { turns_of result ≡ turns }
+        ensures phase { phase_in result ≡ Phase.Open }
+    {
         Metered {
             inner,
             turns,

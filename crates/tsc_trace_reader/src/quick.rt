@@ -18,7 +18,7 @@ use std::alloc::Global;
 use tsc_trace_json::Trace;
 
 /// The trace that bytes are, where they have no fault and there is memory for it.
-pub(crate) fn quick_trace(alloc: Global, bytes: &[u8]) -> Option<Trace>
+pub fn quick_trace(alloc: Global, bytes: &[u8]) -> Option<Trace>
     ensures { IfSome result (λ trace. trace_of_bytes bytes.now ≡ Ok trace) }
 {
     let Ok(text) = std::str::from_utf8(bytes) else {

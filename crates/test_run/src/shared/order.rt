@@ -2,7 +2,6 @@
 use crate::shared::threads::{Adds, Made, Plan};
 use std::alloc::Global;
 use std::collections::VecDeque;
-use std::test::Fail;
 use tsc_cache::{Cache, Config};
 use tsc_span::{Key, Span};
 
@@ -24,6 +23,17 @@ fn next(all: &mut Adds, place: u64) -> Option<Made> {
     None
 }
 
+/// Whether a plain cache takes an Add.
+fn takes(alloc: Global, plan: Plan, cache: &mut Cache, made: Made) -> bool {
+    let Some(span) = plan.span(alloc, made.number, made.turn) else {
+        return false;
+    };
+    match plan.value(made.number, made.turn) {
+        Some(value) => cache.add(&span, value, value.time()).is_ok(),
+        None => false,
+    }
+}
+
 /// A plain cache to which the Adds were made in the order of their places. `None` where the places are not
 /// 0, 1, .. up to so many, each once, and rising for each seat.
 pub fn in_order(
@@ -32,37 +42,58 @@ pub fn in_order(
     plan: Plan,
     mut all: Adds,
     count: u64,
-) -> Result<Option<Cache>, Fail> {
-    let mut cache = Cache::new(alloc, config)?;
+) -> Option<Cache> {
+    let mut cache = Cache::new(alloc, config).ok()?;
     for place in 0..count {
-        let Some(made) = next(&mut all, place) else {
-            return Ok(None);
-        };
-        let span = plan.span(alloc, made.number, made.turn).ok_or("a span")?;
-        let value = plan.value(made.number, made.turn).ok_or("a value")?;
-        cache.add(&span, value, value.time())?;
+        let made = next(&mut all, place)?;
+        if !takes(alloc, plan, &mut cache, made) {
+            return None;
+        }
     }
-    Ok(all.iter().all(|adds| adds.is_empty()).then_some(cache))
+    for adds in &all {
+        if !adds.is_empty() {
+            return None;
+        }
+    }
+    Some(cache)
 }
 
 /// The keys from `a` on, up to `e`, which is not among them.
-pub fn first_four(alloc: Global) -> Result<Span, Fail> {
-    Ok(Span::of(Key::new(alloc, b"a")?, Key::new(alloc, b"e")?)?)
+fn first_four(alloc: Global) -> Option<Span> {
+    let (from, to) = (Key::new(alloc, b"a").ok()?, Key::new(alloc, b"e").ok()?);
+    Span::of(from, to).ok()
+}
+
+/// All keys from `a` on.
+fn all_keys(alloc: Global) -> Option<Span> {
+    Some(Span::onward(Key::new(alloc, b"a").ok()?, false))
+}
+
+/// Whether two caches answer alike over a span that there is.
+fn answer_alike(one: &Cache, other: &Cache, span: Option<Span>) -> bool {
+    match span {
+        Some(span) => one.get_max(&span) == other.get_max(&span),
+        None => false,
+    }
 }
 
 /// Whether two caches answer alike at each key, over all keys, and of how they stand.
-pub fn are_alike(alloc: Global, plan: Plan, one: &Cache, other: &Cache) -> Result<bool, Fail> {
+pub fn are_alike(alloc: Global, plan: Plan, one: &Cache, other: &Cache) -> bool {
     for turn in 0..26 {
-        let span = plan.span(alloc, 0, turn).ok_or("a span")?;
-        if one.get_max(&span) != other.get_max(&span) {
-            return Ok(false);
+        if !answer_alike(one, other, plan.span(alloc, 0, turn)) {
+            return false;
         }
     }
-    let all = Span::onward(Key::new(alloc, b"a")?, false);
-    Ok(
-        one.get_max(&all) == other.get_max(&all)
-            && one.low_water() == other.low_water()
-            && one.pages() == other.pages()
-            && one.rotations() == other.rotations(),
-    )
+    answer_alike(one, other, all_keys(alloc))
+        && one.low_water() == other.low_water()
+        && one.pages() == other.pages()
+        && one.rotations() == other.rotations()
+}
+
+/// Whether the latest value on the first four keys is that of all Adds, where these don't differ.
+pub fn has_values(alloc: Global, plan: Plan, cache: &Cache) -> bool {
+    match first_four(alloc) {
+        Some(span) => plan.differ || Some(cache.get_max(&span)) == plan.value(0, 0),
+        None => false,
+    }
 }

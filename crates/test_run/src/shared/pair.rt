@@ -13,13 +13,10 @@ use tsc_time::{NoMemory, Timestamp, Value};
 use uuid::Uuid;
 
 /// What a seat does: the first seat is 0, and the second any other number.
-#[derive(Clone, Copy, Debug)]
 pub enum Step {
-    /// Adds a key at 20.0, for the one owner that there is.
-    Add(u32, &'static str),
-    /// Adds a key at another wall time, which is the moment too.
-    AddAt(u32, &'static str, u64),
-    /// Adds the empty span.
+    /// Adds a key at a wall time, which is the moment too, for the one owner that there is.
+    Add(u32, &'static str, u64),
+    /// Adds the empty span at 20.0.
     AddNothing(u32),
     Get(u32, &'static str),
     Low(u32),
@@ -27,7 +24,7 @@ pub enum Step {
 }
 
 /// And what it is told.
-#[derive(Clone, Copy, Debug, PartialEq, Eq)]
+#[derive(Clone, Copy, PartialEq, Eq)]
 pub enum Told {
     /// The place, whether the Add was kept, and the length of the front.
     Place(u64, bool, u64),
@@ -42,9 +39,9 @@ pub enum Told {
 /// How many Adds of its own a seat counts, and how many it has seen.
 type Counts = (u64, u64);
 
-/// The limit of the history, the steps with what is told and how the seat counts then, and how many Adds
-/// there are at closing.
-pub type Row = (u64, &'static [(Step, Told, Counts)], u64);
+/// The bytes of a page, and how many pages are kept at the least; the limit of the history, the steps with what is told and how the seat
+/// counts then, and how many Adds there are at closing.
+pub type Row = ((u32, u32), u64, &'static [(Step, Told, Counts)], u64);
 
 #[derive(Drop)]
 pub struct Pair {
@@ -177,7 +174,15 @@ fn low(cache: &SharedCache, seat: &mut Seat) -> Result<Told, Fail>
     Ok(Told::Floor(answer.time.wall(), answer.front))
 }
 
-/// One step of one seat, and how it counts then.
+/// The span of a step.
+fn span_of(alloc: Global, step: &Step) -> Result<Span, Fail> {
+    match step {
+        Step::Add(_, key, _) | Step::Get(_, key) => point(alloc, key),
+        Step::AddNothing(_) | Step::Low(_) | Step::Meet => nothing(alloc),
+    }
+}
+
+/// One step of one seat.
 fn take_step<R: Wait>(
     rt: &R,
     alloc: Global,
@@ -185,21 +190,17 @@ fn take_step<R: Wait>(
     seat: &mut Seat,
     step: &Step,
     tries_again: bool,
-) -> Result<(Told, Counts), Fail>
+) -> Result<Told, Fail>
     requires { seat.old.cache ≡ cache.now }
     ensures { seat.new.cache ≡ seat.old.cache }
 {
-    let told = match step {
-        Step::Add(_, key) => add(rt, cache, seat, &point(alloc, key)?, 20, tries_again)?,
-        Step::AddAt(_, key, wall) => {
-            add(rt, cache, seat, &point(alloc, key)?, *wall, tries_again)?
-        }
-        Step::AddNothing(_) => add(rt, cache, seat, &nothing(alloc)?, 20, tries_again)?,
-        Step::Get(_, key) => get(cache, seat, &point(alloc, key)?)?,
-        Step::Low(_) => low(cache, seat)?,
-        Step::Meet => return Err("one seat cannot meet".into()),
-    };
-    Ok((told, counts(seat)))
+    let span = span_of(alloc, step)?;
+    match step {
+        Step::Add(_, _, wall) => add(rt, cache, seat, &span, *wall, tries_again),
+        Step::AddNothing(_) => add(rt, cache, seat, &span, 20, tries_again),
+        Step::Get(_, _) => get(cache, seat, &span),
+        Step::Low(_) | Step::Meet => low(cache, seat),
+    }
 }
 
 /// A cache of two seats. Where it is refused memory it is opened once more.
@@ -254,26 +255,16 @@ impl Pair {
                 }
                 Ok((Told::Met(met), counts(&self.first)))
             }
-            Step::Add(0, _)
-            | Step::AddAt(0, _, _)
-            | Step::AddNothing(0)
-            | Step::Get(0, _)
-            | Step::Low(0) => take_step(
-                rt,
-                alloc,
-                &self.cache,
-                &mut self.first,
-                next,
-                self.tries_again,
-            ),
-            _ => take_step(
-                rt,
-                alloc,
-                &self.cache,
-                &mut self.second,
-                next,
-                self.tries_again,
-            ),
+            Step::Add(0, _, _) | Step::AddNothing(0) | Step::Get(0, _) | Step::Low(0) => {
+                let (cache, seat) = (&self.cache, &mut self.first);
+                let told = take_step(rt, alloc, cache, seat, next, self.tries_again)?;
+                Ok((told, counts(&self.first)))
+            }
+            _ => {
+                let (cache, seat) = (&self.cache, &mut self.second);
+                let told = take_step(rt, alloc, cache, seat, next, self.tries_again)?;
+                Ok((told, counts(&self.second)))
+            }
         }
     }
 

@@ -14,7 +14,7 @@ use tsc_time::{Timestamp, Value};
 use uuid::Uuid;
 
 /// What each seat does: in each of so many turns it adds a key, and looks it up.
-#[derive(Clone, Copy, Debug)]
+#[derive(Clone, Copy)]
 pub struct Plan {
     pub turns: u32,
     /// Whether the times rise with the turns, and each seat has an owner of its own. Else all times are 20.0,
@@ -23,7 +23,7 @@ pub struct Plan {
 }
 
 /// An Add: its place, and which seat made it in which turn.
-#[derive(Clone, Copy, Debug)]
+#[derive(Clone, Copy)]
 pub struct Made {
     pub place: u64,
     pub number: u32,

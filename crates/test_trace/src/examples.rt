@@ -1,6 +1,6 @@
 //! The traces of `examples/`, as they stand there.
 
-pub(super) static EXAMPLES: [&str; 6] = [
+pub(crate) static EXAMPLES: [&str; 6] = [
     r#"{"page_first":264,"page_max":264,"min_pages":1,"retention":10000000000,"low_water":[5,0],"threads":[[
 {"op":"low"},
 {"op":"add","span":{"start":"61"},"time":[5,0],"owner":"11111111-1111-4111-8111-111111111111","now":[20,0]},

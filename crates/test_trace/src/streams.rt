@@ -1,10 +1,15 @@
-use crate::fakes::{Faulty, Mishap};
-use crate::metered::MOST_TURNS;
-use crate::*;
+//! Readers and writers whose calls are counted, and whole inputs and outputs.
+use crate::rows::none;
 use std::alloc::{AllocError, Global};
 use std::io;
 use std::io::Read;
-use std::test::Fail;
+use tsc_trace_io::fakes::{Faulty, Mishap};
+use tsc_trace_io::{
+    InputFault, Metered, Sink, Source, Trouble, WriteFailed, read_input, write_output,
+};
+
+/// How often a reader is read at the most, and a writer written to.
+const MOST_TURNS: u32 = 33_554_432;
 
 /// How many bytes a call moves, what goes wrong, how many calls there may be, how reading `abc` ends, and
 /// after how many calls.
@@ -58,33 +63,33 @@ static WRITINGS: [Writing; 11] = [
     (1, Mishap::AlwaysInterrupted, 1000, b"", 1000),
 ];
 
-/// The first row of a table of readings that doesn't hold.
+/// The number of the first reading, from 0, that ends otherwise.
 fn wrong_reading(alloc: Global, rows: &[Reading]) -> Option<usize> {
     for (i, (step, mishap, turns, fault, calls)) in rows.iter().enumerate() {
-        let faulty = Faulty::new(&b"abc"[..], *step, *mishap);
-        let mut reader = Metered::with_turns(faulty, *turns);
-        let read = read_input(alloc, &mut reader);
-        let whole = matches!(&read, Ok(input) if input.as_slice() == b"abc".as_slice());
-        if read.err() != *fault || whole != fault.is_none() || reader.into_inner().calls != *calls {
+        let mut reader = Metered::with_turns(Faulty::new(&b"abc"[..], *step, *mishap), *turns);
+        let ends = match read_input(alloc, &mut reader) {
+            Ok(input) => fault.is_none() && input.as_slice() == b"abc".as_slice(),
+            Err(told) => *fault == Some(told),
+        };
+        if !ends || reader.into_inner().calls != *calls {
             return Some(i);
         }
     }
     None
 }
 
-/// The first row of a table of writings that doesn't hold.
+/// The number of the first writing, from 0, that ends otherwise.
 fn wrong_writing(alloc: Global, rows: &[Writing]) -> Option<usize> {
     for (i, (step, mishap, turns, front, calls)) in rows.iter().enumerate() {
-        let faulty = Faulty::new(Vec::new(alloc), *step, *mishap);
-        let mut writer = Metered::with_turns(faulty, *turns);
-        let ends = write_output(&mut writer, b"abc");
+        let mut writer = Metered::with_turns(Faulty::new(Vec::new(alloc), *step, *mishap), *turns);
         let wanted = if front.len() == 3 {
             Ok(())
         } else {
             Err(WriteFailed)
         };
+        let ends = write_output(&mut writer, b"abc") == wanted;
         let faulty = writer.into_inner();
-        if ends != wanted || faulty.inner.as_slice() != *front || faulty.calls != *calls {
+        if !ends || faulty.inner.as_slice() != *front || faulty.calls != *calls {
             return Some(i);
         }
     }
@@ -128,33 +133,43 @@ static WRITES: [Calls; 3] = [
     ),
 ];
 
-/// The first row of a table of three reads that doesn't hold.
+/// Whether three reads give this.
+fn reads<R: Source>(reader: &mut R, gave: &[Result<usize, Trouble>]) -> bool {
+    let mut room = [0; 4];
+    for want in gave {
+        if reader.read(&mut room) != *want {
+            return false;
+        }
+    }
+    true
+}
+
+/// Whether three writes do.
+fn writes<W: Sink>(writer: &mut W, gave: &[Result<usize, Trouble>]) -> bool {
+    for want in gave {
+        if writer.write(b"abc") != *want {
+            return false;
+        }
+    }
+    true
+}
+
+/// The number of the first row of reads, from 0, that give something else.
 fn wrong_reads(rows: &[Calls]) -> Option<usize> {
     for (i, (mishap, gave, calls)) in rows.iter().enumerate() {
         let mut reader = Metered::new(Faulty::new(&b"a"[..], 1, *mishap));
-        let mut room = [0; 4];
-        for want in *gave {
-            if reader.read(&mut room) != *want {
-                return Some(i);
-            }
-        }
-        if reader.into_inner().calls != *calls {
+        if !reads(&mut reader, gave) || reader.into_inner().calls != *calls {
             return Some(i);
         }
     }
     None
 }
 
-/// The first row of a table of three writes that doesn't hold.
+/// The number of the first row of writes, from 0, that give something else.
 fn wrong_writes(alloc: Global, rows: &[Calls]) -> Option<usize> {
     for (i, (mishap, gave, calls)) in rows.iter().enumerate() {
         let mut writer = Metered::new(Faulty::new(Vec::new(alloc), 1, *mishap));
-        for want in *gave {
-            if writer.write(b"abc") != *want {
-                return Some(i);
-            }
-        }
-        if writer.into_inner().calls != *calls {
+        if !writes(&mut writer, gave) || writer.into_inner().calls != *calls {
             return Some(i);
         }
     }
@@ -163,42 +178,72 @@ fn wrong_writes(alloc: Global, rows: &[Calls]) -> Option<usize> {
 
 /// Bytes that do not repeat soon.
 fn pattern(alloc: Global, len: u32) -> Result<Vec<u8>, AllocError> {
-    (0..len).map(|i| (i % 251) as u8).collect(alloc)
+    let mut bytes = Vec::with_capacity(alloc, 200_000)?;
+    for i in 0..len {
+        bytes.push((i % 251) as u8)?;
+    }
+    Ok(bytes)
 }
 
-/// Whether long bytes come whole out of a reader and into a writer that move so many a call.
-fn moves_all(alloc: Global, bytes: &[u8], step: usize) -> Result<bool, Fail> {
-    let mishap = Mishap::InterruptedNowAndThen;
-    let mut reader = Metered::new(Faulty::new(bytes, step, mishap));
-    let Ok(input) = read_input(alloc, &mut reader) else {
-        return Ok(false);
-    };
-    let mut writer = Metered::new(Faulty::new(Vec::new(alloc), step, mishap));
-    let written = write_output(&mut writer, &input);
-    Ok(written.is_ok() && writer.into_inner().inner.as_slice() == bytes)
+/// Whether bytes come whole out of a reader that moves so many a call.
+fn is_read(alloc: Global, bytes: &[u8], step: usize) -> bool {
+    let mut reader = Metered::new(Faulty::new(bytes, step, Mishap::InterruptedNowAndThen));
+    match read_input(alloc, &mut reader) {
+        Ok(input) => input.as_slice() == bytes,
+        Err(_) => false,
+    }
 }
 
-/// How reading so many spaces ends.
-fn read_spaces(alloc: Global, count: u64) -> Result<usize, InputFault> {
-    let mut reader = Metered::new(io::repeat(b' ').take(count));
-    Ok(read_input(alloc, &mut reader)?.len())
+/// Whether they go whole into such a writer.
+fn is_written(alloc: Global, bytes: &[u8], step: usize) -> bool {
+    let mut writer = Metered::new(Faulty::new(
+        Vec::new(alloc),
+        step,
+        Mishap::InterruptedNowAndThen,
+    ));
+    write_output(&mut writer, bytes).is_ok() && writer.into_inner().inner.as_slice() == bytes
+}
+
+/// The first of some numbers of bytes a call, from 0, for which long bytes are not moved whole.
+fn wrong_step(alloc: Global, bytes: &[u8], steps: &[usize]) -> Option<usize> {
+    for (i, step) in steps.iter().enumerate() {
+        if !is_read(alloc, bytes, *step) || !is_written(alloc, bytes, *step) {
+            return Some(i);
+        }
+    }
+    None
+}
+
+/// How many spaces a reader has, and how many are read.
+static SPACES: [(u64, Result<usize, InputFault>); 3] = [
+    (16_777_216, Ok(16_777_216)),
+    (16_777_217, Err(InputFault::TooLong)),
+    (u64::MAX, Err(InputFault::TooLong)),
+];
+
+/// The number of the first row of spaces, from 0, whose reading ends otherwise.
+fn wrong_spaces(alloc: Global, rows: &[(u64, Result<usize, InputFault>)]) -> Option<usize> {
+    for (i, (count, want)) in rows.iter().enumerate() {
+        let mut reader = Metered::new(io::repeat(b' ').take(*count));
+        let read = match read_input(alloc, &mut reader) {
+            Ok(input) => Ok(input.len()),
+            Err(fault) => Err(fault),
+        };
+        if read != *want {
+            return Some(i);
+        }
+    }
+    None
 }
 
 #[test]
-fn reading_and_writing(rt: HostRuntime) -> Result<(), Fail> {
-    assert_eq!(rt; wrong_reading(rt.alloc(), &READINGS), None);
-    assert_eq!(rt; wrong_writing(rt.alloc(), &WRITINGS), None);
-    assert_eq!(rt; wrong_reads(&READS), None);
-    assert_eq!(rt; wrong_writes(rt.alloc(), &WRITES), None);
+fn reading_and_writing(rt: HostRuntime) -> Result<(), AllocError> {
+    none(&rt, wrong_reading(rt.alloc(), &READINGS));
+    none(&rt, wrong_writing(rt.alloc(), &WRITINGS));
+    none(&rt, wrong_reads(&READS));
+    none(&rt, wrong_writes(rt.alloc(), &WRITES));
+    none(&rt, wrong_spaces(rt.alloc(), &SPACES));
     let bytes = pattern(rt.alloc(), 200_000)?;
-    for step in [7, 65_536, 1_000_000] {
-        assert!(rt; moves_all(rt.alloc(), &bytes, step)?, "{step}");
-    }
-    assert_eq!(rt; read_spaces(rt.alloc(), 16_777_216), Ok(16_777_216));
-    assert_eq!(rt;
-        read_spaces(rt.alloc(), 16_777_217),
-        Err(InputFault::TooLong)
-    );
-    assert_eq!(rt; read_spaces(rt.alloc(), u64::MAX), Err(InputFault::TooLong));
+    none(&rt, wrong_step(rt.alloc(), &bytes, &[7, 65_536, 1_000_000]));
     Ok(())
 }

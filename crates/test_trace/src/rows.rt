@@ -1,0 +1,22 @@
+//! Texts made of parts, and tables none of whose rows may be wrong.
+use std::alloc::{AllocError, Global};
+use std::process::Abort;
+
+/// A piece of a text, and how often it comes.
+pub(crate) type Part = (&'static str, usize);
+
+/// A text of parts.
+pub(crate) fn text_of(alloc: Global, parts: &[(&str, usize)]) -> Result<Vec<u8>, AllocError> {
+    let mut text = Vec::new(alloc);
+    for (part, times) in parts {
+        for _ in 0..*times {
+            text.extend_from_slice(part.as_bytes())?;
+        }
+    }
+    Ok(text)
+}
+
+/// Looks at what was told of the first wrong row: there has to be none.
+pub(crate) fn none<R: Abort>(rt: &R, wrong: Option<usize>) {
+    assert_eq!(rt; wrong, None);
+}
