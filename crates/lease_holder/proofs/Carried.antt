@@ -8,7 +8,8 @@ use Rattle.tsc_span.proofs.CutOrder.{sides_in_order}
 use Rattle.tsc_span.proofs.Overlaps.{overlaps-each}
 use Rattle.tsc_cache.proofs.Beginnings.{begins_entries, begins_on}
 use Rattle.tsc_shared.specs.declared.answers.Receipt.{Receipt}
-use Rattle.tsc_shared.specs.Answers.{Accepts, Learns, Meets, entry_by}
+use Rattle.tsc_shared.specs.declared.answers.Answer.{Answer}
+use Rattle.tsc_shared.specs.Answers.{Accepts, Learns, Meets, Looks, entry_by}
 use Rattle.timestamp_cache.specs.Words.{Time, Owner, OwnedTime, History, BeginsWith, SeatView, FrontView}
 use Rattle.timestamp_cache.specs.Clear.{IsClearOf, IsClearOfReads, AsksEarliestAt}
 use Rattle.timestamp_cache.proofs.Deciding.{clear_or_not}
@@ -59,6 +60,12 @@ pub met_all : {E : Type 0} (r : Result ℕ E) (first second first' second' : Sea
     → All (HasRead span second.seen) reads → (second'.cache ≡ second.cache) × All (HasRead span second'.seen) reads
 met_all (Ok met) first second first' second' span reads ok meets all = (meets.second.cache, all_there_still span second'.seen second.seen reads meets.second.begins all)
 met_all (Err e) first second first' second' span reads ok meets all = absurd (true≢false (sym ok))
+
+-- and with what it sees as it looks
+pub looked_all : {E : Type 0} (r : Result Answer E) (old new : SeatView) (asked span : Interval) (reads : List OwnedTime) → IsOk r → IfOk r (λ answer. Looks old new asked answer)
+    → All (HasRead span old.seen) reads → (new.cache ≡ old.cache) × All (HasRead span new.seen) reads
+looked_all (Ok answer) old new asked span reads ok looks all = (looks.goes_on.cache, all_there_still span new.seen old.seen reads looks.goes_on.begins all)
+looked_all (Err e) old new asked span reads ok looks all = absurd (true≢false (sym ok))
 
 -- A read that was added is handed on with the others, once its front was learned.
 pub handed_on : (old new : SeatView) (span own : Interval) (read : OwnedTime) (now : Time) (receipt : Receipt) (handed : History) (reads : List OwnedTime)

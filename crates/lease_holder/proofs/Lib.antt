@@ -1,2 +1,3 @@
 pub mod Seats
 pub mod Carried
+pub mod Plans

@@ -1,3 +1,4 @@
+pub mod Plans
 pub mod Ranges
 pub mod Reads
 pub mod Versions

@@ -1,22 +1,23 @@
 //! The lease of a range: the cache of its reads, and its keys, each of them under a latch.
 //!
 //! Who holds the latch of a key reads or writes it at a seat of his own. What was read is handed on with the latch, so that a write is clear of it.
-ghost use Rattle.std.specs.Prelude.{◌≡◌, ◌++◌, ◌∷◌, [], true, All, Some, option_map, IfOk, IfSome, OnOk, OnErr};
+ghost use Rattle.std.specs.Prelude.{◌≡◌, ◌↔◌, ◌++◌, ◌∷◌, [], true, All, Some, option_map, IsTrue, IfOk, IfSome, OnOk, OnErr};
 ghost use Rattle.std.specs.List.{find};
 ghost use Rattle.std.specs.Str.{bytes_eq};
+ghost use Rattle.std.specs.Sync.Mutex.{mutex_guard_value};
 ghost use Rattle.timestamp_cache.specs.Words.{zero_time, point, overlaps, look, state_of, BeginsWith};
 ghost use Rattle.timestamp_cache.specs.Clear.{IsClearOf, IsClearOfReads, AsksEarliestAt};
 ghost use Rattle.timestamp_cache.specs.Earliest.{TellsEarliest};
 ghost use Rattle.lease_holder.specs.Reads.{HasRead, read_of};
 ghost use Rattle.lease_holder.specs.Versions.{value_at, written};
 
-use anyhow::Result;
+use anyhow::{Context, Result, ensure};
 use std::alloc::Global;
 use std::marker::{Brand, PhantomData};
 use std::slice;
-use std::sync::{Mutex, Wait};
+use std::sync::{Mutex, MutexGuard, Wait};
 use timestamp_cache::{
-    AddFault, Front, Key, NoMemory, Seat, SharedCache, Span, Timestamp, Uuid, Value,
+    AddFault, Cut, Front, Key, NoMemory, Seat, SharedCache, Span, Timestamp, Uuid, Value,
     earliest_write_at,
 };
 
@@ -96,6 +97,17 @@ impl<G: Range> Held<G> {
         })
     }
 
+    /// Whether it is of this key.
+    fn is_of(&self, key: &str) -> bool
+        ensures { IsTrue result ↔ (self.now.span ≡ point key.now) }
+    {
+        let key = key.as_bytes();
+        match self.span.cuts() {
+            Some((Cut::Before(from), Cut::After(to))) => from == key && to == key,
+            _ => false,
+        }
+    }
+
     /// What the key is at a time.
     fn value_at(&self, at: Timestamp) -> Option<u64>
         ensures { result ≡ value_at self.now.versions.items at }
@@ -113,8 +125,17 @@ impl<G: Range> Held<G> {
 }
 
 impl<G: Range> Lease<G> {
+    /// Waits for the latch of a key, and holds it. A latch says nothing of what lies under it, so this is looked at: what is held is of that key.
+    pub fn hold<R: Wait>(&self, rt: &R, key: &str) -> Result<MutexGuard<'_, Held<G>>>
+        ensures { IfOk result (λ held. (mutex_guard_value held).span ≡ point key.now) }
+    {
+        let held = self.latch(key).context("no such key")?.lock(rt);
+        ensure!(held.is_of(key), "a latch of another key");
+        Ok(held)
+    }
+
     /// The latch of a key of the range: the first one that has this key.
-    pub fn latch(&self, key: &str) -> Option<&Mutex<Held<G>>>
+    fn latch(&self, key: &str) -> Option<&Mutex<Held<G>>>
         ensures { option_map (λ held. held.now) result ≡ option_map (λ latch. latch.held) (find (λ latch. bytes_eq latch.key.now key.now) self.now.latches.items) }
     {
         let latch = self.latches.iter().find(|latch| latch.key == key)?;
@@ -135,6 +156,7 @@ impl<G: Range> Lease<G> {
         ensures answered { OnOk result (held.new.answered.items ≡ held.old.answered.items ++ read_of at by ∷ []) }
         ensures refused { OnErr result (held.new.answered.items ≡ held.old.answered.items) }
         ensures value { IfOk result (λ value. value ≡ value_at held.old.versions.items at) }
+        ensures seat { BeginsWith me.new.seat.seen me.old.seat.seen }
         ensures key { (held.new.span ≡ held.old.span) × (held.new.versions ≡ held.old.versions) }
     {
         let value = held.value_at(at);
@@ -174,6 +196,7 @@ impl<G: Range> Lease<G> {
         ensures pushed { IfOk result (λ told. TellsEarliest (λ t. IsClearOf (look (state_of G.cache.config me.new.seat.seen) held.old.span) by t) wanted told) }
         ensures written { IfOk result (λ told. held.new.versions.items ≡ held.old.versions.items ++ written told value) }
         ensures refused { OnErr result (held.new.versions.items ≡ held.old.versions.items) }
+        ensures seat { BeginsWith me.new.seat.seen me.old.seat.seen }
         ensures key { (held.new.span ≡ held.old.span) × (held.new.answered.items ≡ held.old.answered.items) }
     {
         self.take_over(rt, me, held);
@@ -204,6 +227,7 @@ impl<G: Range> Lease<G> {
     /// The seat takes in all that the latch hands on.
     fn take_over<R: Wait>(&self, rt: &R, me: &mut RangeSeat<G>, held: &mut Held<G>)
         ensures seen { BeginsWith me.new.seat.seen held.old.handed.seat.seen }
+        ensures kept { BeginsWith me.new.seat.seen me.old.seat.seen }
         ensures same { (held.new.span ≡ held.old.span) × (held.new.versions ≡ held.old.versions) × (held.new.answered.items ≡ held.old.answered.items) }
     {
         let Ok(_met) = self.cache.meet(rt, &mut me.seat, &mut held.handed.seat) else {
@@ -211,11 +235,13 @@ impl<G: Range> Lease<G> {
         };
     }
 
-    /// What the cache answers of a key. Where a write was pushed, it is what it was pushed by: a read, or the floor.
-    pub fn reason(&self, me: &mut RangeSeat<G>, held: &Held<G>) -> Value
-        ensures { result ≡ look (state_of G.cache.config me.new.seat.seen) held.now.span }
+    /// What the cache answers of a key to the seat that is handed on with its latch. Where a write was pushed, it is what it was pushed by: a read, or
+    /// the floor. The writer's own seat is not asked again, so what that one has seen is what the write is clear of.
+    pub fn reason(&self, held: &mut Held<G>) -> Value
+        ensures value { result ≡ look (state_of G.cache.config held.new.handed.seat.seen) held.old.span }
+        ensures key { (held.new.span ≡ held.old.span) × (held.new.versions ≡ held.old.versions) × (held.new.answered.items ≡ held.old.answered.items) }
     {
-        let Ok(answer) = self.cache.get_max(&mut me.seat, &held.span) else {
+        let Ok(answer) = self.cache.get_max(&mut held.handed.seat, &held.span) else {
             unreachable!()
         };
         answer.value

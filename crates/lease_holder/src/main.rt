@@ -2,7 +2,10 @@
 //! keys again. No write of another transaction has come to a time at which it would have changed an answer.
 #![tactic(auto)]
 
-ghost use Rattle.std.specs.Prelude.{◌≡◌, All};
+ghost use Rattle.std.specs.Prelude.{◌≡◌, ℕ, ◌+◌, ◌^◌, ◌<◌, length, All, IfOk, OnOk, OnErr};
+ghost use Rattle.timestamp_cache.specs.Words.{point, BeginsWith};
+ghost use Rattle.lease_holder.specs.Reads.{HasRead, read_of};
+ghost use Rattle.lease_holder.specs.Plans.{time_at, id_of, HasReadsOf, MayWriteAt};
 
 mod lease;
 
@@ -19,17 +22,37 @@ use timestamp_cache::{Config, NoMemory, Seat, SharedCache, Timestamp, Uuid, Valu
 type Row = (&'static str, u64);
 
 /// A transaction: its name, which keys it reads and when, and which one it wants to write, when and what.
-type Plan = (char, &'static [Row], (&'static str, u64, u64));
+struct Plan {
+    name: char,
+    reads: &'static [Row],
+    write: (&'static str, u64, u64),
+}
 
 /// The keys of the range, with what they are at first.
 static KEYS: [Row; 4] = [("k", 1), ("m", 2), ("n", 3), ("z", 4)];
 
 /// One for each thread. No key is written by two of them, so that it makes no difference which thread comes first.
 static PLANS: [Plan; 4] = [
-    ('A', &[("k", 20), ("m", 12)], ("n", 30, 31)),
-    ('B', &[("k", 18), ("m", 30)], ("m", 30, 32)),
-    ('C', &[("m", 25), ("k", 16)], ("k", 15, 33)),
-    ('D', &[("n", 14), ("k", 12)], ("z", 5, 34)),
+    Plan {
+        name: 'A',
+        reads: &[("k", 20), ("m", 12)],
+        write: ("n", 30, 31),
+    },
+    Plan {
+        name: 'B',
+        reads: &[("k", 18), ("m", 30)],
+        write: ("m", 30, 32),
+    },
+    Plan {
+        name: 'C',
+        reads: &[("m", 25), ("k", 16)],
+        write: ("k", 15, 33),
+    },
+    Plan {
+        name: 'D',
+        reads: &[("n", 14), ("k", 12)],
+        write: ("z", 5, 34),
+    },
 ];
 
 /// A thread: its seat, its transaction, and what is to be printed.
@@ -47,8 +70,10 @@ enum Turn {
     Write,
 }
 
-/// A time of no logical count.
-fn at(wall: u64) -> Timestamp {
+/// The time of this wall time and no logical count, or the latest one where that is out of range.
+fn at(wall: u64) -> Timestamp
+    ensures { result ≡ time_at wall }
+{
     Timestamp::new(wall, 0).unwrap_or(Timestamp::MAX)
 }
 
@@ -58,16 +83,20 @@ fn shown(alloc: Global, time: Timestamp) -> Result<String, AllocError> {
     format!(in alloc; "{wall}.{logical}")
 }
 
-/// The id of a transaction.
-fn id_of(name: char) -> Uuid {
+/// The id of a transaction. Those of other names are other ids.
+fn id_of(name: char) -> Uuid
+    ensures value { result ≡ id_of name }
+    ensures own { (other : ℕ) → other < 2 ^ 32 → id_of other ≡ result → other ≡ name }
+{
     Uuid::from_u128(u128::from(u32::from(name)))
 }
 
 /// What a key was read by, as the cache answers.
 fn because(alloc: Global, key: &str, read: Value) -> Result<String, AllocError> {
     let time = shown(alloc, read.time())?;
-    for (name, _, _) in &PLANS {
-        if read.owner() == Some(id_of(*name)) {
+    for plan in &PLANS {
+        if read.owner() == Some(id_of(plan.name)) {
+            let name = plan.name;
             return format!(in alloc; "\"{key}\" was read at {time} by {name}");
         }
     }
@@ -75,30 +104,59 @@ fn because(alloc: Global, key: &str, read: Value) -> Result<String, AllocError> 
 }
 
 impl<G: Range> Worker<G> {
-    /// Reads the keys of its transaction, one after another.
-    fn read<R: Wait>(&mut self, rt: &R, alloc: Global, lease: &Lease<G>) -> Result<()> {
+    /// Reads the keys of its transaction, one after another. Each of these reads is then in what its seat has seen.
+    fn read<R: Wait>(&mut self, rt: &R, alloc: Global, lease: &Lease<G>) -> Result<()>
+        ensures added { OnOk result (HasReadsOf self.old.plan.now self.new.me.seat.seen) }
+        ensures told { OnOk result (length self.new.told.items ≡ length self.old.told.items + length self.old.plan.now.reads.now) }
+        ensures seat { BeginsWith self.new.me.seat.seen self.old.me.seat.seen }
+        ensures plan { self.new.plan ≡ self.old.plan }
+    {
         let plan = self.plan;
-        let (name, reads, _) = *plan;
-        for (key, wall) in reads {
-            let time = at(*wall);
-            let mut held = lease.latch(key).context("no such key")?.lock(rt);
-            let told = lease.read(rt, &mut self.me, &mut held, time, id_of(name))?;
-            let (value, time) = (told.context("no version")?, shown(alloc, time)?);
-            let line = format!(in alloc; "{name} read \"{key}\" at {time}: {value}")?;
-            self.told.push(line)?;
+        for (key, wall) in plan.reads {
+            self.read_key(rt, alloc, lease, plan.name, key, at(*wall))?;
         }
         Ok(())
     }
 
-    /// Writes the key of its transaction.
-    fn write<R: Wait>(&mut self, rt: &R, alloc: Global, lease: &Lease<G>) -> Result<()> {
+    /// Reads a key at a time, and tells what it is then. It is told once the read was added, and not where that was refused.
+    fn read_key<R: Wait>(
+        &mut self,
+        rt: &R,
+        alloc: Global,
+        lease: &Lease<G>,
+        name: char,
+        key: &str,
+        time: Timestamp,
+    ) -> Result<()>
+        ensures added { OnOk result (HasRead (point key.now) self.new.me.seat.seen (read_of time (id_of name))) }
+        ensures told { OnOk result (length self.new.told.items ≡ length self.old.told.items + 1) }
+        ensures refused { OnErr result (self.new.told.items ≡ self.old.told.items) }
+        ensures seat { BeginsWith self.new.me.seat.seen self.old.me.seat.seen }
+        ensures plan { self.new.plan ≡ self.old.plan }
+    {
+        let mut held = lease.hold(rt, key)?;
+        let told = lease.read(rt, &mut self.me, &mut held, time, id_of(name))?;
+        let (value, time) = (told.context("no version")?, shown(alloc, time)?);
+        let line = format!(in alloc; "{name} read \"{key}\" at {time}: {value}")?;
+        self.told.push(line)?;
+        Ok(())
+    }
+
+    /// Writes the key of its transaction, and tells at which time: not before the wanted one, and clear of each read of that key that its seat has
+    /// seen then, of which are all that were answered under the latch (`Lease::write`).
+    fn write<R: Wait>(&mut self, rt: &R, alloc: Global, lease: &Lease<G>) -> Result<Timestamp>
+        ensures clear { IfOk result (λ time. MayWriteAt self.old.plan.now self.new.me.seat.seen time) }
+        ensures told { OnOk result (length self.new.told.items ≡ length self.old.told.items + 1) }
+        ensures seat { BeginsWith self.new.me.seat.seen self.old.me.seat.seen }
+        ensures plan { self.new.plan ≡ self.old.plan }
+    {
         let plan = self.plan;
-        let (name, _, (key, wall, value)) = *plan;
+        let (name, (key, wall, value)) = (plan.name, plan.write);
         let wanted = at(wall);
-        let mut held = lease.latch(key).context("no such key")?.lock(rt);
+        let mut held = lease.hold(rt, key)?;
         let told = lease.write(rt, &mut self.me, &mut held, wanted, id_of(name), value)?;
         let time = told.context("no time is late enough")?;
-        let why = because(alloc, key, lease.reason(&mut self.me, &held))?;
+        let why = because(alloc, key, lease.reason(&mut held))?;
         let (from, to) = (shown(alloc, wanted)?, shown(alloc, time)?);
         let line = if time == wanted {
             format!(in alloc; "{name} wrote \"{key}\" at {from}, as it wanted")?
@@ -108,7 +166,7 @@ impl<G: Range> Worker<G> {
             )?
         };
         self.told.push(line)?;
-        Ok(())
+        Ok(time)
     }
 }
 
@@ -126,7 +184,9 @@ fn all_do<G: Range + Send + Sync, R: Threads + Wait + Sync + Print>(
         &|mut worker: Worker<G>| -> Result<Worker<G>> {
             match turn {
                 Turn::Read => worker.read(rt, alloc, lease)?,
-                Turn::Write => worker.write(rt, alloc, lease)?,
+                Turn::Write => {
+                    worker.write(rt, alloc, lease)?;
+                }
             }
             Ok(worker)
         },

@@ -1,5 +1,6 @@
 use Rattle.std.proofs.Common.{All, rules, sym, subst}
 use Rattle.std.specs.Prelude.{Option, IfSome}
+use Rattle.tsc_cache.proofs.Beginnings.{begins_on}
 use Rattle.timestamp_cache.specs.Words.{Time, OwnedTime}
 use Rattle.timestamp_cache.specs.Clear.{IsClearOf}
 use Rattle.lease_holder.proofs.Carried.{clear_of_handed}
@@ -26,3 +27,6 @@ returns-clause-seen g c = search rules
 
 pub returns-clause-pushed : goal.returns-clause-pushed
 returns-clause-pushed g c = search rules
+
+pub returns-clause-seat : goal.returns-clause-seat
+returns-clause-seat g c = begins_on _ _ _ c.earliest-told.ensures.goes_on.begins c.take_over.ensures.kept

@@ -1,0 +1,75 @@
+-- What holds of the reads of a plan, once each of them was made.
+use Rattle.std.proofs.Common.{◌≡◌, ◌∙◌, ap, sym, subst, refl, ℕ, zero, suc, ◌+◌, ◌<◌, ◌^◌, List, [], ◌∷◌, length, drop, slice_index_or, below_more, Bor, Bool, true, false, arith}
+use Rattle.std.specs.Prelude.{Option, Some, None, IfSome, unwrap_or, if◌then◌else◌}
+use Rattle.std.specs.Int.{to_be_bytes, from_be_bytes, w32, w128}
+use Rattle.std.proofs.lemmas.Nat.{from_be_bytes-to_be_bytes_4}
+use Rattle.std.proofs.Math.Logic.{∥∥₁_map}
+use Rattle.tsc_cache.proofs.Beginnings.{begins_entries}
+use Rattle.timestamp_cache.specs.Words.{Time, is_before, Owner, OwnedTime, Interval, point, History, BeginsWith}
+use Rattle.timestamp_cache.specs.Clear.{IsClearOfReads}
+use Rattle.timestamp_cache.specs.Earliest.{TellsEarliest}
+use Rattle.lease_holder.specs.declared.Plan.{Plan}
+use Rattle.lease_holder.specs.Reads.{HasRead, read_of}
+use Rattle.lease_holder.specs.Plans.{time_at, id_of, MayWriteAt}
+
+-- the time that there is, or another one
+pub time_or : (b : Bool) (time other : Time) → unwrap_or (if b then Some time else None) other ≡ (if b then time else other)
+time_or true time other = refl
+time_or false time other = refl
+
+-- Names of four bytes whose ids are the same are the same.
+pub same_name : (a b : ℕ) → a < 2 ^ 32 → b < 2 ^ 32 → id_of a ≡ id_of b → a ≡ b
+unfolding id_of
+same_name a b small little same =
+    sym (from_be_bytes-to_be_bytes_4 a small) ∙ ap (λ (bytes : List ℕ). from_be_bytes w32 (drop 12 bytes)) same ∙ from_be_bytes-to_be_bytes_4 b little
+
+-- the id of a name
+pub id_is : (name number : ℕ) (id : Owner) → id ≡ to_be_bytes w128 number → number ≡ name → id ≡ id_of name
+unfolding id_of
+id_is name number id is same = is ∙ ap (to_be_bytes w128) same
+
+-- what a history has, each that begins with it has too
+pub there_still : (span : Interval) (h start : History) (read : OwnedTime) → BeginsWith h start → HasRead span start read → HasRead span h read
+there_still span h start read begins has = ∥∥₁_map has (λ adds. record {
+  entry = adds.entry;
+  mark = adds.mark;
+  there = begins_entries h start adds.entry begins adds.there;
+  own = adds.own;
+  over = adds.over;
+  value = adds.value;
+})
+
+-- what stands at a place of a list, whatever stands for a place beyond
+same_there : {A : Type 0} (xs : List A) (n : ℕ) (d e : A) → n < length xs → slice_index_or xs n d ≡ slice_index_or xs n e
+same_there [] n d e below = absurd (omega (arith, below))
+same_there (x ∷ xs) zero d e below = refl
+same_there (x ∷ xs) (suc n) d e below = same_there xs n d e (omega (arith, below))
+
+-- a history has so many of the reads of a plan, the first ones
+abbrev pub HasFirst : Plan → ℕ → History → Type 0
+HasFirst plan n h = (k : ℕ) (d : Bor (List ℕ) × ℕ) → k < n
+    → HasRead (point (slice_index_or plan.reads.now k d).0.now) h (read_of (time_at (slice_index_or plan.reads.now k d).1) (id_of plan.name))
+
+-- and one more, where that was read
+pub one_read_more : (plan : Plan) (h start : History) (n : ℕ) (d : Bor (List ℕ) × ℕ) (time : Time) → n < length plan.reads.now → BeginsWith h start → HasFirst plan n start
+    → time ≡ time_at (slice_index_or plan.reads.now n d).1 → HasRead (point (slice_index_or plan.reads.now n d).0.now) h (read_of time (id_of plan.name)) → HasFirst plan (n + 1) h
+one_read_more plan h start n d0 time there begins first at last k d below =
+    let rows = plan.reads.now in
+    let IsRead : (Bor (List ℕ) × ℕ) → Type 0 = λ row. HasRead (point row.0.now) h (read_of (time_at row.1) (id_of plan.name)) in
+    let P : ℕ → Type 0 = λ k. (d : Bor (List ℕ) × ℕ) → IsRead (slice_index_or rows k d) in
+    let own : IsRead (slice_index_or rows n d0) = subst (λ (t : Time). HasRead (point (slice_index_or rows n d0).0.now) h (read_of t (id_of plan.name))) at last in
+    let here : P n = λ d. subst IsRead (same_there rows n d0 d there) own in
+    below_more P n (λ k lower d. there_still _ h start _ begins (first k d lower)) here k below d
+
+-- What a write of the span of a plan's key is told is a time at which its transaction may write.
+pub may_write : (plan : Plan) (h : History) (span : Interval) (by : Owner) (wanted at : Time) (told : Option Time) (P : Time → Type 0)
+    → told ≡ Some at → span ≡ point plan.write.0.now → by ≡ id_of plan.name → wanted ≡ time_at plan.write.1
+    → IfSome told (λ t. IsClearOfReads h span by t) → TellsEarliest P wanted told → MayWriteAt plan h at
+may_write plan h span by wanted at told P is key own from clear earliest =
+    let at_earliest : TellsEarliest P wanted (Some at) = subst (λ (o : Option Time). TellsEarliest P wanted o) is earliest in
+    let at_clear : IfSome (Some at) (λ t. IsClearOfReads h span by t) = subst (λ (o : Option Time). IfSome o (λ t. IsClearOfReads h span by t)) is clear in
+    let of_key : IsClearOfReads h (point plan.write.0.now) by at = subst (λ (s : Interval). IsClearOfReads h s by at) key at_clear in
+    record {
+      from_on = subst (λ (w : Time). is_before at w ≡ false) from at_earliest.from_on;
+      clear = subst (λ (o : Owner). IsClearOfReads h (point plan.write.0.now) o at) own of_key;
+    }
