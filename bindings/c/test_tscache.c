@@ -345,7 +345,7 @@ static void batches(void)
 /* There is no limit to the caches of a place, nor to the marks of a batch, and settings may be as large as they say. */
 static void limits(void)
 {
-    enum { CACHES = 1000, MARKS = 5000 };
+    enum { CACHES = 70000, MARKS = 5000 };
     struct cache c = open_cache(132, 132, 2);
     tsc_time low = {5, 0};
     uint64_t n = 0, wrong = 0;
@@ -449,6 +449,21 @@ static void refusals(void)
     CHECK(tsc_try_add(&c.place, c.number, "x", 1, long_key, 4097, TSC_POINT, &v, &AT_20, &a) == TSC_OK && a.kept); /* the second key is passed over */
     CHECK(tsc_try_add(&c.place, c.number, "y", 1, long_key, 4097, TSC_ONWARD, &v, &AT_20, &a) == TSC_OK && a.kept);
     tsc_free(&c.place);
+}
+
+/* The name of each answer. */
+static void texts(void)
+{
+    static const char *const TEXTS[] = {
+        "done", "the number names nothing of this kind", "a time is out of range", "there are no such ends of a span", "a key is too long", "the range is inverted",
+        "the span is too large for a page", "a key does not lie among the bytes", "page_first is 64 to page_max, and page_max is at most 2^30", "min_pages is 1 to 64",
+        "retention is at most 2^63 - 1 nanoseconds", "out of memory", "seats are 1 to 64", "a seat is still out", "others were in the way", "there are as many Adds as there may be",
+        "the bytes are refused, and the text says why", "the text is longer than the buffer", "a pointer is null"};
+    static const uint32_t ANSWERS[] = {
+        TSC_OK, TSC_CLOSED, TSC_TIME, TSC_ENDS, TSC_KEY_TOO_LONG, TSC_INVERTED, TSC_TOO_LARGE, TSC_OUTSIDE, TSC_PAGE_SIZE, TSC_MIN_PAGES, TSC_RETENTION, TSC_NO_MEMORY,
+        TSC_SEATS, TSC_STILL_OUT, TSC_BUSY, TSC_FULL, TSC_REFUSED, TSC_SHORT, TSC_NULL};
+    for (size_t i = 0; i < sizeof TEXTS / sizeof *TEXTS; i++)
+        CHECK(strcmp(tsc_text(ANSWERS[i]), TEXTS[i]) == 0);
 }
 
 /* Each pointer that may be null, where it has to lead somewhere. */
@@ -792,6 +807,7 @@ int main(int argc, char **argv)
     limits();
     large_page();
     refusals();
+    texts();
     nulls();
     lookups();
     numbers();

@@ -55,8 +55,51 @@ func TestPagesRotate(t *testing.T) {
 	if f, err := c.Figures(); err != nil || f != (Figures{2, 1, 5, 165}) {
 		t.Errorf("got %v, %v", f, err)
 	}
+	for _, key := range "fgh" {
+		if a, err := c.Add(Point([]byte(string(key))), at(41, one), Time{40, 0}); err != nil || a != (Added{Kept: true}) {
+			t.Errorf("got %v, %v", a, err)
+		}
+	}
 	if low, err := c.LowWater(); err != nil || low != (Time{5, 0}) {
 		t.Errorf("got %v, %v", low, err)
+	}
+	if a, err := c.Add(Point([]byte("i")), at(41, one), Time{40, 0}); err != nil || a != (Added{Kept: true, Rotated: true, Evicted: 1}) {
+		t.Errorf("got %v, %v", a, err)
+	}
+}
+
+func TestLogicalCounts(t *testing.T) {
+	config := Config{PageFirst: 132, PageMax: 132, MinPages: 2, Retention: 10, LowWater: Time{5, 3}}
+	value := Value{Time{20, 3}, one}
+	c, err := Open(config)
+	if err != nil {
+		t.Fatal(err)
+	}
+	t.Cleanup(c.Close)
+	if a, err := c.Add(Point([]byte("a")), value, Time{20, 3}); err != nil || !a.Kept {
+		t.Errorf("got %v, %v", a, err)
+	}
+	wants(t, c, Point([]byte("a")), value)
+	if low, err := c.LowWater(); err != nil || low != (Time{5, 3}) {
+		t.Errorf("got %v, %v", low, err)
+	}
+	_, seats, err := OpenShared(config, 1, 2)
+	if err != nil {
+		t.Fatal(err)
+	}
+	for place := uint64(0); place < 2; place++ {
+		if got, a, err := seats[0].Add(Point([]byte("a")), value, Time{20, 3}, 1); err != nil || got != place || !a.Kept {
+			t.Errorf("got %v, %v, %v", got, a, err)
+		}
+	}
+	if _, _, err := seats[0].Add(Point([]byte("a")), value, Time{20, 3}, 1); err != Full {
+		t.Errorf("got %v", err)
+	}
+	if v, seen, err := seats[0].GetMax(Point([]byte("a"))); err != nil || v != value || seen != 2 {
+		t.Errorf("got %v, %v, %v", v, seen, err)
+	}
+	if low, seen, err := seats[0].LowWater(); err != nil || low != (Time{5, 3}) || seen != 2 {
+		t.Errorf("got %v, %v, %v", low, seen, err)
 	}
 }
 
@@ -90,6 +133,12 @@ func TestRefusals(t *testing.T) {
 		t.Errorf("got %v", err)
 	}
 	if _, err := Open(Config{PageFirst: 63, PageMax: 132, MinPages: 2}); err != PageSize {
+		t.Errorf("got %v", err)
+	}
+	if _, err := Open(Config{PageFirst: 64, PageMax: 132}); err != MinPages {
+		t.Errorf("got %v", err)
+	}
+	if _, err := Open(Config{PageFirst: 64, PageMax: 132, MinPages: 2, Retention: 1 << 63}); err != Retention {
 		t.Errorf("got %v", err)
 	}
 	c.Close()

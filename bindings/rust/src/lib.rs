@@ -598,6 +598,36 @@ mod tests {
     }
 
     #[test]
+    fn a_logical_count_goes_in_and_comes_out() {
+        let time = |wall| Time::new(wall, 3);
+        let config = Config { low_water: time(5), ..Config::default() };
+        let value = Value { time: time(20), owner: ONE };
+        let mut cache = Cache::open(&config).unwrap();
+        assert!(cache.add(&Span::Point(b"a"), value, time(20)).unwrap().kept);
+        assert_eq!((cache.get_max(&Span::Point(b"a")), cache.low_water()), (value, time(5)));
+        let (_shared, mut seats) = Shared::open(&config, 1, 2).unwrap();
+        for place in 0..2 {
+            assert_eq!(seats[0].add(&Span::Point(b"a"), value, time(20), 1).map(|told| told.0), Ok(place));
+        }
+        assert_eq!((seats[0].get_max(&Span::Point(b"a")), seats[0].low_water()), ((value, 2), (time(5), 2)));
+    }
+
+    #[test]
+    fn defaults_and_texts() {
+        let config = Config { page_first: 131_072, page_max: 33_554_432, min_pages: 2, retention: 10_000_000_000, low_water: Time::new(0, 0) };
+        assert_eq!(Config::default(), config);
+        let faults = [Error::Time, Error::KeyTooLong, Error::Inverted, Error::TooLarge, Error::PageSize, Error::MinPages];
+        let texts = ["a time is out of range", "a key is too long", "the range is inverted", "the span is too large for a page"];
+        assert_eq!(faults.map(|why| why.to_string())[..4], texts);
+        assert_eq!(faults[4].to_string(), "page_first is 64 to page_max, and page_max is at most 2^30");
+        assert_eq!(faults[5].to_string(), "min_pages is 1 to 64");
+        let faults = [Error::NoMemory, Error::Seats, Error::Busy, Error::Full, Error::Other(99)];
+        let texts = ["out of memory", "seats are 1 to 64", "others were in the way", "there are as many Adds as there may be", "code 99 of the library"];
+        assert_eq!(faults.map(|why| why.to_string()), texts);
+        assert_eq!(Error::Retention.to_string(), "retention is at most 2^63 - 1 nanoseconds");
+    }
+
+    #[test]
     fn goes_to_another_thread() {
         let mut cache = small();
         cache.add(&Span::Point(b"a"), at(20, ONE), Time::new(20, 0)).unwrap();

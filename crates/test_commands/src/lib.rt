@@ -14,6 +14,8 @@ mod mishaps;
 #[cfg(test)]
 mod program;
 #[cfg(test)]
+mod progress;
+#[cfg(test)]
 mod replay;
 #[cfg(test)]
 mod run;
