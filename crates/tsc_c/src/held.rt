@@ -194,7 +194,7 @@ pub fn words_of(added: Added) -> TscAdded
     }
 }
 
-/// The latest time on a span in the cache at a number.
+/// Writes the latest time on a span in the cache at a number.
 pub fn get_max(
     alloc: Global,
     place: &mut Place,
@@ -202,14 +202,16 @@ pub fn get_max(
     from: &[u8],
     to: &[u8],
     ends: u32,
-) -> Result<Value, Refusal>
+    out: &mut TscValue,
+) -> Result<(), Refusal>
     ensures unchanged { place.new.table ≡ place.old.table }
-    ensures value { IfOk result (λ v. Looks (cache_at (entries_of place.old.table) number) from.now to.now ends v) }
+    ensures value { IfOk result (λ _. Looks (cache_at (entries_of place.old.table) number) from.now to.now ends (value_of out.new)) }
+    ensures kept { OnErr result (out.new ≡ out.old) }
     ensures refused { IfErr result (λ why. RefusesLookup why (cache_at (entries_of place.old.table) number) ends) }
 {
     match replace(place, Place::empty()).into_box(alloc) {
         Some(table) => {
-            let found = table.get_max(number, from, to, ends);
+            let found = table.get_max(number, from, to, ends, out);
             *place = Place::of(table);
             found
         }

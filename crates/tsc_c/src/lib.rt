@@ -130,11 +130,8 @@ pub extern "C" fn tsc_get_max(
     ensures kept { result ≢ OK → out.new ≡ out.old }
     ensures refused { result ≢ OK → (why : Why) × (result ≡ code_of why) × RefusesLookup why (cache_at (entries_of place.old.table) number) ends }
 {
-    match held::get_max(alloc, place, number, from, to, ends) {
-        Ok(value) => {
-            *out = asked::words_of(value);
-            OK
-        }
+    match held::get_max(alloc, place, number, from, to, ends, out) {
+        Ok(()) => OK,
         Err(why) => why.code(),
     }
 }

@@ -2,14 +2,14 @@
 
 ghost use Rattle.std.specs.Prelude.{◌≡◌, ◌≢◌, ◌⊎◌, IfOk, IfErr, OnErr, None, [], option_map};
 ghost use Rattle.tsc_c_table.specs.Calls.{Opens, Looks, LooksIn, AddsTo, AddsIn, AddsAllTo, AddsAllIn, StandsAt, Counts, RefusesLookup, RefusesAdd, RefusesAddIn, RefusesAddAll, RefusesAddAllIn, IsClosed};
-ghost use Rattle.tsc_c_table.specs.Asked.{RefusesEnds};
+ghost use Rattle.tsc_c_table.specs.Asked.{value_of, RefusesEnds};
 ghost use Rattle.tsc_c_table.specs.Table.{cache_of, cache_at, Keeps, GivesNext};
 ghost use Rattle.tsc_c_table.specs.declared.refusal.Refusal.TheVariants.{NoMemory};
 
-use crate::asked::{added_span, looked_up_span, words_of_figures};
+use crate::asked::{added_span, looked_up_span, words_of, words_of_figures};
 use crate::marks::marks;
 use crate::refusal::Refusal;
-use crate::words::{TscFigures, TscMark};
+use crate::words::{TscFigures, TscMark, TscValue};
 use std::alloc::Global;
 use std::mem::replace;
 use tsc_c_hall::{Chair, Host};
@@ -143,13 +143,21 @@ impl Table {
         }
     }
 
-    /// The latest time on a span in the cache at a number.
-    pub fn get_max(&self, number: u64, from: &[u8], to: &[u8], ends: u32) -> Result<Value, Refusal>
-        ensures value { IfOk result (λ v. Looks (cache_at self.now.entries.items number) from.now to.now ends v) }
+    /// Writes the latest time on a span in the cache at a number.
+    pub fn get_max(
+        &self,
+        number: u64,
+        from: &[u8],
+        to: &[u8],
+        ends: u32,
+        out: &mut TscValue,
+    ) -> Result<(), Refusal>
+        ensures value { IfOk result (λ _. Looks (cache_at self.now.entries.items number) from.now to.now ends (value_of out.new)) }
+        ensures kept { OnErr result (out.new ≡ out.old) }
         ensures refused { IfErr result (λ why. RefusesLookup why (cache_at self.now.entries.items number) ends) }
     {
         match self.cache(number) {
-            Some(cache) => look_in(cache, from, to, ends),
+            Some(cache) => look_in(cache, from, to, ends, out),
             None => Err(Refusal::Closed),
         }
     }
@@ -233,13 +241,21 @@ impl Table {
     }
 }
 
-/// What a cache answers to the span of two keys.
-fn look_in(cache: &Cache, from: &[u8], to: &[u8], ends: u32) -> Result<Value, Refusal>
-    ensures value { IfOk result (λ v. LooksIn cache.now from.now to.now ends v) }
+/// Writes what a cache answers to the span of two keys.
+fn look_in(
+    cache: &Cache,
+    from: &[u8],
+    to: &[u8],
+    ends: u32,
+    out: &mut TscValue,
+) -> Result<(), Refusal>
+    ensures value { IfOk result (λ _. LooksIn cache.now from.now to.now ends (value_of out.new)) }
+    ensures kept { OnErr result (out.new ≡ out.old) }
     ensures refused { IfErr result (λ why. RefusesEnds why ends) }
 {
     let span = looked_up_span(from, to, ends)?;
-    Ok(cache.get_max_in(&span))
+    *out = words_of(cache.get_max_in(&span));
+    Ok(())
 }
 
 /// Adds the span of two keys to a cache.

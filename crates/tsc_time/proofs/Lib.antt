@@ -4,3 +4,4 @@ pub mod SharedOwner
 pub mod RatchetOrder
 pub mod JointLemmas
 pub mod ZeroBytes
+pub mod SameNumber

@@ -1,6 +1,7 @@
 ghost use Rattle.std.specs.Prelude.{◌≡◌, ◌≢◌, ◌↔◌, ◌<◌, ◌∷◌, [], length, All, IsTrue, Some, None};
+ghost use Rattle.std.specs.Str.{bytes_eq};
 ghost use Rattle.uuid.specs.Parts.{is_nil_bytes, zero_bytes};
-ghost use Rattle.tsc_time.specs.OwnedTime.{unowned, owner_of, IsMadeValue};
+ghost use Rattle.tsc_time.specs.OwnedTime.{unowned, owner_of, is_same_owner, IsMadeValue};
 ghost use Rattle.tsc_time.specs.Joint.{joint, ratcheted};
 
 use crate::Timestamp;
@@ -91,6 +92,26 @@ fn small_bytes(bytes: &[u8]) -> &[u8]
     bytes
 }
 
+/// Whether two UUIDs are the same. They are compared as numbers, for the same reason.
+fn same_uuid(a: Uuid, b: Uuid) -> bool
+    ensures { result ≡ bytes_eq a b }
+{
+    let _first = bytes_of(a);
+    let _second = bytes_of(b);
+    a.as_u128() == b.as_u128()
+}
+
+/// Whether two name the same owner, or neither names one.
+fn same_owner(a: Option<Uuid>, b: Option<Uuid>) -> bool
+    ensures { result ≡ is_same_owner a b }
+{
+    match (a, b) {
+        (Some(a), Some(b)) => same_uuid(a, b),
+        (None, None) => true,
+        _ => false,
+    }
+}
+
 /// What `new` makes of `old`, and whether that differs from `old`: `ratchetValue` of CockroachDB's
 /// `pkg/kv/kvserver/tscache/cache.go`.
 ///
@@ -104,7 +125,10 @@ pub fn ratchet(old: Value, new: Value) -> (Value, bool)
     if old.time < new.time {
         return (new, true);
     }
-    if new.time < old.time || new.owner == old.owner {
+    if new.time < old.time {
+        return (old, false);
+    }
+    if same_owner(old.owner, new.owner) {
         return (old, false);
     }
     (Value::unowned(old.time), old.owner.is_some())
