@@ -1,38 +1,50 @@
 //! Adds that are refused memory more than once, or for good, beside a plain cache. `scripts/refuse-each-growth` with the
 //! words `twice` or `for-good` refuses it to them.
-ghost use Rattle.std.specs.Prelude.{◌≡◌, []};
-
-use crate::crowd::Counting;
-use crate::party::{Guest, Home, Mark, Of, Scene, Told, config, mark_at, play, told_of, two};
+use crate::marks::Adding;
+use crate::party::{Ended, Guest, Home, Of, Told, Why, told_of};
+use crate::steps::Act::Refuse;
+use crate::steps::{PAGES, Row, config_of, play};
+use crate::watch::Watch;
 use std::alloc::Global;
-use std::process::Abort;
 use std::sync::Wait;
 use std::test::Fail;
 use tsc_cache::Cache;
-use tsc_shared::{Closed, Seat};
-use tsc_time::Value;
+use tsc_shared::Closed;
+use tsc_time::{NoMemory, Value};
 
-/// Keys, wall times and moments. The pages rotate at `e` and at `i`, where the oldest is dropped; the last Add is not
-/// kept.
-static ADDS: [(&str, u64, u64); 12] = [
-    ("a", 20, 20),
-    ("b", 20, 20),
-    ("a", 21, 20),
-    ("c", 20, 20),
-    ("d", 20, 20),
-    ("e", 20, 20),
-    ("f", 41, 40),
-    ("g", 41, 40),
-    ("h", 41, 40),
-    ("i", 41, 40),
-    ("i", 42, 40),
-    ("a", 21, 40),
-];
+/// A key with a wall time and a moment.
+pub type Key = (&'static str, u64, u64);
+
+/// The pages rotate at `e` and at `i`, where the oldest is dropped; the last Add is not kept.
+static ROW: Row = Row {
+    pages: PAGES,
+    seats: 2,
+    limit: 100,
+    opens_again: false,
+    steps: &[(
+        0,
+        Refuse(&[
+            ("a", 20, 20),
+            ("b", 20, 20),
+            ("a", 21, 20),
+            ("c", 20, 20),
+            ("d", 20, 20),
+            ("e", 20, 20),
+            ("f", 41, 40),
+            ("g", 41, 40),
+            ("h", 41, 40),
+            ("i", 41, 40),
+            ("i", 42, 40),
+            ("a", 21, 40),
+        ]),
+        Told::Not(Why::Done),
+    )],
+};
 
 /// An Add, what it is to be told, and a plain cache after it.
 #[derive(Drop)]
-struct Step {
-    mark: Mark,
+struct Next {
+    adding: Adding,
     told: Told,
     plain: Cache,
 }
@@ -42,43 +54,44 @@ struct Step {
 struct Course {
     /// A plain cache before all Adds.
     first: Cache,
-    steps: Vec<Step>,
+    adds: Vec<Next>,
 }
 
 /// The Add that has this place.
-fn make_step(
-    alloc: Global,
-    before: &Cache,
-    place: u64,
-    (key, wall, now): (&str, u64, u64),
-) -> Result<Step, Fail> {
-    let mark = mark_at(alloc, key, wall, now)?;
-    let (plain, added) = before.next(&mark.span, mark.value, mark.now)?;
+fn next_of(alloc: Global, before: &Cache, place: u64, key: Key) -> Result<Next, Fail> {
+    let (key, wall, now) = key;
+    let adding = Adding::one(alloc, key, wall, now).ok_or(NoMemory)?;
+    let Adding::One(mark, moment) = &adding else {
+        return Err("several marks".into());
+    };
+    let (plain, added) = before.next(&mark.span, mark.value, *moment)?;
     let what = (added.kept, added.rotated, added.evicted);
     let told = Told::Place(place, what, place.saturating_add(1));
-    Ok(Step { mark, told, plain })
+    Ok(Next {
+        adding,
+        told,
+        plain,
+    })
 }
 
 impl Course {
-    fn new(alloc: Global) -> Result<Course, Fail> {
+    fn new(alloc: Global, keys: &[Key]) -> Result<Course, Fail> {
         let mut course = Course {
-            first: Cache::new(alloc, config()?)?,
-            steps: Vec::with_capacity(alloc, ADDS.len())?,
+            first: Cache::new(alloc, config_of(PAGES)?)?,
+            adds: Vec::with_capacity(alloc, keys.len())?,
         };
-        for (place, add) in ADDS.iter().enumerate() {
-            let next = make_step(alloc, course.after(place), place as u64, *add)?;
-            course.steps.push(next)?;
+        for (place, key) in keys.iter().enumerate() {
+            let next = next_of(alloc, course.after(place), place as u64, *key)?;
+            course.adds.push(next)?;
         }
         Ok(course)
     }
 
     /// The plain cache after so many Adds.
     fn after(&self, adds: usize) -> &Cache {
-        let Some(last) = adds.checked_sub(1) else {
-            return &self.first;
-        };
-        match self.steps.get(last) {
-            Some(step) => &step.plain,
+        let last = adds.checked_sub(1);
+        match last.and_then(|last| self.adds.get(last)) {
+            Some(next) => &next.plain,
             None => &self.first,
         }
     }
@@ -86,9 +99,10 @@ impl Course {
     /// Whether a seat is told what the plain cache after so many Adds tells.
     fn is_told<C: Of>(&self, home: &Home<C>, guest: &mut Guest<C>, adds: usize) -> bool {
         let (plain, front) = (self.after(adds), adds as u64);
-        for step in self.steps.iter() {
-            let span = &step.mark.span;
-            if home.get(guest, span) != told_of(plain.get_max(span), front) {
+        for next in self.adds.iter() {
+            if let Adding::One(mark, _) = &next.adding
+                && home.get(guest, &mark.span) != told_of(plain.get_max(&mark.span), front)
+            {
                 return false;
             }
         }
@@ -98,110 +112,90 @@ impl Course {
     /// Whether a closed cache answers as the plain one after so many Adds.
     fn is_closed(&self, closed: &Closed, adds: usize) -> bool {
         let plain = self.after(adds);
-        for step in self.steps.iter() {
-            let span = &step.mark.span;
-            if closed.cache.get_max(span) != plain.get_max(span) {
+        for next in self.adds.iter() {
+            if let Adding::One(mark, _) = &next.adding
+                && closed.cache.get_max(&mark.span) != plain.get_max(&mark.span)
+            {
                 return false;
             }
         }
         closed.adds == adds as u64 && closed.cache.low_water() == plain.low_water()
     }
-}
 
-/// How often an Add is tried.
-const TRIES: u32 = 3;
-
-/// An Add that is tried again where it is refused memory, and whether it was made. After each refusal all is as before,
-/// and the gate was told nothing.
-fn add<C: Of, R: Wait>(
-    rt: &R,
-    home: &Home<C>,
-    guest: &mut Guest<C>,
-    course: &Course,
-    place: usize,
-    gate: &Counting,
-) -> Result<bool, Fail> {
-    let step = course.steps.get(place).ok_or("an Add")?;
-    let count = guest.count();
-    for _ in 0..TRIES {
-        if let Some(told) = home.add_gated(rt, guest, &step.mark, gate) {
-            return if told == step.told {
-                Ok(true)
-            } else {
-                Err("an Add was told something else".into())
-            };
-        }
-        let as_before = guest.count() == count && gate.told() == place as u64;
-        if !as_before || !course.is_told(home, guest, place) {
-            return Err("a refused Add changed what can be seen".into());
-        }
-    }
-    if step.mark.span.try_copy().is_ok() {
-        return Err("an Add was refused though there is memory".into());
-    }
-    Ok(false)
-}
-
-/// The two seats add in turn, until memory is refused for good. The answer is how many Adds were made.
-fn add_in_turn<C: Of, R: Wait>(
-    rt: &R,
-    home: &Home<C>,
-    first: &mut Guest<C>,
-    second: &mut Guest<C>,
-    course: &Course,
-) -> Result<usize, Fail> {
-    let gate = Counting::new();
-    let mut adds = 0;
-    for place in 0..course.steps.len() {
-        if !add(rt, home, first, course, place, &gate)? {
-            break;
-        }
-        adds = place + 1;
-        if gate.told() != adds as u64 {
-            return Err("the gate is told once of each Add".into());
-        }
-        if !course.is_told(home, first, adds) || !course.is_told(home, second, adds) {
-            return Err("a plain cache answers something else".into());
-        }
-        std::mem::swap(first, second);
-    }
-    Ok(adds)
-}
-
-/// Adds until memory is refused for good, and tells whether the closed cache answers as the plain one.
-fn follow<C: Of, R: Wait>(
-    rt: &R,
-    home: Home<C>,
-    room: Vec<Seat>,
-    guests: Vec<Guest<C>>,
-    course: &Course,
-) -> Result<bool, Fail>
-    requires { room.items ≡ [] }
-{
-    let (mut first, mut second) = two(guests).ok_or("two seats")?;
-    let adds = add_in_turn(rt, &home, &mut first, &mut second, course)?;
-    let closed = home.close_in(rt, room, first, second)?;
-    Ok(course.is_closed(&closed, adds))
-}
-
-/// Adds that may be refused.
-struct Refused;
-
-impl Scene for Refused {
-    fn play<C: Of, R: Wait + Abort>(
+    /// An Add that is tried three times where it is refused memory, and whether it was made. After each refusal all is as before, and
+    /// the gate was told nothing.
+    fn add<C: Of, R: Wait>(
         &self,
         rt: &R,
-        alloc: Global,
-        home: Home<C>,
-        guests: Vec<Guest<C>>,
-    ) -> Result<(), Fail> {
-        let course = Course::new(alloc)?;
-        let room = Vec::with_capacity(alloc, 2)?;
-        assert!(rt;
-            follow(rt, home, room, guests, &course)?,
-            "the closed cache"
-        );
-        Ok(())
+        home: &Home<C>,
+        guest: &mut Guest<C>,
+        place: usize,
+        gate: &Watch,
+    ) -> Result<bool, Fail> {
+        let next = self.adds.get(place).ok_or("an Add")?;
+        let count = guest.count();
+        for _ in 0..3_u32 {
+            let told = home.add_gated(rt, guest, &next.adding, gate);
+            if told == next.told {
+                return Ok(true);
+            }
+            if told != Told::Not(Why::NoMemory) {
+                return Err("an Add was told something else".into());
+            }
+            let as_before = guest.count() == count && gate.told() == place as u64;
+            if !as_before || !self.is_told(home, guest, place) {
+                return Err("a refused Add changed what can be seen".into());
+            }
+        }
+        if let Adding::One(mark, _) = &next.adding
+            && mark.span.try_copy().is_ok()
+        {
+            return Err("an Add was refused though there is memory".into());
+        }
+        Ok(false)
+    }
+
+    /// The two seats add in turn, until memory is refused for good. The answer is how many Adds were made.
+    fn add_all<C: Of, R: Wait>(
+        &self,
+        rt: &R,
+        home: &Home<C>,
+        guests: &mut Vec<Guest<C>>,
+    ) -> Result<usize, Fail> {
+        let gate = Watch::new(0);
+        for place in 0..self.adds.len() {
+            let guest = guests.get_mut(place % 2).ok_or("two seats")?;
+            if !self.add(rt, home, guest, place, &gate)? {
+                return Ok(place);
+            }
+            if gate.told() != place as u64 + 1 {
+                return Err("the gate is told once of each Add".into());
+            }
+            for guest in guests.iter_mut() {
+                if !self.is_told(home, guest, place + 1) {
+                    return Err("a plain cache answers something else".into());
+                }
+            }
+        }
+        Ok(self.adds.len())
+    }
+}
+
+/// Adds until memory is refused for good, and closes the cache, which then answers as the plain one.
+pub fn refuse<C: Of, R: Wait>(
+    rt: &R,
+    alloc: Global,
+    home: Home<C>,
+    mut guests: Vec<Guest<C>>,
+    keys: &[Key],
+) -> Result<Told, Fail> {
+    let course = Course::new(alloc, keys)?;
+    let room = Vec::with_capacity(alloc, guests.len())?;
+    let adds = course.add_all(rt, &home, &mut guests)?;
+    match home.close(rt, alloc, room, guests)? {
+        Ended::Closed(closed) if course.is_closed(&closed, adds) => Ok(Told::Not(Why::Done)),
+        Ended::Closed(_closed) => Err("the closed cache".into()),
+        Ended::Out(_home, _guests) => Err("a seat is missing".into()),
     }
 }
 
@@ -209,5 +203,5 @@ impl Scene for Refused {
 /// cache is closed all the same.
 #[test]
 fn refused_adds_leave_all_as_it_was(rt: HostRuntime) -> Result<(), Fail> {
-    play(&rt, rt.alloc(), 100, false, &Refused)
+    play(&rt, rt.alloc(), &ROW)
 }

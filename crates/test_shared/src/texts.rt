@@ -1,5 +1,6 @@
 //! The text of each fault, word for word.
-use crate::party::{at, config, point};
+use crate::marks::{at, span_of};
+use crate::steps::{PAGES, config_of};
 use std::alloc::Global;
 use std::fmt::Display;
 use std::sync::Wait;
@@ -26,12 +27,12 @@ fn reads<F: Display>(alloc: Global, fault: &F, text: &str) -> Result<bool, Fail>
 
 /// Why an Add is refused whose history may have none.
 fn full<R: Wait>(rt: &R, alloc: Global) -> Result<AddFault, Fail> {
-    let (cache, mut seats) = SharedCache::open(alloc, config()?, 1, 0)?;
+    let (cache, mut seats) = SharedCache::open(alloc, config_of(PAGES)?, 1, 0)?;
     let seat = seats.first_mut().ok_or("a seat")?;
     match cache.add(
         rt,
         seat,
-        &point(alloc, "a")?,
+        &span_of(alloc, "a", "")?,
         Value::unowned(at(20)),
         at(20),
     ) {
