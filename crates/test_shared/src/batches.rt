@@ -2,13 +2,14 @@
 use crate::marks::Adding;
 use crate::marks::Entry::{One, Several};
 use crate::party::By::{Gate, Plain};
-use crate::party::Owner::{First, None, Other};
+use crate::party::Owner::{First, Other};
 use crate::party::Told::{Full, Long, Not, Place, Value};
 use crate::party::{Guest, Home, Of, Owner, Told, Why};
 use crate::steps::Act::{self, Again, AtOnce, Close, Get, Low};
-use crate::steps::{KEPT, PAGES, Row, play};
-use crate::threads::{Meeting, Scene};
+use crate::steps::{KEPT, PAGES, Row, play, play_all};
+use crate::threads::{Meeting, Scene, check};
 use std::alloc::Global;
+use std::process::Abort;
 use std::sync::Wait;
 use std::test::Fail;
 
@@ -16,308 +17,288 @@ use std::test::Fail;
 pub const LARGE: &str =
     "kkkkkkkkkkkkkkkkkkkkkkkkkkkkkkkkkkkkkkkkkkkkkkkkkkkkkkkkkkkkkkkkkkkkkkkkkkkkkkkkkkkkkkkkkkkkkkkkkkkkk";
 
-/// Two marks of two owners at one time come to that time without an owner.
-static IN_ORDER: Row = Row {
-    pages: PAGES,
-    seats: 2,
-    limit: 10,
-    opens_again: true,
-    steps: &[
-        (
-            0,
-            Again(
-                Several(&[
-                    ("a", "", 20, First),
-                    ("b", "", 20, Other),
-                    ("a", "c", 20, Other),
-                ]),
-                20,
-                Gate,
+static ROWS: [Row; 9] = [
+    // Two marks of two owners at one time come to that time without an owner.
+    Row {
+        pages: PAGES,
+        seats: 2,
+        limit: 10,
+        opens_again: true,
+        steps: &[
+            (
+                0,
+                Again(
+                    Several(&[
+                        ("a", "", 20, First),
+                        ("b", "", 20, Other),
+                        ("a", "c", 20, Other),
+                    ]),
+                    20,
+                    Gate,
+                ),
+                Place(0, KEPT, 1),
             ),
-            Place(0, KEPT, 1),
-        ),
-        (1, Get("a", ""), Value((20, 0), None, 1)),
-        (1, Get("b", ""), Value((20, 0), Other, 1)),
-        (1, Get("c", ""), Value((5, 0), None, 1)),
-        (0, Close, Long(1)),
-        (0, Act::Gate, Long(1)),
-    ],
-};
-
-/// The same by the calls without a gate.
-static IN_ORDER_PLAIN: Row = Row {
-    pages: PAGES,
-    seats: 2,
-    limit: 10,
-    opens_again: true,
-    steps: &[
-        (
-            0,
-            Again(
-                Several(&[
-                    ("a", "", 20, First),
-                    ("b", "", 20, Other),
-                    ("a", "c", 20, Other),
-                ]),
-                20,
-                Plain,
+            (1, Get("a", ""), Value((20, 0), Owner::None, 1)),
+            (1, Get("b", ""), Value((20, 0), Other, 1)),
+            (1, Get("c", ""), Value((5, 0), Owner::None, 1)),
+            (0, Close, Long(1)),
+            (0, Act::Gate, Long(1)),
+        ],
+    },
+    // The same by the calls without a gate.
+    Row {
+        pages: PAGES,
+        seats: 2,
+        limit: 10,
+        opens_again: true,
+        steps: &[
+            (
+                0,
+                Again(
+                    Several(&[
+                        ("a", "", 20, First),
+                        ("b", "", 20, Other),
+                        ("a", "c", 20, Other),
+                    ]),
+                    20,
+                    Plain,
+                ),
+                Place(0, KEPT, 1),
             ),
-            Place(0, KEPT, 1),
-        ),
-        (1, Get("a", ""), Value((20, 0), None, 1)),
-        (1, Get("b", ""), Value((20, 0), Other, 1)),
-        (1, Get("c", ""), Value((5, 0), None, 1)),
-        (0, Close, Long(1)),
-        (0, Act::Gate, Long(0)),
-    ],
-};
-
-/// The other seat looks before a batch, and then at both of its keys.
-static SEEN_AS_A_WHOLE: Row = Row {
-    pages: PAGES,
-    seats: 2,
-    limit: 10,
-    opens_again: true,
-    steps: &[
-        (1, Get("a", "c"), Value((5, 0), None, 0)),
-        (
-            0,
-            Again(
-                Several(&[("a", "", 20, First), ("b", "", 20, First)]),
-                20,
-                Gate,
+            (1, Get("a", ""), Value((20, 0), Owner::None, 1)),
+            (1, Get("b", ""), Value((20, 0), Other, 1)),
+            (1, Get("c", ""), Value((5, 0), Owner::None, 1)),
+            (0, Close, Long(1)),
+            (0, Act::Gate, Long(0)),
+        ],
+    },
+    // The other seat looks before a batch, and then at both of its keys.
+    Row {
+        pages: PAGES,
+        seats: 2,
+        limit: 10,
+        opens_again: true,
+        steps: &[
+            (1, Get("a", "c"), Value((5, 0), Owner::None, 0)),
+            (
+                0,
+                Again(
+                    Several(&[("a", "", 20, First), ("b", "", 20, First)]),
+                    20,
+                    Gate,
+                ),
+                Place(0, KEPT, 1),
             ),
-            Place(0, KEPT, 1),
-        ),
-        (1, Get("a", ""), Value((20, 0), First, 1)),
-        (1, Get("b", ""), Value((20, 0), First, 1)),
-        (0, Close, Long(1)),
-        (0, Act::Gate, Long(1)),
-    ],
-};
-
-/// One that rotates, the empty one, and one of which no mark is kept.
-static KEPT_OR_NOT: Row = Row {
-    pages: PAGES,
-    seats: 2,
-    limit: 10,
-    opens_again: true,
-    steps: &[
-        (
-            0,
-            Again(
-                Several(&[
-                    ("a", "", 20, First),
-                    ("b", "", 20, First),
-                    ("c", "", 20, First),
-                    ("d", "", 20, First),
-                    ("e", "", 20, First),
-                ]),
-                20,
-                Gate,
+            (1, Get("a", ""), Value((20, 0), First, 1)),
+            (1, Get("b", ""), Value((20, 0), First, 1)),
+            (0, Close, Long(1)),
+            (0, Act::Gate, Long(1)),
+        ],
+    },
+    // One that rotates, the empty one, and one of which no mark is kept.
+    Row {
+        pages: PAGES,
+        seats: 2,
+        limit: 10,
+        opens_again: true,
+        steps: &[
+            (
+                0,
+                Again(
+                    Several(&[
+                        ("a", "", 20, First),
+                        ("b", "", 20, First),
+                        ("c", "", 20, First),
+                        ("d", "", 20, First),
+                        ("e", "", 20, First),
+                    ]),
+                    20,
+                    Gate,
+                ),
+                Place(0, (true, true, 0), 1),
             ),
-            Place(0, (true, true, 0), 1),
-        ),
-        (
-            0,
-            Again(Several(&[]), 20, Gate),
-            Place(1, (false, false, 0), 2),
-        ),
-        (
-            0,
-            Again(Several(&[("a", "", 5, First)]), 20, Gate),
-            Place(2, (false, false, 0), 3),
-        ),
-        (1, Get("e", ""), Value((20, 0), First, 3)),
-        (0, Again(One("f", 20), 20, Gate), Place(3, KEPT, 4)),
-        (
-            0,
-            Again(Several(&[]), 20, Gate),
-            Place(4, (false, false, 0), 5),
-        ),
-        (0, Again(One("g", 20), 20, Gate), Place(5, KEPT, 6)),
-        (1, Get("f", "h"), Value((20, 0), First, 6)),
-        (0, Close, Long(6)),
-        (0, Act::Gate, Long(6)),
-    ],
-};
-
-/// A mark of the empty span, alone and beside another.
-static EMPTY_SPAN: Row = Row {
-    pages: PAGES,
-    seats: 2,
-    limit: 10,
-    opens_again: true,
-    steps: &[
-        (
-            0,
-            Again(Several(&[("a", "a", 20, First)]), 20, Gate),
-            Place(0, (false, false, 0), 1),
-        ),
-        (
-            0,
-            Again(
-                Several(&[("a", "a", 20, First), ("b", "", 20, First)]),
-                20,
-                Gate,
+            (
+                0,
+                Again(Several(&[]), 20, Gate),
+                Place(1, (false, false, 0), 2),
             ),
-            Place(1, KEPT, 2),
-        ),
-        (1, Get("a", ""), Value((5, 0), None, 2)),
-        (1, Get("b", ""), Value((20, 0), First, 2)),
-        (0, Close, Long(2)),
-        (0, Act::Gate, Long(2)),
-    ],
-};
-
-/// One that drops the page that it filled.
-static DROPS_ITS_OWN: Row = Row {
-    pages: (66, 66, 1),
-    seats: 2,
-    limit: 10,
-    opens_again: true,
-    steps: &[
-        (
-            0,
-            Again(
-                Several(&[
-                    ("a", "", 20, First),
-                    ("b", "", 20, First),
-                    ("c", "", 40, First),
-                ]),
-                40,
-                Gate,
+            (
+                0,
+                Again(Several(&[("a", "", 5, First)]), 20, Gate),
+                Place(2, (false, false, 0), 3),
             ),
-            Place(0, (true, true, 1), 1),
-        ),
-        (1, Low, Value((20, 0), None, 1)),
-        (1, Get("a", ""), Value((20, 0), None, 1)),
-        (1, Get("c", ""), Value((40, 0), First, 1)),
-        (0, Close, Long(1)),
-        (0, Act::Gate, Long(1)),
-    ],
-};
-
-/// One mark that is too large refuses all, and changes nothing.
-static TOO_LARGE: Row = Row {
-    pages: PAGES,
-    seats: 2,
-    limit: 10,
-    opens_again: true,
-    steps: &[
-        (
-            0,
-            Again(
-                Several(&[("a", "", 20, First), (LARGE, "", 20, First)]),
-                20,
-                Gate,
+            (1, Get("e", ""), Value((20, 0), First, 3)),
+            (0, Again(One("f", 20), 20, Gate), Place(3, KEPT, 4)),
+            (
+                0,
+                Again(Several(&[]), 20, Gate),
+                Place(4, (false, false, 0), 5),
             ),
-            Not(Why::TooLarge),
-        ),
-        (1, Get("a", ""), Value((5, 0), None, 0)),
-        (
-            0,
-            Again(Several(&[(LARGE, "", 5, First)]), 20, Gate),
-            Not(Why::TooLarge),
-        ),
-        (0, Close, Long(0)),
-        (0, Act::Gate, Long(0)),
-    ],
-};
-
-/// A batch is one entry of the history, and one that is full refuses another, but for one that is too large.
-static FULL: Row = Row {
-    pages: PAGES,
-    seats: 2,
-    limit: 1,
-    opens_again: true,
-    steps: &[
-        (
-            0,
-            Again(
-                Several(&[
-                    ("a", "", 20, First),
-                    ("b", "", 20, First),
-                    ("c", "", 20, First),
-                ]),
-                20,
-                Gate,
+            (0, Again(One("g", 20), 20, Gate), Place(5, KEPT, 6)),
+            (1, Get("f", "h"), Value((20, 0), First, 6)),
+            (0, Close, Long(6)),
+            (0, Act::Gate, Long(6)),
+        ],
+    },
+    // A mark of the empty span, alone and beside another.
+    Row {
+        pages: PAGES,
+        seats: 2,
+        limit: 10,
+        opens_again: true,
+        steps: &[
+            (
+                0,
+                Again(Several(&[("a", "a", 20, First)]), 20, Gate),
+                Place(0, (false, false, 0), 1),
             ),
-            Place(0, KEPT, 1),
-        ),
-        (0, Again(One("d", 20), 20, Gate), Full(1)),
-        (0, Again(Several(&[]), 20, Gate), Full(1)),
-        (
-            0,
-            Again(Several(&[(LARGE, "", 20, First)]), 20, Gate),
-            Not(Why::TooLarge),
-        ),
-        (1, Get("d", ""), Value((5, 0), None, 1)),
-        (0, Close, Long(1)),
-        (0, Act::Gate, Long(1)),
-    ],
-};
-
-/// Each side has batches and Adds of one mark in turn, over a rotation.
-static IN_TURN: Row = Row {
-    pages: PAGES,
-    seats: 2,
-    limit: 10,
-    opens_again: true,
-    steps: &[
-        (0, Again(One("a", 20), 20, Gate), Place(0, KEPT, 1)),
-        (
-            0,
-            Again(
-                Several(&[("b", "", 30, First), ("c", "", 31, First)]),
-                20,
-                Gate,
+            (
+                0,
+                Again(
+                    Several(&[("a", "a", 20, First), ("b", "", 20, First)]),
+                    20,
+                    Gate,
+                ),
+                Place(1, KEPT, 2),
             ),
-            Place(1, KEPT, 2),
-        ),
-        (0, Again(One("d", 20), 20, Gate), Place(2, KEPT, 3)),
-        (
-            0,
-            Again(One("e", 20), 20, Gate),
-            Place(3, (true, true, 0), 4),
-        ),
-        (
-            0,
-            Again(
-                Several(&[("b", "", 32, First), ("f", "", 33, Other)]),
-                20,
-                Gate,
+            (1, Get("a", ""), Value((5, 0), Owner::None, 2)),
+            (1, Get("b", ""), Value((20, 0), First, 2)),
+            (0, Close, Long(2)),
+            (0, Act::Gate, Long(2)),
+        ],
+    },
+    // One that drops the page that it filled.
+    Row {
+        pages: (66, 66, 1),
+        seats: 2,
+        limit: 10,
+        opens_again: true,
+        steps: &[
+            (
+                0,
+                Again(
+                    Several(&[
+                        ("a", "", 20, First),
+                        ("b", "", 20, First),
+                        ("c", "", 40, First),
+                    ]),
+                    40,
+                    Gate,
+                ),
+                Place(0, (true, true, 1), 1),
             ),
-            Place(4, KEPT, 5),
-        ),
-        (1, Get("a", ""), Value((20, 0), First, 5)),
-        (1, Get("b", ""), Value((32, 0), First, 5)),
-        (1, Get("c", "e"), Value((31, 0), First, 5)),
-        (1, Get("e", ""), Value((20, 0), First, 5)),
-        (1, Get("f", ""), Value((33, 0), Other, 5)),
-        (0, Close, Long(5)),
-        (0, Act::Gate, Long(5)),
-    ],
-};
+            (1, Low, Value((20, 0), Owner::None, 1)),
+            (1, Get("a", ""), Value((20, 0), Owner::None, 1)),
+            (1, Get("c", ""), Value((40, 0), First, 1)),
+            (0, Close, Long(1)),
+            (0, Act::Gate, Long(1)),
+        ],
+    },
+    // One mark that is too large refuses all, and changes nothing.
+    Row {
+        pages: PAGES,
+        seats: 2,
+        limit: 10,
+        opens_again: true,
+        steps: &[
+            (
+                0,
+                Again(
+                    Several(&[("a", "", 20, First), (LARGE, "", 20, First)]),
+                    20,
+                    Gate,
+                ),
+                Not(Why::TooLarge),
+            ),
+            (1, Get("a", ""), Value((5, 0), Owner::None, 0)),
+            (
+                0,
+                Again(Several(&[(LARGE, "", 5, First)]), 20, Gate),
+                Not(Why::TooLarge),
+            ),
+            (0, Close, Long(0)),
+            (0, Act::Gate, Long(0)),
+        ],
+    },
+    // A batch is one entry of the history, and one that is full refuses another, but for one that is too large.
+    Row {
+        pages: PAGES,
+        seats: 2,
+        limit: 1,
+        opens_again: true,
+        steps: &[
+            (
+                0,
+                Again(
+                    Several(&[
+                        ("a", "", 20, First),
+                        ("b", "", 20, First),
+                        ("c", "", 20, First),
+                    ]),
+                    20,
+                    Gate,
+                ),
+                Place(0, KEPT, 1),
+            ),
+            (0, Again(One("d", 20), 20, Gate), Full(1)),
+            (0, Again(Several(&[]), 20, Gate), Full(1)),
+            (
+                0,
+                Again(Several(&[(LARGE, "", 20, First)]), 20, Gate),
+                Not(Why::TooLarge),
+            ),
+            (1, Get("d", ""), Value((5, 0), Owner::None, 1)),
+            (0, Close, Long(1)),
+            (0, Act::Gate, Long(1)),
+        ],
+    },
+    // Each side has batches and Adds of one mark in turn, over a rotation.
+    Row {
+        pages: PAGES,
+        seats: 2,
+        limit: 10,
+        opens_again: true,
+        steps: &[
+            (0, Again(One("a", 20), 20, Gate), Place(0, KEPT, 1)),
+            (
+                0,
+                Again(
+                    Several(&[("b", "", 30, First), ("c", "", 31, First)]),
+                    20,
+                    Gate,
+                ),
+                Place(1, KEPT, 2),
+            ),
+            (0, Again(One("d", 20), 20, Gate), Place(2, KEPT, 3)),
+            (
+                0,
+                Again(One("e", 20), 20, Gate),
+                Place(3, (true, true, 0), 4),
+            ),
+            (
+                0,
+                Again(
+                    Several(&[("b", "", 32, First), ("f", "", 33, Other)]),
+                    20,
+                    Gate,
+                ),
+                Place(4, KEPT, 5),
+            ),
+            (1, Get("a", ""), Value((20, 0), First, 5)),
+            (1, Get("b", ""), Value((32, 0), First, 5)),
+            (1, Get("c", "e"), Value((31, 0), First, 5)),
+            (1, Get("e", ""), Value((20, 0), First, 5)),
+            (1, Get("f", ""), Value((33, 0), Other, 5)),
+            (0, Close, Long(5)),
+            (0, Act::Gate, Long(5)),
+        ],
+    },
+];
 
 /// `scripts/refuse-each-growth tests test_shared batches::` refuses each growth of it in turn.
 #[test]
 fn a_batch_is_one_entry(rt: HostRuntime) -> Result<(), Fail> {
-    let rows = [
-        &IN_ORDER,
-        &IN_ORDER_PLAIN,
-        &SEEN_AS_A_WHOLE,
-        &KEPT_OR_NOT,
-        &EMPTY_SPAN,
-        &DROPS_ITS_OWN,
-        &TOO_LARGE,
-        &FULL,
-        &IN_TURN,
-    ];
-    for row in rows {
-        play(&rt, rt.alloc(), row)?;
-    }
-    Ok(())
+    play_all(&rt, rt.alloc(), &ROWS)
 }
 
 /// How often each of two seats adds to both keys, and each of two others looks.
@@ -334,30 +315,41 @@ fn is_whole(both: Told, a: Told, b: Told) -> bool {
 }
 
 impl<C: Of> Meeting<C> {
+    /// Adds both keys at a time, by two owners.
+    fn add_both<R: Wait + Abort>(
+        &self,
+        rt: &R,
+        alloc: Global,
+        home: &Home<C>,
+        guest: &mut Guest<C>,
+        wall: u64,
+    ) {
+        let rows = [("a", "", wall, First), ("b", "", wall, Other)];
+        let told = match Adding::several(alloc, &rows, 20) {
+            Some(adding) => self.add(rt, home, guest, &adding, Plain),
+            None => Not(Why::NoMemory),
+        };
+        check(rt, matches!(told, Place(_, _, _)), told);
+    }
+
     /// Two seats add `a` by the first owner and `b` by the second one, at one time, and two others look at both. The two come to no owner
     /// where both are there, so whoever sees an owner has seen a part of a batch.
-    pub fn both<R: Wait>(
+    pub fn both<R: Wait + Abort>(
         &self,
         rt: &R,
         alloc: Global,
         home: &Home<C>,
         guest: &mut Guest<C>,
         round: u32,
-    ) -> Result<bool, Told> {
+    ) -> bool {
         if guest.number() < 2 {
-            let wall = u64::from(round).saturating_add(6);
-            let rows = [("a", "", wall, First), ("b", "", wall, Other)];
-            let adding = Adding::several(alloc, &rows, 20).ok_or(Not(Why::NoMemory))?;
-            self.add(rt, home, guest, &adding, Plain)?;
-            return Ok(round + 1 < ROUNDS);
-        }
-        let both = home.get(guest, &self.all);
-        let (of_a, of_b) = (home.get(guest, &self.a), home.get(guest, &self.b));
-        if is_whole(both, of_a, of_b) {
-            Ok(round + 1 < ROUNDS)
+            self.add_both(rt, alloc, home, guest, u64::from(round).saturating_add(6));
         } else {
-            Err(both)
+            let both = home.get(guest, &self.all);
+            let (of_a, of_b) = (home.get(guest, &self.a), home.get(guest, &self.b));
+            check(rt, is_whole(both, of_a, of_b), both);
         }
+        round.saturating_add(1) < ROUNDS
     }
 }
 

@@ -1,8 +1,9 @@
 //! Eight seats on eight threads, which all add the same key.
-use crate::party::{By, Guest, Home, Of, Owner, Told, Why};
+use crate::party::{By, Guest, Home, Of, Owner, Told};
 use crate::steps::Act::{AtOnce, Close};
 use crate::steps::{PAGES, Row, play};
-use crate::threads::{Meeting, Scene};
+use crate::threads::{Meeting, Scene, check};
+use std::process::Abort;
 use std::sync::Wait;
 use std::sync::atomic::Ordering;
 use std::test::Fail;
@@ -11,35 +12,34 @@ use std::test::Fail;
 const EACH: u32 = 50;
 
 impl<C: Of> Meeting<C> {
-    /// Notes what an Add was told, and tells the least front that a lookup may have then.
-    fn note(&self, told: Told) -> Option<u64> {
-        match (told, self.scene) {
-            (Told::Place(place, _, front), _) => {
-                let before = self
-                    .places
-                    .get(place as usize)?
-                    .fetch_add(1, Ordering::SeqCst);
-                if before == 0 { Some(front) } else { None }
-            }
-            (Told::Full(front), Scene::Crowd(limit)) if front == limit => Some(front),
-            _ => None,
+    /// Whether a place is there, and was told to no other Add.
+    fn is_new(&self, place: u64) -> bool {
+        match self.places.get(place as usize) {
+            Some(told) => told.fetch_add(1, Ordering::SeqCst) == 0,
+            None => false,
         }
     }
 
     /// An Add, and a lookup that sees it.
-    pub fn crowd<R: Wait>(
+    pub fn crowd<R: Wait + Abort>(
         &self,
         rt: &R,
         home: &Home<C>,
         guest: &mut Guest<C>,
+        limit: u64,
         round: u32,
-    ) -> Result<bool, Told> {
-        let told = self.add(rt, home, guest, &self.adding, By::Gate)?;
-        let least = self.note(told).ok_or(told)?;
-        match home.get(guest, &self.a) {
-            Told::Value((20, 0), Owner::First, front) if least <= front => Ok(round + 1 < EACH),
-            seen => Err(seen),
-        }
+    ) -> bool {
+        let told = self.add(rt, home, guest, &self.adding, By::Gate);
+        let least = match told {
+            Told::Place(place, _, front) if self.is_new(place) => front,
+            Told::Full(front) if front == limit => front,
+            _ => u64::MAX,
+        };
+        check(rt, least <= limit, told);
+        let seen = home.get(guest, &self.a);
+        let is_seen = matches!(seen, Told::Value((20, 0), Owner::First, front) if least <= front);
+        check(rt, is_seen, seen);
+        round.saturating_add(1) < EACH
     }
 }
 

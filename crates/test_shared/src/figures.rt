@@ -67,25 +67,43 @@ static ROW: Row = Row {
     ],
 };
 
-/// Whether a cache that isn't shared counts the same, of a step that tells what is counted. It makes the Adds of the others.
-fn is_alike(alloc: Global, alone: &mut Cache, (_, act, told): &Step) -> Result<bool, Fail> {
-    if let Add(entry, now, _) = *act
-        && let Adding::One(mark, moment) = Adding::of(alloc, entry, now).ok_or(NoMemory)?
-    {
-        alone.add(&mark.span, mark.value, moment)?;
+/// Makes an Add to a cache that isn't shared. `None` where it is refused.
+fn add_alone(alone: &mut Cache, adding: &Adding) -> Option<()> {
+    match adding {
+        Adding::One(mark, now) => alone.add(&mark.span, mark.value, *now).ok()?,
+        Adding::Several(marks, now) => alone.add_all(marks.as_slice(), *now).ok()?,
+    };
+    Some(())
+}
+
+/// Whether a cache that isn't shared counts the same where a step tells what is counted. It makes the Adds too. `None` where it is refused
+/// memory.
+fn is_alike(alloc: Global, alone: &mut Cache, (_, act, told): &Step) -> Option<bool> {
+    match (act, told) {
+        (Add(entry, now, _), _) => {
+            add_alone(alone, &Adding::of(alloc, *entry, *now)?)?;
+            Some(true)
+        }
+        (_, Counted(_, front)) => Some(counted_of(alone.figures(), *front) == *told),
+        _ => Some(true),
     }
-    match *told {
-        Counted(_, front) => Ok(counted_of(alone.figures(), front) == *told),
-        _ => Ok(true),
+}
+
+/// The number of the first step that such a cache counts otherwise, if there is one. `None` where it is refused memory.
+fn first_unlike(alloc: Global, steps: &[Step]) -> Option<Option<usize>> {
+    let mut alone = Cache::new(alloc, config_of(PAGES).ok()?).ok()?;
+    for (number, step) in steps.iter().enumerate() {
+        if !is_alike(alloc, &mut alone, step)? {
+            return Some(Some(number));
+        }
     }
+    Some(None)
 }
 
 #[test]
 fn seats_are_told_what_is_counted(rt: HostRuntime) -> Result<(), Fail> {
     play(&rt, rt.alloc(), &ROW)?;
-    let mut alone = Cache::new(rt.alloc(), config_of(PAGES)?)?;
-    for (number, step) in ROW.steps.iter().enumerate() {
-        assert!(rt; is_alike(rt.alloc(), &mut alone, step)?, "step {number}");
-    }
+    let first = first_unlike(rt.alloc(), ROW.steps).ok_or(NoMemory)?;
+    assert_eq!(rt; first, None, "the number of the step");
     Ok(())
 }

@@ -1,11 +1,12 @@
 //! Fronts that go to other threads by channels.
 use crate::marks::Adding;
-use crate::party::{By, Guest, Home, Letter, Of, Told, Why};
+use crate::party::{By, Guest, Home, Letter, Of, Told};
 use crate::steps::Act::{AtOnce, Close};
 use crate::steps::{PAGES, Row, play};
-use crate::threads::{Meeting, Scene};
+use crate::threads::{Meeting, Scene, check};
 use crossbeam_channel::{Receiver, Sender};
 use std::alloc::Global;
+use std::process::Abort;
 use std::sync::Wait;
 use std::test::Fail;
 
@@ -54,7 +55,7 @@ fn has(least: u64, time: u64, long: Told, seen: Told) -> bool {
 
 impl<C: Of> Meeting<C> {
     /// An Add of the seat's own key, at a time, with its front.
-    fn post<R: Wait>(
+    fn post<R: Wait + Abort>(
         &self,
         rt: &R,
         alloc: Global,
@@ -64,45 +65,57 @@ impl<C: Of> Meeting<C> {
     ) -> Option<Post<C>> {
         let key = *KEYS.get(guest.number() as usize)?;
         let adding = Adding::one(alloc, key, time, time)?;
-        self.add(rt, home, guest, &adding, By::Gate).ok()?;
+        self.add(rt, home, guest, &adding, By::Gate);
         let letter = guest.letter.take()?;
         Some(Post { letter, key, time })
     }
 
-    /// Adds at a time, sends the front to the next seat, and takes the next one that comes.
-    fn exchange<R: Wait>(
+    /// Sends a front to the next seat, and takes the next one that comes.
+    fn exchange<R: Wait>(&self, rt: &R, number: usize, post: Post<C>) -> Option<Post<C>> {
+        self.channels
+            .get(number.saturating_add(1) % 8)?
+            .to
+            .send(rt, post)
+            .ok()?;
+        self.channels.get(number)?.from.recv(rt).ok()
+    }
+
+    /// Learns a front that came, and tells whether its Add is seen then.
+    fn has_come(&self, home: &Home<C>, guest: &mut Guest<C>, post: Post<C>) -> bool {
+        let Post { letter, key, time } = post;
+        let least = letter.len();
+        let long = home.learn(guest, letter);
+        let seen = home.get_between(guest, key, Some(key), (false, false));
+        has(least, time, long, seen)
+    }
+
+    /// Adds, sends the front on, and learns the one that comes. `None` where memory or a channel is refused.
+    fn send_one<R: Wait + Abort>(
         &self,
         rt: &R,
         alloc: Global,
         home: &Home<C>,
         guest: &mut Guest<C>,
         time: u64,
-    ) -> Option<Post<C>> {
-        let number = guest.number() as usize;
+    ) -> Option<bool> {
         let post = self.post(rt, alloc, home, guest, time)?;
-        self.channels.get((number + 1) % 8)?.to.send(rt, post).ok()?;
-        self.channels.get(number)?.from.recv(rt).ok()
+        let come = self.exchange(rt, guest.number() as usize, post)?;
+        Some(self.has_come(home, guest, come))
     }
 
-    /// Learns a front that came, and asks for its Add.
-    pub fn send_on<R: Wait>(
+    /// A round of a seat.
+    pub fn send_on<R: Wait + Abort>(
         &self,
         rt: &R,
         alloc: Global,
         home: &Home<C>,
         guest: &mut Guest<C>,
         round: u32,
-    ) -> Result<bool, Told> {
-        let post = self.exchange(rt, alloc, home, guest, u64::from(round).saturating_add(20));
-        let Post { letter, key, time } = post.ok_or(Told::Not(Why::Gone))?;
-        let least = letter.len();
-        let long = home.learn(guest, letter);
-        let seen = home.get_between(guest, key, Some(key), (false, false));
-        if has(least, time, long, seen) {
-            Ok(round + 1 < EACH)
-        } else {
-            Err(seen)
-        }
+    ) -> bool {
+        let time = u64::from(round).saturating_add(20);
+        let has_come = self.send_one(rt, alloc, home, guest, time);
+        check(rt, has_come == Some(true), Told::Long(time));
+        round.saturating_add(1) < EACH
     }
 }
 

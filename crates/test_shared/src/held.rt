@@ -6,8 +6,9 @@ use crate::party::Told::{Long, Place, Value};
 use crate::party::{By, Guest, Home, Of, Owner, Told, Why};
 use crate::steps::Act::{Add, AtOnce, Get, Learn, Send};
 use crate::steps::{KEPT, PAGES, ROTATED, Row, play};
-use crate::threads::{Meeting, Scene};
+use crate::threads::{Meeting, Scene, check};
 use crate::watch::TURNS;
+use std::process::Abort;
 use std::sync::Wait;
 use std::test::Fail;
 use std::thread;
@@ -141,55 +142,55 @@ static MANY: Row = Row {
 
 impl<C: Of> Meeting<C> {
     /// Looks as often as the plan says, and tries to add the same, after however many tries, which leaves the seat as it was.
-    fn look<R: Wait>(
-        &self,
-        rt: &R,
-        home: &Home<C>,
-        guest: &mut Guest<C>,
-        plan: &Plan,
-    ) -> Result<(), Told> {
+    fn look<R: Wait + Abort>(&self, rt: &R, home: &Home<C>, guest: &mut Guest<C>, plan: &Plan) {
         for _ in 0..plan.looks {
-            let told = (home.get(guest, &self.all), home.low(guest));
-            if told != (plan.meanwhile, plan.floor) {
-                return Err(told.0);
-            }
+            let (told, floor) = (home.get(guest, &self.all), home.low(guest));
+            check(rt, told == plan.meanwhile, told);
+            check(rt, floor == plan.floor, floor);
         }
         for tries in [0, 1, 100] {
-            let told = self.add(rt, home, guest, &self.adding, By::Tries(tries))?;
-            if told != Told::Not(Why::Busy) {
-                return Err(told);
-            }
+            let told = self.add(rt, home, guest, &self.adding, By::Tries(tries));
+            check(rt, told == Told::Not(Why::Busy), told);
         }
-        Ok(())
     }
 
-    /// The first seat adds, once more where it is refused memory, and the others look once the Add is held up.
-    pub fn hold<R: Wait>(
+    /// An Add, and whether it is to be made once more, since it was refused memory.
+    fn add_held<R: Wait + Abort>(
         &self,
         rt: &R,
         home: &Home<C>,
         guest: &mut Guest<C>,
         plan: &Plan,
         round: u32,
-    ) -> Result<bool, Told> {
+    ) -> bool {
+        let told = home.add_gated(rt, guest, &self.adding, &self.gate);
+        let is_refused = told == Told::Not(Why::NoMemory) && round == 0;
+        check(rt, is_refused || told == plan.told, told);
+        is_refused
+    }
+
+    /// The first seat adds, and the others look once its Add is held up.
+    pub fn hold<R: Wait + Abort>(
+        &self,
+        rt: &R,
+        home: &Home<C>,
+        guest: &mut Guest<C>,
+        plan: &Plan,
+        round: u32,
+    ) -> bool {
         if guest.number() == 0 {
-            let told = home.add_gated(rt, guest, &self.adding, &self.gate);
-            if told == plan.told {
-                return Ok(false);
-            }
-            let is_refused = told == Told::Not(Why::NoMemory) && round == 0;
-            return if is_refused { Ok(true) } else { Err(told) };
+            return self.add_held(rt, home, guest, plan, round);
         }
         if self.gate.told() > 0 {
-            self.look(rt, home, guest, plan)?;
+            self.look(rt, home, guest, plan);
             self.gate.look();
-            return Ok(false);
+            return false;
         }
         if round == TURNS {
             self.gate.give_up();
         }
         thread::yield_now();
-        Ok(round < TURNS)
+        round < TURNS
     }
 }
 

@@ -4,6 +4,7 @@ ghost use Rattle.std.specs.Prelude.{◌≡◌, [], All, IfOk};
 ghost use Rattle.tsc_shared.specs.Answers.{Opens};
 
 use crate::marks::{Adding, at, owner_of};
+use crate::texts::reads_alike;
 use crate::watch::Watch;
 use std::alloc::Global;
 use std::marker::{Brand, PhantomData};
@@ -82,6 +83,14 @@ pub enum Why {
     /// A seat was inside a lookup each time.
     Inside,
     Gone,
+    /// No thread could be had.
+    NoThread,
+    /// It was refused again.
+    Again,
+    /// A refusal changed what can be seen.
+    Changed,
+    /// A text is another one.
+    Text,
     /// A seat is missing, and the cache stays open.
     Open,
     /// It was done.
@@ -234,6 +243,27 @@ impl<C: Of> Home<C> {
             Adding::Several(marks, now) => {
                 told_by(self.cache.add_all(rt, seat, marks.as_slice(), *now))
             }
+        }
+    }
+
+    /// Whether an Add of a mark by itself is refused with this text, and one that does not wait would be too.
+    pub fn refuses<R: Wait>(
+        &self,
+        rt: &R,
+        alloc: Global,
+        guest: &mut Guest<C>,
+        adding: &Adding,
+        text: &str,
+    ) -> Told {
+        let Adding::One(mark, now) = adding else {
+            return Told::Not(Why::Gone);
+        };
+        match self
+            .cache
+            .add(rt, &mut guest.seat, &mark.span, mark.value, *now)
+        {
+            Ok(receipt) => place_of(&receipt),
+            Err(fault) => reads_alike(alloc, fault, text),
         }
     }
 

@@ -1,5 +1,7 @@
 //! Adds that are refused memory more than once, or for good, beside a plain cache. `scripts/refuse-each-growth` with the
 //! words `twice` or `for-good` refuses it to them.
+ghost use Rattle.std.specs.Prelude.{◌≡◌, []};
+
 use crate::marks::Adding;
 use crate::party::{Ended, Guest, Home, Of, Told, Why, told_of};
 use crate::steps::Act::Refuse;
@@ -9,8 +11,9 @@ use std::alloc::Global;
 use std::sync::Wait;
 use std::test::Fail;
 use tsc_cache::Cache;
-use tsc_shared::Closed;
-use tsc_time::{NoMemory, Value};
+use tsc_shared::{Closed, Seat};
+use tsc_span::Span;
+use tsc_time::Value;
 
 /// A key with a wall time and a moment.
 pub type Key = (&'static str, u64, u64);
@@ -57,40 +60,56 @@ struct Course {
     adds: Vec<Next>,
 }
 
-/// The Add that has this place.
-fn next_of(alloc: Global, before: &Cache, place: u64, key: Key) -> Result<Next, Fail> {
-    let (key, wall, now) = key;
-    let adding = Adding::one(alloc, key, wall, now).ok_or(NoMemory)?;
-    let Adding::One(mark, moment) = &adding else {
-        return Err("several marks".into());
+/// What the Add that has this place is to be told, and a plain cache after it. `None` where memory is refused.
+fn next_of(before: &Cache, adding: &Adding, place: u64) -> Option<(Cache, Told)> {
+    let Adding::One(mark, now) = adding else {
+        return None;
     };
-    let (plain, added) = before.next(&mark.span, mark.value, *moment)?;
+    let (plain, added) = before.next(&mark.span, mark.value, *now).ok()?;
     let what = (added.kept, added.rotated, added.evicted);
-    let told = Told::Place(place, what, place.saturating_add(1));
-    Ok(Next {
-        adding,
-        told,
-        plain,
-    })
+    Some((plain, Told::Place(place, what, place.saturating_add(1))))
+}
+
+/// The span that is added by itself.
+fn span_in(adding: &Adding) -> Option<&Span> {
+    match adding {
+        Adding::One(mark, _) => Some(&mark.span),
+        Adding::Several(_, _) => None,
+    }
 }
 
 impl Course {
-    fn new(alloc: Global, keys: &[Key]) -> Result<Course, Fail> {
-        let mut course = Course {
-            first: Cache::new(alloc, config_of(PAGES)?)?,
-            adds: Vec::with_capacity(alloc, keys.len())?,
-        };
+    /// One more Add. `None` where memory is refused.
+    fn push(&mut self, alloc: Global, place: usize, (key, wall, now): Key) -> Option<()> {
+        let adding = Adding::one(alloc, key, wall, now)?;
+        let (plain, told) = next_of(self.after(place), &adding, place as u64)?;
+        self.adds
+            .push(Next {
+                adding,
+                told,
+                plain,
+            })
+            .ok()
+    }
+
+    /// `None` where memory is refused.
+    fn new(alloc: Global, keys: &[Key]) -> Option<Course> {
+        let config = config_of(PAGES).ok()?;
+        let first = Cache::new(alloc, config).ok()?;
+        let adds = Vec::with_capacity(alloc, keys.len()).ok()?;
+        let mut course = Course { first, adds };
         for (place, key) in keys.iter().enumerate() {
-            let next = next_of(alloc, course.after(place), place as u64, *key)?;
-            course.adds.push(next)?;
+            course.push(alloc, place, *key)?;
         }
-        Ok(course)
+        Some(course)
     }
 
     /// The plain cache after so many Adds.
     fn after(&self, adds: usize) -> &Cache {
-        let last = adds.checked_sub(1);
-        match last.and_then(|last| self.adds.get(last)) {
+        let Some(last) = adds.checked_sub(1) else {
+            return &self.first;
+        };
+        match self.adds.get(last) {
             Some(next) => &next.plain,
             None => &self.first,
         }
@@ -99,85 +118,116 @@ impl Course {
     /// Whether a seat is told what the plain cache after so many Adds tells.
     fn is_told<C: Of>(&self, home: &Home<C>, guest: &mut Guest<C>, adds: usize) -> bool {
         let (plain, front) = (self.after(adds), adds as u64);
+        let mut is_told = home.low(guest) == told_of(Value::unowned(plain.low_water()), front);
         for next in self.adds.iter() {
-            if let Adding::One(mark, _) = &next.adding
-                && home.get(guest, &mark.span) != told_of(plain.get_max(&mark.span), front)
-            {
-                return false;
+            if let Some(span) = span_in(&next.adding) {
+                is_told &= home.get(guest, span) == told_of(plain.get_max(span), front);
             }
         }
-        home.low(guest) == told_of(Value::unowned(plain.low_water()), front)
+        is_told
     }
 
     /// Whether a closed cache answers as the plain one after so many Adds.
     fn is_closed(&self, closed: &Closed, adds: usize) -> bool {
         let plain = self.after(adds);
+        let mut is_closed = closed.adds == adds as u64
+            && closed.cache.low_water() == plain.low_water();
         for next in self.adds.iter() {
-            if let Adding::One(mark, _) = &next.adding
-                && closed.cache.get_max(&mark.span) != plain.get_max(&mark.span)
-            {
-                return false;
+            if let Some(span) = span_in(&next.adding) {
+                is_closed &= closed.cache.get_max(span) == plain.get_max(span);
             }
         }
-        closed.adds == adds as u64 && closed.cache.low_water() == plain.low_water()
+        is_closed
     }
 
-    /// An Add that is tried three times where it is refused memory, and whether it was made. After each refusal all is as before, and
-    /// the gate was told nothing.
+    /// What an Add is told that is tried three times where it is refused memory. After each refusal all is as before, and the gate was
+    /// told nothing.
     fn add<C: Of, R: Wait>(
         &self,
         rt: &R,
         home: &Home<C>,
         guest: &mut Guest<C>,
-        place: usize,
+        (place, adding): (usize, &Adding),
         gate: &Watch,
-    ) -> Result<bool, Fail> {
-        let next = self.adds.get(place).ok_or("an Add")?;
+    ) -> Told {
         let count = guest.count();
         for _ in 0..3_u32 {
-            let told = home.add_gated(rt, guest, &next.adding, gate);
-            if told == next.told {
-                return Ok(true);
-            }
+            let told = home.add_gated(rt, guest, adding, gate);
             if told != Told::Not(Why::NoMemory) {
-                return Err("an Add was told something else".into());
+                return told;
             }
             let as_before = guest.count() == count && gate.told() == place as u64;
             if !as_before || !self.is_told(home, guest, place) {
-                return Err("a refused Add changed what can be seen".into());
+                return Told::Not(Why::Changed);
             }
         }
-        if let Adding::One(mark, _) = &next.adding
-            && mark.span.try_copy().is_ok()
-        {
-            return Err("an Add was refused though there is memory".into());
+        match span_in(adding) {
+            // There is memory.
+            Some(span) if span.try_copy().is_ok() => Told::Not(Why::Again),
+            _ => Told::Not(Why::NoMemory),
         }
-        Ok(false)
     }
 
-    /// The two seats add in turn, until memory is refused for good. The answer is how many Adds were made.
+    /// Whether all seats are told what the plain cache after so many Adds tells.
+    fn all_are_told<C: Of>(&self, home: &Home<C>, guests: &mut [Guest<C>], adds: usize) -> bool {
+        let mut are_told = true;
+        for guest in guests.iter_mut() {
+            are_told &= self.is_told(home, guest, adds);
+        }
+        are_told
+    }
+
+    /// The two seats add in turn, until memory is refused for good. The answer is how many Adds were made, or what was told that may
+    /// not be.
     fn add_all<C: Of, R: Wait>(
         &self,
         rt: &R,
         home: &Home<C>,
-        guests: &mut Vec<Guest<C>>,
-    ) -> Result<usize, Fail> {
+        guests: &mut [Guest<C>],
+    ) -> Result<usize, Told> {
         let gate = Watch::new(0);
-        for place in 0..self.adds.len() {
-            let guest = guests.get_mut(place % 2).ok_or("two seats")?;
-            if !self.add(rt, home, guest, place, &gate)? {
+        for (place, next) in self.adds.iter().enumerate() {
+            let Some(guest) = guests.get_mut(place % 2) else {
+                return Err(Told::Not(Why::Gone));
+            };
+            let told = self.add(rt, home, guest, (place, &next.adding), &gate);
+            if told == Told::Not(Why::NoMemory) {
                 return Ok(place);
             }
-            if gate.told() != place as u64 + 1 {
-                return Err("the gate is told once of each Add".into());
-            }
-            for guest in guests.iter_mut() {
-                if !self.is_told(home, guest, place + 1) {
-                    return Err("a plain cache answers something else".into());
-                }
+            let adds = place.saturating_add(1);
+            let is_right = told == next.told && gate.told() == adds as u64;
+            if !is_right || !self.all_are_told(home, guests, adds) {
+                return Err(told);
             }
         }
         Ok(self.adds.len())
+    }
+
+    /// What is told of an end after so many Adds.
+    fn end<C: Of>(&self, ended: Option<Ended<C>>, adds: usize) -> Told {
+        match ended {
+            Some(Ended::Closed(closed)) if self.is_closed(&closed, adds) => Told::Not(Why::Done),
+            Some(Ended::Closed(_)) => Told::Not(Why::Changed),
+            Some(Ended::Out(_, _)) => Told::Not(Why::Open),
+            None => Told::Not(Why::Again),
+        }
+    }
+
+    /// Adds until memory is refused for good, and closes the cache, in this room.
+    fn play<C: Of, R: Wait>(
+        &self,
+        rt: &R,
+        alloc: Global,
+        home: Home<C>,
+        mut guests: Vec<Guest<C>>,
+        room: Vec<Seat>,
+    ) -> Told
+        requires { room.items ≡ [] }
+    {
+        match self.add_all(rt, &home, guests.as_mut_slice()) {
+            Ok(adds) => self.end(home.close(rt, alloc, room, guests).ok(), adds),
+            Err(told) => told,
+        }
     }
 }
 
@@ -186,16 +236,15 @@ pub fn refuse<C: Of, R: Wait>(
     rt: &R,
     alloc: Global,
     home: Home<C>,
-    mut guests: Vec<Guest<C>>,
+    guests: Vec<Guest<C>>,
     keys: &[Key],
-) -> Result<Told, Fail> {
-    let course = Course::new(alloc, keys)?;
-    let room = Vec::with_capacity(alloc, guests.len())?;
-    let adds = course.add_all(rt, &home, &mut guests)?;
-    match home.close(rt, alloc, room, guests)? {
-        Ended::Closed(closed) if course.is_closed(&closed, adds) => Ok(Told::Not(Why::Done)),
-        Ended::Closed(_closed) => Err("the closed cache".into()),
-        Ended::Out(_home, _guests) => Err("a seat is missing".into()),
+) -> Told {
+    let Some(course) = Course::new(alloc, keys) else {
+        return Told::Not(Why::NoMemory);
+    };
+    match Vec::with_capacity(alloc, guests.len()) {
+        Ok(room) => course.play(rt, alloc, home, guests, room),
+        Err(_refused) => Told::Not(Why::NoMemory),
     }
 }
 

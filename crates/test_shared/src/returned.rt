@@ -3,8 +3,9 @@ use crate::marks::Adding;
 use crate::party::{By, Guest, Home, Of, Told, Why};
 use crate::steps::Act::{AtOnce, Close};
 use crate::steps::{KEPT, PAGES, Row, play};
-use crate::threads::{Meeting, Scene};
+use crate::threads::{Meeting, Scene, check};
 use std::alloc::Global;
+use std::process::Abort;
 use std::sync::Wait;
 use std::sync::atomic::Ordering;
 use std::test::Fail;
@@ -23,45 +24,42 @@ fn has_all(adds: u64, seen: Told) -> bool {
 
 impl<C: Of> Meeting<C> {
     /// The Add of a round, and when it has returned the number of Adds.
-    fn add_next<R: Wait>(
+    fn add_next<R: Wait + Abort>(
         &self,
         rt: &R,
         alloc: Global,
         home: &Home<C>,
         guest: &mut Guest<C>,
         round: u64,
-    ) -> Result<bool, Told> {
+    ) -> bool {
         let time = round.saturating_add(20);
-        let adding = Adding::one(alloc, "a", time, time).ok_or(Told::Not(Why::NoMemory))?;
-        let told = self.add(rt, home, guest, &adding, By::Plain)?;
         let adds = round.saturating_add(1);
-        if told != Told::Place(round, KEPT, adds) {
-            return Err(told);
-        }
+        let told = match Adding::one(alloc, "a", time, time) {
+            Some(adding) => self.add(rt, home, guest, &adding, By::Plain),
+            None => Told::Not(Why::NoMemory),
+        };
+        check(rt, told == Told::Place(round, KEPT, adds), told);
         self.adds.store(adds, Ordering::SeqCst);
-        Ok(adds < ROUNDS)
+        adds < ROUNDS
     }
 
     /// The first seat adds, and the others look until all Adds have returned.
-    pub fn follow<R: Wait>(
+    pub fn follow<R: Wait + Abort>(
         &self,
         rt: &R,
         alloc: Global,
         home: &Home<C>,
         guest: &mut Guest<C>,
         round: u32,
-    ) -> Result<bool, Told> {
+    ) -> bool {
         if guest.number() == 0 {
             return self.add_next(rt, alloc, home, guest, u64::from(round));
         }
         let adds = self.adds.load(Ordering::SeqCst);
         let seen = home.get(guest, &self.a);
+        check(rt, has_all(adds, seen), seen);
         thread::yield_now();
-        if has_all(adds, seen) {
-            Ok(adds < ROUNDS)
-        } else {
-            Err(seen)
-        }
+        adds < ROUNDS
     }
 }
 

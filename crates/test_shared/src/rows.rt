@@ -4,64 +4,64 @@ use crate::party::By::Gate;
 use crate::party::Told::{Full, Long, Not, Place, Value};
 use crate::party::{Owner, Told, Why};
 use crate::steps::Act::{Add, Between, Close, Get, Learn, Leave, See, Send};
-use crate::steps::{KEPT, PAGES, Row, play};
+use crate::steps::{KEPT, PAGES, Row, play, play_all};
 use std::test::Fail;
 
-/// One seat adds, and the other learns its front.
-static LEARNT: Row = Row {
-    pages: PAGES,
-    seats: 2,
-    limit: 100,
-    opens_again: false,
-    steps: &[
-        (0, Add(One("a", 20), 20, Gate), Place(0, KEPT, 1)),
-        (0, Send, Long(1)),
-        (1, Learn, Long(1)),
-        (1, Get("a", ""), Value((20, 0), Owner::First, 1)),
-        (1, See, Long(1)),
-        (0, Close, Long(1)),
-    ],
-};
-
-/// The front of a refused Add shows the full history, and another seat learns it too.
-static FULL: Row = Row {
-    pages: PAGES,
-    seats: 2,
-    limit: 1,
-    opens_again: false,
-    steps: &[
-        (0, Add(One("a", 20), 20, Gate), Place(0, KEPT, 1)),
-        (0, Send, Long(1)),
-        (1, Learn, Long(1)),
-        (0, Add(One("b", 20), 20, Gate), Full(1)),
-        (0, Send, Long(1)),
-        (1, Learn, Long(1)),
-        (1, Get("b", ""), Value((5, 0), Owner::None, 1)),
-        (0, Close, Long(1)),
-    ],
-};
-
-/// A seat that learns an older front sees the newest history.
-static NEWEST: Row = Row {
-    pages: PAGES,
-    seats: 2,
-    limit: 100,
-    opens_again: false,
-    steps: &[
-        (0, Add(One("a", 20), 20, Gate), Place(0, KEPT, 1)),
-        (0, Send, Long(1)),
-        (0, Add(One("b", 20), 20, Gate), Place(1, KEPT, 2)),
-        (0, Send, Long(2)),
-        (0, Add(One("c", 20), 20, Gate), Place(2, KEPT, 3)),
-        (0, Send, Long(3)),
-        (1, See, Long(0)),
-        (1, Learn, Long(3)),
-        (1, Learn, Long(3)),
-        (1, See, Long(3)),
-        (1, Get("c", ""), Value((20, 0), Owner::First, 3)),
-        (0, Close, Long(3)),
-    ],
-};
+static FRONTS: [Row; 3] = [
+    // One seat adds, and the other learns its front.
+    Row {
+        pages: PAGES,
+        seats: 2,
+        limit: 100,
+        opens_again: false,
+        steps: &[
+            (0, Add(One("a", 20), 20, Gate), Place(0, KEPT, 1)),
+            (0, Send, Long(1)),
+            (1, Learn, Long(1)),
+            (1, Get("a", ""), Value((20, 0), Owner::First, 1)),
+            (1, See, Long(1)),
+            (0, Close, Long(1)),
+        ],
+    },
+    // The front of a refused Add shows the full history, and another seat learns it too.
+    Row {
+        pages: PAGES,
+        seats: 2,
+        limit: 1,
+        opens_again: false,
+        steps: &[
+            (0, Add(One("a", 20), 20, Gate), Place(0, KEPT, 1)),
+            (0, Send, Long(1)),
+            (1, Learn, Long(1)),
+            (0, Add(One("b", 20), 20, Gate), Full(1)),
+            (0, Send, Long(1)),
+            (1, Learn, Long(1)),
+            (1, Get("b", ""), Value((5, 0), Owner::None, 1)),
+            (0, Close, Long(1)),
+        ],
+    },
+    // A seat that learns an older front sees the newest history.
+    Row {
+        pages: PAGES,
+        seats: 2,
+        limit: 100,
+        opens_again: false,
+        steps: &[
+            (0, Add(One("a", 20), 20, Gate), Place(0, KEPT, 1)),
+            (0, Send, Long(1)),
+            (0, Add(One("b", 20), 20, Gate), Place(1, KEPT, 2)),
+            (0, Send, Long(2)),
+            (0, Add(One("c", 20), 20, Gate), Place(2, KEPT, 3)),
+            (0, Send, Long(3)),
+            (1, See, Long(0)),
+            (1, Learn, Long(3)),
+            (1, Learn, Long(3)),
+            (1, See, Long(3)),
+            (1, Get("c", ""), Value((20, 0), Owner::First, 3)),
+            (0, Close, Long(3)),
+        ],
+    },
+];
 
 /// What the other seat is told of the first one's key, and of nothing.
 const THERE: Told = Value((20, 0), Owner::First, 1);
@@ -95,10 +95,7 @@ static BETWEEN: Row = Row {
 
 #[test]
 fn a_seat_learns_what_another_was_told(rt: HostRuntime) -> Result<(), Fail> {
-    for row in [&LEARNT, &FULL, &NEWEST] {
-        play(&rt, rt.alloc(), row)?;
-    }
-    Ok(())
+    play_all(&rt, rt.alloc(), &FRONTS)
 }
 
 #[test]

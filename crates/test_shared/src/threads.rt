@@ -9,11 +9,9 @@ use std::alloc::Global;
 use std::process::Abort;
 use std::sync::Wait;
 use std::sync::atomic::{AtomicU64, Ordering};
-use std::test::Fail;
 use std::thread;
 use std::thread::Threads;
 use tsc_span::Span;
-use tsc_time::NoMemory;
 
 /// What seats on threads play.
 #[derive(Clone, Copy)]
@@ -62,7 +60,7 @@ fn zeros(alloc: Global, count: u64) -> Option<Vec<AtomicU64>> {
 
 impl<C: Of> Meeting<C> {
     /// `None` where memory is refused.
-    fn of(alloc: Global, scene: Scene, seats: u64) -> Option<Meeting<C>> {
+    fn of(alloc: Global, scene: &Scene, seats: u64) -> Option<Meeting<C>> {
         let (adding, lookers) = match scene {
             Scene::Held(plan) => (
                 Adding::of(alloc, plan.held, plan.now)?,
@@ -71,12 +69,12 @@ impl<C: Of> Meeting<C> {
             _ => (Adding::of(alloc, Entry::One("a", 20), 20)?, 0),
         };
         let (places, channels) = match scene {
-            Scene::Crowd(limit) => (limit, 0),
+            Scene::Crowd(limit) => (*limit, 0),
             Scene::Ring => (0, seats),
             _ => (0, 0),
         };
         Some(Meeting {
-            scene,
+            scene: *scene,
             adding,
             a: span_of(alloc, "a", "").ok()?,
             b: span_of(alloc, "b", "").ok()?,
@@ -88,18 +86,26 @@ impl<C: Of> Meeting<C> {
         })
     }
 
-    /// A turn of a seat, and whether there are more to come. `Err` where something is told that may not be.
-    fn turn<R: Wait>(
+    /// How many Adds the gate was told of, or that not all looked while the Add was held up, as where a seat has no thread of its own.
+    fn end(&self) -> Told {
+        if matches!(self.scene, Scene::Held(_)) && !self.gate.has_met() {
+            return Told::Not(Why::NoThread);
+        }
+        Told::Long(self.gate.told())
+    }
+
+    /// A turn of a seat, and whether there are more to come.
+    fn turn<R: Wait + Abort>(
         &self,
         rt: &R,
         alloc: Global,
         home: &Home<C>,
         guest: &mut Guest<C>,
         round: u32,
-    ) -> Result<bool, Told> {
+    ) -> bool {
         match &self.scene {
             Scene::Held(plan) => self.hold(rt, home, guest, plan, round),
-            Scene::Crowd(_) => self.crowd(rt, home, guest, round),
+            Scene::Crowd(limit) => self.crowd(rt, home, guest, *limit, round),
             Scene::Returned => self.follow(rt, alloc, home, guest, round),
             Scene::Ring => self.send_on(rt, alloc, home, guest, round),
             Scene::Both => self.both(rt, alloc, home, guest, round),
@@ -107,32 +113,16 @@ impl<C: Of> Meeting<C> {
         }
     }
 
-    /// All turns of a seat. `Err` where something is told that may not be, or there is no end.
-    fn play<R: Wait>(
-        &self,
-        rt: &R,
-        alloc: Global,
-        home: &Home<C>,
-        guest: &mut Guest<C>,
-    ) -> Result<(), Told> {
-        for round in 0..=TURNS {
-            if !self.turn(rt, alloc, home, guest, round)? {
-                return Ok(());
-            }
-        }
-        Err(Told::Not(Why::Open))
-    }
-
-    /// What an Add tells that is the last one that its seat has seen, and is kept on the page that there is but where the keys are many; or
-    /// that was refused and left the seat's count. `Err` where it tells something else.
-    pub fn add<R: Wait>(
+    /// What an Add tells: the last one that its seat has seen, and kept on the page that there is but where the keys are many; or one that was
+    /// refused, and left the seat's count.
+    pub fn add<R: Wait + Abort>(
         &self,
         rt: &R,
         home: &Home<C>,
         guest: &mut Guest<C>,
         adding: &Adding,
         by: By,
-    ) -> Result<Told, Told> {
+    ) -> Told {
         let (count, before) = (guest.count(), guest.seen());
         let told = home.add(rt, guest, adding, by, &self.gate);
         let (more, seen) = (guest.count().checked_sub(count), guest.seen());
@@ -146,11 +136,17 @@ impl<C: Of> Meeting<C> {
             Told::Not(Why::Inside) => more == Some(0) && seen >= before,
             _ => false,
         };
-        if is_right { Ok(told) } else { Err(told) }
+        check(rt, is_right, told);
+        told
     }
 }
 
-/// A thread that gave up would leave others waiting for it.
+/// Ends the run where something is told that may not be.
+pub fn check<R: Abort>(rt: &R, is_right: bool, told: Told) {
+    assert!(rt; is_right, "{told:?}");
+}
+
+/// All turns of a seat. A thread that gave up would leave others waiting for it.
 fn run<C: Of, R: Wait + Abort>(
     rt: &R,
     alloc: Global,
@@ -158,31 +154,30 @@ fn run<C: Of, R: Wait + Abort>(
     mut guest: Guest<C>,
     meeting: &Meeting<C>,
 ) -> Guest<C> {
-    let end = meeting.play(rt, alloc, home, &mut guest);
-    assert_eq!(rt; end, Ok(()), "seat {}", guest.number());
+    let mut has_more = true;
+    for round in 0..=TURNS {
+        has_more = meeting.turn(rt, alloc, home, &mut guest, round);
+        if !has_more {
+            break;
+        }
+    }
+    check(rt, !has_more, Told::Not(Why::Open));
     guest
 }
 
-/// Not all looked while an Add was held up, as where a seat has no thread of its own.
-#[derive(Debug, Drop)]
-struct NoThread;
-
-/// All seats at the same time, and how many Adds the gate was told of.
+/// All seats at the same time, and of how many Adds the gate was told. `None` where memory is refused.
 pub fn meet<C: Of + Send + Sync, R: Threads + Wait + Abort + Sync>(
     rt: &R,
     alloc: Global,
     home: &Home<C>,
     guests: Vec<Guest<C>>,
-    scene: Scene,
-) -> Result<(Vec<Guest<C>>, Told), Fail> {
-    let meeting = Meeting::of(alloc, scene, guests.len() as u64).ok_or(NoMemory)?;
+    scene: &Scene,
+) -> Option<(Vec<Guest<C>>, Told)> {
+    let meeting = Meeting::of(alloc, scene, guests.len() as u64)?;
     let guests = thread::map_vec(
         rt,
         guests,
         &|guest: Guest<C>| run(rt, alloc, home, guest, &meeting),
-    )?;
-    if matches!(scene, Scene::Held(_)) && !meeting.gate.has_met() {
-        Err(NoThread)?;
-    }
-    Ok((guests, Told::Long(meeting.gate.told())))
+    );
+    Some((guests.ok()?, meeting.end()))
 }

@@ -7,7 +7,8 @@ use crate::party::Told::{Full, Long, Not, Place, Value};
 use crate::party::{By, Guest, Home, Of, Owner, Told, Why};
 use crate::steps::Act::{Add, AtOnce, Close, CloseAny, Get};
 use crate::steps::{KEPT, PAGES, Row, play};
-use crate::threads::{Meeting, Scene};
+use crate::threads::{Meeting, Scene, check};
+use std::process::Abort;
 use std::sync::Wait;
 use std::test::Fail;
 
@@ -81,22 +82,20 @@ const ROUNDS: u32 = 10_000;
 
 impl<C: Of> Meeting<C> {
     /// The first seat adds, two try to, and others look, all at the same key.
-    pub fn try_beside<R: Wait>(
+    pub fn try_beside<R: Wait + Abort>(
         &self,
         rt: &R,
         home: &Home<C>,
         guest: &mut Guest<C>,
         round: u32,
-    ) -> Result<bool, Told> {
+    ) -> bool {
         let told = match guest.number() {
-            0 => self.add(rt, home, guest, &self.adding, By::Plain)?,
-            1 | 2 => self.add(rt, home, guest, &self.adding, Tries(round % 4))?,
+            0 => self.add(rt, home, guest, &self.adding, By::Plain),
+            1 | 2 => self.add(rt, home, guest, &self.adding, Tries(round % 4)),
             _ => home.get(guest, &self.a),
         };
-        match told {
-            Told::Full(_) => Err(told),
-            _ => Ok(round + 1 < ROUNDS),
-        }
+        check(rt, !matches!(told, Told::Full(_)), told);
+        round.saturating_add(1) < ROUNDS
     }
 }
 
