@@ -143,7 +143,7 @@ impl<G: Range> Worker<G> {
     }
 
     /// Writes the key of its transaction, and tells at which time: not before the wanted one, and clear of each read of that key that its seat has
-    /// seen then, of which are all that were answered under the latch (`Lease::write`).
+    /// seen then, among them all that were answered under the latch (`Lease::write`).
     fn write<R: Wait>(&mut self, rt: &R, alloc: Global, lease: &Lease<G>) -> Result<Timestamp>
         ensures clear { IfOk result (λ time. MayWriteAt self.old.plan.now self.new.me.seat.seen time) }
         ensures told { OnOk result (length self.new.told.items ≡ length self.old.told.items + 1) }
