@@ -201,6 +201,7 @@ static void refusals(void)
     CHECK(open_shared(&place, 2, 9, &n) == TSC_OK && tsc_move(&place, 2, &other, &at) == TSC_OK);
     tsc_free(&place);
     CHECK(add(&other, at, "a", 1, &seen) == TSC_OK && answers(&other, at, "a", 20, 1));
+    CHECK(add(&other, at, "", 1, &seen) == TSC_OK && answers(&other, at, "", 20, 2)); /* the empty key is the first one */
     tsc_free(&other);
 }
 

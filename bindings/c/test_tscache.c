@@ -211,6 +211,10 @@ static void rows_of_spans(void)
     CHECK(adds_at(&c, "(a,a)", 20, 'A', AT_20, false, false, 0) && answers(&c, "a", 5, 0, '-'));
     tsc_free(&c.place);
 
+    c = open_cache(132, 132, 2); /* the empty key is the first one */
+    CHECK(adds(&c, "[,a)", 20, 'A') && answers(&c, "[,a)", 20, 0, 'A') && answers(&c, "a", 5, 0, '-') && adds(&c, "", 30, 'B') && answers(&c, "", 30, 0, 'B'));
+    tsc_free(&c.place);
+
     c = open_cache(132, 132, 2); /* without an end */
     CHECK(adds(&c, "[m..", 20, 'A') && answers(&c, "\xff", 20, 0, 'A') && answers(&c, "m", 20, 0, 'A') && answers(&c, "l", 5, 0, '-') && answers(&c, "[z..", 20, 0, 'A'));
     CHECK(adds(&c, "(k..", 20, 'A') && answers(&c, "k", 5, 0, '-') && answers(&c, "l", 20, 0, 'A') && answers(&c, "(k..", 20, 0, 'A'));
