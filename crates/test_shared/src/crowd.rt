@@ -11,7 +11,7 @@ use std::test::Fail;
 /// How many Adds each seat makes.
 const EACH: u32 = 50;
 
-impl<C: Of> Meeting<C> {
+impl<C: Of> Meeting<'_, C> {
     /// Whether a place is there, and was told to no other Add.
     fn is_new(&self, place: u64) -> bool {
         match self.places.get(place as usize) {
@@ -36,7 +36,7 @@ impl<C: Of> Meeting<C> {
             _ => u64::MAX,
         };
         check(rt, least <= limit, told);
-        let seen = home.get(guest, &self.a);
+        let seen = home.get_key(guest, "a");
         let is_seen = matches!(seen, Told::Value((20, 0), Owner::First, front) if least <= front);
         check(rt, is_seen, seen);
         round.saturating_add(1) < EACH
