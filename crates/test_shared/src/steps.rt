@@ -218,10 +218,13 @@ impl<C: Of + Send + Sync> Stage<C> {
         seat: usize,
         (entry, now, by, again): (&Entry, u64, By, bool),
     ) -> Told {
-        match Adding::of(alloc, entry, now) {
-            Some(adding) if again => self.add_again(rt, seat, &adding, by),
-            Some(adding) => self.add(rt, seat, &adding, by),
-            None => Told::Not(Why::NoMemory),
+        let Some(adding) = Adding::of(alloc, entry, now) else {
+            return Told::Not(Why::NoMemory);
+        };
+        if again {
+            self.add_again(rt, seat, &adding, by)
+        } else {
+            self.add(rt, seat, &adding, by)
         }
     }
 
