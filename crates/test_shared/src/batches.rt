@@ -314,7 +314,7 @@ fn is_whole(both: Told, a: Told, b: Told) -> bool {
     at_a != at_b || of_a == of_b
 }
 
-impl<C: Of> Meeting<C> {
+impl<C: Of> Meeting<'_, C> {
     /// Adds both keys at a time, by two owners.
     fn add_both<R: Wait + Abort>(
         &self,
@@ -345,8 +345,8 @@ impl<C: Of> Meeting<C> {
         if guest.number() < 2 {
             self.add_both(rt, alloc, home, guest, u64::from(round).saturating_add(6));
         } else {
-            let both = home.get(guest, &self.all);
-            let (of_a, of_b) = (home.get(guest, &self.a), home.get(guest, &self.b));
+            let both = home.get_between(guest, "a", Some("c"), (false, true));
+            let (of_a, of_b) = (home.get_key(guest, "a"), home.get_key(guest, "b"));
             check(rt, is_whole(both, of_a, of_b), both);
         }
         round.saturating_add(1) < ROUNDS

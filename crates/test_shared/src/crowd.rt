@@ -11,7 +11,15 @@ use std::test::Fail;
 /// How many Adds each seat makes.
 const EACH: u32 = 50;
 
-impl<C: Of> Meeting<C> {
+/// Whether an Add whose front is so long is seen.
+fn is_seen(least: u64, seen: Told) -> bool {
+    match seen {
+        Told::Value((20, 0), Owner::First, front) => least <= front,
+        _ => false,
+    }
+}
+
+impl<C: Of> Meeting<'_, C> {
     /// Whether a place is there, and was told to no other Add.
     fn is_new(&self, place: u64) -> bool {
         match self.places.get(place as usize) {
@@ -30,15 +38,14 @@ impl<C: Of> Meeting<C> {
         round: u32,
     ) -> bool {
         let told = self.add(rt, home, guest, &self.adding, By::Gate);
-        let least = match told {
-            Told::Place(place, _, front) if self.is_new(place) => front,
-            Told::Full(front) if front == limit => front,
-            _ => u64::MAX,
+        let (is_right, least) = match told {
+            Told::Place(place, _, front) => (self.is_new(place), front),
+            Told::Full(front) => (front == limit, front),
+            _ => (false, 0),
         };
-        check(rt, least <= limit, told);
-        let seen = home.get(guest, &self.a);
-        let is_seen = matches!(seen, Told::Value((20, 0), Owner::First, front) if least <= front);
-        check(rt, is_seen, seen);
+        check(rt, is_right, told);
+        let seen = home.get_key(guest, "a");
+        check(rt, is_seen(least, seen), seen);
         round.saturating_add(1) < EACH
     }
 }

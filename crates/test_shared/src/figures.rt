@@ -2,14 +2,13 @@
 use crate::marks::Adding;
 use crate::marks::Entry::One;
 use crate::party::By::Gate;
-use crate::party::Told::{Counted, Long, Place};
-use crate::party::{Told, counted_of};
-use crate::steps::Act::{Add, Figures, See};
-use crate::steps::{KEPT, PAGES, ROTATED, Row, Step, config_of, play};
+use crate::party::Told::{Counted, Long, Not, Place};
+use crate::party::{Told, Why, counted_of};
+use crate::steps::Act::{self, Add, Figures, See};
+use crate::steps::{KEPT, PAGES, ROTATED, Row, Step, config_of, end, play};
 use std::alloc::Global;
 use std::test::Fail;
 use tsc_cache::Cache;
-use tsc_time::NoMemory;
 
 /// A page has four keys, each of which costs 33 bytes. What lies ten behind the moment is dropped, but for two pages. The second seat is
 /// told what there is only where it asks.
@@ -67,43 +66,52 @@ static ROW: Row = Row {
     ],
 };
 
-/// Makes an Add to a cache that isn't shared. `None` where it is refused.
-fn add_alone(alone: &mut Cache, adding: &Adding) -> Option<()> {
+/// Whether a cache that isn't shared takes an Add.
+fn takes(alone: &mut Cache, adding: &Adding) -> bool {
     match adding {
-        Adding::One(mark, now) => alone.add(&mark.span, mark.value, *now).ok()?,
-        Adding::Several(marks, now) => alone.add_all(marks.as_slice(), *now).ok()?,
+        Adding::One(mark, now) => alone.add(&mark.span, mark.value, *now).is_ok(),
+        Adding::Several(marks, now) => alone.add_all(marks.as_slice(), *now).is_ok(),
+    }
+}
+
+/// What is told of a step with such a cache: of an Add that it was made, and of figures what it counts, where that is what the step tells.
+fn take_alone(alloc: Global, alone: &mut Cache, act: &Act, told: Told) -> Told {
+    if let Add(entry, now, _) = act {
+        return match Adding::of(alloc, entry, *now) {
+            Some(adding) if takes(alone, &adding) => Not(Why::Done),
+            _ => Not(Why::NoMemory),
+        };
+    }
+    match told {
+        Counted(_, front) if counted_of(alone.figures(), front) != told => told,
+        _ => Not(Why::Done),
+    }
+}
+
+/// The first step that such a cache tells something else of.
+fn take_all_alone(alloc: Global, mut alone: Cache, steps: &[Step]) -> Told {
+    for (_, act, told) in steps {
+        let told = take_alone(alloc, &mut alone, act, *told);
+        if told != Not(Why::Done) {
+            return told;
+        }
+    }
+    Not(Why::Done)
+}
+
+/// The same with a new cache.
+fn play_alone(alloc: Global, row: &Row) -> Told {
+    let Ok(config) = config_of(row.pages) else {
+        return Not(Why::Gone);
     };
-    Some(())
-}
-
-/// Whether a cache that isn't shared counts the same where a step tells what is counted. It makes the Adds too. `None` where it is refused
-/// memory.
-fn is_alike(alloc: Global, alone: &mut Cache, (_, act, told): &Step) -> Option<bool> {
-    match (act, told) {
-        (Add(entry, now, _), _) => {
-            add_alone(alone, &Adding::of(alloc, *entry, *now)?)?;
-            Some(true)
-        }
-        (_, Counted(_, front)) => Some(counted_of(alone.figures(), *front) == *told),
-        _ => Some(true),
+    match Cache::new(alloc, config) {
+        Ok(alone) => take_all_alone(alloc, alone, row.steps),
+        Err(_refused) => Not(Why::NoMemory),
     }
-}
-
-/// The number of the first step that such a cache counts otherwise, if there is one. `None` where it is refused memory.
-fn first_unlike(alloc: Global, steps: &[Step]) -> Option<Option<usize>> {
-    let mut alone = Cache::new(alloc, config_of(PAGES).ok()?).ok()?;
-    for (number, step) in steps.iter().enumerate() {
-        if !is_alike(alloc, &mut alone, step)? {
-            return Some(Some(number));
-        }
-    }
-    Some(None)
 }
 
 #[test]
 fn seats_are_told_what_is_counted(rt: HostRuntime) -> Result<(), Fail> {
     play(&rt, rt.alloc(), &ROW)?;
-    let first = first_unlike(rt.alloc(), ROW.steps).ok_or(NoMemory)?;
-    assert_eq!(rt; first, None, "the number of the step");
-    Ok(())
+    end(&rt, play_alone(rt.alloc(), &ROW))
 }

@@ -53,7 +53,7 @@ fn has(least: u64, time: u64, long: Told, seen: Told) -> bool {
     }
 }
 
-impl<C: Of> Meeting<C> {
+impl<C: Of> Meeting<'_, C> {
     /// An Add of the seat's own key, at a time, with its front.
     fn post<R: Wait + Abort>(
         &self,
@@ -85,7 +85,7 @@ impl<C: Of> Meeting<C> {
         let Post { letter, key, time } = post;
         let least = letter.len();
         let long = home.learn(guest, letter);
-        let seen = home.get_between(guest, key, Some(key), (false, false));
+        let seen = home.get_key(guest, key);
         has(least, time, long, seen)
     }
 

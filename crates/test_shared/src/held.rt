@@ -14,7 +14,6 @@ use std::test::Fail;
 use std::thread;
 
 /// The first seat makes an Add that is held up until each other seat has asked for `a` and `b` so often.
-#[derive(Clone, Copy)]
 pub struct Plan {
     pub held: Entry,
     pub now: u64,
@@ -140,11 +139,14 @@ static MANY: Row = Row {
     ],
 };
 
-impl<C: Of> Meeting<C> {
+impl<C: Of> Meeting<'_, C> {
     /// Looks as often as the plan says, and tries to add the same, after however many tries, which leaves the seat as it was.
     fn look<R: Wait + Abort>(&self, rt: &R, home: &Home<C>, guest: &mut Guest<C>, plan: &Plan) {
         for _ in 0..plan.looks {
-            let (told, floor) = (home.get(guest, &self.all), home.low(guest));
+            let (told, floor) = (
+                home.get_between(guest, "a", Some("c"), (false, true)),
+                home.low(guest),
+            );
             check(rt, told == plan.meanwhile, told);
             check(rt, floor == plan.floor, floor);
         }

@@ -10,7 +10,6 @@ use uuid::Uuid;
 pub type MarkRow = (&'static str, &'static str, u64, Owner);
 
 /// What is added as one entry.
-#[derive(Clone, Copy)]
 pub enum Entry {
     /// A key by itself at a wall time, by the first owner.
     One(&'static str, u64),
@@ -99,9 +98,9 @@ impl Adding {
     }
 
     /// `None` where memory is refused.
-    pub fn of(alloc: Global, entry: Entry, now: u64) -> Option<Adding> {
+    pub fn of(alloc: Global, entry: &Entry, now: u64) -> Option<Adding> {
         match entry {
-            Entry::One(key, wall) => Adding::one(alloc, key, wall, now),
+            Entry::One(key, wall) => Adding::one(alloc, key, *wall, now),
             Entry::Several(rows) => Adding::several(alloc, rows, now),
         }
     }

@@ -309,6 +309,11 @@ impl<C: Of> Home<C> {
         }
     }
 
+    /// The same of one key.
+    pub fn get_key(&self, guest: &mut Guest<C>, key: &str) -> Told {
+        self.get_between(guest, key, Some(key), (false, false))
+    }
+
     /// The floor, which has no owner.
     pub fn low(&self, guest: &mut Guest<C>) -> Told {
         match self.cache.low_water(&mut guest.seat) {
@@ -343,6 +348,14 @@ impl<C: Of> Home<C> {
     }
 }
 
+/// What a seat saw that did not look yet.
+const NOTHING: (u64, Told, Told, Told) = (
+    0,
+    Told::Not(Why::Gone),
+    Told::Not(Why::Gone),
+    Told::Not(Why::Gone),
+);
+
 /// How a cache ends: closed, or with a seat missing, and then as it was.
 #[derive(Drop)]
 pub enum Ended<C: Of> {
@@ -358,12 +371,7 @@ fn guests_of<C: Of>(alloc: Global, seats: Vec<Seat>) -> Result<Vec<Guest<C>>, No
         guests.push(Guest {
             seat,
             letter: None,
-            saw: (
-                0,
-                Told::Not(Why::Gone),
-                Told::Not(Why::Gone),
-                Told::Not(Why::Gone),
-            ),
+            saw: NOTHING,
         })?;
     }
     Ok(guests)

@@ -206,9 +206,14 @@ impl Course {
     /// What is told of an end after so many Adds.
     fn end<C: Of>(&self, ended: Option<Ended<C>>, adds: usize) -> Told {
         match ended {
-            Some(Ended::Closed(closed)) if self.is_closed(&closed, adds) => Told::Not(Why::Done),
-            Some(Ended::Closed(_)) => Told::Not(Why::Changed),
-            Some(Ended::Out(_, _)) => Told::Not(Why::Open),
+            Some(Ended::Closed(closed)) => {
+                if self.is_closed(&closed, adds) {
+                    Told::Not(Why::Done)
+                } else {
+                    Told::Not(Why::Changed)
+                }
+            }
+            Some(Ended::Out(_home, _guests)) => Told::Not(Why::Open),
             None => Told::Not(Why::Again),
         }
     }

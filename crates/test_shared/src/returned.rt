@@ -22,7 +22,7 @@ fn has_all(adds: u64, seen: Told) -> bool {
     }
 }
 
-impl<C: Of> Meeting<C> {
+impl<C: Of> Meeting<'_, C> {
     /// The Add of a round, and when it has returned the number of Adds.
     fn add_next<R: Wait + Abort>(
         &self,
@@ -56,7 +56,7 @@ impl<C: Of> Meeting<C> {
             return self.add_next(rt, alloc, home, guest, u64::from(round));
         }
         let adds = self.adds.load(Ordering::SeqCst);
-        let seen = home.get(guest, &self.a);
+        let seen = home.get_key(guest, "a");
         check(rt, has_all(adds, seen), seen);
         thread::yield_now();
         adds < ROUNDS

@@ -18,7 +18,6 @@ use tsc_shared::{Closed, Seat, SharedCache};
 use tsc_time::NoMemory;
 
 /// What a seat does.
-#[derive(Clone, Copy)]
 pub enum Act {
     /// Adds an entry, at a moment.
     Add(Entry, u64, By),
@@ -153,6 +152,21 @@ fn learn<C: Of>(home: &Home<C>, guest: &mut Guest<C>, letters: &mut VecDeque<Let
     }
 }
 
+/// Whether an Add of an entry is refused with this text.
+fn add_refused<C: Of, R: Wait>(
+    rt: &R,
+    alloc: Global,
+    home: &Home<C>,
+    guest: &mut Guest<C>,
+    entry: &Entry,
+    text: &str,
+) -> Told {
+    match Adding::of(alloc, entry, 20) {
+        Some(adding) => home.refuses(rt, alloc, guest, &adding, text),
+        None => Told::Not(Why::NoMemory),
+    }
+}
+
 /// A cache and its seats.
 #[derive(Drop)]
 struct Stage<C: Of> {
@@ -202,41 +216,27 @@ impl<C: Of + Send + Sync> Stage<C> {
         rt: &R,
         alloc: Global,
         seat: usize,
-        (entry, now, by, again): (Entry, u64, By, bool),
+        (entry, now, by, again): (&Entry, u64, By, bool),
     ) -> Told {
-        match Adding::of(alloc, entry, now) {
-            Some(adding) if again => self.add_again(rt, seat, &adding, by),
-            Some(adding) => self.add(rt, seat, &adding, by),
-            None => Told::Not(Why::NoMemory),
-        }
-    }
-
-    /// Whether an Add of an entry is refused with this text.
-    fn add_refused<R: Wait>(
-        &mut self,
-        rt: &R,
-        alloc: Global,
-        seat: usize,
-        entry: Entry,
-        text: &str,
-    ) -> Told {
-        let (Some(home), Some(guest)) = (&self.home, self.guests.get_mut(seat)) else {
-            return Told::Not(Why::Gone);
+        let Some(adding) = Adding::of(alloc, entry, now) else {
+            return Told::Not(Why::NoMemory);
         };
-        match Adding::of(alloc, entry, 20) {
-            Some(adding) => home.refuses(rt, alloc, guest, &adding, text),
-            None => Told::Not(Why::NoMemory),
+        if again {
+            self.add_again(rt, seat, &adding, by)
+        } else {
+            self.add(rt, seat, &adding, by)
         }
     }
 
     /// What a seat is told.
-    fn take_one(&mut self, alloc: Global, seat: usize, act: &Act) -> Told {
+    fn take_one<R: Wait>(&mut self, rt: &R, alloc: Global, seat: usize, act: &Act) -> Told {
         let (Some(home), Some(guest)) = (&self.home, self.guests.get_mut(seat)) else {
             return Told::Not(Why::Gone);
         };
         match act {
             Act::Send => send(guest, &mut self.letters),
             Act::Learn => learn(home, guest, &mut self.letters),
+            Act::Refused(entry, text) => add_refused(rt, alloc, home, guest, entry, text),
             _ => ask(alloc, home, guest, act),
         }
     }
@@ -309,20 +309,19 @@ impl<C: Of + Send + Sync> Stage<C> {
     ) -> Told {
         match act {
             Act::Add(entry, now, by) => {
-                self.add_entry(rt, alloc, seat, (*entry, *now, *by, false))
+                self.add_entry(rt, alloc, seat, (entry, *now, *by, false))
             }
             Act::Again(entry, now, by) => {
-                self.add_entry(rt, alloc, seat, (*entry, *now, *by, true))
+                self.add_entry(rt, alloc, seat, (entry, *now, *by, true))
             }
             Act::Gate => Told::Long(self.gate.told()),
             Act::Copy(start, end) => copy_again(alloc, start, end),
-            Act::Refused(entry, text) => self.add_refused(rt, alloc, seat, *entry, text),
             Act::Leave => self.leave(),
             Act::AtOnce(scene) => self.meet(rt, alloc, scene),
             Act::Refuse(adds) => self.refuse(rt, alloc, adds),
             Act::Close => self.close(rt, alloc),
             Act::CloseAny => any(self.close(rt, alloc)),
-            _ => self.take_one(alloc, seat, act),
+            _ => self.take_one(rt, alloc, seat, act),
         }
     }
 
@@ -395,6 +394,15 @@ fn enter<C: Of + Send + Sync, R: Threads + Wait + Abort + Sync>(
         gate: Watch::new(0),
     };
     stage.take_all(rt, alloc, steps)
+}
+
+/// How a test ends, which is told that it was done.
+pub fn end<R: Abort>(rt: &R, told: Told) -> Result<(), Fail> {
+    if told == Told::Not(Why::NoMemory) {
+        return Err(NoMemory.into());
+    }
+    assert_eq!(rt; told, Told::Not(Why::Done));
+    Ok(())
 }
 
 /// Opens a cache, and takes the steps of a row.

@@ -4,12 +4,11 @@ use crate::marks::Entry::One;
 use crate::party::Told::Not;
 use crate::party::{Told, Why};
 use crate::steps::Act::Refused;
-use crate::steps::{PAGES, Row, play};
+use crate::steps::{PAGES, Row, end, play};
 use std::alloc::Global;
 use std::fmt::Display;
 use std::test::Fail;
 use tsc_shared::{AddFault, Gone, OpenFault, TryAddFault};
-use tsc_time::NoMemory;
 
 /// A fault that needs no cache.
 #[derive(Clone, Copy)]
@@ -95,12 +94,7 @@ fn first_wrong(alloc: Global, texts: &[(Fault, &str)]) -> Told {
 
 #[test]
 fn texts_of_faults(rt: HostRuntime) -> Result<(), Fail> {
-    let told = first_wrong(rt.alloc(), &TEXTS);
-    if told == Not(Why::NoMemory) {
-        return Err(NoMemory.into());
-    }
-    assert_eq!(rt; told, Not(Why::Done));
-    Ok(())
+    end(&rt, first_wrong(rt.alloc(), &TEXTS))
 }
 
 #[test]

@@ -1,9 +1,8 @@
 //! Seats on threads of their own, each of which takes turns until its part is done.
 use crate::fronts::Channel;
 use crate::held::Plan;
-use crate::marks::{Adding, Entry, span_of};
+use crate::marks::Adding;
 use crate::party::{By, Guest, Home, Of, Told, Why};
-use crate::steps::KEPT;
 use crate::watch::{TURNS, Watch};
 use std::alloc::Global;
 use std::process::Abort;
@@ -11,10 +10,8 @@ use std::sync::Wait;
 use std::sync::atomic::{AtomicU64, Ordering};
 use std::thread;
 use std::thread::Threads;
-use tsc_span::Span;
 
 /// What seats on threads play.
-#[derive(Clone, Copy)]
 pub enum Scene {
     /// An Add that is held up until others have looked.
     Held(Plan),
@@ -32,14 +29,10 @@ pub enum Scene {
 
 /// A scene under way. All that many turns need is there before a thread starts.
 #[derive(Drop)]
-pub struct Meeting<C: Of> {
-    pub scene: Scene,
+pub struct Meeting<'a, C: Of> {
+    pub scene: &'a Scene,
     /// What is added, if that is the same each time.
     pub adding: Adding,
-    pub a: Span,
-    pub b: Span,
-    /// Both.
-    pub all: Span,
     pub gate: Watch,
     /// How often each place was told.
     pub places: Vec<AtomicU64>,
@@ -58,31 +51,33 @@ fn zeros(alloc: Global, count: u64) -> Option<Vec<AtomicU64>> {
     Some(zeros)
 }
 
-impl<C: Of> Meeting<C> {
+/// What is added in this scene. `None` where memory is refused.
+fn adding_of(alloc: Global, scene: &Scene) -> Option<Adding> {
+    match scene {
+        Scene::Held(plan) => Adding::of(alloc, &plan.held, plan.now),
+        _ => Adding::one(alloc, "a", 20, 20),
+    }
+}
+
+impl<C: Of> Meeting<'_, C> {
     /// `None` where memory is refused.
-    fn of(alloc: Global, scene: &Scene, seats: u64) -> Option<Meeting<C>> {
-        let (adding, lookers) = match scene {
-            Scene::Held(plan) => (
-                Adding::of(alloc, plan.held, plan.now)?,
-                seats.saturating_sub(1),
-            ),
-            _ => (Adding::of(alloc, Entry::One("a", 20), 20)?, 0),
+    fn of(alloc: Global, scene: &Scene, seats: u64) -> Option<Meeting<'_, C>> {
+        let (lookers, places, channels) = match scene {
+            Scene::Held(_) => (seats.saturating_sub(1), 0, 0),
+            Scene::Crowd(limit) => (0, *limit, 0),
+            Scene::Ring => (0, 0, seats),
+            _ => (0, 0, 0),
         };
-        let (places, channels) = match scene {
-            Scene::Crowd(limit) => (*limit, 0),
-            Scene::Ring => (0, seats),
-            _ => (0, 0),
-        };
+        let adding = adding_of(alloc, scene)?;
+        let places = zeros(alloc, places)?;
+        let channels = Channel::all(alloc, channels)?;
         Some(Meeting {
-            scene: *scene,
+            scene,
             adding,
-            a: span_of(alloc, "a", "").ok()?,
-            b: span_of(alloc, "b", "").ok()?,
-            all: span_of(alloc, "a", "c").ok()?,
             gate: Watch::new(lookers),
-            places: zeros(alloc, places)?,
+            places,
             adds: AtomicU64::new(0),
-            channels: Channel::all(alloc, channels)?,
+            channels,
         })
     }
 
@@ -103,7 +98,7 @@ impl<C: Of> Meeting<C> {
         guest: &mut Guest<C>,
         round: u32,
     ) -> bool {
-        match &self.scene {
+        match self.scene {
             Scene::Held(plan) => self.hold(rt, home, guest, plan, round),
             Scene::Crowd(limit) => self.crowd(rt, home, guest, *limit, round),
             Scene::Returned => self.follow(rt, alloc, home, guest, round),
@@ -125,19 +120,26 @@ impl<C: Of> Meeting<C> {
     ) -> Told {
         let (count, before) = (guest.count(), guest.seen());
         let told = home.add(rt, guest, adding, by, &self.gate);
-        let (more, seen) = (guest.count().checked_sub(count), guest.seen());
-        let is_right = match told {
-            Told::Place(place, what, front) => {
-                let is_kept = what == KEPT || matches!(self.scene, Scene::Ring);
-                is_kept && more == Some(1) && front.checked_sub(1) == Some(place) && front == seen
-            }
-            Told::Full(front) => more == Some(0) && front == seen,
-            Told::Not(Why::Busy) => more == Some(0) && seen == before,
-            Told::Not(Why::Inside) => more == Some(0) && seen >= before,
-            _ => false,
-        };
-        check(rt, is_right, told);
+        let more = guest.count().wrapping_sub(count);
+        let is_ring = matches!(self.scene, Scene::Ring);
+        let leaves = leaves(told, is_ring, more, before, guest.seen());
+        check(rt, leaves, told);
         told
+    }
+}
+
+/// Whether an Add that is told this may leave a seat so that counts so many more, and had seen so many before and now. Where the keys
+/// are many it may be kept or not, and the pages may rotate.
+fn leaves(told: Told, are_many: bool, more: u64, before: u64, seen: u64) -> bool {
+    match told {
+        Told::Place(place, (kept, rotated, evicted), front) => {
+            let is_kept = kept && !rotated && evicted == 0;
+            (is_kept || are_many) && more == 1 && front.wrapping_sub(1) == place && front == seen
+        }
+        Told::Full(front) => more == 0 && front == seen,
+        Told::Not(Why::Busy) => more == 0 && seen == before,
+        Told::Not(Why::Inside) => more == 0 && seen >= before,
+        _ => false,
     }
 }
 
@@ -152,7 +154,7 @@ fn run<C: Of, R: Wait + Abort>(
     alloc: Global,
     home: &Home<C>,
     mut guest: Guest<C>,
-    meeting: &Meeting<C>,
+    meeting: &Meeting<'_, C>,
 ) -> Guest<C> {
     let mut has_more = true;
     for round in 0..=TURNS {

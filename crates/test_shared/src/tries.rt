@@ -80,7 +80,7 @@ fn adds_that_try_are_told_why_they_are_given_up(rt: HostRuntime) -> Result<(), F
 /// How often each seat adds, tries or looks.
 const ROUNDS: u32 = 10_000;
 
-impl<C: Of> Meeting<C> {
+impl<C: Of> Meeting<'_, C> {
     /// The first seat adds, two try to, and others look, all at the same key.
     pub fn try_beside<R: Wait + Abort>(
         &self,
@@ -92,7 +92,7 @@ impl<C: Of> Meeting<C> {
         let told = match guest.number() {
             0 => self.add(rt, home, guest, &self.adding, By::Plain),
             1 | 2 => self.add(rt, home, guest, &self.adding, Tries(round % 4)),
-            _ => home.get(guest, &self.a),
+            _ => home.get_key(guest, "a"),
         };
         check(rt, !matches!(told, Told::Full(_)), told);
         round.saturating_add(1) < ROUNDS
