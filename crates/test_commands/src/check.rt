@@ -255,7 +255,7 @@ static CUT: [(&str, &str); 6] = [
 fn first_wrong_cut<R: Threads + Wait + Sync>(rt: &R, alloc: Global, log: &[u8]) -> Option<usize> {
     let mut line: usize = 0;
     let mut is_begun = false;
-    for (cut, byte) in log.iter().enumerate() {
+    for cut in 0..log.len() {
         let Some((written, told)) = CUT.get(line) else {
             return Some(cut);
         };
@@ -268,7 +268,7 @@ fn first_wrong_cut<R: Threads + Wait + Sync>(rt: &R, alloc: Global, log: &[u8]) 
         if !ends(rt, alloc, &NoGate, of, CALMLY, end) {
             return Some(cut);
         }
-        is_begun = *byte != b'\n';
+        is_begun = log[cut] != b'\n';
         if !is_begun {
             line = line.saturating_add(1);
         }

@@ -108,7 +108,8 @@ fn first_wrong_call<R: Threads + Wait + Sync>(
     let (stream, command, trace, log, text) = row;
     let of = (*command, trace.as_bytes(), log.as_bytes());
     for at in 0..count_calls(stream, text) {
-        let moved = &text.as_bytes()[..at.min(text.len())];
+        let bytes = text.as_bytes();
+        let moved = &bytes[..at.min(bytes.len())];
         if !ends(
             rt,
             alloc,
