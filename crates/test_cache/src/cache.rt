@@ -332,7 +332,7 @@ const SHARED: &[Row] = &[(
     "a shared front page",
     &[
         (Add(AT_20, KEPT), b"a", AT_20, FIRST),
-        (Share, NONE, FLOOR, NOBODY),
+        (Share, b"(a,a)", AT_30, SECOND),
         (Add(AT_20, KEPT), b"a", AT_30, SECOND),
         (Look, b"a", AT_30, SECOND),
         (Version(0, 1, FLOOR), b"a", AT_20, FIRST),

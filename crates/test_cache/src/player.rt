@@ -23,6 +23,7 @@ static PLACES: [Text; 12] = [
     b"", b"\x00", b"a", b"a\x00", b"aa", b"b", b"c", b"d", b"e", b"f", b"g", b"h",
 ];
 
+/// Caches, and what was done with them.
 #[derive(Drop)]
 pub struct Player {
     pub alloc: Global,
@@ -177,7 +178,11 @@ impl Player {
 
     /// Has all answer these spans alike after each Add.
     pub fn look_at(&mut self, spans: &[u8]) -> Result<(), Fail> {
-        push(self.alloc, &mut self.looks, spans, value((100, 0), FIRST))?;
+        push(self.alloc, &mut self.looks, spans, value((100, 0), FIRST))
+    }
+
+    /// Keeps what is answered to these spans.
+    pub fn keep(&mut self, spans: &[u8]) -> Result<(), Fail> {
         push(self.alloc, &mut self.kept, spans, value(FLOOR, NOBODY))
     }
 
@@ -286,7 +291,7 @@ impl Player {
         Ok(())
     }
 
-    /// Adds marks to the cache beside one by one, and says whether all is alike then.
+    /// Adds marks to the cache beside one by one.
     fn follow(&mut self, marks: &[Mark], now: Timestamp) -> Result<(), Fail> {
         if self.is_next() {
             self.keep_former()?;
@@ -413,12 +418,12 @@ impl Player {
         alike
     }
 
-    /// Keeps the cache as a version.
-    fn share(&mut self) -> Result<bool, Fail> {
-        let (version, _) = self.cache.next_all(&[], Timestamp::ZERO)?;
+    /// Keeps what comes of the cache after an Add that is not kept, as a version.
+    fn share(&mut self, mark: &Mark) -> Result<bool, Fail> {
+        let (version, added) = self.cache.next(&mark.span, mark.value, at((20, 0)))?;
         self.versions.push(version)?;
         self.keep_former()?;
-        Ok(true)
+        Ok(!added.kept)
     }
 
     /// Goes on with the last version.
@@ -514,7 +519,10 @@ impl Player {
             }
             Does::Hold(nodes, bytes) => { Ok(self.is_plain() || holds(&self.cache, nodes, bytes)) }
             Does::Keys => Ok(self.is_plain() || tells_keys(&self.cache, marks)),
-            Does::Share => self.share(),
+            Does::Share => match marks.first() {
+                Some(mark) => self.share(mark),
+                None => Ok(false),
+            },
             Does::Swap => Ok(self.swap()),
             Does::Open(floor) => self.open(at(floor)),
             Does::Read => self.read(marks),

@@ -96,6 +96,7 @@ fn is_alike(
 fn first_difference(player: &mut Player, turns: u64, most: u32) -> Result<Option<u64>, Fail> {
     let mut sequence = Sequence { state: 1 };
     player.look_at(SPANS)?;
+    player.keep(SPANS)?;
     player.keeps();
     for turn in 0..turns {
         if !is_alike(player, &mut sequence, turn, most)? {

@@ -36,7 +36,7 @@ pub enum Does {
     Hold(u64, u64),
     /// Their keys are the end keys of all pages, one after another, where the cache tells that.
     Keys,
-    /// The cache is kept as a version, which shares its pages.
+    /// What comes of the cache after an Add of the first, which is not kept, is kept as a version: it shares all pages.
     Share,
     /// The last version is gone on with, and the cache is kept in its place.
     Swap,
