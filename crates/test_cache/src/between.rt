@@ -1,10 +1,10 @@
 //! Lookups by the bytes of a start and an end.
-use crate::cache::agreement::CHOICES;
-use crate::cache::runner::{at, value};
+use crate::marks::{at, config, value};
+use crate::rows::{AT_20, FIRST, FLOOR, NOBODY, RETENTION};
 use std::alloc::Global;
 use std::test::Fail;
-use tsc_cache::{Cache, Config};
-use tsc_span::{Ends, Key, Span, SpanRef};
+use tsc_cache::Cache;
+use tsc_span::{Ends, Key, Span, SpanFault, SpanRef};
 use tsc_time::Value;
 
 /// How many bytes the keys have, each of which is the beginning of the next one. The last is too long for an Add.
@@ -14,180 +14,162 @@ static LENGTHS: [usize; 6] = [0, 1, 24, 25, 4096, 4097];
 /// the order of keys, and what lies behind the longest key that fits has no end.
 const LAST: u32 = 9;
 
-const FLOOR: u64 = 5;
-
-const BOTH: Ends = Ends {
-    exclude_from: true,
-    exclude_to: true,
-};
+/// How many lookups there are: from each key to each key or without an end, with all choices of ends.
+const LOOKS: u32 = 168;
 
 /// A lookup by the places of its keys in `LENGTHS`.
-#[derive(Clone, Copy, Debug)]
+#[derive(Clone, Copy)]
 struct Look {
     start: u32,
     end: Option<u32>,
     ends: Ends,
 }
 
-/// A cache whose marks have times that rise with the keys, or that fall.
-#[derive(Drop)]
-struct Marked {
-    cache: Cache,
-    rises: bool,
-    /// The bytes of the longest key.
-    bytes: Vec<u8>,
-}
+/// The bytes of the longest key.
+static LONGEST: [u8; 4097] = [b'k'; 4097];
 
 /// The key at a place in `LENGTHS`.
-fn key(bytes: &[u8], place: u32) -> &[u8] {
+fn key(place: u32) -> &'static [u8] {
     let length = LENGTHS.get(place as usize).unwrap_or(&0);
-    bytes.get(..*length).unwrap_or(bytes)
-}
-
-/// The value of the mark at a place, or of the last one.
-fn value_at(rises: bool, place: u32) -> Result<Value, Fail> {
-    let place = place.min(LAST);
-    let wall = if rises { 100 + place } else { 100 - place };
-    value((u64::from(wall), 0), 1)
-}
-
-/// The span of the mark at a place.
-fn mark_at(alloc: Global, bytes: &[u8], place: u32) -> Result<Span, Fail> {
-    let from = Key::new(alloc, key(bytes, place / 2))?;
-    if place % 2 == 0 {
-        return Ok(Span::point(from));
-    }
-    if place == LAST {
-        return Ok(Span::onward(from, true));
-    }
-    let to = Key::new(alloc, key(bytes, place / 2 + 1))?;
-    Ok(Span::for_lookup(from, to, BOTH))
-}
-
-impl Marked {
-    fn new(alloc: Global, rises: bool) -> Result<Marked, Fail> {
-        let config = Config::new(1 << 20, 1 << 20, 2, 10, at((FLOOR, 0))?)?;
-        let mut cache = Cache::new(alloc, config)?;
-        let bytes = vec![in alloc; b'k'; 4097]?;
-        for place in 0..LAST + 1 {
-            let span = mark_at(alloc, &bytes, place)?;
-            cache.add(&span, value_at(rises, place)?, at((20, 0))?)?;
-        }
-        Ok(Marked {
-            cache,
-            rises,
-            bytes,
-        })
-    }
-
-    /// What a lookup has to answer that overlaps the marks from one place to another.
-    fn told(&self, places: Option<(u32, u32)>) -> Result<Value, Fail> {
-        match places {
-            Some((_, last)) if self.rises => value_at(true, last),
-            Some((first, _)) => value_at(false, first),
-            None => Ok(Value::unowned(at((FLOOR, 0))?)),
-        }
-    }
-
-    /// Whether a lookup answers what it has to, by bytes and by a span over them.
-    fn answers(&self, look: &Look) -> Result<bool, Fail> {
-        let told = self.told(look.places())?;
-        let start = key(&self.bytes, look.start);
-        let end = look.end.map(|end| key(&self.bytes, end));
-        let by_bytes = self.cache.get_max_between(start, end, look.ends);
-        let by_span = self.cache.get_max_in(&span_over(start, end, look.ends));
-        Ok(by_bytes == told && by_span == told)
-    }
-
-    /// Whether a span that is made of the keys of a lookup is answered alike. None can be made of the longest key.
-    fn answers_made(&self, alloc: Global, look: &Look) -> Result<bool, Fail> {
-        if look.has_longest() {
-            return Ok(true);
-        }
-        let start = Key::new(alloc, key(&self.bytes, look.start))?;
-        let span = match look.end {
-            Some(end) => Span::for_lookup(
-                start,
-                Key::new(alloc, key(&self.bytes, end))?,
-                look.ends,
-            ),
-            None => Span::onward(start, look.ends.exclude_from),
-        };
-        Ok(self.cache.get_max(&span) == self.told(look.places())?)
-    }
-
-    /// The first of some lookups that is answered otherwise.
-    fn first_wrong(&self, alloc: Global, looks: &[Look]) -> Result<Option<Look>, Fail> {
-        for look in looks {
-            if !self.answers(look)? || !self.answers_made(alloc, look)? {
-                return Ok(Some(*look));
-            }
-        }
-        Ok(None)
-    }
+    LONGEST.get(..*length).unwrap_or(&LONGEST)
 }
 
 impl Look {
+    fn of(number: u32) -> Look {
+        let end = number / 4 % 7;
+        Look {
+            start: number / 28,
+            end: (end < 6).then_some(end),
+            ends: Ends {
+                exclude_from: number & 1 != 0,
+                exclude_to: number & 2 != 0,
+            },
+        }
+    }
+
+    /// The lookup of the mark at a place.
+    fn of_mark(place: u32) -> Look {
+        let behind = place % 2 != 0;
+        Look {
+            start: place / 2,
+            end: (place < LAST).then_some(place.div_ceil(2)),
+            ends: Ends {
+                exclude_from: behind,
+                exclude_to: behind,
+            },
+        }
+    }
+
     /// The places of the first and of the last mark that the lookup overlaps; `None` where it is of the empty span.
-    fn places(&self) -> Option<(u32, u32)> {
+    fn places(self) -> Option<(u32, u32)> {
         let start = self.start.min(LAST);
         let first = 2 * start + u32::from(self.ends.exclude_from);
         let Some(end) = self.end else {
             return Some((first, LAST));
         };
         if start == end {
-            return (self.ends != BOTH).then_some((2 * start, 2 * start));
+            let is_point = !self.ends.exclude_from || !self.ends.exclude_to;
+            return is_point.then_some((2 * start, 2 * start));
         }
         let last = (2 * end.min(LAST)).saturating_sub(u32::from(self.ends.exclude_to));
         (start < end).then_some((first, last))
     }
 
+    /// What is answered, where the times of marks rise or fall.
+    fn told(self, rises: bool) -> Value {
+        match self.places() {
+            Some((_, last)) if rises => value((u64::from(100 + last.min(LAST)), 0), FIRST),
+            Some((first, _)) => value((u64::from(100 - first.min(LAST)), 0), FIRST),
+            None => value(FLOOR, NOBODY),
+        }
+    }
+
+    fn end_key(self) -> Option<&'static [u8]> {
+        match self.end {
+            Some(end) => Some(key(end)),
+            None => None,
+        }
+    }
+
     /// Whether one of its keys is the longest.
-    fn has_longest(&self) -> bool {
+    fn has_longest(self) -> bool {
         self.start == 5 || self.end == Some(5)
+    }
+}
+
+/// The span over the keys of a lookup, which are none of the longest.
+fn span(alloc: Global, look: Look) -> Result<Span, SpanFault> {
+    let from = Key::new(alloc, key(look.start))?;
+    match look.end {
+        Some(end) => Ok(Span::for_lookup(from, Key::new(alloc, key(end))?, look.ends)),
+        None => Ok(Span::onward(from, look.ends.exclude_from)),
     }
 }
 
 /// The span over some keys, by the call that is for it.
 fn span_over<'a>(start: &'a [u8], end: Option<&'a [u8]>, ends: Ends) -> SpanRef<'a> {
     match end {
-        Some(end) if start == end && ends != BOTH => SpanRef::point(start),
+        Some(end) if start == end && !(ends.exclude_from && ends.exclude_to) => {
+            SpanRef::point(start)
+        }
         Some(end) => SpanRef::for_lookup(start, end, ends),
         None => SpanRef::onward(start, ends.exclude_from),
     }
 }
 
-/// The lookups from a key on, to each of them and without an end, with all choices of ends.
-fn push_looks(looks: &mut Vec<Look>, start: u32) -> Result<(), Fail> {
-    for place in 0..7 {
-        for ends in &CHOICES {
-            looks.push(Look {
-                start,
-                end: (place < 6).then_some(place),
-                ends: *ends,
-            })?;
-        }
+/// Whether a lookup is answered this by bytes, and by a span over them.
+fn answers(cache: &Cache, look: Look, told: Value) -> bool {
+    let (start, end) = (key(look.start), look.end_key());
+    let by_bytes = cache.get_max_between(start, end, look.ends) == told;
+    by_bytes && cache.get_max_in(&span_over(start, end, look.ends)) == told
+}
+
+/// Whether a lookup is answered this by a span that is made of its keys.
+fn answers_made(alloc: Global, cache: &Cache, look: Look, told: Value) -> Result<bool, SpanFault> {
+    if look.has_longest() {
+        return Ok(true);
     }
+    Ok(cache.get_max(&span(alloc, look)?) == told)
+}
+
+/// Adds the mark at a place.
+fn add(alloc: Global, cache: &mut Cache, place: u32, rises: bool) -> Result<(), Fail> {
+    let look = Look::of_mark(place);
+    let span = span(alloc, look)?;
+    cache.add(&span, look.told(rises), at(AT_20))?;
     Ok(())
 }
 
-/// All lookups over the keys.
-fn all_looks(alloc: Global) -> Result<Vec<Look>, Fail> {
-    let mut looks = Vec::new(alloc);
-    for start in 0..6 {
-        push_looks(&mut looks, start)?;
+/// The number of the first lookup that is answered otherwise than it has to be, where times rise or fall.
+fn first_wrong(alloc: Global, cache: &mut Cache, rises: bool) -> Result<Option<u32>, Fail> {
+    for place in 0..LAST + 1 {
+        add(alloc, cache, place, rises)?;
     }
-    Ok(looks)
+    for number in 0..LOOKS {
+        let look = Look::of(number);
+        let told = look.told(rises);
+        if !answers(cache, look, told) || !answers_made(alloc, cache, look, told)? {
+            return Ok(Some(number));
+        }
+    }
+    Ok(None)
 }
 
-/// The first lookup that is answered otherwise than it has to be, where times rise or fall.
-fn first_wrong(alloc: Global, rises: bool) -> Result<Option<Look>, Fail> {
-    Marked::new(alloc, rises)?.first_wrong(alloc, &all_looks(alloc)?)
+/// The same on a new cache.
+fn wrong(alloc: Global, rises: bool) -> Result<Option<u32>, Fail> {
+    let mut cache = Cache::new(alloc, config((1_048_576, 1_048_576, 2, RETENTION))?)?;
+    first_wrong(alloc, &mut cache, rises)
 }
 
 #[test]
 fn by_bytes_as_by_spans(rt: HostRuntime) -> Result<(), Fail> {
-    assert!(rt; first_wrong(rt.alloc(), true)?.is_none());
-    assert!(rt; first_wrong(rt.alloc(), false)?.is_none());
+    for rises in [true, false] {
+        let wrong = wrong(rt.alloc(), rises)?;
+        assert_eq!(rt;
+            wrong,
+            None,
+            "times rise: {rises}; the number of the lookup"
+        );
+    }
     Ok(())
 }

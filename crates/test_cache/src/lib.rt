@@ -10,12 +10,22 @@ mod between;
 #[cfg(test)]
 mod cache;
 #[cfg(test)]
-mod figures;
-#[cfg(test)]
 mod growths;
+#[cfg(test)]
+mod hand_over;
 #[cfg(test)]
 mod keys;
 #[cfg(test)]
+mod marks;
+#[cfg(test)]
+mod player;
+#[cfg(test)]
+mod random;
+#[cfg(test)]
 mod refused;
 #[cfg(test)]
+mod rows;
+#[cfg(test)]
 mod texts;
+#[cfg(test)]
+mod writes;

@@ -27,8 +27,6 @@ mod clear;
 mod hand_over;
 pub mod laws;
 mod next;
-#[cfg(test)]
-mod tests;
 mod writes;
 
 pub use clear::{earliest_clear_of, is_clear_of};
