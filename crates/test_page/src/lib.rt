@@ -1,6 +1,7 @@
 //! Tests of times, spans and pages, through their public calls.
 //!
-//! They stand apart because a crate that has tests is proved once with them and once without.
+//! They stand apart because a crate that has tests is proved once with them and once without. Those of pages are tables of steps, which one
+//! function takes (`steps`).
 #![tactic(auto)]
 
 #[cfg(test)]
@@ -19,6 +20,8 @@ mod rows;
 mod shared;
 #[cfg(test)]
 mod span;
+#[cfg(test)]
+mod steps;
 #[cfg(test)]
 mod time;
 #[cfg(test)]

@@ -1,5 +1,5 @@
-//! Two pages to which the same is added, the spans and values that they get, and the rows of tables.
-use std::alloc::Global;
+//! Rows of tables, the values and spans that they name, and two pages to which the same is added.
+use std::alloc::{AllocError, Global};
 use std::process::Abort;
 use std::test::Fail;
 use tsc_page::{LEAST_SIZE, MOST_SIZE, Page, PlainPage};
@@ -13,8 +13,8 @@ pub(crate) const SECOND: u128 = 2;
 
 pub(crate) const NOBODY: u128 = 0;
 
-/// The names of the keys of all spans to which both pages have to answer alike.
-pub(crate) const NAMES: &[u8] = b".aAbcdefgl";
+/// Who adds to pages that are filled.
+pub(crate) const LATER: u128 = 7;
 
 /// A row of a table, which tells of what it is played with.
 pub(crate) trait Row<W> {
@@ -23,7 +23,7 @@ pub(crate) trait Row<W> {
 }
 
 /// The first of some rows, from 0, that doesn't hold.
-pub(crate) fn first_wrong<W, T: Row<W>>(with: &mut W, rows: &[T]) -> Result<Option<usize>, Fail> {
+fn first_wrong<W, T: Row<W>>(with: &mut W, rows: &[T]) -> Result<Option<usize>, Fail> {
     for (i, row) in rows.iter().enumerate() {
         if !row.holds(with)? {
             return Ok(Some(i));
@@ -47,17 +47,63 @@ pub(crate) fn value(wall: u64, logical: u32, owner: u128) -> Value {
     Value::of(at(wall, logical), Uuid::from_u128(owner))
 }
 
-/// The key of a name. A dot is the empty key, `A` the next key after `a`, and `l` and `L` are two of the
-/// longest keys; any other name is the key's one byte.
-fn key(alloc: Global, name: u8) -> Result<Key, SpanFault> {
-    match name {
-        b'.' => Key::new(alloc, b""),
-        b'A' => Key::new(alloc, b"a\x00"),
-        b'l' => long_key(alloc, b'l'),
-        b'L' => long_key(alloc, b'm'),
-        byte => Key::new(alloc, &[byte]),
-    }
+/// A span by the numbers of its end keys.
+#[derive(Clone, Copy)]
+pub(crate) enum Over {
+    /// A single key.
+    At(u32),
+    /// Both keys and all between.
+    Through(u32, u32),
+    /// The same without the second key.
+    UpTo(u32, u32),
+    /// The same without the first key.
+    After(u32, u32),
+    /// The same without both.
+    Gap(u32, u32),
+    /// A key and all behind it.
+    From(u32),
+    /// All behind a key.
+    Behind(u32),
 }
+
+/// From this number on keys have 28 bytes, of which the first 24 are the same.
+pub(crate) const ALIKE: u32 = 1 << 24;
+
+/// From this number on keys are the one byte that the number's last one is, but for these four.
+const NAMED: u32 = 1 << 28;
+
+/// The number of the empty key.
+pub(crate) const EMPTY: u32 = NAMED;
+
+/// That of the next key after `a`.
+pub(crate) const NEXT: u32 = NAMED + 1;
+
+/// Those of two of the longest keys, which differ in their last byte.
+pub(crate) const LONG: u32 = NAMED + 2;
+
+pub(crate) const LONGER: u32 = NAMED + 3;
+
+pub(crate) const A: u32 = NAMED + 0x61;
+
+pub(crate) const B: u32 = NAMED + 0x62;
+
+pub(crate) const C: u32 = NAMED + 0x63;
+
+pub(crate) const D: u32 = NAMED + 0x64;
+
+pub(crate) const E: u32 = NAMED + 0x65;
+
+pub(crate) const F: u32 = NAMED + 0x66;
+
+pub(crate) const G: u32 = NAMED + 0x67;
+
+pub(crate) const L: u32 = NAMED + 0x6c;
+
+pub(crate) const M: u32 = NAMED + 0x6d;
+
+pub(crate) const Z: u32 = NAMED + 0x7a;
+
+pub(crate) const LAST: u32 = NAMED + 0xff;
 
 /// One of the longest keys, by its last byte.
 fn long_key(alloc: Global, last: u8) -> Result<Key, SpanFault> {
@@ -66,99 +112,57 @@ fn long_key(alloc: Global, last: u8) -> Result<Key, SpanFault> {
     Key::new(alloc, &long)
 }
 
-/// The span from a key to another one.
-pub(crate) fn between(
-    from: Key,
-    to: Result<Key, SpanFault>,
-    ends: Ends,
+/// The key of a number: its bytes, where it is none of those above.
+fn key(alloc: Global, number: u32) -> Result<Key, SpanFault> {
+    let mut bytes = [7; 28];
+    bytes[24..].copy_from_slice(&number.to_be_bytes());
+    match number {
+        EMPTY => Key::new(alloc, b""),
+        NEXT => Key::new(alloc, b"a\x00"),
+        LONG => long_key(alloc, b'l'),
+        LONGER => long_key(alloc, b'm'),
+        _ if number < ALIKE => Key::new(alloc, &bytes[24..]),
+        _ if number < NAMED => Key::new(alloc, &bytes),
+        _ => Key::new(alloc, &bytes[27..]),
+    }
+}
+
+/// The span from the key of a number to that of another one.
+fn range(
+    alloc: Global,
+    from: u32,
+    to: u32,
+    [exclude_from, exclude_to]: [bool; 2],
 ) -> Result<Span, SpanFault> {
-    match to {
+    let ends = Ends {
+        exclude_from,
+        exclude_to,
+    };
+    let from = key(alloc, from)?;
+    match key(alloc, to) {
         Ok(to) => Ok(Span::for_lookup(from, to, ends)),
         Err(fault) => Err(fault),
     }
 }
 
-fn range(alloc: Global, from: u8, to: u8, ends: Ends) -> Result<Span, SpanFault> {
-    between(key(alloc, from)?, key(alloc, to), ends)
-}
-
-fn onward(alloc: Global, from: u8, exclude_from: bool) -> Result<Span, SpanFault> {
+/// The span from the key of a number on.
+fn onward(alloc: Global, from: u32, exclude_from: bool) -> Result<Span, SpanFault> {
     match key(alloc, from) {
         Ok(from) => Ok(Span::onward(from, exclude_from)),
         Err(fault) => Err(fault),
     }
 }
 
-/// The byte of a place in a text, or 0 behind its end.
-fn byte(text: &[u8], place: usize) -> u8 {
-    text.get(place).copied().unwrap_or(0)
-}
-
-/// The span of a text such as `a`, `[a,c)` or `(m,`.
-pub(crate) fn span(alloc: Global, text: &[u8]) -> Result<Span, SpanFault> {
-    let ends = Ends {
-        exclude_from: byte(text, 0) == b'(',
-        exclude_to: byte(text, 4) == b')',
-    };
-    match text.len() {
-        1 => key(alloc, byte(text, 0)).map(Span::point),
-        3 => onward(alloc, byte(text, 1), ends.exclude_from),
-        _ => range(alloc, byte(text, 1), byte(text, 3), ends),
+pub(crate) fn span(alloc: Global, over: Over) -> Result<Span, SpanFault> {
+    match over {
+        Over::At(at) => key(alloc, at).map(Span::point),
+        Over::Through(from, to) => range(alloc, from, to, [false, false]),
+        Over::UpTo(from, to) => range(alloc, from, to, [false, true]),
+        Over::After(from, to) => range(alloc, from, to, [true, false]),
+        Over::Gap(from, to) => range(alloc, from, to, [true, true]),
+        Over::From(from) => onward(alloc, from, false),
+        Over::Behind(from) => onward(alloc, from, true),
     }
-}
-
-/// All choices of ends.
-static CHOICES: [Ends; 4] = [
-    Ends {
-        exclude_from: false,
-        exclude_to: false,
-    },
-    Ends {
-        exclude_from: false,
-        exclude_to: true,
-    },
-    Ends {
-        exclude_from: true,
-        exclude_to: false,
-    },
-    Ends {
-        exclude_from: true,
-        exclude_to: true,
-    },
-];
-
-fn push(spans: &mut Vec<Span>, span: Result<Span, SpanFault>) -> Result<(), Fail> {
-    spans.push(span?)?;
-    Ok(())
-}
-
-/// Adds the spans from one key to another, or on from the one where there is no other.
-fn push_ranges(alloc: Global, spans: &mut Vec<Span>, from: u8, to: Option<u8>) -> Result<(), Fail> {
-    for ends in &CHOICES {
-        match to {
-            Some(to) => push(spans, range(alloc, from, to, *ends))?,
-            None if ends.exclude_to => {}
-            None => push(spans, onward(alloc, from, ends.exclude_from))?,
-        }
-    }
-    Ok(())
-}
-
-/// Adds each span from a key on.
-fn push_from(alloc: Global, spans: &mut Vec<Span>, names: &[u8], from: u8) -> Result<(), Fail> {
-    for to in names {
-        push_ranges(alloc, spans, from, Some(*to))?;
-    }
-    push_ranges(alloc, spans, from, None)
-}
-
-/// Each span between two of the named keys, and from one on.
-pub(crate) fn all_spans(alloc: Global, names: &[u8]) -> Result<Vec<Span>, Fail> {
-    let mut spans = Vec::new(alloc);
-    for from in names {
-        push_from(alloc, &mut spans, names, *from)?;
-    }
-    Ok(spans)
 }
 
 /// Adds a value to a span that isn't empty, and says whether there was room.
@@ -187,40 +191,35 @@ pub(crate) fn add_to_plain(
     }
 }
 
-/// Adds a value to a span that isn't empty if there is room, and says whether there was.
-pub(crate) fn try_add(page: &mut Page, span: &Span, value: Value) -> Result<bool, NoMemory> {
-    if span.is_empty() {
-        return Ok(false);
+/// What a page shows: its top with how many nodes it has, its size with what they cost, the sizes of all its leaves, and what it
+/// answers to each of some spans with whether it has room for that.
+pub(crate) fn shown(
+    alloc: Global,
+    page: &Page,
+    looks: &[Span],
+) -> Result<Vec<(Value, u32)>, AllocError> {
+    let mut shown = Vec::with_capacity(alloc, looks.len().saturating_add(8))?;
+    shown.extend_from_slice(&[
+        (Value::unowned(page.top()), page.nodes()),
+        (value(u64::from(page.size()), 0, NOBODY), page.bytes()),
+    ])?;
+    for place in 0..page.nodes() / 32 + 1 {
+        let size = page.leaf_nodes(place).unwrap_or(0);
+        shown.push((Value::unowned(Timestamp::ZERO), size))?;
     }
-    page.try_add(span, value)
+    for look in looks {
+        shown.push((page.lookup(look), u32::from(page.room(look))))?;
+    }
+    Ok(shown)
 }
 
-/// The same of a plain page.
-pub(crate) fn try_add_plain(
-    plain: &mut PlainPage,
-    span: &Span,
-    value: Value,
-) -> Result<bool, NoMemory> {
-    if span.is_empty() {
-        return Ok(false);
+/// Whether a page has leaves of these sizes, and no others, as far as the first eight tell.
+pub(crate) fn has_leaves(page: &Page, sizes: &[u32]) -> bool {
+    let mut alike = true;
+    for place in 0..8 {
+        alike &= page.leaf_nodes(place) == sizes.get(place as usize).copied();
     }
-    plain.try_add(span, value)
-}
-
-/// The page with one more value beside this one, if the span isn't empty and there is room.
-pub(crate) fn added(page: &Page, span: &Span, value: Value) -> Result<Option<Page>, NoMemory> {
-    if span.is_empty() {
-        return Ok(None);
-    }
-    page.added(span, value)
-}
-
-/// Whether there is a page with one more value.
-fn is_added(page: &Page, span: &Span, value: Value) -> Result<bool, NoMemory> {
-    match added(page, span, value) {
-        Ok(made) => Ok(made.is_some()),
-        Err(NoMemory) => Err(NoMemory),
-    }
+    alike
 }
 
 /// Two pages, to which the same was added.
@@ -239,11 +238,7 @@ impl Pages {
         }
     }
 
-    /// A page beside a plain page with more room than any test of large pages takes.
-    pub(crate) fn beside(alloc: Global, page: Page) -> Result<Pages, NoMemory> {
-        Pages::of(page, PlainPage::new(alloc, 1_000_000, Timestamp::ZERO))
-    }
-
+    /// Empty pages of so many bytes.
     pub(crate) fn new(alloc: Global, size: u32, base: u64) -> Result<Pages, NoMemory> {
         let (size, base) = (size.clamp(LEAST_SIZE, MOST_SIZE), at(base, 0));
         Pages::of(
@@ -252,75 +247,58 @@ impl Pages {
         )
     }
 
-    /// Adds a value to a span that isn't empty, and says whether both had room.
-    pub(crate) fn add(&mut self, span: &Span, value: Value) -> Result<bool, NoMemory> {
-        Ok(add_to(&mut self.page, span, value)? && add_to_plain(&mut self.plain, span, value)?)
+    /// The same. Where memory is refused the same call then succeeds.
+    pub(crate) fn new_again(alloc: Global, size: u32, base: u64) -> Option<Pages> {
+        match Pages::new(alloc, size, base) {
+            Err(NoMemory) => Pages::new(alloc, size, base).ok(),
+            made => made.ok(),
+        }
     }
 
     pub(crate) fn copy(&self) -> Result<Pages, NoMemory> {
         Pages::of(self.page.try_copy()?, self.plain.try_copy())
     }
 
-    /// Whether there is room for a span, or there is not, as both pages tell and as Adds to copies of them find.
-    pub(crate) fn tell_room(&self, span: &Span, room: bool) -> Result<bool, NoMemory> {
-        let told = self.page.room(span) == room && self.plain.room(span) == room;
-        if span.is_empty() || !told {
-            return Ok(told);
+    /// A copy. Where memory is refused the same call then succeeds.
+    pub(crate) fn copy_again(&self) -> Option<Pages> {
+        match self.copy() {
+            Err(NoMemory) => self.copy().ok(),
+            copied => copied.ok(),
         }
-        self.copy()?.find_room(span, value(99, 0, FIRST), room)
     }
 
-    /// Whether there is room for a span, or there is not, as an Add finds.
-    fn find_room(&mut self, span: &Span, value: Value, room: bool) -> Result<bool, NoMemory> {
-        let made = is_added(&self.page, span, value)? == room;
-        let found = try_add(&mut self.page, span, value)? == room;
-        let found_plain = try_add_plain(&mut self.plain, span, value)? == room;
-        Ok(made && found && found_plain && self.answer(span, value) == room)
+    /// Adds a value to a span, and says whether there was room. The plain page is left out where `alone`.
+    pub(crate) fn add(&mut self, span: &Span, value: Value, alone: bool) -> Result<bool, NoMemory> {
+        Ok(
+            add_to(&mut self.page, span, value)?
+                && (alone || add_to_plain(&mut self.plain, span, value)?),
+        )
     }
 
-    pub(crate) fn answer(&self, span: &Span, value: Value) -> bool {
-        self.page.lookup(span) == value && self.plain.lookup(span) == value
+    /// Whether there is room for a span, or there is not, as Adds of a value find: to the page, and to the plain one where `both`.
+    pub(crate) fn find_room(
+        &mut self,
+        span: &Span,
+        value: Value,
+        room: bool,
+        both: bool,
+    ) -> Result<bool, NoMemory> {
+        if span.is_empty() {
+            return Ok(false);
+        }
+        let found = self.page.try_add(span, value)? == room;
+        let same = !both || self.plain.try_add(span, value)? == room;
+        Ok(same && found && (self.page.lookup(span) == value) == room)
     }
 
-    pub(crate) fn have(&self, nodes: u32) -> bool {
-        self.page.nodes() == nodes && self.plain.nodes() == nodes
+    /// Whether both show the same, and have room for the same of some spans.
+    pub(crate) fn are_one(&self, looks: &[Span]) -> bool {
+        let (page, plain) = (&self.page, &self.plain);
+        let mut alike = page.top() == plain.top() && page.nodes() == plain.nodes();
+        alike &= page.size() == plain.size() && page.bytes() == plain.bytes();
+        for look in looks {
+            alike &= page.room(look) == plain.room(look);
+        }
+        alike
     }
-
-    /// Whether both show the same, and answer alike to each of the spans.
-    pub(crate) fn alike(&self, spans: &[Span]) -> bool {
-        alike_on(&self.page, &self.plain, spans)
-    }
-}
-
-/// Whether two pages have leaves of the same sizes, as far as the first eight tell.
-pub(crate) fn same_leaves(page: &Page, other: &Page) -> bool {
-    let mut alike = true;
-    for place in 0..8 {
-        alike &= page.leaf_nodes(place) == other.leaf_nodes(place);
-    }
-    alike
-}
-
-/// Whether two pages show the same, and answer alike to each of the spans.
-pub(crate) fn alike_on(page: &Page, plain: &PlainPage, spans: &[Span]) -> bool {
-    let mut alike = page.top() == plain.top() && page.nodes() == plain.nodes();
-    alike &= page.size() == plain.size() && page.bytes() == plain.bytes();
-    for span in spans {
-        alike &= page.lookup(span) == plain.lookup(span) && page.room(span) == plain.room(span);
-    }
-    alike
-}
-
-/// The sizes of a page's first leaves, and nothing past the last.
-pub(crate) fn has_leaves(page: &Page, sizes: &[u32]) -> bool {
-    let mut alike = true;
-    for place in 0..8 {
-        alike &= page.leaf_nodes(place) == sizes.get(place as usize).copied();
-    }
-    alike
-}
-
-/// Whether a page has room for a span, and answers it so.
-pub(crate) fn tells(page: &Page, span: Span, value: Value) -> bool {
-    page.room(&span) && page.lookup(&span) == value
 }

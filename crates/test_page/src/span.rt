@@ -55,61 +55,62 @@ type Made = (Way, &'static [u8], &'static [u8]);
 /// Keys of `PROBES` that a span covers, and the keys at its ends.
 type Known = (&'static [&'static [u8]], &'static [&'static [u8]]);
 
-/// A constructor, and what it gives. `None` is an inverted range.
-type Gives = (Made, Option<Known>);
+/// A constructor, and what it gives.
+type Gives = (Made, Known);
 
-static SPANS: [Gives; 26] = [
-    ((Way::Point, b"a", b""), Some((&[b"a"], &[b"a"]))),
-    ((Way::Point, b"", b""), Some((&[b""], &[b""]))),
-    ((Way::Range(NONE), b"a", b"a"), Some((&[b"a"], &[b"a"]))),
-    ((Way::Range(FROM), b"a", b"a"), Some((&[b"a"], &[b"a"]))),
-    ((Way::Range(TO), b"a", b"a"), Some((&[b"a"], &[b"a"]))),
-    ((Way::Range(BOTH), b"a", b"a"), Some((&[], &[]))),
+static SPANS: [Gives; 21] = [
+    ((Way::Point, b"a", b""), (&[b"a"], &[b"a"])),
+    ((Way::Point, b"", b""), (&[b""], &[b""])),
+    ((Way::Range(NONE), b"a", b"a"), (&[b"a"], &[b"a"])),
+    ((Way::Range(FROM), b"a", b"a"), (&[b"a"], &[b"a"])),
+    ((Way::Range(TO), b"a", b"a"), (&[b"a"], &[b"a"])),
+    ((Way::Range(BOTH), b"a", b"a"), (&[], &[])),
     (
         (Way::Range(NONE), b"a", b"c"),
-        Some((&[b"a", b"a\x00", b"b", b"c"], &[b"a", b"c"])),
+        (&[b"a", b"a\x00", b"b", b"c"], &[b"a", b"c"]),
     ),
     (
         (Way::Range(FROM), b"a", b"c"),
-        Some((&[b"a\x00", b"b", b"c"], &[b"a", b"c"])),
+        (&[b"a\x00", b"b", b"c"], &[b"a", b"c"]),
     ),
     (
         (Way::Range(TO), b"a", b"c"),
-        Some((&[b"a", b"a\x00", b"b"], &[b"a", b"c"])),
+        (&[b"a", b"a\x00", b"b"], &[b"a", b"c"]),
     ),
     (
         (Way::Range(BOTH), b"a", b"c"),
-        Some((&[b"a\x00", b"b"], &[b"a", b"c"])),
+        (&[b"a\x00", b"b"], &[b"a", b"c"]),
     ),
     // between a key and the next one there is none
-    (
-        (Way::Range(BOTH), b"a", b"a\x00"),
-        Some((&[], &[b"a", b"a\x00"])),
-    ),
-    ((Way::Range(NONE), b"c", b"a"), None),
-    ((Way::Range(FROM), b"c", b"a"), None),
-    ((Way::Range(TO), b"c", b"a"), None),
-    ((Way::Range(BOTH), b"c", b"a"), None),
-    ((Way::Lookup(NONE), b"c", b"a"), Some((&[], &[]))),
-    ((Way::Lookup(FROM), b"c", b"a"), Some((&[], &[]))),
-    ((Way::Lookup(TO), b"c", b"a"), Some((&[], &[]))),
-    ((Way::Lookup(BOTH), b"c", b"a"), Some((&[], &[]))),
+    ((Way::Range(BOTH), b"a", b"a\x00"), (&[], &[b"a", b"a\x00"])),
+    ((Way::Lookup(NONE), b"c", b"a"), (&[], &[])),
+    ((Way::Lookup(FROM), b"c", b"a"), (&[], &[])),
+    ((Way::Lookup(TO), b"c", b"a"), (&[], &[])),
+    ((Way::Lookup(BOTH), b"c", b"a"), (&[], &[])),
     (
         (Way::Lookup(TO), b"a", b"c"),
-        Some((&[b"a", b"a\x00", b"b"], &[b"a", b"c"])),
+        (&[b"a", b"a\x00", b"b"], &[b"a", b"c"]),
     ),
-    ((Way::StartToEnd, b"a", b""), Some((&[b"a"], &[b"a"]))),
+    ((Way::StartToEnd, b"a", b""), (&[b"a"], &[b"a"])),
     (
         (Way::StartToEnd, b"a", b"c"),
-        Some((&[b"a", b"a\x00", b"b"], &[b"a", b"c"])),
+        (&[b"a", b"a\x00", b"b"], &[b"a", b"c"]),
     ),
-    ((Way::StartToEnd, b"c", b"a"), None),
-    (
-        (Way::Onward(false), b"m", b""),
-        Some((&[b"m", b"\xff"], &[b"m"])),
-    ),
-    ((Way::Onward(true), b"m", b""), Some((&[b"\xff"], &[b"m"]))),
-    ((Way::Onward(true), b"\xff", b""), Some((&[], &[b"\xff"]))),
+    ((Way::Onward(false), b"m", b""), (&[b"m", b"\xff"], &[b"m"])),
+    ((Way::Onward(true), b"m", b""), (&[b"\xff"], &[b"m"])),
+    ((Way::Onward(true), b"\xff", b""), (&[], &[b"\xff"])),
+];
+
+/// A constructor that gives nothing, since the range is inverted.
+#[derive(Clone, Copy)]
+struct Inverted(Way);
+
+static INVERTED: [Inverted; 5] = [
+    Inverted(Way::Range(NONE)),
+    Inverted(Way::Range(FROM)),
+    Inverted(Way::Range(TO)),
+    Inverted(Way::Range(BOTH)),
+    Inverted(Way::StartToEnd),
 ];
 
 /// Two spans, whether they overlap, and whether they are the same.
@@ -197,21 +198,12 @@ fn span_of(way: Way, from: Key, to: Key) -> Result<Span, SpanFault> {
     }
 }
 
-/// The span of a key and of another one, if there is memory for that.
-fn span_to(way: Way, from: Key, to: Result<Key, SpanFault>) -> Result<Span, SpanFault> {
-    match to {
+fn make(alloc: Global, (way, from, to): Made) -> Result<Span, SpanFault> {
+    let from = Key::new(alloc, from)?;
+    match Key::new(alloc, to) {
         Ok(to) => span_of(way, from, to),
         Err(fault) => Err(fault),
     }
-}
-
-fn make(alloc: Global, (way, from, to): Made) -> Result<Span, SpanFault> {
-    span_to(way, Key::new(alloc, from)?, Key::new(alloc, to))
-}
-
-/// Whether a span covers a key of these bytes and overlaps the single key, or it does neither.
-fn meets(span: &Span, probe: &[u8], single: Span, within: bool) -> bool {
-    span.covers(probe) == within && span.overlaps(&single) == within
 }
 
 /// What the end keys of a span cost.
@@ -232,54 +224,56 @@ fn is_key(key: Option<&Key>, bytes: Option<&[u8]>) -> bool {
     }
 }
 
-/// Whether these are the end keys of a span, and it costs what they do.
+/// Whether these are the end keys of a span, it costs what they do, and it is empty where it has none, and else overlaps itself.
 fn has_ends(span: &Span, ends: &[&[u8]]) -> bool {
     let (first, second) = span.end_keys();
-    is_key(first, ends.first().copied())
-        && is_key(second, ends.get(1).copied())
-        && span.cost() as usize == cost_of(ends)
-}
-
-/// Whether a span covers these keys of `PROBES` alone, and overlaps just the single keys that it covers.
-fn covers_alone(alloc: Global, span: &Span, covered: &[&[u8]]) -> Result<bool, Fail> {
-    let mut alone = true;
-    for probe in &PROBES {
-        let single = Key::new(alloc, probe).map(Span::point);
-        alone &= meets(span, probe, single?, covered.contains(probe));
-    }
-    Ok(alone)
-}
-
-/// Whether a span covers these keys of `PROBES` alone, overlaps just the single keys that it covers, has
-/// these end keys, and is empty where it has none, and else overlaps itself.
-fn is_known(alloc: Global, span: &Span, (covered, ends): Known) -> Result<bool, Fail> {
+    let known = is_key(first, ends.first().copied()) && is_key(second, ends.get(1).copied());
     let is_empty = ends.is_empty();
-    let known = has_ends(span, ends) && span.is_empty() == is_empty;
-    Ok(known && span.overlaps(span) != is_empty && covers_alone(alloc, span, covered)?)
+    known
+        && span.cost() as usize == cost_of(ends)
+        && span.is_empty() == is_empty
+        && span.overlaps(span) != is_empty
 }
 
-/// Whether a copy of a span is the same, and both are known so.
-fn is_copied(alloc: Global, span: &Span, copy: Span, known: Known) -> Result<bool, Fail> {
-    let same = copy == *span;
-    Ok(same && is_known(alloc, span, known)? && is_known(alloc, &copy, known)?)
-}
-
-/// Whether a span and a copy of it are the same, and known so.
-fn is_wanted(alloc: Global, span: Span, known: Option<Known>) -> Result<bool, Fail> {
-    match known {
-        Some(known) => is_copied(alloc, &span, span.try_copy()?, known),
-        None => Ok(false),
+/// Whether a span has these end keys, covers these keys of `PROBES` alone, and overlaps just the single keys that it covers.
+fn is_known(alloc: Global, span: &Span, (covered, ends): Known) -> Result<bool, SpanFault> {
+    let mut known = has_ends(span, ends);
+    for probe in &PROBES {
+        let within = covered.contains(probe);
+        let single = Span::point(Key::new(alloc, probe)?);
+        known &= span.covers(probe) == within && span.overlaps(&single) == within;
     }
+    Ok(known)
+}
+
+/// Whether a copy of a span is the same, and known so.
+fn is_copied(alloc: Global, span: &Span, known: Known) -> Result<bool, Fail> {
+    let copy = span.try_copy()?;
+    Ok(copy == *span && is_known(alloc, &copy, known)?)
 }
 
 impl Row<Global> for Gives {
     /// Whether the constructor gives what the row says, and a copy of it is the same.
     fn holds(&self, alloc: &mut Global) -> Result<bool, Fail> {
-        match make(*alloc, self.0) {
-            Ok(span) => is_wanted(*alloc, span, self.1),
-            Err(SpanFault::Inverted) => Ok(self.1.is_none()),
-            Err(fault) => Err(fault.into()),
+        let span = make(*alloc, self.0)?;
+        Ok(is_known(*alloc, &span, self.1)? && is_copied(*alloc, &span, self.1)?)
+    }
+}
+
+impl Row<Global> for Inverted {
+    fn holds(&self, alloc: &mut Global) -> Result<bool, Fail> {
+        match make(*alloc, (self.0, b"c", b"a")) {
+            Ok(_) => Ok(false),
+            Err(fault) => is_inverted(fault),
         }
+    }
+}
+
+/// Whether a fault is that of an inverted range, and not want of memory.
+fn is_inverted(fault: SpanFault) -> Result<bool, Fail> {
+    match fault {
+        SpanFault::NoMemory => Err(fault.into()),
+        fault => Ok(fault == SpanFault::Inverted),
     }
 }
 
@@ -291,35 +285,17 @@ fn is_copied_key(key: &Key) -> Result<bool, NoMemory> {
     }
 }
 
-/// Whether two keys are ordered so, and are their own copies.
-fn are_rising(smaller: &Key, greater: &Key) -> Result<bool, NoMemory> {
-    let ordered = smaller < greater && greater > smaller && smaller != greater;
-    Ok(ordered && is_copied_key(smaller)? && is_copied_key(greater)?)
+/// Whether a key comes before that of these bytes, and both are their own copies.
+fn is_before(alloc: Global, smaller: &Key, bytes: &[u8]) -> Result<bool, Fail> {
+    let greater = Key::new(alloc, bytes)?;
+    let ordered = *smaller < greater && greater > *smaller && *smaller != greater;
+    Ok(ordered && is_copied_key(smaller)? && is_copied_key(&greater)?)
 }
 
 impl Row<Global> for Rising {
     fn holds(&self, alloc: &mut Global) -> Result<bool, Fail> {
-        let (smaller, greater) = (Key::new(*alloc, self.0)?, Key::new(*alloc, self.1)?);
-        Ok(are_rising(&smaller, &greater)?)
+        is_before(*alloc, &Key::new(*alloc, self.0)?, self.1)
     }
-}
-
-/// A key that a vector is made into.
-fn moved_key(alloc: Global, bytes: &[u8]) -> Result<Key, SpanFault> {
-    match Vec::from_slice(alloc, bytes) {
-        Ok(bytes) => Key::try_from(bytes),
-        Err(_) => Err(SpanFault::NoMemory),
-    }
-}
-
-/// Whether a key of a slice and one of a vector are the same, and of these bytes.
-fn are_made(key: Key, moved: Key, bytes: &[u8]) -> bool {
-    key.bytes() == bytes && moved == key
-}
-
-/// Whether a key is refused as too long, which asks for no memory.
-fn is_too_long(key: Result<Key, SpanFault>) -> bool {
-    key == Err(SpanFault::KeyTooLong)
 }
 
 impl Row<Global> for Text {
@@ -333,44 +309,59 @@ impl Row<Global> for Text {
 /// One byte more than a key may have.
 static ONE_TOO_MANY: [u8; LONGEST_KEY + 1] = [7; LONGEST_KEY + 1];
 
-/// Whether the longest key is made, from a slice and from a vector, and one of a byte more is refused.
-fn is_longest(alloc: Global) -> Result<bool, SpanFault> {
-    let longest = &ONE_TOO_MANY[1..];
-    let made = are_made(
-        Key::new(alloc, longest)?,
-        moved_key(alloc, longest)?,
-        longest,
-    );
-    let Ok(bytes) = Vec::from_slice(alloc, &ONE_TOO_MANY) else {
-        return Err(SpanFault::NoMemory);
-    };
-    let refused = is_too_long(Key::new(alloc, &ONE_TOO_MANY)) && is_too_long(Key::try_from(bytes));
-    Ok(made && refused)
+/// How many bytes a key is to have, and whether it may.
+type Length = (usize, bool);
+
+static LENGTHS: [Length; 3] = [(0, true), (4096, true), (4097, false)];
+
+/// Whether a key is made of some bytes, or is refused as too long, which asks for no memory.
+fn is_made(key: Result<Key, SpanFault>, bytes: &[u8], fits: bool) -> Result<bool, SpanFault> {
+    match key {
+        Ok(key) => Ok(fits && key.bytes() == bytes),
+        Err(SpanFault::KeyTooLong) => Ok(!fits),
+        Err(fault) => Err(fault),
+    }
+}
+
+impl Row<Global> for Length {
+    /// Whether a slice and a vector are made into a key, or refused.
+    fn holds(&self, alloc: &mut Global) -> Result<bool, Fail> {
+        let Some(bytes) = ONE_TOO_MANY.get(..self.0) else {
+            return Ok(false);
+        };
+        let moved = Key::try_from(Vec::from_slice(*alloc, bytes)?);
+        Ok(is_made(moved, bytes, self.1)? && is_made(Key::new(*alloc, bytes), bytes, self.1)?)
+    }
 }
 
 #[test]
 fn keys_and_faults(rt: HostRuntime) -> Result<(), Fail> {
-    assert!(rt; ONE_TOO_MANY.len() == 4097 && is_longest(rt.alloc())?);
+    play(&rt, &mut rt.alloc(), &LENGTHS)?;
     play(&rt, &mut rt.alloc(), &RISING)?;
     play(&rt, &mut rt.alloc(), &TEXTS)
 }
 
-/// Whether two spans overlap or don't, and are the same or not.
-fn is_pair(first: &Span, second: &Span, overlap: bool, same: bool) -> bool {
-    let overlaps = first.overlaps(second) == overlap && second.overlaps(first) == overlap;
-    overlaps && (first == second) == same
+/// Whether a span and another one overlap or don't, and are the same or not.
+fn is_pair(
+    alloc: Global,
+    first: &Span,
+    (_, second, overlap, same): Pair,
+) -> Result<bool, SpanFault> {
+    let second = make(alloc, second)?;
+    let overlaps = first.overlaps(&second) == overlap && second.overlaps(first) == overlap;
+    Ok(overlaps && (*first == second) == same)
 }
 
 impl Row<Global> for Pair {
     fn holds(&self, alloc: &mut Global) -> Result<bool, Fail> {
-        let (first, second) = (make(*alloc, self.0)?, make(*alloc, self.1)?);
-        Ok(is_pair(&first, &second, self.2, self.3))
+        Ok(is_pair(*alloc, &make(*alloc, self.0)?, *self)?)
     }
 }
 
 #[test]
 fn spans(rt: HostRuntime) -> Result<(), Fail> {
     play(&rt, &mut rt.alloc(), &SPANS)?;
+    play(&rt, &mut rt.alloc(), &INVERTED)?;
     play(&rt, &mut rt.alloc(), &PAIRS)
 }
 
@@ -403,15 +394,6 @@ fn is_copied_span(span: &Span) -> bool {
     }
 }
 
-/// Whether a span can be copied. Where memory is refused it is still as this other one, and the same call
-/// then succeeds.
-fn copies_span(span: &Span, same: &Span) -> bool {
-    match span.try_copy() {
-        Ok(copy) => copy == *same,
-        Err(NoMemory) => span == same && is_copied_span(span),
-    }
-}
-
 /// A single key, a range, a span without end, and the empty one.
 static SAMPLES: [Made; 4] = [
     (Way::Point, b"a", b""),
@@ -426,11 +408,20 @@ fn sample(alloc: Global, (way, from, to): Made) -> Result<Span, Fail> {
     Ok(span_of(way, from, key_again(alloc, to)?)?)
 }
 
+/// Whether a span can be copied. Where memory is refused it is still as this other one, and the same call
+/// then succeeds.
+fn copies_sample(alloc: Global, sampled: Made, same: &Span) -> Result<bool, Fail> {
+    let span = sample(alloc, sampled)?;
+    Ok(match span.try_copy() {
+        Ok(copy) => copy == *same,
+        Err(NoMemory) => span == *same && is_copied_span(&span),
+    })
+}
+
 impl Row<Global> for Made {
     /// Whether it can be copied.
     fn holds(&self, alloc: &mut Global) -> Result<bool, Fail> {
-        let (span, same) = (sample(*alloc, *self)?, sample(*alloc, *self)?);
-        Ok(copies_span(&span, &same))
+        copies_sample(*alloc, *self, &sample(*alloc, *self)?)
     }
 }
 
