@@ -7,7 +7,7 @@ use std::mem;
 use std::process::Abort;
 use std::test::Fail;
 use tsc_page::{LEAST_SIZE, Page, PlainPage};
-use tsc_span::{Cut, Key, Span, SpanFault};
+use tsc_span::{Cut, Key, Span};
 use tsc_time::{NoMemory, Timestamp, Value, ratchet};
 
 /// In which order keys come to a page.
