@@ -22,7 +22,7 @@ pub enum Does {
     Add(Time, Told),
     /// Each is added by itself, and tells this.
     Each(Time, Told),
-    /// Each is added in place before the rows begin, and not once more where memory is refused.
+    /// Each is added at its own time, in place, to all caches, and not once more where memory is refused.
     Begin,
     /// Each is answered.
     Look,
