@@ -7,8 +7,6 @@
 mod checks;
 mod outcome;
 mod replays;
-#[cfg(test)]
-mod tests;
 
 pub use checks::check_bytes;
 pub use outcome::Outcome;
