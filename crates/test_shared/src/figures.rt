@@ -1,166 +1,117 @@
 //! What is counted of a cache, as two seats are told it, beside a cache that isn't shared.
-use crate::party::{Guest, Home, Of, Scene, Told, config, counted_of, mark_at, play, two};
+use crate::marks::Adding;
+use crate::marks::Entry::One;
+use crate::party::By::Gate;
+use crate::party::Told::{Counted, Long, Not, Place};
+use crate::party::{Told, Why, counted_of};
+use crate::steps::Act::{self, Add, Figures, See};
+use crate::steps::{KEPT, PAGES, ROTATED, Row, Step, config_of, end, play};
 use std::alloc::Global;
-use std::process::Abort;
-use std::sync::Wait;
 use std::test::Fail;
 use tsc_cache::Cache;
-use tsc_time::NoMemory;
 
-/// Adds of the first seat, each a key with its wall time and its moment, and what there is then.
-struct Row {
-    adds: &'static [(&'static str, u64, u64)],
-    pages: u64,
-    rotations: u64,
-    /// How many keys all pages have, each of which costs 33 bytes.
-    nodes: u64,
-    /// Where the floor stands.
-    floor: u64,
-    /// How many Adds there were.
-    front: u64,
-    /// How many of these the second seat has seen, before it asks.
-    seen: u64,
-    /// Whether it asks, after the first one.
-    second_asks: bool,
-}
+/// A page has four keys, each of which costs 33 bytes. What lies ten behind the moment is dropped, but for two pages. The second seat is
+/// told what there is only where it asks.
+static ROW: Row = Row {
+    pages: PAGES,
+    seats: 2,
+    limit: 100,
+    opens_again: false,
+    steps: &[
+        (0, Figures, Counted((1, 0, 0, 0 * 33, 5), 0)),
+        (1, See, Long(0)),
+        (0, Add(One("a", 20), 20, Gate), Place(0, KEPT, 1)),
+        (0, Add(One("b", 20), 20, Gate), Place(1, KEPT, 2)),
+        (0, Figures, Counted((1, 0, 2, 2 * 33, 5), 2)),
+        (1, See, Long(0)),
+        (0, Add(One("c", 20), 20, Gate), Place(2, KEPT, 3)),
+        (0, Add(One("d", 20), 20, Gate), Place(3, KEPT, 4)),
+        (0, Add(One("a", 21), 20, Gate), Place(4, KEPT, 5)),
+        (0, Figures, Counted((1, 0, 4, 4 * 33, 5), 5)),
+        (1, See, Long(0)),
+        (1, Figures, Counted((1, 0, 4, 4 * 33, 5), 5)),
+        (1, See, Long(5)),
+        (0, Add(One("e", 20), 20, Gate), Place(5, ROTATED, 6)),
+        (0, Figures, Counted((2, 1, 5, 5 * 33, 5), 6)),
+        (1, See, Long(5)),
+        (0, Add(One("f", 20), 20, Gate), Place(6, KEPT, 7)),
+        (0, Add(One("g", 20), 20, Gate), Place(7, KEPT, 8)),
+        (0, Add(One("h", 20), 20, Gate), Place(8, KEPT, 9)),
+        (0, Add(One("i", 20), 20, Gate), Place(9, ROTATED, 10)),
+        (0, Figures, Counted((3, 2, 9, 9 * 33, 5), 10)),
+        (1, See, Long(5)),
+        // Two pages are dropped.
+        (0, Add(One("j", 50), 50, Gate), Place(10, KEPT, 11)),
+        (0, Add(One("k", 50), 50, Gate), Place(11, KEPT, 12)),
+        (0, Add(One("l", 50), 50, Gate), Place(12, KEPT, 13)),
+        (
+            0,
+            Add(One("m", 50), 50, Gate),
+            Place(13, (true, true, 2), 14),
+        ),
+        (0, Figures, Counted((2, 3, 5, 5 * 33, 21), 14)),
+        (1, See, Long(5)),
+        (1, Figures, Counted((2, 3, 5, 5 * 33, 21), 14)),
+        (1, See, Long(14)),
+        // It is not kept.
+        (
+            0,
+            Add(One("a", 21), 50, Gate),
+            Place(14, (false, false, 0), 15),
+        ),
+        (0, Figures, Counted((2, 3, 5, 5 * 33, 21), 15)),
+        (1, See, Long(14)),
+        (1, Figures, Counted((2, 3, 5, 5 * 33, 21), 15)),
+        (1, See, Long(15)),
+    ],
+};
 
-/// A page has four keys. What lies ten behind the moment is dropped, but for two pages.
-static ROWS: [Row; 7] = [
-    Row {
-        adds: &[],
-        pages: 1,
-        rotations: 0,
-        nodes: 0,
-        floor: 5,
-        front: 0,
-        seen: 0,
-        second_asks: false,
-    },
-    Row {
-        adds: &[("a", 20, 20), ("b", 20, 20)],
-        pages: 1,
-        rotations: 0,
-        nodes: 2,
-        floor: 5,
-        front: 2,
-        seen: 0,
-        second_asks: false,
-    },
-    Row {
-        adds: &[("c", 20, 20), ("d", 20, 20), ("a", 21, 20)],
-        pages: 1,
-        rotations: 0,
-        nodes: 4,
-        floor: 5,
-        front: 5,
-        seen: 0,
-        second_asks: true,
-    },
-    Row {
-        adds: &[("e", 20, 20)],
-        pages: 2,
-        rotations: 1,
-        nodes: 5,
-        floor: 5,
-        front: 6,
-        seen: 5,
-        second_asks: false,
-    },
-    Row {
-        adds: &[("f", 20, 20), ("g", 20, 20), ("h", 20, 20), ("i", 20, 20)],
-        pages: 3,
-        rotations: 2,
-        nodes: 9,
-        floor: 5,
-        front: 10,
-        seen: 5,
-        second_asks: false,
-    },
-    // Two pages are dropped.
-    Row {
-        adds: &[("j", 50, 50), ("k", 50, 50), ("l", 50, 50), ("m", 50, 50)],
-        pages: 2,
-        rotations: 3,
-        nodes: 5,
-        floor: 21,
-        front: 14,
-        seen: 5,
-        second_asks: true,
-    },
-    // It is not kept.
-    Row {
-        adds: &[("a", 21, 50)],
-        pages: 2,
-        rotations: 3,
-        nodes: 5,
-        floor: 21,
-        front: 15,
-        seen: 14,
-        second_asks: true,
-    },
-];
-
-impl Row {
-    /// What a seat is told.
-    fn told(&self) -> Told {
-        let bytes = self.nodes.saturating_mul(33);
-        let counts = (self.pages, self.rotations, self.nodes, bytes, self.floor);
-        Told::Counted(counts, self.front)
+/// Whether a cache that isn't shared takes an Add.
+fn takes(alone: &mut Cache, adding: &Adding) -> bool {
+    match adding {
+        Adding::One(mark, now) => alone.add(&mark.span, mark.value, *now).is_ok(),
+        Adding::Several(marks, now) => alone.add_all(marks.as_slice(), *now).is_ok(),
     }
 }
 
-/// The first seat makes the Adds, and they are made to the other cache too.
-fn add_row<C: Of, R: Wait>(
-    rt: &R,
-    alloc: Global,
-    home: &Home<C>,
-    first: &mut Guest<C>,
-    alone: &mut Cache,
-    row: &Row,
-) -> Result<(), Fail> {
-    for (key, wall, now) in row.adds {
-        let mark = mark_at(alloc, key, *wall, *now)?;
-        home.add(rt, first, &mark).ok_or(NoMemory)?;
-        alone.add(&mark.span, mark.value, mark.now)?;
+/// What is told of a step with such a cache: of an Add that it was made, and of figures what it counts, where that is what the step tells.
+fn take_alone(alloc: Global, alone: &mut Cache, act: &Act, told: Told) -> Told {
+    if let Add(entry, now, _) = act {
+        return match Adding::of(alloc, entry, *now) {
+            Some(adding) if takes(alone, &adding) => Not(Why::Done),
+            _ => Not(Why::NoMemory),
+        };
     }
-    Ok(())
+    match told {
+        Counted(_, front) if counted_of(alone.figures(), front) != told => told,
+        _ => Not(Why::Done),
+    }
 }
 
-/// Whether the second seat has seen what the row says, and is told what there is where it asks.
-fn second_is_told<C: Of>(home: &Home<C>, second: &mut Guest<C>, row: &Row) -> bool {
-    let seen = second.seen() == row.seen;
-    seen && (!row.second_asks || (home.figures(second) == row.told() && second.seen() == row.front))
-}
-
-/// The rows, one after the other.
-struct Asked;
-
-impl Scene for Asked {
-    fn play<C: Of, R: Wait + Abort>(
-        &self,
-        rt: &R,
-        alloc: Global,
-        home: Home<C>,
-        guests: Vec<Guest<C>>,
-    ) -> Result<(), Fail> {
-        let (mut first, mut second) = two(guests).ok_or("two seats")?;
-        let mut alone = Cache::new(alloc, config()?)?;
-        for row in &ROWS {
-            add_row(rt, alloc, &home, &mut first, &mut alone, row)?;
-            assert_eq!(rt; home.figures(&mut first), row.told(), "{}", row.front);
-            assert_eq!(rt;
-                counted_of(alone.figures(), row.front),
-                row.told(),
-                "{}",
-                row.front
-            );
-            assert!(rt; second_is_told(&home, &mut second, row), "{}", row.front);
+/// The first step that such a cache tells something else of.
+fn take_all_alone(alloc: Global, mut alone: Cache, steps: &[Step]) -> Told {
+    for (_, act, told) in steps {
+        let told = take_alone(alloc, &mut alone, act, *told);
+        if told != Not(Why::Done) {
+            return told;
         }
-        Ok(())
+    }
+    Not(Why::Done)
+}
+
+/// The same with a new cache.
+fn play_alone(alloc: Global, row: &Row) -> Told {
+    let Ok(config) = config_of(row.pages) else {
+        return Not(Why::Gone);
+    };
+    match Cache::new(alloc, config) {
+        Ok(alone) => take_all_alone(alloc, alone, row.steps),
+        Err(_refused) => Not(Why::NoMemory),
     }
 }
 
 #[test]
 fn seats_are_told_what_is_counted(rt: HostRuntime) -> Result<(), Fail> {
-    play(&rt, rt.alloc(), 100, false, &Asked)
+    play(&rt, rt.alloc(), &ROW)?;
+    end(&rt, play_alone(rt.alloc(), &ROW))
 }

@@ -1,14 +1,14 @@
 //! Fronts that go to other threads by channels.
-use crate::party::{Guest, Home, Letter, Mark, Of, Told, mark_at};
-use crate::threads::{Scene, Script, at_once, play};
+use crate::marks::Adding;
+use crate::party::{By, Guest, Home, Letter, Of, Told};
+use crate::steps::Act::{AtOnce, Close};
+use crate::steps::{PAGES, Row, play};
+use crate::threads::{Meeting, Scene, check};
 use crossbeam_channel::{Receiver, Sender};
-use std::alloc::{AllocError, Global};
+use std::alloc::Global;
 use std::process::Abort;
 use std::sync::Wait;
 use std::test::Fail;
-use std::thread::Threads;
-
-const SEATS: u32 = 8;
 
 /// How many Adds each seat makes.
 const EACH: u32 = 1250;
@@ -16,81 +16,30 @@ const EACH: u32 = 1250;
 /// The key of each seat.
 static KEYS: [&str; 8] = ["a", "b", "c", "d", "e", "f", "g", "h"];
 
-/// A front with the Add that it is of.
+/// A front with the key and the time of the Add that it is of.
 #[derive(Drop)]
 struct Post<C: Of> {
     letter: Letter<C>,
-    mark: Mark,
+    key: &'static str,
+    time: u64,
 }
 
+/// A channel to a seat.
 #[derive(Drop)]
-struct Channel<C: Of> {
+pub struct Channel<C: Of> {
     to: Sender<Post<C>>,
     from: Receiver<Post<C>>,
 }
 
-/// A channel to each seat.
-#[derive(Drop)]
-struct Channels<C: Of> {
-    to_seats: Vec<Channel<C>>,
-}
-
-/// An Add of the seat's own key, at a time.
-fn add_own<C: Of, R: Wait>(
-    rt: &R,
-    alloc: Global,
-    home: &Home<C>,
-    guest: &mut Guest<C>,
-    time: u64,
-) -> Option<Post<C>> {
-    let key = KEYS.get(guest.number() as usize)?;
-    let mark = mark_at(alloc, key, time, time).ok()?;
-    home.add(rt, guest, &mark)?;
-    let letter = guest.letter.take()?;
-    Some(Post { letter, mark })
-}
-
-impl<C: Of> Channels<C> {
-    fn new(alloc: Global) -> Result<Channels<C>, AllocError> {
-        let mut to_seats = Vec::new(alloc);
-        for _ in 0..SEATS {
-            let (to, from) = crossbeam_channel::unbounded(alloc)?;
-            to_seats.push(Channel { to, from })?;
+impl<C: Of> Channel<C> {
+    /// So many. `None` where memory is refused.
+    pub fn all(alloc: Global, count: u64) -> Option<Vec<Channel<C>>> {
+        let mut all = Vec::new(alloc);
+        for _ in 0..count {
+            let (to, from) = crossbeam_channel::unbounded(alloc).ok()?;
+            all.push(Channel { to, from }).ok()?;
         }
-        Ok(Channels { to_seats })
-    }
-
-    /// Adds at a time, and sends the front to the next seat.
-    fn send<R: Wait>(
-        &self,
-        rt: &R,
-        alloc: Global,
-        home: &Home<C>,
-        guest: &mut Guest<C>,
-        time: u64,
-    ) -> Option<()> {
-        let next = self.to_seats.get((guest.number() as usize + 1) % 8)?;
-        let post = add_own(rt, alloc, home, guest, time)?;
-        next.to.send(rt, post).ok()
-    }
-
-    /// Learns the next front that comes, and asks for its Add. What the answer has to come up to is told with it.
-    fn receive<R: Wait>(
-        &self,
-        rt: &R,
-        home: &Home<C>,
-        guest: &mut Guest<C>,
-    ) -> Option<(u64, u64, Told, Told)> {
-        let own = self.to_seats.get(guest.number() as usize)?;
-        let Post { letter, mark } = own.from.recv(rt).ok()?;
-        let front = letter.len();
-        let long = home.learn(guest, letter);
-        Some((
-            front,
-            mark.value.time().wall(),
-            long,
-            home.get(guest, &mark.span),
-        ))
+        Some(all)
     }
 }
 
@@ -104,47 +53,85 @@ fn has(least: u64, time: u64, long: Told, seen: Told) -> bool {
     }
 }
 
-impl<C: Of> Script<C> for Channels<C> {
-    fn run<R: Wait + Abort>(
+impl<C: Of> Meeting<'_, C> {
+    /// An Add of the seat's own key, at a time, with its front.
+    fn post<R: Wait + Abort>(
         &self,
         rt: &R,
         alloc: Global,
         home: &Home<C>,
         guest: &mut Guest<C>,
-    ) -> Option<()> {
-        for round in 0..EACH {
-            self.send(rt, alloc, home, guest, 20 + u64::from(round))?;
-            let (least, time, long, seen) = self.receive(rt, home, guest)?;
-            assert!(rt;
-                has(least, time, long, seen),
-                "{least}, {time}, {long:?}, {seen:?}"
-            );
-        }
-        Some(())
+        time: u64,
+    ) -> Option<Post<C>> {
+        let key = *KEYS.get(guest.number() as usize)?;
+        let adding = Adding::one(alloc, key, time, time)?;
+        self.add(rt, home, guest, &adding, By::Gate);
+        let letter = guest.letter.take()?;
+        Some(Post { letter, key, time })
+    }
+
+    /// Sends a front to the next seat, and takes the next one that comes.
+    fn exchange<R: Wait>(&self, rt: &R, number: usize, post: Post<C>) -> Option<Post<C>> {
+        self.channels
+            .get(number.saturating_add(1) % 8)?
+            .to
+            .send(rt, post)
+            .ok()?;
+        self.channels.get(number)?.from.recv(rt).ok()
+    }
+
+    /// Learns a front that came, and tells whether its Add is seen then.
+    fn has_come(&self, home: &Home<C>, guest: &mut Guest<C>, post: Post<C>) -> bool {
+        let Post { letter, key, time } = post;
+        let least = letter.len();
+        let long = home.learn(guest, letter);
+        let seen = home.get_key(guest, key);
+        has(least, time, long, seen)
+    }
+
+    /// Adds, sends the front on, and learns the one that comes. `None` where memory or a channel is refused.
+    fn send_one<R: Wait + Abort>(
+        &self,
+        rt: &R,
+        alloc: Global,
+        home: &Home<C>,
+        guest: &mut Guest<C>,
+        time: u64,
+    ) -> Option<bool> {
+        let post = self.post(rt, alloc, home, guest, time)?;
+        let come = self.exchange(rt, guest.number() as usize, post)?;
+        Some(self.has_come(home, guest, come))
+    }
+
+    /// A round of a seat.
+    pub fn send_on<R: Wait + Abort>(
+        &self,
+        rt: &R,
+        alloc: Global,
+        home: &Home<C>,
+        guest: &mut Guest<C>,
+        round: u32,
+    ) -> bool {
+        let time = u64::from(round).saturating_add(20);
+        let has_come = self.send_one(rt, alloc, home, guest, time);
+        check(rt, has_come == Some(true), Told::Long(time));
+        round.saturating_add(1) < EACH
     }
 }
 
 /// Each seat sends the fronts of its Adds to the next one.
-pub fn send_round<C: Of + Send + Sync, R: Threads + Wait + Abort + Sync>(
-    rt: &R,
-    alloc: Global,
-    home: Home<C>,
-    guests: Vec<Guest<C>>,
-) -> Result<(), Fail> {
-    let script = Channels::new(alloc)?;
-    let guests = at_once(rt, alloc, &home, guests, &script)?;
-    let adds = u64::from(SEATS) * u64::from(EACH);
-    assert_eq!(rt; home.adds(rt, alloc, guests)?, Some(adds));
-    Ok(())
-}
+static RING: Row = Row {
+    pages: PAGES,
+    seats: 8,
+    limit: 10_000,
+    opens_again: false,
+    steps: &[
+        (0, AtOnce(Scene::Ring), Told::Long(10_000)),
+        (0, Close, Told::Long(10_000)),
+    ],
+};
 
 #[test]
 fn who_learns_a_front_sees_its_add(rt: HostRuntime) -> Result<(), Fail> {
-    play(
-        &rt,
-        rt.alloc(),
-        SEATS,
-        u64::from(SEATS) * u64::from(EACH),
-        &Scene::Ring,
-    )
+    play(&rt, rt.alloc(), &RING)
 }

@@ -18,6 +18,8 @@ mod held;
 #[cfg(test)]
 mod large;
 #[cfg(test)]
+mod marks;
+#[cfg(test)]
 mod memory;
 #[cfg(test)]
 mod party;
@@ -28,8 +30,12 @@ mod returned;
 #[cfg(test)]
 mod rows;
 #[cfg(test)]
+mod steps;
+#[cfg(test)]
 mod texts;
 #[cfg(test)]
 mod threads;
 #[cfg(test)]
 mod tries;
+#[cfg(test)]
+mod watch;

@@ -1,21 +1,21 @@
 //! A shared cache with its seats and fronts, which show by their types that they belong together. So they can go
-//! through threads and channels, and need no clauses there.
+//! through threads and channels, and need no clauses there. And what each call tells.
 ghost use Rattle.std.specs.Prelude.{◌≡◌, [], All, IfOk};
 ghost use Rattle.tsc_shared.specs.Answers.{Opens};
 
-use crate::batches::Batch;
+use crate::marks::{Adding, at, owner_of};
+use crate::texts::reads_alike;
+use crate::watch::Watch;
 use std::alloc::Global;
 use std::marker::{Brand, PhantomData};
-use std::process::Abort;
 use std::sync::Wait;
 use std::test::Fail;
-use tsc_cache::{Config, ConfigFault, Figures};
-use tsc_shared::{AddFault, Closed, Front, Gate, NoGate, Receipt, Seat, SharedCache, TryAddFault};
-use tsc_span::{Ends, Key, Span, SpanFault};
-use tsc_time::{NoMemory, Timestamp, Value};
-use uuid::Uuid;
+use tsc_cache::{Config, Figures};
+use tsc_shared::{AddFault, Closed, Front, Gate, Gone, Receipt, Seat, SharedCache, TryAddFault};
+use tsc_span::{Ends, Span};
+use tsc_time::{NoMemory, Value};
 
-/// Which cache it is. Each scene picks its own.
+/// Which cache it is. Each test picks its own.
 pub trait Of {
     ghost use Rattle.tsc_shared.specs.Seats.{SharedView};
 
@@ -44,26 +44,19 @@ pub struct Letter<C: Of> {
     ghost is: { front.cache ≡ C.cache },
 }
 
-/// A seat, and the front that it was told last, until it hands that on.
+/// A seat, the front that it was told last, until it hands that on, and what it saw when it last looked around.
 #[derive(Drop)]
 pub struct Guest<C: Of> {
     seat: Seat,
     pub letter: Option<Letter<C>>,
+    pub saw: (u64, Told, Told, Told),
     ghost is: { seat.cache ≡ C.cache },
-}
-
-/// A span with its value and its moment.
-#[derive(Drop)]
-pub struct Mark {
-    pub span: Span,
-    pub value: Value,
-    pub now: Timestamp,
 }
 
 /// The pages, the rotations, the nodes, the bytes, and the wall time of the floor.
 pub type Counts = (u64, u64, u64, u64, u64);
 
-/// What a seat is told.
+/// What is told of a step.
 #[derive(Clone, Copy, Debug, PartialEq, Eq)]
 pub enum Told {
     /// The place, whether the Add was kept, whether the pages rotated, how many were dropped, and the length of
@@ -75,14 +68,33 @@ pub enum Told {
     Value((u64, u32), Owner, u64),
     /// What is counted of the cache, and the length of the front.
     Counted(Counts, u64),
-    /// A length.
+    /// A number.
     Long(u64),
+    Not(Why),
+}
+
+/// What is told without a number.
+#[derive(Clone, Copy, Debug, PartialEq, Eq)]
+pub enum Why {
     TooLarge,
+    NoMemory,
     /// The desk was held at each try.
     Busy,
     /// A seat was inside a lookup each time.
     Inside,
     Gone,
+    /// No thread could be had.
+    NoThread,
+    /// It was refused again.
+    Again,
+    /// A refusal changed what can be seen.
+    Changed,
+    /// A text is another one.
+    Text,
+    /// A seat is missing, and the cache stays open.
+    Open,
+    /// It was done.
+    Done,
 }
 
 #[derive(Clone, Copy, Debug, PartialEq, Eq)]
@@ -93,44 +105,15 @@ pub enum Owner {
     Other,
 }
 
-/// 11111111-1111-4111-8111-111111111111
-const FIRST: [u8; 16] = [
-    0x11, 0x11, 0x11, 0x11, 0x11, 0x11, 0x41, 0x11, 0x81, 0x11, 0x11, 0x11, 0x11, 0x11, 0x11, 0x11,
-];
-
-/// A floor at 5.0, and pages of 132 bytes, which are four nodes with keys of one byte, of which two are kept at the least.
-pub fn config() -> Result<Config, ConfigFault> {
-    Config::new(132, 132, 2, 10, at(5))
-}
-
-/// A time of no logical count.
-pub fn at(wall: u64) -> Timestamp {
-    Timestamp::new(wall, 0).unwrap_or(Timestamp::MAX)
-}
-
-pub fn point(alloc: Global, key: &str) -> Result<Span, SpanFault> {
-    Ok(Span::point(Key::new(alloc, key.as_bytes())?))
-}
-
-/// A key at a wall time, by the first owner, at a moment.
-pub fn mark_at(alloc: Global, key: &str, wall: u64, now: u64) -> Result<Mark, SpanFault> {
-    Ok(Mark {
-        span: point(alloc, key)?,
-        value: Value::of(at(wall), Uuid::from_bytes(FIRST)),
-        now: at(now),
-    })
-}
-
-/// Which owner it is.
-fn owner_of(value: Value) -> Owner {
-    let Some(owner) = value.owner() else {
-        return Owner::None;
-    };
-    if owner == Uuid::from_bytes(FIRST) {
-        Owner::First
-    } else {
-        Owner::Other
-    }
+/// By which call an entry is added.
+#[derive(Clone, Copy)]
+pub enum By {
+    /// With a gate. Its front is kept.
+    Gate,
+    /// Without one.
+    Plain,
+    /// The one that gives up after so many tries.
+    Tries(u32),
 }
 
 /// What is told of these figures.
@@ -159,15 +142,23 @@ fn place_of(receipt: &Receipt) -> Told {
     Told::Place(receipt.place, what, receipt.front.len())
 }
 
-/// What an Add tells that may be given up. `None` where it is refused memory.
-fn told_at(tried: Result<Receipt, TryAddFault>) -> Option<Told> {
+/// What an Add tells that may be given up.
+fn told_at(tried: Result<Receipt, TryAddFault>) -> Told {
     match tried {
-        Ok(receipt) => Some(place_of(&receipt)),
-        Err(TryAddFault::DeskBusy) => Some(Told::Busy),
-        Err(TryAddFault::SeatInside) => Some(Told::Inside),
-        Err(TryAddFault::Refused(AddFault::HistoryFull(front))) => Some(Told::Full(front.len())),
-        Err(TryAddFault::Refused(AddFault::NoMemory)) => None,
-        Err(TryAddFault::Refused(AddFault::TooLarge)) => Some(Told::TooLarge),
+        Ok(receipt) => place_of(&receipt),
+        Err(TryAddFault::DeskBusy) => Told::Not(Why::Busy),
+        Err(TryAddFault::SeatInside) => Told::Not(Why::Inside),
+        Err(TryAddFault::Refused(AddFault::HistoryFull(front))) => Told::Full(front.len()),
+        Err(TryAddFault::Refused(AddFault::NoMemory)) => Told::Not(Why::NoMemory),
+        Err(TryAddFault::Refused(AddFault::TooLarge)) => Told::Not(Why::TooLarge),
+    }
+}
+
+/// What an Add tells that waits.
+fn told_by(added: Result<Receipt, AddFault>) -> Told {
+    match added {
+        Ok(receipt) => place_of(&receipt),
+        Err(fault) => told_at(Err(TryAddFault::Refused(fault))),
     }
 }
 
@@ -195,124 +186,139 @@ impl<C: Of> Guest<C> {
 }
 
 impl<C: Of> Home<C> {
-    /// What an Add tells, and the front, which the guest then has, if there is one. `None` where it is refused memory.
+    /// What an Add tells, and its front, which the guest then has, if there is one.
     pub fn add_gated<R: Wait, G: Gate>(
         &self,
         rt: &R,
         guest: &mut Guest<C>,
-        mark: &Mark,
+        adding: &Adding,
         gate: &G,
-    ) -> Option<Told> {
-        let (told, front) = match self.cache.add_gated(
-            rt,
-            &mut guest.seat,
-            &mark.span,
-            mark.value,
-            mark.now,
-            gate,
-        ) {
+    ) -> Told {
+        let seat = &mut guest.seat;
+        let added = match adding {
+            Adding::One(mark, now) => {
+                self.cache
+                    .add_gated(rt, seat, &mark.span, mark.value, *now, gate)
+            }
+            Adding::Several(marks, now) => {
+                self.cache
+                    .add_all_gated(rt, seat, marks.as_slice(), *now, gate)
+            }
+        };
+        let (told, front) = match added {
             Ok(receipt) => (place_of(&receipt), receipt.front),
             Err(AddFault::HistoryFull(front)) => (Told::Full(front.len()), front),
-            Err(AddFault::NoMemory) => return None,
-            Err(AddFault::TooLarge) => return Some(Told::TooLarge),
+            Err(AddFault::NoMemory) => return Told::Not(Why::NoMemory),
+            Err(AddFault::TooLarge) => return Told::Not(Why::TooLarge),
         };
         guest.letter = Some(Letter {
             front,
             of: PhantomData,
         });
-        Some(told)
+        told
     }
 
-    /// The same of several marks, as one Add.
-    pub fn add_batch<R: Wait, G: Gate>(
+    /// What an Add tells, by a call with this gate or by one without it.
+    pub fn add<R: Wait>(
         &self,
         rt: &R,
         guest: &mut Guest<C>,
-        batch: &Batch,
-        gate: &G,
-    ) -> Option<Told> {
-        let (told, front) = match self.cache.add_all_gated(
-            rt,
-            &mut guest.seat,
-            batch.marks.as_slice(),
-            at(batch.now),
-            gate,
-        ) {
-            Ok(receipt) => (place_of(&receipt), receipt.front),
-            Err(AddFault::HistoryFull(front)) => (Told::Full(front.len()), front),
-            Err(AddFault::NoMemory) => return None,
-            Err(AddFault::TooLarge) => return Some(Told::TooLarge),
-        };
-        guest.letter = Some(Letter {
-            front,
-            of: PhantomData,
-        });
-        Some(told)
-    }
-
-    /// What several marks tell as one Add that is accepted, by the call without a gate. `None` where they are refused.
-    pub fn add_together<R: Wait>(
-        &self,
-        rt: &R,
-        guest: &mut Guest<C>,
-        batch: &Batch,
-    ) -> Option<Told> {
-        let (marks, now) = (batch.marks.as_slice(), at(batch.now));
-        match self.cache.add_all(rt, &mut guest.seat, marks, now) {
-            Ok(receipt) => Some(place_of(&receipt)),
-            Err(_refused) => None,
+        adding: &Adding,
+        by: By,
+        gate: &Watch,
+    ) -> Told {
+        match by {
+            By::Gate => self.add_gated(rt, guest, adding, gate),
+            By::Plain => self.add_plain(rt, guest, adding),
+            By::Tries(tries) => self.try_add(guest, adding, tries),
         }
     }
 
-    /// The same of one mark with a gate that holds nobody up.
-    pub fn add<R: Wait>(&self, rt: &R, guest: &mut Guest<C>, mark: &Mark) -> Option<Told> {
-        self.add_gated(rt, guest, mark, &NoGate)
+    fn add_plain<R: Wait>(&self, rt: &R, guest: &mut Guest<C>, adding: &Adding) -> Told {
+        let seat = &mut guest.seat;
+        match adding {
+            Adding::One(mark, now) => {
+                told_by(self.cache.add(rt, seat, &mark.span, mark.value, *now))
+            }
+            Adding::Several(marks, now) => {
+                told_by(self.cache.add_all(rt, seat, marks.as_slice(), *now))
+            }
+        }
     }
 
-    /// What an Add tells that is given up after so many tries. `None` where it is refused memory.
-    pub fn try_add(&self, guest: &mut Guest<C>, mark: &Mark, tries: u32) -> Option<Told> {
-        told_at(
-            self.cache
-                .try_add(&mut guest.seat, &mark.span, mark.value, mark.now, tries),
-        )
+    /// Whether an Add of a mark by itself is refused with this text, and one that does not wait would be too.
+    pub fn refuses<R: Wait>(
+        &self,
+        rt: &R,
+        alloc: Global,
+        guest: &mut Guest<C>,
+        adding: &Adding,
+        text: &str,
+    ) -> Told {
+        let Adding::One(mark, now) = adding else {
+            return Told::Not(Why::Gone);
+        };
+        match self
+            .cache
+            .add(rt, &mut guest.seat, &mark.span, mark.value, *now)
+        {
+            Ok(receipt) => place_of(&receipt),
+            Err(fault) => reads_alike(alloc, fault, text),
+        }
     }
 
-    /// The same of several marks, as one Add.
-    pub fn try_batch(&self, guest: &mut Guest<C>, batch: &Batch, tries: u32) -> Option<Told> {
-        let (marks, now) = (batch.marks.as_slice(), at(batch.now));
-        told_at(self.cache.try_add_all(&mut guest.seat, marks, now, tries))
+    fn try_add(&self, guest: &mut Guest<C>, adding: &Adding, tries: u32) -> Told {
+        let seat = &mut guest.seat;
+        match adding {
+            Adding::One(mark, now) => told_at(
+                self.cache
+                    .try_add(seat, &mark.span, mark.value, *now, tries),
+            ),
+            Adding::Several(marks, now) => {
+                told_at(self.cache.try_add_all(seat, marks.as_slice(), *now, tries))
+            }
+        }
     }
 
     pub fn get(&self, guest: &mut Guest<C>, span: &Span) -> Told {
         match self.cache.get_max(&mut guest.seat, span) {
             Ok(answer) => told_of(answer.value, answer.front),
-            Err(_gone) => Told::Gone,
+            Err(Gone) => Told::Not(Why::Gone),
         }
     }
 
-    /// The same of the keys from a start to an end.
+    /// The same of the keys from a start to an end, of which either may be excluded.
     pub fn get_between(
         &self,
         guest: &mut Guest<C>,
         start: &str,
         end: Option<&str>,
-        ends: Ends,
+        (exclude_from, exclude_to): (bool, bool),
     ) -> Told {
         let (start, end) = (start.as_bytes(), end.map(|end| end.as_bytes()));
+        let ends = Ends {
+            exclude_from,
+            exclude_to,
+        };
         match self
             .cache
             .get_max_between(&mut guest.seat, start, end, ends)
         {
             Ok(answer) => told_of(answer.value, answer.front),
-            Err(_gone) => Told::Gone,
+            Err(Gone) => Told::Not(Why::Gone),
         }
+    }
+
+    /// The same of one key.
+    pub fn get_key(&self, guest: &mut Guest<C>, key: &str) -> Told {
+        self.get_between(guest, key, Some(key), (false, false))
     }
 
     /// The floor, which has no owner.
     pub fn low(&self, guest: &mut Guest<C>) -> Told {
         match self.cache.low_water(&mut guest.seat) {
             Ok(floor) => told_of(Value::unowned(floor.time), floor.front),
-            Err(_gone) => Told::Gone,
+            Err(Gone) => Told::Not(Why::Gone),
         }
     }
 
@@ -320,17 +326,35 @@ impl<C: Of> Home<C> {
     pub fn figures(&self, guest: &mut Guest<C>) -> Told {
         match self.cache.figures(&mut guest.seat) {
             Ok(answer) => counted_of(answer.figures, answer.front),
-            Err(_gone) => Told::Gone,
+            Err(Gone) => Told::Not(Why::Gone),
         }
+    }
+
+    /// What a seat counts, and is told of the keys from `a` to `z`, of what is added, and of the floor.
+    pub fn look(&self, guest: &mut Guest<C>, adding: &Adding) -> (u64, Told, Told, Told) {
+        let all = self.get_between(guest, "a", Some("z"), (false, true));
+        let own = match adding {
+            Adding::One(mark, _) => self.get(guest, &mark.span),
+            Adding::Several(_, _) => all,
+        };
+        (guest.count(), all, own, self.low(guest))
     }
 
     pub fn learn(&self, guest: &mut Guest<C>, letter: Letter<C>) -> Told {
         match self.cache.learn(&mut guest.seat, letter.front) {
             Ok(long) => Told::Long(long),
-            Err(_gone) => Told::Gone,
+            Err(Gone) => Told::Not(Why::Gone),
         }
     }
 }
+
+/// What a seat saw that did not look yet.
+const NOTHING: (u64, Told, Told, Told) = (
+    0,
+    Told::Not(Why::Gone),
+    Told::Not(Why::Gone),
+    Told::Not(Why::Gone),
+);
 
 /// How a cache ends: closed, or with a seat missing, and then as it was.
 #[derive(Drop)]
@@ -344,31 +368,43 @@ fn guests_of<C: Of>(alloc: Global, seats: Vec<Seat>) -> Result<Vec<Guest<C>>, No
 {
     let mut guests = Vec::with_capacity(alloc, seats.len())?;
     for seat in seats {
-        guests.push(Guest { seat, letter: None })?;
+        guests.push(Guest {
+            seat,
+            letter: None,
+            saw: NOTHING,
+        })?;
     }
     Ok(guests)
 }
 
-fn seats_of<C: Of>(alloc: Global, guests: Vec<Guest<C>>) -> Result<Vec<Seat>, NoMemory>
+/// The seats, in this room, which is empty.
+fn seats_of<C: Of>(mut room: Vec<Seat>, guests: Vec<Guest<C>>) -> Result<Vec<Seat>, NoMemory>
+    requires { room.items ≡ [] }
     ensures { IfOk result (λ seats. All (λ seat. seat.cache ≡ C.cache) seats.items) }
 {
-    let mut seats = Vec::with_capacity(alloc, guests.len())?;
     for guest in guests {
-        let Guest { seat, letter: _ } = guest;
-        seats.push(seat)?;
+        let Guest {
+            seat,
+            letter: _,
+            saw: _,
+        } = guest;
+        room.push(seat)?;
     }
-    Ok(seats)
+    Ok(room)
 }
 
 impl<C: Of> Home<C> {
+    /// It takes no memory where there is room for the seats, and none is missing.
     pub fn close<R: Wait>(
         self,
         rt: &R,
         alloc: Global,
+        room: Vec<Seat>,
         guests: Vec<Guest<C>>,
-    ) -> Result<Ended<C>, NoMemory> {
-        let seats = seats_of(alloc, guests)?;
-        match self.cache.close(rt, seats) {
+    ) -> Result<Ended<C>, NoMemory>
+        requires { room.items ≡ [] }
+    {
+        match self.cache.close(rt, seats_of(room, guests)?) {
             Ok(closed) => Ok(Ended::Closed(closed)),
             Err(out) => {
                 let home = Home {
@@ -379,87 +415,6 @@ impl<C: Of> Home<C> {
             }
         }
     }
-
-    /// What a cache of these two seats holds. It takes no memory where there is room for them.
-    pub fn close_in<R: Wait>(
-        self,
-        rt: &R,
-        mut room: Vec<Seat>,
-        first: Guest<C>,
-        second: Guest<C>,
-    ) -> Result<Closed, Fail>
-        requires { room.items ≡ [] }
-    {
-        let Guest { seat, letter: _ } = first;
-        room.push(seat)?;
-        let Guest { seat, letter: _ } = second;
-        room.push(seat)?;
-        match self.cache.close(rt, room) {
-            Ok(closed) => Ok(closed),
-            Err(_out) => Err("a seat is missing".into()),
-        }
-    }
-
-    /// How many Adds there were, where all seats are there.
-    pub fn adds<R: Wait>(
-        self,
-        rt: &R,
-        alloc: Global,
-        guests: Vec<Guest<C>>,
-    ) -> Result<Option<u64>, NoMemory> {
-        match self.close(rt, alloc, guests)? {
-            Ended::Closed(closed) => Ok(Some(closed.adds)),
-            Ended::Out(_home, _guests) => Ok(None),
-        }
-    }
-}
-
-/// The first two of some seats.
-pub fn two<C: Of>(mut guests: Vec<Guest<C>>) -> Option<(Guest<C>, Guest<C>)> {
-    let second = guests.pop()?;
-    let first = guests.pop()?;
-    Some((first, second))
-}
-
-/// How many Adds there were, where these are all seats.
-pub fn adds_of_two<C: Of, R: Wait>(
-    rt: &R,
-    alloc: Global,
-    home: Home<C>,
-    first: Guest<C>,
-    second: Guest<C>,
-) -> Result<Option<u64>, NoMemory> {
-    let mut guests = Vec::with_capacity(alloc, 2)?;
-    guests.push(first)?;
-    guests.push(second)?;
-    home.adds(rt, alloc, guests)
-}
-
-/// The first of these seats makes Adds of these keys, with their wall times and moments.
-pub fn add_all<C: Of, R: Wait>(
-    rt: &R,
-    alloc: Global,
-    home: &Home<C>,
-    guests: &mut [Guest<C>],
-    marks: &[(&str, u64, u64)],
-) -> Result<(), Fail> {
-    let first = guests.first_mut().ok_or("a seat")?;
-    for (key, wall, now) in marks {
-        let told = home.add(rt, first, &mark_at(alloc, key, *wall, *now)?);
-        told.ok_or(NoMemory)?;
-    }
-    Ok(())
-}
-
-/// What is played with a cache and its seats, on one thread.
-pub trait Scene {
-    fn play<C: Of, R: Wait + Abort>(
-        &self,
-        rt: &R,
-        alloc: Global,
-        home: Home<C>,
-        guests: Vec<Guest<C>>,
-    ) -> Result<(), Fail>;
 }
 
 /// The cache and its seats, with types that show that they belong together.
@@ -479,59 +434,22 @@ pub fn together<C: Of>(
     Ok((home, guests))
 }
 
-fn enter<C: Of, R: Wait + Abort, S: Scene>(
-    rt: &R,
-    alloc: Global,
-    scene: &S,
-    cache: SharedCache,
-    seats: Vec<Seat>,
-) -> Result<(), Fail>
-    requires cache { cache ≡ C.cache }
-    requires seats { All (λ seat. seat.cache ≡ C.cache) seats.items }
-{
-    let (home, guests) = together::<C>(alloc, cache, seats)?;
-    scene.play::<C, R>(rt, alloc, home, guests)
-}
-
 /// Opens a cache. Where it is refused memory, and this is to be tried again, it is opened once more.
-fn open(
+pub fn open(
     alloc: Global,
     config: Config,
+    seats: u32,
     limit: u64,
     tries_again: bool,
 ) -> Result<(SharedCache, Vec<Seat>), Fail>
-    ensures { IfOk result (λ opened. Opens config 2 limit opened.0 opened.1.items) }
+    ensures { IfOk result (λ opened. Opens config seats limit opened.0 opened.1.items) }
 {
-    match SharedCache::open(alloc, config, 2, limit) {
+    match SharedCache::open(alloc, config, seats, limit) {
         Ok(opened) => Ok(opened),
-        Err(_refused) if tries_again => match SharedCache::open(alloc, config, 2, limit) {
+        Err(_refused) if tries_again => match SharedCache::open(alloc, config, seats, limit) {
             Ok(opened) => Ok(opened),
             Err(_refused) => Err("a cache was refused again".into()),
         },
         Err(refused) => Err(refused.into()),
     }
-}
-
-/// Opens a cache with two seats and a history of at most so many Adds, and plays a scene.
-pub fn play_in<R: Wait + Abort, S: Scene>(
-    rt: &R,
-    alloc: Global,
-    config: Config,
-    limit: u64,
-    tries_again: bool,
-    scene: &S,
-) -> Result<(), Fail> {
-    let (cache, seats) = open(alloc, config, limit, tries_again)?;
-    enter::<Brand, R, S>(rt, alloc, scene, cache, seats)
-}
-
-/// The same on pages of four nodes, of which two are kept at the least.
-pub fn play<R: Wait + Abort, S: Scene>(
-    rt: &R,
-    alloc: Global,
-    limit: u64,
-    tries_again: bool,
-    scene: &S,
-) -> Result<(), Fail> {
-    play_in(rt, alloc, config()?, limit, tries_again, scene)
 }

@@ -1,84 +1,103 @@
 //! The text of each fault, word for word.
-use crate::party::{at, config, point};
+use crate::batches::LARGE;
+use crate::marks::Entry::One;
+use crate::party::Told::Not;
+use crate::party::{Told, Why};
+use crate::steps::Act::Refused;
+use crate::steps::{PAGES, Row, end, play};
 use std::alloc::Global;
 use std::fmt::Display;
-use std::sync::Wait;
 use std::test::Fail;
-use tsc_shared::{AddFault, Gone, OpenFault, SharedCache, TryAddFault};
-use tsc_time::Value;
+use tsc_shared::{AddFault, Gone, OpenFault, TryAddFault};
 
-static OPEN_FAULTS: [(OpenFault, &str); 3] = [
-    (OpenFault::Seats, "seats are 1 to 64"),
-    (OpenFault::NoMemory, "out of memory"),
-    (OpenFault::NoPlace, "no place"),
+/// A fault that needs no cache.
+#[derive(Clone, Copy)]
+enum Fault {
+    Open(OpenFault),
+    Gone,
+    NoMemory,
+    TooLarge,
+    Busy,
+    Inside,
+}
+
+static TEXTS: [(Fault, &str); 8] = [
+    (Fault::Open(OpenFault::Seats), "seats are 1 to 64"),
+    (Fault::Open(OpenFault::NoMemory), "out of memory"),
+    (Fault::Open(OpenFault::NoPlace), "no place"),
+    (Fault::Gone, "no version of the cache fits"),
+    (Fault::NoMemory, "out of memory"),
+    (Fault::TooLarge, "the span is too large for a page"),
+    (Fault::Busy, "the desk is busy"),
+    (Fault::Inside, "a seat is inside a lookup"),
 ];
 
-const FULL: &str = "the history is full";
-
-const NO_MEMORY: &str = "out of memory";
-
-const TOO_LARGE: &str = "the span is too large for a page";
+/// The history may have no Add.
+static ADDS: Row = Row {
+    pages: PAGES,
+    seats: 1,
+    limit: 0,
+    opens_again: false,
+    steps: &[
+        (
+            0,
+            Refused(One("a", 20), "the history is full"),
+            Not(Why::Done),
+        ),
+        (
+            0,
+            Refused(One(LARGE, 20), "the span is too large for a page"),
+            Not(Why::Done),
+        ),
+    ],
+};
 
 /// Whether this is the text of a fault.
-fn reads<F: Display>(alloc: Global, fault: &F, text: &str) -> Result<bool, Fail> {
-    Ok(format!(in alloc; "{fault}")?.as_str() == text)
-}
-
-/// Why an Add is refused whose history may have none.
-fn full<R: Wait>(rt: &R, alloc: Global) -> Result<AddFault, Fail> {
-    let (cache, mut seats) = SharedCache::open(alloc, config()?, 1, 0)?;
-    let seat = seats.first_mut().ok_or("a seat")?;
-    match cache.add(
-        rt,
-        seat,
-        &point(alloc, "a")?,
-        Value::unowned(at(20)),
-        at(20),
-    ) {
-        Err(fault) => Ok(fault),
-        Ok(_) => Err(Fail::new("an Add beyond the limit")),
+fn reads<F: Display>(alloc: Global, fault: &F, text: &str) -> Told {
+    match format!(in alloc; "{fault}") {
+        Ok(written) if written.as_str() == text => Not(Why::Done),
+        Ok(_) => Not(Why::Text),
+        Err(_refused) => Not(Why::NoMemory),
     }
 }
 
-/// Whether an Add's fault has this text, and one that doesn't wait has it too.
-fn reads_alike(alloc: Global, fault: AddFault, text: &str) -> Result<bool, Fail> {
-    let told = reads(alloc, &fault, text)?;
-    Ok(told && reads(alloc, &TryAddFault::Refused(fault), text)?)
-}
-
-fn open_faults_read(alloc: Global) -> Result<bool, Fail> {
-    let mut all = true;
-    for (fault, text) in &OPEN_FAULTS {
-        all &= reads(alloc, fault, text)?;
+/// Whether an Add's fault has this text, and one that does not wait has it too.
+pub fn reads_alike(alloc: Global, fault: AddFault, text: &str) -> Told {
+    match reads(alloc, &fault, text) {
+        Not(Why::Done) => reads(alloc, &TryAddFault::Refused(fault), text),
+        told => told,
     }
-    Ok(all)
+}
+
+/// Whether this is the text of a fault that needs no cache.
+fn reads_as(alloc: Global, fault: Fault, text: &str) -> Told {
+    match fault {
+        Fault::Open(fault) => reads(alloc, &fault, text),
+        Fault::Gone => reads(alloc, &Gone, text),
+        Fault::NoMemory => reads_alike(alloc, AddFault::NoMemory, text),
+        Fault::TooLarge => reads_alike(alloc, AddFault::TooLarge, text),
+        Fault::Busy => reads(alloc, &TryAddFault::DeskBusy, text),
+        Fault::Inside => reads(alloc, &TryAddFault::SeatInside, text),
+    }
+}
+
+/// What is told of the first of these texts that isn't its fault's.
+fn first_wrong(alloc: Global, texts: &[(Fault, &str)]) -> Told {
+    for (fault, text) in texts {
+        let told = reads_as(alloc, *fault, text);
+        if told != Not(Why::Done) {
+            return told;
+        }
+    }
+    Not(Why::Done)
 }
 
 #[test]
-fn texts_of_faults_of_opening_and_looking(rt: HostRuntime) -> Result<(), Fail> {
-    assert!(rt; open_faults_read(rt.alloc())?);
-    assert!(rt; reads(rt.alloc(), &Gone, "no version of the cache fits")?);
-    Ok(())
+fn texts_of_faults(rt: HostRuntime) -> Result<(), Fail> {
+    end(&rt, first_wrong(rt.alloc(), &TEXTS))
 }
 
 #[test]
-fn texts_of_faults_of_adding(rt: HostRuntime) -> Result<(), Fail> {
-    let full = full(&rt, rt.alloc())?;
-    assert!(rt; reads_alike(rt.alloc(), full, FULL)?);
-    assert!(rt; reads_alike(rt.alloc(), AddFault::NoMemory, NO_MEMORY)?);
-    assert!(rt; reads_alike(rt.alloc(), AddFault::TooLarge, TOO_LARGE)?);
-    Ok(())
-}
-
-#[test]
-fn texts_of_faults_of_adding_without_waiting(rt: HostRuntime) -> Result<(), Fail> {
-    assert!(rt; reads(rt.alloc(), &TryAddFault::DeskBusy, "the desk is busy")?);
-    assert!(rt;
-        reads(
-            rt.alloc(),
-            &TryAddFault::SeatInside,
-            "a seat is inside a lookup"
-        )?
-    );
-    Ok(())
+fn texts_of_refused_adds(rt: HostRuntime) -> Result<(), Fail> {
+    play(&rt, rt.alloc(), &ADDS)
 }

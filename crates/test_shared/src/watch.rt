@@ -1,0 +1,77 @@
+//! A gate that counts the Adds that it is told of, and holds each up until so many seats have looked.
+use std::sync::atomic::{AtomicBool, AtomicU64, Ordering};
+use std::thread;
+use tsc_shared::Gate;
+
+/// How often a thread looks whether another has come so far.
+pub const TURNS: u32 = 10_000_000;
+
+#[derive(Drop)]
+pub struct Watch {
+    told: AtomicU64,
+    /// How many seats are to look.
+    lookers: u64,
+    /// How many have looked.
+    looked: AtomicU64,
+    /// Whether an Add saw that all had.
+    met: AtomicBool,
+    /// Whether a seat gave up, since the Add had no thread of its own.
+    alone: AtomicBool,
+}
+
+impl Watch {
+    pub fn new(lookers: u64) -> Watch {
+        Watch {
+            told: AtomicU64::new(0),
+            lookers,
+            looked: AtomicU64::new(0),
+            met: AtomicBool::new(false),
+            alone: AtomicBool::new(false),
+        }
+    }
+
+    /// How many Adds it was told of.
+    pub fn told(&self) -> u64 {
+        self.told.load(Ordering::SeqCst)
+    }
+
+    /// Whether an Add saw that all had looked.
+    pub fn has_met(&self) -> bool {
+        self.met.load(Ordering::SeqCst)
+    }
+
+    /// A seat has looked.
+    pub fn look(&self) {
+        self.looked.fetch_add(1, Ordering::SeqCst);
+    }
+
+    /// A seat gives up.
+    pub fn give_up(&self) {
+        self.alone.store(true, Ordering::SeqCst);
+    }
+
+    /// Waits until all have looked, or one has given up, and tells whether all had before the limit.
+    fn is_met(&self) -> bool {
+        for _ in 0..TURNS {
+            if self.looked.load(Ordering::SeqCst) >= self.lookers {
+                return true;
+            }
+            if self.alone.load(Ordering::SeqCst) {
+                return false;
+            }
+            thread::yield_now();
+        }
+        false
+    }
+}
+
+impl Gate for Watch {
+    fn start(&self, _thread: u32, _call: u32) {}
+
+    fn done(&self, _thread: u32, _call: u32) {}
+
+    fn publish(&self, _seat: u32) {
+        self.told.fetch_add(1, Ordering::SeqCst);
+        self.met.store(self.is_met(), Ordering::SeqCst);
+    }
+}
