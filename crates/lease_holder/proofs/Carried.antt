@@ -1,5 +1,6 @@
 -- Reads that were answered stay in what is handed on, and a write that is clear of each read there is clear of them.
-use Rattle.std.proofs.Common.{◌≡◌, ◌∙◌, ap, List, [], ◌∷◌, ◌++◌, All, slice_index_or, ℕ, Bool, true, false, true≢false, inl, inr, refl, sym, subst}
+use Rattle.std.proofs.Common.{◌≡◌, ◌∙◌, ap, List, [], ◌∷◌, ◌++◌, append_assoc, All, slice_index_or, ℕ, Bool, true, false, true≢false, inl, inr, refl, sym, subst}
+use Rattle.std.specs.List.{Contains}
 use Rattle.std.specs.Prelude.{Result, Ok, Err, IsOk, IfOk, Option, Some, None, IfSome, if◌then◌else◌}
 use Rattle.std.proofs.Math.Logic.{∥∥₁_elim, ∥∥₁_map}
 use Rattle.std.proofs.lemmas.List.Elements.{All-append, All-nil, All-push, Contains-push}
@@ -13,7 +14,8 @@ use Rattle.tsc_shared.specs.Answers.{Accepts, Learns, Meets, Looks, entry_by}
 use Rattle.timestamp_cache.specs.Words.{Time, Owner, OwnedTime, History, BeginsWith, SeatView, FrontView}
 use Rattle.timestamp_cache.specs.Clear.{IsClearOf, IsClearOfReads, AsksEarliestAt}
 use Rattle.timestamp_cache.proofs.Deciding.{clear_or_not}
-use Rattle.lease_holder.specs.Reads.{HasRead}
+use Rattle.lease_holder.specs.Reads.{HasRead, since}
+use Rattle.lease_holder.proofs.Since.{since_rest}
 
 -- a key's span is met by itself
 pub point_overlaps_itself : (s : Interval) (key : KeyBytes) → s ≡ point key → overlaps s s ≡ true
@@ -40,6 +42,21 @@ added_there old new span read now receipt accepts whole = ∣ record {
   over = whole;
   value = refl;
 } ∣₁
+
+-- and that since
+pub added_since : (old new : SeatView) (span : Interval) (read : OwnedTime) (now : Time) (receipt : Receipt) → Accepts old new (record { span = span; value = read } ∷ []) now receipt → overlaps span span ≡ true → HasRead span (since old.seen new.seen) read
+added_since old new span read now receipt accepts whole =
+    let entry = entry_by old (record { span = span; value = read } ∷ []) now in
+    let rest = accepts.begins.0 in
+    let all : new.seen ≡ old.seen ++ (rest ++ entry ∷ []) = accepts.seen ∙ ap (λ (h : History). h ++ entry ∷ []) accepts.begins.1 ∙ append_assoc old.seen rest (entry ∷ []) in
+    ∣ record {
+      entry = entry;
+      mark = record { span = span; value = read };
+      there = subst (λ (h : History). Contains h entry) (sym (since_rest new.seen old.seen (rest ++ entry ∷ []) all)) (Contains-push rest entry);
+      own = Contains-push [] (record { span = span; value = read });
+      over = whole;
+      value = refl;
+    } ∣₁
 
 -- a write that is clear of each read in a history is clear of those that it has
 pub clear_of_all : (span : Interval) (h : History) (by : Owner) (at : Time) (reads : List OwnedTime) → IsClearOfReads h span by at → All (HasRead span h) reads → All (λ read. IsClearOf read by at) reads

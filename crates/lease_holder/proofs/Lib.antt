@@ -1,3 +1,5 @@
 pub mod Seats
+pub mod Since
 pub mod Carried
 pub mod Plans
+pub mod Turns

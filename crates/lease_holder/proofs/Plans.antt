@@ -9,8 +9,9 @@ use Rattle.timestamp_cache.specs.Words.{Time, is_before, Owner, OwnedTime, Inter
 use Rattle.timestamp_cache.specs.Clear.{IsClearOfReads}
 use Rattle.timestamp_cache.specs.Earliest.{TellsEarliest}
 use Rattle.lease_holder.specs.declared.Plan.{Plan}
-use Rattle.lease_holder.specs.Reads.{HasRead, read_of}
+use Rattle.lease_holder.specs.Reads.{HasRead, read_of, since}
 use Rattle.lease_holder.specs.Plans.{time_at, id_of, MayWriteAt}
+use Rattle.lease_holder.proofs.Since.{since_begins, since_earlier}
 
 -- the time that there is, or another one
 pub time_or : (b : Bool) (time other : Time) → unwrap_or (if b then Some time else None) other ≡ (if b then time else other)
@@ -51,15 +52,18 @@ HasFirst plan n h = (k : ℕ) (d : Bor (List ℕ) × ℕ) → k < n
     → HasRead (point (slice_index_or plan.reads.now k d).0.now) h (read_of (time_at (slice_index_or plan.reads.now k d).1) (id_of plan.name))
 
 -- and one more, where that was read
-pub one_read_more : (plan : Plan) (h start : History) (n : ℕ) (d : Bor (List ℕ) × ℕ) (time : Time) → n < length plan.reads.now → BeginsWith h start → HasFirst plan n start
-    → time ≡ time_at (slice_index_or plan.reads.now n d).1 → HasRead (point (slice_index_or plan.reads.now n d).0.now) h (read_of time (id_of plan.name)) → HasFirst plan (n + 1) h
-one_read_more plan h start n d0 time there begins first at last k d below =
+pub one_read_more : (plan : Plan) (h before start : History) (n : ℕ) (d : Bor (List ℕ) × ℕ) (time : Time) → n < length plan.reads.now → BeginsWith h before → BeginsWith before start
+    → HasFirst plan n (since start before) → time ≡ time_at (slice_index_or plan.reads.now n d).1
+    → HasRead (point (slice_index_or plan.reads.now n d).0.now) (since before h) (read_of time (id_of plan.name)) → HasFirst plan (n + 1) (since start h)
+one_read_more plan h before start n d0 time there begins onward first at last k d below =
     let rows = plan.reads.now in
-    let IsRead : (Bor (List ℕ) × ℕ) → Type 0 = λ row. HasRead (point row.0.now) h (read_of (time_at row.1) (id_of plan.name)) in
+    let IsRead : (Bor (List ℕ) × ℕ) → Type 0 = λ row. HasRead (point row.0.now) (since start h) (read_of (time_at row.1) (id_of plan.name)) in
     let P : ℕ → Type 0 = λ k. (d : Bor (List ℕ) × ℕ) → IsRead (slice_index_or rows k d) in
-    let own : IsRead (slice_index_or rows n d0) = subst (λ (t : Time). HasRead (point (slice_index_or rows n d0).0.now) h (read_of t (id_of plan.name))) at last in
+    let row : Bor (List ℕ) × ℕ = slice_index_or rows n d0 in
+    let so_early : HasRead (point row.0.now) (since start h) (read_of time (id_of plan.name)) = since_earlier (point row.0.now) h before start (read_of time (id_of plan.name)) begins onward last in
+    let own : IsRead row = subst (λ (t : Time). HasRead (point row.0.now) (since start h) (read_of t (id_of plan.name))) at so_early in
     let here : P n = λ d. subst IsRead (same_there rows n d0 d there) own in
-    below_more P n (λ k lower d. there_still _ h start _ begins (first k d lower)) here k below d
+    below_more P n (λ k lower d. there_still _ (since start h) (since start before) _ (since_begins h before start begins onward) (first k d lower)) here k below d
 
 -- What a write of the span of a plan's key is told is a time at which its transaction may write.
 pub may_write : (plan : Plan) (h : History) (span : Interval) (by : Owner) (wanted at : Time) (told : Option Time) (P : Time → Type 0)

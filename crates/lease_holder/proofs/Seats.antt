@@ -9,6 +9,11 @@ pub others_too : {A : Type 0} (P : A → Type 0) (xs ys : List A) (x : A) → xs
 others_too P xs ys x parts each k d below =
     subst (λ zs. (k : ℕ) (d : _) → k < length zs → P (slice_index_or zs k d)) parts each (suc k) d (omega (arith, below))
 
+-- and of the first one
+pub first_one : {A : Type 0} (P : A → Type 0) (xs ys : List A) (x : A) → xs ≡ x ∷ ys → ((k : ℕ) (d : A) → k < length xs → P (slice_index_or xs k d)) → P x
+first_one P xs ys x parts each =
+    subst (λ zs. (k : ℕ) (d : _) → k < length zs → P (slice_index_or zs k d)) parts each 0 x (omega arith)
+
 new_one : (cache : SharedView) (from count k : ℕ) (d : SeatView) → k < length (new_seats cache from count) → (slice_index_or (new_seats cache from count) k d).cache ≡ cache
 new_one cache from zero k d below = absurd (omega (arith, below))
 new_one cache from (suc others) zero d below = refl

@@ -1,4 +1,6 @@
 pub mod Plans
 pub mod Ranges
 pub mod Reads
+pub mod Texts
+pub mod Turns
 pub mod Versions

@@ -1,5 +1,5 @@
 -- The reads of a store.
-use Rattle.std.specs.Prelude.{◌≡◌, true}
+use Rattle.std.specs.Prelude.{◌≡◌, true, length, drop}
 use Rattle.std.specs.List.{Contains}
 use Rattle.timestamp_cache.specs.Words.{Time, Owner, OwnedTime, owner_of, Interval, overlaps, Mark, History, Entry}
 
@@ -19,3 +19,7 @@ pub record Adds (span : Interval) (h : History) (read : OwnedTime) : Type 0 wher
 -- A history has a read of a span: some Add of it adds that.
 abbrev pub HasRead : Interval → History → OwnedTime → Type 0
 HasRead span h read = ∥ Adds span h read ∥₁
+
+-- what a history has beyond another that it begins with
+abbrev pub since : History → History → History
+since start h = drop (length start) h

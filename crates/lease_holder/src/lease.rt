@@ -8,7 +8,7 @@ ghost use Rattle.std.specs.Sync.Mutex.{mutex_guard_value};
 ghost use Rattle.timestamp_cache.specs.Words.{zero_time, point, overlaps, look, state_of, BeginsWith};
 ghost use Rattle.timestamp_cache.specs.Clear.{IsClearOf, IsClearOfReads, AsksEarliestAt};
 ghost use Rattle.timestamp_cache.specs.Earliest.{TellsEarliest};
-ghost use Rattle.lease_holder.specs.Reads.{HasRead, read_of};
+ghost use Rattle.lease_holder.specs.Reads.{HasRead, read_of, since};
 ghost use Rattle.lease_holder.specs.Versions.{value_at, written};
 
 use anyhow::{Context, Result, ensure};
@@ -142,7 +142,7 @@ impl<G: Range> Lease<G> {
         Some(&latch.held)
     }
 
-    /// Reads a key at a time, while its latch is held. The read is added before it is answered, and is then in what the seat has seen, and
+    /// Reads a key at a time, while its latch is held. The read is added before it is answered, and is then in what the seat has seen since, and
     /// in what the latch hands on. One that is refused is not answered.
     pub fn read<R: Wait>(
         &self,
@@ -152,7 +152,7 @@ impl<G: Range> Lease<G> {
         at: Timestamp,
         by: Uuid,
     ) -> Result<Option<u64>, AddFault>
-        ensures added { OnOk result (HasRead held.old.span me.new.seat.seen (read_of at by)) }
+        ensures added { OnOk result (HasRead held.old.span (since me.old.seat.seen me.new.seat.seen) (read_of at by)) }
         ensures answered { OnOk result (held.new.answered.items ≡ held.old.answered.items ++ read_of at by ∷ []) }
         ensures refused { OnErr result (held.new.answered.items ≡ held.old.answered.items) }
         ensures value { IfOk result (λ value. value ≡ value_at held.old.versions.items at) }

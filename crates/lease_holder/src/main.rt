@@ -2,10 +2,13 @@
 //! keys again. No write of another transaction has come to a time at which it would have changed an answer.
 #![tactic(auto)]
 
-ghost use Rattle.std.specs.Prelude.{◌≡◌, ℕ, ◌+◌, ◌^◌, ◌<◌, length, All, IfOk, OnOk, OnErr};
+ghost use Rattle.std.specs.Prelude.{◌≡◌, ℕ, ◌+◌, ◌^◌, ◌<◌, length, All, [], Some, IfOk, OnOk, OnErr, string_bytes, option_map};
+ghost use Rattle.std.specs.List.{AllZip};
 ghost use Rattle.timestamp_cache.specs.Words.{point, BeginsWith};
-ghost use Rattle.lease_holder.specs.Reads.{HasRead, read_of};
+ghost use Rattle.lease_holder.specs.Reads.{HasRead, read_of, since};
 ghost use Rattle.lease_holder.specs.Plans.{time_at, id_of, HasReadsOf, MayWriteAt};
+ghost use Rattle.lease_holder.specs.Texts.{time_text, is_owner, reader, reason_text};
+ghost use Rattle.lease_holder.specs.Turns.{HasTaken, HasTold, WasServed};
 
 mod lease;
 
@@ -55,12 +58,21 @@ static PLANS: [Plan; 4] = [
     },
 ];
 
-/// A thread: its seat, its transaction, and what is to be printed.
+/// A thread: its seat, its transaction, when that wrote, and what is to be printed.
 #[derive(Drop)]
 struct Worker<G: Range> {
     me: RangeSeat<G>,
     plan: &'static Plan,
+    wrote: Option<Timestamp>,
     told: Vec<String>,
+}
+
+/// What is left of a thread: its seat, its transaction, and when that wrote.
+#[derive(Drop)]
+struct Served {
+    seat: Seat,
+    plan: &'static Plan,
+    wrote: Option<Timestamp>,
 }
 
 /// What all threads do at the same time.
@@ -78,7 +90,9 @@ fn at(wall: u64) -> Timestamp
 }
 
 /// A time as it is printed.
-fn shown(alloc: Global, time: Timestamp) -> Result<String, AllocError> {
+fn shown(alloc: Global, time: Timestamp) -> Result<String, AllocError>
+    ensures { IfOk result (λ text. string_bytes text ≡ time_text time) }
+{
     let (wall, logical) = (time.wall(), time.logical());
     format!(in alloc; "{wall}.{logical}")
 }
@@ -91,25 +105,42 @@ fn id_of(name: char) -> Uuid
     Uuid::from_u128(u128::from(u32::from(name)))
 }
 
+/// Whether a read is by the transaction of this id.
+fn is_by(read: Value, id: Uuid) -> bool
+    ensures { result ≡ is_owner read.owner id }
+{
+    read.owner() == Some(id)
+}
+
+/// The transaction that a read is by: the first one that has its id.
+fn reader(plans: &[Plan], read: Value) -> Option<&Plan>
+    ensures { option_map (λ plan. plan.now) result ≡ reader read.owner plans.now }
+{
+    plans.iter().find(|plan| is_by(read, id_of(plan.name)))
+}
+
 /// What a key was read by, as the cache answers.
-fn because(alloc: Global, key: &str, read: Value) -> Result<String, AllocError> {
+fn because(alloc: Global, key: &str, read: Value, plans: &[Plan]) -> Result<String, AllocError>
+    ensures { IfOk result (λ text. string_bytes text ≡ reason_text key.now read (reader read.owner plans.now)) }
+{
     let time = shown(alloc, read.time())?;
-    for plan in &PLANS {
-        if read.owner() == Some(id_of(plan.name)) {
+    match reader(plans, read) {
+        Some(plan) => {
             let name = plan.name;
-            return format!(in alloc; "\"{key}\" was read at {time} by {name}");
+            format!(in alloc; "\"{key}\" was read at {time} by {name}")
         }
+        None => format!(in alloc; "\"{key}\" may have been read up to {time}"),
     }
-    format!(in alloc; "\"{key}\" may have been read up to {time}")
 }
 
 impl<G: Range> Worker<G> {
-    /// Reads the keys of its transaction, one after another. Each of these reads is then in what its seat has seen.
+    /// Reads the keys of its transaction, one after another. Each of these reads is then in what its seat has seen since.
     fn read<R: Wait>(&mut self, rt: &R, alloc: Global, lease: &Lease<G>) -> Result<()>
-        ensures added { OnOk result (HasReadsOf self.old.plan.now self.new.me.seat.seen) }
+        ensures added { OnOk result (HasReadsOf self.old.plan.now (since self.old.me.seat.seen self.new.me.seat.seen)) }
         ensures told { OnOk result (length self.new.told.items ≡ length self.old.told.items + length self.old.plan.now.reads.now) }
         ensures seat { BeginsWith self.new.me.seat.seen self.old.me.seat.seen }
         ensures plan { self.new.plan ≡ self.old.plan }
+        ensures wrote { self.new.wrote ≡ self.old.wrote }
     {
         let plan = self.plan;
         for (key, wall) in plan.reads {
@@ -128,11 +159,12 @@ impl<G: Range> Worker<G> {
         key: &str,
         time: Timestamp,
     ) -> Result<()>
-        ensures added { OnOk result (HasRead (point key.now) self.new.me.seat.seen (read_of time (id_of name))) }
+        ensures added { OnOk result (HasRead (point key.now) (since self.old.me.seat.seen self.new.me.seat.seen) (read_of time (id_of name))) }
         ensures told { OnOk result (length self.new.told.items ≡ length self.old.told.items + 1) }
         ensures refused { OnErr result (self.new.told.items ≡ self.old.told.items) }
         ensures seat { BeginsWith self.new.me.seat.seen self.old.me.seat.seen }
         ensures plan { self.new.plan ≡ self.old.plan }
+        ensures wrote { self.new.wrote ≡ self.old.wrote }
     {
         let mut held = lease.hold(rt, key)?;
         let told = lease.read(rt, &mut self.me, &mut held, time, id_of(name))?;
@@ -149,6 +181,7 @@ impl<G: Range> Worker<G> {
         ensures told { OnOk result (length self.new.told.items ≡ length self.old.told.items + 1) }
         ensures seat { BeginsWith self.new.me.seat.seen self.old.me.seat.seen }
         ensures plan { self.new.plan ≡ self.old.plan }
+        ensures wrote { IfOk result (λ time. self.new.wrote ≡ Some time) }
     {
         let plan = self.plan;
         let (name, (key, wall, value)) = (plan.name, plan.write);
@@ -156,7 +189,7 @@ impl<G: Range> Worker<G> {
         let mut held = lease.hold(rt, key)?;
         let told = lease.write(rt, &mut self.me, &mut held, wanted, id_of(name), value)?;
         let time = told.context("no time is late enough")?;
-        let why = because(alloc, key, lease.reason(&mut held))?;
+        let why = because(alloc, key, lease.reason(&mut held), &PLANS)?;
         let (from, to) = (shown(alloc, wanted)?, shown(alloc, time)?);
         let line = if time == wanted {
             format!(in alloc; "{name} wrote \"{key}\" at {from}, as it wanted")?
@@ -166,8 +199,40 @@ impl<G: Range> Worker<G> {
             )?
         };
         self.told.push(line)?;
+        self.wrote = Some(time);
         Ok(time)
     }
+
+    /// Prints what it has to tell.
+    fn tell<R: Print>(&mut self, rt: &R) -> Result<()>
+        ensures told { OnOk result (self.new.told.items ≡ []) }
+        ensures same { (self.new.me ≡ self.old.me) × (self.new.plan ≡ self.old.plan) × (self.new.wrote ≡ self.old.wrote) }
+    {
+        for line in &self.told {
+            println!(rt; "{line}")?;
+        }
+        self.told.clear();
+        Ok(())
+    }
+}
+
+/// Has a thread take its turn.
+fn take<G: Range, R: Wait>(
+    rt: &R,
+    alloc: Global,
+    lease: &Lease<G>,
+    mut worker: Worker<G>,
+    turn: Turn,
+) -> Result<Worker<G>>
+    ensures { IfOk result (λ after. HasTaken turn worker after) }
+{
+    match turn {
+        Turn::Read => worker.read(rt, alloc, lease)?,
+        Turn::Write => {
+            worker.write(rt, alloc, lease)?;
+        }
+    }
+    Ok(worker)
 }
 
 /// Has all threads do the same at once, and prints what they tell, in their order.
@@ -177,30 +242,21 @@ fn all_do<G: Range + Send + Sync, R: Threads + Wait + Sync + Print>(
     lease: &Lease<G>,
     workers: Vec<Worker<G>>,
     turn: Turn,
-) -> Result<Vec<Worker<G>>> {
+) -> Result<Vec<Worker<G>>>
+    ensures { IfOk result (λ after. AllZip (HasTold turn) workers.items after.items) }
+{
     let ended = thread::map_vec(
         rt,
         workers,
-        &|mut worker: Worker<G>| -> Result<Worker<G>> {
-            match turn {
-                Turn::Read => worker.read(rt, alloc, lease)?,
-                Turn::Write => {
-                    worker.write(rt, alloc, lease)?;
-                }
-            }
-            Ok(worker)
-        },
+        &|worker: Worker<G>| take(rt, alloc, lease, worker, turn),
     )?;
-    let mut workers = Vec::new(alloc);
+    let mut after = Vec::new(alloc);
     for worker in ended {
         let mut worker = worker?;
-        for line in &worker.told {
-            println!(rt; "{line}")?;
-        }
-        worker.told.clear();
-        workers.push(worker)?;
+        worker.tell(rt)?;
+        after.push(worker)?;
     }
-    Ok(workers)
+    Ok(after)
 }
 
 /// The seats, by a type that shows whose they are.
@@ -217,15 +273,35 @@ fn seats_of<G: Range>(alloc: Global, seats: Vec<Seat>) -> Result<Vec<RangeSeat<G
     Ok(own)
 }
 
-/// Serves the range: a latch for each key, and a thread for each transaction.
+/// The threads are over: what is left of each.
+fn left_of<G: Range>(alloc: Global, workers: Vec<Worker<G>>) -> Result<Vec<Served>, AllocError>
+    requires { All (λ worker. WasServed worker.plan.now worker.me.seat.seen worker.wrote) workers.items }
+    ensures { IfOk result (λ left. All (λ served. WasServed served.plan.now served.seat.seen served.wrote) left.items) }
+{
+    let mut left = Vec::with_capacity(alloc, workers.len())?;
+    for worker in workers {
+        let Worker {
+            me,
+            plan,
+            wrote,
+            told: _,
+        } = worker;
+        let seat = me.seat;
+        left.push(Served { seat, plan, wrote })?;
+    }
+    Ok(left)
+}
+
+/// Serves the range: a latch for each key, and a thread for each transaction, which reads, writes, and reads again.
 fn serve<G: Range + Send + Sync, R: Threads + Wait + Sync + Print>(
     rt: &R,
     alloc: Global,
     cache: SharedCache,
     seats: Vec<Seat>,
-) -> Result<()>
+) -> Result<Vec<Served>>
     requires cache { cache ≡ G.cache }
     requires seats { All (λ seat. seat.cache ≡ G.cache) seats.items }
+    ensures { IfOk result (λ left. All (λ served. WasServed served.plan.now served.seat.seen served.wrote) left.items) }
 {
     let mut seats = seats_of::<G>(alloc, seats)?;
     let (mut latches, mut workers) = (Vec::new(alloc), Vec::new(alloc));
@@ -236,13 +312,19 @@ fn serve<G: Range + Send + Sync, R: Threads + Wait + Sync + Print>(
     }
     for plan in &PLANS {
         let (me, told) = (seats.pop().context("no seat")?, Vec::new(alloc));
-        workers.push(Worker { me, plan, told })?;
+        let wrote = None;
+        workers.push(Worker {
+            me,
+            plan,
+            wrote,
+            told,
+        })?;
     }
     let lease = Lease { cache, latches };
-    for turn in [Turn::Read, Turn::Write, Turn::Read] {
-        workers = all_do(rt, alloc, &lease, workers, turn)?;
-    }
-    Ok(())
+    let first = all_do(rt, alloc, &lease, workers, Turn::Read)?;
+    let then = all_do(rt, alloc, &lease, first, Turn::Write)?;
+    let again = all_do(rt, alloc, &lease, then, Turn::Read)?;
+    Ok(left_of(alloc, again)?)
 }
 
 /// The lease begins at 10: nothing is known of reads before. Each latch has a seat, and each thread.
@@ -250,5 +332,6 @@ fn main(rt: HostRuntime) -> Result<()> {
     let seats = (KEYS.len() + PLANS.len()) as u32;
     let config = Config::new(1 << 17, 1 << 25, 2, 10_000_000_000, at(10))?;
     let (cache, seats) = SharedCache::open(rt.alloc(), config, seats, u64::MAX)?;
-    serve::<Brand, HostRuntime>(&rt, rt.alloc(), cache, seats)
+    let _served = serve::<Brand, HostRuntime>(&rt, rt.alloc(), cache, seats)?;
+    Ok(())
 }

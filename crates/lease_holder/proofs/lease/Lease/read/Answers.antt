@@ -1,8 +1,8 @@
 use Rattle.std.proofs.Common.{subst}
 use Rattle.std.specs.Prelude.{is_ok}
 use Rattle.timestamp_cache.specs.Words.{OwnedTime}
-use Rattle.lease_holder.specs.Reads.{HasRead, read_of}
-use Rattle.lease_holder.proofs.Carried.{added_there, handed_on, kept_or_not, one_more}
+use Rattle.lease_holder.specs.Reads.{HasRead, read_of, since}
+use Rattle.lease_holder.proofs.Carried.{added_since, handed_on, kept_or_not, one_more}
 use Rattle.lease_holder.proofs.lease.Lease.read.Goals as goal
 
 pub invariant_of-held : goal.invariant_of-held
@@ -19,8 +19,8 @@ invariant_of-held g c =
 pub returns-in-Ok-clause-added : goal.returns-in-Ok-clause-added
 returns-in-Ok-clause-added g c =
     let held = c.args.held.now in
-    subst (λ (read : OwnedTime). HasRead held.span c.add.new.seat.seen read) {y = read_of c.args.at c.args.by} c.of-read.ensures
-    (added_there c.args.me.now.seat c.add.new.seat held.span c.of-read.result c.args.at c.in_ok-receipt.receipt c.in_ok-receipt.ensures.accepted held.whole)
+    subst (λ (read : OwnedTime). HasRead held.span (since c.args.me.now.seat.seen c.add.new.seat.seen) read) {y = read_of c.args.at c.args.by} c.of-read.ensures
+    (added_since c.args.me.now.seat c.add.new.seat held.span c.of-read.result c.args.at c.in_ok-receipt.receipt c.in_ok-receipt.ensures.accepted held.whole)
 
 pub returns-in-Ok-clause-answered : goal.returns-in-Ok-clause-answered
 returns-in-Ok-clause-answered g c =

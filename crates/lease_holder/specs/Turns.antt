@@ -1,0 +1,37 @@
+-- What turns make of workers.
+use Rattle.std.specs.Prelude.{◌≡◌, [], Option, IsSomeAnd}
+use Rattle.timestamp_cache.specs.Words.{Time, History, BeginsWith}
+use Rattle.lease_holder.specs.declared.Plan.{Plan}
+use Rattle.lease_holder.specs.declared.Turn.{Turn}
+use Rattle.lease_holder.specs.declared.Turn.TheVariants.{Read, Write}
+use Rattle.lease_holder.specs.declared.Worker.{Worker}
+use Rattle.lease_holder.specs.declared.lease.Range.{Ghosts}
+use Rattle.lease_holder.specs.Plans.{HasReadsOf, MayWriteAt}
+use Rattle.lease_holder.specs.Reads.{since}
+
+-- A worker has read: its seat has seen each read of its plan since, and when it wrote is as it was.
+pub record ReadsAgain {X : Type 0} {G : Ghosts X} (old new : Worker X G) : Type 0 where
+  pub reads : HasReadsOf new.plan.now (since old.me.seat.seen new.me.seat.seen)
+  pub wrote : new.wrote ≡ old.wrote
+
+-- A worker has taken a turn: its plan is the same, its seat has seen all that it had seen before, and it has read, or written at a time at which it may by what its seat has seen then.
+pub record HasTaken {X : Type 0} {G : Ghosts X} (turn : Turn) (old new : Worker X G) : Type 0 where
+  pub plan : new.plan ≡ old.plan
+  pub begins : BeginsWith new.me.seat.seen old.me.seat.seen
+  pub reads : turn ≡ Read → ReadsAgain old new
+  pub writes : turn ≡ Write → IsSomeAnd new.wrote (λ at. MayWriteAt new.plan.now new.me.seat.seen at)
+
+-- It has taken a turn, and has told what it had to tell.
+pub record HasTold {X : Type 0} {G : Ghosts X} (turn : Turn) (old new : Worker X G) : Type 0 where
+  pub taken : HasTaken turn old new
+  pub told : new.told.items ≡ []
+
+-- A transaction was served, by what its seat has seen at the end: once that had seen each read of its plan, it wrote at a time at which it may by what the seat had seen, and since then the seat has seen each read of its plan again.
+pub record WasServed (plan : Plan) (seen : History) (wrote : Option Time) : Type 0 where
+  pub first : History
+  pub then : History
+  pub reads : HasReadsOf plan first
+  pub onward : BeginsWith then first
+  pub writes : IsSomeAnd wrote (λ at. MayWriteAt plan then at)
+  pub begins : BeginsWith seen then
+  pub again : HasReadsOf plan (since then seen)
