@@ -3,3 +3,4 @@ pub mod Since
 pub mod Carried
 pub mod Plans
 pub mod Turns
+pub mod TextExamples
