@@ -59,7 +59,7 @@ pub(crate) struct Came {
 }
 
 /// A reader of bytes.
-fn reader_of(bytes: &[u8], calls: Calls) -> Metered<Faulty<&[u8]>> {
+pub(crate) fn reader_of(bytes: &[u8], calls: Calls) -> Metered<Faulty<&[u8]>> {
     Metered::new(Faulty::new(bytes, calls.0, calls.1))
 }
 
