@@ -1,10 +1,11 @@
 -- A loop over what became of each of a list.
-use Rattle.std.proofs.Common.{◌≡◌, ◌∙◌, ap, sym, refl, subst, ℕ, suc, ◌<◌, List, [], ◌∷◌, ◌++◌, append_assoc, append-nil, Bor, length, slice_index_or, All, arith}
+use Rattle.std.proofs.Common.{◌≡◌, ◌∙◌, ap, sym, refl, subst, ℕ, zero, suc, ◌+◌, ◌<◌, ◌≤◌, drop, List, [], ◌∷◌, ◌++◌, append_assoc, append-nil, Bor, length, slice_index_or, arith}
 use Rattle.std.specs.Prelude.{Result, Ok, IfOk, Option, IsSomeAnd}
 use Rattle.std.specs.List.{AllZip}
-use Rattle.std.proofs.lemmas.List.Elements.{AllZip-push, AllZip-get_or, length_all_zip}
-use Rattle.timestamp_cache.specs.Words.{Time, History, BeginsWith}
+use Rattle.std.proofs.lemmas.List.Elements.{AllZip-push}
+use Rattle.timestamp_cache.specs.Words.{Time, History, BeginsWith, SeatView}
 use Rattle.lease_holder.specs.declared.Plan.{Plan}
+use Rattle.lease_holder.specs.declared.Served.{Served}
 use Rattle.lease_holder.specs.declared.Turn.{Turn}
 use Rattle.lease_holder.specs.declared.Worker.{Worker}
 use Rattle.lease_holder.specs.declared.lease.Range.{Ghosts}
@@ -12,7 +13,7 @@ use Rattle.lease_holder.specs.declared.lease.RangeSeat.{RangeSeat}
 use Rattle.lease_holder.specs.declared.Turn.TheVariants.{Read, Write}
 use Rattle.lease_holder.specs.Plans.{HasReadsOf, MayWriteAt}
 use Rattle.lease_holder.specs.Reads.{since}
-use Rattle.lease_holder.specs.Turns.{HasTaken, HasTold, WasServed}
+use Rattle.lease_holder.specs.Turns.{HasTaken, HasTold, IsLeftOf, WasServed}
 use Rattle.lease_holder.proofs.Since.{since_there}
 
 -- what holds at each place holds of the two lists
@@ -22,6 +23,70 @@ at_each_place P [] [] long each = tt
 at_each_place P [] (y ∷ ys) long each = absurd (omega (arith, long))
 at_each_place P (x ∷ xs) [] long each = absurd (omega (arith, long))
 at_each_place P (x ∷ xs) (y ∷ ys) long each = (each 0 x y (omega arith), at_each_place P xs ys (omega (arith, long)) (λ i d e below. each (suc i) d e (omega (arith, below))))
+
+-- what holds of two by one between them
+pub record By {A B C : Type 0} (R : A → B → Type 0) (S : B → C → Type 0) (x : A) (z : C) : Type 0 where
+  pub middle : B
+  pub first : R x middle
+  pub second : S middle z
+
+pub zip_on : {A B C : Type 0} (R : A → B → Type 0) (S : B → C → Type 0) (xs : List A) (ys : List B) (zs : List C) → AllZip R xs ys → AllZip S ys zs → AllZip (By R S) xs zs
+zip_on R S [] [] [] r s = tt
+zip_on R S [] [] (z ∷ zs) r s = absurd s
+zip_on R S [] (y ∷ ys) zs r s = absurd r
+zip_on R S (x ∷ xs) [] zs r s = absurd r
+zip_on R S (x ∷ xs) (y ∷ ys) [] r s = absurd s
+zip_on R S (x ∷ xs) (y ∷ ys) (z ∷ zs) r s = (record { middle = y; first = r.0; second = s.0 }, zip_on R S xs ys zs r.1 s.1)
+
+pub zip_as : {A B : Type 0} (R S : A → B → Type 0) (xs : List A) (ys : List B) → ((x : A) (y : B) → R x y → S x y) → AllZip R xs ys → AllZip S xs ys
+zip_as R S [] [] fits r = tt
+zip_as R S [] (y ∷ ys) fits r = absurd r
+zip_as R S (x ∷ xs) [] fits r = absurd r
+zip_as R S (x ∷ xs) (y ∷ ys) fits r = (fits x y r.0, zip_as R S xs ys fits r.1)
+
+pub zip_push : {A B : Type 0} (R : A → B → Type 0) (xs : List A) (ys : List B) (x : A) (y : B) → AllZip R xs ys → R x y → AllZip R (xs ++ x ∷ []) (ys ++ y ∷ [])
+zip_push R [] [] x y all last = (last, tt)
+zip_push R [] (b ∷ ys) x y all last = absurd all
+zip_push R (a ∷ xs) [] x y all last = absurd all
+zip_push R (a ∷ xs) (b ∷ ys) x y all last = (all.0, zip_push R xs ys x y all.1 last)
+
+-- of some of a list there is what was made of them, and the others are left
+pub record IsPartWay {A B : Type 0} (R : A → B → Type 0) (all : List A) (made : List B) (left : List A) : Type 0 where
+  pub before : List A
+  pub parts : all ≡ before ++ left
+  pub first : AllZip R before made
+
+pub nothing_made : {A B : Type 0} (R : A → B → Type 0) (all : List A) (made : List B) (left : List A) → made ≡ [] → left ≡ all → IsPartWay R all made left
+nothing_made {A} {B} R all made left is same = record { before = []; parts = sym same; first = subst (λ (ys : List B). AllZip R [] ys) (sym is) tt }
+
+pub one_more_made : {A B : Type 0} (R : A → B → Type 0) (all : List A) (made more : List B) (left others : List A) (x : A) (y : B)
+    → IsPartWay R all made left → left ≡ x ∷ others → more ≡ made ++ y ∷ [] → R x y → IsPartWay R all more others
+one_more_made {A} {B} R all made more left others x y way is last own = record {
+  before = way.before ++ x ∷ [];
+  parts = way.parts ∙ ap (λ (xs : List A). way.before ++ xs) is ∙ sym (append_assoc way.before (x ∷ []) others);
+  first = subst (λ (ys : List B). AllZip R (way.before ++ x ∷ []) ys) (sym last) (zip_push R way.before made x y way.first own);
+}
+
+pub all_made : {A B : Type 0} (R : A → B → Type 0) (all : List A) (made : List B) (left : List A) → IsPartWay R all made left → length left ≡ 0 → AllZip R all made
+all_made {A} {B} R all made [] way is = subst (λ (xs : List A). AllZip R xs made) (sym (way.parts ∙ append-nil way.before)) way.first
+all_made {A} {B} R all made (x ∷ left) way is = absurd (omega (arith, is))
+
+-- what is left at a place is what stands there, and what is left after it
+left_behind : {A : Type 0} (xs : List A) (n : ℕ) (d : A) → n < length xs → drop n xs ≡ slice_index_or xs n d ∷ drop (suc n) xs
+left_behind [] n d below = absurd (omega (arith, below))
+left_behind (x ∷ xs) zero d below = refl
+left_behind (x ∷ xs) (suc n) d below = left_behind xs n d (omega (arith, below))
+
+pub left_at : {A : Type 0} (xs : List A) (n : ℕ) (d : A) → n < length xs → drop n xs ≡ slice_index_or xs n d ∷ drop (n + 1) xs
+left_at {A} xs n d below =
+    let next : suc n ≡ n + 1 = omega arith in
+    subst (λ (k : ℕ). drop n xs ≡ slice_index_or xs n d ∷ drop k xs) next (left_behind xs n d below)
+
+pub none_left : {A : Type 0} (xs : List A) (n : ℕ) → length xs ≤ n → length (drop n xs) ≡ 0
+none_left [] zero over = refl
+none_left [] (suc n) over = refl
+none_left (x ∷ xs) zero over = absurd (omega (arith, over))
+none_left (x ∷ xs) (suc n) over = none_left xs n (omega (arith, over))
 
 -- of some it is known what became of them, and of those after them what is told of that
 pub record IsUnderWay {A E : Type 0} (Gives Becomes : A → A → Type 0) (all done : List A) (told : List (Result A E)) : Type 0 where
@@ -89,28 +154,40 @@ still_taken {X} {G} turn old next new me plan wrote taken =
 pub reads_there : {X : Type 0} {G : Ghosts X} (old new : Worker X G) → HasTaken Read old new → HasReadsOf new.plan.now new.me.seat.seen
 reads_there old new taken k d below = since_there _ new.me.seat.seen old.me.seat.seen _ taken.begins ((taken.reads refl).reads k d below)
 
--- A worker that has read, written and read again was served.
-pub served : {X : Type 0} {G : Ghosts X} (start first then again : Worker X G) → HasTaken Read start first → HasTaken Write first then → HasTaken Read then again → WasServed again.plan.now again.me.seat.seen again.wrote
-served {X} {G} start first then again reads writes rereads =
-    let same : again.plan ≡ first.plan = rereads.plan ∙ writes.plan in
+-- A worker of a plan that has read, written and read again served it.
+pub served : {X : Type 0} {G : Ghosts X} (plan : Plan) (start first then again : Worker X G) (left : Served) → start.plan.now ≡ plan
+    → HasTaken Read start first → HasTaken Write first then → HasTaken Read then again → IsLeftOf again left → WasServed plan left
+served {X} {G} plan start first then again left own reads writes rereads leaves =
+    let of_first : first.plan.now ≡ plan = ap (λ (p : Bor Plan). p.now) reads.plan ∙ own in
+    let of_then : then.plan.now ≡ plan = ap (λ (p : Bor Plan). p.now) writes.plan ∙ of_first in
+    let of_again : again.plan.now ≡ plan = ap (λ (p : Bor Plan). p.now) rereads.plan ∙ of_then in
+    let wrote : left.wrote ≡ then.wrote = leaves.wrote ∙ (rereads.reads refl).wrote in
+    let seen : left.seat.seen ≡ again.me.seat.seen = ap (λ (s : SeatView). s.seen) leaves.seat in
     record {
+      own = ap (λ (p : Bor Plan). p.now) leaves.plan ∙ of_again;
       first = first.me.seat.seen;
       then = then.me.seat.seen;
-      reads = subst (λ (p : Bor Plan). HasReadsOf p.now first.me.seat.seen) (sym same) (reads_there start first reads);
+      reads = subst (λ (p : Plan). HasReadsOf p first.me.seat.seen) of_first (reads_there start first reads);
       onward = writes.begins;
-      writes = subst (λ (w : Option Time). IsSomeAnd w (λ at. MayWriteAt again.plan.now then.me.seat.seen at)) (sym (rereads.reads refl).wrote)
-          (subst (λ (p : Bor Plan). IsSomeAnd then.wrote (λ at. MayWriteAt p.now then.me.seat.seen at)) (sym rereads.plan) (writes.writes refl));
-      begins = rereads.begins;
-      again = (rereads.reads refl).reads;
+      writes = subst (λ (w : Option Time). IsSomeAnd w (λ at. MayWriteAt plan then.me.seat.seen at)) (sym wrote)
+          (subst (λ (p : Plan). IsSomeAnd then.wrote (λ at. MayWriteAt p then.me.seat.seen at)) of_then (writes.writes refl));
+      begins = subst (λ (h : History). BeginsWith h then.me.seat.seen) (sym seen) rereads.begins;
+      again = subst (λ (h : History). HasReadsOf plan (since then.me.seat.seen h)) (sym seen)
+          (subst (λ (p : Plan). HasReadsOf p (since then.me.seat.seen again.me.seat.seen)) of_again (rereads.reads refl).reads);
     }
 
+-- a worker is of a plan
+abbrev pub IsOf : {X : Type 0} {G : Ghosts X} → Plan → Worker X G → Type 0
+IsOf plan worker = worker.plan.now ≡ plan
+
 -- and so all of them
-pub all_served : {X : Type 0} {G : Ghosts X} (start first then again : List (Worker X G)) → AllZip (HasTold Read) start first → AllZip (HasTold Write) first then → AllZip (HasTold Read) then again → All (λ (worker : Worker X G). WasServed worker.plan.now worker.me.seat.seen worker.wrote) again
-all_served start first then again reads writes rereads k d below =
-    let n = length_all_zip (HasTold Read) start first reads in
-    let m = length_all_zip (HasTold Write) first then writes in
-    let l = length_all_zip (HasTold Read) then again rereads in
-    served (slice_index_or start k d) (slice_index_or first k d) (slice_index_or then k d) (slice_index_or again k d)
-    (AllZip-get_or (HasTold Read) start first k d d reads (omega (arith, n, m, l, below))).taken
-    (AllZip-get_or (HasTold Write) first then k d d writes (omega (arith, m, l, below))).taken
-    (AllZip-get_or (HasTold Read) then again k d d rereads (omega (arith, l, below))).taken
+pub all_served : {X : Type 0} {G : Ghosts X} (plans : List Plan) (start first then again : List (Worker X G)) (left : List Served) → AllZip IsOf plans start
+    → AllZip (HasTold Read) start first → AllZip (HasTold Write) first then → AllZip (HasTold Read) then again → AllZip IsLeftOf again left → AllZip WasServed plans left
+all_served {X} {G} plans start first then again left own reads writes rereads leaves =
+    let one = zip_on IsOf (HasTold {X = X} {G = G} Read) plans start first own reads in
+    let two = zip_on (By IsOf (HasTold {X = X} {G = G} Read)) (HasTold {X = X} {G = G} Write) plans first then one writes in
+    let three = zip_on (By (By IsOf (HasTold {X = X} {G = G} Read)) (HasTold {X = X} {G = G} Write)) (HasTold {X = X} {G = G} Read) plans then again two rereads in
+    let four = zip_on (By (By (By IsOf (HasTold {X = X} {G = G} Read)) (HasTold {X = X} {G = G} Write)) (HasTold {X = X} {G = G} Read)) (IsLeftOf {X = X} {G = G}) plans again left three leaves in
+    zip_as (By (By (By (By IsOf (HasTold {X = X} {G = G} Read)) (HasTold {X = X} {G = G} Write)) (HasTold {X = X} {G = G} Read)) (IsLeftOf {X = X} {G = G})) WasServed plans left
+    (λ plan l w. served plan w.first.first.first.middle w.first.first.middle w.first.middle w.middle l
+    w.first.first.first.first w.first.first.first.second.taken w.first.first.second.taken w.first.second.taken w.second) four

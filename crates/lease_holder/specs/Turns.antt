@@ -1,7 +1,8 @@
 -- What turns make of workers.
-use Rattle.std.specs.Prelude.{◌≡◌, [], Option, IsSomeAnd}
-use Rattle.timestamp_cache.specs.Words.{Time, History, BeginsWith}
+use Rattle.std.specs.Prelude.{◌≡◌, [], IsSomeAnd}
+use Rattle.timestamp_cache.specs.Words.{History, BeginsWith}
 use Rattle.lease_holder.specs.declared.Plan.{Plan}
+use Rattle.lease_holder.specs.declared.Served.{Served}
 use Rattle.lease_holder.specs.declared.Turn.{Turn}
 use Rattle.lease_holder.specs.declared.Turn.TheVariants.{Read, Write}
 use Rattle.lease_holder.specs.declared.Worker.{Worker}
@@ -26,12 +27,19 @@ pub record HasTold {X : Type 0} {G : Ghosts X} (turn : Turn) (old new : Worker X
   pub taken : HasTaken turn old new
   pub told : new.told.items ≡ []
 
--- A transaction was served, by what its seat has seen at the end: once that had seen each read of its plan, it wrote at a time at which it may by what the seat had seen, and since then the seat has seen each read of its plan again.
-pub record WasServed (plan : Plan) (seen : History) (wrote : Option Time) : Type 0 where
+-- What is left of a worker: its seat, its plan, and when it wrote.
+pub record IsLeftOf {X : Type 0} {G : Ghosts X} (worker : Worker X G) (left : Served) : Type 0 where
+  pub seat : left.seat ≡ worker.me.seat
+  pub plan : left.plan ≡ worker.plan
+  pub wrote : left.wrote ≡ worker.wrote
+
+-- A plan was served, by what is left of its worker: once the seat had seen each read of the plan, it was written at a time at which it may by what the seat had seen, and since then the seat has seen each read of it again.
+pub record WasServed (plan : Plan) (left : Served) : Type 0 where
+  pub own : left.plan.now ≡ plan
   pub first : History
   pub then : History
   pub reads : HasReadsOf plan first
   pub onward : BeginsWith then first
-  pub writes : IsSomeAnd wrote (λ at. MayWriteAt plan then at)
-  pub begins : BeginsWith seen then
-  pub again : HasReadsOf plan (since then seen)
+  pub writes : IsSomeAnd left.wrote (λ at. MayWriteAt plan then at)
+  pub begins : BeginsWith left.seat.seen then
+  pub again : HasReadsOf plan (since then left.seat.seen)

@@ -8,7 +8,7 @@ ghost use Rattle.timestamp_cache.specs.Words.{point, BeginsWith};
 ghost use Rattle.lease_holder.specs.Reads.{HasRead, read_of, since};
 ghost use Rattle.lease_holder.specs.Plans.{time_at, id_of, HasReadsOf, MayWriteAt};
 ghost use Rattle.lease_holder.specs.Texts.{time_text, is_owner, reader, reason_text};
-ghost use Rattle.lease_holder.specs.Turns.{HasTaken, HasTold, WasServed};
+ghost use Rattle.lease_holder.specs.Turns.{HasTaken, HasTold, IsLeftOf, WasServed};
 
 mod lease;
 
@@ -275,8 +275,7 @@ fn seats_of<G: Range>(alloc: Global, seats: Vec<Seat>) -> Result<Vec<RangeSeat<G
 
 /// The threads are over: what is left of each.
 fn left_of<G: Range>(alloc: Global, workers: Vec<Worker<G>>) -> Result<Vec<Served>, AllocError>
-    requires { All (λ worker. WasServed worker.plan.now worker.me.seat.seen worker.wrote) workers.items }
-    ensures { IfOk result (λ left. All (λ served. WasServed served.plan.now served.seat.seen served.wrote) left.items) }
+    ensures { IfOk result (λ left. AllZip IsLeftOf workers.items left.items) }
 {
     let mut left = Vec::with_capacity(alloc, workers.len())?;
     for worker in workers {
@@ -292,16 +291,17 @@ fn left_of<G: Range>(alloc: Global, workers: Vec<Worker<G>>) -> Result<Vec<Serve
     Ok(left)
 }
 
-/// Serves the range: a latch for each key, and a thread for each transaction, which reads, writes, and reads again.
+/// Serves the range: a latch for each key, and a thread for each plan, which reads, writes, and reads again.
 fn serve<G: Range + Send + Sync, R: Threads + Wait + Sync + Print>(
     rt: &R,
     alloc: Global,
     cache: SharedCache,
     seats: Vec<Seat>,
+    plans: &'static [Plan],
 ) -> Result<Vec<Served>>
     requires cache { cache ≡ G.cache }
     requires seats { All (λ seat. seat.cache ≡ G.cache) seats.items }
-    ensures { IfOk result (λ left. All (λ served. WasServed served.plan.now served.seat.seen served.wrote) left.items) }
+    ensures { IfOk result (λ left. AllZip WasServed plans.now left.items) }
 {
     let mut seats = seats_of::<G>(alloc, seats)?;
     let (mut latches, mut workers) = (Vec::new(alloc), Vec::new(alloc));
@@ -310,7 +310,7 @@ fn serve<G: Range + Send + Sync, R: Threads + Wait + Sync + Print>(
         let held = Mutex::new(Held::new(alloc, key, *value, handed)?);
         latches.push(Latch { key: *key, held })?;
     }
-    for plan in &PLANS {
+    for plan in plans {
         let (me, told) = (seats.pop().context("no seat")?, Vec::new(alloc));
         let wrote = None;
         workers.push(Worker {
@@ -332,6 +332,6 @@ fn main(rt: HostRuntime) -> Result<()> {
     let seats = (KEYS.len() + PLANS.len()) as u32;
     let config = Config::new(1 << 17, 1 << 25, 2, 10_000_000_000, at(10))?;
     let (cache, seats) = SharedCache::open(rt.alloc(), config, seats, u64::MAX)?;
-    let _served = serve::<Brand, HostRuntime>(&rt, rt.alloc(), cache, seats)?;
+    let _served = serve::<Brand, HostRuntime>(&rt, rt.alloc(), cache, seats, &PLANS)?;
     Ok(())
 }

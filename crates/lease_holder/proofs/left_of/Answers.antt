@@ -1,17 +1,17 @@
-use Rattle.std.proofs.lemmas.List.Elements.{All-push}
-use Rattle.lease_holder.specs.declared.Served.{Served}
-use Rattle.lease_holder.specs.Turns.{WasServed}
-use Rattle.lease_holder.proofs.Seats.{others_too, first_one}
+use Rattle.std.proofs.Common.{refl, rules}
+use Rattle.lease_holder.specs.Turns.{IsLeftOf}
+use Rattle.lease_holder.proofs.Turns.{nothing_made, one_more_made, all_made}
 use Rattle.lease_holder.proofs.left_of.Goals as goal
+
+pub loop-worker-init : goal.loop-worker-init
+loop-worker-init g c = nothing_made IsLeftOf c.args.workers.items c.in_ok-left.left.items c.into_iter-worker-iterator.result.rest.items (search rules) c.into_iter-worker-iterator.ensures.into_iter_gives.0
 
 pub loop-worker-preserved : goal.loop-worker-preserved
 loop-worker-preserved g c =
     let worker = c.in-Some.worker in
-    let rest = c.loop-worker.worker-iterator.rest.items in
-    let left = c.next.new.self.rest.items in
-    let IsLeft = λ (served : Served). WasServed served.plan.now served.seat.seen served.wrote in
-    let own = first_one (λ worker. WasServed worker.plan.now worker.me.seat.seen worker.wrote) rest left worker c.in-Some.ensures.steps.0 c.loop-worker.invariant.others in
-    record {
-      done = rw c.in_ok-push.ensures.items (All-push IsLeft c.loop-worker.left.items (record { seat = worker.me.seat; plan = worker.plan; wrote = worker.wrote }) c.loop-worker.invariant.done own);
-      others = others_too (λ worker. WasServed worker.plan.now worker.me.seat.seen worker.wrote) rest left worker c.in-Some.ensures.steps.0 c.loop-worker.invariant.others;
-    }
+    one_more_made IsLeftOf c.args.workers.items c.loop-worker.left.items c.push.new.self.items c.loop-worker.worker-iterator.rest.items c.next.new.self.rest.items
+    worker (record { seat = worker.me.seat; plan = worker.plan; wrote = worker.wrote }) c.loop-worker.invariant c.in-Some.ensures.steps.0 c.in_ok-push.ensures.items
+    (record { seat = refl; plan = refl; wrote = refl })
+
+pub returns : goal.returns
+returns g c = all_made IsLeftOf c.args.workers.items c.loop-worker.left.items c.loop-worker.worker-iterator.rest.items c.loop-worker.invariant (search rules)

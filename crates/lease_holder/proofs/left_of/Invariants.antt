@@ -1,10 +1,6 @@
-use Rattle.std.proofs.Common.{All}
-use Rattle.lease_holder.specs.Turns.{WasServed}
+use Rattle.lease_holder.specs.Turns.{IsLeftOf}
+use Rattle.lease_holder.proofs.Turns.{IsPartWay}
 use Rattle.lease_holder.proofs.left_of.Given as goal
 
--- Those that were met were served, and those that are left.
 abbrev pub invariant-loop-worker : goal.invariant-loop-worker
-invariant-loop-worker g l = record {
-  done : All (λ served. WasServed served.plan.now served.seat.seen served.wrote) l.left.items;
-  others : All (λ worker. WasServed worker.plan.now worker.me.seat.seen worker.wrote) l.worker-iterator.rest.items;
-}
+invariant-loop-worker g l = IsPartWay IsLeftOf l.fn.workers.items l.left.items l.worker-iterator.rest.items
