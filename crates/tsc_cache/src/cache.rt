@@ -1,24 +1,25 @@
 ghost use Rattle.std.specs.Prelude.{◌≡◌, ◌↔◌, ◌<◌, ◌+◌, ◌^◌, ◌&&◌, not, option_map, length, true, false, IsOk, IfOk, IfErr, IsErrOf, OnOk, OnErr};
 ghost use Rattle.tsc_time.specs.Time.{Time};
-ghost use Rattle.tsc_span.specs.Span.{is_empty_span};
 ghost use Rattle.tsc_span.specs.LookupSpan.{span_for_lookup};
 ghost use Rattle.tsc_span.specs.Cuts.{cut_of};
 ghost use Rattle.tsc_page_base.specs.KeysAbove.{IsLeastAbove};
 ghost use Rattle.tsc_cache.specs.Settings.{Settings, fits};
-ghost use Rattle.tsc_cache.specs.State.{CacheState, opening, step, look, is_kept, kept_after_rotation};
+ghost use Rattle.tsc_cache.specs.State.{CacheState, step, look, is_kept};
 ghost use Rattle.tsc_cache.specs.Lookup.{LooksIntoPages};
 ghost use Rattle.tsc_cache.specs.Keys.{keys_on, keys_seen};
-ghost use Rattle.tsc_cache.specs.CacheView.{StandsForState, StandsAfter, StandsAfterAll, TellsAdded, TellsAddedAll, Adds, RotatesWith, front_has_room_for, cache_answer, LooksIntoViews};
+ghost use Rattle.tsc_cache.specs.CacheView.{StandsForState, StandsAfter, StandsAfterAll, TellsAdded, TellsAddedAll, Adds, front_has_room_for, cache_answer, LooksIntoViews};
 ghost use Rattle.tsc_cache.specs.Counts.{figures_of, figures_seen};
 ghost use Rattle.tsc_cache.specs.Batch.{all_fit, is_any_kept, AddsAll, AddsSome, LeavesSome};
 
 use crate::config::counted_on;
 use crate::mark::is_any_kept;
+use crate::page_stack::PageStack;
 use crate::pages::Pages;
-use crate::{Added, CacheFault, Config, Figures, Mark};
+use crate::rotate::Rotate;
+use crate::{Added, CacheFault, Config, Figures, Mark, TimestampCache};
 use std::alloc::Global;
 use std::marker::Model;
-use tsc_page::Page;
+use tsc_page::{IntervalPage, Page};
 use tsc_span::{Cut, Ends, Key, Span, SpanRef};
 use tsc_time::{NoMemory, Timestamp, Value, ratchet};
 
@@ -46,12 +47,13 @@ impl Model for Cache {
     ghost invariant = { λ c. AreStacked (pages_of c.pages) };
 }
 
-impl Cache {
-    /// A cache to which nothing was added. Its floor stands at the low-water time of the configuration. It
-    /// takes the memory of one empty page.
-    pub fn new(alloc: Global, config: Config) -> Result<Cache, NoMemory>
-        ensures stands { IfOk result (λ cache. StandsForState cache config (opening config)) }
-    {
+impl TimestampCache for Cache {
+    ghost view = { λ c. c };
+
+    ghost is_empty_free = { false };
+
+    /// It takes the memory of one empty page.
+    fn new(alloc: Global, config: Config) -> Result<Cache, NoMemory> {
         let front = Page::new(alloc, config.page_first(), Timestamp::ZERO)?;
         Ok(Cache {
             config,
@@ -61,33 +63,84 @@ impl Cache {
         })
     }
 
+    /// One that is kept goes to the front page, in place where no other cache holds that page, and
+    /// to a copy of it else. Where the page has no room the pages rotate first, and a new one is made.
+    fn add(&mut self, span: &Span, value: Value, now: Timestamp) -> Result<Added, CacheFault> {
+        if !self.config.fits(span) {
+            return Err(CacheFault::TooLarge);
+        }
+        Ok(self.add_fitting(span, value, now)?)
+    }
+
+    /// A batch of which a mark is kept is made as by [`next_all`](Cache::next_all), and then takes the cache's place.
+    fn add_all(&mut self, marks: &[Mark], now: Timestamp) -> Result<Added, CacheFault> {
+        if self.config.fits_all(marks) && !is_any_kept(self.floor, marks) {
+            return Ok(Added::nothing());
+        }
+        let (next, added) = self.next_all(marks, now)?;
+        *self = next;
+        Ok(added)
+    }
+
+    /// It looks into the pages from the newest on, as [`get_max_counted`](Cache::get_max_counted) tells.
+    fn get_max(&self, span: &Span) -> Value {
+        self.get_max_in(&span.borrowed())
+    }
+
+    fn low_water(&self) -> Timestamp {
+        self.floor
+    }
+
+    fn pages(&self) -> usize {
+        self.pages.len()
+    }
+
+    fn rotations(&self) -> u64 {
+        self.rotations
+    }
+}
+
+impl Rotate for Cache {
+    ghost seen = { λ c. c };
+
+    fn add_fitting(
+        &mut self,
+        span: &Span,
+        value: Value,
+        now: Timestamp,
+    ) -> Result<Added, NoMemory> {
+        if !self.keeps(span, value) {
+            return Ok(Added::nothing());
+        }
+        if self.pages.mark_front(span, value)? {
+            return Ok(Added::without_rotation());
+        }
+        self.rotate(span, value, now)
+    }
+
+    fn keeps(&self, span: &Span, value: Value) -> bool {
+        !span.is_empty() && self.floor < value.time()
+    }
+
+    fn rotate(&mut self, span: &Span, value: Value, now: Timestamp) -> Result<Added, NoMemory> {
+        let former = self.pages.front();
+        let size = self.config.next_size(former.size(), span.cost());
+        let mut front = Page::new(self.pages.alloc(), size, former.top())?;
+        front.add(span, value)?;
+        self.pages.push_front(front)?;
+        let (floor, evicted) = self.pages.evict(&self.config, self.floor, now);
+        self.floor = floor;
+        self.rotations = counted_on(self.rotations);
+        Ok(Added::after_rotation(evicted))
+    }
+}
+
+impl Cache {
     /// Whether a span fits the largest page: whether an Add of it isn't [`CacheFault::TooLarge`].
     pub fn fits(&self, span: &Span) -> bool
         ensures { result ≡ fits self.now.settings span.now }
     {
         self.config.fits(span)
-    }
-
-    /// Adds a span with its value, at the moment `now`: who read what, and when. Where memory is refused the
-    /// cache is as before.
-    ///
-    /// An Add of the empty span, or with a time at or below the floor, is not kept: it changes nothing and
-    /// takes no memory. Any other goes to the front page, in place where no other cache holds that page, and
-    /// to a copy of it else. Where the page has no room the pages rotate first, and a new one is made.
-    ///
-    /// It restates `intervalSkl.AddRange` of CockroachDB's `pkg/kv/kvserver/tscache/interval_skl.go`.
-    pub fn add(&mut self, span: &Span, value: Value, now: Timestamp) -> Result<Added, CacheFault>
-        ensures stands { OnOk result (StandsAfter self.old self.new (record { span = span.now; value = value }) now) }
-        ensures added { IfOk result (TellsAdded self.old (record { span = span.now; value = value }) now) }
-        ensures seen { IfOk result (λ added. Adds self.old self.new (record { span = span.now; value = value }) now added) }
-        ensures too_large { IsErrOf result CacheFault.TooLarge ↔ (fits self.old.settings span.now ≡ false) }
-        ensures unchanged { OnErr result (self.new ≡ self.old) }
-        ensures memory { fits self.old.settings span.now ≡ true → is_kept self.old.floor (record { span = span.now; value = value }) ≡ false → IsOk result }
-    {
-        if !self.config.fits(span) {
-            return Err(CacheFault::TooLarge);
-        }
-        Ok(self.add_fitting(span, value, now)?)
     }
 
     /// The cache after an Add, beside this one, which stays as it is. The two share the pages that
@@ -111,27 +164,6 @@ impl Cache {
         let mut next = self.share()?;
         let added = next.add_fitting(span, value, now)?;
         Ok((next, added))
-    }
-
-    /// Adds all of these marks at the moment `now`, one after another, or none: where one is too large or memory is
-    /// refused, the cache is as before.
-    ///
-    /// Where none is kept nothing changes, and no memory is taken. Any other batch is made as by
-    /// [`next_all`](Cache::next_all), and then takes the cache's place.
-    pub fn add_all(&mut self, marks: &[Mark], now: Timestamp) -> Result<Added, CacheFault>
-        ensures stands { OnOk result (StandsAfterAll self.old self.new marks.now now) }
-        ensures added { IfOk result (TellsAddedAll self.old marks.now now) }
-        ensures seen { IfOk result (λ added. AddsAll self.old self.new marks.now now added) }
-        ensures too_large { IsErrOf result CacheFault.TooLarge ↔ (all_fit self.old.settings marks.now ≡ false) }
-        ensures unchanged { OnErr result (self.new ≡ self.old) }
-        ensures memory { all_fit self.old.settings marks.now ≡ true → is_any_kept self.old.floor marks.now ≡ false → IsOk result }
-    {
-        if self.config.fits_all(marks) && !is_any_kept(self.floor, marks) {
-            return Ok(Added::nothing());
-        }
-        let (next, added) = self.next_all(marks, now)?;
-        *self = next;
-        Ok(added)
     }
 
     /// Adds each of these marks at the moment `now`, one after another, in place. Where memory is refused, those before the one that was
@@ -173,17 +205,6 @@ impl Cache {
         let mut next = self.share()?;
         let added = next.add_each_fitting(marks, now)?;
         Ok((next, added))
-    }
-
-    /// What the floor, and each Add that overlaps the span, come to together: the latest of their times, with
-    /// its owner where all of that time are of one owner.
-    ///
-    /// It looks into the pages from the newest on, as [`get_max_counted`](Cache::get_max_counted) tells.
-    pub fn get_max(&self, span: &Span) -> Value
-        ensures value { result ≡ cache_answer self.now span.now }
-        ensures stands { (settings : Settings) (s : CacheState) → StandsForState self.now settings s → result ≡ look s span.now }
-    {
-        self.get_max_in(&span.borrowed())
     }
 
     /// As [`get_max`](Cache::get_max), of the keys from a start to an end that lie elsewhere: it copies no key, and takes no
@@ -231,30 +252,6 @@ impl Cache {
         self.pages.key_above(cut)
     }
 
-    /// Where the floor stands.
-    pub fn low_water(&self) -> Timestamp
-        ensures value { result ≡ self.now.floor }
-        ensures stands { (settings : Settings) (s : CacheState) → StandsForState self.now settings s → result ≡ s.floor }
-    {
-        self.floor
-    }
-
-    /// How many pages there are.
-    pub fn pages(&self) -> usize
-        ensures value { result ≡ length self.now.pages }
-        ensures stands { (settings : Settings) (s : CacheState) → StandsForState self.now settings s → result ≡ length s.pages }
-    {
-        self.pages.len()
-    }
-
-    /// How often the pages rotated. The count stays at 2^64 - 1 once it is there.
-    pub fn rotations(&self) -> u64
-        ensures value { result ≡ self.now.rotations }
-        ensures stands { (settings : Settings) (s : CacheState) → StandsForState self.now settings s → result ≡ s.rotations }
-    {
-        self.rotations
-    }
-
     /// How many pages there are, how often they rotated, how many end keys they hold and what these cost, and where the floor
     /// stands. It costs a step for each page, and takes no memory.
     pub fn figures(&self) -> Figures
@@ -285,24 +282,6 @@ impl Cache {
         (ratchet(best, Value::unowned(self.floor)).0, looked)
     }
 
-    /// Adds a span that fits.
-    fn add_fitting(&mut self, span: &Span, value: Value, now: Timestamp) -> Result<Added, NoMemory>
-        requires fits { fits self.old.settings span.now ≡ true }
-        ensures stands { OnOk result (StandsAfter self.old self.new (record { span = span.now; value = value }) now) }
-        ensures added { IfOk result (TellsAdded self.old (record { span = span.now; value = value }) now) }
-        ensures seen { IfOk result (λ added. Adds self.old self.new (record { span = span.now; value = value }) now added) }
-        ensures unchanged { OnErr result (self.new ≡ self.old) }
-        ensures memory { is_kept self.old.floor (record { span = span.now; value = value }) ≡ false → IsOk result }
-    {
-        if !self.keeps(span, value) {
-            return Ok(Added::nothing());
-        }
-        if self.pages.mark_front(span, value)? {
-            return Ok(Added::without_rotation());
-        }
-        self.rotate(span, value, now)
-    }
-
     /// Adds marks that fit. Where memory is refused, those before stay.
     fn add_each_fitting(&mut self, marks: &[Mark], now: Timestamp) -> Result<Added, NoMemory>
         requires fits { all_fit self.old.settings marks.now ≡ true }
@@ -327,33 +306,5 @@ impl Cache {
             pages: self.pages.share()?,
             rotations: self.rotations,
         })
-    }
-
-    /// Whether an Add is kept.
-    fn keeps(&self, span: &Span, value: Value) -> bool
-        ensures { result ≡ is_kept self.now.floor (record { span = span.now; value = value }) }
-    {
-        !span.is_empty() && self.floor < value.time()
-    }
-
-    /// Brings a page with one mark to the front, and drops what is expired. All memory is asked for before
-    /// the first change.
-    fn rotate(&mut self, span: &Span, value: Value, now: Timestamp) -> Result<Added, NoMemory>
-        requires not_empty { is_empty_span span.now ≡ false }
-        requires fits { fits self.old.settings span.now ≡ true }
-        ensures rotated { IfOk result (λ added. RotatesWith self.old self.new (record { span = span.now; value = value }) now added.evicted
-            × (added ≡ kept_after_rotation added.evicted)) }
-        ensures settings { self.new.settings ≡ self.old.settings }
-        ensures unchanged { OnErr result (self.new ≡ self.old) }
-    {
-        let former = self.pages.front();
-        let size = self.config.next_size(former.size(), span.cost());
-        let mut front = Page::new(self.pages.alloc(), size, former.top())?;
-        front.add(span, value)?;
-        self.pages.push_front(front)?;
-        let (floor, evicted) = self.pages.evict(&self.config, self.floor, now);
-        self.floor = floor;
-        self.rotations = counted_on(self.rotations);
-        Ok(Added::after_rotation(evicted))
     }
 }

@@ -1,4 +1,4 @@
-use tsc_page::Page;
+use tsc_page::{IntervalPage, Page};
 use tsc_time::Timestamp;
 
 /// What can be counted of a cache, and where its floor stands. Rotations, nodes and bytes stay at 2^64 - 1 once they are there.

@@ -13,7 +13,7 @@
 //! their pages, which are never changed while another cache holds them. [`Cache::add_all`] adds several
 //! marks, all of them or none.
 //!
-//! A [`PlainCache`] makes the same promises over plain lists of what was added: slow, and easy to believe.
+//! What a cache promises stands in [`TimestampCache`]. A [`PlainCache`] keeps it over plain lists of what was added: slow, and easy to believe.
 #![tactic(auto)]
 
 mod added;
@@ -24,9 +24,12 @@ mod figures;
 mod history;
 pub mod laws;
 mod mark;
+mod page_stack;
 mod pages;
 mod plain;
 mod plain_pages;
+mod rotate;
+mod timestamp_cache;
 
 pub use added::Added;
 pub use cache::Cache;
@@ -36,3 +39,4 @@ pub use figures::Figures;
 pub use history::Entry;
 pub use mark::Mark;
 pub use plain::PlainCache;
+pub use timestamp_cache::TimestampCache;

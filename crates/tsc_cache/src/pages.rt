@@ -1,20 +1,21 @@
-ghost use Rattle.std.specs.Prelude.{◌≡◌, ◌∷◌, [], length, true, false, option_map, IfOk, OnOk, OnErr};
+ghost use Rattle.std.specs.Prelude.{◌≡◌, ◌∷◌, [], true, false, option_map, IfOk, OnErr};
 ghost use Rattle.tsc_span.specs.Span.{is_empty_span};
 ghost use Rattle.tsc_span.specs.Cuts.{cut_of};
 ghost use Rattle.tsc_page_base.specs.KeysAbove.{IsLeastAbove};
 ghost use Rattle.tsc_page_base.specs.PageView.{has_room_for};
 ghost use Rattle.tsc_cache.specs.CacheView.{MarksFront, LooksIntoViews};
-ghost use Rattle.tsc_cache.specs.Stacks.{AreStacked, pages_answer, IsExpiredTop, Drops};
+ghost use Rattle.tsc_cache.specs.Stacks.{AreStacked, pages_answer};
 ghost use Rattle.tsc_cache.specs.CacheParts.{front_of, older_of, pages_of};
 ghost use Rattle.tsc_cache.specs.Keys.{keys_seen, lesser};
 ghost use Rattle.tsc_cache.specs.Counts.{figures_with};
 
+use crate::page_stack::PageStack;
 use crate::{Config, Figures};
 use std::alloc::Global;
 use std::collections::VecDeque;
 use std::mem;
 use std::sync::Arc;
-use tsc_page::Page;
+use tsc_page::{IntervalPage, Page};
 use tsc_span::{Cut, Key, Span, SpanRef};
 use tsc_time::{NoMemory, Timestamp, Value, ratchet};
 
@@ -26,6 +27,52 @@ pub(crate) struct Pages {
     older: VecDeque<Arc<Page>>,
 }
 
+impl PageStack<Page> for Pages {
+    ghost newest = { front_of };
+
+    ghost others = { older_of };
+
+    fn alloc(&self) -> Global {
+        *self.older.allocator()
+    }
+
+    fn len(&self) -> usize {
+        self.older.len() + 1
+    }
+
+    fn front(&self) -> &Page {
+        &self.front
+    }
+
+    fn push_front(&mut self, front: Page) -> Result<(), NoMemory> {
+        let front = Arc::new(self.alloc(), front)?;
+        self.older.reserve(1)?;
+        let former = mem::replace(&mut self.front, front);
+        self.older.push_front(former).ok();
+        Ok(())
+    }
+
+    fn expired_top(&self, config: &Config, now: Timestamp) -> Option<Timestamp> {
+        let top = self.older.back()?.top();
+        if self.older.len() >= config.min_pages() as usize && config.is_past_retention(top, now) {
+            Some(top)
+        } else {
+            None
+        }
+    }
+
+    fn evict(&mut self, config: &Config, floor: Timestamp, now: Timestamp) -> (Timestamp, u64) {
+        let mut floor = floor;
+        let mut evicted = 0;
+        while let Some(top) = self.expired_top(config, now) {
+            self.older.pop_back();
+            floor = floor.max(top);
+            evicted += 1;
+        }
+        (floor, evicted)
+    }
+}
+
 impl Pages {
     /// One page.
     pub(crate) fn new(alloc: Global, front: Page) -> Result<Pages, NoMemory>
@@ -35,25 +82,6 @@ impl Pages {
             front: Arc::new(alloc, front)?,
             older: VecDeque::new(alloc),
         })
-    }
-
-    /// Where the pages have their memory from.
-    pub(crate) fn alloc(&self) -> Global {
-        *self.older.allocator()
-    }
-
-    /// How many there are.
-    pub(crate) fn len(&self) -> usize
-        ensures { result ≡ length (pages_of self.now) }
-    {
-        self.older.len() + 1
-    }
-
-    /// The newest page.
-    pub(crate) fn front(&self) -> &Page
-        ensures { result.now ≡ front_of self.now }
-    {
-        &self.front
     }
 
     /// The same pages once more.
@@ -96,52 +124,6 @@ impl Pages {
                 Ok(true)
             }
         }
-    }
-
-    /// Brings a new page to the front.
-    pub(crate) fn push_front(&mut self, front: Page) -> Result<(), NoMemory>
-        ensures older { OnOk result (older_of self.new ≡ pages_of self.old) }
-        ensures front { OnOk result (front_of self.new ≡ front) }
-        ensures unchanged { OnErr result (pages_of self.new ≡ pages_of self.old) }
-    {
-        let front = Arc::new(self.alloc(), front)?;
-        self.older.reserve(1)?;
-        let former = mem::replace(&mut self.front, front);
-        self.older.push_front(former).ok();
-        Ok(())
-    }
-
-    /// The top of the oldest page behind the front, where that page is to be dropped.
-    fn expired_top(&self, config: &Config, now: Timestamp) -> Option<Timestamp>
-        ensures { IsExpiredTop config.now now (older_of self.now) result }
-    {
-        let top = self.older.back()?.top();
-        if self.older.len() >= config.min_pages() as usize && config.is_past_retention(top, now) {
-            Some(top)
-        } else {
-            None
-        }
-    }
-
-    /// Drops expired pages behind the front, from the oldest on, while there are enough of them. Gives the
-    /// latest of `floor` and of their tops, and how many were dropped.
-    pub(crate) fn evict(
-        &mut self,
-        config: &Config,
-        floor: Timestamp,
-        now: Timestamp,
-    ) -> (Timestamp, u64)
-        ensures front { front_of self.new ≡ front_of self.old }
-        ensures dropped { Drops config.now floor now (older_of self.old) (older_of self.new) result.0 result.1 }
-    {
-        let mut floor = floor;
-        let mut evicted = 0;
-        while let Some(top) = self.expired_top(config, now) {
-            self.older.pop_back();
-            floor = floor.max(top);
-            evicted += 1;
-        }
-        (floor, evicted)
     }
 
     /// What all pages answer to a span together, above time zero, and how many were looked into.

@@ -26,4 +26,4 @@ mod root;
 mod tree;
 
 pub use page::Page;
-pub use tsc_page_base::{LEAST_SIZE, MOST_SIZE, PlainPage};
+pub use tsc_page_base::{IntervalPage, LEAST_SIZE, MOST_SIZE, PlainPage};

@@ -1,16 +1,17 @@
-ghost use Rattle.std.specs.Prelude.{sum, slice_get, is_some, option_map, ◌≡◌, ◌≤◌, ◌*◌, nat_le, true, false, IsOk, IfOk, IfSome, OnOk, OnErr};
-ghost use Rattle.tsc_time.specs.Joint.{joint, joint_above};
+ghost use Rattle.std.specs.Prelude.{sum, slice_get, is_some, option_map, ◌≡◌, ◌≤◌, true, false, IfOk, IfSome};
+ghost use Rattle.tsc_time.specs.Joint.{joint_above};
 ghost use Rattle.tsc_time.specs.Time.{zero_time, is_before, later};
-ghost use Rattle.tsc_span.specs.Span.{Interval, is_empty_span, overlaps, end_keys, span_cost};
+ghost use Rattle.tsc_span.specs.Span.{is_empty_span, end_keys};
 ghost use Rattle.tsc_span.specs.Cuts.{cut_of};
 ghost use Rattle.tsc_page_base.specs.declared.TheConstants.{LEAST_SIZE, MOST_SIZE};
-ghost use Rattle.tsc_page_base.specs.Page.{PageMarks, empty_page, top, values_on, marked_keys, count_distinct, cost_distinct, has_room};
+ghost use Rattle.tsc_page_base.specs.Page.{PageMarks, top, values_on, marked_keys, count_distinct, has_room};
 ghost use Rattle.tsc_page_base.specs.KeysAbove.{IsLeastAbove};
-ghost use Rattle.tsc_page_base.specs.PageView.{AreLeafSizes, StandsFor, StandsWith, HasKeysWith, AnswersWith, NoAnswerAboveTop, answer, bytes_of, has_room_for};
+ghost use Rattle.tsc_page_base.specs.PageView.{AreLeafSizes, StandsFor, StandsWith, HasKeysWith, AnswersWith, NoAnswerAboveTop, answer, has_room_for};
 
 use crate::tree::Tree;
 use std::alloc::Global;
 use std::marker::Model;
+use tsc_page_base::IntervalPage;
 use tsc_span::{Cut, Key, Span, SpanRef};
 use tsc_time::{NoMemory, Timestamp, Value};
 
@@ -40,17 +41,10 @@ impl Model for Page {
         × NoAnswerAboveTop (page_of p.size p.top (tree_nodes p.tree) (tree_sizes p.tree)) };
 }
 
-impl Page {
-    /// An empty page of a size in bytes, from [`LEAST_SIZE`](crate::LEAST_SIZE) to [`MOST_SIZE`](crate::MOST_SIZE). `base` is
-    /// the least that its top can be. It takes no memory until something is added, so it cannot answer that memory is
-    /// wanting.
-    pub fn new(alloc: Global, size: u32, base: Timestamp) -> Result<Page, NoMemory>
-        requires at_least { LEAST_SIZE ≤ size }
-        requires at_most { size ≤ MOST_SIZE }
-        ensures stands { IfOk result (λ page. StandsFor page (empty_page size base)) }
-        ensures room { IfOk result (λ page. (span : Interval) → has_room_for page span ≡ nat_le (span_cost span) size) }
-        ensures memory { IsOk result }
-    {
+impl IntervalPage for Page {
+    ghost view = { λ p. p };
+
+    fn new(alloc: Global, size: u32, base: Timestamp) -> Result<Page, NoMemory> {
         Ok(Page {
             size,
             top: base,
@@ -58,32 +52,16 @@ impl Page {
         })
     }
 
-    /// How many bytes the page may have.
-    pub fn size(&self) -> u32
-        ensures value { result ≡ self.now.size }
-        ensures stands { (p : PageMarks) → StandsFor self.now p → result ≡ p.size }
-        ensures least { LEAST_SIZE ≤ result }
-        ensures most { result ≤ MOST_SIZE }
-    {
+    fn size(&self) -> u32 {
         self.size
     }
 
-    /// What the end keys of all that was added cost together, each of them once: for each as many bytes as it has, and
-    /// 32 more.
-    pub fn bytes(&self) -> u32
-        ensures value { result ≡ bytes_of self.now }
-        ensures stands { (p : PageMarks) → StandsFor self.now p → result ≡ cost_distinct (marked_keys p.marks) }
-        ensures most { result ≤ self.now.size }
-    {
+    fn bytes(&self) -> u32 {
         self.tree.bytes()
     }
 
-    /// Whether the page has room for a span: whether the end keys of all that was added and of the span, each of them
-    /// once, cost no more than the page's size. It costs a search for each end key.
-    pub fn room(&self, span: &Span) -> bool
-        ensures value { result ≡ has_room_for self.now span.now }
-        ensures stands { (p : PageMarks) → StandsFor self.now p → result ≡ has_room p span.now }
-    {
+    /// It costs a search for each end key.
+    fn room(&self, span: &Span) -> bool {
         let (first, second) = span.end_keys();
         self.tree.has_room(first, second, self.size)
     }
@@ -100,35 +78,13 @@ impl Page {
     /// pending on the way is ratcheted into the parts below it. Any other Add copies the list at the top and the way to each
     /// leaf that it changes; a leaf that comes to have 65 nodes is cut into its first 32 and its last 33, and so is a fork of
     /// 65 parts. Where there may be no room for both end keys, each is searched for once more.
-    pub fn add(&mut self, span: &Span, value: Value) -> Result<(), NoMemory>
-        requires not_empty { is_empty_span span.now ≡ false }
-        requires room { has_room_for self.old span.now ≡ true }
-        ensures stands { OnOk result (StandsWith self.old self.new (record { span = span.now; value = value })) }
-        ensures size { self.new.size ≡ self.old.size }
-        ensures top { OnOk result (self.new.top ≡ later self.old.top value.time) }
-        ensures keys { OnOk result (HasKeysWith self.old self.new span.now) }
-        ensures answers { OnOk result (AnswersWith self.old self.new span.now value) }
-        ensures unchanged { OnErr result (self.new ≡ self.old) }
-    {
+    fn add(&mut self, span: &Span, value: Value) -> Result<(), NoMemory> {
         self.try_add(span, value)?;
         Ok(())
     }
 
-    /// Adds a span with its value, where the page has room for it, and says whether it had. The span is not
-    /// empty. Without room the page stays as it is, and where memory is refused.
-    ///
-    /// It costs what [`add`](Page::add) does.
-    pub fn try_add(&mut self, span: &Span, value: Value) -> Result<bool, NoMemory>
-        requires not_empty { is_empty_span span.now ≡ false }
-        ensures room { IfOk result (λ done. done ≡ has_room_for self.old span.now) }
-        ensures stands { IfOk result (λ done. done ≡ true → StandsWith self.old self.new (record { span = span.now; value = value })) }
-        ensures size { self.new.size ≡ self.old.size }
-        ensures top { IfOk result (λ done. done ≡ true → self.new.top ≡ later self.old.top value.time) }
-        ensures keys { IfOk result (λ done. done ≡ true → HasKeysWith self.old self.new span.now) }
-        ensures answers { IfOk result (λ done. done ≡ true → AnswersWith self.old self.new span.now value) }
-        ensures full { IfOk result (λ done. done ≡ false → self.new ≡ self.old) }
-        ensures unchanged { OnErr result (self.new ≡ self.old) }
-    {
+    /// It costs what [`add`](IntervalPage::add) does.
+    fn try_add(&mut self, span: &Span, value: Value) -> Result<bool, NoMemory> {
         let Some((from, to)) = span.cuts() else {
             unreachable!()
         };
@@ -143,6 +99,33 @@ impl Page {
         Ok(true)
     }
 
+    /// The joint value of time zero without an owner and of all that was added and overlaps the span. It costs a search in
+    /// each part on the way to the leaves in which the span starts and stops, a step for each node within it there, and one for
+    /// each part between these. A search compares keys by their first twenty-four bytes, and reads what is behind these only
+    /// where they are the same.
+    fn lookup(&self, span: &Span) -> Value {
+        self.lookup_in(&span.borrowed())
+    }
+
+    fn top(&self) -> Timestamp {
+        self.top
+    }
+
+    fn nodes(&self) -> u32 {
+        self.tree.len() as u32
+    }
+
+    /// It shares the leaves, and takes the memory of the list of parts at the top of their tree.
+    fn try_copy(&self) -> Result<Page, NoMemory> {
+        Ok(Page {
+            size: self.size,
+            top: self.top,
+            tree: self.tree.try_copy()?,
+        })
+    }
+}
+
+impl Page {
     /// The page with one more span and its value, where it has room for that; `None` where it has not. The span is not empty,
     /// and this page stays as it is.
     ///
@@ -171,18 +154,6 @@ impl Page {
         }))
     }
 
-    /// The joint value of time zero without an owner and of all that was added and overlaps the span. It costs a search in
-    /// each part on the way to the leaves in which the span starts and stops, a step for each node within it there, and one for
-    /// each part between these. A search compares keys by their first twenty-four bytes, and reads what is behind these only
-    /// where they are the same.
-    pub fn lookup(&self, span: &Span) -> Value
-        ensures value { result ≡ answer self.now span.now }
-        ensures below_top { is_before self.now.top result.time ≡ false }
-        ensures stands { (p : PageMarks) → StandsFor self.now p → result ≡ joint_above zero_time (values_on span.now p.marks) }
-    {
-        self.lookup_in(&span.borrowed())
-    }
-
     /// As [`lookup`](Page::lookup), over keys that lie elsewhere.
     pub fn lookup_in(&self, span: &SpanRef<'_>) -> Value
         ensures value { result ≡ answer self.now span.now }
@@ -193,24 +164,6 @@ impl Page {
             Some((from, to)) => self.tree.joint_between(from, to),
             None => Value::unowned(Timestamp::ZERO),
         }
-    }
-
-    /// The greatest of the base and of the times that were added. No answer to a lookup is later.
-    pub fn top(&self) -> Timestamp
-        ensures value { result ≡ self.now.top }
-        ensures covers { NoAnswerAboveTop self.now }
-        ensures stands { (p : PageMarks) → StandsFor self.now p → result ≡ top p }
-    {
-        self.top
-    }
-
-    /// How many different end keys the page holds.
-    pub fn nodes(&self) -> u32
-        ensures value { result ≡ count_distinct self.now.keys }
-        ensures stands { (p : PageMarks) → StandsFor self.now p → result ≡ count_distinct (marked_keys p.marks) }
-        ensures few { 32 * result ≤ self.now.size }
-    {
-        self.tree.len() as u32
     }
 
     /// The least end key on the page that lies above a cut, as a key does above the place right before it; `None` where none
@@ -239,17 +192,5 @@ impl Page {
             Some(len) => Some(len as u32),
             None => None,
         }
-    }
-
-    /// A copy of the page, which shares its leaves. It takes the memory of the list of parts at the top of their tree.
-    pub fn try_copy(&self) -> Result<Page, NoMemory>
-        ensures value { IfOk result (λ copy. copy ≡ self.now) }
-        ensures stands { IfOk result (λ copy. (p : PageMarks) → StandsFor self.now p → StandsFor copy p) }
-    {
-        Ok(Page {
-            size: self.size,
-            top: self.top,
-            tree: self.tree.try_copy()?,
-        })
     }
 }

@@ -14,10 +14,12 @@
 //! A [`PlainPage`] is the same thing as the list of what was added: slow, and easy to believe.
 #![tactic(auto)]
 
+mod interval_page;
 mod nodes;
 mod number;
 mod plain;
 
+pub use interval_page::IntervalPage;
 pub use nodes::{Grown, Nodes};
 pub use number::{KeyNumber, NumberedCut, NumberedKey};
 pub use plain::PlainPage;

@@ -1,0 +1,7 @@
+-- The span that is handed on is the one that was named.
+use Rattle.std.proofs.Common.{◌∙◌, ap}
+use Rattle.tsc_cache.specs.State.{look}
+use Rattle.tsc_cache.proofs.cache.CacheTimestampCache.get_max.Goals as goal
+
+pub returns-clause-stands : goal.returns-clause-stands
+returns-clause-stands c settings s stands = c.get_max_in.ensures.stands settings s stands ∙ ap (look s) c.borrowed.ensures

@@ -1,6 +1,0 @@
--- The top is kept beside the leaves.
-use Rattle.std.proofs.Common.{rules}
-use Rattle.tsc_page.proofs.page.Page.top.Goals as goal
-
-pub returns-clause-value : goal.returns-clause-value
-returns-clause-value c = search rules
