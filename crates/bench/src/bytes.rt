@@ -5,7 +5,7 @@ use crate::measure::{Figure, Keys, PLACES, keep_least};
 use crate::watch::Watch;
 use anyhow::{Context, Result, ensure};
 use std::alloc::Global;
-use tsc_cache::Cache;
+use tsc_cache::{Cache, TimestampCache};
 use tsc_span::{Key, Span, SpanRef};
 use tsc_time::{Timestamp, Value, ratchet};
 use uuid::{Bytes, Uuid};

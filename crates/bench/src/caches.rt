@@ -4,7 +4,7 @@ use crate::measure::{Figure, Keys, Places, ROUNDS, keep_least, value_at};
 use crate::watch::Watch;
 use anyhow::{Result, ensure};
 use std::alloc::Global;
-use tsc_cache::{Cache, Config};
+use tsc_cache::{Cache, Config, TimestampCache};
 use tsc_span::Span;
 use tsc_time::{Timestamp, Value, ratchet};
 

@@ -3,7 +3,7 @@ ghost use Rattle.std.specs.Prelude.{◌≡◌};
 use crate::measure::PLACES;
 use std::sync::Wait;
 use std::time::{Clock, Instant};
-use tsc_cache::Cache;
+use tsc_cache::{Cache, TimestampCache};
 use tsc_shared::{Seat, SharedCache};
 use tsc_span::Span;
 use tsc_time::{Timestamp, Value, ratchet};

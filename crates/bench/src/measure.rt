@@ -3,7 +3,7 @@ ghost use Rattle.std.specs.Prelude.{◌≡◌, ◌<◌, ◌≤◌, IfOk};
 use crate::watch::Watch;
 use anyhow::{Context, Result, ensure};
 use std::alloc::Global;
-use tsc_page::{LEAST_SIZE, MOST_SIZE, Page};
+use tsc_page::{IntervalPage, LEAST_SIZE, MOST_SIZE, Page};
 use tsc_span::{Ends, Key, Span, SpanRef};
 use tsc_time::{Timestamp, Value, ratchet};
 

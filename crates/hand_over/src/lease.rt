@@ -10,8 +10,8 @@ use std::alloc::Global;
 use std::marker::{Brand, PhantomData};
 use std::slice;
 use timestamp_cache::{
-    Cache, CacheFault, Config, NoMemory, ReadSummary, Span, Timestamp, Uuid, Value, apply,
-    earliest_write,
+    Cache, CacheFault, Config, NoMemory, ReadSummary, Span, Timestamp, TimestampCache, Uuid, Value,
+    apply, earliest_write,
 };
 
 /// From whom a lease is taken over: the former holder's cache, as it was summarized, and the range. By it the next holder shows in its type whose reads it minds.

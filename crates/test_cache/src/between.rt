@@ -3,7 +3,7 @@ use crate::marks::{at, config, value};
 use crate::rows::{AT_20, FIRST, FLOOR, NOBODY, RETENTION};
 use std::alloc::Global;
 use std::test::Fail;
-use tsc_cache::Cache;
+use tsc_cache::{Cache, TimestampCache};
 use tsc_span::{Ends, Key, Span, SpanFault, SpanRef};
 use tsc_time::Value;
 

@@ -10,8 +10,8 @@ use std::mem;
 use std::process::Abort;
 use std::test::Fail;
 use timestamp_cache::{
-    Added, Cache, CacheFault, Config, Cut, Key, Mark, ReadSummary, Span, Timestamp, Uuid, Value,
-    apply, earliest_write, may_write, next_time, summary,
+    Added, Cache, CacheFault, Config, Cut, Key, Mark, ReadSummary, Span, Timestamp, TimestampCache,
+    Uuid, Value, apply, earliest_write, may_write, next_time, summary,
 };
 use tsc_cache::PlainCache;
 

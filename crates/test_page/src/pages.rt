@@ -2,7 +2,7 @@
 use std::alloc::{AllocError, Global};
 use std::process::Abort;
 use std::test::Fail;
-use tsc_page::{LEAST_SIZE, MOST_SIZE, Page, PlainPage};
+use tsc_page::{IntervalPage, LEAST_SIZE, MOST_SIZE, Page, PlainPage};
 use tsc_span::{Ends, Key, Span, SpanFault};
 use tsc_time::{NoMemory, Timestamp, Value};
 use uuid::Uuid;

@@ -6,7 +6,7 @@ use std::alloc::{AllocError, Global};
 use std::mem;
 use std::process::Abort;
 use std::test::Fail;
-use tsc_page::{LEAST_SIZE, Page, PlainPage};
+use tsc_page::{IntervalPage, LEAST_SIZE, Page, PlainPage};
 use tsc_span::{Cut, Key, Span};
 use tsc_time::{NoMemory, Timestamp, Value, ratchet};
 

@@ -8,7 +8,7 @@ use crate::steps::Act::{self, Add, Figures, See};
 use crate::steps::{KEPT, PAGES, ROTATED, Row, Step, config_of, end, play};
 use std::alloc::Global;
 use std::test::Fail;
-use tsc_cache::Cache;
+use tsc_cache::{Cache, TimestampCache};
 
 /// A page has four keys, each of which costs 33 bytes. What lies ten behind the moment is dropped, but for two pages. The second seat is
 /// told what there is only where it asks.

@@ -10,7 +10,7 @@ use crate::watch::Watch;
 use std::alloc::Global;
 use std::sync::Wait;
 use std::test::Fail;
-use tsc_cache::Cache;
+use tsc_cache::{Cache, TimestampCache};
 use tsc_shared::{Closed, Seat};
 use tsc_span::Span;
 use tsc_time::Value;

@@ -12,7 +12,7 @@ ghost use Rattle.timestamp_cache.specs.Stretches.{is_after, stretch_end, IsStret
 
 use std::alloc::Global;
 use std::marker::Model;
-use tsc_cache::{Added, Cache, CacheFault, Mark};
+use tsc_cache::{Added, Cache, CacheFault, Mark, TimestampCache};
 use tsc_span::{Cut, Ends, Key, Span, SpanRef};
 use tsc_time::{NoMemory, Timestamp, Value};
 

@@ -34,7 +34,7 @@ pub use hand_over::{ReadSummary, apply, summary};
 pub use next::next_time;
 pub use tsc_cache::{
     Added, Cache, CacheFault, Config, ConfigFault, Figures, LEAST_MIN_PAGES, LONGEST_RETENTION,
-    MOST_MIN_PAGES, Mark,
+    MOST_MIN_PAGES, Mark, TimestampCache,
 };
 pub use tsc_page_base::{LEAST_SIZE, MOST_SIZE};
 pub use tsc_shared::{

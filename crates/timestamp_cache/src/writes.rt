@@ -6,7 +6,7 @@ ghost use Rattle.timestamp_cache.specs.Clear.{IsClearOf, IsClearOfReads, IsClear
 ghost use Rattle.timestamp_cache.specs.Earliest.{TellsEarliest};
 
 use crate::{earliest_clear_of, is_clear_of};
-use tsc_cache::Cache;
+use tsc_cache::{Cache, TimestampCache};
 use tsc_shared::{Gone, Seat, SharedCache};
 use tsc_span::Span;
 use tsc_time::Timestamp;

@@ -13,7 +13,7 @@ use crate::words::{TscFigures, TscMark, TscValue};
 use std::alloc::Global;
 use std::mem::replace;
 use tsc_c_hall::{Chair, Host};
-use tsc_cache::{Added, Cache, CacheFault, Config};
+use tsc_cache::{Added, Cache, CacheFault, Config, TimestampCache};
 use tsc_time::{Timestamp, Value};
 
 /// What a number that was given stands for.

@@ -11,7 +11,7 @@ ghost use Rattle.tsc_check.specs.CheckParts.{AreInOrder, HasPlaced, Lowers, Lowe
 
 use crate::order::Order;
 use std::alloc::Global;
-use tsc_cache::{Added, Cache};
+use tsc_cache::{Added, Cache, TimestampCache};
 use tsc_time::{NoMemory, Value};
 use tsc_trace::{Call, Line, Said, Trace, add_all_fitting, add_fitting};
 use tsc_trace_io::Progress;

@@ -14,7 +14,7 @@ ghost use Rattle.tsc_cache.specs.Counts.{figures_of};
 use crate::board::{DeskSeat, SharedDesk, Slot};
 use crate::places::{HEAD, epoch_word, side_slot};
 use crate::steps::{Enter, Leave, PickUp};
-use tsc_cache::Figures;
+use tsc_cache::{Figures, TimestampCache};
 use tsc_span::SpanRef;
 use tsc_time::{Timestamp, Value};
 

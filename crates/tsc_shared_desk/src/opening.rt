@@ -10,7 +10,7 @@ use crate::steps::Deal;
 use atomic_table::Table;
 use std::alloc::Global;
 use std::sync::Arc;
-use tsc_cache::Cache;
+use tsc_cache::{Cache, TimestampCache};
 use tsc_time::NoMemory;
 
 /// The words of the desk: its own, HEAD, and the epoch of each seat, each with a line of sixteen.

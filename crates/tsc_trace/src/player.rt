@@ -11,7 +11,7 @@ ghost use Rattle.tsc_trace.specs.Play.{Standing, said_at, next, next_all, played
 
 use crate::log::{Line, Lines, Log, Said};
 use std::alloc::Global;
-use tsc_cache::{Added, Cache, CacheFault, Mark};
+use tsc_cache::{Added, Cache, CacheFault, Mark, TimestampCache};
 use tsc_span::Span;
 use tsc_time::{NoMemory, Timestamp, Value};
 use tsc_trace_io::{NoProgress, Progress};

@@ -2,7 +2,7 @@
 use crate::shared::threads::{Adds, Made, Plan};
 use std::alloc::Global;
 use std::collections::VecDeque;
-use tsc_cache::{Cache, Config};
+use tsc_cache::{Cache, Config, TimestampCache};
 use tsc_span::{Key, Span};
 
 /// The next Add of a seat, where this is its place.
