@@ -621,8 +621,7 @@ fn join(best: &mut Value, value: &Value)
     }
 }
 
-/// The joint value of two. It stays out of the loops, which else move the bytes of an owner at each step.
-#[inline(never)]
+/// The joint value of two.
 fn joint_of(best: &Value, value: &Value) -> Value
     ensures { result ≡ joint best.now (value.now ∷ []) }
 {
