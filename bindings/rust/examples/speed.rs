@@ -3,7 +3,9 @@
 //! so do threads that share the map.
 //!
 //! It prints the nanoseconds of one call, in that turn over 1,024 places in which it was quickest, of 225; and the lookups of all threads together in a
-//! millisecond, in the quickest round of nine. The keys and the order of the places are those of the repository's `bench bytes`, so that its figures can stand beside these.
+//! millisecond, in the quickest round of nine. Each turn looks up, and then adds. The keys, where they lie, and the order of all that is done are those of
+//! `speed.c` and of the repository's `bench bytes`, so that their figures can stand beside these; the map is made when the cache is done with,
+//! or else its keys would lie between those of the cache.
 use std::collections::BTreeMap;
 use std::hint::black_box;
 use std::sync::{Barrier, Mutex};
@@ -13,11 +15,13 @@ use tscache::{Cache, Config, Error, Shared, Span, Time, Value};
 
 const PLACES: u64 = 1024;
 /// How often each call is timed over all places.
-const TURNS: usize = 225;
+const TURNS: u64 = 225;
 /// How often threads are timed.
 const ROUNDS: usize = 9;
 const STRIDE: u64 = 1_696_631;
-const OWNER: Option<[u8; 16]> = Some([0x11; 16]);
+const OWNER: Option<[u8; 16]> = Some([0x11, 0, 0, 0, 0, 0, 0, 0, 0, 0, 0, 0, 0, 0, 0, 0]);
+/// When the keys are added first.
+const FIRST_WALL: u64 = 10;
 /// How often a thread goes over all places.
 const LONG_TURNS: u64 = 250;
 
@@ -25,11 +29,12 @@ fn key_of(place: u64) -> [u8; 8] {
     (place * 64).to_be_bytes()
 }
 
-/// The least time of many turns.
-fn least(mut turn: impl FnMut() -> Result<Duration, Error>) -> Result<Duration, Error> {
-    let mut best = Duration::MAX;
-    for _ in 0..TURNS {
-        best = best.min(turn()?);
+/// Of many turns, each at a later time, the least that lookups took, and the least that Adds took.
+fn least(mut turn: impl FnMut(u64) -> Result<[Duration; 2], Error>) -> Result<[Duration; 2], Error> {
+    let mut best = [Duration::MAX; 2];
+    for i in 0..TURNS {
+        let times = turn(FIRST_WALL + 1 + i)?;
+        best = [best[0].min(times[0]), best[1].min(times[1])];
     }
     Ok(best)
 }
@@ -47,41 +52,37 @@ fn at(wall: u64) -> Value {
     Value { time: Time::new(wall, 0), owner: OWNER }
 }
 
-/// One thread: this crate, and the map.
-fn alone(nodes: u64, places: &[[u8; 8]]) -> Result<(), Error> {
+/// One thread and this crate.
+fn alone(nodes: u64, places: &[[u8; 8]]) -> Result<[Duration; 2], Error> {
     let now = Time::new(1, 0);
     let mut cache = Cache::open(&config(nodes))?;
-    let map = Mutex::new(BTreeMap::new());
     for place in 0..nodes {
-        cache.add(&Span::Point(&key_of(place)), at(10), now)?;
-        map.lock().unwrap().insert(key_of(place).to_vec(), at(10));
+        cache.add(&Span::Point(&key_of(place)), at(FIRST_WALL), now)?;
     }
-    let mut wall = 10;
-    let lookup = least(|| {
+    least(|wall| {
         let start = Instant::now();
         for key in places {
             black_box(cache.get_max(&Span::Point(key)));
         }
-        Ok(start.elapsed())
-    })?;
-    let add = least(|| {
+        let lookups = start.elapsed();
         let start = Instant::now();
-        wall += 1;
         for key in places {
             black_box(cache.add(&Span::Point(key), at(wall), now)?);
         }
-        Ok(start.elapsed())
-    })?;
-    let map_lookup = least(|| {
+        Ok([lookups, start.elapsed()])
+    })
+}
+
+/// One thread and the map.
+fn alone_in_map(nodes: u64, places: &[[u8; 8]]) -> Result<[Duration; 2], Error> {
+    let map = map(nodes);
+    least(|wall| {
         let start = Instant::now();
         for key in places {
             black_box(map.lock().unwrap().get(&key[..]).copied());
         }
-        Ok(start.elapsed())
-    })?;
-    let map_add = least(|| {
+        let lookups = start.elapsed();
         let start = Instant::now();
-        wall += 1;
         for key in places {
             let mut map = map.lock().unwrap();
             let latest = map.get_mut(&key[..]).unwrap();
@@ -89,13 +90,17 @@ fn alone(nodes: u64, places: &[[u8; 8]]) -> Result<(), Error> {
                 *latest = at(wall);
             }
         }
-        Ok(start.elapsed())
-    })?;
-    println!("Rust, {nodes} nodes, lookup of a key: {} ns", each(lookup));
-    println!("Rust, {nodes} nodes, add of a key: {} ns", each(add));
-    println!("a map behind a mutex, {nodes} keys, lookup of a key: {} ns", each(map_lookup));
-    println!("a map behind a mutex, {nodes} keys, add of a key: {} ns", each(map_add));
-    Ok(())
+        Ok([lookups, start.elapsed()])
+    })
+}
+
+fn map(nodes: u64) -> Mutex<BTreeMap<Vec<u8>, Value>> {
+    Mutex::new((0..nodes).map(|place| (key_of(place).to_vec(), at(FIRST_WALL))).collect())
+}
+
+fn print(who: &str, [lookup, add]: [Duration; 2]) {
+    println!("{who}, lookup of a key: {} ns", each(lookup));
+    println!("{who}, add of a key: {} ns", each(add));
 }
 
 /// How many calls all threads make in a millisecond, each of which goes over all places again and again, from the same moment on.
@@ -121,11 +126,11 @@ fn together(threads: u64, work: &(dyn Fn(u64) + Sync)) -> u128 {
 
 /// Lookups on one and on four threads.
 fn on_threads(nodes: u64, places: &[[u8; 8]]) -> Result<(), Error> {
-    let map = Mutex::new((0..nodes).map(|place| (key_of(place).to_vec(), at(10))).collect::<BTreeMap<_, _>>());
+    let map = map(nodes);
     let (_shared, seats) = Shared::open(&config(nodes), 4, 1 << 40)?;
     let seats: Vec<_> = seats.into_iter().map(Mutex::new).collect();
     for place in 0..nodes {
-        seats[0].lock().unwrap().add(&Span::Point(&key_of(place)), at(10), Time::new(1, 0), 8)?;
+        seats[0].lock().unwrap().add(&Span::Point(&key_of(place)), at(FIRST_WALL), Time::new(1, 0), 8)?;
     }
     let of_seats = |thread: u64| {
         let mut seat = seats[thread as usize].lock().unwrap();
@@ -153,6 +158,7 @@ fn on_threads(nodes: u64, places: &[[u8; 8]]) -> Result<(), Error> {
 fn main() -> Result<(), Error> {
     let nodes = std::env::args().nth(1).and_then(|word| word.parse().ok()).unwrap_or(65_536);
     let places: Vec<[u8; 8]> = (0..PLACES).map(|i| key_of(i * STRIDE % nodes)).collect();
-    alone(nodes, &places)?;
+    print(&format!("Rust, {nodes} nodes"), alone(nodes, &places)?);
+    print(&format!("a map behind a mutex, {nodes} keys"), alone_in_map(nodes, &places)?);
     on_threads(nodes, &places)
 }

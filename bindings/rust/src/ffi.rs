@@ -1,4 +1,5 @@
-//! `tscache.h`, word for word.
+//! `tscache.h`, word for word. `Time` and `Figures` of this crate are those of C, and stand for them.
+use crate::{Figures, Time};
 use std::ffi::c_void;
 
 pub const EXCLUDE_FROM: u32 = 1;
@@ -10,12 +11,6 @@ pub const POINT: u32 = 8;
 #[derive(Debug)]
 pub struct Place {
     pub at: *mut c_void,
-}
-
-#[repr(C)]
-pub struct Time {
-    pub wall: u64,
-    pub logical: u32,
 }
 
 #[repr(C)]
@@ -40,19 +35,6 @@ pub struct Mark {
     pub to_len: usize,
     pub value: Value,
     pub ends: u32,
-}
-
-#[repr(C)]
-pub struct Figures {
-    pub pages: u64,
-    pub rotations: u64,
-    pub nodes: u64,
-    pub bytes: u64,
-}
-
-impl Figures {
-    /// What a call writes over.
-    pub const NONE: Figures = Figures { pages: 0, rotations: 0, nodes: 0, bytes: 0 };
 }
 
 extern "C" {

@@ -18,6 +18,7 @@
 
 use std::ffi::c_void;
 use std::fmt;
+use std::mem::MaybeUninit;
 use std::ptr::null_mut;
 
 mod ffi;
@@ -28,6 +29,8 @@ pub use texts::{check, replay, TextError};
 pub use writes::{earliest_clear_of, is_clear_of};
 
 /// A time of a hybrid logical clock. The smaller wall time comes first, and of two equal ones the smaller count.
+// (it is `tsc_time`)
+#[repr(C)]
 #[derive(Clone, Copy, Debug, Default, PartialEq, Eq, PartialOrd, Ord, Hash)]
 pub struct Time {
     /// Nanoseconds, below 2^63.
@@ -38,6 +41,7 @@ pub struct Time {
 
 impl Time {
     /// The time of these parts. Calls refuse it with [`Error::Time`] where one is too large.
+    #[inline]
     pub const fn new(wall: u64, logical: u32) -> Time {
         Time { wall, logical }
     }
@@ -101,6 +105,7 @@ pub enum Span<'a> {
 
 impl<'a> Span<'a> {
     /// From one key to another that is excluded.
+    #[inline]
     pub const fn until(from: &'a [u8], to: &'a [u8]) -> Span<'a> {
         Span::Range { from, to, exclude_from: false, exclude_to: true }
     }
@@ -138,6 +143,8 @@ pub struct Added {
 }
 
 /// What can be counted of a cache. Each count stays at 2^64 - 1 once it is there.
+// (it is `tsc_figures`)
+#[repr(C)]
 #[derive(Clone, Copy, Debug, PartialEq, Eq)]
 pub struct Figures {
     /// How many pages there are.
@@ -148,12 +155,6 @@ pub struct Figures {
     pub nodes: u64,
     /// What these cost: for each as many bytes as it has, and 32 more.
     pub bytes: u64,
-}
-
-impl Figures {
-    fn told(words: ffi::Figures) -> Figures {
-        Figures { pages: words.pages, rotations: words.rotations, nodes: words.nodes, bytes: words.bytes }
-    }
 }
 
 /// Why a call was refused. A call that is refused adds nothing.
@@ -211,13 +212,29 @@ impl std::error::Error for Error {}
 #[inline]
 #[track_caller]
 fn answered(code: u32) {
-    assert_eq!(code, 0, "a call that only reads was refused");
+    if code != 0 {
+        refused();
+    }
+}
+
+#[cold]
+#[track_caller]
+fn refused() -> ! {
+    panic!("a call that only reads was refused");
 }
 
 #[inline]
 fn done(code: u32) -> Result<(), Error> {
-    Err(match code {
-        0 => return Ok(()),
+    if code == 0 {
+        Ok(())
+    } else {
+        Err(fault(code))
+    }
+}
+
+#[cold]
+fn fault(code: u32) -> Error {
+    match code {
         2 => Error::Time,
         4 => Error::KeyTooLong,
         5 => Error::Inverted,
@@ -230,13 +247,6 @@ fn done(code: u32) -> Result<(), Error> {
         14 => Error::Busy,
         15 => Error::Full,
         other => Error::Other(other),
-    })
-}
-
-impl From<Time> for ffi::Time {
-    #[inline]
-    fn from(time: Time) -> ffi::Time {
-        ffi::Time { wall: time.wall, logical: time.logical }
     }
 }
 
@@ -302,7 +312,7 @@ unsafe impl Send for Cache {}
 
 // SAFETY, of each call below: the place began as null and only these calls change it; it is behind `&mut` and so used by one call
 // at a time; it is never copied; each pointer comes from a reference or a slice that lives through the call, and what is written
-// to is a local of its own.
+// to is a local of its own, which a call writes as a whole wherever it answers 0.
 impl Cache {
     /// A cache to which nothing was added.
     ///
@@ -312,8 +322,7 @@ impl Cache {
     /// ```
     pub fn open(config: &Config) -> Result<Cache, Error> {
         let mut cache = Cache { place: ffi::Place { at: null_mut::<c_void>() }, number: 0 };
-        let low_water = config.low_water.into();
-        let Config { page_first, page_max, min_pages, retention, .. } = *config;
+        let Config { page_first, page_max, min_pages, retention, low_water } = *config;
         done(unsafe { ffi::tsc_open(&mut cache.place, page_first, page_max, min_pages, retention, &low_water, &mut cache.number) })?;
         Ok(cache)
     }
@@ -322,11 +331,11 @@ impl Cache {
     #[inline]
     pub fn add(&mut self, span: &Span<'_>, value: Value, now: Time) -> Result<Added, Error> {
         let (from, to, ends) = span.parts();
-        let mut added = ffi::Added { evicted: 0, kept: false, rotated: false };
+        let mut added = MaybeUninit::<ffi::Added>::uninit();
         done(unsafe {
-            ffi::tsc_add(&mut self.place, self.number, from.as_ptr(), from.len(), to.as_ptr(), to.len(), ends, &value.into(), &now.into(), &mut added)
+            ffi::tsc_add(&mut self.place, self.number, from.as_ptr(), from.len(), to.as_ptr(), to.len(), ends, &value.into(), &now, added.as_mut_ptr())
         })?;
-        Ok(added.into())
+        Ok(unsafe { added.assume_init() }.into())
     }
 
     /// Adds several marks, one after another at one moment, all of them or none.
@@ -344,11 +353,11 @@ impl Cache {
     /// ```
     pub fn add_all(&mut self, marks: &[Mark<'_>], now: Time) -> Result<Added, Error> {
         let (keys, asked) = flat(marks);
-        let mut added = ffi::Added { evicted: 0, kept: false, rotated: false };
+        let mut added = MaybeUninit::<ffi::Added>::uninit();
         done(unsafe {
-            ffi::tsc_add_all(&mut self.place, self.number, keys.as_ptr(), keys.len(), asked.as_ptr(), asked.len(), &now.into(), &mut added)
+            ffi::tsc_add_all(&mut self.place, self.number, keys.as_ptr(), keys.len(), asked.as_ptr(), asked.len(), &now, added.as_mut_ptr())
         })?;
-        Ok(added.into())
+        Ok(unsafe { added.assume_init() }.into())
     }
 
     /// The latest time on a span, with its owner where all reads of that time are one transaction's, or the floor. A range whose
@@ -356,26 +365,28 @@ impl Cache {
     #[inline]
     pub fn get_max(&mut self, span: &Span<'_>) -> Value {
         let (from, to, ends) = span.parts();
-        let mut found = ffi::Value { wall: 0, logical: 0, owner: [0; 16] };
+        let mut found = MaybeUninit::<ffi::Value>::uninit();
         // it is refused only where the number names no cache, or there are no such ends
-        answered(unsafe { ffi::tsc_get_max(&mut self.place, self.number, from.as_ptr(), from.len(), to.as_ptr(), to.len(), ends, &mut found) });
-        found.into()
+        answered(unsafe { ffi::tsc_get_max(&mut self.place, self.number, from.as_ptr(), from.len(), to.as_ptr(), to.len(), ends, found.as_mut_ptr()) });
+        unsafe { found.assume_init() }.into()
     }
 
     /// Where the floor stands.
+    #[inline]
     pub fn low_water(&mut self) -> Time {
-        let mut floor = ffi::Time { wall: 0, logical: 0 };
+        let mut floor = MaybeUninit::uninit();
         // it is refused only where the number names no cache
-        answered(unsafe { ffi::tsc_low_water(&mut self.place, self.number, &mut floor) });
-        Time::new(floor.wall, floor.logical)
+        answered(unsafe { ffi::tsc_low_water(&mut self.place, self.number, floor.as_mut_ptr()) });
+        unsafe { floor.assume_init() }
     }
 
     /// What can be counted.
+    #[inline]
     pub fn figures(&mut self) -> Figures {
-        let mut figures = ffi::Figures::NONE;
+        let mut figures = MaybeUninit::uninit();
         // it is refused only where the number names no cache
-        answered(unsafe { ffi::tsc_figures_of(&mut self.place, self.number, &mut figures) });
-        Figures::told(figures)
+        answered(unsafe { ffi::tsc_figures_of(&mut self.place, self.number, figures.as_mut_ptr()) });
+        unsafe { figures.assume_init() }
     }
 }
 
@@ -445,8 +456,7 @@ impl Shared {
     /// A cache to which nothing was added, and its seats, 1 to 64 of them. There may be `limit` Adds.
     pub fn open(config: &Config, seats: u32, limit: u64) -> Result<(Shared, Vec<Seat>), Error> {
         let mut shared = Shared { place: ffi::Place { at: null_mut::<c_void>() }, number: 0 };
-        let low_water = config.low_water.into();
-        let Config { page_first, page_max, min_pages, retention, .. } = *config;
+        let Config { page_first, page_max, min_pages, retention, low_water } = *config;
         done(unsafe {
             ffi::tsc_open_shared(&mut shared.place, page_first, page_max, min_pages, retention, &low_water, seats, limit, &mut shared.number)
         })?;
@@ -476,57 +486,62 @@ impl Drop for Shared {
     }
 }
 
+// SAFETY, of each call below: as of those of `Cache`.
 impl Seat {
     /// Adds a span that was read, and tells which place the Add has among all of the cache, counted from 0. It waits for nobody:
     /// where others are in the way at each of so many tries it is refused as [`Error::Busy`], and may be tried again.
     #[inline]
     pub fn add(&mut self, span: &Span<'_>, value: Value, now: Time, tries: u32) -> Result<(u64, Added), Error> {
         let (from, to, ends) = span.parts();
-        let (mut place, mut added) = (0, ffi::Added { evicted: 0, kept: false, rotated: false });
+        let (mut place, mut added) = (0, MaybeUninit::<ffi::Added>::uninit());
         done(unsafe {
             ffi::tsc_seat_add(
-                &mut self.place, self.number, from.as_ptr(), from.len(), to.as_ptr(), to.len(), ends, &value.into(), &now.into(), tries, &mut place, &mut added,
+                &mut self.place, self.number, from.as_ptr(), from.len(), to.as_ptr(), to.len(), ends, &value.into(), &now, tries, &mut place, added.as_mut_ptr(),
             )
         })?;
-        Ok((place, added.into()))
+        Ok((place, unsafe { added.assume_init() }.into()))
     }
 
     /// Adds several marks as one Add, all of them or none, as [`add`](Seat::add) does.
     pub fn add_all(&mut self, marks: &[Mark<'_>], now: Time, tries: u32) -> Result<(u64, Added), Error> {
         let (keys, asked) = flat(marks);
-        let (mut place, mut added) = (0, ffi::Added { evicted: 0, kept: false, rotated: false });
+        let (mut place, mut added) = (0, MaybeUninit::<ffi::Added>::uninit());
         done(unsafe {
             ffi::tsc_seat_add_all(
-                &mut self.place, self.number, keys.as_ptr(), keys.len(), asked.as_ptr(), asked.len(), &now.into(), tries, &mut place, &mut added,
+                &mut self.place, self.number, keys.as_ptr(), keys.len(), asked.as_ptr(), asked.len(), &now, tries, &mut place, added.as_mut_ptr(),
             )
         })?;
-        Ok((place, added.into()))
+        Ok((place, unsafe { added.assume_init() }.into()))
     }
 
     /// The latest time on a span, as [`Cache::get_max`] answers, and how many Adds the seat has seen then. It waits for nobody.
     #[inline]
     pub fn get_max(&mut self, span: &Span<'_>) -> (Value, u64) {
         let (from, to, ends) = span.parts();
-        let (mut seen, mut found) = (0, ffi::Value { wall: 0, logical: 0, owner: [0; 16] });
+        let (mut seen, mut found) = (0, MaybeUninit::<ffi::Value>::uninit());
         // it is refused only where the number names no seat, or there are no such ends
-        answered(unsafe { ffi::tsc_seat_get_max(&mut self.place, self.number, from.as_ptr(), from.len(), to.as_ptr(), to.len(), ends, &mut seen, &mut found) });
-        (found.into(), seen)
+        answered(unsafe {
+            ffi::tsc_seat_get_max(&mut self.place, self.number, from.as_ptr(), from.len(), to.as_ptr(), to.len(), ends, &mut seen, found.as_mut_ptr())
+        });
+        (unsafe { found.assume_init() }.into(), seen)
     }
 
     /// Where the floor stands, and how many Adds the seat has seen then.
+    #[inline]
     pub fn low_water(&mut self) -> (Time, u64) {
-        let (mut seen, mut floor) = (0, ffi::Time { wall: 0, logical: 0 });
+        let (mut seen, mut floor) = (0, MaybeUninit::uninit());
         // it is refused only where the number names no seat
-        answered(unsafe { ffi::tsc_seat_low_water(&mut self.place, self.number, &mut seen, &mut floor) });
-        (Time::new(floor.wall, floor.logical), seen)
+        answered(unsafe { ffi::tsc_seat_low_water(&mut self.place, self.number, &mut seen, floor.as_mut_ptr()) });
+        (unsafe { floor.assume_init() }, seen)
     }
 
     /// What can be counted, and how many Adds the seat has seen then.
+    #[inline]
     pub fn figures(&mut self) -> (Figures, u64) {
-        let (mut seen, mut figures) = (0, ffi::Figures::NONE);
+        let (mut seen, mut figures) = (0, MaybeUninit::uninit());
         // it is refused only where the number names no seat
-        answered(unsafe { ffi::tsc_seat_figures_of(&mut self.place, self.number, &mut seen, &mut figures) });
-        (Figures::told(figures), seen)
+        answered(unsafe { ffi::tsc_seat_figures_of(&mut self.place, self.number, &mut seen, figures.as_mut_ptr()) });
+        (unsafe { figures.assume_init() }, seen)
     }
 }
 

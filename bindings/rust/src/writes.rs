@@ -13,6 +13,7 @@ impl Time {
     /// assert_eq!(Time::new(20, i32::MAX as u32).next(), Some(Time::new(21, 0)));
     /// assert_eq!(Time::new(i64::MAX as u64, i32::MAX as u32).next(), None);
     /// ```
+    #[inline]
     pub const fn next(self) -> Option<Time> {
         if self.logical < MOST_LOGICAL {
             Some(Time::new(self.wall, self.logical + 1))
@@ -26,6 +27,7 @@ impl Time {
 
 /// Whether a write of a transaction at some time is clear of a read, or of what a lookup answers: that one is earlier, or it is at the same time and
 /// the transaction's own.
+#[inline]
 pub fn is_clear_of(read: Value, at: Time, by: [u8; 16]) -> bool {
     read.time < at || (read.time == at && read.owner == Some(by))
 }
@@ -41,6 +43,7 @@ pub fn is_clear_of(read: Value, at: Time, by: [u8; 16]) -> bool {
 /// assert_eq!(earliest_clear_of(read, Time::new(20, 0), [0x11; 16]), Some(Time::new(20, 0)));
 /// assert_eq!(earliest_clear_of(read, Time::new(15, 0), [0x11; 16]), Some(Time::new(20, 0)));
 /// ```
+#[inline]
 pub fn earliest_clear_of(read: Value, at: Time, by: [u8; 16]) -> Option<Time> {
     if is_clear_of(read, at, by) {
         Some(at)
@@ -52,6 +55,7 @@ pub fn earliest_clear_of(read: Value, at: Time, by: [u8; 16]) -> Option<Time> {
 }
 
 /// The earliest time, not before `at`, at which a write is clear of what a lookup of each of some spans answers.
+#[inline]
 fn earliest(spans: &[Span<'_>], at: Time, by: [u8; 16], mut latest: impl FnMut(&Span<'_>) -> Value) -> Option<Time> {
     spans.iter().try_fold(at, |time, span| earliest_clear_of(latest(span), time, by))
 }
@@ -59,6 +63,7 @@ fn earliest(spans: &[Span<'_>], at: Time, by: [u8; 16], mut latest: impl FnMut(&
 impl Cache {
     /// Whether a transaction may write a span at some time: whether that is clear of what a lookup of the span answers, and so of each read that was
     /// added there, also of one that was dropped since.
+    #[inline]
     pub fn may_write(&mut self, span: &Span<'_>, at: Time, by: [u8; 16]) -> bool {
         is_clear_of(self.get_max(span), at, by)
     }
@@ -76,6 +81,7 @@ impl Cache {
     /// assert!(cache.may_write(&Span::Point(b"b"), Time::new(20, 0), reader));
     /// # Ok::<(), Error>(())
     /// ```
+    #[inline]
     pub fn earliest_write(&mut self, spans: &[Span<'_>], at: Time, by: [u8; 16]) -> Option<Time> {
         earliest(spans, at, by, |span| self.get_max(span))
     }
@@ -83,11 +89,13 @@ impl Cache {
 
 impl Seat {
     /// As [`Cache::may_write`], by what a lookup of the seat answers.
+    #[inline]
     pub fn may_write(&mut self, span: &Span<'_>, at: Time, by: [u8; 16]) -> bool {
         is_clear_of(self.get_max(span).0, at, by)
     }
 
     /// As [`Cache::earliest_write`], by what lookups of the seat answer. It waits for nobody.
+    #[inline]
     pub fn earliest_write(&mut self, spans: &[Span<'_>], at: Time, by: [u8; 16]) -> Option<Time> {
         earliest(spans, at, by, |span| self.get_max(span).0)
     }

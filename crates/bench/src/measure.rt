@@ -53,11 +53,11 @@ const WIDE: u32 = 1000;
 const WIDE_PLACES: u32 = 16;
 
 /// How far apart the keys of two places are, so that each page of a cache has keys of its own.
-const APART: u64 = 64;
+pub const APART: u64 = 64;
 
 /// Multiplied by this, numbers go about all places of a page, far from one to the next: a prime above the
 /// number of places.
-const STRIDE: u64 = 1_696_631;
+pub const STRIDE: u64 = 1_696_631;
 
 /// What an operation on a page took with keys of one kind.
 #[derive(Clone, Copy)]
