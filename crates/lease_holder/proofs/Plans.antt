@@ -7,7 +7,6 @@ use Rattle.std.proofs.Math.Logic.{∥∥₁_map}
 use Rattle.tsc_cache.proofs.Beginnings.{begins_entries}
 use Rattle.timestamp_cache.specs.Words.{Time, is_before, Owner, OwnedTime, Interval, point, History, BeginsWith}
 use Rattle.timestamp_cache.specs.Clear.{IsClearOfReads}
-use Rattle.timestamp_cache.specs.Earliest.{TellsEarliest}
 use Rattle.lease_holder.specs.declared.Plan.{Plan}
 use Rattle.lease_holder.specs.Reads.{HasRead, read_of, since}
 use Rattle.lease_holder.specs.Plans.{time_at, id_of, MayWriteAt}
@@ -65,15 +64,17 @@ one_read_more plan h before start n d0 time there begins onward first at last k 
     let here : P n = λ d. subst IsRead (same_there rows n d0 d there) own in
     below_more P n (λ k lower d. there_still _ (since start h) (since start before) _ (since_begins h before start begins onward) (first k d lower)) here k below d
 
--- What a write of the span of a plan's key is told is a time at which its transaction may write.
-pub may_write : (plan : Plan) (h : History) (span : Interval) (by : Owner) (wanted at : Time) (told : Option Time) (P : Time → Type 0)
-    → told ≡ Some at → span ≡ point plan.write.0.now → by ≡ id_of plan.name → wanted ≡ time_at plan.write.1
-    → IfSome told (λ t. IsClearOfReads h span by t) → TellsEarliest P wanted told → MayWriteAt plan h at
-may_write plan h span by wanted at told P is key own from clear earliest =
-    let at_earliest : TellsEarliest P wanted (Some at) = subst (λ (o : Option Time). TellsEarliest P wanted o) is earliest in
-    let at_clear : IfSome (Some at) (λ t. IsClearOfReads h span by t) = subst (λ (o : Option Time). IfSome o (λ t. IsClearOfReads h span by t)) is clear in
-    let of_key : IsClearOfReads h (point plan.write.0.now) by at = subst (λ (s : Interval). IsClearOfReads h s by at) key at_clear in
-    record {
-      from_on = subst (λ (w : Time). is_before at w ≡ false) from at_earliest.from_on;
-      clear = subst (λ (o : Owner). IsClearOfReads h (point plan.write.0.now) o at) own of_key;
-    }
+-- What a write of a plan's key is told is a time at which its transaction may write.
+pub may_write : (plan : Plan) (h : History) (by : Owner) (wanted at : Time) → by ≡ id_of plan.name → wanted ≡ time_at plan.write.1 → is_before at wanted ≡ false
+    → IsClearOfReads h (point plan.write.0.now) by at → MayWriteAt plan h at
+may_write plan h by wanted at own from on clear = record {
+  from_on = subst (λ (w : Time). is_before at w ≡ false) from on;
+  clear = subst (λ (o : Owner). IsClearOfReads h (point plan.write.0.now) o at) own clear;
+}
+
+-- What is clear of the reads on a span that a write was told of is clear of those on its key.
+pub clear_at : (h : History) (span : Interval) (key : List ℕ) (by : Owner) (at : Time) (told : Option Time) → told ≡ Some at → span ≡ point key → IfSome told (λ t. IsClearOfReads h span by t)
+    → IsClearOfReads h (point key) by at
+clear_at h span key by at told is own clear =
+    let here : IfSome (Some at) (λ t. IsClearOfReads h span by t) = subst (λ (o : Option Time). IfSome o (λ t. IsClearOfReads h span by t)) is clear in
+    subst (λ (s : Interval). IsClearOfReads h s by at) own here

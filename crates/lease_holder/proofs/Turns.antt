@@ -1,4 +1,4 @@
--- A loop over what became of each of a list.
+-- What became of each of a list.
 use Rattle.std.proofs.Common.{◌≡◌, ◌∙◌, ap, sym, refl, subst, ℕ, zero, suc, ◌+◌, ◌<◌, ◌≤◌, drop, List, [], ◌∷◌, ◌++◌, append_assoc, append-nil, Bor, length, slice_index_or, arith}
 use Rattle.std.specs.Prelude.{Result, Ok, IfOk, Option, IsSomeAnd}
 use Rattle.std.specs.List.{AllZip}
@@ -13,7 +13,7 @@ use Rattle.lease_holder.specs.declared.lease.RangeSeat.{RangeSeat}
 use Rattle.lease_holder.specs.declared.Turn.TheVariants.{Read, Write}
 use Rattle.lease_holder.specs.Plans.{HasReadsOf, MayWriteAt}
 use Rattle.lease_holder.specs.Reads.{since}
-use Rattle.lease_holder.specs.Turns.{HasTaken, HasTold, IsLeftOf, WasServed}
+use Rattle.lease_holder.specs.Turns.{IsNew, HasTaken, HasSpoken, HasTold, HasServed, IsLeftOf, WasServed}
 use Rattle.lease_holder.proofs.Since.{since_there}
 
 -- what holds at each place holds of the two lists
@@ -88,51 +88,6 @@ none_left [] (suc n) over = refl
 none_left (x ∷ xs) zero over = absurd (omega (arith, over))
 none_left (x ∷ xs) (suc n) over = none_left xs n (omega (arith, over))
 
--- of some it is known what became of them, and of those after them what is told of that
-pub record IsUnderWay {A E : Type 0} (Gives Becomes : A → A → Type 0) (all done : List A) (told : List (Result A E)) : Type 0 where
-  pub before : List A
-  pub others : List A
-  pub parts : all ≡ before ++ others
-  pub first : AllZip Becomes before done
-  pub rest : AllZip (λ x (r : Result A E). IfOk r (Gives x)) others told
-
--- at first it is known of none
-pub none_yet : {A E : Type 0} (Gives Becomes : A → A → Type 0) (all done : List A) (told left : List (Result A E)) → done ≡ [] → left ≡ told
-    → AllZip (λ x (r : Result A E). IfOk r (Gives x)) all told → IsUnderWay Gives Becomes all done left
-none_yet {A} {E} Gives Becomes all done told left is same rest = record {
-  before = [];
-  others = all;
-  parts = refl;
-  first = subst (λ (ys : List A). AllZip Becomes [] ys) (sym is) tt;
-  rest = subst (λ (rs : List (Result A E)). AllZip (λ x (r : Result A E). IfOk r (Gives x)) all rs) (sym same) rest;
-}
-
--- one more, of which it is told
-pub one_more_done : {A E : Type 0} (Gives Becomes : A → A → Type 0) (all done more : List A) (told left : List (Result A E)) (r : Result A E) (x y : A)
-    → IsUnderWay Gives Becomes all done told → told ≡ r ∷ left → r ≡ Ok x → more ≡ done ++ y ∷ [] → ((a : A) → Gives a x → Becomes a y) → IsUnderWay Gives Becomes all more left
-one_more_done {A} {E} Gives Becomes all done more told left r x y way is ok last becomes =
-    subst (λ (ys : List A). IsUnderWay Gives Becomes all ys left) (sym last)
-    (go way.others way.parts (subst (λ (t : List (Result A E)). AllZip (λ x (r : Result A E). IfOk r (Gives x)) way.others t) (is ∙ ap (λ (r : Result A E). r ∷ left) ok) way.rest))
-  where
-    go : (others : List A) → all ≡ way.before ++ others → AllZip (λ x (r : Result A E). IfOk r (Gives x)) others (Ok x ∷ left) → IsUnderWay Gives Becomes all (done ++ y ∷ []) left
-    go [] parts rest = absurd rest
-    go (a ∷ others) parts rest = record {
-      before = way.before ++ a ∷ [];
-      others = others;
-      parts = parts ∙ sym (append_assoc way.before (a ∷ []) others);
-      first = AllZip-push Becomes way.before done a y way.first (becomes a rest.0);
-      rest = rest.1;
-    }
-
--- and at the end it is known of all
-pub all_done : {A E : Type 0} (Gives Becomes : A → A → Type 0) (all done : List A) (told : List (Result A E)) → IsUnderWay Gives Becomes all done told → length told ≡ 0 → AllZip Becomes all done
-all_done {A} {E} Gives Becomes all done told way is = go way.others told way.parts way.rest is
-  where
-    go : (others : List A) (told : List (Result A E)) → all ≡ way.before ++ others → AllZip (λ x (r : Result A E). IfOk r (Gives x)) others told → length told ≡ 0 → AllZip Becomes all done
-    go [] told parts rest is = subst (λ (xs : List A). AllZip Becomes xs done) (sym (parts ∙ append-nil way.before)) way.first
-    go (a ∷ others) [] parts rest is = absurd rest
-    go (a ∷ others) (r ∷ told) parts rest is = absurd (omega (arith, is))
-
 -- a worker that has taken a turn still has where what it is to tell is another
 pub still_taken : {X : Type 0} {G : Ghosts X} (turn : Turn) (old next new : Worker X G) → new.me ≡ next.me → new.plan ≡ next.plan → new.wrote ≡ next.wrote → HasTaken turn old next → HasTaken turn old new
 still_taken {X} {G} turn old next new me plan wrote taken =
@@ -150,15 +105,31 @@ still_taken {X} {G} turn old next new me plan wrote taken =
           (subst (λ (p : Bor Plan). IsSomeAnd next.wrote (λ at. MayWriteAt p.now next.me.seat.seen at)) (sym plan) (taken.writes is)));
     }
 
+-- and so of all that have told what they had to tell
+pub have_told : {X E : Type 0} {G : Ghosts X} (turn : Turn) (workers after : List (Worker X G)) (ended : List (Result (Worker X G) E))
+    → AllZip (λ worker end. IfOk end (HasTaken turn worker)) workers ended → AllZip HasSpoken ended after → AllZip (HasTold turn) workers after
+have_told {X} {E} {G} turn workers after ended taken spoken =
+    let T = λ (worker : Worker X G) (end : Result (Worker X G) E). IfOk end (HasTaken turn worker) in
+    let S = HasSpoken {X = X} {E = E} {G = G} in
+    zip_as (By T S) (HasTold turn) workers after (λ old new w.
+    let next = w.second.worker in
+    let own : HasTaken turn old next = subst (λ (end : Result (Worker X G) E). IfOk end (HasTaken turn old)) w.second.through w.first in
+    record { taken = still_taken turn old next new w.second.me w.second.plan w.second.wrote own; told = w.second.told })
+    (zip_on T S workers ended after taken spoken)
+
 -- what a worker's plan says of what its seat has seen since it was that of another one, each read of it is there
 pub reads_there : {X : Type 0} {G : Ghosts X} (old new : Worker X G) → HasTaken Read old new → HasReadsOf new.plan.now new.me.seat.seen
 reads_there old new taken k d below = since_there _ new.me.seat.seen old.me.seat.seen _ taken.begins ((taken.reads refl).reads k d below)
 
 -- A worker of a plan that has read, written and read again served it.
-pub served : {X : Type 0} {G : Ghosts X} (plan : Plan) (start first then again : Worker X G) (left : Served) → start.plan.now ≡ plan
-    → HasTaken Read start first → HasTaken Write first then → HasTaken Read then again → IsLeftOf again left → WasServed plan left
-served {X} {G} plan start first then again left own reads writes rereads leaves =
-    let of_first : first.plan.now ≡ plan = ap (λ (p : Bor Plan). p.now) reads.plan ∙ own in
+pub served : {X : Type 0} {G : Ghosts X} (plan : Plan) (start again : Worker X G) (left : Served) → IsNew plan start → HasServed start again → IsLeftOf again left → WasServed plan left
+served {X} {G} plan start again left new turns leaves =
+    let first = turns.first in
+    let then = turns.then in
+    let reads = turns.reads.taken in
+    let writes = turns.writes.taken in
+    let rereads = turns.again.taken in
+    let of_first : first.plan.now ≡ plan = ap (λ (p : Bor Plan). p.now) reads.plan ∙ new.own in
     let of_then : then.plan.now ≡ plan = ap (λ (p : Bor Plan). p.now) writes.plan ∙ of_first in
     let of_again : again.plan.now ≡ plan = ap (λ (p : Bor Plan). p.now) rereads.plan ∙ of_then in
     let wrote : left.wrote ≡ then.wrote = leaves.wrote ∙ (rereads.reads refl).wrote in
@@ -176,18 +147,22 @@ served {X} {G} plan start first then again left own reads writes rereads leaves 
           (subst (λ (p : Plan). HasReadsOf p (since then.me.seat.seen again.me.seat.seen)) of_again (rereads.reads refl).reads);
     }
 
--- a worker is of a plan
-abbrev pub IsOf : {X : Type 0} {G : Ghosts X} → Plan → Worker X G → Type 0
-IsOf plan worker = worker.plan.now ≡ plan
+-- what three turns make of all workers
+pub turns_taken : {X : Type 0} {G : Ghosts X} (start first then again : List (Worker X G)) → AllZip (HasTold Read) start first → AllZip (HasTold Write) first then → AllZip (HasTold Read) then again
+    → AllZip HasServed start again
+turns_taken {X} {G} start first then again reads writes rereads =
+    let R = HasTold {X = X} {G = G} Read in
+    let W = HasTold {X = X} {G = G} Write in
+    zip_as (By (By R W) R) HasServed start again
+    (λ a b w. record { first = w.first.middle; then = w.middle; reads = w.first.first; writes = w.first.second; again = w.second })
+    (zip_on (By R W) R start then again (zip_on R W start first then reads writes) rereads)
 
--- and so all of them
-pub all_served : {X : Type 0} {G : Ghosts X} (plans : List Plan) (start first then again : List (Worker X G)) (left : List Served) → AllZip IsOf plans start
-    → AllZip (HasTold Read) start first → AllZip (HasTold Write) first then → AllZip (HasTold Read) then again → AllZip IsLeftOf again left → AllZip WasServed plans left
-all_served {X} {G} plans start first then again left own reads writes rereads leaves =
-    let one = zip_on IsOf (HasTold {X = X} {G = G} Read) plans start first own reads in
-    let two = zip_on (By IsOf (HasTold {X = X} {G = G} Read)) (HasTold {X = X} {G = G} Write) plans first then one writes in
-    let three = zip_on (By (By IsOf (HasTold {X = X} {G = G} Read)) (HasTold {X = X} {G = G} Write)) (HasTold {X = X} {G = G} Read) plans then again two rereads in
-    let four = zip_on (By (By (By IsOf (HasTold {X = X} {G = G} Read)) (HasTold {X = X} {G = G} Write)) (HasTold {X = X} {G = G} Read)) (IsLeftOf {X = X} {G = G}) plans again left three leaves in
-    zip_as (By (By (By (By IsOf (HasTold {X = X} {G = G} Read)) (HasTold {X = X} {G = G} Write)) (HasTold {X = X} {G = G} Read)) (IsLeftOf {X = X} {G = G})) WasServed plans left
-    (λ plan l w. served plan w.first.first.first.middle w.first.first.middle w.first.middle w.middle l
-    w.first.first.first.first w.first.first.first.second.taken w.first.first.second.taken w.first.second.taken w.second) four
+-- and so each plan was served
+pub all_served : {X : Type 0} {G : Ghosts X} (plans : List Plan) (start again : List (Worker X G)) (left : List Served) → AllZip IsNew plans start → AllZip HasServed start again
+    → AllZip IsLeftOf again left → AllZip WasServed plans left
+all_served {X} {G} plans start again left new turns leaves =
+    let N = IsNew {X = X} {G = G} in
+    let S = HasServed {X = X} {G = G} in
+    let L = IsLeftOf {X = X} {G = G} in
+    zip_as (By (By N S) L) WasServed plans left (λ plan l w. served plan w.first.middle w.middle l w.first.first w.first.second w.second)
+    (zip_on (By N S) L plans again left (zip_on N S plans start again new turns) leaves)

@@ -1,5 +1,5 @@
 -- What turns make of workers.
-use Rattle.std.specs.Prelude.{◌≡◌, [], IsSomeAnd}
+use Rattle.std.specs.Prelude.{◌≡◌, [], Result, Ok, IsSomeAnd, None}
 use Rattle.timestamp_cache.specs.Words.{History, BeginsWith}
 use Rattle.lease_holder.specs.declared.Plan.{Plan}
 use Rattle.lease_holder.specs.declared.Served.{Served}
@@ -9,6 +9,12 @@ use Rattle.lease_holder.specs.declared.Worker.{Worker}
 use Rattle.lease_holder.specs.declared.lease.Range.{Ghosts}
 use Rattle.lease_holder.specs.Plans.{HasReadsOf, MayWriteAt}
 use Rattle.lease_holder.specs.Reads.{since}
+
+-- A worker is new: it is of a plan, has written nothing yet, and has nothing to tell.
+pub record IsNew {X : Type 0} {G : Ghosts X} (plan : Plan) (worker : Worker X G) : Type 0 where
+  pub own : worker.plan.now ≡ plan
+  pub wrote : worker.wrote ≡ None
+  pub told : worker.told.items ≡ []
 
 -- A worker has read: its seat has seen each read of its plan since, and when it wrote is as it was.
 pub record ReadsAgain {X : Type 0} {G : Ghosts X} (old new : Worker X G) : Type 0 where
@@ -22,10 +28,27 @@ pub record HasTaken {X : Type 0} {G : Ghosts X} (turn : Turn) (old new : Worker 
   pub reads : turn ≡ Read → ReadsAgain old new
   pub writes : turn ≡ Write → IsSomeAnd new.wrote (λ at. MayWriteAt new.plan.now new.me.seat.seen at)
 
+-- A worker that came through its turn has told what it had to tell, and is else as it was.
+pub record HasSpoken {X E : Type 0} {G : Ghosts X} (ended : Result (Worker X G) E) (after : Worker X G) : Type 0 where
+  pub worker : Worker X G
+  pub through : ended ≡ Ok worker
+  pub me : after.me ≡ worker.me
+  pub plan : after.plan ≡ worker.plan
+  pub wrote : after.wrote ≡ worker.wrote
+  pub told : after.told.items ≡ []
+
 -- It has taken a turn, and has told what it had to tell.
 pub record HasTold {X : Type 0} {G : Ghosts X} (turn : Turn) (old new : Worker X G) : Type 0 where
   pub taken : HasTaken turn old new
   pub told : new.told.items ≡ []
+
+-- It has taken three turns: it has read, has then written, and has then read again.
+pub record HasServed {X : Type 0} {G : Ghosts X} (old new : Worker X G) : Type 0 where
+  pub first : Worker X G
+  pub then : Worker X G
+  pub reads : HasTold Read old first
+  pub writes : HasTold Write first then
+  pub again : HasTold Read then new
 
 -- What is left of a worker: its seat, its plan, and when it wrote.
 pub record IsLeftOf {X : Type 0} {G : Ghosts X} (worker : Worker X G) (left : Served) : Type 0 where

@@ -1,11 +1,11 @@
 //! The lease of a range: the cache of its reads, and its keys, each of them under a latch.
 //!
 //! Who holds the latch of a key reads or writes it at a seat of his own. What was read is handed on with the latch, so that a write is clear of it.
-ghost use Rattle.std.specs.Prelude.{◌≡◌, ◌↔◌, ◌++◌, ◌∷◌, [], true, All, Some, option_map, IsTrue, IfOk, IfSome, OnOk, OnErr};
+ghost use Rattle.std.specs.Prelude.{◌≡◌, ◌↔◌, ◌++◌, ◌∷◌, [], true, false, All, Some, option_map, IsTrue, IfOk, IfSome, OnOk, OnErr};
 ghost use Rattle.std.specs.List.{find};
 ghost use Rattle.std.specs.Str.{bytes_eq};
 ghost use Rattle.std.specs.Sync.Mutex.{mutex_guard_value};
-ghost use Rattle.timestamp_cache.specs.Words.{zero_time, point, overlaps, look, state_of, BeginsWith};
+ghost use Rattle.timestamp_cache.specs.Words.{zero_time, is_before, point, overlaps, look, state_of, BeginsWith};
 ghost use Rattle.timestamp_cache.specs.Clear.{IsClearOf, IsClearOfReads, AsksEarliestAt};
 ghost use Rattle.timestamp_cache.specs.Earliest.{TellsEarliest};
 ghost use Rattle.lease_holder.specs.Reads.{HasRead, read_of, since};
@@ -47,6 +47,13 @@ pub struct RangeSeat<G: Range> {
 pub struct Version {
     pub at: Timestamp,
     pub value: u64,
+}
+
+/// A write that was laid down: when, and what the cache answered of its key then.
+#[derive(Clone, Copy, Debug)]
+pub struct Written {
+    pub at: Timestamp,
+    pub reason: Value,
 }
 
 /// What lies under the latch of a key.
@@ -142,6 +149,23 @@ impl<G: Range> Lease<G> {
         Some(&latch.held)
     }
 
+    /// Reads a key at a time, as `read` does, and holds its latch meanwhile.
+    pub fn read_key<R: Wait>(
+        &self,
+        rt: &R,
+        me: &mut RangeSeat<G>,
+        key: &str,
+        at: Timestamp,
+        by: Uuid,
+    ) -> Result<u64>
+        ensures added { OnOk result (HasRead (point key.now) (since me.old.seat.seen me.new.seat.seen) (read_of at by)) }
+        ensures seat { BeginsWith me.new.seat.seen me.old.seat.seen }
+    {
+        let mut held = self.hold(rt, key)?;
+        let told = self.read(rt, me, &mut held, at, by)?;
+        told.context("no version")
+    }
+
     /// Reads a key at a time, while its latch is held. The read is added before it is answered, and is then in what the seat has seen since, and
     /// in what the latch hands on. One that is refused is not answered.
     pub fn read<R: Wait>(
@@ -178,6 +202,28 @@ impl<G: Range> Lease<G> {
         let Ok(_long) = self.cache.learn(&mut held.handed.seat, front) else {
             unreachable!()
         };
+    }
+
+    /// Writes a key, as `write` does, and holds its latch meanwhile: not before the wanted time, and clear of each read of the key that the seat has
+    /// seen then.
+    pub fn write_key<R: Wait>(
+        &self,
+        rt: &R,
+        me: &mut RangeSeat<G>,
+        key: &str,
+        wanted: Timestamp,
+        by: Uuid,
+        value: u64,
+    ) -> Result<Written>
+        ensures from_on { IfOk result (λ written. is_before written.at wanted ≡ false) }
+        ensures clear { IfOk result (λ written. IsClearOfReads me.new.seat.seen (point key.now) by written.at) }
+        ensures seat { BeginsWith me.new.seat.seen me.old.seat.seen }
+    {
+        let mut held = self.hold(rt, key)?;
+        let told = self.write(rt, me, &mut held, wanted, by, value)?;
+        let at = told.context("no time is late enough")?;
+        let reason = self.reason(&mut held);
+        Ok(Written { at, reason })
     }
 
     /// Writes a key, while its latch is held, at the earliest time from the wanted one on that is clear of what the cache answers: of each read

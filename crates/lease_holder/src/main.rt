@@ -2,17 +2,17 @@
 //! keys again. No write of another transaction has come to a time at which it would have changed an answer.
 #![tactic(auto)]
 
-ghost use Rattle.std.specs.Prelude.{◌≡◌, ℕ, ◌+◌, ◌^◌, ◌<◌, length, All, [], Some, IfOk, OnOk, OnErr, string_bytes, option_map};
+ghost use Rattle.std.specs.Prelude.{◌≡◌, ℕ, ◌+◌, ◌^◌, ◌<◌, length, All, [], Some, IfOk, OnOk, OnErr, string_bytes, option_map, map};
 ghost use Rattle.std.specs.List.{AllZip};
 ghost use Rattle.timestamp_cache.specs.Words.{point, BeginsWith};
 ghost use Rattle.lease_holder.specs.Reads.{HasRead, read_of, since};
 ghost use Rattle.lease_holder.specs.Plans.{time_at, id_of, HasReadsOf, MayWriteAt};
-ghost use Rattle.lease_holder.specs.Texts.{time_text, is_owner, reader, reason_text};
-ghost use Rattle.lease_holder.specs.Turns.{HasTaken, HasTold, IsLeftOf, WasServed};
+ghost use Rattle.lease_holder.specs.Texts.{time_text, is_owner, reader, reason_text, read_text, wanted_text, pushed_text, write_text};
+ghost use Rattle.lease_holder.specs.Turns.{IsNew, HasTaken, HasSpoken, HasTold, HasServed, IsLeftOf, WasServed};
 
 mod lease;
 
-use crate::lease::{Held, Latch, Lease, Range, RangeSeat};
+use crate::lease::{Held, Latch, Lease, Range, RangeSeat, Written};
 use anyhow::{Context, Result};
 use std::alloc::{AllocError, Global};
 use std::marker::{Brand, PhantomData};
@@ -133,6 +133,69 @@ fn because(alloc: Global, key: &str, read: Value, plans: &[Plan]) -> Result<Stri
     }
 }
 
+/// The line that tells of a read.
+fn read_line(
+    alloc: Global,
+    name: char,
+    key: &str,
+    time: Timestamp,
+    value: u64,
+) -> Result<String, AllocError>
+    ensures { IfOk result (λ text. string_bytes text ≡ read_text name key.now time value) }
+{
+    let time = shown(alloc, time)?;
+    format!(in alloc; "{name} read \"{key}\" at {time}: {value}")
+}
+
+/// The line that tells of a write, and of one that was pushed also by what: which of these transactions.
+fn write_line(
+    alloc: Global,
+    plan: &Plan,
+    written: Written,
+    plans: &[Plan],
+) -> Result<String, AllocError>
+    ensures { IfOk result (λ text. string_bytes text ≡ write_text plan.now written plans.now) }
+{
+    if at(plan.write.1) < written.at {
+        let why = because(alloc, plan.write.0, written.reason, plans)?;
+        pushed(alloc, plan, written.at, &why)
+    } else {
+        as_wanted(alloc, plan.name, plan.write.0, written.at)
+    }
+}
+
+/// The line that tells of a write at the time that it wanted.
+fn as_wanted(alloc: Global, name: char, key: &str, time: Timestamp) -> Result<String, AllocError>
+    ensures { IfOk result (λ text. string_bytes text ≡ wanted_text name key.now time) }
+{
+    let time = shown(alloc, time)?;
+    format!(in alloc; "{name} wrote \"{key}\" at {time}, as it wanted")
+}
+
+/// The line that tells of a write that was pushed to a later time.
+fn pushed(alloc: Global, plan: &Plan, to: Timestamp, why: &str) -> Result<String, AllocError>
+    ensures { IfOk result (λ text. string_bytes text ≡ pushed_text plan.now to why.now) }
+{
+    let (from, to) = (shown(alloc, at(plan.write.1))?, shown(alloc, to)?);
+    let (name, key) = (plan.name, plan.write.0);
+    format!(in alloc; "{name} wanted to write \"{key}\" at {from}, was pushed to {to}: {why}")
+}
+
+/// Writes the key of a plan, by its transaction, under the latch of that key.
+fn lay_down<G: Range, R: Wait>(
+    rt: &R,
+    lease: &Lease<G>,
+    me: &mut RangeSeat<G>,
+    plan: &Plan,
+) -> Result<Written>
+    ensures clear { IfOk result (λ written. MayWriteAt plan.now me.new.seat.seen written.at) }
+    ensures seat { BeginsWith me.new.seat.seen me.old.seat.seen }
+{
+    let (key, wall, value) = plan.write;
+    let written = lease.write_key(rt, me, key, at(wall), id_of(plan.name), value)?;
+    Ok(written)
+}
+
 impl<G: Range> Worker<G> {
     /// Reads the keys of its transaction, one after another. Each of these reads is then in what its seat has seen since.
     fn read<R: Wait>(&mut self, rt: &R, alloc: Global, lease: &Lease<G>) -> Result<()>
@@ -166,10 +229,8 @@ impl<G: Range> Worker<G> {
         ensures plan { self.new.plan ≡ self.old.plan }
         ensures wrote { self.new.wrote ≡ self.old.wrote }
     {
-        let mut held = lease.hold(rt, key)?;
-        let told = lease.read(rt, &mut self.me, &mut held, time, id_of(name))?;
-        let (value, time) = (told.context("no version")?, shown(alloc, time)?);
-        let line = format!(in alloc; "{name} read \"{key}\" at {time}: {value}")?;
+        let value = lease.read_key(rt, &mut self.me, key, time, id_of(name))?;
+        let line = read_line(alloc, name, key, time, value)?;
         self.told.push(line)?;
         Ok(())
     }
@@ -184,20 +245,9 @@ impl<G: Range> Worker<G> {
         ensures wrote { IfOk result (λ time. self.new.wrote ≡ Some time) }
     {
         let plan = self.plan;
-        let (name, (key, wall, value)) = (plan.name, plan.write);
-        let wanted = at(wall);
-        let mut held = lease.hold(rt, key)?;
-        let told = lease.write(rt, &mut self.me, &mut held, wanted, id_of(name), value)?;
-        let time = told.context("no time is late enough")?;
-        let why = because(alloc, key, lease.reason(&mut held), &PLANS)?;
-        let (from, to) = (shown(alloc, wanted)?, shown(alloc, time)?);
-        let line = if time == wanted {
-            format!(in alloc; "{name} wrote \"{key}\" at {from}, as it wanted")?
-        } else {
-            format!(in alloc;
-                "{name} wanted to write \"{key}\" at {from}, was pushed to {to}: {why}"
-            )?
-        };
+        let written = lay_down(rt, lease, &mut self.me, plan)?;
+        let time = written.at;
+        let line = write_line(alloc, plan, written, &PLANS)?;
         self.told.push(line)?;
         self.wrote = Some(time);
         Ok(time)
@@ -235,6 +285,41 @@ fn take<G: Range, R: Wait>(
     Ok(worker)
 }
 
+/// Has all threads take a turn at once.
+fn all_take<G: Range + Send + Sync, R: Threads + Wait + Sync>(
+    rt: &R,
+    alloc: Global,
+    lease: &Lease<G>,
+    workers: Vec<Worker<G>>,
+    turn: Turn,
+) -> Result<Vec<Result<Worker<G>>>, AllocError>
+    ensures { IfOk result (λ ended. AllZip (λ worker end. IfOk end (HasTaken turn worker)) workers.items ended.items) }
+{
+    let ended = thread::map_vec(
+        rt,
+        workers,
+        &|worker: Worker<G>| take(rt, alloc, lease, worker, turn),
+    )?;
+    Ok(ended)
+}
+
+/// Has all threads print what they have to tell, in their order, where each came through its turn.
+fn all_tell<G: Range, R: Print>(
+    rt: &R,
+    alloc: Global,
+    ended: Vec<Result<Worker<G>>>,
+) -> Result<Vec<Worker<G>>>
+    ensures { IfOk result (λ after. AllZip HasSpoken ended.items after.items) }
+{
+    let mut after = Vec::with_capacity(alloc, ended.len())?;
+    for worker in ended {
+        let mut worker = worker?;
+        worker.tell(rt)?;
+        after.push(worker)?;
+    }
+    Ok(after)
+}
+
 /// Has all threads do the same at once, and prints what they tell, in their order.
 fn all_do<G: Range + Send + Sync, R: Threads + Wait + Sync + Print>(
     rt: &R,
@@ -245,23 +330,15 @@ fn all_do<G: Range + Send + Sync, R: Threads + Wait + Sync + Print>(
 ) -> Result<Vec<Worker<G>>>
     ensures { IfOk result (λ after. AllZip (HasTold turn) workers.items after.items) }
 {
-    let ended = thread::map_vec(
-        rt,
-        workers,
-        &|worker: Worker<G>| take(rt, alloc, lease, worker, turn),
-    )?;
-    let mut after = Vec::new(alloc);
-    for worker in ended {
-        let mut worker = worker?;
-        worker.tell(rt)?;
-        after.push(worker)?;
-    }
+    let ended = all_take(rt, alloc, lease, workers, turn)?;
+    let after = all_tell(rt, alloc, ended)?;
     Ok(after)
 }
 
-/// The seats, by a type that shows whose they are.
+/// The seats in their order, by a type that shows whose they are.
 fn seats_of<G: Range>(alloc: Global, seats: Vec<Seat>) -> Result<Vec<RangeSeat<G>>, NoMemory>
     requires { All (λ seat. seat.cache ≡ G.cache) seats.items }
+    ensures { IfOk result (λ own. map (λ one. one.seat) own.items ≡ seats.items) }
 {
     let mut own = Vec::with_capacity(alloc, seats.len())?;
     for seat in seats {
@@ -271,6 +348,80 @@ fn seats_of<G: Range>(alloc: Global, seats: Vec<Seat>) -> Result<Vec<RangeSeat<G
         })?;
     }
     Ok(own)
+}
+
+/// A key with its value from the beginning of time on, under a latch that has a seat of these.
+fn latch_of<G: Range>(alloc: Global, row: &Row, seats: &mut Vec<RangeSeat<G>>) -> Result<Latch<G>>
+    ensures { IfOk result (λ latch. latch.key.now ≡ row.now.0.now) }
+{
+    let (key, value) = *row;
+    let handed = seats.pop().context("no seat")?;
+    let held = Mutex::new(Held::new(alloc, key, value, handed)?);
+    Ok(Latch { key, held })
+}
+
+/// A latch for each key, in their order.
+fn latches_of<G: Range>(
+    alloc: Global,
+    keys: &[Row],
+    seats: &mut Vec<RangeSeat<G>>,
+) -> Result<Vec<Latch<G>>>
+    ensures { IfOk result (λ latches. AllZip (λ row latch. latch.key.now ≡ row.0.now) keys.now latches.items) }
+{
+    let mut latches = Vec::new(alloc);
+    for row in keys {
+        let latch = latch_of(alloc, row, seats)?;
+        latches.push(latch)?;
+    }
+    Ok(latches)
+}
+
+/// A thread for a plan, with a seat of these. It has written nothing yet, and has nothing to tell.
+fn worker_of<G: Range>(
+    alloc: Global,
+    plan: &'static Plan,
+    seats: &mut Vec<RangeSeat<G>>,
+) -> Result<Worker<G>>
+    ensures { IfOk result (λ worker. IsNew plan.now worker) }
+{
+    let (me, told) = (seats.pop().context("no seat")?, Vec::new(alloc));
+    Ok(Worker {
+        me,
+        plan,
+        wrote: None,
+        told,
+    })
+}
+
+/// A thread for each plan, in their order.
+fn workers_of<G: Range>(
+    alloc: Global,
+    plans: &'static [Plan],
+    seats: &mut Vec<RangeSeat<G>>,
+) -> Result<Vec<Worker<G>>>
+    ensures { IfOk result (λ workers. AllZip IsNew plans.now workers.items) }
+{
+    let mut workers = Vec::new(alloc);
+    for plan in plans {
+        let worker = worker_of(alloc, plan, seats)?;
+        workers.push(worker)?;
+    }
+    Ok(workers)
+}
+
+/// Has all threads read, write, and read again.
+fn take_turns<G: Range + Send + Sync, R: Threads + Wait + Sync + Print>(
+    rt: &R,
+    alloc: Global,
+    lease: &Lease<G>,
+    workers: Vec<Worker<G>>,
+) -> Result<Vec<Worker<G>>>
+    ensures { IfOk result (λ after. AllZip HasServed workers.items after.items) }
+{
+    let first = all_do(rt, alloc, lease, workers, Turn::Read)?;
+    let then = all_do(rt, alloc, lease, first, Turn::Write)?;
+    let again = all_do(rt, alloc, lease, then, Turn::Read)?;
+    Ok(again)
 }
 
 /// The threads are over: what is left of each.
@@ -304,34 +455,35 @@ fn serve<G: Range + Send + Sync, R: Threads + Wait + Sync + Print>(
     ensures { IfOk result (λ left. AllZip WasServed plans.now left.items) }
 {
     let mut seats = seats_of::<G>(alloc, seats)?;
-    let (mut latches, mut workers) = (Vec::new(alloc), Vec::new(alloc));
-    for (key, value) in &KEYS {
-        let handed = seats.pop().context("no seat")?;
-        let held = Mutex::new(Held::new(alloc, key, *value, handed)?);
-        latches.push(Latch { key: *key, held })?;
-    }
-    for plan in plans {
-        let (me, told) = (seats.pop().context("no seat")?, Vec::new(alloc));
-        let wrote = None;
-        workers.push(Worker {
-            me,
-            plan,
-            wrote,
-            told,
-        })?;
-    }
+    let latches = latches_of(alloc, &KEYS, &mut seats)?;
+    let workers = workers_of(alloc, plans, &mut seats)?;
     let lease = Lease { cache, latches };
-    let first = all_do(rt, alloc, &lease, workers, Turn::Read)?;
-    let then = all_do(rt, alloc, &lease, first, Turn::Write)?;
-    let again = all_do(rt, alloc, &lease, then, Turn::Read)?;
+    let again = take_turns(rt, alloc, &lease, workers)?;
     Ok(left_of(alloc, again)?)
 }
 
-/// The lease begins at 10: nothing is known of reads before. Each latch has a seat, and each thread.
+/// How the range's cache is set up: the lease begins at 10, and nothing is known of reads before.
+fn config() -> Result<Config>
+    ensures { IfOk result (λ config. config.low_water ≡ time_at 10) }
+{
+    Ok(Config::new(1 << 17, 1 << 25, 2, 10_000_000_000, at(10))?)
+}
+
+/// Opens a cache for the range, with a seat for each key and for each plan, and has each plan served.
+fn run<R: Threads + Wait + Sync + Print>(
+    rt: &R,
+    alloc: Global,
+    plans: &'static [Plan],
+) -> Result<Vec<Served>>
+    ensures { IfOk result (λ left. AllZip WasServed plans.now left.items) }
+{
+    let seats = u32::try_from(plans.len().saturating_add(KEYS.len()))?;
+    let (cache, seats) = SharedCache::open(alloc, config()?, seats, u64::MAX)?;
+    serve::<Brand, R>(rt, alloc, cache, seats, plans)
+}
+
+/// A `main` can have no clause: `run` says what comes of the plans.
 fn main(rt: HostRuntime) -> Result<()> {
-    let seats = (KEYS.len() + PLANS.len()) as u32;
-    let config = Config::new(1 << 17, 1 << 25, 2, 10_000_000_000, at(10))?;
-    let (cache, seats) = SharedCache::open(rt.alloc(), config, seats, u64::MAX)?;
-    let _served = serve::<Brand, HostRuntime>(&rt, rt.alloc(), cache, seats, &PLANS)?;
+    let _served = run(&rt, rt.alloc(), &PLANS)?;
     Ok(())
 }

@@ -1,4 +1,4 @@
-use Rattle.lease_holder.proofs.main.Given as goal
+use Rattle.lease_holder.proofs.run.Given as goal
 
 -- the cache that was just opened
 abbrev pub ghosts-serve : goal.ghosts-serve

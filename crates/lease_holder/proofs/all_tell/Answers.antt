@@ -1,0 +1,23 @@
+use Rattle.std.proofs.Common.{rules}
+use Rattle.lease_holder.specs.Turns.{HasSpoken}
+use Rattle.lease_holder.proofs.Turns.{nothing_made, one_more_made, all_made}
+use Rattle.lease_holder.proofs.all_tell.Goals as goal
+
+pub loop-worker-init : goal.loop-worker-init
+loop-worker-init g c = nothing_made HasSpoken c.args.ended.items c.in_ok-after.after.items c.into_iter-worker-iterator.result.rest.items (search rules) c.into_iter-worker-iterator.ensures.into_iter_gives.0
+
+pub loop-worker-preserved : goal.loop-worker-preserved
+loop-worker-preserved g c =
+    one_more_made HasSpoken c.args.ended.items c.loop-worker.after.items c.push.new.self.items c.loop-worker.worker-iterator.rest.items c.next.new.self.rest.items
+    c.in-Some.worker c.tell.new.self c.loop-worker.invariant c.in-Some.ensures.steps.0 c.in_ok-push.ensures.items
+    (record {
+      worker = c.in_ok-worker.worker;
+      through = c.in_ok-worker.was;
+      me = c.tell.ensures.same.0;
+      plan = c.tell.ensures.same.1;
+      wrote = c.tell.ensures.same.2;
+      told = c.in_ok-tell.ensures.told;
+    })
+
+pub returns : goal.returns
+returns g c = all_made HasSpoken c.args.ended.items c.loop-worker.after.items c.loop-worker.worker-iterator.rest.items c.loop-worker.invariant (search rules)

@@ -1,7 +1,0 @@
-use Rattle.std.proofs.Common.{drop}
-use Rattle.lease_holder.proofs.Turns.{IsOf, IsPartWay}
-use Rattle.lease_holder.proofs.serve.Given as goal
-
--- The workers so far, each of its plan.
-abbrev pub invariant-loop-plan : goal.invariant-loop-plan
-invariant-loop-plan g l = IsPartWay IsOf l.fn.plans l.workers.items (drop l.plan-index l.fn.plans)
