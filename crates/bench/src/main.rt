@@ -24,42 +24,43 @@
 //! `bench` alone makes a short run and prints no times.
 #![tactic(auto)]
 
-ghost use Rattle.std.specs.Prelude.{◌≤◌, IfOk};
-
-mod batch;
 mod bytes;
 mod caches;
 mod calls;
-mod measure;
+mod figure;
+mod keys;
+mod pages;
 mod report;
 mod shared;
-mod shared_batch;
-mod spread;
-mod stops;
-mod watch;
+mod subject;
+mod turns;
 
-use crate::batch::{BATCH_OPERATIONS, MARKS, measure_batch};
-use crate::bytes::{BYTES_OPERATIONS, measure_by_bytes};
-use crate::caches::{CACHE_OPERATIONS, PAGES, measure_caches};
-use crate::measure::{Figure, LARGEST, ROUNDS, Row, SMALLEST, measure};
-use crate::report::{print_longest, print_shared, short_run_shared};
-use crate::shared_batch::measure_shared_batch;
-use crate::stops::{MANY, STOPPING, measure_stops};
+use crate::bytes::{BYTES_OPERATIONS, measure_bytes};
+use crate::caches::{
+    BATCH_OPERATIONS, CACHE_OPERATIONS, MANY, PAGES, STOPPING, measure_batches, measure_cache,
+    measure_stops,
+};
+use crate::figure::{Figure, Head, Least, Lines, Tells};
+use crate::pages::{PAGE_OPERATIONS, ROUNDS, measure_page};
+use crate::report::{print_batches, print_longest, print_shared, short_run_shared};
 use anyhow::{Context, Result, ensure};
 use std::alloc::AllocGlobal;
-use std::env;
 use std::sync::Wait;
 use std::thread::Threads;
 use std::time::Clock;
+use std::{env, io};
+
+/// How many nodes a page has at the least.
+const SMALLEST: u32 = 64;
+
+/// How many nodes a page has at the most.
+const LARGEST: u32 = 1_048_576;
 
 /// In how many turns of a round each operation is made at each of the spans of a measurement.
 const TURNS: u32 = 25;
 
 /// And on a cache, whose lookups look into many pages.
 const CACHE_TURNS: u32 = 5;
-
-/// How many seats of a shared cache add batches.
-const BATCH_SEATS: [u32; 2] = [1, 4];
 
 /// And of batches.
 const BATCH_TURNS: u32 = 100;
@@ -70,27 +71,54 @@ const BYTES_TURNS: u32 = 225;
 /// And where two caches are compared.
 const STOP_TURNS: u32 = 40;
 
+/// The kinds of keys, of which all of the second begin with the same 16 bytes.
+const SHORT_KEYS: &str = "keys of 8 bytes";
+
+const LONG_KEYS: &str = "keys of 24 bytes";
+
+/// What is told of a measurement that was given up.
+const GIVEN_UP: &str = "no memory, or a call was refused";
+
+/// What is measured.
+#[derive(Clone, Copy)]
+enum Word {
+    Pages,
+    Batch,
+    Bytes,
+    Shared,
+    Longest,
+    All,
+}
+
+/// What operations on a page took, with short keys and with long ones.
+type Pages = (Least, Least);
+
 fn main(rt: HostRuntime) -> Result<()> {
     let words: Vec<String> = env::args(&rt)?.skip(1).collect(rt.alloc())?;
     let Some((first, sizes)) = words.split_first() else {
         short_run(&rt)?;
-        return short_run_shared(&rt);
+        return short_run_shared(&rt, SMALLEST);
     };
-    match first.as_str() {
-        "shared" => measure_sharing(&rt, sizes, false),
-        "longest" => measure_sharing(&rt, sizes, true),
-        "pages" => measure_pages(&rt, sizes),
-        "batch" => measure_batches(&rt, &rt, sizes),
-        "bytes" => measure_bytes(&rt, sizes),
-        _ => measure_all(&rt, &rt, &words),
+    match word_of(first) {
+        Word::All => measure(&rt, &rt, Word::All, &words),
+        word => measure(&rt, &rt, word, sizes),
+    }
+}
+
+/// What a word says is to be measured.
+fn word_of(text: &str) -> Word {
+    match text {
+        "pages" => Word::Pages,
+        "batch" => Word::Batch,
+        "bytes" => Word::Bytes,
+        "shared" => Word::Shared,
+        "longest" => Word::Longest,
+        _ => Word::All,
     }
 }
 
 /// How many nodes a word says.
-fn nodes_of(word: &str) -> Result<u32>
-    ensures at_least { IfOk result (λ nodes. 64 ≤ nodes) }
-    ensures at_most { IfOk result (λ nodes. nodes ≤ 1048576) }
-{
+fn nodes_of(word: &str) -> Result<u32> {
     let nodes = word.parse()?;
     ensure!(
         SMALLEST <= nodes && nodes <= LARGEST,
@@ -99,178 +127,150 @@ fn nodes_of(word: &str) -> Result<u32>
     Ok(nodes)
 }
 
-/// Measures a shared cache of each size, or the longest Add to it.
-fn measure_sharing<R: Threads + Wait + Sync + Clock + AllocGlobal + Print>(
-    rt: &R,
-    sizes: &[String],
-    longest: bool,
-) -> Result<()> {
-    for word in sizes {
-        let nodes = nodes_of(word)?;
-        if longest {
-            print_longest(rt, nodes)?;
-        } else {
-            print_shared(rt, nodes)?;
-        }
-    }
-    Ok(())
-}
-
-/// Measures a page of each size.
-fn measure_pages(rt: &HostRuntime, sizes: &[String]) -> Result<()> {
-    let mut all: Vec<Vec<Row>> = Vec::new(rt.alloc());
-    for word in sizes {
-        all.push(measure_page_of(rt, nodes_of(word)?)?)?;
-    }
-    print_growth(rt, &all)
-}
-
-/// Measures calls with keys that are given as bytes, on a cache of each size.
-fn measure_bytes(rt: &HostRuntime, sizes: &[String]) -> Result<()> {
-    for word in sizes {
-        let nodes = nodes_of(word)?;
-        let figures = measure_by_bytes(rt, nodes, BYTES_TURNS)?;
-        for (name, figure) in BYTES_OPERATIONS.iter().zip(&figures) {
-            let each = figure.each();
-            println!(rt; "here, {nodes} nodes, {name}: {each} ns")?;
-        }
-    }
-    Ok(())
-}
-
-/// Measures batches on a page of each size, and prints what each takes beside one `next`.
-fn measure_batches<R: Threads + Wait + Sync + Clock + AllocGlobal + Print>(
+/// Measures with each size, and prints by how much operations on a page grew from the first to the last, where there are
+/// several.
+fn measure<R: Threads + Wait + Sync + Clock + AllocGlobal + Print>(
     host: &HostRuntime,
     rt: &R,
+    word: Word,
     sizes: &[String],
 ) -> Result<()> {
-    for word in sizes {
-        let nodes = nodes_of(word)?;
-        let figures = measure_batch(host, nodes, BATCH_TURNS)?;
-        let one = figures[0];
-        for (name, figure) in BATCH_OPERATIONS.iter().zip(&figures) {
-            print_beside(host, 1, nodes, name, *figure, one)?;
-        }
-        for seats in BATCH_SEATS {
-            print_shared_batch(rt, nodes, seats)?;
-        }
+    let (mut first, mut last) = (None, None);
+    for size in sizes {
+        last = measure_size(host, rt, word, nodes_of(size)?)?;
+        first = first.or(last);
+    }
+    match (first, last) {
+        (Some(first), Some(last)) if sizes.len() > 1 => print_growth(host, &first, &last)?,
+        _ => {}
     }
     Ok(())
 }
 
-/// Prints what so many seats of a shared cache take for marks one at a time, and for the same marks as a batch.
-fn print_shared_batch<R: Threads + Wait + Sync + Clock + AllocGlobal + Print>(
+/// Measures with one size, and gives what operations on a page took.
+fn measure_size<R: Threads + Wait + Sync + Clock + AllocGlobal + Print>(
+    host: &HostRuntime,
     rt: &R,
+    word: Word,
     nodes: u32,
-    seats: u32,
-) -> Result<()>
-    requires { 64 ≤ nodes }
-{
-    let [one_by_one, as_a_batch] = measure_shared_batch(rt, nodes, seats)?;
-    let (each, all) = (one_by_one.each(), as_a_batch.each());
-    println!(rt;
-        "{nodes} nodes, shared by {seats}, {MARKS} marks: {each} ns one by one, {all} ns as a batch"
-    )?;
-    Ok(())
-}
-
-/// Measures a page, and prints it. Gives what its operations took.
-fn measure_page_of(rt: &HostRuntime, nodes: u32) -> Result<Vec<Row>>
-    requires at_least { 64 ≤ nodes }
-    requires at_most { nodes ≤ 1048576 }
-{
-    let rows = measure(rt, nodes, TURNS)?;
-    print_page(rt, nodes, &rows)?;
-    Ok(rows)
-}
-
-/// Measures all with each size.
-fn measure_all<R: Threads + Wait + Sync + Clock + AllocGlobal + Print>(
-    host: &HostRuntime,
-    rt: &R,
-    sizes: &[String],
-) -> Result<()> {
-    let mut all: Vec<Vec<Row>> = Vec::new(host.alloc());
-    for word in sizes {
-        let nodes = nodes_of(word)?;
-        all.push(measure_size(host, nodes)?)?;
-        print_shared(rt, nodes)?;
+) -> Result<Option<Pages>> {
+    match word {
+        Word::Pages => return Ok(Some(print_pages(host, nodes, TURNS, Tells::Each)?)),
+        Word::Batch => {
+            print_next(host, nodes)?;
+            print_batches(rt, nodes)?;
+        }
+        Word::Bytes => print_bytes(host, nodes)?,
+        Word::Shared => print_shared(rt, nodes)?,
+        Word::Longest => print_longest(rt, nodes)?,
+        Word::All => {
+            let pages = print_all(host, nodes)?;
+            print_shared(rt, nodes)?;
+            return Ok(Some(pages));
+        }
     }
-    print_growth(host, &all)
+    Ok(None)
 }
 
 /// Measures pages and caches, and prints it. Gives what operations on a page took.
-fn measure_size(rt: &HostRuntime, nodes: u32) -> Result<Vec<Row>>
-    requires at_least { 64 ≤ nodes }
-    requires at_most { nodes ≤ 1048576 }
-{
-    let rows = measure_page_of(rt, nodes)?;
-    print_caches(rt, nodes, &rows)?;
+fn print_all(rt: &HostRuntime, nodes: u32) -> Result<Pages> {
+    let pages = print_pages(rt, nodes, TURNS, Tells::Each)?;
+    print_caches(rt, nodes, CACHE_TURNS, Tells::Beside, &pages.0)?;
     print_stops(rt, nodes)?;
-    Ok(rows)
+    Ok(pages)
 }
 
-/// Prints what operations on a page take.
-fn print_page(rt: &HostRuntime, nodes: u32, rows: &[Row]) -> Result<()> {
-    for Row { keys, name, figure } in rows {
-        let (operations, each) = (figure.operations, figure.each());
-        println!(rt; "{nodes} nodes, {keys}, {name}: {operations} operations, {each} ns each")?;
-    }
-    Ok(())
+/// Measures pages with each kind of keys, and prints it.
+fn print_pages(rt: &HostRuntime, nodes: u32, turns: u32, tells: Tells) -> Result<Pages> {
+    let short = measure_page(rt, nodes, false, turns).context(GIVEN_UP)?;
+    let long = measure_page(rt, nodes, true, turns).context(GIVEN_UP)?;
+    print_page(rt, Head::Page(nodes, SHORT_KEYS), tells, &short, &[])?;
+    print_page(rt, Head::Page(nodes, LONG_KEYS), tells, &long, &[])?;
+    Ok((short, long))
 }
 
-/// Prints by how much operations on a page grew from the first size to the last, where there are several.
-fn print_growth(rt: &HostRuntime, all: &[Vec<Row>]) -> Result<()> {
-    let Some((first, later)) = all.split_first() else {
-        return Ok(());
-    };
-    let Some(last) = later.last() else {
-        return Ok(());
-    };
-    for (row, later) in first.iter().zip(last) {
-        let (keys, name, percent) = (row.keys, row.name, later.figure.percent_of(row.figure));
-        println!(rt; "from the first size to the last, {keys}, {name}: {percent} %")?;
-    }
-    Ok(())
-}
-
-/// Prints what operations on caches take beside those on a page of the same size.
-fn print_caches(rt: &HostRuntime, nodes: u32, page: &[Row]) -> Result<()>
-    requires at_least { 64 ≤ nodes }
-    requires at_most { nodes ≤ 1048576 }
-{
-    for pages in PAGES {
-        let figures = measure_caches(rt, nodes, pages, CACHE_TURNS)?;
-        for ((name, beside), figure) in CACHE_OPERATIONS.iter().zip(&figures) {
-            let beside = page.get(*beside).context("no such operation")?;
-            print_beside(rt, pages, nodes, name, *figure, beside.figure)?;
-        }
-    }
-    Ok(())
-}
-
-/// Prints what an operation on a cache takes beside the one on a page.
-fn print_beside(
-    rt: &HostRuntime,
-    pages: u32,
-    nodes: u32,
-    name: &str,
-    figure: Figure,
-    beside: Figure,
-) -> Result<()> {
-    let (operations, each, percent) = (figure.operations, figure.each(), figure.percent_of(beside));
-    println!(rt;
-        "{pages} x {nodes} nodes, {name}: {operations} operations, {each} ns each, {percent} %"
+/// Prints by how much operations on a page grew.
+fn print_growth(rt: &HostRuntime, first: &Pages, last: &Pages) -> io::Result<()> {
+    print_page(
+        rt,
+        Head::Growth(SHORT_KEYS),
+        Tells::Percent,
+        &last.0,
+        &first.0,
     )?;
+    print_page(
+        rt,
+        Head::Growth(LONG_KEYS),
+        Tells::Percent,
+        &last.1,
+        &first.1,
+    )
+}
+
+/// Prints what operations on a page took.
+fn print_page(
+    rt: &HostRuntime,
+    head: Head,
+    tells: Tells,
+    least: &[Figure],
+    others: &[Figure],
+) -> io::Result<()> {
+    let lines = Lines {
+        head,
+        tells,
+        operations: &PAGE_OPERATIONS,
+    };
+    lines.print(rt, least, others)
+}
+
+/// Measures caches, and prints it beside what operations took on a page of the same size.
+fn print_caches(
+    rt: &HostRuntime,
+    nodes: u32,
+    turns: u32,
+    tells: Tells,
+    page: &[Figure],
+) -> Result<()> {
+    for pages in PAGES {
+        let least = measure_cache(rt, nodes, pages, turns).context(GIVEN_UP)?;
+        let lines = Lines {
+            head: Head::Cache(pages, nodes),
+            tells,
+            operations: &CACHE_OPERATIONS,
+        };
+        lines.print(rt, &least, page)?;
+    }
+    Ok(())
+}
+
+/// Measures batches, and prints what each took beside one `next`.
+fn print_next(rt: &HostRuntime, nodes: u32) -> Result<()> {
+    let least = measure_batches(rt, nodes, BATCH_TURNS).context(GIVEN_UP)?;
+    let lines = Lines {
+        head: Head::Cache(1, nodes),
+        tells: Tells::Beside,
+        operations: &BATCH_OPERATIONS,
+    };
+    lines.print(rt, &least, &least)?;
+    Ok(())
+}
+
+/// Measures calls with keys that are given as bytes, and prints what one took.
+fn print_bytes(rt: &HostRuntime, nodes: u32) -> Result<()> {
+    let least = measure_bytes(rt, nodes, BYTES_TURNS).context(GIVEN_UP)?;
+    let lines = Lines {
+        head: Head::Here(nodes),
+        tells: Tells::Time,
+        operations: &BYTES_OPERATIONS,
+    };
+    lines.print(rt, &least, &[])?;
     Ok(())
 }
 
 /// Prints what lookups that stop at the newest of many pages take beside those in a single page.
-fn print_stops(rt: &HostRuntime, nodes: u32) -> Result<()>
-    requires { 64 ≤ nodes }
-{
+fn print_stops(rt: &HostRuntime, nodes: u32) -> Result<()> {
     for (name, width) in STOPPING {
-        let percents = measure_stops(rt, nodes, width, ROUNDS, STOP_TURNS)?;
+        let percents = measure_stops(rt, nodes, width, ROUNDS, STOP_TURNS).context(GIVEN_UP)?;
         println!(rt;
             "{MANY} x {nodes} nodes, {name} that stops at the newest page, beside a single page in {ROUNDS} rounds: {percents} %"
         )?;
@@ -280,36 +280,10 @@ fn print_stops(rt: &HostRuntime, nodes: u32) -> Result<()>
 
 /// Makes each operation once at each place of a small page and of small caches, and prints no times.
 fn short_run(rt: &HostRuntime) -> Result<()> {
-    short_run_of_pages(rt, &measure(rt, SMALLEST, 1)?)?;
-    for pages in PAGES {
-        short_run_of_caches(rt, pages)?;
-    }
-    short_run_of_stops(rt)
-}
-
-/// Prints how many operations there were on a page.
-fn short_run_of_pages(rt: &HostRuntime, rows: &[Row]) -> Result<()> {
-    for Row { keys, name, figure } in rows {
-        let operations = figure.operations;
-        println!(rt; "{SMALLEST} nodes, {keys}, {name}: {operations} operations")?;
-    }
-    Ok(())
-}
-
-/// Compares lookups that stop at the newest page with those in a single page.
-fn short_run_of_stops(rt: &HostRuntime) -> Result<()> {
+    print_pages(rt, SMALLEST, 1, Tells::Count)?;
+    print_caches(rt, SMALLEST, 1, Tells::Count, &[])?;
     for (_, width) in STOPPING {
-        measure_stops(rt, SMALLEST, width, 2, 1)?;
-    }
-    Ok(())
-}
-
-/// Those on caches of so many pages.
-fn short_run_of_caches(rt: &HostRuntime, pages: u32) -> Result<()> {
-    let figures = measure_caches(rt, SMALLEST, pages, 1)?;
-    for ((name, _), figure) in CACHE_OPERATIONS.iter().zip(&figures) {
-        let operations = figure.operations;
-        println!(rt; "{pages} x {SMALLEST} nodes, {name}: {operations} operations")?;
+        measure_stops(rt, SMALLEST, width, 2, 1).context(GIVEN_UP)?;
     }
     Ok(())
 }
