@@ -1,1 +1,4 @@
+pub mod Answered
 pub mod Handing
+pub mod Rows
+pub mod Times

@@ -1,1 +1,4 @@
+pub mod Answered
 pub mod FormerReads
+pub mod Tables
+pub mod Texts
