@@ -1,6 +1,6 @@
 -- What a table of reads leaves in a cache, and that a write which is clear of all that was read is clear of it.
 use Rattle.std.proofs.Common.{◌≡◌, ◌∙◌, ap, sym, subst, refl, zero, suc, List, [], ◌∷◌, ◌++◌, append_assoc, append-nil, length, true, false, arith}
-use Rattle.std.specs.Prelude.{Option, Some, None, IfSome, unwrap_or}
+use Rattle.std.specs.Prelude.{Option, Some, IfSome, unwrap_or}
 use Rattle.std.specs.List.{Contains}
 use Rattle.std.proofs.lemmas.List.Elements.{Contains-push}
 use Rattle.tsc_cache.proofs.Beginnings.{begins_itself, begins_on, begins_entries}

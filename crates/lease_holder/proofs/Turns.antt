@@ -1,8 +1,7 @@
 -- What became of each of a list.
 use Rattle.std.proofs.Common.{◌≡◌, ◌∙◌, ap, sym, refl, subst, ℕ, zero, suc, ◌+◌, ◌<◌, ◌≤◌, drop, List, [], ◌∷◌, ◌++◌, append_assoc, append-nil, Bor, length, slice_index_or, arith}
-use Rattle.std.specs.Prelude.{Result, Ok, IfOk, Option, IsSomeAnd}
+use Rattle.std.specs.Prelude.{Result, IfOk, Option, IsSomeAnd}
 use Rattle.std.specs.List.{AllZip}
-use Rattle.std.proofs.lemmas.List.Elements.{AllZip-push}
 use Rattle.timestamp_cache.specs.Words.{Time, History, BeginsWith, SeatView}
 use Rattle.lease_holder.specs.declared.Plan.{Plan}
 use Rattle.lease_holder.specs.declared.Served.{Served}
