@@ -104,6 +104,22 @@ const ROWS: &[Row] = &[
         ],
     ),
     (
+        "parts without an end",
+        &[
+            (Open(FLOOR), NONE, FLOOR, NOBODY),
+            (Read, b"(d,", (20, 0), FIRST),
+            (Tell(1), b"[e,", FLOOR, NOBODY),
+            (Told((5, 0)), b"[e,", (20, 0), FIRST),
+            (Tell(1), b"[a,", FLOOR, NOBODY),
+            (Told((5, 0)), b"(d,", (20, 0), FIRST),
+            (Open((3, 0)), NONE, FLOOR, NOBODY),
+            (Apply, NONE, FLOOR, NOBODY),
+            (Look, b"d", (5, 0), NOBODY),
+            (Look, b"(d,", (20, 0), FIRST),
+            (Look, b"z", (20, 0), FIRST),
+        ],
+    ),
+    (
         "two readers at one time, and a read at the floor",
         &[
             (Open(FLOOR), NONE, FLOOR, NOBODY),
