@@ -84,14 +84,25 @@ pub fn words_of_figures(figures: Figures) -> TscFigures
     }
 }
 
-/// The owner's bytes, and zeros where nobody owns the value.
+/// The owner's bytes, and zeros where nobody owns the value. They are copied by halves, as a lookup leaves them: to read at once what was just
+/// written as two words, a processor waits until both are in its cache.
 fn owner_of(value: Value) -> [u8; 16]
     ensures { value ≡ value_of (record { wall = value.time.wall; logical = value.time.logical; owner = result }) }
 {
     match value.owner() {
-        Some(owner) => owner.into_bytes(),
+        Some(owner) => by_halves(owner.into_bytes()),
         None => [0; 16],
     }
+}
+
+/// These bytes, copied in two halves.
+fn by_halves(bytes: [u8; 16]) -> [u8; 16]
+    ensures { result ≡ bytes }
+{
+    let mut copy = [0; 16];
+    copy[..8].copy_from_slice(&bytes[..8]);
+    copy[8..].copy_from_slice(&bytes[8..]);
+    copy
 }
 
 /// The form that a number means.
