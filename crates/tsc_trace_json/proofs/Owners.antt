@@ -1,6 +1,6 @@
 -- What the text of an owner reads as.
 use Rattle.std.specs.Prelude.{is_some}
-use Rattle.std.proofs.Common.{◌≡◌, true, false, ℕ, List, Option, Some, None, Result, Ok, Err, refl, ap, ◌∙◌}
+use Rattle.std.proofs.Common.{◌≡◌, true, false, ℕ, List, Option, Some, None, Result, Ok, Err, refl, sym, ap, ◌∙◌}
 use Rattle.uuid.specs.Text.{parsed}
 use Rattle.uuid.specs.Parts.{zero_bytes}
 use Rattle.serde_json.specs.Data.{Data, null, boolean, number, string, array, object}
@@ -47,6 +47,11 @@ pub text_owner : (d : Data) (s : List ℕ) (r : Result (List ℕ) Refusal) → t
 text_owner d s (Ok uuid) h is = text_read d s h ∙ is
 text_owner d s (Err refusal.Memory) h is = tt
 text_owner d s (Err (refusal.Fault f)) h is = text_read d s h ∙ is
+
+-- a text that is a UUID names its owner
+pub an_owner : (s uuid : List ℕ) → Some uuid ≡ parsed s → owner_in s ≡ Ok (owner_of uuid)
+unfolding owner_in
+an_owner s uuid is = rw (sym is) refl
 
 -- a text that is no UUID names no owner
 pub no_owner : (s : List ℕ) → ((x : List ℕ) → parsed s ≡ Some x → ⊥) → owner_in s ≡ Err Uuid

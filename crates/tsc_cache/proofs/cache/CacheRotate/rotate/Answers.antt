@@ -1,5 +1,6 @@
 -- A new page in front, and the pages behind it that stay.
 use Rattle.std.proofs.Common.{◌≡◌, ◌∙◌, refl, sym, ap, subst}
+use Rattle.std.specs.Prelude.{Result, Ok, Err, OnErr}
 use Rattle.tsc_page_base.specs.Page.{Mark, empty_page}
 use Rattle.tsc_page_base.specs.PageView.{PageView, StandsFor}
 use Rattle.tsc_cache.specs.declared.added.Added.{Added}
@@ -37,3 +38,12 @@ returns-clause-rotated c =
       subst (λ v. RotatesWith v new m c.args.now c.after_rotation.result.evicted) c.self.view_is (subst (λ k. RotatesWith (the_view c.self.inside) new m c.args.now k) (sym counted) turned),
       c.after_rotation.ensures ∙ ap kept_after_rotation (sym counted),
     )
+
+-- whatever a call answers, what holds anyway holds where it was refused
+kept : {A E : Type 0} (r : Result A E) (P : Type 0) → P → OnErr r P
+kept (Ok a) P p = tt
+kept (Err e) P p = p
+
+pub returns-in_err-push_front-clause-unchanged : goal.returns-in_err-push_front-clause-unchanged
+returns-in_err-push_front-clause-unchanged c =
+    kept _ _ (ap (λ ps. record { settings = c.self.inside.config; floor = c.self.inside.floor; pages = ps; rotations = c.self.inside.rotations }) c.in_err-push_front.ensures.unchanged ∙ c.self.view_is)

@@ -21,3 +21,6 @@ returns-then-cost-next-clause-value c =
 
 pub returns-then-cost-next-clause-least : goal.returns-then-cost-next-clause-least
 returns-then-cost-next-clause-least c least = c.doubled-next.ensures.least (c.loop-times.invariant.least least)
+
+pub returns-then-cost-next-clause-enough : goal.returns-then-cost-next-clause-enough
+returns-then-cost-next-clause-enough c within = omega arith

@@ -12,3 +12,6 @@ returns-clause-why g c = waited_why _ _ _ _ c.waited.ensures c.add_marks.ensures
 
 pub returns-clause-too_large : goal.returns-clause-too_large
 returns-clause-too_large g c = waited_exactly _ _ _ _ c.waited.ensures c.add_marks.ensures.too_large
+
+pub returns-clause-seat : goal.returns-clause-seat
+returns-clause-seat g c = c.add_marks.ensures.seat

@@ -29,3 +29,6 @@ returns-then-not-fits-clause-no_tries g c = λ _ fit. absurd (true≢false (sym 
 
 pub returns-clause-no_tries : goal.returns-clause-no_tries
 returns-clause-no_tries g c = λ none _. c.add_copy.ensures.no_tries none
+
+pub returns-then-not-fits-clause-refused : goal.returns-then-not-fits-clause-refused
+returns-then-not-fits-clause-refused g c = record { count = refl }
