@@ -1,4 +1,5 @@
 ghost use Rattle.std.specs.Prelude.{◌≡◌, ◌∷◌, [], true, false, option_map, IfOk, OnErr};
+ghost use Rattle.tsc_time.specs.Time.{is_before};
 ghost use Rattle.tsc_span.specs.Span.{is_empty_span};
 ghost use Rattle.tsc_span.specs.Cuts.{cut_of};
 ghost use Rattle.tsc_page_base.specs.KeysAbove.{IsLeastAbove};
@@ -135,7 +136,7 @@ impl Pages {
         let mut best = self.front.lookup_in(span);
         let mut looked = 1;
         for page in &self.older {
-            if page.top() < best.time() {
+            if is_passed(page, best) {
                 return (best, looked);
             }
             best = ratchet(best, page.lookup_in(span)).0;
@@ -165,6 +166,13 @@ impl Pages {
         }
         figures
     }
+}
+
+/// Whether all that stands on a page is earlier than a value that was met.
+fn is_passed(page: &Page, best: Value) -> bool
+    ensures { result ≡ is_before page.now.top best.time }
+{
+    page.top() < best.time()
 }
 
 /// The lesser of two keys, as far as there are any.

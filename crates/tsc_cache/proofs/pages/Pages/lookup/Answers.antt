@@ -3,7 +3,7 @@ use Rattle.std.proofs.Common.{rules, ◌≡◌, ◌∙◌, sym, ap, subst, [], �
 use Rattle.std.proofs.lemmas.List.{length-map, length-append}
 use Rattle.std.specs.Arc.{arc_value}
 use Rattle.std.specs.VecDeque.Iter.{deque_iter_rest}
-use Rattle.tsc_time.specs.Time.{Time, is_before}
+use Rattle.tsc_time.specs.Time.{is_before}
 use Rattle.tsc_time.specs.Joint.{joint}
 use Rattle.tsc_time.specs.OwnedTime.{OwnedTime}
 use Rattle.tsc_page_base.specs.PageView.{PageView, answer}
@@ -19,14 +19,13 @@ loop-page-init c =
     subst (λ (v : OwnedTime). Looking (pages_of c.args.self.now) (map (λ a. arc_value a) (deque_iter_rest c.into_iter-page-iterator.result)) c.args.span.now v 1) (sym best)
     (rw all first)
 
-pub returns-then-lt-clause-value : goal.returns-then-lt-clause-value
-returns-then-lt-clause-value c =
+pub returns-then-is_passed-clause-value : goal.returns-then-is_passed-clause-value
+returns-then-is_passed-clause-value c =
     let left = ap (map (λ a. arc_value a)) c.in-Some.ensures.steps in
     let so_far = subst (λ (ps : List PageView). Looking (pages_of c.args.self.now) ps c.args.span.now c.loop-page.best c.loop-page.looked) left c.loop-page.invariant in
-    let top_is : c.top.result ≡ (arc_value c.in-Some.page.now).top = c.top.ensures.value ∙ ap (λ (p : PageView). p.top) c.deref-in-loop-page.ensures in
-    let low : is_before c.top.result c.time.result ≡ true = search rules in
+    let low : is_before (arc_value c.in-Some.page.now).top c.loop-page.best.time ≡ true = ap (λ (p : PageView). is_before p.top c.loop-page.best.time) (sym c.deref-in-loop-page.ensures) ∙ sym c.is_passed.ensures ∙ c.if-is_passed.true in
     (looking-stop (pages_of c.args.self.now) (arc_value c.in-Some.page.now) (map (λ a. arc_value a) (deque_iter_rest c.next.new.self)) c.args.span.now c.loop-page.best c.loop-page.looked
-    c.requires.stacked so_far (subst (λ (t : Time). is_before (arc_value c.in-Some.page.now).top t ≡ true) c.time.ensures (subst (λ (t : Time). is_before t c.time.result ≡ true) top_is low))).0
+    c.requires.stacked so_far low).0
 
 pub overflow_add-looked : goal.overflow_add-looked
 overflow_add-looked c =
@@ -44,10 +43,9 @@ pub loop-page-preserved : goal.loop-page-preserved
 loop-page-preserved c =
     let left = ap (map (λ a. arc_value a)) c.in-Some.ensures.steps in
     let so_far = subst (λ (ps : List PageView). Looking (pages_of c.args.self.now) ps c.args.span.now c.loop-page.best c.loop-page.looked) left c.loop-page.invariant in
-    let top_is : c.top.result ≡ (arc_value c.in-Some.page.now).top = c.top.ensures.value ∙ ap (λ (p : PageView). p.top) c.deref-in-loop-page.ensures in
-    let high : is_before c.top.result c.time.result ≡ false = search rules in
+    let high : is_before (arc_value c.in-Some.page.now).top c.loop-page.best.time ≡ false = ap (λ (p : PageView). is_before p.top c.loop-page.best.time) (sym c.deref-in-loop-page.ensures) ∙ sym c.is_passed.ensures ∙ c.if-is_passed.false in
     let more = looking-more (pages_of c.args.self.now) (arc_value c.in-Some.page.now) (map (λ a. arc_value a) (deque_iter_rest c.next.new.self)) c.args.span.now c.loop-page.best c.loop-page.looked
-    so_far (subst (λ (t : Time). is_before (arc_value c.in-Some.page.now).top t ≡ false) c.time.ensures (subst (λ (t : Time). is_before t c.time.result ≡ false) top_is high)) in
+    so_far high in
     let answered : c.lookup_in.result ≡ answer (arc_value c.in-Some.page.now) c.args.span.now = c.lookup_in.ensures.value ∙ ap (λ (p : PageView). answer p c.args.span.now) c.deref-in-loop-page-2.ensures in
     subst (λ (v : OwnedTime). Looking (pages_of c.args.self.now) (map (λ a. arc_value a) (deque_iter_rest c.next.new.self)) c.args.span.now v (c.loop-page.looked + 1))
     (sym (c.ratchet-best.ensures.joint ∙ ap (λ (v : OwnedTime). joint c.loop-page.best (v ∷ [])) answered)) more
