@@ -163,6 +163,3 @@ returns-in_default-clause-no_tries g c = λ none. refl
 
 pub returns-then-not-clear_all-clause-why : goal.returns-then-not-clear_all-clause-why
 returns-then-not-clear_all-clause-why g c = search rules
-
-pub give-requires : goal.give-requires
-give-requires g c = record { once = c.requires.untold }

@@ -32,7 +32,7 @@ returns-then-not-has_only c = has_others (view c.args.value.now) _ c.in_ok-membe
 
 pub returns-in_err-start : goal.returns-in_err-start
 returns-in_err-start c =
-    let p = err_from_is_err_and c.from_residual.result c.from_residual.ensures.1 in
+    let p = err_from_is_err_and c.from_residual-in_err-start.result c.from_residual-in_err-start.ensures.1 in
     rw (p.1, p.2) (has_no_start c.in_err-start.field-0.0 (view c.args.value.now) _ c.in_ok-members.ensures (sym c.has_only.ensures ∙ c.if-not-has_only.false) c.in_err-start.ensures)
 
 pub returns : goal.returns
