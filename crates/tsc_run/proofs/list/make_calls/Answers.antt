@@ -1,7 +1,10 @@
-use Rattle.std.proofs.Common.{◌∙◌, sym, arith, refl}
+use Rattle.std.proofs.Common.{rules, ◌∙◌, sym, arith, refl}
 use Rattle.tsc_run.proofs.Running.{one_more, all_made}
 use Rattle.tsc_run.proofs.Seating.{one_less_left, ends_whole}
 use Rattle.tsc_run.proofs.list.make_calls.Goals as goal
+
+pub loop-index-init : goal.loop-index-init
+loop-index-init g c = search rules
 
 pub loop-index-preserved : goal.loop-index-preserved
 loop-index-preserved g c =
