@@ -1,6 +1,6 @@
 -- The root of a tree, whichever list of parts it has.
 use Rattle.std.proofs.Common.{◌≡◌, ◌∙◌, sym, ap, subst, false, ℕ, ◌+◌, List, [], ◌∷◌, length, Vec, Global, arith}
-use Rattle.std.specs.Prelude.{Some, None, not}
+use Rattle.std.specs.Prelude.{Some, None, not, Result, Ok, Err, OnOk}
 use Rattle.std.specs.List.{All, AllZip}
 use Rattle.std.specs.Vec.{with_items}
 use Rattle.std.proofs.lemmas.List.{with_items_is}
@@ -37,6 +37,11 @@ few_same f s Q xs ys same few = record { each = same.whole few.each; some = omeg
 -- as many others in the place of those in a list
 pub few_with : {X : Type 0} (Q : X → Type 0) (v : Vec X Global) (xs : List X) → length xs ≡ length v.items → All Q xs → AreFewParts Q v.items → AreFewParts Q (with_items v xs).items
 few_with Q v xs same all few = subst (AreFewParts Q) (sym (with_items_is v xs (omega (arith, same, v.ok.0)))) (record { each = all; some = omega (arith, same, few.some); few = omega (arith, same, few.few) })
+
+-- the same, where that was done
+pub few_on_ok : {X T E : Type 0} (Q : X → Type 0) (v : Vec X Global) (xs : List X) (r : Result T E) → length xs ≡ length v.items → OnOk r (All Q xs) → AreFewParts Q v.items → OnOk r (AreFewParts Q (with_items v xs).items)
+few_on_ok Q v xs (Ok x) same all few = few_with Q v xs same all few
+few_on_ok Q v xs (Err e) same all few = tt
 
 -- a root of copies is a copy
 pub copied_one : (ps qs : Vec Leaf Global) → AllZip (λ (x y : Leaf). IsLeafCopy x y) ps.items qs.items → IsSameAs root_nodes root_sizes IsWholeRoot (One ps) (One qs)

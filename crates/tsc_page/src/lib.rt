@@ -21,6 +21,7 @@
 //! A [`PlainPage`] is the same thing as the list of what was added: slow, and easy to believe.
 #![tactic(auto)]
 
+mod forks;
 mod page;
 mod root;
 mod tree;

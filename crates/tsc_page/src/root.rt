@@ -13,6 +13,7 @@ ghost use Rattle.tsc_page_tree.specs.Copies.{IsSameAs};
 ghost use Rattle.tsc_page_tree.specs.Trees.{leaf_nodes, leaf_sizes, IsWholeLeaf, level_nodes, IsWholeLevel, AreFewParts};
 ghost use Rattle.tsc_page.specs.Roots.{root_nodes, root_sizes, IsWholeRoot};
 
+use crate::forks;
 use std::alloc::Global;
 use tsc_page_base::{Grown, Nodes, NumberedCut};
 use tsc_page_tree::fork::{self, Fork, Level};
@@ -46,9 +47,9 @@ impl Root {
     {
         match self {
             Root::One(parts) => parts::leaf_len(parts, place),
-            Root::Two(parts) => parts::leaf_len(parts, place),
-            Root::Three(parts) => parts::leaf_len(parts, place),
-            Root::Four(parts) => parts::leaf_len(parts, place),
+            Root::Two(parts) => forks::leaf_len(parts, place),
+            Root::Three(parts) => forks::leaf_len(parts, place),
+            Root::Four(parts) => forks::leaf_len(parts, place),
         }
     }
 
@@ -60,9 +61,9 @@ impl Root {
     {
         match self {
             Root::One(parts) => parts::is_new(parts, key),
-            Root::Two(parts) => parts::is_new(parts, key),
-            Root::Three(parts) => parts::is_new(parts, key),
-            Root::Four(parts) => parts::is_new(parts, key),
+            Root::Two(parts) => forks::is_new(parts, key),
+            Root::Three(parts) => forks::is_new(parts, key),
+            Root::Four(parts) => forks::is_new(parts, key),
         }
     }
 
@@ -74,9 +75,9 @@ impl Root {
     {
         match self {
             Root::One(parts) => parts::key_above(parts, cut),
-            Root::Two(parts) => parts::key_above(parts, cut),
-            Root::Three(parts) => parts::key_above(parts, cut),
-            Root::Four(parts) => parts::key_above(parts, cut),
+            Root::Two(parts) => forks::key_above(parts, cut),
+            Root::Three(parts) => forks::key_above(parts, cut),
+            Root::Four(parts) => forks::key_above(parts, cut),
         }
     }
 
@@ -89,9 +90,9 @@ impl Root {
     {
         match self {
             Root::One(parts) => parts::joint_between(parts, from, to),
-            Root::Two(parts) => parts::joint_between(parts, from, to),
-            Root::Three(parts) => parts::joint_between(parts, from, to),
-            Root::Four(parts) => parts::joint_between(parts, from, to),
+            Root::Two(parts) => forks::joint_between(parts, from, to),
+            Root::Three(parts) => forks::joint_between(parts, from, to),
+            Root::Four(parts) => forks::joint_between(parts, from, to),
         }
     }
 
@@ -152,9 +153,9 @@ impl Root {
     {
         match self {
             Root::One(parts) => parts::raise_between(parts, from, to, value),
-            Root::Two(parts) => parts::raise_between(parts, from, to, value),
-            Root::Three(parts) => parts::raise_between(parts, from, to, value),
-            Root::Four(parts) => parts::raise_between(parts, from, to, value),
+            Root::Two(parts) => forks::raise_between(parts, from, to, value),
+            Root::Three(parts) => forks::raise_between(parts, from, to, value),
+            Root::Four(parts) => forks::raise_between(parts, from, to, value),
         }
     }
 
@@ -171,9 +172,9 @@ impl Root {
     {
         match self {
             Root::One(parts) => parts::add_within(parts, add, room),
-            Root::Two(parts) => parts::add_within(parts, add, room),
-            Root::Three(parts) => parts::add_within(parts, add, room),
-            Root::Four(parts) => parts::add_within(parts, add, room),
+            Root::Two(parts) => forks::add_within(parts, add, room),
+            Root::Three(parts) => forks::add_within(parts, add, room),
+            Root::Four(parts) => forks::add_within(parts, add, room),
         }
     }
 }

@@ -1,10 +1,10 @@
 //! The calls of a trace.
 
 ghost use Rattle.std.specs.Prelude.{◌≡◌, Ok, IfSome, OnSome};
-ghost use Rattle.serde_json.specs.Data.{Data, Members, object, put};
+ghost use Rattle.serde_json.specs.Data.{Data, Members, no_members, object, put};
 ghost use Rattle.tsc_trace_json.specs.TraceText.{add_of, batch_of, get_of, low_of, call_of};
 ghost use Rattle.tsc_trace_reader.specs.Kept.{KeepsCall};
-ghost use Rattle.tsc_trace_reader.specs.TokenReads.{Reads, Got};
+ghost use Rattle.tsc_trace_reader.specs.TokenReads.{Reads, Got, HasAllMembers};
 
 use super::mark::{marks, owner};
 use super::span::span_form;
@@ -44,35 +44,46 @@ impl<'a> CallParts<'a> {
         Some(())
     }
 
-    /// The Add that they are.
-    fn add(self) -> Option<Call>
-        ensures { IfSome result (λ call. (found : Members) → KeepsCall found self.entry → add_of found ≡ Ok call) }
+    /// Reads the members up to the end of their object. None was read before.
+    fn read(&mut self, alloc: Global, reader: &mut Reader<'a>) -> Option<()>
+        requires none { KeepsCall no_members self.old }
+        ensures { OnSome result ((found : Members) × HasAllMembers 3 reader.old found reader.new × KeepsCall found self.new) }
+    {
+        'members: while let Some(name) = reader.next_key().ok()? {
+            self.take(alloc, name, reader)?;
+        }
+        Some(())
+    }
+
+    /// The Add that they are, which takes the span.
+    fn add(&mut self) -> Option<Call>
+        ensures { IfSome result (λ call. (found : Members) → KeepsCall found self.old → add_of found ≡ Ok call) }
     {
         if self.marks.is_some() {
             return None;
         }
-        let form = self.span?;
+        let form = self.span.take()?;
         let span = form.added()?;
         let value = Value::of(self.time?, self.owner.unwrap_or(Uuid::nil()));
         let now = self.now?;
         Some(Call::Add { span, value, now })
     }
 
-    /// The batch that they are.
-    fn batch(self) -> Option<Call>
-        ensures { IfSome result (λ call. (found : Members) → KeepsCall found self.entry → batch_of found ≡ Ok call) }
+    /// The batch that they are, which takes the marks.
+    fn batch(&mut self) -> Option<Call>
+        ensures { IfSome result (λ call. (found : Members) → KeepsCall found self.old → batch_of found ≡ Ok call) }
     {
         if self.span.is_some() || self.time.is_some() || self.owner.is_some() {
             return None;
         }
-        let marks = self.marks?;
+        let marks = self.marks.take()?;
         let now = self.now?;
         Some(Call::Batch { marks, now })
     }
 
-    /// The lookup that they are.
-    fn get(self) -> Option<Call>
-        ensures { IfSome result (λ call. (found : Members) → KeepsCall found self.entry → get_of found ≡ Ok call) }
+    /// The lookup that they are, which takes the span.
+    fn get(&mut self) -> Option<Call>
+        ensures { IfSome result (λ call. (found : Members) → KeepsCall found self.old → get_of found ≡ Ok call) }
     {
         if self.owner.is_some()
             || self.time.is_some()
@@ -81,14 +92,14 @@ impl<'a> CallParts<'a> {
         {
             return None;
         }
-        let form = self.span?;
+        let form = self.span.take()?;
         let span = form.looked_up();
         Some(Call::Get { span })
     }
 
     /// The call for the floor that they are.
-    fn low(self) -> Option<Call>
-        ensures { IfSome result (λ call. (found : Members) → KeepsCall found self.entry → low_of found ≡ Ok call) }
+    fn low(&self) -> Option<Call>
+        ensures { IfSome result (λ call. (found : Members) → KeepsCall found self.entry.now → low_of found ≡ Ok call) }
     {
         if self.span.is_some()
             || self.time.is_some()
@@ -101,9 +112,9 @@ impl<'a> CallParts<'a> {
         Some(Call::Low)
     }
 
-    /// The call that they are.
-    fn call(self) -> Option<Call>
-        ensures { IfSome result (λ call. (found : Members) → KeepsCall found self.entry → call_of (object found) ≡ Ok call) }
+    /// The call that they are, which takes what it has of them.
+    fn call(&mut self) -> Option<Call>
+        ensures { IfSome result (λ call. (found : Members) → KeepsCall found self.old → call_of (object found) ≡ Ok call) }
     {
         match self.op? {
             "add" => self.add(),
@@ -128,8 +139,6 @@ pub(super) fn call(alloc: Global, reader: &mut Reader<'_>) -> Option<Call>
         marks: None,
         now: None,
     };
-    while let Some(name) = reader.next_key().ok()? {
-        parts.take(alloc, name, reader)?;
-    }
+    parts.read(alloc, reader)?;
     parts.call()
 }

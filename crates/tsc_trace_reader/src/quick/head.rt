@@ -104,9 +104,9 @@ impl HeadParts {
         Some(())
     }
 
-    /// The trace that they are. Whether its calls fit is judged only here, since `page_max` may stand behind them.
-    fn trace(self) -> Option<Trace>
-        ensures { IfSome result (λ trace. (found : Members) → KeepsHead found self → trace_of (object found) ≡ Ok trace) }
+    /// The trace that they are, which takes the lists. Whether its calls fit is judged only here, since `page_max` may stand behind them.
+    fn trace(&mut self) -> Option<Trace>
+        ensures { IfSome result (λ trace. (found : Members) → KeepsHead found self.old → trace_of (object found) ≡ Ok trace) }
     {
         let config = Config::new(
             self.page_first?,
@@ -116,7 +116,7 @@ impl HeadParts {
             self.low_water?,
         )
         .ok()?;
-        let threads = self.threads?;
+        let threads = self.threads.take()?;
         if !all_fit(&config, threads.slice()) {
             return None;
         }

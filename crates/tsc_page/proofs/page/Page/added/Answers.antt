@@ -3,7 +3,7 @@ use Rattle.std.proofs.Common.{◌∙◌, sym, ap, subst, ◌++◌, ◌||◌, ◌
 use Rattle.std.specs.Option.{IfSome}
 use Rattle.std.specs.Ordering.{ord_max}
 use Rattle.std.proofs.lemmas.Bool.{le-leb}
-use Rattle.tsc_time.specs.Time.{Time, time_cmp}
+use Rattle.tsc_time.specs.Time.{Time, time_cmp, later}
 use Rattle.tsc_time.specs.Joint.{joint}
 use Rattle.tsc_span.specs.Span.{Cut, Interval, between, overlaps, end_keys, key_cost}
 use Rattle.tsc_span.specs.Cuts.{cut_of}
@@ -84,3 +84,9 @@ returns-clause-answers c s =
     ap (λ (ns : List Node). answer_of ns s) added.raised ∙ added_answers old added.mid f t c.in-Some.ensures.order c.args.value added.split s
     ∙ ap (λ (v : PageView). cond (overlaps (between f t) s) (joint (answer v s) (c.args.value ∷ [])) (answer v s)) c.self.view_is
     ∙ ap (λ (q : Interval). cond (overlaps q s) (joint (answer c.args.self.now s) (c.args.value ∷ [])) (answer c.args.self.now s)) c.in-Some.ensures.value
+
+pub returns-clause-top : goal.returns-clause-top
+returns-clause-top c = c.max.ensures ∙ ap (ord_max time_cmp c.self.inside.top) c.time.ensures ∙ later-max c.self.inside.top c.args.value.time ∙ ap (λ (v : PageView). later v.top c.args.value.time) c.self.view_is
+
+pub returns-clause-size : goal.returns-clause-size
+returns-clause-size c = ap (λ (v : PageView). v.size) c.self.view_is

@@ -10,5 +10,5 @@ returns c = λ found h.
     let at = c.in_ok-self.field-0 in
     let span = c.in_ok-span.span in
     let now = c.in_ok-now.now in
-    add_is found c.args.self h c.in_ok-form.form at now span (not_there c.args.self.marks c.is_some.result c.is_some.ensures c.if-is_some.false) c.in_ok-form.was c.in_ok-self.was c.in_ok-now.was (sym c.added.ensures ∙ c.in_ok-span.was)
-    ∙ ap (λ v. Ok (Add span v now)) (sym (c.of-value.ensures ∙ ap (λ u. record { time = at; owner = owner_of u }) (c.unwrap_or.ensures ∙ ap (unwrap_or c.args.self.owner) c.nil.ensures)))
+    add_is found c.args.self.now h c.in_ok-form.form at now span (not_there c.args.self.now.marks c.is_some.result c.is_some.ensures c.if-is_some.false) (sym c.take.ensures.value ∙ c.in_ok-form.was) c.in_ok-self.was c.in_ok-now.was (sym c.added.ensures ∙ c.in_ok-span.was)
+    ∙ ap (λ v. Ok (Add span v now)) (sym (c.of-value.ensures ∙ ap (λ u. record { time = at; owner = owner_of u }) (c.unwrap_or.ensures ∙ ap (unwrap_or c.args.self.now.owner) c.nil.ensures)))

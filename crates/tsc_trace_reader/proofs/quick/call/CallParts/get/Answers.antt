@@ -5,7 +5,7 @@ use Rattle.tsc_trace_reader.proofs.quick.call.CallParts.get.Goals as goal
 
 pub returns : goal.returns
 returns c = λ found h.
-    get_is found c.args.self h c.in_ok-form.form c.in_ok-form.was (not_there c.args.self.time c.is_some-else-is_some.result c.is_some-else-is_some.ensures c.if-is_some-2.false)
-    (not_there c.args.self.owner c.is_some.result c.is_some.ensures c.if-is_some.false)
-    (not_there c.args.self.marks c.is_some-else-is_some-2.result c.is_some-else-is_some-2.ensures c.if-is_some-3.false)
-    (not_there c.args.self.now c.is_some-else-is_some-3.result c.is_some-else-is_some-3.ensures c.if-is_some-4.false) ∙ ap (λ s. Ok (Get s)) (sym c.looked_up-span.ensures)
+    get_is found c.args.self.now h c.in_ok-form.form (sym c.take.ensures.value ∙ c.in_ok-form.was) (not_there c.args.self.now.time c.is_some-else-is_some.result c.is_some-else-is_some.ensures c.if-is_some-2.false)
+    (not_there c.args.self.now.owner c.is_some.result c.is_some.ensures c.if-is_some.false)
+    (not_there c.args.self.now.marks c.is_some-else-is_some-2.result c.is_some-else-is_some-2.ensures c.if-is_some-3.false)
+    (not_there c.args.self.now.now c.is_some-else-is_some-3.result c.is_some-else-is_some-3.ensures c.if-is_some-4.false) ∙ ap (λ s. Ok (Get s)) (sym c.looked_up-span.ensures)
