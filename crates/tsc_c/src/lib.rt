@@ -13,12 +13,8 @@ ghost use Rattle.tsc_c_table.specs.Asked.{time_of, value_of, added_of};
 ghost use Rattle.tsc_c_table.specs.Calls.{Opens, Looks, StandsAt, Counts, AddsTo, AddsAllTo, IsClosed, RefusesLookup};
 ghost use Rattle.tsc_c_table.specs.Table.{cache_at, entries_of, Keeps, GivesNext};
 ghost use Rattle.tsc_c_table.specs.declared.refusal.Refusal.{Refusal as Why};
-ghost use Rattle.tsc_c.specs.Timed.{RefusesOpen, RefusesTimedAdd, RefusesTimedAddAll};
+ghost use Rattle.tsc_c_calls.specs.Timed.{RefusesOpen, RefusesTimedAdd, RefusesTimedAddAll};
 
-mod halls;
-mod held;
-pub mod laws;
-mod place;
 mod seat_calls;
 #[cfg(test)]
 mod tests;
@@ -26,8 +22,8 @@ mod texts;
 #[cfg(test)]
 mod texts_tests;
 
-use place::Place;
 use std::alloc::Global;
+use tsc_c_calls::{Place, held};
 use tsc_c_table::{OK, TscAdded, TscFigures, TscMark, TscTime, TscValue, asked};
 
 /// Opens a cache, and writes its number, which was not given before. The place may be zeros.

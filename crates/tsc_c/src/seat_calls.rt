@@ -7,11 +7,10 @@ ghost use Rattle.tsc_c_table.specs.Asked.{time_of, value_of, added_of};
 ghost use Rattle.tsc_c_table.specs.Table.{entries_of, seat_at, shared_at, Keeps};
 ghost use Rattle.tsc_c_table.specs.SeatCalls.{OpensShared, IsNoSeat, SeatLooks, RefusesSeatLookup, SeatStandsAt, SeatCounts, SeatAddsTo, SeatAddsAllTo, Spares, Moves, RefusesMove, ClosesShared, RefusesCloseShared};
 ghost use Rattle.tsc_c_table.specs.declared.refusal.Refusal.{Refusal as Why};
-ghost use Rattle.tsc_c.specs.Timed.{RefusesOpenShared, RefusesTimedSeatAdd, RefusesTimedSeatAddAll};
+ghost use Rattle.tsc_c_calls.specs.Timed.{RefusesOpenShared, RefusesTimedSeatAdd, RefusesTimedSeatAddAll};
 
-use crate::place::Place;
-use crate::{halls, held};
 use std::alloc::Global;
+use tsc_c_calls::{Place, halls, held};
 use tsc_c_table::{OK, TscAdded, TscFigures, TscMark, TscTime, TscValue, asked};
 
 /// Opens a cache that threads share, and writes its number. Its seats have the numbers behind that, in their order.

@@ -1,6 +1,5 @@
 //! Each call once, with ample memory, and what it answers. `scripts/test-c-library` tests far more of them, from C.
 
-use crate::place::Place;
 use crate::seat_calls::{
     tsc_close_shared, tsc_move, tsc_open_shared, tsc_seat_add, tsc_seat_add_all, tsc_seat_close,
     tsc_seat_figures_of, tsc_seat_get_max, tsc_seat_low_water,
@@ -9,6 +8,7 @@ use crate::{
     tsc_add, tsc_add_all, tsc_close, tsc_figures_of, tsc_free, tsc_get_max, tsc_low_water, tsc_open,
 };
 use std::alloc::Global;
+use tsc_c_calls::Place;
 use tsc_c_table::{TscAdded, TscFigures, TscMark, TscTime, TscValue};
 
 const LOW: TscTime = TscTime {
