@@ -189,7 +189,7 @@ fn add_batches(
     newest: &mut Cache,
     board: &mut Board,
 ) -> Option<()> {
-    let marks = marks_on(rt.alloc(), board.spans(At::Keys)?)?;
+    let marks = marks_on(rt.alloc(), board.spans(At::Keys))?;
     let row = marks_on(rt.alloc(), &here.row(rt.alloc())?)?;
     for _ in 0..turns {
         add_turn(rt, newest, &marks, &row, board)?;
@@ -279,7 +279,7 @@ pub fn measure_stops(
         let percent = measure_pair(rt, nodes, width, round % 2 == 0, turns)?;
         percents.push(percent).ok()?;
     }
-    Spread::of(percents)
+    Spread::of(&mut percents)
 }
 
 /// Makes both caches, the single page first or last, and compares them.

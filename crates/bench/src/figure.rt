@@ -167,12 +167,15 @@ pub struct Spread {
 
 impl Spread {
     /// That of rounds in any order, of which there is to be one at the least.
-    pub fn of(mut rounds: Vec<u64>) -> Option<Spread> {
+    pub fn of(rounds: &mut [u64]) -> Option<Spread> {
         rounds.sort_unstable();
+        if rounds.is_empty() {
+            return None;
+        }
         Some(Spread {
-            least: *rounds.first()?,
-            median: *rounds.get(rounds.len() / 2)?,
-            greatest: *rounds.last()?,
+            least: rounds[0],
+            median: rounds[rounds.len() / 2],
+            greatest: rounds[rounds.len() - 1],
         })
     }
 }

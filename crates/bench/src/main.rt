@@ -94,14 +94,24 @@ enum Word {
 type Pages = (Least, Least);
 
 fn main(rt: HostRuntime) -> Result<()> {
-    let words: Vec<String> = env::args(&rt)?.skip(1).collect(rt.alloc())?;
+    let words: Vec<String> = env::args(&rt)?.collect(rt.alloc())?;
+    // the program's name comes before them
+    run(&rt, &rt, &words[words.len().min(1)..])
+}
+
+/// Does what the words say.
+fn run<R: Threads + Wait + Sync + Clock + AllocGlobal + Print>(
+    host: &HostRuntime,
+    rt: &R,
+    words: &[String],
+) -> Result<()> {
     let Some((first, sizes)) = words.split_first() else {
-        short_run(&rt)?;
-        return short_run_shared(&rt, SMALLEST);
+        short_run(host)?;
+        return short_run_shared(rt, SMALLEST);
     };
     match word_of(first) {
-        Word::All => measure(&rt, &rt, Word::All, &words),
-        word => measure(&rt, &rt, word, sizes),
+        Word::All => measure(host, rt, Word::All, words),
+        word => measure(host, rt, word, sizes),
     }
 }
 
@@ -135,27 +145,26 @@ fn measure<R: Threads + Wait + Sync + Clock + AllocGlobal + Print>(
     word: Word,
     sizes: &[String],
 ) -> Result<()> {
-    let (mut first, mut last) = (None, None);
+    let mut pages = Vec::new(rt.alloc());
     for size in sizes {
-        last = measure_size(host, rt, word, nodes_of(size)?)?;
-        first = first.or(last);
+        measure_size(host, rt, word, nodes_of(size)?, &mut pages)?;
     }
-    match (first, last) {
-        (Some(first), Some(last)) if sizes.len() > 1 => print_growth(host, &first, &last)?,
-        _ => {}
+    if pages.len() > 1 {
+        print_growth(host, &pages[0], &pages[pages.len() - 1])?;
     }
     Ok(())
 }
 
-/// Measures with one size, and gives what operations on a page took.
+/// Measures with one size, and puts what operations on a page took behind what they took so far.
 fn measure_size<R: Threads + Wait + Sync + Clock + AllocGlobal + Print>(
     host: &HostRuntime,
     rt: &R,
     word: Word,
     nodes: u32,
-) -> Result<Option<Pages>> {
+    pages: &mut Vec<Pages>,
+) -> Result<()> {
     match word {
-        Word::Pages => return Ok(Some(print_pages(host, nodes, TURNS, Tells::Each)?)),
+        Word::Pages => pages.push(print_pages(host, nodes, TURNS, Tells::Each)?)?,
         Word::Batch => {
             print_next(host, nodes)?;
             print_batches(rt, nodes)?;
@@ -164,12 +173,11 @@ fn measure_size<R: Threads + Wait + Sync + Clock + AllocGlobal + Print>(
         Word::Shared => print_shared(rt, nodes)?,
         Word::Longest => print_longest(rt, nodes)?,
         Word::All => {
-            let pages = print_all(host, nodes)?;
+            pages.push(print_all(host, nodes)?)?;
             print_shared(rt, nodes)?;
-            return Ok(Some(pages));
         }
     }
-    Ok(None)
+    Ok(())
 }
 
 /// Measures pages and caches, and prints it. Gives what operations on a page took.

@@ -128,12 +128,12 @@ impl Rounds {
     }
 
     /// What they came to.
-    fn end(self, trial: Trial) -> Option<Sharing> {
+    fn end(&mut self, trial: Trial) -> Option<Sharing> {
         Some(Sharing {
             trial,
-            shared: Spread::of(self.shared)?,
-            alone: Spread::of(self.alone)?,
-            percents: Spread::of(self.percents)?,
+            shared: Spread::of(&mut self.shared)?,
+            alone: Spread::of(&mut self.alone)?,
+            percents: Spread::of(&mut self.percents)?,
         })
     }
 }

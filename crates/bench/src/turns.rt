@@ -238,9 +238,11 @@ impl Board {
     }
 
     /// Some of the places.
-    pub fn spans(&self, at: At) -> Option<&[Span]> {
-        let spans = self.places.get(at as usize)?;
-        Some(spans)
+    pub fn spans(&self, at: At) -> &[Span] {
+        match self.places.get(at as usize) {
+            Some(spans) => spans,
+            None => &[],
+        }
     }
 
     /// Puts the figure of a further turn in its row, where the operations took less than so far.
@@ -286,7 +288,7 @@ impl Board {
     ) -> Option<()> {
         for step in course.steps {
             let Step(row, call, at) = *step;
-            let figure = time(rt, call, &plan, subject, self.spans(at)?)?;
+            let figure = time(rt, call, &plan, subject, self.spans(at))?;
             self.keep(row, figure);
             plan.first = plan.first.saturating_add(course.apart);
         }

@@ -136,7 +136,12 @@ fn is_by(answer: Value, id: Uuid) -> bool
 fn reader(reads: &[Read], answer: Value) -> Option<&Read>
     ensures { option_map (λ read. read.now) result ≡ reader answer.owner reads.now }
 {
-    reads.iter().find(|read| is_by(answer, id_of(read.name)))
+    for read in reads {
+        if is_by(answer, id_of(read.name)) {
+            return Some(read);
+        }
+    }
+    None
 }
 
 /// What a key was read by, as the cache answers.
