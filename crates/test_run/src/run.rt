@@ -7,7 +7,7 @@ use std::test::Fail;
 use std::thread;
 use std::thread::Threads;
 use tsc_check::{Verdict, check};
-use tsc_run::run_trace;
+use tsc_run::{RunFault, run_trace};
 use tsc_shared::Gate;
 use tsc_trace::{Log, Trace, log_text, read_trace};
 
@@ -312,7 +312,22 @@ fn is_right(alloc: Global, trace: &Trace, log: &Log, logs: &[&str]) -> Result<bo
     Ok(is_one_of(&text, logs) && check(alloc, trace, log)? == Verdict::Right)
 }
 
-/// Whether a run of a trace is as its row says. The end of each call is told, also where the run is refused its memory.
+/// Whether what a run came to is as its row says. The end of each call is told, also where the run is refused its memory.
+fn is_as_wanted(
+    alloc: Global,
+    trace: &Trace,
+    watch: &Watch,
+    ran: Result<Log, RunFault>,
+    row: &Row,
+) -> Result<bool, Fail> {
+    if !watch.is_in_order() {
+        return Ok(false);
+    }
+    let log = ran?;
+    Ok(watch.told() == row.4 && is_right(alloc, trace, &log, row.3)?)
+}
+
+/// Whether a run of a trace is as its row says.
 fn runs<R: Threads + Wait + Sync>(
     rt: &R,
     alloc: Global,
@@ -322,11 +337,7 @@ fn runs<R: Threads + Wait + Sync>(
     let trace = read_trace(alloc, text)?;
     let watch = Watch::new(row.0);
     let ran = run_trace(rt, alloc, &trace, &watch);
-    if !watch.is_in_order() {
-        return Ok(false);
-    }
-    let log = ran?;
-    Ok(watch.told() == row.4 && is_right(alloc, &trace, &log, row.3)?)
+    is_as_wanted(alloc, &trace, &watch, ran, row)
 }
 
 /// The number of the first row, from 0, of which a run is otherwise.

@@ -31,8 +31,8 @@ static SEEN_BY_THE_OTHER: Row = (
     (132, 2),
     100,
     &[
-        (Step::Add(0, "a", 20), Told::Place(0, true, 1), (1, 1)),
-        (Step::Get(1, "a"), OWNED_BY_ONE, (0, 1)),
+        (0, Step::Add("a", 20), Told::Place(0, true, 1), (1, 1)),
+        (1, Step::Get("a"), OWNED_BY_ONE, (0, 1)),
     ],
     1,
 );
@@ -42,12 +42,13 @@ static FULL: Row = (
     (132, 2),
     3,
     &[
-        (Step::Add(0, "a", 20), Told::Place(0, true, 1), (1, 1)),
-        (Step::Add(0, "b", 20), Told::Place(1, true, 2), (2, 2)),
-        (Step::Add(1, "c", 20), Told::Place(2, true, 3), (1, 3)),
-        (Step::Add(0, "d", 20), Told::Full(3), (2, 3)),
+        (0, Step::Add("a", 20), Told::Place(0, true, 1), (1, 1)),
+        (0, Step::Add("b", 20), Told::Place(1, true, 2), (2, 2)),
+        (1, Step::Add("c", 20), Told::Place(2, true, 3), (1, 3)),
+        (0, Step::Add("d", 20), Told::Full(3), (2, 3)),
         (
-            Step::Get(0, "a"),
+            0,
+            Step::Get("a"),
             Told::Value {
                 wall: 20,
                 owned: true,
@@ -66,7 +67,7 @@ static UNUSED: Row = ((132, 2), 100, &[], 0);
 static NONE_AT_ALL: Row = (
     (132, 2),
     0,
-    &[(Step::Add(0, "a", 20), Told::Full(0), (0, 0))],
+    &[(0, Step::Add("a", 20), Told::Full(0), (0, 0))],
     0,
 );
 
@@ -75,11 +76,11 @@ static MET: Row = (
     (132, 2),
     10,
     &[
-        (Step::Low(1), Told::Floor(5, 0), (0, 0)),
-        (Step::Add(0, "a", 20), Told::Place(0, true, 1), (1, 1)),
-        (Step::Add(0, "b", 20), Told::Place(1, true, 2), (2, 2)),
-        (Step::Meet, Told::Met(2), (2, 2)),
-        (Step::AddNothing(1), Told::Place(2, false, 3), (1, 3)),
+        (1, Step::Low, Told::Floor(5, 0), (0, 0)),
+        (0, Step::Add("a", 20), Told::Place(0, true, 1), (1, 1)),
+        (0, Step::Add("b", 20), Told::Place(1, true, 2), (2, 2)),
+        (0, Step::Meet, Told::Met(2), (2, 2)),
+        (1, Step::AddNothing, Told::Place(2, false, 3), (1, 3)),
     ],
     3,
 );
@@ -90,13 +91,14 @@ static RISEN: Row = (
     (66, 1),
     10,
     &[
-        (Step::Add(0, "a", 20), Told::Place(0, true, 1), (1, 1)),
-        (Step::Add(0, "b", 20), Told::Place(1, true, 2), (2, 2)),
-        (Step::Low(1), Told::Floor(5, 2), (0, 2)),
-        (Step::Add(0, "c", 40), Told::Place(2, true, 3), (3, 3)),
-        (Step::Low(1), Told::Floor(20, 3), (0, 3)),
+        (0, Step::Add("a", 20), Told::Place(0, true, 1), (1, 1)),
+        (0, Step::Add("b", 20), Told::Place(1, true, 2), (2, 2)),
+        (1, Step::Low, Told::Floor(5, 2), (0, 2)),
+        (0, Step::Add("c", 40), Told::Place(2, true, 3), (3, 3)),
+        (1, Step::Low, Told::Floor(20, 3), (0, 3)),
         (
-            Step::Get(1, "a"),
+            1,
+            Step::Get("a"),
             Told::Value {
                 wall: 20,
                 owned: false,
@@ -110,15 +112,12 @@ static RISEN: Row = (
 
 /// Whether two seats are told what a row says.
 fn holds<R: Wait>(rt: &R, alloc: Global, row: &Row, tries_again: bool) -> Result<bool, Fail> {
-    let ((page_size, min_pages), limit, steps, adds) = row;
+    let ((page_size, min_pages), limit, turns, adds) = row;
     let config = config(*page_size, *min_pages)?;
     let mut pair = Pair::open(alloc, config, *limit, tries_again)?;
-    for (step, told, after) in *steps {
-        if pair.take(rt, alloc, step)? != (*told, *after) {
-            return Ok(false);
-        }
-    }
-    Ok(pair.close(rt, alloc)? == *adds)
+    let is_told = pair.plays(rt, alloc, turns)?;
+    let closed = pair.close(rt, alloc)?;
+    Ok(is_told && closed == *adds)
 }
 
 /// The number of the first row, from 0, that doesn't hold: as it is, and where an Add that is refused memory is made once more.
@@ -186,12 +185,12 @@ fn is_as_planned(
     seats: u32,
     plan: Plan,
     closed: &Closed,
-    adds: Adds,
+    mut adds: Adds,
 ) -> bool {
     if closed.adds != u64::from(seats) * u64::from(plan.turns) {
         return false;
     }
-    match in_order(alloc, config, plan, adds, closed.adds) {
+    match in_order(alloc, config, plan, &mut adds, closed.adds) {
         Some(plain) => {
             are_alike(alloc, plan, &closed.cache, &plain) && has_values(alloc, plan, &closed.cache)
         }

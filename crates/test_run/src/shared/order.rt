@@ -34,28 +34,38 @@ fn takes(alloc: Global, plan: Plan, cache: &mut Cache, made: Made) -> bool {
     }
 }
 
+/// Whether so many Adds are made to a plain cache in the order of their places: 0, 1, .. up to so many, each once, and rising for
+/// each seat, with none left.
+fn makes_all(alloc: Global, plan: Plan, cache: &mut Cache, all: &mut Adds, count: u64) -> bool {
+    for place in 0..count {
+        match next(all, place) {
+            Some(made) if takes(alloc, plan, cache, made) => {}
+            _ => return false,
+        }
+    }
+    for adds in all.iter() {
+        if !adds.is_empty() {
+            return false;
+        }
+    }
+    true
+}
+
 /// A plain cache to which the Adds were made in the order of their places. `None` where the places are not
 /// 0, 1, .. up to so many, each once, and rising for each seat.
 pub fn in_order(
     alloc: Global,
     config: Config,
     plan: Plan,
-    mut all: Adds,
+    all: &mut Adds,
     count: u64,
 ) -> Option<Cache> {
     let mut cache = Cache::new(alloc, config).ok()?;
-    for place in 0..count {
-        let made = next(&mut all, place)?;
-        if !takes(alloc, plan, &mut cache, made) {
-            return None;
-        }
+    if makes_all(alloc, plan, &mut cache, all, count) {
+        Some(cache)
+    } else {
+        None
     }
-    for adds in &all {
-        if !adds.is_empty() {
-            return None;
-        }
-    }
-    Some(cache)
 }
 
 /// The keys from `a` on, up to `e`, which is not among them.

@@ -1,8 +1,9 @@
 //! A cache with its two seats.
-ghost use Rattle.std.specs.Prelude.{◌≡◌, IfOk};
+ghost use Rattle.std.specs.Prelude.{◌≡◌, All, IfOk};
 ghost use Rattle.tsc_shared.specs.Answers.{Opens};
 
-use std::alloc::Global;
+use crate::shared::threads::close;
+use std::alloc::{AllocError, Global};
 use std::process::Abort;
 use std::sync::Wait;
 use std::test::Fail;
@@ -12,14 +13,15 @@ use tsc_span::{Ends, Key, Span};
 use tsc_time::{NoMemory, Timestamp, Value};
 use uuid::Uuid;
 
-/// What a seat does: the first seat is 0, and the second any other number.
+/// What a seat does.
 pub enum Step {
     /// Adds a key at a wall time, which is the moment too, for the one owner that there is.
-    Add(u32, &'static str, u64),
+    Add(&'static str, u64),
     /// Adds the empty span at 20.0.
-    AddNothing(u32),
-    Get(u32, &'static str),
-    Low(u32),
+    AddNothing,
+    Get(&'static str),
+    Low,
+    /// Meets the other seat.
     Meet,
 }
 
@@ -39,9 +41,12 @@ pub enum Told {
 /// How many Adds of its own a seat counts, and how many it has seen.
 type Counts = (u64, u64);
 
-/// The bytes of a page, and how many pages are kept at the least; the limit of the history, the steps with what is told and how the seat
-/// counts then, and how many Adds there are at closing.
-pub type Row = ((u32, u32), u64, &'static [(Step, Told, Counts)], u64);
+/// A seat, which is 0 for the first one, its step, what it is told, and how it counts then.
+pub type Turn = (u32, Step, Told, Counts);
+
+/// The bytes of a page, and how many pages are kept at the least; the limit of the history, the turns, and how many Adds there are at
+/// closing.
+pub type Row = ((u32, u32), u64, &'static [Turn], u64);
 
 #[derive(Drop)]
 pub struct Pair {
@@ -96,8 +101,9 @@ fn add_once<R: Wait>(
     requires { seat.old.cache ≡ cache.now }
     ensures { seat.new.cache ≡ seat.old.cache }
 {
-    let value = Value::of(at(wall)?, Uuid::from_bytes([1; 16]));
-    match cache.add(rt, seat, span, value, at(wall)?) {
+    let now = at(wall)?;
+    let value = Value::of(now, Uuid::from_bytes([1; 16]));
+    match cache.add(rt, seat, span, value, now) {
         Ok(receipt) => {
             let told = Told::Place(receipt.place, receipt.added.kept, receipt.front.len());
             Ok(Some(told))
@@ -177,8 +183,28 @@ fn low(cache: &SharedCache, seat: &mut Seat) -> Result<Told, Fail>
 /// The span of a step.
 fn span_of(alloc: Global, step: &Step) -> Result<Span, Fail> {
     match step {
-        Step::Add(_, key, _) | Step::Get(_, key) => point(alloc, key),
-        Step::AddNothing(_) | Step::Low(_) | Step::Meet => nothing(alloc),
+        Step::Add(key, _) | Step::Get(key) => point(alloc, key),
+        Step::AddNothing | Step::Low | Step::Meet => nothing(alloc),
+    }
+}
+
+/// One step of one seat, of this span.
+fn step_on<R: Wait>(
+    rt: &R,
+    cache: &SharedCache,
+    seat: &mut Seat,
+    span: &Span,
+    step: &Step,
+    tries_again: bool,
+) -> Result<Told, Fail>
+    requires { seat.old.cache ≡ cache.now }
+    ensures { seat.new.cache ≡ seat.old.cache }
+{
+    match step {
+        Step::Add(_, wall) => add(rt, cache, seat, span, *wall, tries_again),
+        Step::AddNothing => add(rt, cache, seat, span, 20, tries_again),
+        Step::Get(_) => get(cache, seat, span),
+        Step::Low | Step::Meet => low(cache, seat),
     }
 }
 
@@ -195,12 +221,23 @@ fn take_step<R: Wait>(
     ensures { seat.new.cache ≡ seat.old.cache }
 {
     let span = span_of(alloc, step)?;
-    match step {
-        Step::Add(_, _, wall) => add(rt, cache, seat, &span, *wall, tries_again),
-        Step::AddNothing(_) => add(rt, cache, seat, &span, 20, tries_again),
-        Step::Get(_, _) => get(cache, seat, &span),
-        Step::Low(_) | Step::Meet => low(cache, seat),
-    }
+    step_on(rt, cache, seat, &span, step, tries_again)
+}
+
+/// The same, and how the seat counts then.
+fn take_turn<R: Wait>(
+    rt: &R,
+    alloc: Global,
+    cache: &SharedCache,
+    seat: &mut Seat,
+    step: &Step,
+    tries_again: bool,
+) -> Result<(Told, Counts), Fail>
+    requires { seat.old.cache ≡ cache.now }
+    ensures { seat.new.cache ≡ seat.old.cache }
+{
+    let told = take_step(rt, alloc, cache, seat, step, tries_again)?;
+    Ok((told, counts(seat)))
 }
 
 /// A cache of two seats. Where it is refused memory it is opened once more.
@@ -216,6 +253,39 @@ fn open_again(alloc: Global, config: Config, limit: u64) -> Result<(SharedCache,
     }
 }
 
+/// A cache of two seats, opened once more where it may be.
+fn open(
+    alloc: Global,
+    config: Config,
+    limit: u64,
+    tries_again: bool,
+) -> Result<(SharedCache, Vec<Seat>), Fail>
+    ensures { IfOk result (λ opened. Opens config 2 limit opened.0 opened.1.items) }
+{
+    if tries_again {
+        open_again(alloc, config, limit)
+    } else {
+        Ok(SharedCache::open(alloc, config, 2, limit)?)
+    }
+}
+
+/// Two seats of a cache in a row.
+fn both(
+    alloc: Global,
+    cache: &SharedCache,
+    first: Seat,
+    second: Seat,
+) -> Result<Vec<Seat>, AllocError>
+    requires first { first.cache ≡ cache.now }
+    requires second { second.cache ≡ cache.now }
+    ensures { IfOk result (λ seats. All (λ seat. seat.cache ≡ cache.now) seats.items) }
+{
+    let mut seats = Vec::with_capacity(alloc, 2)?;
+    seats.push(first)?;
+    seats.push(second)?;
+    Ok(seats)
+}
+
 impl Pair {
     pub fn open(
         alloc: Global,
@@ -223,49 +293,61 @@ impl Pair {
         limit: u64,
         tries_again: bool,
     ) -> Result<Pair, Fail> {
-        let (cache, mut seats) = if tries_again {
-            open_again(alloc, config, limit)?
-        } else {
-            SharedCache::open(alloc, config, 2, limit)?
+        let (cache, mut seats) = open(alloc, config, limit, tries_again)?;
+        let Some(second) = seats.pop() else {
+            return Err("two seats".into());
         };
-        let second = seats.pop().ok_or("two seats")?;
-        let first = seats.pop().ok_or("one seat")?;
-        if (first.number(), second.number()) != (0, 1) {
-            return Err("seats in the order of their numbers".into());
-        }
-        Ok(Pair {
+        let Some(first) = seats.pop() else {
+            return Err("one seat".into());
+        };
+        let pair = Pair {
             cache,
             first,
             second,
             tries_again,
-        })
+        };
+        if (pair.first.number(), pair.second.number()) != (0, 1) {
+            return Err("seats in the order of their numbers".into());
+        }
+        Ok(pair)
     }
 
-    pub fn take<R: Wait>(
+    /// Both seats meet. They have seen the same then.
+    fn meet<R: Wait>(&mut self, rt: &R) -> Result<(Told, Counts), Fail> {
+        let met = self.cache.meet(rt, &mut self.first, &mut self.second)?;
+        if self.second.seen() != self.first.seen() {
+            return Err("both have seen the same".into());
+        }
+        Ok((Told::Met(met), counts(&self.first)))
+    }
+
+    /// One step of a seat, and how it counts then.
+    fn take<R: Wait>(
         &mut self,
         rt: &R,
         alloc: Global,
-        next: &Step,
+        number: u32,
+        step: &Step,
     ) -> Result<(Told, Counts), Fail> {
-        match next {
-            Step::Meet => {
-                let met = self.cache.meet(rt, &mut self.first, &mut self.second)?;
-                if self.second.seen() != self.first.seen() {
-                    return Err("both have seen the same".into());
-                }
-                Ok((Told::Met(met), counts(&self.first)))
-            }
-            Step::Add(0, _, _) | Step::AddNothing(0) | Step::Get(0, _) | Step::Low(0) => {
-                let (cache, seat) = (&self.cache, &mut self.first);
-                let told = take_step(rt, alloc, cache, seat, next, self.tries_again)?;
-                Ok((told, counts(&self.first)))
-            }
-            _ => {
-                let (cache, seat) = (&self.cache, &mut self.second);
-                let told = take_step(rt, alloc, cache, seat, next, self.tries_again)?;
-                Ok((told, counts(&self.second)))
+        if let Step::Meet = step {
+            return self.meet(rt);
+        }
+        let (cache, tries_again) = (&self.cache, self.tries_again);
+        if number == 0 {
+            take_turn(rt, alloc, cache, &mut self.first, step, tries_again)
+        } else {
+            take_turn(rt, alloc, cache, &mut self.second, step, tries_again)
+        }
+    }
+
+    /// Whether the seats are told in each turn what it says.
+    pub fn plays<R: Wait>(&mut self, rt: &R, alloc: Global, turns: &[Turn]) -> Result<bool, Fail> {
+        for (number, step, told, after) in turns {
+            if self.take(rt, alloc, *number, step)? != (*told, *after) {
+                return Ok(false);
             }
         }
+        Ok(true)
     }
 
     /// Closes the cache, and tells how many Adds there were. The first seat alone cannot close it.
@@ -276,16 +358,7 @@ impl Pair {
             second,
             tries_again: _,
         } = self;
-        let mut seats = Vec::with_capacity(alloc, 2)?;
-        seats.push(first)?;
-        let Err(out) = cache.close(rt, seats) else {
-            return Err("closed without the second seat".into());
-        };
-        let mut seats = out.seats;
-        seats.push(second)?;
-        match out.cache.close(rt, seats) {
-            Ok(closed) => Ok(closed.adds),
-            Err(_) => Err("still out".into()),
-        }
+        let seats = both(alloc, &cache, first, second)?;
+        Ok(close(rt, cache, seats)?.adds)
     }
 }

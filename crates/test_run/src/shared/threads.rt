@@ -58,6 +58,51 @@ impl Plan {
     }
 }
 
+/// Adds, and tells the place. `None` where that fails.
+fn add<R: Wait>(
+    rt: &R,
+    cache: &SharedCache,
+    seat: &mut Seat,
+    span: &Span,
+    value: Value,
+) -> Option<u64>
+    requires { seat.old.cache ≡ cache.now }
+    ensures { seat.new.cache ≡ seat.old.cache }
+{
+    match cache.add(rt, seat, span, value, value.time()) {
+        Ok(receipt) => Some(receipt.place),
+        Err(_) => None,
+    }
+}
+
+/// Whether a lookup comes after an Add of this value at this place.
+fn sees(cache: &SharedCache, seat: &mut Seat, span: &Span, value: Value, place: u64) -> bool
+    requires { seat.old.cache ≡ cache.now }
+    ensures { seat.new.cache ≡ seat.old.cache }
+{
+    match cache.get_max(seat, span) {
+        Ok(answer) => place < answer.front && value.time() <= answer.value.time(),
+        Err(_) => false,
+    }
+}
+
+/// Adds, and tells the place where a lookup comes after that.
+fn add_and_look<R: Wait>(
+    rt: &R,
+    cache: &SharedCache,
+    seat: &mut Seat,
+    span: &Span,
+    value: Value,
+) -> Option<u64>
+    requires { seat.old.cache ≡ cache.now }
+    ensures { seat.new.cache ≡ seat.old.cache }
+{
+    match add(rt, cache, seat, span, value) {
+        Some(place) if sees(cache, seat, span, value, place) => Some(place),
+        _ => None,
+    }
+}
+
 /// One turn of a seat. The lookup in it has to come after the Add.
 fn take_turn<R: Wait>(
     rt: &R,
@@ -71,16 +116,16 @@ fn take_turn<R: Wait>(
     ensures { seat.new.cache ≡ seat.old.cache }
 {
     let number = seat.number();
-    let span = plan.span(alloc, number, turn)?;
     let value = plan.value(number, turn)?;
-    let place = cache.add(rt, seat, &span, value, value.time()).ok()?.place;
-    let answer = cache.get_max(seat, &span).ok()?;
-    let is_after = place < answer.front && value.time() <= answer.value.time();
-    is_after.then_some(Made {
-        place,
-        number,
-        turn,
-    })
+    let span = plan.span(alloc, number, turn)?;
+    match add_and_look(rt, cache, seat, &span, value) {
+        Some(place) => Some(Made {
+            place,
+            number,
+            turn,
+        }),
+        None => None,
+    }
 }
 
 /// All turns of a seat. `None` where one of them fails.
@@ -144,21 +189,44 @@ fn apart(
     Ok((seats, all))
 }
 
-/// Closes the cache. Without its last seat it stays open.
-fn close<R: Wait>(rt: &R, cache: SharedCache, mut seats: Vec<Seat>) -> Result<Closed, Fail>
+/// A cache that cannot be closed yet, since a seat is missing. These are handed back.
+fn still_out<R: Wait>(rt: &R, cache: SharedCache, seats: Vec<Seat>) -> Result<StillOut, Fail>
     requires { All (λ seat. seat.cache ≡ cache) seats.items }
+    ensures cache { IfOk result (λ out. out.cache ≡ cache) }
+    ensures seats { IfOk result (λ out. All (λ seat. seat.cache ≡ cache) out.seats.items) }
 {
-    let last = seats.pop().ok_or("a seat")?;
-    let others = seats.len();
+    let count = seats.len();
     let Err(out) = cache.close(rt, seats) else {
         return Err("closed without a seat".into());
     };
-    let StillOut { cache, mut seats } = out;
-    if seats.len() != others {
+    if out.seats.len() != count {
         return Err("the seats are handed back".into());
     }
+    Ok(out)
+}
+
+/// Closes the cache, now with its last seat too.
+fn close_with<R: Wait>(rt: &R, out: StillOut, last: Seat) -> Result<Closed, Fail>
+    requires seats { All (λ seat. seat.cache ≡ out.cache) out.seats.items }
+    requires last { last.cache ≡ out.cache }
+{
+    let StillOut { cache, mut seats } = out;
     seats.push(last)?;
-    Ok(cache.close(rt, seats).ok().ok_or("still out")?)
+    match cache.close(rt, seats) {
+        Ok(closed) => Ok(closed),
+        Err(_) => Err("still out".into()),
+    }
+}
+
+/// Closes the cache. Without its last seat it stays open.
+pub fn close<R: Wait>(rt: &R, cache: SharedCache, mut seats: Vec<Seat>) -> Result<Closed, Fail>
+    requires { All (λ seat. seat.cache ≡ cache) seats.items }
+{
+    let Some(last) = seats.pop() else {
+        return Err("a seat".into());
+    };
+    let out = still_out(rt, cache, seats)?;
+    close_with(rt, out, last)
 }
 
 /// Opens a cache, has each of its seats work on a thread of its own, and closes it.
