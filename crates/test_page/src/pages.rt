@@ -1,5 +1,5 @@
 //! Rows of tables, the values and spans that they name, and two pages to which the same is added.
-use std::alloc::{AllocError, Global};
+use std::alloc::Global;
 use std::process::Abort;
 use std::test::Fail;
 use tsc_page::{IntervalPage, LEAST_SIZE, MOST_SIZE, Page, PlainPage};
@@ -32,9 +32,14 @@ fn first_wrong<W, T: Row<W>>(with: &mut W, rows: &[T]) -> Result<Option<usize>, 
     Ok(None)
 }
 
+/// Ends the run where one of some rows doesn't hold.
+pub(crate) fn end<R: Abort>(rt: &R, wrong: Option<usize>) {
+    assert_eq!(rt; wrong, None, "the number of the row");
+}
+
 /// Plays rows, each of which has to hold.
 pub(crate) fn play<R: Abort, W, T: Row<W>>(rt: &R, with: &mut W, rows: &[T]) -> Result<(), Fail> {
-    assert_eq!(rt; first_wrong(with, rows)?, None, "the number of the row");
+    end(rt, first_wrong(with, rows)?);
     Ok(())
 }
 
@@ -191,26 +196,29 @@ pub(crate) fn add_to_plain(
     }
 }
 
-/// What a page shows: its top with how many nodes it has, its size with what they cost, the sizes of all its leaves, and what it
-/// answers to each of some spans with whether it has room for that.
-pub(crate) fn shown(
-    alloc: Global,
-    page: &Page,
-    looks: &[Span],
-) -> Result<Vec<(Value, u32)>, AllocError> {
-    let mut shown = Vec::with_capacity(alloc, looks.len().saturating_add(8))?;
-    shown.extend_from_slice(&[
-        (Value::unowned(page.top()), page.nodes()),
-        (value(u64::from(page.size()), 0, NOBODY), page.bytes()),
-    ])?;
+/// Adds the sizes of all leaves of a page, and what it answers to each of some spans with whether it has room for that.
+fn push_shown(shown: &mut Vec<(Value, u32)>, page: &Page, looks: &[Span]) -> bool {
+    let mut all = true;
     for place in 0..page.nodes() / 32 + 1 {
         let size = page.leaf_nodes(place).unwrap_or(0);
-        shown.push((Value::unowned(Timestamp::ZERO), size))?;
+        all &= shown.push((Value::unowned(Timestamp::ZERO), size)).is_ok();
     }
     for look in looks {
-        shown.push((page.lookup(look), u32::from(page.room(look))))?;
+        all &= shown
+            .push((page.lookup(look), u32::from(page.room(look))))
+            .is_ok();
     }
-    Ok(shown)
+    all
+}
+
+/// What a page shows: its top with how many nodes it has, its size with what they cost, the sizes of all its leaves, and what it
+/// answers to each of some spans with whether it has room for that. `None` where memory is refused.
+pub(crate) fn shown(alloc: Global, page: &Page, looks: &[Span]) -> Option<Vec<(Value, u32)>> {
+    let mut shown = Vec::with_capacity(alloc, looks.len().saturating_add(8)).ok()?;
+    let top = (Value::unowned(page.top()), page.nodes());
+    let size = (value(u64::from(page.size()), 0, NOBODY), page.bytes());
+    let all = shown.push(top).is_ok() && shown.push(size).is_ok();
+    (all && push_shown(&mut shown, page, looks)).then_some(shown)
 }
 
 /// Whether a page has leaves of these sizes, and no others, as far as the first eight tell.

@@ -1,13 +1,13 @@
 //! Steps with pages, and what these show then: what the tests of pages are told in.
 use crate::pages::{
-    FIRST, LATER, Over, Pages, Row, add_to, add_to_plain, at, has_leaves, play, shown, span, value,
+    FIRST, LATER, Over, Pages, add_to, add_to_plain, at, end, has_leaves, shown, span, value,
 };
-use std::alloc::{AllocError, Global};
+use std::alloc::Global;
 use std::mem;
 use std::process::Abort;
 use std::test::Fail;
 use tsc_page::{IntervalPage, LEAST_SIZE, Page, PlainPage};
-use tsc_span::{Cut, Key, Span};
+use tsc_span::{Cut, Key, Span, SpanFault};
 use tsc_time::{NoMemory, Timestamp, Value, ratchet};
 
 /// In which order keys come to a page.
@@ -165,76 +165,6 @@ fn are_alike(filled: &[PlainPage], pages: &Pages, looks: &[Span]) -> bool {
     alike
 }
 
-/// Adds spans to those that are looked up.
-fn push_all(alloc: Global, looks: &mut Vec<Span>, more: &[Over]) -> Result<(), Fail> {
-    for over in more {
-        looks.push(span(alloc, *over)?)?;
-    }
-    Ok(())
-}
-
-/// Adds ranges of several lengths from a number on: the first is the key itself, the second the gap after it, and the last goes on behind
-/// all keys.
-fn push_ranges(alloc: Global, looks: &mut Vec<Span>, at: u32) -> Result<(), Fail> {
-    let (next, far) = (at.saturating_add(1), at.saturating_add(50_000));
-    let (near, wide) = (at.saturating_add(40), at.saturating_add(150));
-    push_all(
-        alloc,
-        looks,
-        &[
-            Over::Through(at, at),
-            Over::Gap(at, next),
-            Over::Through(at, near),
-            Over::Through(at, wide),
-            Over::Gap(at, far),
-        ],
-    )
-}
-
-/// Adds those from numbers between two others on.
-fn push_between(
-    alloc: Global,
-    looks: &mut Vec<Span>,
-    (first, end): (u32, u32),
-    stride: usize,
-) -> Result<(), Fail> {
-    for at in (first..end).step_by(stride.max(1)) {
-        push_ranges(alloc, looks, at)?;
-    }
-    Ok(())
-}
-
-/// Adds the spans between two of the keys, and from one on.
-fn push_spans(alloc: Global, looks: &mut Vec<Span>, numbers: &[u32]) -> Result<(), Fail> {
-    for from in numbers {
-        let from = *from;
-        push_all(alloc, looks, &[Over::From(from), Over::Behind(from)])?;
-        for to in numbers {
-            let to = *to;
-            push_all(
-                alloc,
-                looks,
-                &[
-                    Over::Through(from, to),
-                    Over::UpTo(from, to),
-                    Over::After(from, to),
-                    Over::Gap(from, to),
-                ],
-            )?;
-        }
-    }
-    Ok(())
-}
-
-/// Adds each second key below a number, and the gap after it.
-fn push_seconds(alloc: Global, looks: &mut Vec<Span>, end: u32) -> Result<(), Fail> {
-    for at in (0..end).step_by(2) {
-        let next = at.saturating_add(2);
-        push_all(alloc, looks, &[Over::At(at), Over::Gap(at, next)])?;
-    }
-    Ok(())
-}
-
 /// Whether this is the key of the first of the numbers 4, 8, 12, .., so many of them, that is at least a number, or none where none is.
 fn is_first_from(key: Option<&Key>, count: u32, least: u32) -> bool {
     let first = least.max(1).div_ceil(4).saturating_mul(4);
@@ -279,14 +209,6 @@ fn has_many(page: &Page, nodes: u32, leaves: u32) -> bool {
     has && page.nodes() == nodes
 }
 
-/// Whether there is a page.
-fn is_some(made: Result<Option<Page>, NoMemory>) -> Result<bool, NoMemory> {
-    match made {
-        Ok(made) => Ok(made.is_some()),
-        Err(NoMemory) => Err(NoMemory),
-    }
-}
-
 /// Pages to which the same was added.
 #[derive(Drop)]
 struct Player {
@@ -294,9 +216,8 @@ struct Player {
     pages: Pages,
     /// Whether the plain page is left out.
     alone: bool,
-    /// Others that are kept beside them, where they are.
-    others: Pages,
-    beside: bool,
+    /// Others that are kept beside them.
+    others: Option<Pages>,
     /// Plain pages that have together what all were filled with; what was added to them since is on their own plain pages.
     filled: Vec<PlainPage>,
     /// What is looked up, and whether ranges at the ends of each step are added to it.
@@ -306,6 +227,8 @@ struct Player {
     /// What the page showed before a step, and the one beside it.
     before: Vec<(Value, u32)>,
     others_before: Vec<(Value, u32)>,
+    /// Whether memory was refused to a call that is not made again: what was told since says nothing.
+    refused: bool,
 }
 
 impl Player {
@@ -315,57 +238,170 @@ impl Player {
             alloc,
             pages,
             alone: false,
-            others: Pages::new(alloc, LEAST_SIZE, 0)?,
-            beside: false,
+            others: None,
             filled: Vec::new(alloc),
             looks: Vec::new(alloc),
             ranges: false,
             strict: false,
             before: Vec::new(alloc),
             others_before: Vec::new(alloc),
+            refused: false,
         })
     }
 
-    /// Goes on with empty pages, whose call is made again where it is refused memory.
-    fn restart(&mut self, size: u32, base: u64) -> Result<bool, NoMemory> {
-        self.let_others_go()?;
-        self.filled.clear();
-        self.alone = false;
-        let Some(pages) = Pages::new_again(self.alloc, size, base) else {
-            return Ok(false);
-        };
-        self.pages = pages;
-        Ok(true)
+    /// Memory was refused.
+    fn refuse(&mut self) -> bool {
+        self.refused = true;
+        false
     }
 
-    fn let_others_go(&mut self) -> Result<bool, NoMemory> {
-        self.beside = false;
-        self.others = Pages::new(self.alloc, LEAST_SIZE, 0)?;
-        Ok(true)
+    /// A span was refused, which is wrong but for want of memory.
+    fn refuse_span(&mut self, fault: SpanFault) -> bool {
+        self.refused |= fault == SpanFault::NoMemory;
+        false
+    }
+
+    /// What a call told, if it was not refused memory.
+    fn is_told(&mut self, told: Result<bool, NoMemory>) -> bool {
+        match told {
+            Ok(told) => told,
+            Err(NoMemory) => self.refuse(),
+        }
+    }
+
+    /// Adds a span to those that are looked up.
+    fn push(&mut self, over: Over) -> bool {
+        match span(self.alloc, over) {
+            Ok(span) => self.looks.push(span).is_ok() || self.refuse(),
+            Err(fault) => self.refuse_span(fault),
+        }
+    }
+
+    fn push_all(&mut self, more: &[Over]) -> bool {
+        let mut all = true;
+        for over in more {
+            all &= self.push(*over);
+        }
+        all
+    }
+
+    /// Adds ranges of several lengths from a number on: the first is the key itself, the second the gap after it, and the last goes on behind
+    /// all keys.
+    fn push_ranges(&mut self, at: u32) -> bool {
+        let (next, far) = (at.saturating_add(1), at.saturating_add(50_000));
+        let (near, wide) = (at.saturating_add(40), at.saturating_add(150));
+        self.push_all(&[
+            Over::Through(at, at),
+            Over::Gap(at, next),
+            Over::Through(at, near),
+            Over::Through(at, wide),
+            Over::Gap(at, far),
+        ])
+    }
+
+    /// Adds those from numbers between two others on.
+    fn push_between(&mut self, first: u32, end: u32, stride: usize) -> bool {
+        let mut all = true;
+        for at in (first..end).step_by(stride.max(1)) {
+            all &= self.push_ranges(at);
+        }
+        all
+    }
+
+    /// Adds the spans from a key on, and those up to each of some keys.
+    fn push_from(&mut self, from: u32, numbers: &[u32]) -> bool {
+        let mut all = self.push_all(&[Over::From(from), Over::Behind(from)]);
+        for to in numbers {
+            let to = *to;
+            all &= self.push_all(&[
+                Over::Through(from, to),
+                Over::UpTo(from, to),
+                Over::After(from, to),
+                Over::Gap(from, to),
+            ]);
+        }
+        all
+    }
+
+    /// Adds the spans between two of the keys, and from one on.
+    fn push_spans(&mut self, numbers: &[u32]) -> bool {
+        let mut all = true;
+        for from in numbers {
+            all &= self.push_from(*from, numbers);
+        }
+        all
+    }
+
+    /// Adds each second key below a number, and the gap after it.
+    fn push_seconds(&mut self, end: u32) -> bool {
+        let mut all = true;
+        for at in (0..end).step_by(2) {
+            all &= self.push_all(&[Over::At(at), Over::Gap(at, at.saturating_add(2))]);
+        }
+        all
+    }
+
+    /// Goes on with empty pages, whose call is made again where it is refused memory.
+    fn restart(&mut self, size: u32, base: u64) -> bool {
+        self.let_others_go();
+        self.filled.clear();
+        self.alone = false;
+        match Pages::new_again(self.alloc, size, base) {
+            Some(pages) => {
+                self.pages = pages;
+                true
+            }
+            None => false,
+        }
+    }
+
+    fn let_others_go(&mut self) -> bool {
+        self.others = None;
+        true
+    }
+
+    /// Goes on with the pages that are kept beside these, where they are.
+    fn swap(&mut self) -> bool {
+        match &mut self.others {
+            Some(others) => {
+                mem::swap(&mut self.pages, others);
+                true
+            }
+            None => false,
+        }
     }
 
     /// Goes on with a new plain page beside the page.
-    fn keep_plain(&mut self) -> Result<(), NoMemory> {
-        let next = PlainPage::new(self.alloc, self.pages.page.size(), Timestamp::ZERO)?;
-        self.filled.push(mem::replace(&mut self.pages.plain, next))?;
-        Ok(())
+    fn keep_plain(&mut self) -> bool {
+        match PlainPage::new(self.alloc, self.pages.page.size(), Timestamp::ZERO) {
+            Ok(next) => {
+                let plain = mem::replace(&mut self.pages.plain, next);
+                self.filled.push(plain).is_ok() || self.refuse()
+            }
+            Err(NoMemory) => self.refuse(),
+        }
     }
 
-    /// Adds what is added at a place, or adds it as [`Step::Add`] does. A range may be empty, and is then left out.
-    fn fill_at(&mut self, over: Over, value: Value, again: bool) -> Result<bool, Fail> {
-        let span = span(self.alloc, over)?;
-        let added = if again {
-            self.note()?;
-            self.add(&span, value)?
-        } else {
-            self.pages.add(&span, value, self.alone)?
-        };
-        Ok(added || span.is_empty())
+    /// Adds what is added at a place, or adds it as [`Step::Add`] does.
+    fn fill_at(&mut self, over: Over, value: Value, again: bool) -> bool {
+        match span(self.alloc, over) {
+            Ok(span) => self.fill_over(&span, value, again),
+            Err(fault) => self.refuse_span(fault),
+        }
+    }
+
+    /// The same of its span. A range may be empty, and is then left out.
+    fn fill_over(&mut self, span: &Span, value: Value, again: bool) -> bool {
+        if again {
+            return self.note() && self.add(span, value) || span.is_empty();
+        }
+        let added = self.pages.add(span, value, self.alone);
+        self.is_told(added) || span.is_empty()
     }
 
     /// Adds what all steps add. A plain page compares each end key with all others to see whether there is room, so it gets only so many,
     /// and the next one goes on. One that gets all is looked at by itself too.
-    fn fill(&mut self, order: Order, count: u32, with: With, again: bool) -> Result<bool, Fail> {
+    fn fill(&mut self, order: Order, count: u32, with: With, again: bool) -> bool {
         let each = match with {
             With::Ranges(_) => 129,
             With::Fourths => 32,
@@ -374,17 +410,17 @@ impl Player {
         let mut all = true;
         for step in 0..count {
             let at = number(order, step, count);
-            all &= self.fill_at(over_at(with, at, count), value_at(with, at, step), again)?;
+            all &= self.fill_at(over_at(with, at, count), value_at(with, at, step), again);
             let done = step.saturating_add(1);
             if each < count && (done == count || done % each.max(1) == 0) {
-                self.keep_plain()?;
+                all &= self.keep_plain();
             }
         }
-        Ok(all)
+        all
     }
 
     /// Looks up ranges all over pages that are filled so.
-    fn look_over(&mut self, count: u32, with: With) -> Result<(), Fail> {
+    fn look_over(&mut self, count: u32, with: With) -> bool {
         self.looks.clear();
         let count = count.min(100_000);
         let ((first, numbers), stride) = match with {
@@ -394,61 +430,80 @@ impl Player {
             With::Own(_, _) | With::Late(_, _) => ((0, 0), 1),
         };
         self.ranges = numbers > 0;
-        push_between(
-            self.alloc,
-            &mut self.looks,
-            (first, first.saturating_add(numbers)),
-            stride,
-        )
+        self.push_between(first, first.saturating_add(numbers), stride)
     }
 
     /// Goes on with pages that are filled. A range's two keys cost at most 60 each, and a single key 36.
-    fn refill(&mut self, order: Order, count: u32, with: With, more: u32) -> Result<bool, Fail> {
+    fn refill(&mut self, order: Order, count: u32, with: With, more: u32) -> bool {
         let cost = if matches!(with, With::Ranges(_)) {
             60
         } else {
             36
         };
         let size = count.saturating_add(more).saturating_mul(cost);
-        self.look_over(count, with)?;
-        let made = self.restart(size, 0)?;
+        let made = self.look_over(count, with) && self.restart(size, 0);
         self.alone = matches!(with, With::Own(_, false));
-        Ok(made && self.fill(order, count, with, false)?)
+        made && self.fill(order, count, with, false)
     }
 
     /// Goes on to look up other spans: those between two of some keys, or each second key below a number and the gap after it.
-    fn look_up(&mut self, numbers: &[u32], end: u32) -> Result<bool, Fail> {
+    fn look_up(&mut self, numbers: &[u32], end: u32) -> bool {
         self.looks.clear();
         self.ranges = false;
-        push_spans(self.alloc, &mut self.looks, numbers)?;
-        push_seconds(self.alloc, &mut self.looks, end)?;
-        Ok(true)
+        self.push_spans(numbers) && self.push_seconds(end)
     }
 
     /// Looks up ranges from the numbers beside those of two keys on, and from these.
-    fn look_at(&mut self, over: Over) -> Result<(), Fail> {
+    fn look_at(&mut self, over: Over) -> bool {
+        let mut all = true;
         for end in ends_of(over) {
-            let ends = (end.saturating_sub(1), end.saturating_add(2));
-            push_between(self.alloc, &mut self.looks, ends, 1)?;
+            all &= self.push_between(end.saturating_sub(1), end.saturating_add(2), 1);
         }
-        Ok(())
+        all
     }
 
     /// Notes what the pages show before a step.
-    fn note(&mut self) -> Result<(), AllocError> {
-        self.before = shown(self.alloc, &self.pages.page, &self.looks)?;
-        self.others_before = shown(self.alloc, &self.others.page, &self.looks)?;
-        Ok(())
+    fn note(&mut self) -> bool {
+        match shown(self.alloc, &self.pages.page, &self.looks) {
+            Some(shown) => {
+                self.before = shown;
+                self.note_others()
+            }
+            None => self.refuse(),
+        }
+    }
+
+    /// Notes what the page beside it shows.
+    fn note_others(&mut self) -> bool {
+        let Some(others) = &self.others else {
+            return true;
+        };
+        match shown(self.alloc, &others.page, &self.looks) {
+            Some(shown) => {
+                self.others_before = shown;
+                true
+            }
+            None => self.refuse(),
+        }
     }
 
     /// Whether the page shows what it did before the step.
-    fn is_as_before(&self) -> Result<bool, AllocError> {
-        Ok(shown(self.alloc, &self.pages.page, &self.looks)? == self.before)
+    fn is_as_before(&mut self) -> bool {
+        match shown(self.alloc, &self.pages.page, &self.looks) {
+            Some(shown) => shown == self.before,
+            None => self.refuse(),
+        }
     }
 
     /// Whether the page beside it shows what was noted of it.
-    fn others_are_as_before(&self) -> Result<bool, AllocError> {
-        Ok(shown(self.alloc, &self.others.page, &self.looks)? == self.others_before)
+    fn others_are_as_before(&mut self) -> bool {
+        let Some(others) = &self.others else {
+            return true;
+        };
+        match shown(self.alloc, &others.page, &self.looks) {
+            Some(shown) => shown == self.others_before,
+            None => self.refuse(),
+        }
     }
 
     /// Adds a value to a span of the plain page, to which the same is not added yet: an Add that is refused memory leaves it as it was, and
@@ -464,86 +519,115 @@ impl Player {
     }
 
     /// Adds a value to a span of the page. An Add that is refused memory leaves it as it was, and the same Add then succeeds.
-    fn add_page(&mut self, span: &Span, value: Value) -> Result<bool, AllocError> {
+    fn add_page(&mut self, span: &Span, value: Value) -> bool {
         match add_to(&mut self.pages.page, span, value) {
-            Err(NoMemory) => Ok(
-                self.is_as_before()? && add_to(&mut self.pages.page, span, value) == Ok(true),
-            ),
-            Ok(added) => Ok(added),
+            Err(NoMemory) => {
+                self.is_as_before() && add_to(&mut self.pages.page, span, value) == Ok(true)
+            }
+            Ok(added) => added,
         }
     }
 
     /// Adds a value to a span of both pages, in this way. The others stay as they are.
-    fn add(&mut self, span: &Span, value: Value) -> Result<bool, NoMemory> {
-        Ok(
-            (self.alone || self.add_plain(span, value))
-                && self.add_page(span, value)?
-                && self.others_are_as_before()?,
-        )
+    fn add(&mut self, span: &Span, value: Value) -> bool {
+        (self.alone || self.add_plain(span, value))
+            && self.add_page(span, value)
+            && self.others_are_as_before()
+    }
+
+    /// Adds a value to a span of the others, and notes what they show then.
+    fn add_to_others(&mut self, span: &Span, value: Value) -> bool {
+        let Some(others) = &mut self.others else {
+            return false;
+        };
+        let added = others.add(span, value, self.alone);
+        self.is_told(added) && self.note_others()
     }
 
     /// The page with one more value beside this one, in the same way.
-    fn made(&self, span: &Span, value: Value) -> Result<Option<Page>, AllocError> {
+    fn made(&mut self, span: &Span, value: Value) -> Option<Page> {
         if span.is_empty() {
-            return Ok(None);
+            return None;
         }
         match self.pages.page.added(span, value) {
-            Err(NoMemory) if self.is_as_before()? => Ok(
-                self.pages.page.added(span, value).unwrap_or(None),
-            ),
-            made => Ok(made.unwrap_or(None)),
+            Ok(made) => made,
+            Err(NoMemory) if self.is_as_before() => {
+                self.pages.page.added(span, value).unwrap_or(None)
+            }
+            Err(NoMemory) => None,
+        }
+    }
+
+    /// Puts a page that was made so in the place of the other one.
+    fn make(&mut self, span: &Span, value: Value) -> bool {
+        match (self.made(span, value), &mut self.others) {
+            (Some(made), Some(others)) => {
+                others.page = made;
+                true
+            }
+            _ => false,
         }
     }
 
     /// Goes on with a page that was made beside this one, which stays as it is. It shows what an Add leaves in a copy.
-    fn add_beside(&mut self, span: &Span, value: Value) -> Result<bool, NoMemory> {
-        let added = self.copy(true)? && self.others.add(span, value, self.alone)?;
-        self.others_before = shown(self.alloc, &self.others.page, &self.looks)?;
-        let Some(made) = self.made(span, value)? else {
-            return Ok(false);
-        };
-        self.others.page = made;
-        let alike = self.others_are_as_before()? && self.is_as_before()?;
-        mem::swap(&mut self.pages, &mut self.others);
-        Ok(added && alike)
+    fn add_beside(&mut self, span: &Span, value: Value) -> bool {
+        self.copy(true)
+            && self.add_to_others(span, value)
+            && self.make(span, value)
+            && self.others_are_as_before()
+            && self.is_as_before()
+            && self.swap()
     }
 
     /// Makes copies, which show the same and are kept or let go. The call is made again where it is refused memory.
-    fn copy(&mut self, keep: bool) -> Result<bool, NoMemory> {
-        let Some(copies) = self.pages.copy_again() else {
-            return Ok(false);
-        };
-        self.others = copies;
-        self.beside = true;
-        self.others_before = shown(self.alloc, &self.others.page, &self.looks)?;
-        let alike = self.others_before == self.before && self.is_as_before()?;
-        Ok(alike && (keep || self.is_right() && self.let_others_go()?))
+    fn copy(&mut self, keep: bool) -> bool {
+        self.others = self.pages.copy_again();
+        self.others.is_some()
+            && self.note_others()
+            && self.others_before == self.before
+            && self.is_as_before()
+            && (keep || self.is_right() && self.let_others_go())
     }
 
     /// Adds a value to a span in place, once more where that is refused memory, if it may ask for some.
-    fn add_in_place(&mut self, span: &Span, value: Value, again: bool) -> Result<bool, Fail> {
-        if span.is_empty() || (!self.alone && !self.pages.plain.try_add(span, value)?) {
-            return Ok(false);
+    fn add_in_place(&mut self, span: &Span, value: Value, again: bool) -> bool {
+        if span.is_empty() {
+            return false;
+        }
+        if !self.alone {
+            let added = self.pages.plain.try_add(span, value);
+            if !self.is_told(added) {
+                return false;
+            }
         }
         let added = match self.pages.page.try_add(span, value) {
-            Ok(added) => added,
-            Err(NoMemory) if again => self.pages.page.try_add(span, value)?,
-            Err(NoMemory) => return Err(Fail::new("an Add of known keys asked for memory")),
+            Err(NoMemory) if again => {
+                let added = self.pages.page.try_add(span, value);
+                self.is_told(added)
+            }
+            added => added == Ok(true),
         };
-        Ok(added && self.pages.page.lookup(span) == value)
+        added && self.pages.page.lookup(span) == value
+    }
+
+    /// Whether the page has room for a key, and tells a time of it.
+    fn tells(&mut self, at: u32, wall: u64) -> bool {
+        let page = &self.pages.page;
+        match span(self.alloc, Over::At(at)) {
+            Ok(look) => page.room(&look) && page.lookup(&look) == value(wall, 0, FIRST),
+            Err(fault) => self.refuse_span(fault),
+        }
     }
 
     /// Whether the page has room for each of its keys that is looked up, and tells its own time of it, or a later one in a range.
-    fn tells_own(&self, stride: usize, (from, to): (u32, u32), wall: u64) -> Result<bool, Fail> {
-        let page = &self.pages.page;
+    fn tells_own(&mut self, stride: usize, (from, to): (u32, u32), wall: u64) -> bool {
         let mut alike = true;
-        for at in (0..page.nodes()).step_by(stride.max(1)) {
+        for at in (0..self.pages.page.nodes()).step_by(stride.max(1)) {
             let is_within = from <= at && at < to;
             let told = if is_within { wall } else { u64::from(at) + 1 };
-            let look = span(self.alloc, Over::At(at))?;
-            alike &= page.room(&look) && page.lookup(&look) == value(told, 0, FIRST);
+            alike &= self.tells(at, told);
         }
-        Ok(alike)
+        alike
     }
 
     fn answers(&self, span: &Span, value: Value) -> bool {
@@ -551,29 +635,53 @@ impl Player {
         told && self.pages.page.lookup(span) == value
     }
 
-    /// Whether there is room for a span, or there is not, as both pages tell and as Adds find: one to a copy, or one that changes nothing.
-    fn tells_room(&mut self, span: &Span, room: bool) -> Result<bool, NoMemory> {
-        let told = self.pages.page.room(span) == room;
-        if span.is_empty() || (room && self.beside) {
-            return Ok(told && span.is_empty());
+    /// Whether a page with one more value can be made, or can't.
+    fn makes(&mut self, span: &Span, value: Value, room: bool) -> bool {
+        if span.is_empty() {
+            return false;
         }
-        let plain = !self.strict || self.pages.plain.room(span) == room;
-        let late = value(9999, 0, FIRST);
-        let made = is_some(self.pages.page.added(span, late))? == room;
-        let found = if room {
-            self.copy(true)? && self.others.find_room(span, late, true, self.strict)?
-        } else {
-            self.pages.find_room(span, late, false, self.strict)?
-        };
-        Ok(told && plain && made && found && self.is_as_before()? && self.let_copy_go(room)?)
+        match self.pages.page.added(span, value) {
+            Ok(made) => made.is_some() == room,
+            Err(NoMemory) => self.refuse(),
+        }
     }
 
-    fn let_copy_go(&mut self, copied: bool) -> Result<bool, NoMemory> {
-        if copied {
-            self.let_others_go()
-        } else {
-            Ok(true)
+    /// Whether an Add finds room in a copy, which is let go then.
+    fn finds_room(&mut self, span: &Span, value: Value) -> bool {
+        if !self.copy(true) {
+            return false;
         }
+        let Some(others) = &mut self.others else {
+            return false;
+        };
+        let found = others.find_room(span, value, true, self.strict);
+        self.is_told(found) && self.let_others_go()
+    }
+
+    /// Whether an Add finds none, and changes nothing.
+    fn finds_none(&mut self, span: &Span, value: Value) -> bool {
+        let found = self.pages.find_room(span, value, false, self.strict);
+        self.is_told(found)
+    }
+
+    /// Whether there is room for a span, or there is not, as both pages tell and as Adds find: one to a copy, or one that changes nothing.
+    fn tells_room(&mut self, span: &Span, room: bool) -> bool {
+        let told = self.pages.page.room(span) == room;
+        if span.is_empty() || (room && self.others.is_some()) {
+            return told && span.is_empty();
+        }
+        let late = value(9999, 0, FIRST);
+        let plain = !self.strict || self.pages.plain.room(span) == room;
+        told && plain && self.makes(span, late, room) && self.finds(span, late, room)
+    }
+
+    fn finds(&mut self, span: &Span, value: Value, room: bool) -> bool {
+        let found = if room {
+            self.finds_room(span, value)
+        } else {
+            self.finds_none(span, value)
+        };
+        found && self.is_as_before()
     }
 
     /// Whether pages answer as the plain ones do, and show the same where that is asked.
@@ -583,25 +691,26 @@ impl Player {
 
     /// Whether all pages do.
     fn is_right(&self) -> bool {
-        self.alone || self.are_right(&self.pages) && (!self.beside || self.are_right(&self.others))
+        let others = match &self.others {
+            Some(others) => self.alone || self.are_right(others),
+            None => true,
+        };
+        others && (self.alone || self.are_right(&self.pages))
     }
 
     /// Takes a step that adds to a span, or tells of it, or has no span.
-    fn take_on(&mut self, span: &Span, step: Step) -> Result<bool, NoMemory> {
-        self.note()?;
+    fn take_on(&mut self, span: &Span, step: Step) -> bool {
         match step {
             Step::Add(_, wall, logical, owner) => self.add(span, value(wall, logical, owner)),
             Step::Added(_, wall, logical, owner) => {
                 self.add_beside(span, value(wall, logical, owner))
             }
-            Step::Look(_, wall, logical, owner) => {
-                Ok(self.answers(span, value(wall, logical, owner)))
-            }
+            Step::Look(_, wall, logical, owner) => self.answers(span, value(wall, logical, owner)),
             Step::Room(_, room) => self.tells_room(span, room),
             Step::New(size, base) => self.restart(size, base),
             Step::Copy(keep) => self.copy(keep),
             Step::LetGo => self.let_others_go(),
-            _ => Ok(false),
+            _ => false,
         }
     }
 
@@ -621,8 +730,14 @@ impl Player {
         }
     }
 
+    /// From here on both pages have to show the same, or to answer alike alone.
+    fn be_strict(&mut self, strict: bool) -> bool {
+        self.strict = strict;
+        true
+    }
+
     /// Takes a step that adds to no span and tells of none.
-    fn take(&mut self, step: Step) -> Result<bool, Fail> {
+    fn take(&mut self, step: Step) -> bool {
         match step {
             Step::Filled(order, count, with, more) => self.refill(order, count, with, more),
             Step::Fill(count, with) => self.fill(Order::Rising, count, with, false),
@@ -630,43 +745,63 @@ impl Player {
             Step::Between(numbers) => self.look_up(numbers, 0),
             Step::Seconds(end) => self.look_up(&[], end),
             Step::Own(stride, from, to, wall) => self.tells_own(stride, (from, to), wall),
-            Step::Strict(strict) => {
-                self.strict = strict;
-                Ok(true)
-            }
-            Step::Swap => {
-                mem::swap(&mut self.pages, &mut self.others);
-                Ok(true)
-            }
+            Step::Strict(strict) => self.be_strict(strict),
+            Step::Swap => self.swap(),
             _ => self.take_over(step, over_of(step)),
         }
     }
 
     /// Takes a step with its span.
-    fn take_over(&mut self, step: Step, over: Over) -> Result<bool, Fail> {
-        if self.ranges {
-            self.look_at(over)?;
+    fn take_over(&mut self, step: Step, over: Over) -> bool {
+        if self.ranges && !self.look_at(over) {
+            return false;
         }
-        let span = span(self.alloc, over)?;
+        match span(self.alloc, over) {
+            Ok(span) => self.take_at(&span, step),
+            Err(fault) => self.refuse_span(fault),
+        }
+    }
+
+    fn take_at(&mut self, span: &Span, step: Step) -> bool {
         match step {
-            Step::Known(_, wall) => self.add_in_place(&span, value(wall, 0, FIRST), false),
-            Step::InPlace(_, wall) => self.add_in_place(&span, value(wall, 0, FIRST), true),
-            _ => Ok(self.take_on(&span, step)?),
+            Step::Known(_, wall) => self.add_in_place(span, value(wall, 0, FIRST), false),
+            Step::InPlace(_, wall) => self.add_in_place(span, value(wall, 0, FIRST), true),
+            _ => self.note() && self.take_on(span, step),
         }
+    }
+
+    /// Takes a step, and says whether the page shows what it tells, and all pages answer alike then.
+    fn plays(&mut self, step: Step) -> bool {
+        match self.looks(step) {
+            Some(told) => told,
+            None => self.take(step) && (matches!(step, Step::Swap) || self.is_right()),
+        }
+    }
+
+    /// Takes steps, and gives the number of the first, from 0, that doesn't hold.
+    fn play_all(&mut self, steps: &[Step]) -> Option<usize> {
+        for (i, step) in steps.iter().enumerate() {
+            if !self.plays(*step) {
+                return Some(i);
+            }
+        }
+        None
     }
 }
 
-impl Row<Player> for Step {
-    /// Takes the step, and says whether the page shows what it tells, and all pages answer alike then.
-    fn holds(&self, player: &mut Player) -> Result<bool, Fail> {
-        match player.looks(*self) {
-            Some(told) => Ok(told),
-            None => { Ok(player.take(*self)? && (matches!(self, Step::Swap) || player.is_right())) }
-        }
+/// Takes steps with empty pages, and gives the number of the first, from 0, that doesn't hold.
+fn wrong_step(alloc: Global, steps: &[Step]) -> Result<Option<usize>, NoMemory> {
+    let mut player = Player::new(alloc)?;
+    let wrong = player.play_all(steps);
+    if player.refused {
+        Err(NoMemory)
+    } else {
+        Ok(wrong)
     }
 }
 
-/// Takes steps, the first of them with empty pages.
+/// Takes steps, the first of them with empty pages. Each has to hold.
 pub(crate) fn play_steps<R: Abort>(rt: &R, alloc: Global, steps: &[Step]) -> Result<(), Fail> {
-    play(rt, &mut Player::new(alloc)?, steps)
+    end(rt, wrong_step(alloc, steps)?);
+    Ok(())
 }
