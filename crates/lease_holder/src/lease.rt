@@ -43,14 +43,14 @@ pub struct RangeSeat<G: Range> {
 }
 
 /// What a key is from a time on.
-#[derive(Clone, Copy, Debug)]
+#[derive(Clone, Copy)]
 pub struct Version {
     pub at: Timestamp,
     pub value: u64,
 }
 
 /// A write that was laid down: when, and what the cache answered of its key then.
-#[derive(Clone, Copy, Debug)]
+#[derive(Clone, Copy)]
 pub struct Written {
     pub at: Timestamp,
     pub reason: Value,
@@ -145,8 +145,12 @@ impl<G: Range> Lease<G> {
     fn latch(&self, key: &str) -> Option<&Mutex<Held<G>>>
         ensures { option_map (λ held. held.now) result ≡ option_map (λ latch. latch.held) (find (λ latch. bytes_eq latch.key.now key.now) self.now.latches.items) }
     {
-        let latch = self.latches.iter().find(|latch| latch.key == key)?;
-        Some(&latch.held)
+        for latch in &self.latches {
+            if latch.key == key {
+                return Some(&latch.held);
+            }
+        }
+        None
     }
 
     /// Reads a key at a time, as `read` does, and holds its latch meanwhile.

@@ -116,7 +116,12 @@ fn is_by(read: Value, id: Uuid) -> bool
 fn reader(plans: &[Plan], read: Value) -> Option<&Plan>
     ensures { option_map (λ plan. plan.now) result ≡ reader read.owner plans.now }
 {
-    plans.iter().find(|plan| is_by(read, id_of(plan.name)))
+    for plan in plans {
+        if is_by(read, id_of(plan.name)) {
+            return Some(plan);
+        }
+    }
+    None
 }
 
 /// What a key was read by, as the cache answers.
