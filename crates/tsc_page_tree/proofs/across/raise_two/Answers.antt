@@ -10,7 +10,7 @@ use Rattle.tsc_page_tree.specs.Across.{AreRaisedAcross, IsLastReached}
 use Rattle.tsc_page_tree.proofs.LeafLists.{all_some}
 use Rattle.tsc_page_tree.proofs.PartAdds.{IsAddend}
 use Rattle.tsc_page_tree.proofs.LeafLists.{all_set}
-use Rattle.tsc_page_tree.proofs.OverParts.{stays_low, stays_high, raises_two, stops_two, sizes_low, all_two, parts_first, parts_second, part_sorted}
+use Rattle.tsc_page_tree.proofs.OverParts.{stays_low, stays_high, raises_two, stops_two, sizes_low, sizes_high, all_two, parts_first, parts_second, part_sorted}
 use Rattle.tsc_page_tree.proofs.across.raise_two.Given.{Over}
 use Rattle.tsc_page_tree.proofs.across.raise_two.Goals.{After-split_at_mut-others}
 use Rattle.tsc_page_tree.proofs.across.raise_two.Goals as goal
@@ -82,6 +82,9 @@ module _ (g : Over) (c : After-split_at_mut-others g) where
   here : IsLastReached (map f (ot ++ ab)) a.to (length ot)
   here = subst (λ (n : ℕ). IsLastReached (map f (ot ++ ab)) a.to n) (sym front) (subst (λ (xs : List g.row.P.Denot). IsLastReached (map f xs) a.to c.last_reached-last.result) shape_high reached)
 
+pub bounds-above-0 : goal.bounds-above-0
+bounds-above-0 g c = let some = one g (goal.at.bounds-above-0 g c).After-split_at_mut-others in omega (arith, some)
+
 pub raise_ends-requires-clause-sorted_low : goal.raise_ends-requires-clause-sorted_low
 raise_ends-requires-clause-sorted_low g c =
     let k = (goal.at.raise_ends-requires-clause-sorted_low g c).After-split_at_mut-others in
@@ -143,6 +146,14 @@ returns-then-not-raise_ends-clause-sizes_low g c =
     let d = c.index-below-first.result in
     let x = c.raise_ends.new.low in
     sizes_low s bl md md p d x (long g k) c.raise_ends.ensures.sizes_low refl ∙ ap (map s) (sym (shape_low g k))
+
+pub returns-then-not-raise_ends-clause-sizes_high : goal.returns-then-not-raise_ends-clause-sizes_high
+returns-then-not-raise_ends-clause-sizes_high g c =
+    let k = (goal.at.returns-then-not-raise_ends-clause-sizes_high g c).After-split_at_mut-others in
+    let s = g.P.Part.sizes in
+    let ot = c.split_at_mut-others.result.0.now in
+    let ab = c.split_at_mut-others.result.1.now in
+    sizes_high s ot ot ab c.index-above-0.result c.raise_ends.new.high (one g k) c.raise_ends.ensures.sizes_high refl ∙ ap (map s) (sym (shape_high g k))
 
 pub returns-then-not-raise_ends-clause-low : goal.returns-then-not-raise_ends-clause-low
 returns-then-not-raise_ends-clause-low g c =
@@ -221,6 +232,14 @@ returns-clause-sizes_low g c =
     let d = c.index-below-first.result in
     let x = c.raise_ends.new.low in
     sizes_low s bl md c.raise_all.new.parts p d x (long g k) c.raise_ends.ensures.sizes_low c.raise_all.ensures.sizes ∙ ap (map s) (sym (shape_low g k))
+
+pub returns-clause-sizes_high : goal.returns-clause-sizes_high
+returns-clause-sizes_high g c =
+    let k = (goal.at.returns-clause-sizes_high g c).After-split_at_mut-others in
+    let s = g.P.Part.sizes in
+    let ot = c.split_at_mut-others.result.0.now in
+    let ab = c.split_at_mut-others.result.1.now in
+    sizes_high s ot c.raise_all-2.new.parts ab c.index-above-0.result c.raise_ends.new.high (one g k) c.raise_ends.ensures.sizes_high c.raise_all-2.ensures.sizes ∙ ap (map s) (sym (shape_high g k))
 
 pub returns-clause-low : goal.returns-clause-low
 returns-clause-low g c =

@@ -71,3 +71,27 @@ overflow_add-count c =
 pub overflow_add-count-2 : goal.overflow_add-count-2
 overflow_add-count-2 c =
     omega (arith, c.requires.counted.count, c.requires.counted.bytes, node_costs (tree_nodes c.args.self.now), c.requires.within, c.requires.small, c.in_ok-upper.ensures.few.0, c.in_ok-lower.ensures.few.0)
+
+pub with_node-requires-clause-whole : goal.with_node-requires-clause-whole
+with_node-requires-clause-whole c = c.in_ok-try_copy.ensures.whole c.requires.counted.whole
+
+pub with_node-requires-clause-sorted : goal.with_node-requires-clause-sorted
+with_node-requires-clause-sorted c = subst IsSorted (sym c.in_ok-try_copy.ensures.nodes) c.requires.counted.sorted
+
+pub with_node-requires-2-clause-whole : goal.with_node-requires-2-clause-whole
+with_node-requires-2-clause-whole c = c.in_ok-upper.ensures.whole
+
+pub with_node-requires-2-clause-sorted : goal.with_node-requires-2-clause-sorted
+with_node-requires-2-clause-sorted c = c.in_ok-upper.ensures.split.sorted
+
+pub raise_between-requires-clause-whole : goal.raise_between-requires-clause-whole
+raise_between-requires-clause-whole c = c.in_ok-lower.ensures.whole
+
+pub raise_between-requires-clause-sorted : goal.raise_between-requires-clause-sorted
+raise_between-requires-clause-sorted c = c.in_ok-lower.ensures.split.sorted
+
+pub overflow_add-bytes : goal.overflow_add-bytes
+overflow_add-bytes c = omega (arith, c.requires.within, c.requires.small, c.in_ok-upper.ensures.few.1)
+
+pub overflow_add-bytes-2 : goal.overflow_add-bytes-2
+overflow_add-bytes-2 c = omega (arith, c.requires.within, c.requires.small, c.in_ok-upper.ensures.few.1, c.in_ok-lower.ensures.few.1)

@@ -6,7 +6,7 @@ use Rattle.tsc_page_base.specs.Nodes.{Node, paired, IsSorted, FitsIn, with_new, 
 use Rattle.tsc_page_base.proofs.Apart.{kept_pair}
 use Rattle.tsc_page_base.proofs.Edits.{raise_nodes-length}
 use Rattle.tsc_page_base.proofs.Costs.{cost-raised, cost-made}
-use Rattle.tsc_page_base.proofs.NewKeys.{made_length, made_ready}
+use Rattle.tsc_page_base.proofs.NewKeys.{new_fits, made_length, made_ready}
 use Rattle.tsc_page_base.proofs.nodes.Nodes.add_owned.Goals as goal
 
 pub returns-then-made-eq0-clause-grown : goal.returns-then-made-eq0-clause-grown
@@ -32,6 +32,13 @@ add-requires-clause-first c =
     let kept = kept_pair _ c.reserve.new.keys.items _ c.reserve.new.values.items nodes (c.in_ok-reserve.ensures.keys ∙ ap (λ v. v.items) c.in-Some.ensures.value) c.in_ok-reserve.ensures.values c.self.view_is in
     subst (λ (ns : List Node). FitsIn (with_new ns g) h) (sym kept)
     (made_ready nodes (option_map (λ k. k.now) c.args.first) (option_map (λ k. k.now) c.args.second) h g c.requires.sorted c.requires.in_order c.in_ok-new.ensures.first c.in_ok-new.ensures.second).1
+
+pub add-requires-clause-second : goal.add-requires-clause-second
+add-requires-clause-second c =
+    let nodes : List Node = c.args.self.now in
+    let g = c.in_ok-new.new.second in
+    let kept = kept_pair _ c.reserve.new.keys.items _ c.reserve.new.values.items nodes (c.in_ok-reserve.ensures.keys ∙ ap (λ v. v.items) c.in-Some.ensures.value) c.in_ok-reserve.ensures.values c.self.view_is in
+    subst (λ (ns : List Node). FitsIn ns g) (sym kept) (new_fits nodes (option_map (λ k. k.now) c.args.second) g c.in_ok-new.ensures.second)
 
 pub returns-clause-grown : goal.returns-clause-grown
 returns-clause-grown c =
