@@ -1,0 +1,5 @@
+use Rattle.test_caches.proofs.shared.steps.play.Given as goal
+
+-- the cache that was just opened
+abbrev pub ghosts-enter : goal.ghosts-enter
+ghosts-enter g a = record { cache = a.cache }

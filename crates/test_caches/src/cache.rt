@@ -1,0 +1,15 @@
+//! Tests of caches, through their public calls.
+
+mod batches;
+mod between;
+mod cache;
+mod growths;
+mod hand_over;
+mod keys;
+mod marks;
+mod player;
+mod random;
+mod refused;
+mod rows;
+mod texts;
+mod writes;

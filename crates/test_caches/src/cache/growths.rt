@@ -1,0 +1,81 @@
+//! How many growths a call asks for. Each test makes one call again where it is refused memory, and nothing else, so as many runs of it
+//! pass as that call asks for growths: `scripts/refuse-each-growth` counts them.
+use super::player::play;
+use super::rows::Does::{Add, Begin, Look, Stand, Version};
+use super::rows::{AT_20, AT_30, Call, FLOOR, KEPT, Limits, NOBODY, NONE, Row, Table, Text};
+use std::test::Fail;
+
+/// Pages that stay, each of which one key fills, or 66 keys of one byte in two leaves.
+const LIMITS: Limits = (2178, 2178, 64, 1000);
+
+/// Keys that fill a page each.
+const LONG: Text =
+    b"*\x08\x62\x00|*\x08\x62\x01|*\x08\x62\x02|*\x08\x62\x03|*\x08\x62\x04|*\x08\x62\x05|*\x08\x62\x06|*\x08\x62\x07|*\x08\x62\x08|*\x08\x62\x09|*\x08\x62\x0a|*\x08\x62\x0b|*\x08\x62\x0c|*\x08\x62\x0d|*\x08\x62\x0e|*\x08\x62\x0f";
+
+/// Keys that fill one together.
+const SHORT: Text =
+    b"\x00|\x01|\x02|\x03|\x04|\x05|\x06|\x07|\x08|\x09|\x0a|\x0b|\x0c|\x0d|\x0e|\x0f|\x10|\x11|\x12|\x13|\x14|\x15|\x16|\x17|\x18|\x19|\x1a|\x1b|\x1c|\x1d|\x1e|\x1f|C|!|\"|#|$|%|&|'|(|)|*|+|-|.|/|0|1|2|3|4|5|6|7|8|9|:|;|<|=|>|?|@|A|B";
+
+const ONE_PAGE: Row = (
+    "a known key on one page",
+    &[
+        (Begin, SHORT, AT_20, NOBODY),
+        (Stand(1, 0, FLOOR), NONE, FLOOR, NOBODY),
+        (Look, b"(", AT_20, NOBODY),
+        (Add(AT_20, KEPT), b"(", AT_30, NOBODY),
+        (Look, b"(", AT_30, NOBODY),
+        (Stand(1, 0, FLOOR), NONE, FLOOR, NOBODY),
+        (Version(0, 1, FLOOR), b"(", AT_20, NOBODY),
+    ],
+);
+
+const MANY_PAGES: Row = (
+    "a known key on 17 pages",
+    &[
+        (Begin, LONG, AT_20, NOBODY),
+        (Begin, SHORT, AT_20, NOBODY),
+        (Stand(17, 16, FLOOR), NONE, FLOOR, NOBODY),
+        (Look, b"(", AT_20, NOBODY),
+        (Add(AT_20, KEPT), b"(", AT_30, NOBODY),
+        (Look, b"(", AT_30, NOBODY),
+        (Stand(17, 16, FLOOR), NONE, FLOOR, NOBODY),
+        (Version(0, 17, FLOOR), b"(", AT_20, NOBODY),
+    ],
+);
+
+const TWO_LEAVES: Row = (
+    "known keys in both leaves",
+    &[
+        (Begin, SHORT, AT_20, NOBODY),
+        (Add(AT_20, KEPT), b"\x0a|(|)|\x0b", AT_30, NOBODY),
+        (Look, b"\x0a|(|)|\x0b", AT_30, NOBODY),
+    ],
+);
+
+static NEXT_ON_ONE: [Table; 1] = [(LIMITS, &[Call::Next], NONE, &[ONE_PAGE])];
+
+static NEXT_ON_MANY: [Table; 1] = [(LIMITS, &[Call::Next], NONE, &[MANY_PAGES])];
+
+static NEXT_ALL: [Table; 1] = [(LIMITS, &[Call::NextAll], NONE, &[TWO_LEAVES])];
+
+static IN_PLACE: [Table; 1] = [(LIMITS, &[Call::Add], NONE, &[MANY_PAGES])];
+
+#[test]
+fn next_on_one_page(rt: HostRuntime) -> Result<(), Fail> {
+    play(&rt, rt.alloc(), &NEXT_ON_ONE)
+}
+
+#[test]
+fn next_on_17_pages(rt: HostRuntime) -> Result<(), Fail> {
+    play(&rt, rt.alloc(), &NEXT_ON_MANY)
+}
+
+#[test]
+fn next_all_of_two_leaves(rt: HostRuntime) -> Result<(), Fail> {
+    play(&rt, rt.alloc(), &NEXT_ALL)
+}
+
+#[test]
+fn an_add_in_place_on_17_pages(rt: HostRuntime) -> Result<(), Fail> {
+    play(&rt, rt.alloc(), &IN_PLACE)
+}

@@ -1,0 +1,133 @@
+//! How many growths an Add to a shared cache asks for, before and after its pages rotate. Each test makes one Add again where it is
+//! refused memory. Where an Add in place on the hidden side is refused, that side is made anew from the one that is shown, so the
+//! cache makes some growths good by itself, and `scripts/refuse-each-growth` counts for how many a whole test asks.
+use super::marks::Entry::{One, Several};
+use super::party::By::{Gate, Plain};
+use super::party::Owner;
+use super::party::Told::Place;
+use super::steps::Act::{Add, Again};
+use super::steps::{KEPT, PAGES, ROTATED, Row, play};
+use std::test::Fail;
+
+/// The page is full, and both sides have all of it.
+static ROTATING: Row = Row {
+    pages: PAGES,
+    seats: 2,
+    limit: 100,
+    opens_again: false,
+    steps: &[
+        (0, Add(One("a", 20), 20, Gate), Place(0, KEPT, 1)),
+        (0, Add(One("b", 20), 20, Gate), Place(1, KEPT, 2)),
+        (0, Add(One("c", 20), 20, Gate), Place(2, KEPT, 3)),
+        (0, Add(One("d", 20), 20, Gate), Place(3, KEPT, 4)),
+        (0, Add(One("a", 21), 20, Gate), Place(4, KEPT, 5)),
+        (1, Again(One("e", 20), 20, Gate), Place(5, ROTATED, 6)),
+    ],
+};
+
+/// One side has rotated.
+static AFTER: Row = Row {
+    pages: PAGES,
+    seats: 2,
+    limit: 100,
+    opens_again: false,
+    steps: &[
+        (0, Add(One("a", 20), 20, Gate), Place(0, KEPT, 1)),
+        (0, Add(One("b", 20), 20, Gate), Place(1, KEPT, 2)),
+        (0, Add(One("c", 20), 20, Gate), Place(2, KEPT, 3)),
+        (0, Add(One("d", 20), 20, Gate), Place(3, KEPT, 4)),
+        (0, Add(One("a", 21), 20, Gate), Place(4, KEPT, 5)),
+        (0, Add(One("e", 20), 20, Gate), Place(5, ROTATED, 6)),
+        (1, Again(One("e", 21), 20, Gate), Place(6, KEPT, 7)),
+    ],
+};
+
+/// Both sides have rotated twice, and a third time comes.
+static ROTATING_AGAIN: Row = Row {
+    pages: PAGES,
+    seats: 2,
+    limit: 100,
+    opens_again: false,
+    steps: &[
+        (0, Add(One("a", 20), 20, Gate), Place(0, KEPT, 1)),
+        (0, Add(One("b", 20), 20, Gate), Place(1, KEPT, 2)),
+        (0, Add(One("c", 20), 20, Gate), Place(2, KEPT, 3)),
+        (0, Add(One("d", 20), 20, Gate), Place(3, KEPT, 4)),
+        (0, Add(One("e", 20), 20, Gate), Place(4, ROTATED, 5)),
+        (0, Add(One("f", 20), 20, Gate), Place(5, KEPT, 6)),
+        (0, Add(One("g", 20), 20, Gate), Place(6, KEPT, 7)),
+        (0, Add(One("h", 20), 20, Gate), Place(7, KEPT, 8)),
+        (0, Add(One("i", 20), 20, Gate), Place(8, ROTATED, 9)),
+        (0, Add(One("j", 20), 20, Gate), Place(9, KEPT, 10)),
+        (0, Add(One("k", 20), 20, Gate), Place(10, KEPT, 11)),
+        (0, Add(One("l", 20), 20, Gate), Place(11, KEPT, 12)),
+        (0, Add(One("i", 21), 20, Gate), Place(12, KEPT, 13)),
+        (1, Again(One("m", 20), 20, Gate), Place(13, ROTATED, 14)),
+    ],
+};
+
+/// A batch of two keys that both sides have.
+static KNOWN_KEYS: Row = Row {
+    pages: PAGES,
+    seats: 2,
+    limit: 100,
+    opens_again: false,
+    steps: &[
+        (
+            1,
+            Add(
+                Several(&[("a", "", 20, Owner::First), ("b", "", 20, Owner::First)]),
+                20,
+                Plain,
+            ),
+            Place(0, KEPT, 1),
+        ),
+        (
+            1,
+            Add(
+                Several(&[("a", "", 20, Owner::First), ("b", "", 20, Owner::First)]),
+                20,
+                Plain,
+            ),
+            Place(1, KEPT, 2),
+        ),
+        (
+            1,
+            Add(
+                Several(&[("a", "", 20, Owner::First), ("b", "", 20, Owner::First)]),
+                20,
+                Plain,
+            ),
+            Place(2, KEPT, 3),
+        ),
+        (
+            1,
+            Again(
+                Several(&[("a", "", 20, Owner::First), ("b", "", 20, Owner::First)]),
+                20,
+                Plain,
+            ),
+            Place(3, KEPT, 4),
+        ),
+    ],
+};
+
+#[test]
+fn a_batch_of_known_keys(rt: HostRuntime) -> Result<(), Fail> {
+    play(&rt, rt.alloc(), &KNOWN_KEYS)
+}
+
+#[test]
+fn an_add_that_rotates(rt: HostRuntime) -> Result<(), Fail> {
+    play(&rt, rt.alloc(), &ROTATING)
+}
+
+#[test]
+fn an_add_after_one_that_rotates(rt: HostRuntime) -> Result<(), Fail> {
+    play(&rt, rt.alloc(), &AFTER)
+}
+
+#[test]
+fn an_add_that_rotates_again(rt: HostRuntime) -> Result<(), Fail> {
+    play(&rt, rt.alloc(), &ROTATING_AGAIN)
+}

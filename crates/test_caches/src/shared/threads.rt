@@ -1,0 +1,185 @@
+//! Seats on threads of their own, each of which takes turns until its part is done.
+use super::fronts::Channel;
+use super::held::Plan;
+use super::marks::Adding;
+use super::party::{By, Guest, Home, Of, Told, Why};
+use super::watch::{TURNS, Watch};
+use std::alloc::Global;
+use std::process::Abort;
+use std::sync::Wait;
+use std::sync::atomic::{AtomicU64, Ordering};
+use std::thread;
+use std::thread::Threads;
+
+/// What seats on threads play.
+pub enum Scene {
+    /// An Add that is held up until others have looked.
+    Held(Plan),
+    /// Adds up to a limit.
+    Crowd(u64),
+    /// Lookups that begin after Adds have returned.
+    Returned,
+    /// Fronts that go from each seat to the next.
+    Ring,
+    /// Batches of two keys, and lookups of both.
+    Both,
+    /// Adds that are given up, beside others and lookups.
+    Tries,
+}
+
+/// A scene under way. All that many turns need is there before a thread starts.
+#[derive(Drop)]
+pub struct Meeting<'a, C: Of> {
+    pub scene: &'a Scene,
+    /// What is added, if that is the same each time.
+    pub adding: Adding,
+    pub gate: Watch,
+    /// How often each place was told.
+    pub places: Vec<AtomicU64>,
+    /// How many Adds have returned.
+    pub adds: AtomicU64,
+    /// A channel to each seat.
+    pub channels: Vec<Channel<C>>,
+}
+
+/// So many counts of 0.
+fn zeros(alloc: Global, count: u64) -> Option<Vec<AtomicU64>> {
+    let mut zeros = Vec::new(alloc);
+    for _ in 0..count {
+        zeros.push(AtomicU64::new(0)).ok()?;
+    }
+    Some(zeros)
+}
+
+/// What is added in this scene. `None` where memory is refused.
+fn adding_of(alloc: Global, scene: &Scene) -> Option<Adding> {
+    match scene {
+        Scene::Held(plan) => Adding::of(alloc, &plan.held, plan.now),
+        _ => Adding::one(alloc, "a", 20, 20),
+    }
+}
+
+impl<C: Of> Meeting<'_, C> {
+    /// `None` where memory is refused.
+    fn of(alloc: Global, scene: &Scene, seats: u64) -> Option<Meeting<'_, C>> {
+        let (lookers, places, channels) = match scene {
+            Scene::Held(_) => (seats.saturating_sub(1), 0, 0),
+            Scene::Crowd(limit) => (0, *limit, 0),
+            Scene::Ring => (0, 0, seats),
+            _ => (0, 0, 0),
+        };
+        let adding = adding_of(alloc, scene)?;
+        let places = zeros(alloc, places)?;
+        let channels = Channel::all(alloc, channels)?;
+        Some(Meeting {
+            scene,
+            adding,
+            gate: Watch::new(lookers),
+            places,
+            adds: AtomicU64::new(0),
+            channels,
+        })
+    }
+
+    /// How many Adds the gate was told of, or that not all looked while the Add was held up, as where a seat has no thread of its own.
+    fn end(&self) -> Told {
+        if matches!(self.scene, Scene::Held(_)) && !self.gate.has_met() {
+            return Told::Not(Why::NoThread);
+        }
+        Told::Long(self.gate.told())
+    }
+
+    /// A turn of a seat, and whether there are more to come.
+    fn turn<R: Wait + Abort>(
+        &self,
+        rt: &R,
+        alloc: Global,
+        home: &Home<C>,
+        guest: &mut Guest<C>,
+        round: u32,
+    ) -> bool {
+        match self.scene {
+            Scene::Held(plan) => self.hold(rt, home, guest, plan, round),
+            Scene::Crowd(limit) => self.crowd(rt, home, guest, *limit, round),
+            Scene::Returned => self.follow(rt, alloc, home, guest, round),
+            Scene::Ring => self.send_on(rt, alloc, home, guest, round),
+            Scene::Both => self.both(rt, alloc, home, guest, round),
+            Scene::Tries => self.try_beside(rt, home, guest, round),
+        }
+    }
+
+    /// What an Add tells: the last one that its seat has seen, and kept on the page that there is but where the keys are many; or one that was
+    /// refused, and left the seat's count.
+    pub fn add<R: Wait + Abort>(
+        &self,
+        rt: &R,
+        home: &Home<C>,
+        guest: &mut Guest<C>,
+        adding: &Adding,
+        by: By,
+    ) -> Told {
+        let (count, before) = (guest.count(), guest.seen());
+        let told = home.add(rt, guest, adding, by, &self.gate);
+        let more = guest.count().wrapping_sub(count);
+        let is_ring = matches!(self.scene, Scene::Ring);
+        let leaves = leaves(told, is_ring, more, before, guest.seen());
+        check(rt, leaves, told);
+        told
+    }
+}
+
+/// Whether an Add that is told this may leave a seat so that counts so many more, and had seen so many before and now. Where the keys
+/// are many it may be kept or not, and the pages may rotate.
+fn leaves(told: Told, are_many: bool, more: u64, before: u64, seen: u64) -> bool {
+    match told {
+        Told::Place(place, (kept, rotated, evicted), front) => {
+            let is_kept = kept && !rotated && evicted == 0;
+            (is_kept || are_many) && more == 1 && front.wrapping_sub(1) == place && front == seen
+        }
+        Told::Full(front) => more == 0 && front == seen,
+        Told::Not(Why::Busy) => more == 0 && seen == before,
+        Told::Not(Why::Inside) => more == 0 && seen >= before,
+        _ => false,
+    }
+}
+
+/// Ends the run where something is told that may not be.
+pub fn check<R: Abort>(rt: &R, is_right: bool, told: Told) {
+    assert!(rt; is_right, "{told:?}");
+}
+
+/// All turns of a seat. A thread that gave up would leave others waiting for it.
+fn run<C: Of, R: Wait + Abort>(
+    rt: &R,
+    alloc: Global,
+    home: &Home<C>,
+    mut guest: Guest<C>,
+    meeting: &Meeting<'_, C>,
+) -> Guest<C> {
+    let mut has_more = true;
+    for round in 0..=TURNS {
+        has_more = meeting.turn(rt, alloc, home, &mut guest, round);
+        if !has_more {
+            break;
+        }
+    }
+    check(rt, !has_more, Told::Not(Why::Open));
+    guest
+}
+
+/// All seats at the same time, and of how many Adds the gate was told. `None` where memory is refused.
+pub fn meet<C: Of + Send + Sync, R: Threads + Wait + Abort + Sync>(
+    rt: &R,
+    alloc: Global,
+    home: &Home<C>,
+    guests: Vec<Guest<C>>,
+    scene: &Scene,
+) -> Option<(Vec<Guest<C>>, Told)> {
+    let meeting = Meeting::of(alloc, scene, guests.len() as u64)?;
+    let guests = thread::map_vec(
+        rt,
+        guests,
+        &|guest: Guest<C>| run(rt, alloc, home, guest, &meeting),
+    );
+    Some((guests.ok()?, meeting.end()))
+}
