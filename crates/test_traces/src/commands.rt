@@ -19,6 +19,6 @@ mod run;
 #[cfg(test)]
 mod texts;
 #[cfg(test)]
-mod traces;
+pub(crate) mod traces;
 #[cfg(test)]
 mod words;
