@@ -1,0 +1,297 @@
+//! Checks over memory: of logs whose verdicts are known, and with readers and writers whose calls go wrong.
+use crate::commands::memory::Command::{Check, Replay};
+use crate::commands::memory::{CALM, CALMLY, Calls, Mishaps, Row, ends, play, play_mishaps};
+use crate::commands::traces::{
+    NO_JSON, OVERLAPPING_READS, OVERLAPPING_READS_LOG, RACE, TWO_THREADS, TWO_THREADS_LOG,
+};
+use std::alloc::Global;
+use std::sync::Wait;
+use std::test::Fail;
+use std::thread::Threads;
+use tsc_shared::NoGate;
+use tsc_trace_io::fakes::Mishap;
+
+/// A log of `RACE`.
+const RACE_LOG: &str =
+    "0 0 add 0 1 0 0\n1 0 add 1 1 0 0\n2 0 get 1 20.0 11111111-1111-4111-8111-111111111111\n";
+
+/// One list adds a key and asks for it.
+const ONE_LIST: &str =
+    r#"{"page_first":132,"page_max":132,"min_pages":2,"retention":10,"low_water":[5,0],"threads":[[
+{"op":"add","span":{"start":"61"},"time":[20,0],"owner":"11111111-1111-4111-8111-111111111111","now":[20,0]},
+{"op":"get","span":{"start":"61"}}]]}"#;
+
+const NO_CALLS: &str =
+    r#"{"page_first":132,"page_max":132,"min_pages":2,"retention":10,"low_water":[5,0],"threads":[[]]}"#;
+
+const NO_LISTS: &str =
+    r#"{"page_first":132,"page_max":132,"min_pages":2,"retention":10,"low_water":[5,0],"threads":[]}"#;
+
+const WRONG_FIRST_LINE: &str = "log refused: fault 1 at line 1\n";
+
+static ROWS: [Row; 26] = [
+    (
+        Check,
+        OVERLAPPING_READS,
+        OVERLAPPING_READS_LOG,
+        0,
+        "right\n",
+        "",
+    ),
+    (Check, NO_CALLS, "", 0, "right\n", ""),
+    (Check, NO_CALLS, "0 0 low 0 5.0\n", 3, "wrong call 1\n", ""),
+    (Check, RACE, RACE_LOG, 0, "right\n", ""),
+    (Check, TWO_THREADS, TWO_THREADS_LOG, 0, "right\n", ""),
+    // The last line says that it saw one Add, which is of another key.
+    (
+        Check,
+        TWO_THREADS,
+        "0 0 add 1 1 0 0
+0 1 get 2 30.0 22222222-2222-4222-8222-222222222222
+1 0 add 0 1 0 0
+1 1 get 1 30.0 22222222-2222-4222-8222-222222222222
+1 2 get 1 20.0 11111111-1111-4111-8111-111111111111
+",
+        3,
+        "wrong answer 5\n",
+        "",
+    ),
+    // The places change places.
+    (
+        Check,
+        RACE,
+        "0 0 add 1 1 0 0\n1 0 add 0 1 0 0\n2 0 get 1 20.0 11111111-1111-4111-8111-111111111111\n",
+        3,
+        "wrong answer 3\n",
+        "",
+    ),
+    (
+        Check,
+        RACE,
+        "0 0 add 0 1 0 0\n1 0 add 0 1 0 0\n2 0 get 1 20.0 11111111-1111-4111-8111-111111111111\n",
+        3,
+        "wrong place 2\n",
+        "",
+    ),
+    (
+        Check,
+        RACE,
+        "0 0 add 0 1 0 0\n1 0 add 1 1 0 0\n",
+        3,
+        "wrong call 3\n",
+        "",
+    ),
+    (
+        Check,
+        RACE,
+        "0 0 add 0 1 0 0\n1 0 add 1 1 0 0\n2 0 get 3 20.0 11111111-1111-4111-8111-111111111111\n",
+        3,
+        "wrong place 3\n",
+        "",
+    ),
+    // The Add of the first list was kept.
+    (
+        Check,
+        RACE,
+        "0 0 add 0 0 0 0\n1 0 add 1 1 0 0\n2 0 get 1 20.0 11111111-1111-4111-8111-111111111111\n",
+        3,
+        "wrong answer 1\n",
+        "",
+    ),
+    (
+        Check,
+        RACE,
+        "0 0 add 0 1 0 0\n1 0 add 2 1 0 0\n2 0 get 1 20.0 11111111-1111-4111-8111-111111111111\n",
+        3,
+        "wrong place 2\n",
+        "",
+    ),
+    (
+        Check,
+        RACE,
+        "0 0 add 0 1 0 0\n1 0 add 1 1 0 0\n2 0 get 2 20.0 11111111-1111-4111-8111-111111111111\n",
+        3,
+        "wrong answer 3\n",
+        "",
+    ),
+    (
+        Check,
+        RACE,
+        "0 0 add 0 1 0 0\n1 0 add 1 1 0 0\n2 0 get 1 20.0 none\n",
+        3,
+        "wrong answer 3\n",
+        "",
+    ),
+    (
+        Check,
+        RACE,
+        "0 0 add 0 1 0 0\n1 0 add 1 1 0 0\n2 0 get 0 5.0 none\n",
+        0,
+        "right\n",
+        "",
+    ),
+    (
+        Check,
+        RACE,
+        "0 0 add 0 1 0 0\n1 0 add 1 1 0 0\n2 0 low 1 5.0\n",
+        3,
+        "wrong call 3\n",
+        "",
+    ),
+    (
+        Check,
+        RACE,
+        "0 0 add 0 1 0 0\n1 0 add 1 1 0 0\n2 0 get 1 20.0 11111111-1111-4111-8111-111111111111\n2 1 low 2 5.0\n",
+        3,
+        "wrong call 4\n",
+        "",
+    ),
+    (
+        Check,
+        RACE,
+        "1 0 add 1 1 0 0\n0 0 add 0 1 0 0\n2 0 get 1 20.0 11111111-1111-4111-8111-111111111111\n",
+        3,
+        "wrong call 1\n",
+        "",
+    ),
+    // A list knows of its own Add.
+    (
+        Check,
+        ONE_LIST,
+        "0 0 add 0 1 0 0\n0 1 get 0 5.0 none\n",
+        3,
+        "wrong place 2\n",
+        "",
+    ),
+    (Check, ONE_LIST, "0 0 low 0 5.0", 1, "", WRONG_FIRST_LINE),
+    (Check, ONE_LIST, "0 0 low 00 5.0\n", 1, "", WRONG_FIRST_LINE),
+    (
+        Check,
+        ONE_LIST,
+        "0 0 add 0 1 0 0\n0 1 get 1 20.0 nobody\n",
+        1,
+        "",
+        "log refused: fault 1 at line 2\n",
+    ),
+    (Check, NO_LISTS, "", 1, "", "trace refused: fault 7\n"),
+    // Where both are refused, the trace is told.
+    (Check, "", "0 0 low 00 5.0\n", 1, "", NO_JSON),
+    (Check, NO_LISTS, "x", 1, "", "trace refused: fault 7\n"),
+    (Check, "{}", "", 1, "", "trace refused: fault 2 at call 0\n"),
+];
+
+/// Calls that move a byte, and none of which goes wrong.
+const SLOW: Calls = (1, Mishap::Never);
+
+/// Calls the first of which fails.
+const FAILING: Calls = (65_536, Mishap::FailsAt(0));
+
+static MISHAPS: [Mishaps; 12] = [
+    (
+        (SLOW, SLOW, SLOW, SLOW),
+        &[(Check, RACE, RACE_LOG, 0, "right\n", "")],
+    ),
+    (
+        (SLOW, SLOW, SLOW, SLOW),
+        &[(Check, RACE, "", 3, "wrong call 1\n", "")],
+    ),
+    (
+        (FAILING, CALM, CALM, CALM),
+        &[(Check, RACE, RACE_LOG, 4, "", "read failed\n")],
+    ),
+    (
+        (CALM, FAILING, CALM, CALM),
+        &[(Check, RACE, RACE_LOG, 4, "", "read failed\n")],
+    ),
+    (
+        (CALM, (1, Mishap::FailsAt(9)), CALM, CALM),
+        &[(Check, RACE, RACE_LOG, 4, "", "read failed\n")],
+    ),
+    // A log that is not read cannot fail.
+    (
+        (CALM, FAILING, CALM, CALM),
+        &[(Check, "", RACE_LOG, 1, "", NO_JSON)],
+    ),
+    (
+        (FAILING, FAILING, CALM, CALM),
+        &[(Check, "", "", 4, "", "read failed\n")],
+    ),
+    // The verdict is not written, or only its first bytes.
+    (
+        (CALM, CALM, FAILING, CALM),
+        &[(Check, RACE, RACE_LOG, 4, "", "write failed\n")],
+    ),
+    (
+        (CALM, CALM, (1, Mishap::FailsAt(12)), CALM),
+        &[(Check, RACE, "", 4, "wrong call 1", "write failed\n")],
+    ),
+    // The status stays where the fault cannot be told, or only a part of its line.
+    (
+        (CALM, CALM, FAILING, FAILING),
+        &[(Check, RACE, RACE_LOG, 4, "", "")],
+    ),
+    (
+        (CALM, CALM, CALM, (1, Mishap::FailsAt(29))),
+        &[(Check, RACE, "x", 1, "", "log refused: fault 1 at line ")],
+    ),
+    (
+        (CALM, CALM, CALM, FAILING),
+        &[(Check, RACE, "", 3, "wrong call 1\n", "")],
+    ),
+];
+
+/// Of each line of the log of `OVERLAPPING_READS`: what is written where it and those behind it are missing, and what is told where a
+/// part of it is there.
+static CUT: [(&str, &str); 6] = [
+    ("wrong call 1\n", "log refused: fault 1 at line 1\n"),
+    ("wrong call 2\n", "log refused: fault 1 at line 2\n"),
+    ("wrong call 3\n", "log refused: fault 1 at line 3\n"),
+    ("wrong call 4\n", "log refused: fault 1 at line 4\n"),
+    ("wrong call 5\n", "log refused: fault 1 at line 5\n"),
+    ("wrong call 6\n", "log refused: fault 1 at line 6\n"),
+];
+
+/// The first byte of the log at which it is cut off, and its check ends otherwise.
+fn first_wrong_cut<R: Threads + Wait + Sync>(rt: &R, alloc: Global, log: &[u8]) -> Option<usize> {
+    let mut line: usize = 0;
+    let mut is_begun = false;
+    for cut in 0..log.len() {
+        let Some((written, told)) = CUT.get(line) else {
+            return Some(cut);
+        };
+        let end = if is_begun {
+            (1, &b""[..], told.as_bytes())
+        } else {
+            (3, written.as_bytes(), &b""[..])
+        };
+        let of = (Check, OVERLAPPING_READS.as_bytes(), &log[..cut]);
+        if !ends(rt, alloc, &NoGate, of, CALMLY, end) {
+            return Some(cut);
+        }
+        is_begun = log[cut] != b'\n';
+        if !is_begun {
+            line = line.saturating_add(1);
+        }
+    }
+    None
+}
+
+#[test]
+fn checks_end_as_their_rows_say(rt: HostRuntime) {
+    play(&rt, rt.alloc(), CALMLY, &ROWS);
+    play_mishaps(&rt, rt.alloc(), &MISHAPS);
+    let cut = first_wrong_cut(&rt, rt.alloc(), OVERLAPPING_READS_LOG.as_bytes());
+    assert_eq!(rt; cut, None);
+}
+
+/// Of one byte more than an input may have: a replay, and a check of a log.
+#[test]
+fn inputs_that_are_too_long(rt: HostRuntime) -> Result<(), Fail> {
+    let blanks = Vec::from_elem(rt.alloc(), b' ', 16_777_217)?;
+    let end = (4, &b""[..], &b"input too long\n"[..]);
+    let replay = (Replay, blanks.as_slice(), &b""[..]);
+    assert!(rt; ends(&rt, rt.alloc(), &NoGate, replay, CALMLY, end));
+    let check = (Check, NO_CALLS.as_bytes(), blanks.as_slice());
+    assert!(rt; ends(&rt, rt.alloc(), &NoGate, check, CALMLY, end));
+    Ok(())
+}

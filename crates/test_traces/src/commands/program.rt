@@ -1,0 +1,378 @@
+//! The program over words and files in memory, and over the system's files.
+ghost use Rattle.tsc_commands.specs.Place.{says_nothing};
+
+use crate::commands::memory::{CALM, READ_FAILED, new_writer, written};
+use crate::commands::traces::{NO_JSON, TWO_READERS, TWO_READERS_LOG};
+use std::alloc::Global;
+use std::env::{Env, FillError};
+use std::process::{Abort, ExitCode};
+use std::sync::Wait;
+use std::thread::Threads;
+use tsc_commands::program::program;
+use tsc_commands::{
+    Errors, NoMeter, OpenFault, Output, Place, SystemFiles, WordsFault, fetch_words,
+};
+use tsc_trace_io::Metered;
+use tsc_trace_io::fakes::Mishap;
+
+const USAGE: &str = "usage: tscache replay FILE, run FILE or check FILE LOG\n";
+
+const OUT_OF_MEMORY: &str = "out of memory\n";
+
+const RIGHT: &str = "right\n";
+
+const NO_LOG: &str = "log refused: fault 1 at line 1\n";
+
+/// A name, and the file or why it is not opened.
+type Held = (&'static str, Result<&'static str, OpenFault>);
+
+/// Files in memory.
+#[derive(Drop)]
+struct Shelf(&'static [Held]);
+
+impl Place for Shelf {
+    type File = Metered<&'static [u8]>;
+
+    ghost opens = { says_nothing };
+
+    fn open(&self, name: &str) -> Result<Metered<&'static [u8]>, OpenFault> {
+        for (held, file) in self.0 {
+            if *held == name {
+                let text = (*file)?;
+                return Ok(Metered::new(text.as_bytes()));
+            }
+        }
+        Err(OpenFault::Unopened)
+    }
+}
+
+/// Files, also with names that are a word of another kind elsewhere: blanks, a hyphen, and nothing.
+static FILES: [Held; 9] = [
+    (" a b .json", Ok(TWO_READERS)),
+    ("-", Ok(TWO_READERS)),
+    ("", Ok(TWO_READERS)),
+    ("two_readers.json", Ok(TWO_READERS)),
+    ("two_readers.log", Ok(TWO_READERS_LOG)),
+    ("cut.log", Ok("0 0 add 0 1 0 0\n")),
+    ("notes.txt", Ok("No trace at all.")),
+    ("locked.json", Err(OpenFault::Unopened)),
+    ("large.json", Err(OpenFault::NoMemory)),
+];
+
+/// A call with these words, which may be garbled: their first bytes are no text then.
+#[derive(Drop)]
+struct Called {
+    words: &'static [&'static str],
+    is_garbled: bool,
+}
+
+impl Env for Called {
+    fn arg(&self, i: usize, buf: &mut [u8]) -> Result<usize, FillError> {
+        let Some(word) = self.words.get(i) else {
+            return Err(FillError::NotPresent);
+        };
+        let bytes = word.as_bytes();
+        if bytes.len() > buf.len() {
+            return Err(FillError::TooLong);
+        }
+        buf[..bytes.len()].copy_from_slice(bytes);
+        if self.is_garbled && !bytes.is_empty() {
+            buf[0] = 0xff;
+        }
+        Ok(bytes.len())
+    }
+
+    fn var(&self, _name: &str, _buf: &mut [u8]) -> Result<usize, FillError> {
+        Err(FillError::NotPresent)
+    }
+
+    fn var_at(&self, _i: usize, _buf: &mut [u8]) -> Result<usize, FillError> {
+        Err(FillError::NotPresent)
+    }
+}
+
+/// Words, the exit status, what is written, and what is told.
+type Row = (&'static [&'static str], u8, &'static str, &'static str);
+
+static ROWS: [Row; 45] = [
+    (&["tscache", "replay", " a b .json"], 0, TWO_READERS_LOG, ""),
+    (&["tscache", "run", " a b .json"], 0, TWO_READERS_LOG, ""),
+    (
+        &["tscache", "check", " a b .json", "two_readers.log"],
+        0,
+        RIGHT,
+        "",
+    ),
+    (&["tscache", "replay", "a b .json"], 4, "", READ_FAILED),
+    (&["tscache", "replay", "-"], 0, TWO_READERS_LOG, ""),
+    (&["tscache", "replay", "--", "-"], 0, TWO_READERS_LOG, ""),
+    (&["tscache", "run", "-"], 0, TWO_READERS_LOG, ""),
+    (&["tscache", "check", "-", "two_readers.log"], 0, RIGHT, ""),
+    (
+        &["tscache", "check", "two_readers.json", "-"],
+        1,
+        "",
+        NO_LOG,
+    ),
+    (&["tscache", "replay", ""], 0, TWO_READERS_LOG, ""),
+    (&["tscache", "run", ""], 0, TWO_READERS_LOG, ""),
+    (&["tscache", "check", "", "two_readers.log"], 0, RIGHT, ""),
+    (
+        &[
+            "tscache", "replay", "-", "-", "-", "-", "-", "-", "-", "-", "-", "-", "-", "-", "-",
+            "-", "-", "-", "-", "-", "-", "-", "-", "-", "-", "-", "-", "-", "-", "-", "-", "-",
+            "-", "-", "-", "-", "-", "-", "-", "-", "-", "-", "-", "-", "-", "-", "-", "-", "-",
+        ],
+        2,
+        "",
+        USAGE,
+    ),
+    (
+        &["tscache", "replay", "two_readers.json"],
+        0,
+        TWO_READERS_LOG,
+        "",
+    ),
+    (&["tscache", "replay", "notes.txt"], 1, "", NO_JSON),
+    (&["tscache", "replay", "missing.json"], 4, "", READ_FAILED),
+    (&["tscache", "replay", "locked.json"], 4, "", READ_FAILED),
+    (&["tscache", "replay", "large.json"], 5, "", OUT_OF_MEMORY),
+    (
+        &["tscache", "replay", "two_readers.json", "notes.txt"],
+        2,
+        "",
+        USAGE,
+    ),
+    (
+        &["tscache", "run", "two_readers.json"],
+        0,
+        TWO_READERS_LOG,
+        "",
+    ),
+    (&["tscache", "run", "notes.txt"], 1, "", NO_JSON),
+    (&["tscache", "run", "missing.json"], 4, "", READ_FAILED),
+    (&["tscache", "run", "large.json"], 5, "", OUT_OF_MEMORY),
+    (
+        &["tscache", "run", "two_readers.json", "notes.txt"],
+        2,
+        "",
+        USAGE,
+    ),
+    (
+        &["tscache", "check", "two_readers.json", "two_readers.log"],
+        0,
+        RIGHT,
+        "",
+    ),
+    (
+        &["tscache", "check", "two_readers.json", "cut.log"],
+        3,
+        "wrong call 2\n",
+        "",
+    ),
+    (
+        &["tscache", "check", "two_readers.json", "notes.txt"],
+        1,
+        "",
+        NO_LOG,
+    ),
+    (
+        &["tscache", "check", "two_readers.log", "two_readers.json"],
+        1,
+        "",
+        NO_JSON,
+    ),
+    // The trace is opened first, then the log, and only then is the trace read, and the log behind it.
+    (
+        &["tscache", "check", "missing.json", "large.json"],
+        4,
+        "",
+        READ_FAILED,
+    ),
+    (
+        &["tscache", "check", "large.json", "missing.log"],
+        5,
+        "",
+        OUT_OF_MEMORY,
+    ),
+    (
+        &["tscache", "check", "missing.json", "two_readers.log"],
+        4,
+        "",
+        READ_FAILED,
+    ),
+    (
+        &["tscache", "check", "two_readers.json", "missing.log"],
+        4,
+        "",
+        READ_FAILED,
+    ),
+    (
+        &["tscache", "check", "two_readers.json", "large.json"],
+        5,
+        "",
+        OUT_OF_MEMORY,
+    ),
+    (
+        &["tscache", "check", "notes.txt", "missing.log"],
+        4,
+        "",
+        READ_FAILED,
+    ),
+    (
+        &["tscache", "check", "notes.txt", "notes.txt"],
+        1,
+        "",
+        NO_JSON,
+    ),
+    (&["tscache", "check", "two_readers.json"], 2, "", USAGE),
+    (
+        &[
+            "tscache",
+            "check",
+            "two_readers.json",
+            "two_readers.log",
+            "notes.txt",
+        ],
+        2,
+        "",
+        USAGE,
+    ),
+    (&["tscache", "check"], 2, "", USAGE),
+    (&["tscache", "replay"], 2, "", USAGE),
+    (&["tscache", "run"], 2, "", USAGE),
+    (&["tscache", "paint", "two_readers.json"], 2, "", USAGE),
+    (&["tscache", "--help"], 2, "", USAGE),
+    (&["two_readers.json"], 2, "", USAGE),
+    (&["tscache"], 2, "", USAGE),
+    (&[], 2, "", USAGE),
+];
+
+/// Files of the system: none, also where a name is empty, blank or a hyphen, an empty one, one that cannot be read
+/// and one without end.
+static SYSTEM_ROWS: [Row; 16] = [
+    (&["tscache", "replay", ""], 4, "", READ_FAILED),
+    (&["tscache", "replay", " "], 4, "", READ_FAILED),
+    (&["tscache", "replay", "-"], 4, "", READ_FAILED),
+    (&["tscache", "run", ""], 4, "", READ_FAILED),
+    (&["tscache", "run", "-"], 4, "", READ_FAILED),
+    (&["tscache", "check", "-", "/dev/null"], 4, "", READ_FAILED),
+    (&["tscache", "check", "/dev/null", "-"], 4, "", READ_FAILED),
+    (&["tscache", "replay", "/no/such/file"], 4, "", READ_FAILED),
+    (&["tscache", "replay", "/dev/null"], 1, "", NO_JSON),
+    (&["tscache", "replay", "/"], 4, "", READ_FAILED),
+    (&["tscache", "run", "/no/such/file"], 4, "", READ_FAILED),
+    (&["tscache", "run", "/dev/null"], 1, "", NO_JSON),
+    (
+        &["tscache", "replay", "/dev/zero"],
+        4,
+        "",
+        "input too long\n",
+    ),
+    (
+        &["tscache", "check", "/no/such/file", "/dev/null"],
+        4,
+        "",
+        READ_FAILED,
+    ),
+    (
+        &["tscache", "check", "/dev/null", "/no/such/file"],
+        4,
+        "",
+        READ_FAILED,
+    ),
+    (
+        &["tscache", "check", "/dev/null", "/dev/zero"],
+        1,
+        "",
+        NO_JSON,
+    ),
+];
+
+/// Words that are no text.
+static GARBLED: [Row; 1] = [(&["tscache", "replay", "two_readers.json"], 2, "", USAGE)];
+
+/// The words of a call, as the program gets them.
+pub(crate) fn words_of(
+    alloc: Global,
+    words: &'static [&'static str],
+    is_garbled: bool,
+) -> Result<Vec<String>, WordsFault> {
+    fetch_words(&(Called { words, is_garbled }, alloc))
+}
+
+/// Whether a call of the program comes to this status, and to what is written and told.
+fn comes_to<R: Threads + Wait + Sync, P: Place>(
+    rt: &R,
+    alloc: Global,
+    place: &P,
+    words: Result<Vec<String>, WordsFault>,
+    telling: Mishap,
+    wanted: (u8, &str, &str),
+) -> bool {
+    let mut output = Output {
+        writer: new_writer(alloc, CALM),
+    };
+    let mut errors = Errors {
+        writer: new_writer(alloc, (9, telling)),
+    };
+    let code = program(rt, alloc, words, place, &mut output, &mut errors, &NoMeter);
+    code == ExitCode::from(wanted.0)
+        && written(output.writer).as_slice() == wanted.1.as_bytes()
+        && written(errors.writer).as_slice() == wanted.2.as_bytes()
+}
+
+/// The number of the first row, from 0, with whose words the program comes to something else, also where no fault can be told.
+fn first_wrong<R: Threads + Wait + Sync, P: Place>(
+    rt: &R,
+    alloc: Global,
+    place: &P,
+    rows: &[Row],
+    is_garbled: bool,
+) -> Option<usize> {
+    for (i, (words, status, log, line)) in rows.iter().enumerate() {
+        for (telling, told) in [(Mishap::Never, *line), (Mishap::FailsAt(0), "")] {
+            let fetched = words_of(alloc, words, is_garbled);
+            if !comes_to(rt, alloc, place, fetched, telling, (*status, *log, told)) {
+                return Some(i);
+            }
+        }
+    }
+    None
+}
+
+/// Calls the program with the words of each row.
+fn play<R: Abort + Threads + Wait + Sync, P: Place>(
+    rt: &R,
+    alloc: Global,
+    place: &P,
+    rows: &[Row],
+    is_garbled: bool,
+) {
+    assert_eq!(rt; first_wrong(rt, alloc, place, rows, is_garbled), None);
+}
+
+#[test]
+fn calls_end_as_their_rows_say(rt: HostRuntime) {
+    let shelf = Shelf(&FILES);
+    play(&rt, rt.alloc(), &shelf, &ROWS, false);
+    play(&rt, rt.alloc(), &shelf, &GARBLED, true);
+    play(&rt, rt.alloc(), &SystemFiles::of(&rt), &SYSTEM_ROWS, false);
+}
+
+/// Memory is wanting for the words.
+#[test]
+fn a_call_without_memory_for_its_words(rt: HostRuntime) {
+    let wanted = (5, "", OUT_OF_MEMORY);
+    let refused = Err(WordsFault::NoMemory);
+    assert!(rt;
+        comes_to(
+            &rt,
+            rt.alloc(),
+            &Shelf(&FILES),
+            refused,
+            Mishap::Never,
+            wanted
+        )
+    );
+}

@@ -1,0 +1,88 @@
+//! The text of each fault, word for word.
+use crate::rows::{first_other, none};
+use tsc_trace::{LogFault, OutFault, ReplayFault, TraceFault};
+use tsc_trace_io::{InputFault, WriteFailed};
+
+static TRACE_FAULTS: [(TraceFault, &str); 9] = [
+    (TraceFault::NotJson, "not JSON"),
+    (TraceFault::Shape(0), "a wrong shape at call 0"),
+    (TraceFault::Number(1), "a number out of range at call 1"),
+    (TraceFault::Hex(23), "wrong hexadecimal digits at call 23"),
+    (TraceFault::Uuid(4), "a wrong UUID at call 4"),
+    (TraceFault::Span(5), "a wrong span at call 5"),
+    (TraceFault::Config, "a wrong configuration"),
+    (TraceFault::NoMemory, "out of memory"),
+    (
+        TraceFault::TooLarge(65_536),
+        "a span too large for a page at call 65536",
+    ),
+];
+
+static LOG_FAULTS: [(LogFault, &str); 3] = [
+    (LogFault::Text(65_536), "line 65536 is not a line of a log"),
+    (LogFault::Length, "too many lines"),
+    (LogFault::NoMemory, "out of memory"),
+];
+
+static OUT_FAULTS: [(OutFault, &str); 2] = [
+    (OutFault::Write, "write failed"),
+    (OutFault::NoMemory, "out of memory"),
+];
+
+static INPUT_FAULTS: [(InputFault, &str); 3] = [
+    (InputFault::Read, "read failed"),
+    (InputFault::TooLong, "input too long"),
+    (InputFault::NoMemory, "out of memory"),
+];
+
+static REPLAY_FAULTS: [(ReplayFault, &str); 13] = [
+    (ReplayFault::Read, "read failed"),
+    (ReplayFault::TooLong, "input too long"),
+    (
+        ReplayFault::Trace(TraceFault::NotJson),
+        "trace refused: fault 1",
+    ),
+    (
+        ReplayFault::Trace(TraceFault::Shape(0)),
+        "trace refused: fault 2 at call 0",
+    ),
+    (
+        ReplayFault::Trace(TraceFault::Number(1)),
+        "trace refused: fault 3 at call 1",
+    ),
+    (
+        ReplayFault::Trace(TraceFault::Hex(23)),
+        "trace refused: fault 4 at call 23",
+    ),
+    (
+        ReplayFault::Trace(TraceFault::Uuid(4)),
+        "trace refused: fault 5 at call 4",
+    ),
+    (
+        ReplayFault::Trace(TraceFault::Span(5)),
+        "trace refused: fault 6 at call 5",
+    ),
+    (
+        ReplayFault::Trace(TraceFault::Config),
+        "trace refused: fault 7",
+    ),
+    (ReplayFault::Trace(TraceFault::NoMemory), "out of memory"),
+    (
+        ReplayFault::Trace(TraceFault::TooLarge(65_536)),
+        "trace refused: fault 9 at call 65536",
+    ),
+    (ReplayFault::Write, "write failed"),
+    (ReplayFault::NoMemory, "out of memory"),
+];
+
+static WRITE_FAULTS: [(WriteFailed, &str); 1] = [(WriteFailed, "a write failed")];
+
+#[test]
+fn texts_of_faults(rt: HostRuntime) {
+    none(&rt, first_other(rt.alloc(), &TRACE_FAULTS));
+    none(&rt, first_other(rt.alloc(), &LOG_FAULTS));
+    none(&rt, first_other(rt.alloc(), &INPUT_FAULTS));
+    none(&rt, first_other(rt.alloc(), &OUT_FAULTS));
+    none(&rt, first_other(rt.alloc(), &WRITE_FAULTS));
+    none(&rt, first_other(rt.alloc(), &REPLAY_FAULTS));
+}
