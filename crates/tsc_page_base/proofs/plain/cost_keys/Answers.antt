@@ -13,3 +13,11 @@ overflow_add-cost-in-Some c =
     let later_marks : List Mark = c.in-Some.later.now in
     let paid = next_costs c.loop-mark.cost (cost_distinct (marked_keys c.args.marks.now)) c.loop-mark.rest.now later_marks c.in-Some.mark.now first second c.in-Some.ensures.cases.0 (c.end_keys.ensures.keys ∙ ap (λ (m : Mark). end_keys m.span) c.mark.view_is) c.loop-mark.invariant in
     omega (arith, paid, c.new_cost.ensures.value, c.new_cost-in-Some.ensures.value, c.requires)
+
+pub loop-mark-preserved : goal.loop-mark-preserved
+loop-mark-preserved c =
+    let first : Option KeyBytes = option_map (λ k. k.now) c.end_keys.result.0 in
+    let second : Option KeyBytes = option_map (λ k. k.now) c.end_keys.result.1 in
+    let later_marks : List Mark = c.in-Some.later.now in
+    let paid = next_costs c.loop-mark.cost (cost_distinct (marked_keys c.args.marks.now)) c.loop-mark.rest.now later_marks c.in-Some.mark.now first second c.in-Some.ensures.cases.0 (c.end_keys.ensures.keys ∙ ap (λ (m : Mark). end_keys m.span) c.mark.view_is) c.loop-mark.invariant in
+    omega (arith, paid, c.new_cost.ensures.value, c.new_cost-in-Some.ensures.value)

@@ -18,8 +18,8 @@ value c =
     let cost = weigh_with key_cost keys first second once in
     let slice = ap marked_keys c.as_slice-marks.ensures.value in
     let all = c.cost_keys.ensures ∙ ap cost_distinct slice in
-    let one : c.new_cost.result ≡ new_weight key_cost keys first = c.new_cost.ensures.value ∙ ap (λ ks. new_weight key_cost ks first) slice in
-    let two : c.new_cost-2.result ≡ new_weight key_cost keys second = c.new_cost-2.ensures.value ∙ ap (λ ks. new_weight key_cost ks second) slice in
+    let one : c.new_cost.result ≡ new_weight key_cost keys first = omega (arith, c.new_cost.ensures.value, ap (λ ks. new_weight key_cost ks first) slice) in
+    let two : c.new_cost-2.result ≡ new_weight key_cost keys second = omega (arith, c.new_cost-2.ensures.value, ap (λ ks. new_weight key_cost ks second) slice) in
     let sum : c.cost_keys.result + c.new_cost.result + c.new_cost-2.result ≡ cost_distinct (keys ++ end_keys c.args.span.now) = omega (arith, all, one, two, cost, ap (λ ks. cost_distinct (keys ++ ks)) c.end_keys.ensures.keys) in
     ap (λ (n : ℕ). nat_le n c.self.inside.size) sum ∙ ap (λ (v : PageView). has_room_for v c.args.span.now) c.self.view_is
 
