@@ -1,3 +1,4 @@
+mod AtNumber
 mod LeftAlone
 mod MarksMade
 mod NewSeats

@@ -2,7 +2,7 @@
 use Rattle.std.proofs.Common.{◌≡◌, ◌⊎◌, inl, inr, ◌∙◌, refl, sym, ap, subst, Bool, true, false, cond, ℕ, zero, suc, ◌+◌, ◌-◌, ◌<◌, ◌≤◌, List, [], ◌∷◌, ◌++◌, length, map, take, drop, get_or, set, arith}
 use Rattle.std.specs.Prelude.{None, not}
 use Rattle.std.specs.List.{All}
-use Rattle.std.proofs.lemmas.List.{append_assoc, length-append, map-append}
+use Rattle.std.proofs.lemmas.List.{append_assoc, length-append, length-set, map-append}
 use Rattle.tsc_span.specs.Span.{Cut, last, is_below}
 use Rattle.tsc_page_base.specs.Nodes.{Node, IsSorted, raise_nodes}
 use Rattle.tsc_page_tree.specs.Leaves.{nodes_of, start_of, AreSome, AreParts, IsLeafAt}
@@ -211,6 +211,11 @@ sizes_over s bl md mn ab p d x e y long one low mid high =
     ∙ ap (λ (ls : List (List ℕ)). ls ++ (map s mn ++ map s (set ab 0 y))) (sizes_same s bl p d x (omega (arith, long)) low)
     ∙ ap (λ (ls : List (List ℕ)). map s bl ++ (ls ++ map s (set ab 0 y))) mid ∙ ap (λ (ls : List (List ℕ)). map s bl ++ (map s md ++ ls)) (sizes_same s ab 0 e y one high)
     ∙ ap (λ (ls : List (List ℕ)). map s bl ++ ls) (sym (map-append s md ab)) ∙ sym (map-append s bl (md ++ ab))
+
+-- and how many there are
+pub long_over : {X : Type 0} (bl md mn ab : List X) (p : ℕ) (x y : X) → length mn ≡ length md → length (set bl p x ++ (mn ++ set ab 0 y)) ≡ length (bl ++ (md ++ ab))
+long_over bl md mn ab p x y same =
+    omega (arith, length-append (set bl p x) (mn ++ set ab 0 y), length-append mn (set ab 0 y), length-set bl p x, length-set ab 0 y, length-append bl (md ++ ab), length-append md ab, same)
 
 -- and all are whole
 pub whole_over : {X : Type 0} (Q : X → Type 0) (bl md mn ab : List X) (p : ℕ) (x y : X) → All Q (bl ++ (md ++ ab)) → All Q mn → Q x → Q y → All Q (set bl p x ++ (mn ++ set ab 0 y))

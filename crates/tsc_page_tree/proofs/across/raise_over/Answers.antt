@@ -10,7 +10,7 @@ use Rattle.tsc_page_tree.specs.Across.{IsLastReached}
 use Rattle.tsc_page_tree.proofs.LeafLists.{all_some}
 use Rattle.tsc_page_tree.proofs.PartAdds.{IsAddend}
 use Rattle.tsc_page_tree.proofs.TreeAcross.{later_reached}
-use Rattle.tsc_page_tree.proofs.OverParts.{stays_over, raises_over, stops_over, sizes_over, whole_over, parts_first, parts_second, part_sorted}
+use Rattle.tsc_page_tree.proofs.OverParts.{stays_over, raises_over, stops_over, sizes_over, long_over, whole_over, parts_first, parts_second, part_sorted}
 use Rattle.tsc_page_tree.proofs.across.raise_over.Given.{Over}
 use Rattle.tsc_page_tree.proofs.across.raise_over.Goals.{After-last_reached-last, After-split_at_mut-mid}
 use Rattle.tsc_page_tree.proofs.across.raise_over.Goals as goal
@@ -79,16 +79,42 @@ module _ (g : Over) (c : After-split_at_mut-mid g) where
       subst (λ (n : ℕ). IsLastReached (map f (bl ++ (md ++ ab))) a.to n) (sym sum)
       (subst (λ (xs : List g.row.P.Denot). IsLastReached (map f xs) a.to c.last_reached-last.result) shape reached)
 
+pub last_reached-last-requires-clause-some : goal.last_reached-last-requires-clause-some
+last_reached-last-requires-clause-some g c = omega (arith, c.requires.bound)
+
+pub stops_at_next-stops-requires-clause-bound : goal.stops_at_next-stops-requires-clause-bound
+stops_at_next-stops-requires-clause-bound g c = omega (arith, c.last_reached-last.ensures.bound, length-map c.args.parts.now g.P.Part.nodes, c.requires.bound)
+
 pub overflow_sub-last : goal.overflow_sub-last
 overflow_sub-last g c = omega (arith, behind_first g (goal.at.overflow_sub-last g c).After-last_reached-last)
 
 pub overflow_sub-last-2 : goal.overflow_sub-last-2
 overflow_sub-last-2 g c = omega (arith, behind_first g (goal.at.overflow_sub-last-2 g c).After-last_reached-last)
 
+pub split_at_mut-mid-requires : goal.split_at_mut-mid-requires
+split_at_mut-mid-requires g c =
+    omega (arith, behind_first g (goal.at.split_at_mut-mid-requires g c).After-last_reached-last, c.split_at_mut-below.ensures.back_len, c.last_reached-last.ensures.bound, length-map c.args.parts.now g.P.Part.nodes, c.requires.bound)
+
+pub bounds-below-first : goal.bounds-below-first
+bounds-below-first g c =
+    let k = (goal.at.bounds-below-first g c).After-split_at_mut-mid in
+    omega (arith, (long g k))
+
 pub bounds-above-0 : goal.bounds-above-0
 bounds-above-0 g c =
     let k = (goal.at.bounds-above-0 g c).After-split_at_mut-mid in
     omega (arith, (one g k))
+
+pub raise_ends-requires-clause-whole_low : goal.raise_ends-requires-clause-whole_low
+raise_ends-requires-clause-whole_low g c =
+    let k = (goal.at.raise_ends-requires-clause-whole_low g c).After-split_at_mut-mid in
+    let f = g.P.Part.nodes in
+    let Q = g.P.Part.IsWhole in
+    let p : ℕ = c.args.first in
+    let bl = c.split_at_mut-below.result.0.now in
+    let md = c.split_at_mut-mid.result.0.now in
+    let ab = c.split_at_mut-mid.result.1.now in
+    (parts_first f Q bl (md ++ ab) (parts g k)).whole p c.index-below-first.result (omega (arith, (long g k)))
 
 pub raise_ends-requires-clause-whole_high : goal.raise_ends-requires-clause-whole_high
 raise_ends-requires-clause-whole_high g c =
@@ -236,3 +262,21 @@ returns-clause-whole g c =
     let x = c.raise_ends.new.low in
     let y = c.raise_ends.new.high in
     whole_over Q bl md c.raise_all.new.parts ab p x y (parts g k).whole c.raise_all.ensures.whole c.raise_ends.ensures.low c.raise_ends.ensures.high
+
+pub returns-then-not-raise_ends-clause-len : goal.returns-then-not-raise_ends-clause-len
+returns-then-not-raise_ends-clause-len g c =
+    let k = (goal.at.returns-then-not-raise_ends-clause-len g c).After-split_at_mut-mid in
+    let p : ℕ = c.args.first in
+    let bl = c.split_at_mut-below.result.0.now in
+    let md = c.split_at_mut-mid.result.0.now in
+    let ab = c.split_at_mut-mid.result.1.now in
+    long_over bl md md ab p c.raise_ends.new.low c.raise_ends.new.high refl ∙ ap length (sym (shape g k))
+
+pub returns-clause-len : goal.returns-clause-len
+returns-clause-len g c =
+    let k = (goal.at.returns-clause-len g c).After-split_at_mut-mid in
+    let p : ℕ = c.args.first in
+    let bl = c.split_at_mut-below.result.0.now in
+    let md = c.split_at_mut-mid.result.0.now in
+    let ab = c.split_at_mut-mid.result.1.now in
+    long_over bl md c.raise_all.new.parts ab p c.raise_ends.new.low c.raise_ends.new.high c.raise_all.ensures.len ∙ ap length (sym (shape g k))
