@@ -1,12 +1,22 @@
-use Rattle.std.proofs.Common.{rules, ◌≡◌, ◌∙◌, ◌+◌, sym, arith, refl}
+use Rattle.std.proofs.Common.{rules, ◌≡◌, ◌∙◌, ◌+◌, ◌++◌, sym, subst, List, arith, refl}
 use Rattle.std.specs.Prelude.{Err}
+use Rattle.tsc_trace.specs.declared.log.Line.{Line}
+use Rattle.tsc_run.specs.Runs.{Runs}
 use Rattle.tsc_run.specs.declared.fault.RunFault.TheVariants.{NoMemory}
 use Rattle.tsc_run.proofs.Running.{one_more, all_made}
 use Rattle.tsc_run.proofs.Seating.{one_less_left, fits_here, ends_refused, ends_without_memory, ends_whole}
 use Rattle.tsc_run.proofs.list.make_calls.Goals as goal
 
 pub loop-index-init : goal.loop-index-init
-loop-index-init g c = search rules
+loop-index-init g c =
+    let start = c.args.seat.now in
+    record {
+      cache = c.requires.cache;
+      same = refl;
+      thread = search rules;
+      runs = λ rest last run. subst (λ (lines : List Line). Runs start 0 c.args.calls.now (lines ++ rest) last) (sym c.in_ok-lines.ensures.items) run;
+      left = refl;
+    }
 
 pub answer-said-requires-clause-cache : goal.answer-said-requires-clause-cache
 answer-said-requires-clause-cache g c = c.loop-index.invariant.cache
