@@ -1,12 +1,13 @@
 -- How many Adds the seats of lists' runs count: no more than the lists have, and fewer where an Add was refused. So a history that may have as many Adds as the lists is never full.
-use Rattle.std.proofs.Common.{◌≡◌, ◌∙◌, sym, ap, subst, ℕ, ◌+◌, ◌<◌, ◌≤◌, List, [], ◌∷◌, ◌++◌, length, drop, get_or, length-append, arith, Vec, Global}
+use Rattle.std.proofs.Common.{◌≡◌, ◌∙◌, sym, ap, subst, Bool, true, ℕ, ◌+◌, ◌<◌, ◌≤◌, List, [], ◌∷◌, ◌++◌, length, drop, get_or, length-append, arith, Vec, Global}
 use Rattle.std.specs.Prelude.{cond, Ok, Err, IfOk, IfErr}
 use Rattle.std.proofs.lemmas.List.{length-map}
 use Rattle.std.proofs.lemmas.List.Sums.{sum_by-cons, sum_by_push}
 use Rattle.std.proofs.lemmas.List.Elements.{All-append, All-cons, All-nil, All-contains, Contains-append_left, Contains-push}
 use Rattle.tsc_shared_desk.proofs.Prefixes.{begins_length}
 use Rattle.tsc_cache.specs.History.{BeginsWith}
-use Rattle.tsc_trace_json.specs.Calls.{adds}
+use Rattle.tsc_trace_json.specs.Calls.{adds, call_fits}
+use Rattle.tsc_trace_json.specs.Traces.{EachFits}
 use Rattle.tsc_trace_json.specs.declared.trace.Call.{Call}
 use Rattle.tsc_trace.specs.declared.log.Line.{Line}
 use Rattle.tsc_trace.specs.declared.log.Said.{Said}
@@ -17,7 +18,7 @@ use Rattle.tsc_shared.specs.declared.answers.Closed.{Closed}
 use Rattle.tsc_run.specs.declared.fault.RunFault.{RunFault}
 use Rattle.tsc_run.specs.declared.fault.RunFault.TheVariants as fault
 use Rattle.tsc_run.specs.Ending.{CanEndRun}
-use Rattle.tsc_run.specs.Runs.{Says, Runs, RunsAll, Told, StopsList, EndsList, IsFullEarly, StopsLists, EndsLists, Joins, counted}
+use Rattle.tsc_run.specs.Runs.{Says, IsRefusedAs, Runs, RunsAll, Told, StopsList, EndsList, IsFullEarly, StopsLists, EndsLists, Joins, counted}
 use Rattle.tsc_run.proofs.Running.{left_from, one_list_more, calls_in}
 use Rattle.tsc_run.proofs.Truth.{count_after}
 
@@ -38,6 +39,32 @@ one_less_left start seat seat' calls index call answer within here goes says lef
 -- all calls were made
 pub ends_whole : (start seat : SeatView) (calls : List Call) (lines : Vec Line Global) (index : ℕ) → seat.cache ≡ start.cache → IsLeft start calls seat index → Runs start 0 calls lines.items seat → EndsList start calls (Ok lines) seat
 ends_whole start seat calls lines index same left run = record { cache = same; few = omega (arith, left); ran = run; stopped = tt }
+
+-- each call fits a page of the seat's cache
+pub fits_here : (cache : SharedView) (seat : SeatView) (calls : List Call) (index : ℕ) (call : Call) → EachFits cache.config calls → seat.cache ≡ cache → index < length calls → call ≡ get_or calls index call → call_fits seat.cache.config call ≡ true
+fits_here cache seat calls index call each same within here =
+    ap (λ (c : SharedView). call_fits c.config call) same ∙ ap (λ (it : Call). call_fits cache.config it) here ∙ each index call within
+
+-- memory was refused between two calls
+pub ends_without_memory : (start seat : SeatView) (calls : List Call) (index : ℕ) → seat.cache ≡ start.cache → IsLeft start calls seat index → EndsList start calls (Err fault.NoMemory) seat
+ends_without_memory start seat calls index same left = record { cache = same; few = omega (arith, left); ran = tt; stopped = tt }
+
+-- a call was refused
+pub ends_refused : (start seat seat' : SeatView) (calls : List Call) (index : ℕ) (call : Call) (why : RunFault) → index < length calls → call ≡ get_or calls index call → seat.cache ≡ start.cache → GoesOn seat seat' → IsRefusedAs why call seat seat'
+    → IsLeft start calls seat index → EndsList start calls (Err why) seat'
+ends_refused start seat seat' calls index call fault.HistoryFull within here same goes refused left = record {
+  cache = goes.cache ∙ same;
+  few = omega (arith, left, refused.1);
+  ran = tt;
+  stopped = (
+    omega (arith, left, adds_left calls index call within here, ap {B = ℕ} (λ (is : Bool). cond is 1 0) refused.0, refused.1),
+    refused.2 ∙ ap (λ (cache : SharedView). cache.limit) same,
+  );
+}
+ends_refused start seat seat' calls index call fault.NoMemory within here same goes refused left = record { cache = goes.cache ∙ same; few = omega (arith, left, refused.0); ran = tt; stopped = tt }
+ends_refused start seat seat' calls index call (fault.Open why) within here same goes refused left = absurd refused
+ends_refused start seat seat' calls index call fault.Gone within here same goes refused left = absurd refused
+ends_refused start seat seat' calls index call fault.NoThread within here same goes refused left = absurd refused
 
 -- ---- lists
 
