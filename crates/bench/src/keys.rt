@@ -5,7 +5,7 @@ use std::alloc::Global;
 use tsc_page::{LEAST_SIZE, MOST_SIZE};
 use tsc_span::{Key, Span};
 
-/// At how many places of a full page each operation is made.
+/// At how many places of a page each operation is made.
 pub const PLACES: u32 = 1024;
 
 /// At how many places an Add is made to a copy.

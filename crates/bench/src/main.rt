@@ -99,12 +99,16 @@ fn main(rt: HostRuntime) -> Result<()> {
     let words: Vec<String> = env::args(&rt)?.collect(rt.alloc())?;
     // the program's name comes before them
     let words = &words[words.len().min(1)..];
-    let done = match words.split_first() {
-        Some((first, sizes)) => match word_of(first) {
-            Word::All => measure(&rt, &rt, Word::All, &nodes_of(rt.alloc(), words)?),
-            word => measure(&rt, &rt, word, &nodes_of(rt.alloc(), sizes)?),
-        },
-        None => short_run(&rt, &rt),
+    let (word, sizes) = match words.split_first() {
+        Some((first, sizes)) => (word_of(first), sizes),
+        None => (Word::All, words),
+    };
+    let sizes = if let Word::All = word { words } else { sizes };
+    let sizes = nodes_of(rt.alloc(), sizes)?;
+    let done = if words.is_empty() {
+        short_run(&rt, &rt)
+    } else {
+        measure(&rt, &rt, word, &sizes)
     };
     done.context(GIVEN_UP)
 }

@@ -81,11 +81,13 @@ pub fn print_shared<R: Threads + Wait + Sync>(
 /// Makes a trial's calls in [`ROUNDS`] rounds, at the shared cache and then at the one of a single thread, with new
 /// caches each time, and prints what they came to. Gives what the round in the middle came to at the shared cache.
 fn print_trial<R: Threads + Wait + Sync>(host: &HostRuntime, rt: &R, trial: Trial) -> Option<u64> {
-    let (mut shared, mut alone, mut percents): (Rounds, Rounds, Rounds) = ([0; 9], [0; 9], [0; 9]);
-    for ((shared, alone), percent) in shared.iter_mut().zip(&mut alone).zip(&mut percents) {
-        *shared = unit(trial, by_seats(host, rt, trial)?.0);
-        *alone = unit(trial, by_one(host, trial)?);
-        *percent = shared.saturating_mul(100) / (*alone).max(1);
+    let mut shared: Rounds = [0; 9];
+    let mut alone: Rounds = [0; 9];
+    let mut percents: Rounds = [0; 9];
+    for round in 0..9 {
+        shared[round] = unit(trial, by_seats(host, rt, trial)?.0);
+        alone[round] = unit(trial, by_one(host, trial)?);
+        percents[round] = shared[round].saturating_mul(100) / alone[round].max(1);
     }
     let (shared, alone, percents) = (Spread::of(shared), Spread::of(alone), Spread::of(percents));
     let (nodes, seats, idle, lookups) = (trial.nodes, trial.seats, trial.idle, trial.lookups);
