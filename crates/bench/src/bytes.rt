@@ -2,8 +2,10 @@
 //!
 //! The keys lie side by side, and all is done in the order in which `speed.c` and `speed.rs` do it, so that heap and caches of the
 //! processor have the same to do.
-use crate::figure::{Figure, Least, NO_TURNS};
-use crate::keys::{APART, PLACES, STRIDE};
+use crate::figure::{Figure, Least};
+use crate::keys::{APART, STRIDE};
+use crate::subject::Subject;
+use crate::turns::Board;
 use std::alloc::Global;
 use std::time::Instant;
 use tsc_cache::{Cache, Config, TimestampCache};
@@ -23,17 +25,20 @@ const FIRST_WALL: u64 = 10;
 /// What a node with a key of 8 bytes costs.
 const COST: u32 = 40;
 
-/// Measures calls on a cache of one page: lookups and Adds of [`PLACES`] known keys from all over it, turn by turn.
+/// Some keys.
+type Known = [[u8; 8]; 1024];
+
+/// Measures calls on a cache of one page: lookups and Adds of known keys from all over it, turn by turn.
 pub fn measure_bytes(rt: &HostRuntime, nodes: u32, turns: u32) -> Option<Least> {
+    let mut board = Board::new(Vec::new(rt.alloc()));
     let mut cache = filled(rt.alloc(), nodes)?;
-    let keys = keys_of(rt.alloc(), nodes)?;
-    let mut least = NO_TURNS;
+    let keys = keys_of(nodes);
     for turn in 0..turns {
         let wall = FIRST_WALL.saturating_add(u64::from(turn)).saturating_add(1);
-        least[0] = least[0].or_less(look_up(rt, &cache, &keys)?);
-        least[1] = least[1].or_less(add(rt, &mut cache, &keys, wall)?);
+        board.keep(0, look_up(rt, &cache, &keys));
+        board.keep(1, add(rt, &mut cache, &keys, wall));
     }
-    Some(least)
+    board.end(true)
 }
 
 /// A cache with a full page.
@@ -41,10 +46,11 @@ fn filled(alloc: Global, nodes: u32) -> Option<Cache> {
     let size = nodes.saturating_mul(COST);
     let config = Config::new(size, size, 2, 1_000_000, Timestamp::ZERO).ok()?;
     let mut cache = Cache::new(alloc, config).ok()?;
+    let mut is_full = true;
     for place in 0..u64::from(nodes) {
-        add_key(alloc, &mut cache, &key_of(place), FIRST_WALL)?;
+        is_full = is_full && add_key(alloc, &mut cache, &key_of(place), FIRST_WALL);
     }
-    Some(cache)
+    is_full.then_some(cache)
 }
 
 /// The key of a place among the nodes.
@@ -52,18 +58,19 @@ fn key_of(place: u64) -> [u8; 8] {
     place.wrapping_mul(APART).to_be_bytes()
 }
 
-/// [`PLACES`] keys from all over the page.
-fn keys_of(alloc: Global, nodes: u32) -> Option<Vec<[u8; 8]>> {
-    let mut keys = Vec::with_capacity(alloc, PLACES as usize).ok()?;
-    for i in 0..u64::from(PLACES) {
-        keys.push(key_of(i * STRIDE % u64::from(nodes.max(1))))
-            .ok()?;
+/// Keys from all over the page.
+fn keys_of(nodes: u32) -> Known {
+    let mut keys = [[0; 8]; 1024];
+    let mut number: u64 = 0;
+    for key in &mut keys {
+        *key = key_of(number % u64::from(nodes.max(1)));
+        number = number.saturating_add(STRIDE);
     }
-    Some(keys)
+    keys
 }
 
 /// Looks up each of the keys.
-fn look_up(rt: &HostRuntime, cache: &Cache, keys: &[[u8; 8]]) -> Option<Figure> {
+fn look_up(rt: &HostRuntime, cache: &Cache, keys: &Known) -> Option<Figure> {
     let mut latest = Timestamp::ZERO;
     let start = Instant::now(rt).ok()?;
     for key in keys {
@@ -75,18 +82,22 @@ fn look_up(rt: &HostRuntime, cache: &Cache, keys: &[[u8; 8]]) -> Option<Figure> 
 }
 
 /// Adds each of the keys at a wall time.
-fn add(rt: &HostRuntime, cache: &mut Cache, keys: &[[u8; 8]], wall: u64) -> Option<Figure> {
+fn add(rt: &HostRuntime, cache: &mut Cache, keys: &Known, wall: u64) -> Option<Figure> {
     let start = Instant::now(rt).ok()?;
     for key in keys {
-        add_key(rt.alloc(), cache, key, wall)?;
+        if !add_key(rt.alloc(), cache, key, wall) {
+            return None;
+        }
     }
     Figure::since(rt, start, keys.len() as u64)
 }
 
-/// Adds a key, of which a span is made by a copy, at a wall time.
-fn add_key(alloc: Global, cache: &mut Cache, key: &[u8], wall: u64) -> Option<()> {
-    let span = Span::point(Key::new(alloc, key).ok()?);
-    let value = Value::of(Timestamp::new(wall, 0)?, Uuid::from_bytes(OWNER));
-    let added = cache.add(&span, value, Timestamp::ZERO).ok()?;
-    added.kept.then_some(())
+/// Adds a key, of which a span is made by a copy, at a wall time. Tells whether that was done.
+fn add_key(alloc: Global, cache: &mut Cache, key: &[u8; 8], wall: u64) -> bool {
+    let time = Timestamp::new(wall, 0).unwrap_or(Timestamp::MAX);
+    let value = Value::of(time, Uuid::from_bytes(OWNER));
+    match Key::new(alloc, key) {
+        Ok(key) => cache.make_add(&Span::point(key), value, Timestamp::ZERO),
+        Err(_) => false,
+    }
 }

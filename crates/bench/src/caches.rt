@@ -1,9 +1,8 @@
 //! What is measured on caches of several pages.
-use crate::figure::{Figure, Least, Spread};
+use crate::figure::{Figure, Least, ROUNDS, Rounds, Spread};
 use crate::keys::{At, Keys, PLACES, WIDTH};
-use crate::pages::ROUNDS;
 use crate::subject::{Subject, value_at};
-use crate::turns::{AddLast, Board, Call, Course, LATE, Lookup, Plan, Step, time_calls};
+use crate::turns::{AddLast, Board, Call, Course, LATE, Lookup, Plan, time_calls};
 use std::alloc::Global;
 use std::time::Instant;
 use tsc_cache::{Cache, Config, Mark, TimestampCache};
@@ -47,10 +46,10 @@ const ROTATIONS: u32 = 2;
 /// Lookups in pages that have one time, and Adds in place.
 static LEVEL: Course = Course {
     steps: &[
-        Step(0, Call::Lookup, At::Keys),
-        Step(1, Call::Lookup, At::Ranges),
-        Step(2, Call::Add, At::Keys),
-        Step(3, Call::Add, At::Ranges),
+        (0, Call::Lookup, At::Keys),
+        (1, Call::Lookup, At::Ranges),
+        (2, Call::Add, At::Keys),
+        (3, Call::Add, At::Ranges),
     ],
     at_once: true,
     ..Course::RISING
@@ -58,7 +57,7 @@ static LEVEL: Course = Course {
 
 /// Adds by the next version.
 static NEXT: Course = Course {
-    steps: &[Step(4, Call::Next, At::Some)],
+    steps: &[(4, Call::Next, At::Some)],
     first: LATE,
     step: 0,
     ..Course::RISING
@@ -66,17 +65,14 @@ static NEXT: Course = Course {
 
 /// Lookups in pages of which the newer ones have later times.
 static RISING: Course = Course {
-    steps: &[
-        Step(5, Call::Lookup, At::Keys),
-        Step(6, Call::Lookup, At::Ranges),
-    ],
+    steps: &[(5, Call::Lookup, At::Keys), (6, Call::Lookup, At::Ranges)],
     at_once: true,
     ..Course::RISING
 };
 
 /// Adds of [`PLACES`] known keys by the next version.
 static ONE_BY_ONE: Course = Course {
-    steps: &[Step(0, Call::Next, At::Keys)],
+    steps: &[(0, Call::Next, At::Keys)],
     first: LATE,
     step: 0,
     ..Course::RISING
@@ -85,79 +81,64 @@ static ONE_BY_ONE: Course = Course {
 /// A cache of so many full pages, each with keys of its own. All that is on them has one time, or that of a
 /// newer page is later.
 pub fn filled(alloc: Global, nodes: u32, pages: u32, is_rising: bool) -> Option<Cache> {
-    let size = Keys::new(nodes, 0).page_size(alloc)?;
+    let size = Keys::new(nodes, 0).page_size();
     let config = Config::new(size, size, pages, 0, Timestamp::ZERO).ok()?;
     let mut cache = Cache::new(alloc, config).ok()?;
-    let is_full = fill(alloc, &mut cache, nodes, pages, is_rising).is_some();
-    is_full.then_some(cache)
-}
-
-/// Fills the pages of a cache.
-fn fill(alloc: Global, cache: &mut Cache, nodes: u32, pages: u32, is_rising: bool) -> Option<()> {
+    let mut is_full = true;
     for page in 0..pages {
         let wall = if is_rising { u64::from(page) + 1 } else { 1 };
-        fill_front(alloc, cache, Keys::new(nodes, page), wall)?;
+        is_full = is_full && fill_front(alloc, &mut cache, Keys::new(nodes, page), wall);
     }
-    (cache.pages() == pages as usize).then_some(())
+    (is_full && cache.pages() == pages as usize).then_some(cache)
 }
 
-/// Adds the keys of a page from the least on, which moves no node, at a wall time. Nothing is dropped.
-fn fill_front<S: Subject>(alloc: Global, subject: &mut S, keys: Keys, wall: u64) -> Option<()> {
+/// Adds the keys of a page from the least on, which moves no node, at a wall time. Nothing is dropped. Tells whether that was done.
+fn fill_front(alloc: Global, cache: &mut Cache, keys: Keys, wall: u64) -> bool {
+    let value = value_at(wall);
+    let mut is_full = true;
     for place in 0..u64::from(keys.nodes) {
-        let span = keys.span(alloc, place, 0)?;
-        if !subject.make_add(&span, value_at(wall), Timestamp::ZERO) {
-            return None;
-        }
+        is_full = is_full
+            && match keys.span(alloc, place, 0) {
+                Some(span) => cache.make_add(&span, value, Timestamp::ZERO),
+                None => false,
+            };
     }
-    Some(())
+    is_full
 }
 
 /// Measures caches of so many pages in [`ROUNDS`] rounds.
 pub fn measure_cache(rt: &HostRuntime, nodes: u32, pages: u32, turns: u32) -> Option<Least> {
     let front = Keys::new(nodes, pages.saturating_sub(1));
-    let mut board = Board::new(rt.alloc(), front)?;
+    let mut board = Board::new(front.places(rt.alloc())?);
+    let mut is_done = true;
     for _ in 0..ROUNDS {
-        measure_round(rt, front, false, turns, &mut board)?;
-        measure_round(rt, front, true, turns, &mut board)?;
+        is_done = is_done
+            && measure_round(rt, front, false, turns, &mut board)
+            && measure_round(rt, front, true, turns, &mut board);
     }
-    Some(board.least)
+    board.end(is_done)
 }
 
-/// Makes a cache whose last page is `front`, and measures it.
+/// Makes a cache whose last page is `front`, and measures it. Tells whether it has as many pages as before then.
 fn measure_round(
     rt: &HostRuntime,
     front: Keys,
     is_rising: bool,
     turns: u32,
     board: &mut Board,
-) -> Option<()> {
+) -> bool {
     let pages = front.page.saturating_add(1);
-    let mut cache = filled(rt.alloc(), front.nodes, pages, is_rising)?;
+    let Some(mut cache) = filled(rt.alloc(), front.nodes, pages, is_rising) else {
+        return false;
+    };
     if is_rising {
-        measure_rising(rt, front, turns, &mut cache, board)
+        board.go(rt, &RISING, turns, &mut cache);
+        board.keep(7, rotate(rt, &mut cache, front));
     } else {
-        measure_level(rt, turns, &mut cache, board)
+        board.go(rt, &LEVEL, turns, &mut cache);
+        board.go(rt, &NEXT, 1, &mut cache);
     }
-}
-
-/// Makes operations on a cache whose pages have one time.
-fn measure_level(rt: &HostRuntime, turns: u32, cache: &mut Cache, board: &mut Board) -> Option<()> {
-    board.go(rt, &LEVEL, turns, cache)?;
-    board.go(rt, &NEXT, 1, cache)
-}
-
-/// And on one whose newer pages have later times.
-fn measure_rising(
-    rt: &HostRuntime,
-    front: Keys,
-    turns: u32,
-    cache: &mut Cache,
-    board: &mut Board,
-) -> Option<()> {
-    let pages = cache.pages();
-    board.go(rt, &RISING, turns, cache)?;
-    board.keep(7, rotate(rt, cache, front)?);
-    (cache.pages() == pages).then_some(())
+    cache.pages() == pages as usize
 }
 
 /// Fills [`ROTATIONS`] more pages, and each time the oldest one is dropped, since all of it is past its retention.
@@ -165,147 +146,103 @@ fn rotate(rt: &HostRuntime, cache: &mut Cache, front: Keys) -> Option<Figure> {
     let mut all = Figure::NONE;
     for i in 1..=ROTATIONS {
         let page = front.page.saturating_add(i);
-        let keys = Keys { page, ..front }.all(rt.alloc())?;
-        let plan = Plan::at(u64::from(page) + 1);
-        all = all.and(time_calls::<Cache, AddLast>(rt, &plan, cache, &keys)?);
+        let keys = Keys { page, ..front }.spans(rt.alloc(), front.nodes, 0)?;
+        let plan = Plan {
+            times: 1,
+            first: u64::from(page) + 1,
+            step: 0,
+        };
+        all = all.and(time_calls::<Cache, AddLast>(rt, plan, cache, &keys)?);
     }
     Some(all)
 }
 
-/// Adds known keys of a cache of one page by the next version.
+/// Adds known keys of a cache of one page by the next version: one at a time, and [`MARKS`] at a time from all over the page, and that
+/// are next to one another.
 pub fn measure_batches(rt: &HostRuntime, nodes: u32, turns: u32) -> Option<Least> {
-    let here = Keys::new(nodes, 0);
-    let mut board = Board::new(rt.alloc(), here)?;
-    let mut newest = filled(rt.alloc(), nodes, 1, false)?;
-    add_batches(rt, here, turns, &mut newest, &mut board)?;
-    Some(board.least)
-}
-
-/// Makes the marks, from all over the page and side by side, and adds them in so many turns.
-fn add_batches(
-    rt: &HostRuntime,
-    here: Keys,
-    turns: u32,
-    newest: &mut Cache,
-    board: &mut Board,
-) -> Option<()> {
+    let mut board = Board::new(Keys::new(nodes, 0).places(rt.alloc())?);
     let marks = marks_on(rt.alloc(), board.spans(At::Keys))?;
-    let row = marks_on(rt.alloc(), &here.row(rt.alloc())?)?;
+    let row = marks_on(rt.alloc(), board.spans(At::Row))?;
+    let mut newest = filled(rt.alloc(), nodes, 1, false)?;
     for _ in 0..turns {
-        add_turn(rt, newest, &marks, &row, board)?;
+        board.go(rt, &ONE_BY_ONE, 1, &mut newest);
+        board.keep(1, in_batches(rt, &mut newest, &marks));
+        board.keep(2, in_batches(rt, &mut newest, &row));
     }
-    Some(())
-}
-
-/// Adds the keys one at a time, and [`MARKS`] at a time from all over the page, and that are next to one another.
-fn add_turn(
-    rt: &HostRuntime,
-    newest: &mut Cache,
-    marks: &[Mark],
-    row: &[Mark],
-    board: &mut Board,
-) -> Option<()> {
-    board.go(rt, &ONE_BY_ONE, 1, newest)?;
-    board.keep(1, in_batches(rt, newest, marks)?);
-    board.keep(2, in_batches(rt, newest, row)?);
-    Some(())
+    board.end(true)
 }
 
 /// Each of the spans with a late value.
 pub fn marks_on(alloc: Global, spans: &[Span]) -> Option<Vec<Mark>> {
+    let value = value_at(LATE);
     let mut marks = Vec::with_capacity(alloc, spans.len()).ok()?;
     for span in spans {
-        let (span, value) = (span.try_copy().ok()?, value_at(LATE));
+        let span = span.try_copy().ok()?;
         marks.push(Mark { span, value }).ok()?;
     }
     Some(marks)
 }
 
-/// Adds the marks, of which there are [`PLACES`], [`MARKS`] at a time.
+/// Adds the marks, of which there are [`PLACES`], [`MARKS`] at a time, and puts the next version in the place of the cache.
 fn in_batches(rt: &HostRuntime, newest: &mut Cache, marks: &[Mark]) -> Option<Figure> {
     let start = Instant::now(rt).ok()?;
     for batch in marks.chunks(MARKS as usize) {
-        if !become_next(newest, batch) {
+        let Ok((next, added)) = newest.next_all(batch, Timestamp::ZERO) else {
+            return None;
+        };
+        *newest = next;
+        if !added.kept {
             return None;
         }
     }
     Figure::since(rt, start, u64::from(PLACES / MARKS))
 }
 
-/// Puts the next version in the place of a cache.
-fn become_next(newest: &mut Cache, batch: &[Mark]) -> bool {
-    match newest.next_all(batch, Timestamp::ZERO) {
-        Ok((next, added)) => {
-            *newest = next;
-            added.kept
-        }
-        Err(_) => false,
-    }
-}
-
-/// A cache whose newer pages have later times, and what is looked up in its newest page.
-#[derive(Drop)]
-struct Side {
-    cache: Cache,
-    spans: Vec<Span>,
-}
-
-impl Side {
-    /// A cache of so many pages.
-    fn new(alloc: Global, nodes: u32, pages: u32, width: u32) -> Option<Side> {
-        let spans = Keys::new(nodes, pages.saturating_sub(1)).spans(alloc, PLACES, width)?;
-        let cache = filled(alloc, nodes, pages, true)?;
-        Some(Side { cache, spans })
-    }
-
-    /// What the lookups took.
-    fn look_up(&mut self, rt: &HostRuntime) -> Option<Figure> {
-        time_calls::<Cache, Lookup>(rt, &Plan::at(0), &mut self.cache, &self.spans)
-    }
-}
-
-/// Looks up spans of a width in both caches turn by turn, in so many rounds, and gives what lookups that stop at the
-/// newest of [`MANY`] pages took as a percentage of those in a single page. Each round makes both caches anew, and every
+/// Looks up spans of a width, in caches whose newer pages have later times, in [`ROUNDS`] rounds, and gives what lookups that stop at
+/// the newest of [`MANY`] pages took as a percentage of those in a single page. Each round makes both caches anew, and every
 /// second round the larger one first, since it matters where in memory a page lies.
-pub fn measure_stops(
-    rt: &HostRuntime,
-    nodes: u32,
-    width: u32,
-    rounds: u32,
-    turns: u32,
-) -> Option<Spread> {
-    let mut percents = Vec::new(rt.alloc());
-    for round in 0..rounds {
-        let percent = measure_pair(rt, nodes, width, round % 2 == 0, turns)?;
-        percents.push(percent).ok()?;
+pub fn measure_stops(rt: &HostRuntime, nodes: u32, width: u32, turns: u32) -> Option<Spread> {
+    let in_single = Keys::new(nodes, 0).spans(rt.alloc(), PLACES, width)?;
+    let in_many = Keys::new(nodes, MANY - 1).spans(rt.alloc(), PLACES, width)?;
+    let mut percents: Rounds = [0; 9];
+    let mut single_first = true;
+    for percent in &mut percents {
+        *percent = if single_first {
+            let (single, many) = measure_pair(rt, nodes, turns, (1, &in_single), (MANY, &in_many))?;
+            many.percent_of(single)
+        } else {
+            let (many, single) = measure_pair(rt, nodes, turns, (MANY, &in_many), (1, &in_single))?;
+            many.percent_of(single)
+        };
+        single_first = !single_first;
     }
-    Spread::of(&mut percents)
+    Some(Spread::of(percents))
 }
 
-/// Makes both caches, the single page first or last, and compares them.
+/// How many pages a cache has, and what is looked up in its newest page.
+type Side<'a> = (u32, &'a [Span]);
+
+/// Makes both caches, and tells what lookups in each took, turn by turn.
 fn measure_pair(
     rt: &HostRuntime,
     nodes: u32,
-    width: u32,
-    single_first: bool,
     turns: u32,
-) -> Option<u64> {
-    let (first, second) = if single_first { (1, MANY) } else { (MANY, 1) };
-    let mut first = Side::new(rt.alloc(), nodes, first, width)?;
-    let mut second = Side::new(rt.alloc(), nodes, second, width)?;
-    if single_first {
-        compare(rt, &mut first, &mut second, turns)
-    } else {
-        compare(rt, &mut second, &mut first, turns)
-    }
-}
-
-/// What the lookups in many pages took as a percentage of those in the single page.
-fn compare(rt: &HostRuntime, single: &mut Side, many: &mut Side, turns: u32) -> Option<u64> {
-    let (mut in_single, mut in_many) = (Figure::NONE, Figure::NONE);
+    first: Side<'_>,
+    second: Side<'_>,
+) -> Option<(Figure, Figure)> {
+    let plan = Plan {
+        times: 1,
+        first: 0,
+        step: 0,
+    };
+    let mut one = filled(rt.alloc(), nodes, first.0, true)?;
+    let mut other = filled(rt.alloc(), nodes, second.0, true)?;
+    let (mut in_one, mut in_other) = (Some(Figure::NONE), Some(Figure::NONE));
     for _ in 0..turns {
-        in_single = in_single.and(single.look_up(rt)?);
-        in_many = in_many.and(many.look_up(rt)?);
+        let told = time_calls::<Cache, Lookup>(rt, plan, &mut one, first.1);
+        in_one = Figure::of_both(in_one, told);
+        let told = time_calls::<Cache, Lookup>(rt, plan, &mut other, second.1);
+        in_other = Figure::of_both(in_other, told);
     }
-    Some(in_many.percent_of(in_single))
+    in_one.zip(in_other)
 }

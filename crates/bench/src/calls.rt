@@ -5,7 +5,7 @@ use crate::figure::Figure;
 use crate::keys::PLACES;
 use crate::subject::{Subject, value_at};
 use std::sync::Wait;
-use std::time::{Clock, Instant};
+use std::time::Instant;
 use tsc_cache::Mark;
 use tsc_shared::{Seat, SharedCache};
 use tsc_span::Span;
@@ -14,43 +14,103 @@ use tsc_time::{Timestamp, Value, ratchet};
 /// Multiplied by this, the numbers of 100 calls in a row spread the lookups among them.
 const SPREAD: u64 = 37;
 
-/// The calls that each seat makes.
+/// What a seat does again and again.
 #[derive(Clone, Copy)]
-pub struct Calls {
-    /// How many they are.
-    pub number: u64,
-    /// How many of 100 are lookups; the others are Adds of keys that are there.
+pub enum Work {
+    /// Lookups, and Adds of keys that are there.
+    Calls,
+    /// The same, and each Add is timed by itself.
+    TimedCalls,
+    /// Adds of marks one at a time.
+    Marks,
+    /// And of the same marks as a batch.
+    Batches,
+}
+
+/// What is measured: seats that make calls at one full page that they share, each in a thread of its own.
+#[derive(Clone, Copy)]
+pub struct Trial {
+    /// How many nodes the page has.
+    pub nodes: u32,
+    /// How many seats make calls.
+    pub seats: u32,
+    /// How many further seats the cache has, which make none.
+    pub idle: u32,
+    /// How many of 100 calls are lookups.
     pub lookups: u64,
-    /// Whether each Add is timed by itself.
-    pub times_adds: bool,
-    /// Whether each call adds marks instead.
-    pub adds_marks: bool,
-    /// And these as a batch.
-    pub in_batches: bool,
+    /// How many calls each seat makes, or how often it adds all of its marks.
+    pub number: u64,
+    /// What it does.
+    pub work: Work,
 }
 
-/// What the Adds of a seat took that were timed by themselves.
-#[derive(Clone, Copy)]
-pub struct AddTimes {
-    /// All together.
-    pub all: Figure,
-    /// The nanoseconds of the longest.
-    pub longest: u64,
-}
+/// How many seats make calls, and how many further ones make none; how many of 100 calls are lookups, the others are Adds;
+/// and how often each seat goes over the places.
+pub type Row = (u32, u32, u64, u32);
 
-impl AddTimes {
-    /// Those of no Adds.
-    pub const NONE: AddTimes = AddTimes {
-        all: Figure::NONE,
-        longest: 0,
-    };
-
-    /// Those of both.
-    pub fn and(self, other: AddTimes) -> AddTimes {
-        AddTimes {
-            all: self.all.and(other.all),
-            longest: self.longest.max(other.longest),
+impl Trial {
+    /// The trial of a row.
+    pub fn new(nodes: u32, (seats, idle, lookups, turns): Row, work: Work) -> Trial {
+        Trial {
+            nodes,
+            seats,
+            idle,
+            lookups,
+            number: u64::from(PLACES) * u64::from(turns),
+            work,
         }
+    }
+
+    /// How many calls all seats make.
+    pub fn operations(self) -> u64 {
+        self.number.saturating_mul(u64::from(self.seats))
+    }
+
+    /// Whether the call of a number is a lookup.
+    fn looks_up(self, number: u64) -> bool {
+        number.wrapping_mul(SPREAD) % 100 < self.lookups
+    }
+
+    /// Makes the call of a number, and gives the value that was found or added. Each Add is a nanosecond later than the
+    /// one before it.
+    fn make<S: Subject>(self, subject: &mut S, spans: &[Span], number: u64) -> Option<Value> {
+        let span = spans.get((number % u64::from(PLACES)) as usize)?;
+        if self.looks_up(number) {
+            return Some(subject.look_up(span));
+        }
+        let value = value_at(number.saturating_add(1));
+        subject
+            .make_add(span, value, Timestamp::ZERO)
+            .then_some(value)
+    }
+
+    /// Makes the calls one after the other, and reads no clock. Tells nothing where one was refused, or no value was met.
+    pub fn make_all<S: Subject>(self, subject: &mut S, spans: &[Span]) -> Option<Figure> {
+        let mut latest = Value::unowned(Timestamp::ZERO);
+        for number in 0..self.number {
+            latest = ratchet(latest, self.make(subject, spans, number)?).0;
+        }
+        // what was looked up is used, so that no compiler leaves the lookups out
+        (Timestamp::ZERO < latest.time()).then_some(Figure::NONE)
+    }
+
+    /// Makes the calls one after the other, and times each Add.
+    pub fn time_all<S: Subject>(
+        self,
+        rt: &HostRuntime,
+        subject: &mut S,
+        spans: &[Span],
+    ) -> Option<Figure> {
+        let mut adds = Figure::NONE;
+        for number in 0..self.number {
+            let start = Instant::now(rt).ok()?;
+            self.make(subject, spans, number)?;
+            let figure = Figure::since(rt, start, 1)?;
+            if !self.looks_up(number) {
+                adds = adds.and(figure);
+            }
+        }
+        Some(adds)
     }
 }
 
@@ -79,9 +139,19 @@ impl<'a, R: Wait> Subject for Seated<'a, R> {
 }
 
 impl<'a, R: Wait> Seated<'a, R> {
-    /// Adds marks, as a batch or one at a time.
-    fn add_marks(&mut self, marks: &[Mark], in_batches: bool) -> bool {
-        if in_batches {
+    /// Adds marks again and again, as a batch or one at a time.
+    pub fn add_often(&mut self, marks: &[Mark], trial: Trial) -> Option<Figure> {
+        for _ in 0..trial.number {
+            if !self.add_marks(marks, trial.work) {
+                return None;
+            }
+        }
+        Some(Figure::NONE)
+    }
+
+    /// Adds marks once.
+    fn add_marks(&mut self, marks: &[Mark], work: Work) -> bool {
+        if let Work::Batches = work {
             return self
                 .shared
                 .add_all(self.rt, &mut self.seat, marks, Timestamp::ZERO)
@@ -93,65 +163,5 @@ impl<'a, R: Wait> Seated<'a, R> {
             }
         }
         true
-    }
-
-    /// Adds marks again and again.
-    pub fn add_often(&mut self, marks: &[Mark], calls: Calls) -> Option<AddTimes> {
-        for _ in 0..calls.number {
-            if !self.add_marks(marks, calls.in_batches) {
-                return None;
-            }
-        }
-        Some(AddTimes::NONE)
-    }
-}
-
-impl Calls {
-    /// Whether the call of a number is a lookup.
-    fn looks_up(self, number: u64) -> bool {
-        number.wrapping_mul(SPREAD) % 100 < self.lookups
-    }
-
-    /// Makes the call of a number, and gives the value that was found or added. Each Add is a nanosecond later than the
-    /// one before it.
-    fn make<S: Subject>(self, subject: &mut S, spans: &[Span], number: u64) -> Option<Value> {
-        let span = spans.get((number % u64::from(PLACES)) as usize)?;
-        if self.looks_up(number) {
-            return Some(subject.look_up(span));
-        }
-        let value = value_at(number.saturating_add(1));
-        subject
-            .make_add(span, value, Timestamp::ZERO)
-            .then_some(value)
-    }
-
-    /// Makes the calls one after the other, and reads no clock. Tells nothing where one was refused, or no value was met.
-    pub fn make_all<S: Subject>(self, subject: &mut S, spans: &[Span]) -> Option<AddTimes> {
-        let mut latest = Value::unowned(Timestamp::ZERO);
-        for number in 0..self.number {
-            latest = ratchet(latest, self.make(subject, spans, number)?).0;
-        }
-        // what was looked up is used, so that no compiler leaves the lookups out
-        (Timestamp::ZERO < latest.time()).then_some(AddTimes::NONE)
-    }
-
-    /// Makes the calls one after the other, and times each Add.
-    pub fn time_all<S: Subject, C: Clock>(
-        self,
-        clock: &C,
-        subject: &mut S,
-        spans: &[Span],
-    ) -> Option<AddTimes> {
-        let mut times = AddTimes::NONE;
-        for number in 0..self.number {
-            let start = Instant::now(clock).ok()?;
-            self.make(subject, spans, number)?;
-            let all = Figure::since(clock, start, 1)?;
-            if !self.looks_up(number) {
-                let longest = all.nanoseconds;
-                times = times.and(AddTimes { all, longest });
-            }
-        }
-        Some(times)
     }
 }

@@ -1,14 +1,16 @@
 //! What operations took, and how it is printed.
+use std::fmt;
 use std::time::{Clock, Instant};
-use std::{fmt, io};
 
-/// What an operation took.
+/// What operations took.
 #[derive(Clone, Copy)]
 pub struct Figure {
-    /// How often it was made.
+    /// How many there were.
     pub operations: u64,
     /// The nanoseconds that all took together.
     pub nanoseconds: u64,
+    /// The nanoseconds of those that took longest, of what was timed by itself.
+    pub longest: u64,
 }
 
 impl Figure {
@@ -16,14 +18,16 @@ impl Figure {
     pub const NONE: Figure = Figure {
         operations: 0,
         nanoseconds: 0,
+        longest: 0,
     };
 
     /// So many operations, and what they took from a moment until now.
-    pub fn since<C: Clock>(clock: &C, start: Instant, operations: u64) -> Option<Figure> {
-        let nanoseconds = u64::try_from(start.elapsed(clock).ok()?.as_nanos()).ok()?;
+    pub fn since(rt: &HostRuntime, start: Instant, operations: u64) -> Option<Figure> {
+        let nanoseconds = u64::try_from(start.elapsed(rt).ok()?.as_nanos()).ok()?;
         Some(Figure {
             operations,
             nanoseconds,
+            longest: nanoseconds,
         })
     }
 
@@ -32,6 +36,15 @@ impl Figure {
         Figure {
             operations: self.operations.saturating_add(other.operations),
             nanoseconds: self.nanoseconds.saturating_add(other.nanoseconds),
+            longest: self.longest.max(other.longest),
+        }
+    }
+
+    /// The same, where there are both.
+    pub fn of_both(one: Option<Figure>, other: Option<Figure>) -> Option<Figure> {
+        match (one, other) {
+            (Some(one), Some(other)) => Some(one.and(other)),
+            _ => None,
         }
     }
 
@@ -61,35 +74,11 @@ impl Figure {
     }
 }
 
-/// The least figures of some rows, of which each is an operation.
+/// The figures of some rows, of which each is an operation.
 pub type Least = [Figure; 13];
 
 /// Those of no turns.
 pub const NO_TURNS: Least = [Figure::NONE; 13];
-
-/// What a line begins with.
-#[derive(Clone, Copy)]
-pub enum Head {
-    /// A page of so many nodes with keys of this kind.
-    Page(u32, &'static str),
-    /// So many pages of so many nodes.
-    Cache(u32, u32),
-    /// Calls by bytes to a cache of one page of so many nodes.
-    Here(u32),
-    /// How much pages with keys of this kind grew.
-    Growth(&'static str),
-}
-
-impl fmt::Display for Head {
-    fn fmt<W: fmt::Write>(&self, f: &mut fmt::Formatter<W>) -> fmt::Result {
-        match *self {
-            Head::Page(nodes, keys) => write!(f, "{nodes} nodes, {keys}"),
-            Head::Cache(pages, nodes) => write!(f, "{pages} x {nodes} nodes"),
-            Head::Here(nodes) => write!(f, "here, {nodes} nodes"),
-            Head::Growth(keys) => write!(f, "from the first size to the last, {keys}"),
-        }
-    }
-}
 
 /// What is told of operations.
 #[derive(Clone, Copy)]
@@ -106,57 +95,52 @@ pub enum Tells {
     Percent,
 }
 
-/// Operations, and others that they are compared with.
-#[derive(Clone, Copy)]
-struct Told(Tells, Figure, Figure);
+/// The names of operations in the order of their rows. With each stands the row of the one that it is compared with.
+pub type Names = &'static [(&'static str, usize)];
 
-impl fmt::Display for Told {
-    fn fmt<W: fmt::Write>(&self, f: &mut fmt::Formatter<W>) -> fmt::Result {
-        let Told(tells, all, others) = *self;
-        let (operations, each, percent) = (all.operations, all.each(), all.percent_of(others));
-        match tells {
-            Tells::Count => write!(f, "{operations} operations"),
-            Tells::Each => write!(f, "{operations} operations, {each} ns each"),
-            Tells::Beside => write!(f, "{operations} operations, {each} ns each, {percent} %"),
-            Tells::Time => write!(f, "{each} ns"),
-            Tells::Percent => write!(f, "{percent} %"),
-        }
+/// Prints a line for each operation. Gives `None` where that is refused.
+pub fn print_lines(
+    rt: &HostRuntime,
+    head: &str,
+    tells: Tells,
+    names: Names,
+    least: &Least,
+    others: &Least,
+) -> Option<()> {
+    for (row, (name, beside)) in names.iter().enumerate() {
+        let figure = figure_at(least, row);
+        let (operations, each) = (figure.operations, figure.each());
+        let percent = figure.percent_of(figure_at(others, *beside));
+        let told = match tells {
+            Tells::Count => println!(rt; "{head}, {name}: {operations} operations"),
+            Tells::Each => println!(rt; "{head}, {name}: {operations} operations, {each} ns each"),
+            Tells::Beside => {
+                println!(rt; "{head}, {name}: {operations} operations, {each} ns each, {percent} %")
+            }
+            Tells::Time => println!(rt; "{head}, {name}: {each} ns"),
+            Tells::Percent => println!(rt; "{head}, {name}: {percent} %"),
+        };
+        told.ok()?;
     }
-}
-
-/// Lines, one for each operation in the order of their rows. With each stands the row of the one that it is compared with.
-#[derive(Clone, Copy)]
-pub struct Lines {
-    pub head: Head,
-    pub tells: Tells,
-    pub operations: &'static [(&'static str, usize)],
-}
-
-impl Lines {
-    /// Prints them.
-    pub fn print(self, rt: &HostRuntime, least: &[Figure], others: &[Figure]) -> io::Result<()> {
-        let head = self.head;
-        for (row, (name, beside)) in self.operations.iter().enumerate() {
-            let told = Told(
-                self.tells,
-                figure_at(least, row),
-                figure_at(others, *beside),
-            );
-            println!(rt; "{head}, {name}: {told}")?;
-        }
-        Ok(())
-    }
+    Some(())
 }
 
 /// The figure of a row.
-fn figure_at(least: &[Figure], row: usize) -> Figure {
+fn figure_at(least: &Least, row: usize) -> Figure {
     match least.get(row) {
         Some(figure) => *figure,
         None => Figure::NONE,
     }
 }
 
-/// What some rounds came to. The one in the middle is what counts: what else the machine has to do moves the others.
+/// In how many rounds all is measured. The figure of an operation is the least of them, since what else the machine has
+/// to do only adds to a round.
+pub const ROUNDS: u32 = 9;
+
+/// What each of [`ROUNDS`] rounds came to.
+pub type Rounds = [u64; 9];
+
+/// What rounds came to. The one in the middle is what counts: what else the machine has to do moves the others.
 #[derive(Clone, Copy)]
 pub struct Spread {
     least: u64,
@@ -166,17 +150,14 @@ pub struct Spread {
 }
 
 impl Spread {
-    /// That of rounds in any order, of which there is to be one at the least.
-    pub fn of(rounds: &mut [u64]) -> Option<Spread> {
+    /// That of rounds in any order.
+    pub fn of(mut rounds: Rounds) -> Spread {
         rounds.sort_unstable();
-        if rounds.is_empty() {
-            return None;
-        }
-        Some(Spread {
+        Spread {
             least: rounds[0],
-            median: rounds[rounds.len() / 2],
-            greatest: rounds[rounds.len() - 1],
-        })
+            median: rounds[4],
+            greatest: rounds[8],
+        }
     }
 }
 

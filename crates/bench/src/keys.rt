@@ -1,11 +1,11 @@
 //! The keys of a page, and its places.
-ghost use Rattle.std.specs.Prelude.{◌≤◌, IfSome};
+ghost use Rattle.std.specs.Prelude.{◌≤◌};
 
 use std::alloc::Global;
 use tsc_page::{LEAST_SIZE, MOST_SIZE};
 use tsc_span::{Key, Span};
 
-/// At how many places of a full page each operation is made.
+/// At how many places of a page each operation is made.
 pub const PLACES: u32 = 1024;
 
 /// At how many places an Add is made to a copy.
@@ -27,7 +27,7 @@ pub const APART: u64 = 64;
 /// number of places.
 pub const STRIDE: u64 = 1_696_631;
 
-/// Which places of a page.
+/// Which places of a page, in the order of [`Keys::places`].
 #[derive(Clone, Copy)]
 pub enum At {
     /// [`PLACES`] keys.
@@ -40,6 +40,12 @@ pub enum At {
     Whole,
     /// The keys that are added to copies.
     Some,
+    /// And others, which lie between those of the page.
+    Between,
+    /// All keys, each once.
+    All,
+    /// The first [`PLACES`] keys side by side, and those of a smaller page again from the first on.
+    Row,
 }
 
 /// The keys of a page. Those of the first 64 pages of a cache are different ones.
@@ -51,26 +57,30 @@ pub struct Keys {
     pub page: u32,
     /// Whether its keys have 16 bytes before the 8 that differ.
     pub is_long: bool,
+    /// How far each span of a list is from the one before it.
+    pub stride: u64,
 }
 
 impl Keys {
-    /// Keys of 8 bytes.
+    /// Keys of 8 bytes, in lists that go all over the page.
     pub fn new(nodes: u32, page: u32) -> Keys {
         Keys {
             nodes,
             page,
             is_long: false,
+            stride: STRIDE,
         }
     }
 
     /// The key of a place among the nodes.
     fn key(self, alloc: Global, place: u64) -> Option<Key> {
         let number = place.wrapping_mul(APART).wrapping_add(u64::from(self.page));
-        let front: &[u8] = if self.is_long { &[7; 16] } else { &[] };
-        let mut bytes = Vec::new(alloc);
-        bytes.extend_from_slice(front).ok()?;
-        bytes.extend_from_slice(&number.to_be_bytes()).ok()?;
-        Key::new(alloc, &bytes).ok()
+        let [a, b, c, d, e, f, g, h] = number.to_be_bytes();
+        let bytes = [
+            7, 7, 7, 7, 7, 7, 7, 7, 7, 7, 7, 7, 7, 7, 7, 7, a, b, c, d, e, f, g, h,
+        ];
+        let from = if self.is_long { 0 } else { 16 };
+        Key::new(alloc, &bytes[from..]).ok()
     }
 
     /// The span of a key, or of `width` nodes from it on.
@@ -84,41 +94,23 @@ impl Keys {
     }
 
     /// The size of a page that has room for so many of these keys and no more.
-    pub fn page_size(self, alloc: Global) -> Option<u32>
-        ensures at_least { IfSome result (λ size. 64 ≤ size) }
-        ensures at_most { IfSome result (λ size. size ≤ 1073741824) }
+    pub fn page_size(self) -> u32
+        ensures at_least { 64 ≤ result }
+        ensures at_most { result ≤ 1073741824 }
     {
-        let each = self.span(alloc, 0, 0)?.cost();
-        let size = each.saturating_mul(self.nodes);
-        Some(size.max(LEAST_SIZE).min(MOST_SIZE))
+        // a key costs 32 bytes beside its own
+        let each: u32 = if self.is_long { 56 } else { 40 };
+        each.saturating_mul(self.nodes)
+            .max(LEAST_SIZE)
+            .min(MOST_SIZE)
     }
 
-    /// So many spans all over the page: single keys, or ranges of `width` nodes.
+    /// So many spans, of which each is a single key or has `width` nodes.
     pub fn spans(self, alloc: Global, count: u32, width: u32) -> Option<Vec<Span>> {
-        self.spans_by(STRIDE, alloc, count, width)
-    }
-
-    /// All keys of the page, each once.
-    pub fn all(self, alloc: Global) -> Option<Vec<Span>> {
-        self.spans(alloc, self.nodes, 0)
-    }
-
-    /// The first [`PLACES`] keys of the page, side by side, and those of a smaller one again from the first on.
-    pub fn row(self, alloc: Global) -> Option<Vec<Span>> {
-        self.spans_by(1, alloc, PLACES, 0)
-    }
-
-    /// Keys that lie between those of the page, which are added to copies of it.
-    pub fn between(self, alloc: Global) -> Option<Vec<Span>> {
-        Keys { page: 1, ..self }.spans(alloc, COPIES, 0)
-    }
-
-    /// So many spans, each so far from the one before it.
-    fn spans_by(self, stride: u64, alloc: Global, count: u32, width: u32) -> Option<Vec<Span>> {
         let starts = u64::from(self.nodes.saturating_sub(width)).max(1);
         let mut spans = Vec::with_capacity(alloc, count as usize).ok()?;
         for i in 0..u64::from(count) {
-            let from = i.wrapping_mul(stride) % starts;
+            let from = i.wrapping_mul(self.stride) % starts;
             spans.push(self.span(alloc, from, width)?).ok()?;
         }
         Some(spans)
@@ -126,16 +118,20 @@ impl Keys {
 
     /// The places of the page, by [`At`].
     pub fn places(self, alloc: Global) -> Option<Vec<Vec<Span>>> {
-        let sizes = [
-            (PLACES, 0),
-            (PLACES, WIDTH),
-            (WIDE_PLACES, WIDE.min(self.nodes / 2)),
-            (WIDE_PLACES, self.nodes.saturating_sub(1)),
-            (COPIES, 0),
+        let page = self.page.saturating_add(1);
+        let lists = [
+            (self, PLACES, 0),
+            (self, PLACES, WIDTH),
+            (self, WIDE_PLACES, WIDE.min(self.nodes / 2)),
+            (self, WIDE_PLACES, self.nodes.saturating_sub(1)),
+            (self, COPIES, 0),
+            (Keys { page, ..self }, COPIES, 0),
+            (self, self.nodes, 0),
+            (Keys { stride: 1, ..self }, PLACES, 0),
         ];
-        let mut places = Vec::with_capacity(alloc, sizes.len()).ok()?;
-        for (count, width) in sizes {
-            places.push(self.spans(alloc, count, width)?).ok()?;
+        let mut places = Vec::with_capacity(alloc, lists.len()).ok()?;
+        for (keys, count, width) in lists {
+            places.push(keys.spans(alloc, count, width)?).ok()?;
         }
         Some(places)
     }

@@ -40,15 +40,14 @@ use crate::caches::{
     BATCH_OPERATIONS, CACHE_OPERATIONS, MANY, PAGES, STOPPING, measure_batches, measure_cache,
     measure_stops,
 };
-use crate::figure::{Figure, Head, Least, Lines, Tells};
-use crate::pages::{PAGE_OPERATIONS, ROUNDS, measure_page};
+use crate::figure::{Least, NO_TURNS, Names, ROUNDS, Tells, print_lines};
+use crate::pages::{PAGE_OPERATIONS, measure_page};
 use crate::report::{print_batches, print_longest, print_shared, short_run_shared};
 use anyhow::{Context, Result, ensure};
-use std::alloc::AllocGlobal;
+use std::alloc::Global;
+use std::env;
 use std::sync::Wait;
 use std::thread::Threads;
-use std::time::Clock;
-use std::{env, io};
 
 /// How many nodes a page has at the least.
 const SMALLEST: u32 = 64;
@@ -77,7 +76,7 @@ const SHORT_KEYS: &str = "keys of 8 bytes";
 const LONG_KEYS: &str = "keys of 24 bytes";
 
 /// What is told of a measurement that was given up.
-const GIVEN_UP: &str = "no memory, or a call was refused";
+const GIVEN_UP: &str = "no memory, or a call was refused, or what was measured can't be printed";
 
 /// What is measured.
 #[derive(Clone, Copy)]
@@ -93,26 +92,25 @@ enum Word {
 /// What operations on a page took, with short keys and with long ones.
 type Pages = (Least, Least);
 
+/// Of no page.
+const NO_PAGES: Pages = (NO_TURNS, NO_TURNS);
+
 fn main(rt: HostRuntime) -> Result<()> {
     let words: Vec<String> = env::args(&rt)?.collect(rt.alloc())?;
     // the program's name comes before them
-    run(&rt, &rt, &words[words.len().min(1)..])
-}
-
-/// Does what the words say.
-fn run<R: Threads + Wait + Sync + Clock + AllocGlobal + Print>(
-    host: &HostRuntime,
-    rt: &R,
-    words: &[String],
-) -> Result<()> {
-    let Some((first, sizes)) = words.split_first() else {
-        short_run(host)?;
-        return short_run_shared(rt, SMALLEST);
+    let words = &words[words.len().min(1)..];
+    let (word, sizes) = match words.split_first() {
+        Some((first, sizes)) => (word_of(first), sizes),
+        None => (Word::All, words),
     };
-    match word_of(first) {
-        Word::All => measure(host, rt, Word::All, words),
-        word => measure(host, rt, word, sizes),
-    }
+    let sizes = if let Word::All = word { words } else { sizes };
+    let sizes = nodes_of(rt.alloc(), sizes)?;
+    let done = if words.is_empty() {
+        short_run(&rt, &rt)
+    } else {
+        measure(&rt, &rt, word, &sizes)
+    };
+    done.context(GIVEN_UP)
 }
 
 /// What a word says is to be measured.
@@ -127,171 +125,159 @@ fn word_of(text: &str) -> Word {
     }
 }
 
-/// How many nodes a word says.
-fn nodes_of(word: &str) -> Result<u32> {
-    let nodes = word.parse()?;
-    ensure!(
-        SMALLEST <= nodes && nodes <= LARGEST,
-        "a page of {SMALLEST} to {LARGEST} nodes can be measured"
-    );
-    Ok(nodes)
+/// How many nodes each word says.
+fn nodes_of(alloc: Global, words: &[String]) -> Result<Vec<u32>> {
+    let mut sizes = Vec::new(alloc);
+    for word in words {
+        let nodes = word.parse()?;
+        ensure!(
+            SMALLEST <= nodes && nodes <= LARGEST,
+            "a page of {SMALLEST} to {LARGEST} nodes can be measured"
+        );
+        sizes.push(nodes)?;
+    }
+    Ok(sizes)
 }
 
 /// Measures with each size, and prints by how much operations on a page grew from the first to the last, where there are
 /// several.
-fn measure<R: Threads + Wait + Sync + Clock + AllocGlobal + Print>(
+fn measure<R: Threads + Wait + Sync>(
     host: &HostRuntime,
     rt: &R,
     word: Word,
-    sizes: &[String],
-) -> Result<()> {
-    let mut pages = Vec::new(rt.alloc());
-    for size in sizes {
-        measure_size(host, rt, word, nodes_of(size)?, &mut pages)?;
+    sizes: &[u32],
+) -> Option<()> {
+    let mut first = None;
+    let mut last = NO_PAGES;
+    for nodes in sizes {
+        last = measure_size(host, rt, word, *nodes)?;
+        first = first.or(Some(last));
     }
-    if pages.len() > 1 {
-        print_growth(host, &pages[0], &pages[pages.len() - 1])?;
+    match (word, first) {
+        (Word::Pages | Word::All, Some(first)) if sizes.len() > 1 => {
+            let head = "from the first size to the last";
+            print_pages(host, head, Tells::Percent, &last, &first)
+        }
+        _ => Some(()),
     }
-    Ok(())
 }
 
-/// Measures with one size, and puts what operations on a page took behind what they took so far.
-fn measure_size<R: Threads + Wait + Sync + Clock + AllocGlobal + Print>(
+/// Measures with one size, and prints it. Gives what operations on a page took.
+fn measure_size<R: Threads + Wait + Sync>(
     host: &HostRuntime,
     rt: &R,
     word: Word,
     nodes: u32,
-    pages: &mut Vec<Pages>,
-) -> Result<()> {
+) -> Option<Pages> {
     match word {
-        Word::Pages => pages.push(print_pages(host, nodes, TURNS, Tells::Each)?)?,
+        Word::Pages => return measure_pages(host, nodes, TURNS, Tells::Each),
         Word::Batch => {
-            print_next(host, nodes)?;
-            print_batches(rt, nodes)?;
+            let least = measure_batches(host, nodes, BATCH_TURNS)?;
+            print_cache(
+                host,
+                1,
+                nodes,
+                Tells::Beside,
+                &BATCH_OPERATIONS,
+                &least,
+                &least,
+            )?;
+            print_batches(host, rt, nodes)?;
         }
-        Word::Bytes => print_bytes(host, nodes)?,
-        Word::Shared => print_shared(rt, nodes)?,
-        Word::Longest => print_longest(rt, nodes)?,
+        Word::Bytes => {
+            let least = measure_bytes(host, nodes, BYTES_TURNS)?;
+            let head = format!(in host.alloc(); "here, {nodes} nodes").ok()?;
+            print_lines(
+                host,
+                &head,
+                Tells::Time,
+                &BYTES_OPERATIONS,
+                &least,
+                &NO_TURNS,
+            )?;
+        }
+        Word::Shared => print_shared(host, rt, nodes)?,
+        Word::Longest => print_longest(host, rt, nodes)?,
         Word::All => {
-            pages.push(print_all(host, nodes)?)?;
-            print_shared(rt, nodes)?;
+            let pages = measure_pages(host, nodes, TURNS, Tells::Each)?;
+            measure_caches(host, nodes, CACHE_TURNS, Tells::Beside, &pages.0)?;
+            print_stops(host, nodes)?;
+            print_shared(host, rt, nodes)?;
+            return Some(pages);
         }
     }
-    Ok(())
-}
-
-/// Measures pages and caches, and prints it. Gives what operations on a page took.
-fn print_all(rt: &HostRuntime, nodes: u32) -> Result<Pages> {
-    let pages = print_pages(rt, nodes, TURNS, Tells::Each)?;
-    print_caches(rt, nodes, CACHE_TURNS, Tells::Beside, &pages.0)?;
-    print_stops(rt, nodes)?;
-    Ok(pages)
+    Some(NO_PAGES)
 }
 
 /// Measures pages with each kind of keys, and prints it.
-fn print_pages(rt: &HostRuntime, nodes: u32, turns: u32, tells: Tells) -> Result<Pages> {
-    let short = measure_page(rt, nodes, false, turns).context(GIVEN_UP)?;
-    let long = measure_page(rt, nodes, true, turns).context(GIVEN_UP)?;
-    print_page(rt, Head::Page(nodes, SHORT_KEYS), tells, &short, &[])?;
-    print_page(rt, Head::Page(nodes, LONG_KEYS), tells, &long, &[])?;
-    Ok((short, long))
-}
-
-/// Prints by how much operations on a page grew.
-fn print_growth(rt: &HostRuntime, first: &Pages, last: &Pages) -> io::Result<()> {
-    print_page(
-        rt,
-        Head::Growth(SHORT_KEYS),
-        Tells::Percent,
-        &last.0,
-        &first.0,
-    )?;
-    print_page(
-        rt,
-        Head::Growth(LONG_KEYS),
-        Tells::Percent,
-        &last.1,
-        &first.1,
-    )
+fn measure_pages(rt: &HostRuntime, nodes: u32, turns: u32, tells: Tells) -> Option<Pages> {
+    let short = measure_page(rt, nodes, false, turns)?;
+    let pages = (short, measure_page(rt, nodes, true, turns)?);
+    let head = format!(in rt.alloc(); "{nodes} nodes").ok()?;
+    print_pages(rt, &head, tells, &pages, &NO_PAGES)?;
+    Some(pages)
 }
 
 /// Prints what operations on a page took.
-fn print_page(
+fn print_pages(
     rt: &HostRuntime,
-    head: Head,
+    head: &str,
     tells: Tells,
-    least: &[Figure],
-    others: &[Figure],
-) -> io::Result<()> {
-    let lines = Lines {
-        head,
-        tells,
-        operations: &PAGE_OPERATIONS,
-    };
-    lines.print(rt, least, others)
+    pages: &Pages,
+    others: &Pages,
+) -> Option<()> {
+    let short = format!(in rt.alloc(); "{head}, {SHORT_KEYS}").ok()?;
+    print_lines(rt, &short, tells, &PAGE_OPERATIONS, &pages.0, &others.0)?;
+    let long = format!(in rt.alloc(); "{head}, {LONG_KEYS}").ok()?;
+    print_lines(rt, &long, tells, &PAGE_OPERATIONS, &pages.1, &others.1)
 }
 
 /// Measures caches, and prints it beside what operations took on a page of the same size.
-fn print_caches(
+fn measure_caches(
     rt: &HostRuntime,
     nodes: u32,
     turns: u32,
     tells: Tells,
-    page: &[Figure],
-) -> Result<()> {
+    page: &Least,
+) -> Option<()> {
     for pages in PAGES {
-        let least = measure_cache(rt, nodes, pages, turns).context(GIVEN_UP)?;
-        let lines = Lines {
-            head: Head::Cache(pages, nodes),
-            tells,
-            operations: &CACHE_OPERATIONS,
-        };
-        lines.print(rt, &least, page)?;
+        let least = measure_cache(rt, nodes, pages, turns)?;
+        print_cache(rt, pages, nodes, tells, &CACHE_OPERATIONS, &least, page)?;
     }
-    Ok(())
+    Some(())
 }
 
-/// Measures batches, and prints what each took beside one `next`.
-fn print_next(rt: &HostRuntime, nodes: u32) -> Result<()> {
-    let least = measure_batches(rt, nodes, BATCH_TURNS).context(GIVEN_UP)?;
-    let lines = Lines {
-        head: Head::Cache(1, nodes),
-        tells: Tells::Beside,
-        operations: &BATCH_OPERATIONS,
-    };
-    lines.print(rt, &least, &least)?;
-    Ok(())
-}
-
-/// Measures calls with keys that are given as bytes, and prints what one took.
-fn print_bytes(rt: &HostRuntime, nodes: u32) -> Result<()> {
-    let least = measure_bytes(rt, nodes, BYTES_TURNS).context(GIVEN_UP)?;
-    let lines = Lines {
-        head: Head::Here(nodes),
-        tells: Tells::Time,
-        operations: &BYTES_OPERATIONS,
-    };
-    lines.print(rt, &least, &[])?;
-    Ok(())
+/// Prints what operations on a cache of so many pages took.
+fn print_cache(
+    rt: &HostRuntime,
+    pages: u32,
+    nodes: u32,
+    tells: Tells,
+    names: Names,
+    least: &Least,
+    others: &Least,
+) -> Option<()> {
+    let head = format!(in rt.alloc(); "{pages} x {nodes} nodes").ok()?;
+    print_lines(rt, &head, tells, names, least, others)
 }
 
 /// Prints what lookups that stop at the newest of many pages take beside those in a single page.
-fn print_stops(rt: &HostRuntime, nodes: u32) -> Result<()> {
+fn print_stops(rt: &HostRuntime, nodes: u32) -> Option<()> {
     for (name, width) in STOPPING {
-        let percents = measure_stops(rt, nodes, width, ROUNDS, STOP_TURNS).context(GIVEN_UP)?;
+        let percents = measure_stops(rt, nodes, width, STOP_TURNS)?;
         println!(rt;
             "{MANY} x {nodes} nodes, {name} that stops at the newest page, beside a single page in {ROUNDS} rounds: {percents} %"
-        )?;
+        ).ok()?;
     }
-    Ok(())
+    Some(())
 }
 
 /// Makes each operation once at each place of a small page and of small caches, and prints no times.
-fn short_run(rt: &HostRuntime) -> Result<()> {
-    print_pages(rt, SMALLEST, 1, Tells::Count)?;
-    print_caches(rt, SMALLEST, 1, Tells::Count, &[])?;
+fn short_run<R: Threads + Wait + Sync>(host: &HostRuntime, rt: &R) -> Option<()> {
+    measure_pages(host, SMALLEST, 1, Tells::Count)?;
+    measure_caches(host, SMALLEST, 1, Tells::Count, &NO_TURNS)?;
     for (_, width) in STOPPING {
-        measure_stops(rt, SMALLEST, width, 2, 1).context(GIVEN_UP)?;
+        measure_stops(host, SMALLEST, width, 1)?;
     }
-    Ok(())
+    short_run_shared(host, rt, SMALLEST)
 }

@@ -1,14 +1,10 @@
 //! What is printed of a shared cache.
 use crate::caches::MARKS;
-use crate::figure::Figure;
-use crate::pages::ROUNDS;
-use crate::shared::{Row, Trial, measure_once, measure_shared};
-use anyhow::{Context, Result};
-use std::alloc::AllocGlobal;
+use crate::calls::{Row, Trial, Work};
+use crate::figure::{Figure, ROUNDS, Rounds, Spread};
+use crate::shared::{by_one, by_seats};
 use std::sync::Wait;
 use std::thread::Threads;
-use std::time::Clock;
-use std::{fmt, io};
 
 /// What is measured: each seat goes over the places more often where all calls are lookups, which take so little that
 /// else a round would be the start and the end of threads. Beside idle seats there are Adds alone, with the fewest of
@@ -58,122 +54,129 @@ static BATCH_SEATS: [u32; 2] = [1, 4];
 /// How often a seat adds its marks in a round.
 const BATCHES: u64 = 200;
 
-/// What is told of a measurement that was given up.
-const GIVEN_UP: &str = "no memory, or a call to a shared cache was refused";
-
 /// Prints how many calls in a second seats of a shared cache make, and one thread without sharing; and what Adds of
 /// one seat take beside idle ones, and by how much more each further idle seat makes an Add take.
-pub fn print_shared<R: Threads + Wait + Sync + Clock + AllocGlobal + Print>(
+pub fn print_shared<R: Threads + Wait + Sync>(
+    host: &HostRuntime,
     rt: &R,
     nodes: u32,
-) -> Result<()> {
-    let mut before = (0, 0);
-    for row in TRIALS {
-        let told = measure_shared(rt, Trial::new(nodes, row), ROUNDS).context(GIVEN_UP)?;
-        println!(rt; "{nodes} nodes, shared by {told}")?;
-        let further = (told.trial.idle, told.shared.median);
-        if further.0 > 0 {
-            print_further(rt, nodes, before, further)?;
+) -> Option<()> {
+    let (mut fewer, mut least) = (0, 0);
+    for row in &TRIALS {
+        let trial = Trial::new(nodes, *row, Work::Calls);
+        let median = print_trial(host, rt, trial)?;
+        if trial.idle > 0 {
+            let seats = u64::from(trial.idle.saturating_sub(fewer)).max(1);
+            let each = median.saturating_sub(least).saturating_mul(10) / seats;
+            let (idle, whole, tenth) = (trial.idle, each / 10, each % 10);
+            println!(host;
+                "{nodes} nodes, from {fewer} idle to {idle}: {whole}.{tenth} ns for each further one"
+            ).ok()?;
         }
-        before = further;
+        (fewer, least) = (trial.idle, median);
     }
-    Ok(())
+    Some(())
 }
 
-/// Prints what each further idle seat adds to an Add, from one number of idle seats with its figure to another one.
-fn print_further<R: Print>(
-    rt: &R,
-    nodes: u32,
-    (fewer, least): (u32, u64),
-    (idle, median): (u32, u64),
-) -> io::Result<()> {
-    let seats = u64::from(idle.saturating_sub(fewer)).max(1);
-    let each = Tenths(median.saturating_sub(least).saturating_mul(10) / seats);
-    println!(rt; "{nodes} nodes, from {fewer} idle to {idle}: {each} ns for each further one")
-}
-
-/// A number of tenths.
-#[derive(Clone, Copy)]
-struct Tenths(u64);
-
-impl fmt::Display for Tenths {
-    fn fmt<W: fmt::Write>(&self, f: &mut fmt::Formatter<W>) -> fmt::Result {
-        let (whole, tenth) = (self.0 / 10, self.0 % 10);
-        write!(f, "{whole}.{tenth}")
+/// Makes a trial's calls in [`ROUNDS`] rounds, at the shared cache and then at the one of a single thread, with new
+/// caches each time, and prints what they came to. Gives what the round in the middle came to at the shared cache.
+fn print_trial<R: Threads + Wait + Sync>(host: &HostRuntime, rt: &R, trial: Trial) -> Option<u64> {
+    let mut shared: Rounds = [0; 9];
+    let mut alone: Rounds = [0; 9];
+    let mut percents: Rounds = [0; 9];
+    for round in 0..9 {
+        shared[round] = unit(trial, by_seats(host, rt, trial)?.0);
+        alone[round] = unit(trial, by_one(host, trial)?);
+        percents[round] = shared[round].saturating_mul(100) / alone[round].max(1);
     }
+    let (shared, alone, percents) = (Spread::of(shared), Spread::of(alone), Spread::of(percents));
+    let (nodes, seats, idle, lookups) = (trial.nodes, trial.seats, trial.idle, trial.lookups);
+    let told = if lookups == 0 {
+        println!(host;
+            "{nodes} nodes, shared by {seats} and {idle} idle, only Adds: {shared} ns each, {alone} without sharing, {percents} %"
+        )
+    } else {
+        println!(host;
+            "{nodes} nodes, shared by {seats}, {lookups} lookups of 100: {shared} calls a second, {alone} without sharing, {percents} %"
+        )
+    };
+    told.ok()?;
+    Some(shared.median)
 }
 
-/// Seats that time each of their Adds, which are half of their calls.
-fn timed_trial(nodes: u32, turns: u32) -> Trial {
-    let mut timed = Trial::new(nodes, (CROWD, 0, 50, turns));
-    timed.calls.times_adds = true;
-    timed
+/// How many calls are made in a second; or how many nanoseconds an Add takes, where no call is a lookup.
+fn unit(trial: Trial, figure: Figure) -> u64 {
+    if trial.lookups == 0 {
+        figure.each()
+    } else {
+        figure.per_second()
+    }
 }
 
 /// Prints how long the longest of many Adds took, and one on the average.
-pub fn print_longest<R: Threads + Wait + Sync + Clock + AllocGlobal + Print>(
+pub fn print_longest<R: Threads + Wait + Sync>(
+    host: &HostRuntime,
     rt: &R,
     nodes: u32,
-) -> Result<()> {
-    let times = measure_once(rt, timed_trial(nodes, TIMED_TURNS))
-        .context(GIVEN_UP)?
-        .1;
-    let (adds, longest, each) = (times.all.operations, times.longest / 1000, times.all.each());
-    println!(rt;
+) -> Option<()> {
+    let trial = Trial::new(nodes, (CROWD, 0, 50, TIMED_TURNS), Work::TimedCalls);
+    let times = by_seats(host, rt, trial)?.1;
+    let (adds, longest, each) = (times.operations, times.longest / 1000, times.each());
+    println!(host;
         "{nodes} nodes, shared by {CROWD}, 50 lookups of 100: of {adds} Adds the longest took {longest} us, and one {each} ns on the average"
-    )?;
-    Ok(())
+    ).ok()
 }
 
-/// Prints what seats of a shared cache take for marks one at a time, and for the same marks as a batch.
-pub fn print_batches<R: Threads + Wait + Sync + Clock + AllocGlobal + Print>(
+/// Prints what seats of a shared cache take for marks one at a time, and for the same marks as a batch. Of each that round counts
+/// which took least; an operation is all marks of a seat.
+pub fn print_batches<R: Threads + Wait + Sync>(
+    host: &HostRuntime,
     rt: &R,
     nodes: u32,
-) -> Result<()> {
+) -> Option<()> {
     for seats in BATCH_SEATS {
-        let (one_by_one, as_a_batch) = measure_batches(rt, nodes, seats).context(GIVEN_UP)?;
-        let (each, all) = (one_by_one.each(), as_a_batch.each());
-        println!(rt;
+        let row = (seats, 0, 0, 0);
+        let one_by_one = Trial {
+            number: BATCHES,
+            ..Trial::new(nodes, row, Work::Marks)
+        };
+        let as_a_batch = Trial {
+            work: Work::Batches,
+            ..one_by_one
+        };
+        let (mut each, mut all) = (Figure::NONE, Figure::NONE);
+        for _ in 0..ROUNDS {
+            each = each.or_less(by_seats(host, rt, one_by_one)?.0);
+            all = all.or_less(by_seats(host, rt, as_a_batch)?.0);
+        }
+        let (each, all) = (each.each(), all.each());
+        println!(host;
             "{nodes} nodes, shared by {seats}, {MARKS} marks: {each} ns one by one, {all} ns as a batch"
-        )?;
+        ).ok()?;
     }
-    Ok(())
-}
-
-/// What so many seats take for marks one at a time, and as a batch. Of each that round counts which took least; an
-/// operation is all marks of a seat.
-fn measure_batches<R: Threads + Wait + Sync + Clock + AllocGlobal>(
-    rt: &R,
-    nodes: u32,
-    seats: u32,
-) -> Option<(Figure, Figure)> {
-    let (mut each, mut all) = (Figure::NONE, Figure::NONE);
-    for _ in 0..ROUNDS {
-        each = each.or_less(measure_once(rt, Trial::of_marks(nodes, seats, BATCHES, false))?.0);
-        all = all.or_less(measure_once(rt, Trial::of_marks(nodes, seats, BATCHES, true))?.0);
-    }
-    Some((each, all))
+    Some(())
 }
 
 /// Makes each kind of calls at each place of a small page that seats share, and prints no times.
-pub fn short_run_shared<R: Threads + Wait + Sync + Clock + AllocGlobal + Print>(
+pub fn short_run_shared<R: Threads + Wait + Sync>(
+    host: &HostRuntime,
     rt: &R,
     nodes: u32,
-) -> Result<()> {
-    for row in SHORT {
-        let trial = Trial::new(nodes, row);
-        measure_shared(rt, trial, 1).context(GIVEN_UP)?;
-        print_short(rt, trial)?;
+) -> Option<()> {
+    for row in &SHORT {
+        let trial = Trial::new(nodes, *row, Work::Calls);
+        by_seats(host, rt, trial)?;
+        by_one(host, trial)?;
+        let (seats, idle, lookups) = (trial.seats, trial.idle, trial.lookups);
+        let operations = trial.operations();
+        println!(host;
+            "{nodes} nodes, shared by {seats} and {idle} idle, {lookups} lookups of 100: {operations} operations"
+        ).ok()?;
     }
-    measure_once(rt, timed_trial(nodes, 1)).context(GIVEN_UP)?;
-    Ok(())
-}
-
-/// Prints how many calls a trial made.
-fn print_short<R: Print>(rt: &R, trial: Trial) -> io::Result<()> {
-    let (nodes, seats, idle) = (trial.nodes, trial.seats, trial.idle);
-    let (lookups, operations) = (trial.calls.lookups, trial.operations());
-    println!(rt;
-        "{nodes} nodes, shared by {seats} and {idle} idle, {lookups} lookups of 100: {operations} operations"
-    )
+    by_seats(
+        host,
+        rt,
+        Trial::new(nodes, (CROWD, 0, 50, 1), Work::TimedCalls),
+    )?;
+    Some(())
 }

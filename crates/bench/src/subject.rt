@@ -73,10 +73,5 @@ impl Versions for Cache {
 
 /// The value of a wall time, which has no owner.
 pub fn value_at(wall: u64) -> Value {
-    Value::unowned(time_at(wall))
-}
-
-/// The time of a wall time.
-pub fn time_at(wall: u64) -> Timestamp {
-    Timestamp::new(wall, 0).unwrap_or(Timestamp::MAX)
+    Value::unowned(Timestamp::new(wall, 0).unwrap_or(Timestamp::MAX))
 }

@@ -1,7 +1,7 @@
 //! The one loop that is timed, and tables of what it goes over.
 use crate::figure::{Figure, Least, NO_TURNS};
-use crate::keys::{At, Keys};
-use crate::subject::{Subject, Versions, time_at, value_at};
+use crate::keys::At;
+use crate::subject::{Subject, Versions, value_at};
 use std::alloc::Global;
 use std::time::Instant;
 use tsc_span::{Key, Span, SpanRef};
@@ -31,36 +31,12 @@ pub struct Plan {
     pub step: u64,
 }
 
-impl Plan {
-    /// Once, at one wall time.
-    pub fn at(first: u64) -> Plan {
-        Plan {
-            times: 1,
-            first,
-            step: 0,
-        }
-    }
-
-    /// Once, each Add a nanosecond later than the one before it.
-    pub fn from(first: u64) -> Plan {
-        Plan {
-            step: 1,
-            ..Plan::at(first)
-        }
-    }
-}
-
 /// The bytes of a single key.
 fn bytes_of(span: &Span) -> &[u8] {
     match span.end_keys().0 {
         Some(key) => key.bytes(),
         None => &[],
     }
-}
-
-/// A span that is made of a copy of a key's bytes.
-fn copy_of(alloc: Global, span: &Span) -> Option<Span> {
-    Some(Span::point(Key::new(alloc, bytes_of(span)).ok()?))
 }
 
 /// Joins what was found with the latest so far.
@@ -99,9 +75,9 @@ struct LookupByCopy;
 
 impl<S: Subject> Operation<S> for LookupByCopy {
     fn make(alloc: Global, subject: &mut S, span: &Span, _wall: u64, latest: &mut Value) -> bool {
-        match copy_of(alloc, span) {
-            Some(copy) => meet(latest, subject.look_up(&copy)),
-            None => false,
+        match Key::new(alloc, bytes_of(span)) {
+            Ok(copy) => meet(latest, subject.look_up(&Span::point(copy))),
+            Err(_) => false,
         }
     }
 }
@@ -136,14 +112,17 @@ impl<S: Versions> Operation<S> for Next {
     }
 }
 
-/// Makes the calls of a turn. `None` where one was refused.
-fn make_all<S, O: Operation<S>>(
-    alloc: Global,
-    plan: &Plan,
+/// Makes the calls of a turn, and tells what they took. `None` where one was refused.
+pub fn time_calls<S, O: Operation<S>>(
+    rt: &HostRuntime,
+    plan: Plan,
     subject: &mut S,
     spans: &[Span],
-) -> Option<Value> {
+) -> Option<Figure> {
+    let operations = (spans.len() as u64).saturating_mul(u64::from(plan.times));
+    let alloc = rt.alloc();
     let mut latest = Value::unowned(Timestamp::ZERO);
+    let start = Instant::now(rt).ok()?;
     for time in 0..plan.times {
         let mut wall = plan.first.saturating_add(u64::from(time));
         for span in spans {
@@ -153,44 +132,13 @@ fn make_all<S, O: Operation<S>>(
             wall = wall.saturating_add(plan.step);
         }
     }
-    Some(latest)
-}
-
-/// Makes the calls of a turn, and tells what they took. `None` where one was refused.
-pub fn time_calls<S, O: Operation<S>>(
-    rt: &HostRuntime,
-    plan: &Plan,
-    subject: &mut S,
-    spans: &[Span],
-) -> Option<Figure> {
-    let operations = (spans.len() as u64).saturating_mul(u64::from(plan.times));
-    let start = Instant::now(rt).ok()?;
-    let latest = make_all::<S, O>(rt.alloc(), plan, subject, spans)?;
     let figure = Figure::since(rt, start, operations)?;
     // what was looked up is used, so that no compiler leaves the lookups out
     (Timestamp::ZERO < latest.time()).then_some(figure)
 }
 
-/// Has a call made, and tells what it took.
-fn time<S: Subject + Versions>(
-    rt: &HostRuntime,
-    call: Call,
-    plan: &Plan,
-    subject: &mut S,
-    spans: &[Span],
-) -> Option<Figure> {
-    match call {
-        Call::Lookup => time_calls::<S, Lookup>(rt, plan, subject, spans),
-        Call::LookupByBytes => time_calls::<S, LookupByBytes>(rt, plan, subject, spans),
-        Call::LookupByCopy => time_calls::<S, LookupByCopy>(rt, plan, subject, spans),
-        Call::Add => time_calls::<S, Add>(rt, plan, subject, spans),
-        Call::Next => time_calls::<S, Next>(rt, plan, subject, spans),
-    }
-}
-
 /// A step of each turn: which row its figure has, what it calls, and where.
-#[derive(Clone, Copy)]
-pub struct Step(pub usize, pub Call, pub At);
+pub type Step = (usize, Call, At);
 
 /// The steps that are made turn by turn, and the wall times of their Adds.
 #[derive(Clone, Copy)]
@@ -224,17 +172,19 @@ impl Course {
 #[derive(Drop)]
 pub struct Board {
     places: Vec<Vec<Span>>,
-    pub least: Least,
+    least: Least,
+    /// Whether no call was refused so far.
+    is_whole: bool,
 }
 
 impl Board {
-    /// The places of a page.
-    pub fn new(alloc: Global, here: Keys) -> Option<Board> {
-        let places = here.places(alloc)?;
-        Some(Board {
+    /// Those of some places.
+    pub fn new(places: Vec<Vec<Span>>) -> Board {
+        Board {
             places,
             least: NO_TURNS,
-        })
+            is_whole: true,
+        }
     }
 
     /// Some of the places.
@@ -245,11 +195,18 @@ impl Board {
         }
     }
 
-    /// Puts the figure of a further turn in its row, where the operations took less than so far.
-    pub fn keep(&mut self, row: usize, figure: Figure) {
-        if let Some(least) = self.least.get_mut(row) {
-            *least = least.or_less(figure);
+    /// Puts the figure of a further turn in its row, where the operations took less than so far. There is none where a call was
+    /// refused.
+    pub fn keep(&mut self, row: usize, told: Option<Figure>) {
+        match (self.least.get_mut(row), told) {
+            (Some(least), Some(figure)) => *least = least.or_less(figure),
+            _ => self.is_whole = false,
         }
+    }
+
+    /// What was kept, where all of it was done.
+    pub fn end(self, is_done: bool) -> Option<Least> {
+        (self.is_whole && is_done).then_some(self.least)
     }
 
     /// Makes the steps of a course in so many turns, of which that counts in which an operation took least: in a short
@@ -260,38 +217,33 @@ impl Board {
         course: &Course,
         turns: u32,
         subject: &mut S,
-    ) -> Option<()> {
+    ) {
         let (turns, times) = if course.at_once {
             (1, turns)
         } else {
             (turns, 1)
         };
-        let mut plan = Plan {
-            times,
-            first: course.first,
-            step: course.step,
-        };
+        let mut lifted = course.first;
         for _ in 0..turns {
-            self.make_turn(rt, course, plan, subject)?;
-            plan.first = plan.first.saturating_add(course.lift);
+            let mut first = lifted;
+            for (row, call, at) in course.steps {
+                let plan = Plan {
+                    times,
+                    first,
+                    step: course.step,
+                };
+                let spans = self.spans(*at);
+                let told = match call {
+                    Call::Lookup => time_calls::<S, Lookup>(rt, plan, subject, spans),
+                    Call::LookupByBytes => time_calls::<S, LookupByBytes>(rt, plan, subject, spans),
+                    Call::LookupByCopy => time_calls::<S, LookupByCopy>(rt, plan, subject, spans),
+                    Call::Add => time_calls::<S, Add>(rt, plan, subject, spans),
+                    Call::Next => time_calls::<S, Next>(rt, plan, subject, spans),
+                };
+                self.keep(*row, told);
+                first = first.saturating_add(course.apart);
+            }
+            lifted = lifted.saturating_add(course.lift);
         }
-        Some(())
-    }
-
-    /// Makes each of the steps once.
-    fn make_turn<S: Subject + Versions>(
-        &mut self,
-        rt: &HostRuntime,
-        course: &Course,
-        mut plan: Plan,
-        subject: &mut S,
-    ) -> Option<()> {
-        for step in course.steps {
-            let Step(row, call, at) = *step;
-            let figure = time(rt, call, &plan, subject, self.spans(at))?;
-            self.keep(row, figure);
-            plan.first = plan.first.saturating_add(course.apart);
-        }
-        Some(())
     }
 }

@@ -7,25 +7,25 @@ use base.Fml.{Lft}
 use Rattle.std.proofs.Crossing.{crosses}
 use Rattle.tsc_cache.proofs.Crossing.{span_syncs}
 use Rattle.tsc_shared.proofs.Crossing.{seat_sends, shared_cache_syncs}
-use Rattle.bench.specs.contracts.calls.AddTimes.{the_row as times}
-use Rattle.bench.specs.contracts.calls.Calls.{the_row as calls}
+use Rattle.bench.specs.contracts.calls.Trial.{the_row as trial}
+use Rattle.bench.specs.contracts.figure.Figure.{the_row as figure}
 use Rattle.bench.proofs.shared.call_all.Goals as goal
 
-calls_syncs : IsSync calls
-calls_syncs = search (sendable, crosses) depth 20
+trial_syncs : IsSync trial
+trial_syncs = search (sendable, crosses) depth 20
 
-times_send : IsSend times
-times_send = search (sendable, crosses) depth 20
+figure_sends : IsSend figure
+figure_sends = search (sendable, crosses) depth 20
 
 -- a borrowed handle may be shared
 handle_syncs : (R : RattleType) → IsSync (param 0 R) → (ℓ : Lifetime) (κ : Lft) → IsSync (ShrRef ℓ κ (param 0 R))
 handle_syncs R s ℓ κ = shr_sync ℓ κ (param 0 R) s
 
-pub map_vec-requires-send-J : goal.map_vec-requires-send-J
-map_vec-requires-send-J g c κs within = search (sendable, crosses, seat_sends) depth 20
+pub map_vec-told-requires-send-J : goal.map_vec-told-requires-send-J
+map_vec-told-requires-send-J g c κs within = search (sendable, crosses, seat_sends) depth 20
 
-pub map_vec-requires-send-X : goal.map_vec-requires-send-X
-map_vec-requires-send-X g c κs within = search (sendable, crosses, times_send) depth 20
+pub map_vec-told-requires-send-X : goal.map_vec-told-requires-send-X
+map_vec-told-requires-send-X g c κs within = search (sendable, crosses, figure_sends) depth 20
 
-pub map_vec-requires-sync-F : goal.map_vec-requires-sync-F
-map_vec-requires-sync-F g c κs within = search (sendable, crosses, handle_syncs g.row.R c.type_bounds.sync-R, shared_cache_syncs, span_syncs, calls_syncs) depth 20
+pub map_vec-told-requires-sync-F : goal.map_vec-told-requires-sync-F
+map_vec-told-requires-sync-F g c κs within = search (sendable, crosses, handle_syncs g.row.R c.type_bounds.sync-R, shared_cache_syncs, span_syncs, trial_syncs) depth 20
