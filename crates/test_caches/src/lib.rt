@@ -1,4 +1,4 @@
-//! Tests of times, spans, pages, caches and the shared cache, through their public calls.
+//! Tests of times, spans, pages and caches, through their public calls.
 //!
 //! They stand apart because a crate that has tests is proved once with them and once without; and together because each crate of
 //! tests takes a minute or so before its first function.
@@ -8,5 +8,3 @@
 mod cache;
 #[cfg(test)]
 mod page;
-#[cfg(test)]
-mod shared;

@@ -295,7 +295,7 @@ static ROWS: [Row; 9] = [
     },
 ];
 
-/// `scripts/refuse-each-growth tests test_caches shared::batches::` refuses each growth of it in turn.
+/// `scripts/refuse-each-growth tests test_shared batches::` refuses each growth of it in turn.
 #[test]
 fn a_batch_is_one_entry(rt: HostRuntime) -> Result<(), Fail> {
     play_all(&rt, rt.alloc(), &ROWS)

@@ -1,4 +1,4 @@
-//! Want of memory. `scripts/refuse-each-growth tests test_caches shared::memory::..` refuses each growth of these tests in
+//! Want of memory. `scripts/refuse-each-growth tests test_shared memory::..` refuses each growth of these tests in
 //! turn, and counts those after which a test passes.
 use super::marks::Entry::One;
 use super::party::By::Gate;

@@ -1,0 +1,42 @@
+//! Tests of the shared cache over threads, through its public calls: what it tells where Adds are held up, raced, refused and handed on.
+//!
+//! They stand apart because a crate that has tests is proved once with them and once without; and apart from those of one thread
+//! because the gate reckons a crate's memory by its lines, so that two large crates wait for each other.
+#![tactic(auto)]
+
+#[cfg(test)]
+mod batches;
+#[cfg(test)]
+mod crowd;
+#[cfg(test)]
+mod figures;
+#[cfg(test)]
+mod fronts;
+#[cfg(test)]
+mod growths;
+#[cfg(test)]
+mod held;
+#[cfg(test)]
+mod large;
+#[cfg(test)]
+mod marks;
+#[cfg(test)]
+mod memory;
+#[cfg(test)]
+mod party;
+#[cfg(test)]
+mod refused;
+#[cfg(test)]
+mod returned;
+#[cfg(test)]
+mod rows;
+#[cfg(test)]
+mod steps;
+#[cfg(test)]
+mod texts;
+#[cfg(test)]
+mod threads;
+#[cfg(test)]
+mod tries;
+#[cfg(test)]
+mod watch;
