@@ -12,6 +12,9 @@ use tsc_span::{Ends, Key, Span, SpanFault, SpanRef};
 use tsc_time::{Timestamp, Value};
 use uuid::Uuid;
 
+/// The number of the form that has the first key alone.
+pub(crate) const POINT: u32 = 8;
+
 /// Which keys a span has.
 #[derive(Clone, Copy)]
 pub enum Form {
@@ -117,7 +120,7 @@ fn form_meant_by(ends: u32) -> Result<Form, Refusal>
         3 => (true, true),
         4 => return Ok(Form::Onward(false)),
         5 => return Ok(Form::Onward(true)),
-        8 => return Ok(Form::Point),
+        POINT => return Ok(Form::Point),
         _ => return Err(Refusal::Ends),
     };
     Ok(Form::Range(Ends {
@@ -127,7 +130,7 @@ fn form_meant_by(ends: u32) -> Result<Form, Refusal>
 }
 
 /// The key of these bytes.
-fn key(alloc: Global, bytes: &[u8]) -> Result<Key, Refusal>
+pub(crate) fn key(alloc: Global, bytes: &[u8]) -> Result<Key, Refusal>
     ensures value { IfOk result (λ key. key ≡ bytes.now) }
     ensures refused { IfErr result (λ refusal. RefusesKey refusal bytes.now) }
 {
