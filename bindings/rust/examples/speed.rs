@@ -60,16 +60,19 @@ fn alone(nodes: u64, places: &[[u8; 8]]) -> Result<[Duration; 2], Error> {
         cache.add(&Span::Point(&key_of(place)), at(FIRST_WALL), now)?;
     }
     least(|wall| {
+        let (mut latest, mut all_kept) = (Time::new(0, 0), true);
         let start = Instant::now();
         for key in places {
-            black_box(cache.get_max(&Span::Point(key)));
+            latest = latest.max(cache.get_max(&Span::Point(key)).time);
         }
         let lookups = start.elapsed();
         let start = Instant::now();
         for key in places {
-            black_box(cache.add(&Span::Point(key), at(wall), now)?);
+            all_kept &= cache.add(&Span::Point(key), at(wall), now)?.kept;
         }
-        Ok([lookups, start.elapsed()])
+        let adds = start.elapsed();
+        assert!(all_kept && latest == Time::new(wall - 1, 0));
+        Ok([lookups, adds])
     })
 }
 

@@ -2,7 +2,6 @@
 use Rattle.std.proofs.Common.{◌≡◌, ◌∙◌, sym, ap, subst, inr, ℕ, ◌+◌, ◌<◌, ◌≤◌, List, [], ◌∷◌, ◌++◌, length, drop, get_or}
 use Rattle.std.proofs.lemmas.List.{drop_more, drop_all, append_assoc, append-nil}
 use Rattle.std.proofs.lemmas.List.Elements.{Contains-get_or}
-use Rattle.std.specs.List.{Contains}
 use Rattle.tsc_page_base.specs.Page.{Mark}
 use Rattle.tsc_c_table.specs.declared.words.TscMark.{TscMark}
 use Rattle.tsc_c_table.specs.declared.refusal.Refusal.{Refusal}

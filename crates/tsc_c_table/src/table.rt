@@ -261,7 +261,8 @@ fn look_in(
 
 /// Adds the span of two keys to a cache.
 ///
-/// That of a single key, which most Adds are of, is made where it is lent: as the result of a function it would be copied, which takes 5 ns.
+/// Most Adds are of a single key. Its span is made here, where it is lent: what a function returns would be copied, and what is written for the other
+/// forms would be written for this one too.
 fn add_in(
     alloc: Global,
     cache: &mut Cache,
@@ -275,12 +276,35 @@ fn add_in(
     ensures unchanged { OnErr result (cache.new ≡ cache.old) }
     ensures refused { IfErr result (λ why. RefusesAddIn why cache.old from.now to.now ends) }
 {
-    if ends == POINT {
-        let span = Span::point(key(alloc, from)?);
-        cache.add(&span, value, now).map_err(of_fault)
-    } else {
-        let span = added_span(alloc, from, to, ends)?;
-        cache.add(&span, value, now).map_err(of_fault)
+    if ends != POINT {
+        return add_formed(alloc, cache, from, to, ends, value, now);
+    }
+    let span = Span::point(key(alloc, from)?);
+    match cache.add(&span, value, now) {
+        Ok(added) => Ok(added),
+        Err(fault) => Err(of_fault(fault)),
+    }
+}
+
+/// The same, in whatever form the span is.
+#[inline(never)]
+fn add_formed(
+    alloc: Global,
+    cache: &mut Cache,
+    from: &[u8],
+    to: &[u8],
+    ends: u32,
+    value: Value,
+    now: Timestamp,
+) -> Result<Added, Refusal>
+    ensures added { IfOk result (λ added. AddsIn cache.old cache.new from.now to.now ends value now added) }
+    ensures unchanged { OnErr result (cache.new ≡ cache.old) }
+    ensures refused { IfErr result (λ why. RefusesAddIn why cache.old from.now to.now ends) }
+{
+    let span = added_span(alloc, from, to, ends)?;
+    match cache.add(&span, value, now) {
+        Ok(added) => Ok(added),
+        Err(fault) => Err(of_fault(fault)),
     }
 }
 
