@@ -42,7 +42,7 @@ use crate::caches::{
 };
 use crate::figure::{Least, NO_TURNS, Names, ROUNDS, Tells, print_lines};
 use crate::pages::{PAGE_OPERATIONS, measure_page};
-use crate::report::{print_batches, print_longest, print_shared, short_run_shared};
+use crate::report::{print_longest, print_marks, print_shared, short_run_shared};
 use anyhow::{Context, Result, ensure};
 use std::alloc::Global;
 use std::env;
@@ -98,19 +98,18 @@ const NO_PAGES: Pages = (NO_TURNS, NO_TURNS);
 fn main(rt: HostRuntime) -> Result<()> {
     let words: Vec<String> = env::args(&rt)?.collect(rt.alloc())?;
     // the program's name comes before them
-    let words = &words[words.len().min(1)..];
-    let (word, sizes) = match words.split_first() {
-        Some((first, sizes)) => (word_of(first), sizes),
-        None => (Word::All, words),
+    run(&rt, &rt, &words[words.len().min(1)..])
+}
+
+/// Measures what the words say.
+fn run<R: Threads + Wait + Sync>(host: &HostRuntime, rt: &R, words: &[String]) -> Result<()> {
+    let Some((first, others)) = words.split_first() else {
+        return short_run(host, rt).context(GIVEN_UP);
     };
-    let sizes = if let Word::All = word { words } else { sizes };
-    let sizes = nodes_of(rt.alloc(), sizes)?;
-    let done = if words.is_empty() {
-        short_run(&rt, &rt)
-    } else {
-        measure(&rt, &rt, word, &sizes)
-    };
-    done.context(GIVEN_UP)
+    let word = word_of(first);
+    let sizes = if let Word::All = word { words } else { others };
+    let sizes = nodes_of(host.alloc(), sizes)?;
+    measure(host, rt, word, &sizes).context(GIVEN_UP)
 }
 
 /// What a word says is to be measured.
@@ -169,44 +168,40 @@ fn measure_size<R: Threads + Wait + Sync>(
     word: Word,
     nodes: u32,
 ) -> Option<Pages> {
-    match word {
+    let done = match word {
         Word::Pages => return measure_pages(host, nodes, TURNS, Tells::Each),
-        Word::Batch => {
-            let least = measure_batches(host, nodes, BATCH_TURNS)?;
-            print_cache(
-                host,
-                1,
-                nodes,
-                Tells::Beside,
-                &BATCH_OPERATIONS,
-                &least,
-                &least,
-            )?;
-            print_batches(host, rt, nodes)?;
-        }
-        Word::Bytes => {
-            let least = measure_bytes(host, nodes, BYTES_TURNS)?;
-            let head = format!(in host.alloc(); "here, {nodes} nodes").ok()?;
-            print_lines(
-                host,
-                &head,
-                Tells::Time,
-                &BYTES_OPERATIONS,
-                &least,
-                &NO_TURNS,
-            )?;
-        }
-        Word::Shared => print_shared(host, rt, nodes)?,
-        Word::Longest => print_longest(host, rt, nodes)?,
-        Word::All => {
-            let pages = measure_pages(host, nodes, TURNS, Tells::Each)?;
-            measure_caches(host, nodes, CACHE_TURNS, Tells::Beside, &pages.0)?;
-            print_stops(host, nodes)?;
-            print_shared(host, rt, nodes)?;
-            return Some(pages);
-        }
-    }
-    Some(NO_PAGES)
+        Word::All => return measure_all(host, rt, nodes),
+        Word::Batch => print_batches(host, rt, nodes),
+        Word::Bytes => print_bytes(host, nodes),
+        Word::Shared => print_shared(host, rt, nodes),
+        Word::Longest => print_longest(host, rt, nodes),
+    };
+    done.and(Some(NO_PAGES))
+}
+
+/// Measures pages, caches and the shared cache, and prints it. Gives what operations on a page took.
+fn measure_all<R: Threads + Wait + Sync>(host: &HostRuntime, rt: &R, nodes: u32) -> Option<Pages> {
+    let pages = measure_pages(host, nodes, TURNS, Tells::Each)?;
+    measure_caches(host, nodes, CACHE_TURNS, Tells::Beside, &pages.0)?;
+    print_stops(host, nodes)?;
+    print_shared(host, rt, nodes)?;
+    Some(pages)
+}
+
+/// Prints what batches take, on one thread and then at seats of a shared cache.
+fn print_batches<R: Threads + Wait + Sync>(host: &HostRuntime, rt: &R, nodes: u32) -> Option<()> {
+    let least = measure_batches(host, nodes, BATCH_TURNS)?;
+    let tells = Tells::Beside;
+    print_cache(host, 1, nodes, tells, &BATCH_OPERATIONS, &least, &least)?;
+    print_marks(host, rt, nodes)
+}
+
+/// Prints what calls take that are given bytes.
+fn print_bytes(rt: &HostRuntime, nodes: u32) -> Option<()> {
+    let least = measure_bytes(rt, nodes, BYTES_TURNS)?;
+    let head = format!(in rt.alloc(); "here, {nodes} nodes").ok()?;
+    let tells = Tells::Time;
+    print_lines(rt, &head, tells, &BYTES_OPERATIONS, &least, &NO_TURNS)
 }
 
 /// Measures pages with each kind of keys, and prints it.

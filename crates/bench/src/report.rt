@@ -90,6 +90,18 @@ fn print_trial<R: Threads + Wait + Sync>(host: &HostRuntime, rt: &R, trial: Tria
         percents[round] = shared[round].saturating_mul(100) / alone[round].max(1);
     }
     let (shared, alone, percents) = (Spread::of(shared), Spread::of(alone), Spread::of(percents));
+    print_spreads(host, trial, shared, alone, percents)?;
+    Some(shared.median)
+}
+
+/// Prints what a trial came to at the shared cache, at the one of a single thread, and as the one's percents of the other.
+fn print_spreads(
+    host: &HostRuntime,
+    trial: Trial,
+    shared: Spread,
+    alone: Spread,
+    percents: Spread,
+) -> Option<()> {
     let (nodes, seats, idle, lookups) = (trial.nodes, trial.seats, trial.idle, trial.lookups);
     let told = if lookups == 0 {
         println!(host;
@@ -100,8 +112,7 @@ fn print_trial<R: Threads + Wait + Sync>(host: &HostRuntime, rt: &R, trial: Tria
             "{nodes} nodes, shared by {seats}, {lookups} lookups of 100: {shared} calls a second, {alone} without sharing, {percents} %"
         )
     };
-    told.ok()?;
-    Some(shared.median)
+    told.ok()
 }
 
 /// How many calls are made in a second; or how many nanoseconds an Add takes, where no call is a lookup.
@@ -129,11 +140,7 @@ pub fn print_longest<R: Threads + Wait + Sync>(
 
 /// Prints what seats of a shared cache take for marks one at a time, and for the same marks as a batch. Of each that round counts
 /// which took least; an operation is all marks of a seat.
-pub fn print_batches<R: Threads + Wait + Sync>(
-    host: &HostRuntime,
-    rt: &R,
-    nodes: u32,
-) -> Option<()> {
+pub fn print_marks<R: Threads + Wait + Sync>(host: &HostRuntime, rt: &R, nodes: u32) -> Option<()> {
     for seats in BATCH_SEATS {
         let row = (seats, 0, 0, 0);
         let one_by_one = Trial {
