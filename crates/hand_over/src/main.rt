@@ -16,6 +16,7 @@ mod lease;
 use crate::lease::{Former, Next, open, read};
 use anyhow::{Context, Result};
 use std::alloc::{AllocError, Global};
+use std::fmt;
 use std::marker::Brand;
 use timestamp_cache::{Cache, Config, Key, ReadSummary, Span, Timestamp, Uuid, Value, summary};
 
@@ -95,11 +96,16 @@ fn at(wall: u64) -> Timestamp
 }
 
 /// A time as it is printed.
-fn shown(alloc: Global, time: Timestamp) -> Result<String, AllocError>
-    ensures { IfOk result (λ text. string_bytes text ≡ time_text time) }
-{
-    let (wall, logical) = (time.wall(), time.logical());
-    format!(in alloc; "{wall}.{logical}")
+#[derive(Clone, Copy)]
+struct Shown(Timestamp);
+
+impl fmt::Display for Shown {
+    ghost output = { λ shown. Some (time_text shown.0) };
+
+    fn fmt<W: fmt::Write>(&self, f: &mut fmt::Formatter<W>) -> fmt::Result {
+        let (wall, logical) = (self.0.wall(), self.0.logical());
+        write!(f, "{wall}.{logical}")
+    }
 }
 
 /// The id of a transaction.
@@ -148,7 +154,7 @@ fn reader(reads: &[Read], answer: Value) -> Option<&Read>
 fn because(alloc: Global, key: &str, answer: Value, reads: &[Read]) -> Result<String, AllocError>
     ensures { IfOk result (λ text. string_bytes text ≡ reason_text key.now answer (reader answer.owner reads.now)) }
 {
-    let time = shown(alloc, answer.time())?;
+    let time = Shown(answer.time());
     match reader(reads, answer) {
         Some(read) => {
             let name = read.name;
@@ -174,7 +180,7 @@ fn key_read_line(alloc: Global, read: &Read) -> Result<String, AllocError>
     ensures { IfOk result (λ text. string_bytes text ≡ key_read_text read.now) }
 {
     let (name, from) = (read.name, read.from);
-    let time = shown(alloc, at(read.wall))?;
+    let time = Shown(at(read.wall));
     format!(in alloc; "{name} read \"{from}\" at {time}")
 }
 
@@ -183,7 +189,7 @@ fn range_read_line(alloc: Global, read: &Read) -> Result<String, AllocError>
     ensures { IfOk result (λ text. string_bytes text ≡ range_read_text read.now) }
 {
     let (name, from, to) = (read.name, read.from, read.to);
-    let time = shown(alloc, at(read.wall))?;
+    let time = Shown(at(read.wall));
     format!(in alloc; "{name} read \"{from}\" up to \"{to}\" at {time}")
 }
 
@@ -196,7 +202,7 @@ fn summary_line(
 ) -> Result<String, AllocError>
     ensures { IfOk result (λ text. string_bytes text ≡ summary_text most floor marks) }
 {
-    let floor = shown(alloc, floor)?;
+    let floor = Shown(floor);
     format!(in alloc; "handed on in at most {most} marks: a floor of {floor} and {marks} marks")
 }
 
@@ -223,7 +229,7 @@ fn as_wanted(alloc: Global, write: &Write, told: Timestamp) -> Result<String, Al
     ensures { IfOk result (λ text. string_bytes text ≡ wanted_text write.now told) }
 {
     let (name, key) = (write.name, write.key);
-    let told = shown(alloc, told)?;
+    let told = Shown(told);
     format!(in alloc; "{name} may write \"{key}\" at {told}, as it wanted")
 }
 
@@ -231,7 +237,7 @@ fn as_wanted(alloc: Global, write: &Write, told: Timestamp) -> Result<String, Al
 fn pushed(alloc: Global, write: &Write, to: Timestamp, why: &str) -> Result<String, AllocError>
     ensures { IfOk result (λ text. string_bytes text ≡ pushed_text write.now to why.now) }
 {
-    let (from, to) = (shown(alloc, at(write.wall))?, shown(alloc, to)?);
+    let (from, to) = (Shown(at(write.wall)), Shown(to));
     let (name, key) = (write.name, write.key);
     format!(in alloc; "{name} wanted to write \"{key}\" at {from}, is pushed to {to}: {why}")
 }

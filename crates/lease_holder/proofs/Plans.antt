@@ -1,6 +1,6 @@
 -- What holds of the reads of a plan, once each of them was made.
 use Rattle.std.proofs.Common.{◌≡◌, ◌∙◌, ap, sym, subst, refl, ℕ, zero, suc, ◌+◌, ◌<◌, ◌^◌, List, [], ◌∷◌, length, drop, slice_index_or, below_more, Bor, Bool, true, false, arith}
-use Rattle.std.specs.Prelude.{Option, Some, None, IfSome, unwrap_or, if◌then◌else◌}
+use Rattle.std.specs.Prelude.{Option, Some, None, Result, Ok, Err, IfSome, IfOk, unwrap_or, if◌then◌else◌}
 use Rattle.std.specs.Int.{to_be_bytes, from_be_bytes, w32, w128}
 use Rattle.std.proofs.lemmas.Nat.{from_be_bytes-to_be_bytes_4}
 use Rattle.std.proofs.Math.Logic.{∥∥₁_map}
@@ -8,6 +8,7 @@ use Rattle.tsc_cache.proofs.Beginnings.{begins_entries}
 use Rattle.timestamp_cache.specs.Words.{Time, is_before, Owner, OwnedTime, Interval, point, History, BeginsWith}
 use Rattle.timestamp_cache.specs.Clear.{IsClearOfReads}
 use Rattle.lease_holder.specs.declared.Plan.{Plan}
+use Rattle.lease_holder.specs.declared.lease.Written.{Written}
 use Rattle.lease_holder.specs.Reads.{HasRead, read_of, since}
 use Rattle.lease_holder.specs.Plans.{time_at, id_of, MayWriteAt}
 use Rattle.lease_holder.proofs.Since.{since_begins, since_earlier}
@@ -71,6 +72,11 @@ may_write plan h by wanted at own from on clear = record {
   from_on = subst (λ (w : Time). is_before at w ≡ false) from on;
   clear = subst (λ (o : Owner). IsClearOfReads h (point plan.write.0.now) o at) own clear;
 }
+
+pub may_write_told : {E : Type 0} (r : Result Written E) (plan : Plan) (h : History) (by : Owner) (wanted : Time) → by ≡ id_of plan.name → wanted ≡ time_at plan.write.1
+    → IfOk r (λ written. is_before written.at wanted ≡ false) → IfOk r (λ written. IsClearOfReads h (point plan.write.0.now) by written.at) → IfOk r (λ written. MayWriteAt plan h written.at)
+may_write_told (Ok written) plan h by wanted own from on clear = may_write plan h by wanted written.at own from on clear
+may_write_told (Err e) plan h by wanted own from on clear = tt
 
 -- What is clear of the reads on a span that a write was told of is clear of those on its key.
 pub clear_at : (h : History) (span : Interval) (key : List ℕ) (by : Owner) (at : Time) (told : Option Time) → told ≡ Some at → span ≡ point key → IfSome told (λ t. IsClearOfReads h span by t)

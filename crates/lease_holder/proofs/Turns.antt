@@ -1,6 +1,6 @@
 -- What became of each of a list.
 use Rattle.std.proofs.Common.{◌≡◌, ◌∙◌, ap, sym, refl, subst, ℕ, zero, suc, ◌+◌, ◌<◌, ◌≤◌, drop, List, [], ◌∷◌, ◌++◌, append_assoc, append-nil, Bor, length, slice_index_or, arith}
-use Rattle.std.specs.Prelude.{Result, IfOk, Option, IsSomeAnd}
+use Rattle.std.specs.Prelude.{Result, Ok, Err, IfOk, Option, IsSomeAnd}
 use Rattle.std.specs.List.{AllZip}
 use Rattle.timestamp_cache.specs.Words.{Time, History, BeginsWith, SeatView}
 use Rattle.lease_holder.specs.declared.Plan.{Plan}
@@ -14,6 +14,11 @@ use Rattle.lease_holder.specs.Plans.{HasReadsOf, MayWriteAt}
 use Rattle.lease_holder.specs.Reads.{since}
 use Rattle.lease_holder.specs.Turns.{IsNew, HasTaken, HasSpoken, HasTold, HasServed, IsLeftOf, WasServed}
 use Rattle.lease_holder.proofs.Since.{since_there}
+
+-- what follows from two facts on what a call gives
+pub if_both : {A E : Type 0} (P Q R : A → Type 0) (r : Result A E) → IfOk r P → IfOk r Q → ((a : A) → P a → Q a → R a) → IfOk r R
+if_both P Q R (Ok a) p q fits = fits a p q
+if_both P Q R (Err e) p q fits = tt
 
 -- what holds at each place holds of the two lists
 pub at_each_place : {A B : Type 0} (P : A → B → Type 0) (xs : List A) (ys : List B) → length ys ≡ length xs

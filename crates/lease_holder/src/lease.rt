@@ -92,12 +92,11 @@ impl<G: Range> Held<G> {
         ensures versions { IfOk result (λ held. held.versions.items ≡ written (Some zero_time) value) }
         ensures answered { IfOk result (λ held. held.answered.items ≡ []) }
     {
-        let span = Span::point(Key::new(alloc, key.as_bytes())?);
-        let mut versions = Vec::new(alloc);
         let at = Timestamp::ZERO;
-        versions.push(Version { at, value })?;
+        let versions = vec![in alloc; Version { at, value }]?;
+        let key = Key::new(alloc, key.as_bytes())?;
         Ok(Held {
-            span,
+            span: Span::point(key),
             versions,
             answered: Vec::new(alloc),
             handed,

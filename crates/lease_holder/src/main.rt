@@ -17,8 +17,8 @@ use anyhow::{Context, Result};
 use std::alloc::{AllocError, Global};
 use std::marker::{Brand, PhantomData};
 use std::sync::{Mutex, Wait};
-use std::thread;
 use std::thread::Threads;
+use std::{fmt, thread};
 use timestamp_cache::{Config, NoMemory, Seat, SharedCache, Timestamp, Uuid, Value};
 
 /// A key with a time, or with a value.
@@ -90,11 +90,16 @@ fn at(wall: u64) -> Timestamp
 }
 
 /// A time as it is printed.
-fn shown(alloc: Global, time: Timestamp) -> Result<String, AllocError>
-    ensures { IfOk result (λ text. string_bytes text ≡ time_text time) }
-{
-    let (wall, logical) = (time.wall(), time.logical());
-    format!(in alloc; "{wall}.{logical}")
+#[derive(Clone, Copy)]
+struct Shown(Timestamp);
+
+impl fmt::Display for Shown {
+    ghost output = { λ shown. Some (time_text shown.0) };
+
+    fn fmt<W: fmt::Write>(&self, f: &mut fmt::Formatter<W>) -> fmt::Result {
+        let (wall, logical) = (self.0.wall(), self.0.logical());
+        write!(f, "{wall}.{logical}")
+    }
 }
 
 /// The id of a transaction. Those of other names are other ids.
@@ -128,7 +133,7 @@ fn reader(plans: &[Plan], read: Value) -> Option<&Plan>
 fn because(alloc: Global, key: &str, read: Value, plans: &[Plan]) -> Result<String, AllocError>
     ensures { IfOk result (λ text. string_bytes text ≡ reason_text key.now read (reader read.owner plans.now)) }
 {
-    let time = shown(alloc, read.time())?;
+    let time = Shown(read.time());
     match reader(plans, read) {
         Some(plan) => {
             let name = plan.name;
@@ -148,7 +153,7 @@ fn read_line(
 ) -> Result<String, AllocError>
     ensures { IfOk result (λ text. string_bytes text ≡ read_text name key.now time value) }
 {
-    let time = shown(alloc, time)?;
+    let time = Shown(time);
     format!(in alloc; "{name} read \"{key}\" at {time}: {value}")
 }
 
@@ -173,7 +178,7 @@ fn write_line(
 fn as_wanted(alloc: Global, name: char, key: &str, time: Timestamp) -> Result<String, AllocError>
     ensures { IfOk result (λ text. string_bytes text ≡ wanted_text name key.now time) }
 {
-    let time = shown(alloc, time)?;
+    let time = Shown(time);
     format!(in alloc; "{name} wrote \"{key}\" at {time}, as it wanted")
 }
 
@@ -181,9 +186,18 @@ fn as_wanted(alloc: Global, name: char, key: &str, time: Timestamp) -> Result<St
 fn pushed(alloc: Global, plan: &Plan, to: Timestamp, why: &str) -> Result<String, AllocError>
     ensures { IfOk result (λ text. string_bytes text ≡ pushed_text plan.now to why.now) }
 {
-    let (from, to) = (shown(alloc, at(plan.write.1))?, shown(alloc, to)?);
+    let (from, to) = (Shown(at(plan.write.1)), Shown(to));
     let (name, key) = (plan.name, plan.write.0);
     format!(in alloc; "{name} wanted to write \"{key}\" at {from}, was pushed to {to}: {why}")
+}
+
+/// Keeps a line that is to be printed, where there was memory for it.
+fn keep(lines: &mut Vec<String>, line: Result<String, AllocError>) -> Result<()>
+    ensures kept { OnOk result (length lines.new.items ≡ length lines.old.items + 1) }
+    ensures refused { OnErr result (lines.new.items ≡ lines.old.items) }
+{
+    lines.push(line?)?;
+    Ok(())
 }
 
 /// Writes the key of a plan, by its transaction, under the latch of that key.
@@ -197,8 +211,7 @@ fn lay_down<G: Range, R: Wait>(
     ensures seat { BeginsWith me.new.seat.seen me.old.seat.seen }
 {
     let (key, wall, value) = plan.write;
-    let written = lease.write_key(rt, me, key, at(wall), id_of(plan.name), value)?;
-    Ok(written)
+    lease.write_key(rt, me, key, at(wall), id_of(plan.name), value)
 }
 
 impl<G: Range> Worker<G> {
@@ -235,9 +248,7 @@ impl<G: Range> Worker<G> {
         ensures wrote { self.new.wrote ≡ self.old.wrote }
     {
         let value = lease.read_key(rt, &mut self.me, key, time, id_of(name))?;
-        let line = read_line(alloc, name, key, time, value)?;
-        self.told.push(line)?;
-        Ok(())
+        keep(&mut self.told, read_line(alloc, name, key, time, value))
     }
 
     /// Writes the key of its transaction, and tells at which time: not before the wanted one, and clear of each read of that key that its seat has
@@ -252,8 +263,7 @@ impl<G: Range> Worker<G> {
         let plan = self.plan;
         let written = lay_down(rt, lease, &mut self.me, plan)?;
         let time = written.at;
-        let line = write_line(alloc, plan, written, &PLANS)?;
-        self.told.push(line)?;
+        keep(&mut self.told, write_line(alloc, plan, written, &PLANS))?;
         self.wrote = Some(time);
         Ok(time)
     }
@@ -300,12 +310,11 @@ fn all_take<G: Range + Send + Sync, R: Threads + Wait + Sync>(
 ) -> Result<Vec<Result<Worker<G>>>, AllocError>
     ensures { IfOk result (λ ended. AllZip (λ worker end. IfOk end (HasTaken turn worker)) workers.items ended.items) }
 {
-    let ended = thread::map_vec(
+    thread::map_vec(
         rt,
         workers,
         &|worker: Worker<G>| take(rt, alloc, lease, worker, turn),
-    )?;
-    Ok(ended)
+    )
 }
 
 /// Has all threads print what they have to tell, in their order, where each came through its turn.
@@ -316,7 +325,7 @@ fn all_tell<G: Range, R: Print>(
 ) -> Result<Vec<Worker<G>>>
     ensures { IfOk result (λ after. AllZip HasSpoken ended.items after.items) }
 {
-    let mut after = Vec::with_capacity(alloc, ended.len())?;
+    let mut after = Vec::new(alloc);
     for worker in ended {
         let mut worker = worker?;
         worker.tell(rt)?;
@@ -336,8 +345,7 @@ fn all_do<G: Range + Send + Sync, R: Threads + Wait + Sync + Print>(
     ensures { IfOk result (λ after. AllZip (HasTold turn) workers.items after.items) }
 {
     let ended = all_take(rt, alloc, lease, workers, turn)?;
-    let after = all_tell(rt, alloc, ended)?;
-    Ok(after)
+    all_tell(rt, alloc, ended)
 }
 
 /// The seats in their order, by a type that shows whose they are.
@@ -345,7 +353,7 @@ fn seats_of<G: Range>(alloc: Global, seats: Vec<Seat>) -> Result<Vec<RangeSeat<G
     requires { All (λ seat. seat.cache ≡ G.cache) seats.items }
     ensures { IfOk result (λ own. map (λ one. one.seat) own.items ≡ seats.items) }
 {
-    let mut own = Vec::with_capacity(alloc, seats.len())?;
+    let mut own = Vec::new(alloc);
     for seat in seats {
         own.push(RangeSeat {
             seat,
@@ -425,15 +433,14 @@ fn take_turns<G: Range + Send + Sync, R: Threads + Wait + Sync + Print>(
 {
     let first = all_do(rt, alloc, lease, workers, Turn::Read)?;
     let then = all_do(rt, alloc, lease, first, Turn::Write)?;
-    let again = all_do(rt, alloc, lease, then, Turn::Read)?;
-    Ok(again)
+    all_do(rt, alloc, lease, then, Turn::Read)
 }
 
 /// The threads are over: what is left of each.
-fn left_of<G: Range>(alloc: Global, workers: Vec<Worker<G>>) -> Result<Vec<Served>, AllocError>
+fn left_of<G: Range>(alloc: Global, workers: Vec<Worker<G>>) -> Result<Vec<Served>>
     ensures { IfOk result (λ left. AllZip IsLeftOf workers.items left.items) }
 {
-    let mut left = Vec::with_capacity(alloc, workers.len())?;
+    let mut left = Vec::new(alloc);
     for worker in workers {
         let Worker {
             me,
@@ -461,10 +468,23 @@ fn serve<G: Range + Send + Sync, R: Threads + Wait + Sync + Print>(
 {
     let mut seats = seats_of::<G>(alloc, seats)?;
     let latches = latches_of(alloc, &KEYS, &mut seats)?;
-    let workers = workers_of(alloc, plans, &mut seats)?;
     let lease = Lease { cache, latches };
-    let again = take_turns(rt, alloc, &lease, workers)?;
-    Ok(left_of(alloc, again)?)
+    serve_under(rt, alloc, &lease, plans, &mut seats)
+}
+
+/// Serves a range under its lease: a thread for each plan, with a seat of these, which reads, writes, and reads again.
+fn serve_under<G: Range + Send + Sync, R: Threads + Wait + Sync + Print>(
+    rt: &R,
+    alloc: Global,
+    lease: &Lease<G>,
+    plans: &'static [Plan],
+    seats: &mut Vec<RangeSeat<G>>,
+) -> Result<Vec<Served>>
+    ensures { IfOk result (λ left. AllZip WasServed plans.now left.items) }
+{
+    let workers = workers_of(alloc, plans, seats)?;
+    let again = take_turns(rt, alloc, lease, workers)?;
+    left_of(alloc, again)
 }
 
 /// How the range's cache is set up: the lease begins at 10, and nothing is known of reads before.

@@ -4,7 +4,7 @@ use Rattle.lease_holder.proofs.Turns.{nothing_made, one_more_made, all_made}
 use Rattle.lease_holder.proofs.all_tell.Goals as goal
 
 pub loop-worker-init : goal.loop-worker-init
-loop-worker-init g c = nothing_made HasSpoken c.args.ended.items c.in_ok-after.after.items c.into_iter-worker-iterator.result.rest.items (search rules) c.into_iter-worker-iterator.ensures.into_iter_gives.0
+loop-worker-init g c = nothing_made HasSpoken c.args.ended.items c.new-after.result.items c.into_iter-worker-iterator.result.rest.items c.new-after.ensures.items c.into_iter-worker-iterator.ensures.into_iter_gives.0
 
 pub loop-worker-preserved : goal.loop-worker-preserved
 loop-worker-preserved g c =

@@ -4,7 +4,7 @@ use Rattle.lease_holder.proofs.Turns.{nothing_made, one_more_made, all_made}
 use Rattle.lease_holder.proofs.left_of.Goals as goal
 
 pub loop-worker-init : goal.loop-worker-init
-loop-worker-init g c = nothing_made IsLeftOf c.args.workers.items c.in_ok-left.left.items c.into_iter-worker-iterator.result.rest.items (search rules) c.into_iter-worker-iterator.ensures.into_iter_gives.0
+loop-worker-init g c = nothing_made IsLeftOf c.args.workers.items c.new-left.result.items c.into_iter-worker-iterator.result.rest.items c.new-left.ensures.items c.into_iter-worker-iterator.ensures.into_iter_gives.0
 
 pub loop-worker-preserved : goal.loop-worker-preserved
 loop-worker-preserved g c =

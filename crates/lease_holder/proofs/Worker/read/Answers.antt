@@ -12,3 +12,6 @@ loop-key-preserved g c = record {
   plan = c.read_key.ensures.plan ∙ c.loop-key.invariant.plan;
   wrote = c.read_key.ensures.wrote ∙ c.loop-key.invariant.wrote;
 }
+
+pub returns-in_err-read_key-clause-seat : goal.returns-in_err-read_key-clause-seat
+returns-in_err-read_key-clause-seat g c = begins_on _ _ _ c.read_key.ensures.seat c.loop-key.invariant.seat

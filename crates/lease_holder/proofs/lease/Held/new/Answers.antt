@@ -6,9 +6,9 @@ use Rattle.lease_holder.proofs.Carried.{point_overlaps_itself}
 use Rattle.lease_holder.proofs.lease.Held.new.Goals as goal
 
 pub invariant_of-result-clause-whole : goal.invariant_of-result-clause-whole
-invariant_of-result-clause-whole g c = point_overlaps_itself _ _ c.point-span.ensures
+invariant_of-result-clause-whole g c = point_overlaps_itself _ _ c.point.ensures
 
 pub invariant_of-result-clause-added : goal.invariant_of-result-clause-added
 invariant_of-result-clause-added g c =
-    let P : OwnedTime → Type 0 = HasRead c.point-span.result c.args.handed.seat.seen in
+    let P : OwnedTime → Type 0 = HasRead c.point.result c.args.handed.seat.seen in
     subst (λ (reads : List OwnedTime). All P reads) (sym c.new-2.ensures.items) (All-nil P)

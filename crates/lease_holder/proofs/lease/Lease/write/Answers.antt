@@ -30,3 +30,6 @@ returns-clause-pushed g c = search rules
 
 pub returns-clause-seat : goal.returns-clause-seat
 returns-clause-seat g c = begins_on _ _ _ c.earliest-told.ensures.goes_on.begins c.take_over.ensures.kept
+
+pub returns-in_err-push-clause-seat : goal.returns-in_err-push-clause-seat
+returns-in_err-push-clause-seat g c = begins_on _ _ _ c.earliest-told.ensures.goes_on.begins c.take_over.ensures.kept
