@@ -67,7 +67,7 @@ static ROW: Row = Row {
 };
 
 /// Whether a cache that isn't shared takes an Add.
-fn takes(alone: &mut Cache, adding: &Adding) -> bool {
+pub fn takes(alone: &mut Cache, adding: &Adding) -> bool {
     match adding {
         Adding::One(mark, now) => alone.add(&mark.span, mark.value, *now).is_ok(),
         Adding::Several(marks, now) => alone.add_all(marks.as_slice(), *now).is_ok(),

@@ -13,6 +13,8 @@ pub type MarkRow = (&'static str, &'static str, u64, Owner);
 pub enum Entry {
     /// A key by itself at a wall time, by the first owner.
     One(&'static str, u64),
+    /// Any mark by itself.
+    Alone(MarkRow),
     /// Several marks, or none.
     Several(&'static [MarkRow]),
 }
@@ -25,7 +27,7 @@ pub enum Adding {
 }
 
 /// 11111111-1111-4111-8111-111111111111
-const FIRST: [u8; 16] = [
+pub const FIRST: [u8; 16] = [
     0x11, 0x11, 0x11, 0x11, 0x11, 0x11, 0x41, 0x11, 0x81, 0x11, 0x11, 0x11, 0x11, 0x11, 0x11, 0x11,
 ];
 
@@ -88,6 +90,13 @@ impl Adding {
         Some(Adding::One(mark, at(now)))
     }
 
+    /// A key of one byte at a wall time, which is its moment too, by an owner of these bytes. `None` where memory is refused.
+    pub fn by(alloc: Global, key: u8, wall: u64, owner: [u8; 16]) -> Option<Adding> {
+        let span = Span::point(Key::new(alloc, &[key]).ok()?);
+        let value = Value::of(at(wall), Uuid::from_bytes(owner));
+        Some(Adding::One(Mark { span, value }, at(wall)))
+    }
+
     /// Several marks, at a moment. `None` where memory is refused.
     pub fn several(alloc: Global, rows: &[MarkRow], now: u64) -> Option<Adding> {
         let mut marks = Vec::with_capacity(alloc, rows.len()).ok()?;
@@ -101,6 +110,7 @@ impl Adding {
     pub fn of(alloc: Global, entry: &Entry, now: u64) -> Option<Adding> {
         match entry {
             Entry::One(key, wall) => Adding::one(alloc, key, *wall, now),
+            Entry::Alone(row) => Some(Adding::One(mark_of(alloc, row)?, at(now))),
             Entry::Several(rows) => Adding::several(alloc, rows, now),
         }
     }

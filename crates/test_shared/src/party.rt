@@ -87,7 +87,7 @@ pub enum Why {
     NoThread,
     /// It was refused again.
     Again,
-    /// A refusal changed what can be seen.
+    /// A refusal changed what can be seen, or a cache is not as it should be.
     Changed,
     /// A text is another one.
     Text,
@@ -338,6 +338,15 @@ impl<C: Of> Home<C> {
             Adding::Several(_, _) => all,
         };
         (guest.count(), all, own, self.low(guest))
+    }
+
+    /// Two seats meet, and both have seen as much then.
+    pub fn meet<R: Wait>(&self, rt: &R, one: &mut Guest<C>, other: &mut Guest<C>) -> Told {
+        match self.cache.meet(rt, &mut one.seat, &mut other.seat) {
+            Ok(met) if (one.seen(), other.seen()) == (met, met) => Told::Long(met),
+            Ok(_) => Told::Not(Why::Changed),
+            Err(Gone) => Told::Not(Why::Gone),
+        }
     }
 
     pub fn learn(&self, guest: &mut Guest<C>, letter: Letter<C>) -> Told {

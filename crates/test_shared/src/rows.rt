@@ -1,11 +1,16 @@
 //! What two seats are told, one step after the other.
-use super::marks::Entry::One;
-use super::party::By::Gate;
+use super::marks::Entry::{Alone, One};
+use super::party::By::{Gate, Plain};
 use super::party::Told::{Full, Long, Not, Place, Value};
 use super::party::{Owner, Told, Why};
-use super::steps::Act::{Add, Between, Close, Get, Learn, Leave, See, Send};
-use super::steps::{KEPT, PAGES, Row, play, play_all};
+use super::steps::Act::{
+    Add, Between, Close, CloseLate, Get, Learn, Leave, Low, Meet, Number, See, Send,
+};
+use super::steps::{KEPT, PAGES, Row, config_of, play, play_all, play_each};
+use std::alloc::Global;
 use std::test::Fail;
+use tsc_cache::Config;
+use tsc_shared::{OpenFault, SharedCache};
 
 static FRONTS: [Row; 3] = [
     // One seat adds, and the other learns its front.
@@ -122,4 +127,120 @@ static DROPPED: Row = Row {
 #[test]
 fn a_dropped_seat_leaves_the_cache_open(rt: HostRuntime) -> Result<(), Fail> {
     play(&rt, rt.alloc(), &DROPPED)
+}
+
+static TOLD: [Row; 6] = [
+    // No Add is made.
+    Row {
+        pages: PAGES,
+        seats: 2,
+        limit: 100,
+        opens_again: false,
+        steps: &[
+            (0, Number, Long(0)),
+            (1, Number, Long(1)),
+            (0, CloseLate, Long(0)),
+        ],
+    },
+    // One seat adds, and the other sees it.
+    Row {
+        pages: PAGES,
+        seats: 2,
+        limit: 100,
+        opens_again: false,
+        steps: &[
+            (0, Add(One("a", 20), 20, Plain), Place(0, KEPT, 1)),
+            (1, Get("a", ""), Value((20, 0), Owner::First, 1)),
+            (0, CloseLate, Long(1)),
+        ],
+    },
+    // The history holds three Adds, and no more. One is refused whose seat has not seen that.
+    Row {
+        pages: PAGES,
+        seats: 2,
+        limit: 3,
+        opens_again: false,
+        steps: &[
+            (0, Add(One("a", 20), 20, Plain), Place(0, KEPT, 1)),
+            (0, Add(One("b", 20), 20, Plain), Place(1, KEPT, 2)),
+            (1, Add(One("c", 20), 20, Plain), Place(2, KEPT, 3)),
+            (0, Add(One("d", 20), 20, Plain), Full(3)),
+            (0, Get("a", ""), Value((20, 0), Owner::First, 3)),
+            (0, CloseLate, Long(3)),
+        ],
+    },
+    // It may hold none.
+    Row {
+        pages: PAGES,
+        seats: 2,
+        limit: 0,
+        opens_again: false,
+        steps: &[
+            (0, Add(One("a", 20), 20, Plain), Full(0)),
+            (0, CloseLate, Long(0)),
+        ],
+    },
+    // Two seats meet. An Add that the cache does not keep has its place too.
+    Row {
+        pages: PAGES,
+        seats: 2,
+        limit: 10,
+        opens_again: false,
+        steps: &[
+            (1, Low, Value((5, 0), Owner::None, 0)),
+            (0, Add(One("a", 20), 20, Plain), Place(0, KEPT, 1)),
+            (0, Add(One("b", 20), 20, Plain), Place(1, KEPT, 2)),
+            (0, Meet, Long(2)),
+            (
+                1,
+                Add(Alone(("a", "a", 20, Owner::First)), 20, Plain),
+                Place(2, (false, false, 0), 3),
+            ),
+            (0, CloseLate, Long(3)),
+        ],
+    },
+    // On pages of two nodes, of which one is kept at the least: the first page is dropped, and the floor rises to its top, which has no
+    // owner. The other seat sees that.
+    Row {
+        pages: (66, 66, 1),
+        seats: 2,
+        limit: 10,
+        opens_again: false,
+        steps: &[
+            (0, Add(One("a", 20), 20, Plain), Place(0, KEPT, 1)),
+            (0, Add(One("b", 20), 20, Plain), Place(1, KEPT, 2)),
+            (1, Low, Value((5, 0), Owner::None, 2)),
+            (
+                0,
+                Add(One("c", 40), 40, Plain),
+                Place(2, (true, true, 1), 3),
+            ),
+            (1, Low, Value((20, 0), Owner::None, 3)),
+            (1, Get("a", ""), Value((20, 0), Owner::None, 3)),
+            (0, CloseLate, Long(3)),
+        ],
+    },
+];
+
+/// For `scripts/refuse-each-growth`.
+#[test]
+fn what_two_seats_are_told(rt: HostRuntime) -> Result<(), Fail> {
+    play_each(&rt, rt.alloc(), &TOLD)
+}
+
+/// Whether a cache of so many seats is refused for their number.
+fn is_refused(alloc: Global, config: Config, seats: u32) -> bool {
+    matches!(
+        SharedCache::open(alloc, config, seats, 1),
+        Err(OpenFault::Seats)
+    )
+}
+
+#[test]
+fn seats_are_1_to_64(rt: HostRuntime) -> Result<(), Fail> {
+    let config = config_of(PAGES)?;
+    for seats in [0, 65] {
+        assert!(rt; is_refused(rt.alloc(), config, seats));
+    }
+    Ok(())
 }

@@ -1,6 +1,7 @@
 //! Tables of steps, each with what is told of it: one function takes a step, and one loop goes over the rows.
 ghost use Rattle.std.specs.Prelude.{◌≡◌, All};
 
+use super::crowd::are_alike;
 use super::marks::{Adding, Entry, at, span_of};
 use super::party::{By, Ended, Guest, Home, Letter, Of, Told, Why, open, together};
 use super::refused::{Key, refuse};
@@ -13,7 +14,7 @@ use std::process::Abort;
 use std::sync::Wait;
 use std::test::Fail;
 use std::thread::Threads;
-use tsc_cache::{Config, ConfigFault};
+use tsc_cache::{Cache, Config, ConfigFault};
 use tsc_shared::{Closed, Seat, SharedCache};
 use tsc_time::NoMemory;
 
@@ -34,10 +35,14 @@ pub enum Act {
     Send,
     /// Learns the front that was handed on first.
     Learn,
+    /// The first two seats meet.
+    Meet,
     /// Tells how long a history it has seen.
     See,
     /// Tells how many Adds of its own there are.
     Count,
+    /// Tells its number.
+    Number,
     /// Tells how many Adds the gate was told of.
     Gate,
     /// Copies the span of a key, or of the range up to a second one, once more where it is refused memory.
@@ -50,8 +55,11 @@ pub enum Act {
     AtOnce(Scene),
     /// Two seats make these Adds in turn, which may be refused memory.
     Refuse(&'static [Key]),
-    /// All seats close the cache, which has as many Adds as they count.
+    /// All seats close the cache, which has as many Adds as they count; and if they played a crowd, it answers as one to which their Adds were
+    /// made in the order of their places.
     Close,
+    /// The same. All but the last try to first, and have it back with their seats.
+    CloseLate,
     /// The same, of any number.
     CloseAny,
 }
@@ -128,6 +136,7 @@ fn ask<C: Of>(alloc: Global, home: &Home<C>, guest: &mut Guest<C>, act: &Act) ->
         Act::Figures => home.figures(guest),
         Act::See => Told::Long(guest.seen()),
         Act::Count => Told::Long(guest.count()),
+        Act::Number => Told::Long(u64::from(guest.number())),
         _ => Told::Not(Why::Gone),
     }
 }
@@ -149,6 +158,21 @@ fn learn<C: Of>(home: &Home<C>, guest: &mut Guest<C>, letters: &mut VecDeque<Let
     match letters.pop_front() {
         Some(letter) => home.learn(guest, letter),
         None => Told::Not(Why::Gone),
+    }
+}
+
+/// What a seat is told that counted so many Adds before. It counts one more where it made one, and has seen as much as it is told.
+fn as_counted<C: Of>(guest: &Guest<C>, count: u64, told: Told) -> Told {
+    let more = guest.count().wrapping_sub(count);
+    let (made, seen) = match told {
+        Told::Place(_, _, front) => (1, front),
+        Told::Full(front) | Told::Value(_, _, front) | Told::Counted(_, front) => (0, front),
+        Told::Long(_) | Told::Not(_) => (0, guest.seen()),
+    };
+    if (more, guest.seen()) == (made, seen) {
+        told
+    } else {
+        Told::Not(Why::Changed)
     }
 }
 
@@ -176,6 +200,10 @@ struct Stage<C: Of> {
     /// The fronts that were handed on and not yet learnt.
     letters: VecDeque<Letter<C>>,
     gate: Watch,
+    /// Whether each Add that is refused memory is made once more.
+    tries_again: bool,
+    /// A cache that isn't shared, to which the Adds of a crowd were made.
+    alone: Option<Cache>,
 }
 
 impl<C: Of + Send + Sync> Stage<C> {
@@ -184,7 +212,9 @@ impl<C: Of + Send + Sync> Stage<C> {
         let (Some(home), Some(guest)) = (&self.home, self.guests.get_mut(seat)) else {
             return Told::Not(Why::Gone);
         };
-        home.add(rt, guest, adding, by, &self.gate)
+        let count = guest.count();
+        let told = home.add(rt, guest, adding, by, &self.gate);
+        as_counted(guest, count, told)
     }
 
     fn look(&mut self, adding: &Adding) -> bool {
@@ -233,11 +263,24 @@ impl<C: Of + Send + Sync> Stage<C> {
         let (Some(home), Some(guest)) = (&self.home, self.guests.get_mut(seat)) else {
             return Told::Not(Why::Gone);
         };
-        match act {
+        let count = guest.count();
+        let told = match act {
             Act::Send => send(guest, &mut self.letters),
             Act::Learn => learn(home, guest, &mut self.letters),
             Act::Refused(entry, text) => add_refused(rt, alloc, home, guest, entry, text),
             _ => ask(alloc, home, guest, act),
+        };
+        as_counted(guest, count, told)
+    }
+
+    /// The first two seats meet.
+    fn meet_two<R: Wait>(&mut self, rt: &R) -> Told {
+        let Some((one, others)) = self.guests.as_mut_slice().split_first_mut() else {
+            return Told::Not(Why::Gone);
+        };
+        match (&self.home, others.first_mut()) {
+            (Some(home), Some(other)) => home.meet(rt, one, other),
+            _ => Told::Not(Why::Gone),
         }
     }
 
@@ -260,13 +303,28 @@ impl<C: Of + Send + Sync> Stage<C> {
             return Told::Not(Why::Gone);
         };
         match close(rt, alloc, home, guests) {
-            Some(Ended::Closed(closed)) => closed_with(&closed, counted),
+            Some(Ended::Closed(closed)) => closed_with(&closed, counted, self.alone.as_ref()),
             Some(Ended::Out(home, guests)) => {
                 self.home = Some(home);
                 self.guests = guests;
                 Told::Not(Why::Open)
             }
             None => Told::Not(Why::NoMemory),
+        }
+    }
+
+    /// All seats close the cache, which stays open without the last one.
+    fn close_late<R: Wait>(&mut self, rt: &R, alloc: Global) -> Told {
+        let Some(last) = self.guests.pop() else {
+            return Told::Not(Why::Gone);
+        };
+        let told = self.close(rt, alloc);
+        if told != Told::Not(Why::Open) {
+            return told;
+        }
+        match self.guests.push(last) {
+            Ok(()) => self.close(rt, alloc),
+            Err(_refused) => Told::Not(Why::NoMemory),
         }
     }
 
@@ -282,8 +340,9 @@ impl<C: Of + Send + Sync> Stage<C> {
             return Told::Not(Why::Gone);
         };
         match meet(rt, alloc, home, guests, scene) {
-            Some((guests, told)) => {
+            Some((guests, told, alone)) => {
                 self.guests = guests;
+                self.alone = alone;
                 told
             }
             None => Told::Not(Why::NoMemory),
@@ -309,7 +368,7 @@ impl<C: Of + Send + Sync> Stage<C> {
     ) -> Told {
         match act {
             Act::Add(entry, now, by) => {
-                self.add_entry(rt, alloc, seat, (entry, *now, *by, false))
+                self.add_entry(rt, alloc, seat, (entry, *now, *by, self.tries_again))
             }
             Act::Again(entry, now, by) => {
                 self.add_entry(rt, alloc, seat, (entry, *now, *by, true))
@@ -317,9 +376,11 @@ impl<C: Of + Send + Sync> Stage<C> {
             Act::Gate => Told::Long(self.gate.told()),
             Act::Copy(start, end) => copy_again(alloc, start, end),
             Act::Leave => self.leave(),
+            Act::Meet => self.meet_two(rt),
             Act::AtOnce(scene) => self.meet(rt, alloc, scene),
             Act::Refuse(adds) => self.refuse(rt, alloc, adds),
             Act::Close => self.close(rt, alloc),
+            Act::CloseLate => self.close_late(rt, alloc),
             Act::CloseAny => any(self.close(rt, alloc)),
             _ => self.take_one(rt, alloc, seat, act),
         }
@@ -353,9 +414,13 @@ fn close<C: Of, R: Wait>(
     home.close(rt, alloc, room, guests).ok()
 }
 
-/// What is told of a closed cache, to which so many Adds were made.
-fn closed_with(closed: &Closed, counted: u64) -> Told {
-    if closed.adds == counted {
+/// What is told of a closed cache, to which so many Adds were made, and which answers as the other one, if there is one.
+fn closed_with(closed: &Closed, counted: u64, alone: Option<&Cache>) -> Told {
+    let is_alike = match alone {
+        Some(alone) => are_alike(&closed.cache, alone),
+        None => true,
+    };
+    if is_alike && closed.adds == counted {
         Told::Long(counted)
     } else {
         Told::Not(Why::Changed)
@@ -377,7 +442,8 @@ struct NoThread;
 fn enter<C: Of + Send + Sync, R: Threads + Wait + Abort + Sync>(
     rt: &R,
     alloc: Global,
-    steps: &[Step],
+    row: &Row,
+    tries_again: bool,
     cache: SharedCache,
     seats: Vec<Seat>,
 ) -> Option<Why>
@@ -392,8 +458,10 @@ fn enter<C: Of + Send + Sync, R: Threads + Wait + Abort + Sync>(
         guests,
         letters: VecDeque::new(alloc),
         gate: Watch::new(0),
+        tries_again,
+        alone: None,
     };
-    stage.take_all(rt, alloc, steps)
+    stage.take_all(rt, alloc, row.steps)
 }
 
 /// How a test ends, which is told that it was done.
@@ -405,19 +473,30 @@ pub fn end<R: Abort>(rt: &R, told: Told) -> Result<(), Fail> {
     Ok(())
 }
 
+/// Opens a cache, and takes the steps of a row; and where so said, tries each Add once more that is refused memory, and the opening.
+fn play_so<R: Threads + Wait + Abort + Sync>(
+    rt: &R,
+    alloc: Global,
+    row: &Row,
+    tries_again: bool,
+) -> Result<(), Fail> {
+    let config = config_of(row.pages)?;
+    let opens_again = row.opens_again || tries_again;
+    let (cache, seats) = open(alloc, config, row.seats, row.limit, opens_again)?;
+    match enter::<Brand, R>(rt, alloc, row, tries_again, cache, seats) {
+        None => Ok(()),
+        Some(Why::NoThread) => Err(NoThread.into()),
+        Some(_) => Err(NoMemory.into()),
+    }
+}
+
 /// Opens a cache, and takes the steps of a row.
 pub fn play<R: Threads + Wait + Abort + Sync>(
     rt: &R,
     alloc: Global,
     row: &Row,
 ) -> Result<(), Fail> {
-    let config = config_of(row.pages)?;
-    let (cache, seats) = open(alloc, config, row.seats, row.limit, row.opens_again)?;
-    match enter::<Brand, R>(rt, alloc, row.steps, cache, seats) {
-        None => Ok(()),
-        Some(Why::NoThread) => Err(NoThread.into()),
-        Some(_) => Err(NoMemory.into()),
-    }
+    play_so(rt, alloc, row, false)
 }
 
 /// The same of each of these rows.
@@ -428,6 +507,19 @@ pub fn play_all<R: Threads + Wait + Abort + Sync>(
 ) -> Result<(), Fail> {
     for row in rows {
         play(rt, alloc, row)?;
+    }
+    Ok(())
+}
+
+/// The same, and once more where what is refused memory is tried again.
+pub fn play_each<R: Threads + Wait + Abort + Sync>(
+    rt: &R,
+    alloc: Global,
+    rows: &[Row],
+) -> Result<(), Fail> {
+    play_all(rt, alloc, rows)?;
+    for row in rows {
+        play_so(rt, alloc, row, true)?;
     }
     Ok(())
 }

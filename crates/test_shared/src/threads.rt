@@ -1,4 +1,6 @@
 //! Seats on threads of their own, each of which takes turns until its part is done.
+use super::crowd;
+use super::crowd::What;
 use super::fronts::Channel;
 use super::held::Plan;
 use super::marks::Adding;
@@ -10,13 +12,14 @@ use std::sync::Wait;
 use std::sync::atomic::{AtomicU64, Ordering};
 use std::thread;
 use std::thread::Threads;
+use tsc_cache::Cache;
 
 /// What seats on threads play.
 pub enum Scene {
     /// An Add that is held up until others have looked.
     Held(Plan),
-    /// Adds up to a limit.
-    Crowd(u64),
+    /// Adds up to a limit, and lookups.
+    Crowd(crowd::Plan),
     /// Lookups that begin after Adds have returned.
     Returned,
     /// Fronts that go from each seat to the next.
@@ -34,12 +37,23 @@ pub struct Meeting<'a, C: Of> {
     /// What is added, if that is the same each time.
     pub adding: Adding,
     pub gate: Watch,
-    /// How often each place was told.
+    /// To which Add each place was told, from 1 on.
     pub places: Vec<AtomicU64>,
     /// How many Adds have returned.
     pub adds: AtomicU64,
     /// A channel to each seat.
     pub channels: Vec<Channel<C>>,
+}
+
+impl Scene {
+    /// Whether the keys and times are so many that the pages may rotate.
+    fn has_many(&self) -> bool {
+        match self {
+            Scene::Ring => true,
+            Scene::Crowd(plan) => matches!(plan.what, What::Times),
+            _ => false,
+        }
+    }
 }
 
 /// So many counts of 0.
@@ -64,7 +78,7 @@ impl<C: Of> Meeting<'_, C> {
     fn of(alloc: Global, scene: &Scene, seats: u64) -> Option<Meeting<'_, C>> {
         let (lookers, places, channels) = match scene {
             Scene::Held(_) => (seats.saturating_sub(1), 0, 0),
-            Scene::Crowd(limit) => (0, *limit, 0),
+            Scene::Crowd(plan) => (0, plan.limit, 0),
             Scene::Ring => (0, 0, seats),
             _ => (0, 0, 0),
         };
@@ -81,12 +95,18 @@ impl<C: Of> Meeting<'_, C> {
         })
     }
 
-    /// How many Adds the gate was told of, or that not all looked while the Add was held up, as where a seat has no thread of its own.
-    fn end(&self) -> Told {
-        if matches!(self.scene, Scene::Held(_)) && !self.gate.has_met() {
-            return Told::Not(Why::NoThread);
+    /// How many Adds the gate was told of, or that not all looked while the Add was held up, as where a seat has no thread of its own; and
+    /// after a crowd a cache that isn't shared, to which its Adds were made.
+    fn end(&self, alloc: Global) -> (Told, Option<Cache>) {
+        let told = Told::Long(self.gate.told());
+        match self.scene {
+            Scene::Held(_) if !self.gate.has_met() => (Told::Not(Why::NoThread), None),
+            Scene::Crowd(plan) => match self.alone(alloc, plan) {
+                Some(alone) => (told, Some(alone)),
+                None => (Told::Not(Why::NoMemory), None),
+            },
+            _ => (told, None),
         }
-        Told::Long(self.gate.told())
     }
 
     /// A turn of a seat, and whether there are more to come.
@@ -100,7 +120,7 @@ impl<C: Of> Meeting<'_, C> {
     ) -> bool {
         match self.scene {
             Scene::Held(plan) => self.hold(rt, home, guest, plan, round),
-            Scene::Crowd(limit) => self.crowd(rt, home, guest, *limit, round),
+            Scene::Crowd(plan) => self.crowd(rt, alloc, home, guest, plan, round),
             Scene::Returned => self.follow(rt, alloc, home, guest, round),
             Scene::Ring => self.send_on(rt, alloc, home, guest, round),
             Scene::Both => self.both(rt, alloc, home, guest, round),
@@ -121,20 +141,22 @@ impl<C: Of> Meeting<'_, C> {
         let (count, before) = (guest.count(), guest.seen());
         let told = home.add(rt, guest, adding, by, &self.gate);
         let more = guest.count().wrapping_sub(count);
-        let is_ring = matches!(self.scene, Scene::Ring);
-        let leaves = leaves(told, is_ring, more, before, guest.seen());
+        let leaves = leaves(told, self.scene.has_many(), more, before, guest.seen());
         check(rt, leaves, told);
         told
     }
 }
 
-/// Whether an Add that is told this may leave a seat so that counts so many more, and had seen so many before and now. Where the keys
-/// are many it may be kept or not, and the pages may rotate.
+/// Whether an Add that is told this may leave a seat so that counts so many more, and had seen so many before and now. Its place comes
+/// behind all that were seen. Where the keys are many it may be kept or not, and the pages may rotate.
 fn leaves(told: Told, are_many: bool, more: u64, before: u64, seen: u64) -> bool {
     match told {
         Told::Place(place, (kept, rotated, evicted), front) => {
             let is_kept = kept && !rotated && evicted == 0;
-            (is_kept || are_many) && more == 1 && front.wrapping_sub(1) == place && front == seen
+            (is_kept || are_many)
+                && (more, seen) == (1, front)
+                && front.wrapping_sub(1) == place
+                && before <= place
         }
         Told::Full(front) => more == 0 && front == seen,
         Told::Not(Why::Busy) => more == 0 && seen == before,
@@ -167,19 +189,21 @@ fn run<C: Of, R: Wait + Abort>(
     guest
 }
 
-/// All seats at the same time, and of how many Adds the gate was told. `None` where memory is refused.
+/// All seats at the same time, and what is told of their end. `None` where memory is refused.
 pub fn meet<C: Of + Send + Sync, R: Threads + Wait + Abort + Sync>(
     rt: &R,
     alloc: Global,
     home: &Home<C>,
     guests: Vec<Guest<C>>,
     scene: &Scene,
-) -> Option<(Vec<Guest<C>>, Told)> {
+) -> Option<(Vec<Guest<C>>, Told, Option<Cache>)> {
     let meeting = Meeting::of(alloc, scene, guests.len() as u64)?;
     let guests = thread::map_vec(
         rt,
         guests,
         &|guest: Guest<C>| run(rt, alloc, home, guest, &meeting),
     );
-    Some((guests.ok()?, meeting.end()))
+    let guests = guests.ok()?;
+    let (told, alone) = meeting.end(alloc);
+    Some((guests, told, alone))
 }

@@ -1,10 +1,8 @@
-//! The shared cache, checks and runs.
+//! Checks and runs.
 
 #[cfg(test)]
 mod check;
 #[cfg(test)]
 mod run;
-#[cfg(test)]
-mod shared;
 #[cfg(test)]
 mod texts;

@@ -1,4 +1,4 @@
-use Rattle.test_shared.proofs.steps.play.Given as goal
+use Rattle.test_shared.proofs.steps.play_so.Given as goal
 
 -- the cache that was just opened
 abbrev pub ghosts-enter : goal.ghosts-enter
