@@ -1,10 +1,11 @@
 //! Checks over memory: of logs whose verdicts are known, and with readers and writers whose calls go wrong.
 use crate::commands::memory::Command::{Check, Replay};
-use crate::commands::memory::{CALM, CALMLY, Calls, Mishaps, Row, ends, play, play_mishaps};
+use crate::commands::memory::{CALM, CALMLY, Calls, Troubled, end_with, ends, play_troubled};
 use crate::commands::traces::{
     NO_JSON, OVERLAPPING_READS, OVERLAPPING_READS_LOG, RACE, TWO_THREADS, TWO_THREADS_LOG,
 };
-use std::alloc::Global;
+use crate::rows::unfolded;
+use std::alloc::{AllocError, Global};
 use std::sync::Wait;
 use std::test::Fail;
 use std::thread::Threads;
@@ -29,22 +30,16 @@ const NO_LISTS: &str =
 
 const WRONG_FIRST_LINE: &str = "log refused: fault 1 at line 1\n";
 
-static ROWS: [Row; 26] = [
-    (
-        Check,
-        OVERLAPPING_READS,
-        OVERLAPPING_READS_LOG,
-        0,
-        "right\n",
-        "",
-    ),
-    (Check, NO_CALLS, "", 0, "right\n", ""),
-    (Check, NO_CALLS, "0 0 low 0 5.0\n", 3, "wrong call 1\n", ""),
-    (Check, RACE, RACE_LOG, 0, "right\n", ""),
-    (Check, TWO_THREADS, TWO_THREADS_LOG, 0, "right\n", ""),
+/// A trace, its log, the status of the check, and what is written, or told of a fault.
+type Checked = (&'static str, &'static str, u8, &'static str);
+
+static ROWS: [Checked; 13] = [
+    (OVERLAPPING_READS, OVERLAPPING_READS_LOG, 0, "right\n"),
+    (NO_CALLS, "", 0, "right\n"),
+    (NO_CALLS, "0 0 low 0 5.0\n", 3, "wrong call 1\n"),
+    (TWO_THREADS, TWO_THREADS_LOG, 0, "right\n"),
     // The last line says that it saw one Add, which is of another key.
     (
-        Check,
         TWO_THREADS,
         "0 0 add 1 1 0 0
 0 1 get 2 30.0 22222222-2222-4222-8222-222222222222
@@ -54,131 +49,46 @@ static ROWS: [Row; 26] = [
 ",
         3,
         "wrong answer 5\n",
-        "",
-    ),
-    // The places change places.
-    (
-        Check,
-        RACE,
-        "0 0 add 1 1 0 0\n1 0 add 0 1 0 0\n2 0 get 1 20.0 11111111-1111-4111-8111-111111111111\n",
-        3,
-        "wrong answer 3\n",
-        "",
-    ),
-    (
-        Check,
-        RACE,
-        "0 0 add 0 1 0 0\n1 0 add 0 1 0 0\n2 0 get 1 20.0 11111111-1111-4111-8111-111111111111\n",
-        3,
-        "wrong place 2\n",
-        "",
-    ),
-    (
-        Check,
-        RACE,
-        "0 0 add 0 1 0 0\n1 0 add 1 1 0 0\n",
-        3,
-        "wrong call 3\n",
-        "",
-    ),
-    (
-        Check,
-        RACE,
-        "0 0 add 0 1 0 0\n1 0 add 1 1 0 0\n2 0 get 3 20.0 11111111-1111-4111-8111-111111111111\n",
-        3,
-        "wrong place 3\n",
-        "",
-    ),
-    // The Add of the first list was kept.
-    (
-        Check,
-        RACE,
-        "0 0 add 0 0 0 0\n1 0 add 1 1 0 0\n2 0 get 1 20.0 11111111-1111-4111-8111-111111111111\n",
-        3,
-        "wrong answer 1\n",
-        "",
-    ),
-    (
-        Check,
-        RACE,
-        "0 0 add 0 1 0 0\n1 0 add 2 1 0 0\n2 0 get 1 20.0 11111111-1111-4111-8111-111111111111\n",
-        3,
-        "wrong place 2\n",
-        "",
-    ),
-    (
-        Check,
-        RACE,
-        "0 0 add 0 1 0 0\n1 0 add 1 1 0 0\n2 0 get 2 20.0 11111111-1111-4111-8111-111111111111\n",
-        3,
-        "wrong answer 3\n",
-        "",
-    ),
-    (
-        Check,
-        RACE,
-        "0 0 add 0 1 0 0\n1 0 add 1 1 0 0\n2 0 get 1 20.0 none\n",
-        3,
-        "wrong answer 3\n",
-        "",
-    ),
-    (
-        Check,
-        RACE,
-        "0 0 add 0 1 0 0\n1 0 add 1 1 0 0\n2 0 get 0 5.0 none\n",
-        0,
-        "right\n",
-        "",
-    ),
-    (
-        Check,
-        RACE,
-        "0 0 add 0 1 0 0\n1 0 add 1 1 0 0\n2 0 low 1 5.0\n",
-        3,
-        "wrong call 3\n",
-        "",
-    ),
-    (
-        Check,
-        RACE,
-        "0 0 add 0 1 0 0\n1 0 add 1 1 0 0\n2 0 get 1 20.0 11111111-1111-4111-8111-111111111111\n2 1 low 2 5.0\n",
-        3,
-        "wrong call 4\n",
-        "",
-    ),
-    (
-        Check,
-        RACE,
-        "1 0 add 1 1 0 0\n0 0 add 0 1 0 0\n2 0 get 1 20.0 11111111-1111-4111-8111-111111111111\n",
-        3,
-        "wrong call 1\n",
-        "",
     ),
     // A list knows of its own Add.
     (
-        Check,
         ONE_LIST,
         "0 0 add 0 1 0 0\n0 1 get 0 5.0 none\n",
         3,
         "wrong place 2\n",
-        "",
     ),
-    (Check, ONE_LIST, "0 0 low 0 5.0", 1, "", WRONG_FIRST_LINE),
-    (Check, ONE_LIST, "0 0 low 00 5.0\n", 1, "", WRONG_FIRST_LINE),
+    (ONE_LIST, "0 0 low 0 5.0", 1, WRONG_FIRST_LINE),
+    (ONE_LIST, "0 0 low 00 5.0\n", 1, WRONG_FIRST_LINE),
     (
-        Check,
         ONE_LIST,
         "0 0 add 0 1 0 0\n0 1 get 1 20.0 nobody\n",
         1,
-        "",
         "log refused: fault 1 at line 2\n",
     ),
-    (Check, NO_LISTS, "", 1, "", "trace refused: fault 7\n"),
+    (NO_LISTS, "", 1, "trace refused: fault 7\n"),
     // Where both are refused, the trace is told.
-    (Check, "", "0 0 low 00 5.0\n", 1, "", NO_JSON),
-    (Check, NO_LISTS, "x", 1, "", "trace refused: fault 7\n"),
-    (Check, "{}", "", 1, "", "trace refused: fault 2 at call 0\n"),
+    ("", "0 0 low 00 5.0\n", 1, NO_JSON),
+    (NO_LISTS, "x", 1, "trace refused: fault 7\n"),
+    ("{}", "", 1, "trace refused: fault 2 at call 0\n"),
 ];
+
+/// Logs that are held against `RACE`, a row a line: the verdict, and behind the bar the log, as `unfolded` has it. A `#` begins a remark.
+static RACE_LOGS: &str =
+    "right|0 0 add 0 1 0 0¶1 0 add 1 1 0 0¶2 0 get 1 20.0 11111111-1111-4111-8111-111111111111¶
+# The places change places.
+wrong answer 3|0 0 add 1 1 0 0¶1 0 add 0 1 0 0¶2 0 get 1 20.0 11111111-1111-4111-8111-111111111111¶
+wrong place 2|0 0 add 0 1 0 0¶1 0 add 0 1 0 0¶2 0 get 1 20.0 11111111-1111-4111-8111-111111111111¶
+wrong call 3|0 0 add 0 1 0 0¶1 0 add 1 1 0 0¶
+wrong place 3|0 0 add 0 1 0 0¶1 0 add 1 1 0 0¶2 0 get 3 20.0 11111111-1111-4111-8111-111111111111¶
+# The Add of the first list was kept.
+wrong answer 1|0 0 add 0 0 0 0¶1 0 add 1 1 0 0¶2 0 get 1 20.0 11111111-1111-4111-8111-111111111111¶
+wrong place 2|0 0 add 0 1 0 0¶1 0 add 2 1 0 0¶2 0 get 1 20.0 11111111-1111-4111-8111-111111111111¶
+wrong answer 3|0 0 add 0 1 0 0¶1 0 add 1 1 0 0¶2 0 get 2 20.0 11111111-1111-4111-8111-111111111111¶
+wrong answer 3|0 0 add 0 1 0 0¶1 0 add 1 1 0 0¶2 0 get 1 20.0 none¶
+right|0 0 add 0 1 0 0¶1 0 add 1 1 0 0¶2 0 get 0 5.0 none¶
+wrong call 3|0 0 add 0 1 0 0¶1 0 add 1 1 0 0¶2 0 low 1 5.0¶
+wrong call 4|0 0 add 0 1 0 0¶1 0 add 1 1 0 0¶2 0 get 1 20.0 11111111-1111-4111-8111-111111111111¶2 1 low 2 5.0¶
+wrong call 1|1 0 add 1 1 0 0¶0 0 add 0 1 0 0¶2 0 get 1 20.0 11111111-1111-4111-8111-111111111111¶";
 
 /// Calls that move a byte, and none of which goes wrong.
 const SLOW: Calls = (1, Mishap::Never);
@@ -186,59 +96,112 @@ const SLOW: Calls = (1, Mishap::Never);
 /// Calls the first of which fails.
 const FAILING: Calls = (65_536, Mishap::FailsAt(0));
 
-static MISHAPS: [Mishaps; 12] = [
+static MISHAPS: [Troubled; 12] = [
     (
         (SLOW, SLOW, SLOW, SLOW),
-        &[(Check, RACE, RACE_LOG, 0, "right\n", "")],
+        (Check, RACE, RACE_LOG, 0, "right\n", ""),
     ),
     (
         (SLOW, SLOW, SLOW, SLOW),
-        &[(Check, RACE, "", 3, "wrong call 1\n", "")],
+        (Check, RACE, "", 3, "wrong call 1\n", ""),
     ),
     (
         (FAILING, CALM, CALM, CALM),
-        &[(Check, RACE, RACE_LOG, 4, "", "read failed\n")],
+        (Check, RACE, RACE_LOG, 4, "", "read failed\n"),
     ),
     (
         (CALM, FAILING, CALM, CALM),
-        &[(Check, RACE, RACE_LOG, 4, "", "read failed\n")],
+        (Check, RACE, RACE_LOG, 4, "", "read failed\n"),
     ),
     (
         (CALM, (1, Mishap::FailsAt(9)), CALM, CALM),
-        &[(Check, RACE, RACE_LOG, 4, "", "read failed\n")],
+        (Check, RACE, RACE_LOG, 4, "", "read failed\n"),
     ),
     // A log that is not read cannot fail.
     (
         (CALM, FAILING, CALM, CALM),
-        &[(Check, "", RACE_LOG, 1, "", NO_JSON)],
+        (Check, "", RACE_LOG, 1, "", NO_JSON),
     ),
     (
         (FAILING, FAILING, CALM, CALM),
-        &[(Check, "", "", 4, "", "read failed\n")],
+        (Check, "", "", 4, "", "read failed\n"),
     ),
     // The verdict is not written, or only its first bytes.
     (
         (CALM, CALM, FAILING, CALM),
-        &[(Check, RACE, RACE_LOG, 4, "", "write failed\n")],
+        (Check, RACE, RACE_LOG, 4, "", "write failed\n"),
     ),
     (
         (CALM, CALM, (1, Mishap::FailsAt(12)), CALM),
-        &[(Check, RACE, "", 4, "wrong call 1", "write failed\n")],
+        (Check, RACE, "", 4, "wrong call 1", "write failed\n"),
     ),
     // The status stays where the fault cannot be told, or only a part of its line.
     (
         (CALM, CALM, FAILING, FAILING),
-        &[(Check, RACE, RACE_LOG, 4, "", "")],
+        (Check, RACE, RACE_LOG, 4, "", ""),
     ),
     (
         (CALM, CALM, CALM, (1, Mishap::FailsAt(29))),
-        &[(Check, RACE, "x", 1, "", "log refused: fault 1 at line ")],
+        (Check, RACE, "x", 1, "", "log refused: fault 1 at line "),
     ),
     (
         (CALM, CALM, CALM, FAILING),
-        &[(Check, RACE, "", 3, "wrong call 1\n", "")],
+        (Check, RACE, "", 3, "wrong call 1\n", ""),
     ),
 ];
+
+/// The first trace whose check ends otherwise, and its log.
+fn first_wrong<R: Threads + Wait + Sync>(
+    rt: &R,
+    alloc: Global,
+    rows: &[Checked],
+) -> Option<(&'static str, &'static str)> {
+    for (trace, log, status, said) in rows {
+        let of = (Check, trace.as_bytes(), log.as_bytes());
+        if !ends(rt, alloc, &NoGate, of, CALMLY, end_with(*status, said)) {
+            return Some((*trace, *log));
+        }
+    }
+    None
+}
+
+/// Whether a check of a log of `RACE` writes this verdict.
+fn is_verdict<R: Threads + Wait + Sync>(
+    rt: &R,
+    alloc: Global,
+    verdict: &str,
+    log: &str,
+) -> Result<bool, AllocError> {
+    let log = unfolded(alloc, log)?;
+    let mut written = unfolded(alloc, verdict)?;
+    written.push(b'\n')?;
+    let status = if verdict == "right" { 0 } else { 3 };
+    let of = (Check, RACE.as_bytes(), log.as_slice());
+    let end = (status, written.as_slice(), &b""[..]);
+    Ok(ends(rt, alloc, &NoGate, of, CALMLY, end))
+}
+
+/// Whether a row of `RACE_LOGS` holds.
+fn is_told<R: Threads + Wait + Sync>(rt: &R, alloc: Global, row: &str) -> bool {
+    match row.split_once('|') {
+        Some((verdict, log)) => is_verdict(rt, alloc, verdict, log) == Ok(true),
+        None => row.starts_with('#'),
+    }
+}
+
+/// The first row of such logs that doesn't hold.
+fn first_wrong_log<R: Threads + Wait + Sync>(
+    rt: &R,
+    alloc: Global,
+    rows: &'static str,
+) -> Option<&'static str> {
+    for row in rows.lines() {
+        if !is_told(rt, alloc, row) {
+            return Some(row);
+        }
+    }
+    None
+}
 
 /// Of each line of the log of `OVERLAPPING_READS`: what is written where it and those behind it are missing, and what is told where a
 /// part of it is there.
@@ -278,8 +241,9 @@ fn first_wrong_cut<R: Threads + Wait + Sync>(rt: &R, alloc: Global, log: &[u8]) 
 
 #[test]
 fn checks_end_as_their_rows_say(rt: HostRuntime) {
-    play(&rt, rt.alloc(), CALMLY, &ROWS);
-    play_mishaps(&rt, rt.alloc(), &MISHAPS);
+    assert_eq!(rt; first_wrong(&rt, rt.alloc(), &ROWS), None);
+    assert_eq!(rt; first_wrong_log(&rt, rt.alloc(), RACE_LOGS), None);
+    play_troubled(&rt, rt.alloc(), &MISHAPS);
     let cut = first_wrong_cut(&rt, rt.alloc(), OVERLAPPING_READS_LOG.as_bytes());
     assert_eq!(rt; cut, None);
 }

@@ -47,8 +47,8 @@ pub(crate) type Row = (
     &'static str,
 );
 
-/// Rows whose readers and writers go wrong alike.
-pub(crate) type Mishaps = (Ways, &'static [Row]);
+/// How a row's readers and writers go wrong.
+pub(crate) type Troubled = (Ways, Row);
 
 /// What came of a command.
 #[derive(Drop)]
@@ -110,6 +110,15 @@ pub(crate) fn ends<R: Threads + Wait + Sync, G: Gate + Sync>(
     came.status == end.0 && came.written.as_slice() == end.1 && came.told.as_slice() == end.2
 }
 
+/// How a command ends that writes this, with a status of one that did what it was asked for, or that fails and tells this.
+pub(crate) fn end_with(status: u8, said: &str) -> End {
+    if status == 0 || status == 3 {
+        (status, said.as_bytes(), b"")
+    } else {
+        (status, b"", said.as_bytes())
+    }
+}
+
 /// Whether a row's command ends as it says.
 pub(crate) fn holds<R: Threads + Wait + Sync, G: Gate + Sync>(
     rt: &R,
@@ -149,13 +158,25 @@ pub(crate) fn play<R: Abort + Threads + Wait + Sync>(
     assert_eq!(rt; first_wrong(rt, alloc, ways, rows), None);
 }
 
-/// The same where readers and writers go wrong.
-pub(crate) fn play_mishaps<R: Abort + Threads + Wait + Sync>(
+/// The trace and the log of the first row whose command ends otherwise, where its readers and writers go wrong.
+fn first_wrong_troubled<R: Threads + Wait + Sync>(
     rt: &R,
     alloc: Global,
-    all: &[Mishaps],
-) {
-    for (ways, rows) in all {
-        play(rt, alloc, *ways, rows);
+    rows: &[Troubled],
+) -> Option<(&'static str, &'static str)> {
+    for (ways, row) in rows {
+        if !holds(rt, alloc, &NoGate, *ways, row) {
+            return Some((row.1, row.2));
+        }
     }
+    None
+}
+
+/// The same where readers and writers go wrong.
+pub(crate) fn play_troubled<R: Abort + Threads + Wait + Sync>(
+    rt: &R,
+    alloc: Global,
+    rows: &[Troubled],
+) {
+    assert_eq!(rt; first_wrong_troubled(rt, alloc, rows), None);
 }

@@ -1,7 +1,7 @@
 //! Each command with a reader or a writer that goes wrong: at each of its calls in turn, or at all of them.
 use crate::commands::memory::Command::{Check, Replay, Run};
 use crate::commands::memory::{
-    CALM, Calls, Command, End, Mishaps, READ_FAILED, WRITE_FAILED, Ways, ends, play_mishaps,
+    CALM, Calls, Command, End, READ_FAILED, Troubled, WRITE_FAILED, Ways, ends, play_troubled,
 };
 use crate::commands::traces::{NO_JSON, OVERLAPPING_READS, OVERLAPPING_READS_LOG};
 use std::alloc::Global;
@@ -139,7 +139,7 @@ fn first_wrong<R: Threads + Wait + Sync>(
 }
 
 /// The call behind the last one would fail, and so would each that tells a fault.
-static ENDS_BEFORE: [Mishaps; 2] = [
+static ENDS_BEFORE: [Troubled; 3] = [
     (
         (
             (1, Mishap::FailsAt(OVERLAPPING_READS.len() as u64 + 1)),
@@ -147,10 +147,16 @@ static ENDS_BEFORE: [Mishaps; 2] = [
             (1, Mishap::FailsAt(OVERLAPPING_READS_LOG.len() as u64)),
             (1, Mishap::FailsAt(0)),
         ),
-        &[
-            (Replay, OVERLAPPING_READS, "", 0, OVERLAPPING_READS_LOG, ""),
-            (Run, OVERLAPPING_READS, "", 0, OVERLAPPING_READS_LOG, ""),
-        ],
+        (Replay, OVERLAPPING_READS, "", 0, OVERLAPPING_READS_LOG, ""),
+    ),
+    (
+        (
+            (1, Mishap::FailsAt(OVERLAPPING_READS.len() as u64 + 1)),
+            CALM,
+            (1, Mishap::FailsAt(OVERLAPPING_READS_LOG.len() as u64)),
+            (1, Mishap::FailsAt(0)),
+        ),
+        (Run, OVERLAPPING_READS, "", 0, OVERLAPPING_READS_LOG, ""),
     ),
     (
         (
@@ -159,20 +165,20 @@ static ENDS_BEFORE: [Mishaps; 2] = [
             (1, Mishap::FailsAt(6)),
             (1, Mishap::FailsAt(0)),
         ),
-        &[(
+        (
             Check,
             OVERLAPPING_READS,
             OVERLAPPING_READS_LOG,
             0,
             "right\n",
             "",
-        )],
+        ),
     ),
 ];
 
 #[test]
 fn each_call_fails_in_turn(rt: HostRuntime) {
-    play_mishaps(&rt, rt.alloc(), &ENDS_BEFORE);
+    play_troubled(&rt, rt.alloc(), &ENDS_BEFORE);
     assert_eq!(rt; first_wrong(&rt, rt.alloc(), &FAILING), None);
 }
 
@@ -183,93 +189,110 @@ const INTERRUPTED: Calls = (1, Mishap::AlwaysInterrupted);
 const TAKING_NOTHING: Calls = (0, Mishap::Never);
 
 /// A write that takes nothing fails.
-static WITHOUT_ROOM: [Mishaps; 2] = [
+static WITHOUT_ROOM: [Troubled; 6] = [
     (
         (CALM, CALM, TAKING_NOTHING, CALM),
-        &[
-            (Replay, OVERLAPPING_READS, "", 4, "", WRITE_FAILED),
-            (
-                Check,
-                OVERLAPPING_READS,
-                OVERLAPPING_READS_LOG,
-                4,
-                "",
-                WRITE_FAILED,
-            ),
-            (Run, OVERLAPPING_READS, "", 4, "", WRITE_FAILED),
-        ],
+        (Replay, OVERLAPPING_READS, "", 4, "", WRITE_FAILED),
+    ),
+    (
+        (CALM, CALM, TAKING_NOTHING, CALM),
+        (
+            Check,
+            OVERLAPPING_READS,
+            OVERLAPPING_READS_LOG,
+            4,
+            "",
+            WRITE_FAILED,
+        ),
+    ),
+    (
+        (CALM, CALM, TAKING_NOTHING, CALM),
+        (Run, OVERLAPPING_READS, "", 4, "", WRITE_FAILED),
     ),
     (
         (CALM, CALM, CALM, TAKING_NOTHING),
-        &[
-            (Replay, "abc", "", 1, "", ""),
-            (Check, "abc", "", 1, "", ""),
-            (Run, "abc", "", 1, "", ""),
-        ],
+        (Replay, "abc", "", 1, "", ""),
+    ),
+    (
+        (CALM, CALM, CALM, TAKING_NOTHING),
+        (Check, "abc", "", 1, "", ""),
+    ),
+    (
+        (CALM, CALM, CALM, TAKING_NOTHING),
+        (Run, "abc", "", 1, "", ""),
     ),
 ];
 
 /// The last call that may be made fails.
-static WITHOUT_END: [Mishaps; 4] = [
+static WITHOUT_END: [Troubled; 10] = [
     (
         (INTERRUPTED, CALM, CALM, CALM),
-        &[
-            (Replay, OVERLAPPING_READS, "", 4, "", READ_FAILED),
-            (
-                Check,
-                OVERLAPPING_READS,
-                OVERLAPPING_READS_LOG,
-                4,
-                "",
-                READ_FAILED,
-            ),
-            (Run, OVERLAPPING_READS, "", 4, "", READ_FAILED),
-        ],
+        (Replay, OVERLAPPING_READS, "", 4, "", READ_FAILED),
     ),
     (
-        (CALM, INTERRUPTED, CALM, CALM),
-        &[(
+        (INTERRUPTED, CALM, CALM, CALM),
+        (
             Check,
             OVERLAPPING_READS,
             OVERLAPPING_READS_LOG,
             4,
             "",
             READ_FAILED,
-        )],
+        ),
+    ),
+    (
+        (INTERRUPTED, CALM, CALM, CALM),
+        (Run, OVERLAPPING_READS, "", 4, "", READ_FAILED),
+    ),
+    (
+        (CALM, INTERRUPTED, CALM, CALM),
+        (
+            Check,
+            OVERLAPPING_READS,
+            OVERLAPPING_READS_LOG,
+            4,
+            "",
+            READ_FAILED,
+        ),
     ),
     (
         (CALM, CALM, INTERRUPTED, CALM),
-        &[
-            (Replay, OVERLAPPING_READS, "", 4, "", WRITE_FAILED),
-            (
-                Check,
-                OVERLAPPING_READS,
-                OVERLAPPING_READS_LOG,
-                4,
-                "",
-                WRITE_FAILED,
-            ),
-            (Run, OVERLAPPING_READS, "", 4, "", WRITE_FAILED),
-        ],
+        (Replay, OVERLAPPING_READS, "", 4, "", WRITE_FAILED),
+    ),
+    (
+        (CALM, CALM, INTERRUPTED, CALM),
+        (
+            Check,
+            OVERLAPPING_READS,
+            OVERLAPPING_READS_LOG,
+            4,
+            "",
+            WRITE_FAILED,
+        ),
+    ),
+    (
+        (CALM, CALM, INTERRUPTED, CALM),
+        (Run, OVERLAPPING_READS, "", 4, "", WRITE_FAILED),
     ),
     (
         (CALM, CALM, CALM, INTERRUPTED),
-        &[
-            (Replay, "abc", "", 1, "", ""),
-            (Check, "abc", "", 1, "", ""),
-            (Run, "abc", "", 1, "", ""),
-        ],
+        (Replay, "abc", "", 1, "", ""),
     ),
+    (
+        (CALM, CALM, CALM, INTERRUPTED),
+        (Check, "abc", "", 1, "", ""),
+    ),
+    ((CALM, CALM, CALM, INTERRUPTED), (Run, "abc", "", 1, "", "")),
 ];
 
 #[test]
 fn writes_that_take_nothing(rt: HostRuntime) {
-    play_mishaps(&rt, rt.alloc(), &WITHOUT_ROOM);
+    play_troubled(&rt, rt.alloc(), &WITHOUT_ROOM);
 }
 
 /// Of each reader and writer all 33,554,432 calls are made that there may be. That takes two seconds in all once it is built, and has no
 /// answer in a trial.
 #[test]
 fn calls_that_are_always_interrupted(rt: HostRuntime) {
-    play_mishaps(&rt, rt.alloc(), &WITHOUT_END);
+    play_troubled(&rt, rt.alloc(), &WITHOUT_END);
 }

@@ -59,16 +59,24 @@ static FILES: [Held; 9] = [
     ("large.json", Err(OpenFault::NoMemory)),
 ];
 
+/// One of some words, which stand in a text with bars between them. An empty text has none.
+fn word_of(words: &'static str, i: usize) -> Option<&'static str> {
+    if words.is_empty() {
+        return None;
+    }
+    words.split('|').nth(i)
+}
+
 /// A call with these words, which may be garbled: their first bytes are no text then.
 #[derive(Drop)]
 struct Called {
-    words: &'static [&'static str],
+    words: &'static str,
     is_garbled: bool,
 }
 
 impl Env for Called {
     fn arg(&self, i: usize, buf: &mut [u8]) -> Result<usize, FillError> {
-        let Some(word) = self.words.get(i) else {
+        let Some(word) = word_of(self.words, i) else {
             return Err(FillError::NotPresent);
         };
         let bytes = word.as_bytes();
@@ -91,211 +99,123 @@ impl Env for Called {
     }
 }
 
-/// Words, the exit status, what is written, and what is told.
-type Row = (&'static [&'static str], u8, &'static str, &'static str);
+/// How a call ends.
+enum End {
+    Log,
+    Right,
+    Wrong,
+    NoJson,
+    NoLog,
+    Usage,
+    Unread,
+    TooLong,
+    NoMemory,
+}
+
+/// The exit status, what is written, and what is told.
+fn told_by(end: &End) -> (u8, &'static str, &'static str) {
+    match end {
+        End::Log => (0, TWO_READERS_LOG, ""),
+        End::Right => (0, RIGHT, ""),
+        End::Wrong => (3, "wrong call 2\n", ""),
+        End::NoJson => (1, "", NO_JSON),
+        End::NoLog => (1, "", NO_LOG),
+        End::Usage => (2, "", USAGE),
+        End::Unread => (4, "", READ_FAILED),
+        End::TooLong => (4, "", "input too long\n"),
+        End::NoMemory => (5, "", OUT_OF_MEMORY),
+    }
+}
+
+/// Words, and how a call with them ends.
+type Row = (&'static str, End);
 
 static ROWS: [Row; 45] = [
-    (&["tscache", "replay", " a b .json"], 0, TWO_READERS_LOG, ""),
-    (&["tscache", "run", " a b .json"], 0, TWO_READERS_LOG, ""),
+    ("tscache|replay| a b .json", End::Log),
+    ("tscache|run| a b .json", End::Log),
+    ("tscache|check| a b .json|two_readers.log", End::Right),
+    ("tscache|replay|a b .json", End::Unread),
+    ("tscache|replay|-", End::Log),
+    ("tscache|replay|--|-", End::Log),
+    ("tscache|run|-", End::Log),
+    ("tscache|check|-|two_readers.log", End::Right),
+    ("tscache|check|two_readers.json|-", End::NoLog),
+    ("tscache|replay|", End::Log),
+    ("tscache|run|", End::Log),
+    ("tscache|check||two_readers.log", End::Right),
     (
-        &["tscache", "check", " a b .json", "two_readers.log"],
-        0,
-        RIGHT,
-        "",
+        "tscache|replay|-|-|-|-|-|-|-|-|-|-|-|-|-|-|-|-|-|-|-|-|-|-|-|-|-|-|-|-|-|-|-|-|-|-|-|-|-|-|-|-|-|-|-|-|-|-|-",
+        End::Usage,
     ),
-    (&["tscache", "replay", "a b .json"], 4, "", READ_FAILED),
-    (&["tscache", "replay", "-"], 0, TWO_READERS_LOG, ""),
-    (&["tscache", "replay", "--", "-"], 0, TWO_READERS_LOG, ""),
-    (&["tscache", "run", "-"], 0, TWO_READERS_LOG, ""),
-    (&["tscache", "check", "-", "two_readers.log"], 0, RIGHT, ""),
+    ("tscache|replay|two_readers.json", End::Log),
+    ("tscache|replay|notes.txt", End::NoJson),
+    ("tscache|replay|missing.json", End::Unread),
+    ("tscache|replay|locked.json", End::Unread),
+    ("tscache|replay|large.json", End::NoMemory),
+    ("tscache|replay|two_readers.json|notes.txt", End::Usage),
+    ("tscache|run|two_readers.json", End::Log),
+    ("tscache|run|notes.txt", End::NoJson),
+    ("tscache|run|missing.json", End::Unread),
+    ("tscache|run|large.json", End::NoMemory),
+    ("tscache|run|two_readers.json|notes.txt", End::Usage),
+    ("tscache|check|two_readers.json|two_readers.log", End::Right),
+    ("tscache|check|two_readers.json|cut.log", End::Wrong),
+    ("tscache|check|two_readers.json|notes.txt", End::NoLog),
     (
-        &["tscache", "check", "two_readers.json", "-"],
-        1,
-        "",
-        NO_LOG,
-    ),
-    (&["tscache", "replay", ""], 0, TWO_READERS_LOG, ""),
-    (&["tscache", "run", ""], 0, TWO_READERS_LOG, ""),
-    (&["tscache", "check", "", "two_readers.log"], 0, RIGHT, ""),
-    (
-        &[
-            "tscache", "replay", "-", "-", "-", "-", "-", "-", "-", "-", "-", "-", "-", "-", "-",
-            "-", "-", "-", "-", "-", "-", "-", "-", "-", "-", "-", "-", "-", "-", "-", "-", "-",
-            "-", "-", "-", "-", "-", "-", "-", "-", "-", "-", "-", "-", "-", "-", "-", "-", "-",
-        ],
-        2,
-        "",
-        USAGE,
-    ),
-    (
-        &["tscache", "replay", "two_readers.json"],
-        0,
-        TWO_READERS_LOG,
-        "",
-    ),
-    (&["tscache", "replay", "notes.txt"], 1, "", NO_JSON),
-    (&["tscache", "replay", "missing.json"], 4, "", READ_FAILED),
-    (&["tscache", "replay", "locked.json"], 4, "", READ_FAILED),
-    (&["tscache", "replay", "large.json"], 5, "", OUT_OF_MEMORY),
-    (
-        &["tscache", "replay", "two_readers.json", "notes.txt"],
-        2,
-        "",
-        USAGE,
-    ),
-    (
-        &["tscache", "run", "two_readers.json"],
-        0,
-        TWO_READERS_LOG,
-        "",
-    ),
-    (&["tscache", "run", "notes.txt"], 1, "", NO_JSON),
-    (&["tscache", "run", "missing.json"], 4, "", READ_FAILED),
-    (&["tscache", "run", "large.json"], 5, "", OUT_OF_MEMORY),
-    (
-        &["tscache", "run", "two_readers.json", "notes.txt"],
-        2,
-        "",
-        USAGE,
-    ),
-    (
-        &["tscache", "check", "two_readers.json", "two_readers.log"],
-        0,
-        RIGHT,
-        "",
-    ),
-    (
-        &["tscache", "check", "two_readers.json", "cut.log"],
-        3,
-        "wrong call 2\n",
-        "",
-    ),
-    (
-        &["tscache", "check", "two_readers.json", "notes.txt"],
-        1,
-        "",
-        NO_LOG,
-    ),
-    (
-        &["tscache", "check", "two_readers.log", "two_readers.json"],
-        1,
-        "",
-        NO_JSON,
+        "tscache|check|two_readers.log|two_readers.json",
+        End::NoJson,
     ),
     // The trace is opened first, then the log, and only then is the trace read, and the log behind it.
+    ("tscache|check|missing.json|large.json", End::Unread),
+    ("tscache|check|large.json|missing.log", End::NoMemory),
+    ("tscache|check|missing.json|two_readers.log", End::Unread),
+    ("tscache|check|two_readers.json|missing.log", End::Unread),
+    ("tscache|check|two_readers.json|large.json", End::NoMemory),
+    ("tscache|check|notes.txt|missing.log", End::Unread),
+    ("tscache|check|notes.txt|notes.txt", End::NoJson),
+    ("tscache|check|two_readers.json", End::Usage),
     (
-        &["tscache", "check", "missing.json", "large.json"],
-        4,
-        "",
-        READ_FAILED,
+        "tscache|check|two_readers.json|two_readers.log|notes.txt",
+        End::Usage,
     ),
-    (
-        &["tscache", "check", "large.json", "missing.log"],
-        5,
-        "",
-        OUT_OF_MEMORY,
-    ),
-    (
-        &["tscache", "check", "missing.json", "two_readers.log"],
-        4,
-        "",
-        READ_FAILED,
-    ),
-    (
-        &["tscache", "check", "two_readers.json", "missing.log"],
-        4,
-        "",
-        READ_FAILED,
-    ),
-    (
-        &["tscache", "check", "two_readers.json", "large.json"],
-        5,
-        "",
-        OUT_OF_MEMORY,
-    ),
-    (
-        &["tscache", "check", "notes.txt", "missing.log"],
-        4,
-        "",
-        READ_FAILED,
-    ),
-    (
-        &["tscache", "check", "notes.txt", "notes.txt"],
-        1,
-        "",
-        NO_JSON,
-    ),
-    (&["tscache", "check", "two_readers.json"], 2, "", USAGE),
-    (
-        &[
-            "tscache",
-            "check",
-            "two_readers.json",
-            "two_readers.log",
-            "notes.txt",
-        ],
-        2,
-        "",
-        USAGE,
-    ),
-    (&["tscache", "check"], 2, "", USAGE),
-    (&["tscache", "replay"], 2, "", USAGE),
-    (&["tscache", "run"], 2, "", USAGE),
-    (&["tscache", "paint", "two_readers.json"], 2, "", USAGE),
-    (&["tscache", "--help"], 2, "", USAGE),
-    (&["two_readers.json"], 2, "", USAGE),
-    (&["tscache"], 2, "", USAGE),
-    (&[], 2, "", USAGE),
+    ("tscache|check", End::Usage),
+    ("tscache|replay", End::Usage),
+    ("tscache|run", End::Usage),
+    ("tscache|paint|two_readers.json", End::Usage),
+    ("tscache|--help", End::Usage),
+    ("two_readers.json", End::Usage),
+    ("tscache", End::Usage),
+    ("", End::Usage),
 ];
 
 /// Files of the system: none, also where a name is empty, blank or a hyphen, an empty one, one that cannot be read
 /// and one without end.
 static SYSTEM_ROWS: [Row; 16] = [
-    (&["tscache", "replay", ""], 4, "", READ_FAILED),
-    (&["tscache", "replay", " "], 4, "", READ_FAILED),
-    (&["tscache", "replay", "-"], 4, "", READ_FAILED),
-    (&["tscache", "run", ""], 4, "", READ_FAILED),
-    (&["tscache", "run", "-"], 4, "", READ_FAILED),
-    (&["tscache", "check", "-", "/dev/null"], 4, "", READ_FAILED),
-    (&["tscache", "check", "/dev/null", "-"], 4, "", READ_FAILED),
-    (&["tscache", "replay", "/no/such/file"], 4, "", READ_FAILED),
-    (&["tscache", "replay", "/dev/null"], 1, "", NO_JSON),
-    (&["tscache", "replay", "/"], 4, "", READ_FAILED),
-    (&["tscache", "run", "/no/such/file"], 4, "", READ_FAILED),
-    (&["tscache", "run", "/dev/null"], 1, "", NO_JSON),
-    (
-        &["tscache", "replay", "/dev/zero"],
-        4,
-        "",
-        "input too long\n",
-    ),
-    (
-        &["tscache", "check", "/no/such/file", "/dev/null"],
-        4,
-        "",
-        READ_FAILED,
-    ),
-    (
-        &["tscache", "check", "/dev/null", "/no/such/file"],
-        4,
-        "",
-        READ_FAILED,
-    ),
-    (
-        &["tscache", "check", "/dev/null", "/dev/zero"],
-        1,
-        "",
-        NO_JSON,
-    ),
+    ("tscache|replay|", End::Unread),
+    ("tscache|replay| ", End::Unread),
+    ("tscache|replay|-", End::Unread),
+    ("tscache|run|", End::Unread),
+    ("tscache|run|-", End::Unread),
+    ("tscache|check|-|/dev/null", End::Unread),
+    ("tscache|check|/dev/null|-", End::Unread),
+    ("tscache|replay|/no/such/file", End::Unread),
+    ("tscache|replay|/dev/null", End::NoJson),
+    ("tscache|replay|/", End::Unread),
+    ("tscache|run|/no/such/file", End::Unread),
+    ("tscache|run|/dev/null", End::NoJson),
+    ("tscache|replay|/dev/zero", End::TooLong),
+    ("tscache|check|/no/such/file|/dev/null", End::Unread),
+    ("tscache|check|/dev/null|/no/such/file", End::Unread),
+    ("tscache|check|/dev/null|/dev/zero", End::NoJson),
 ];
 
 /// Words that are no text.
-static GARBLED: [Row; 1] = [(&["tscache", "replay", "two_readers.json"], 2, "", USAGE)];
+static GARBLED: [Row; 1] = [("tscache|replay|two_readers.json", End::Usage)];
 
 /// The words of a call, as the program gets them.
 pub(crate) fn words_of(
     alloc: Global,
-    words: &'static [&'static str],
+    words: &'static str,
     is_garbled: bool,
 ) -> Result<Vec<String>, WordsFault> {
     fetch_words(&(Called { words, is_garbled }, alloc))
@@ -330,10 +250,11 @@ fn first_wrong<R: Threads + Wait + Sync, P: Place>(
     rows: &[Row],
     is_garbled: bool,
 ) -> Option<usize> {
-    for (i, (words, status, log, line)) in rows.iter().enumerate() {
-        for (telling, told) in [(Mishap::Never, *line), (Mishap::FailsAt(0), "")] {
+    for (i, (words, end)) in rows.iter().enumerate() {
+        let (status, log, line) = told_by(end);
+        for (telling, told) in [(Mishap::Never, line), (Mishap::FailsAt(0), "")] {
             let fetched = words_of(alloc, words, is_garbled);
-            if !comes_to(rt, alloc, place, fetched, telling, (*status, *log, told)) {
+            if !comes_to(rt, alloc, place, fetched, telling, (status, log, told)) {
                 return Some(i);
             }
         }

@@ -1,9 +1,9 @@
 //! Runs over memory: of traces whose logs are known, and of those whose logs a check finds right.
 use crate::commands::memory::Command::{Check, Run};
 use crate::commands::memory::{CALMLY, Row, call, ends, holds, play};
-use crate::commands::traces;
 use crate::commands::traces::{
-    NO_JSON, OVERLAPPING_READS, OVERLAPPING_READS_LOG, RACE, TWO_READERS, TWO_READERS_LOG,
+    NO_JSON, OVERLAPPING_READS, OVERLAPPING_READS_LOG, RACE, Replayed, TWO_READERS,
+    TWO_READERS_LOG, rows,
 };
 use std::alloc::Global;
 use std::sync::Wait;
@@ -68,11 +68,11 @@ fn are_right<R: Threads + Wait + Sync>(rt: &R, alloc: Global, trace: &str, runs:
 fn first_wrong_run<R: Threads + Wait + Sync>(
     rt: &R,
     alloc: Global,
-    rows: &[Row],
+    rows: &[Replayed],
 ) -> Option<&'static str> {
-    for row in rows {
-        if row.3 == 0 && !are_right(rt, alloc, row.1, 20) {
-            return Some(row.1);
+    for (trace, status, _) in rows {
+        if *status == 0 && !are_right(rt, alloc, trace, 20) {
+            return Some(*trace);
         }
     }
     None
@@ -85,7 +85,7 @@ fn runs_end_as_their_rows_say(rt: HostRuntime) {
 
 #[test]
 fn checks_find_the_logs_of_runs_right(rt: HostRuntime) {
-    assert_eq!(rt; first_wrong_run(&rt, rt.alloc(), &traces::ROWS), None);
+    assert_eq!(rt; first_wrong_run(&rt, rt.alloc(), rows()), None);
     assert!(rt; are_right(&rt, rt.alloc(), RACE, 100));
 }
 

@@ -15,72 +15,63 @@ enum Wanted {
     Nothing,
 }
 
-/// Words, and what they ask for.
-type Row = (&'static [&'static str], Wanted);
+/// Words, with bars between them, and what they ask for.
+type Row = (&'static str, Wanted);
 
 static ROWS: [Row; 44] = [
-    (&["tscache", "replay", "x"], Wanted::Replay("x")),
-    (&["another", "replay", "x"], Wanted::Replay("x")),
+    ("tscache|replay|x", Wanted::Replay("x")),
+    ("another|replay|x", Wanted::Replay("x")),
     (
-        &["tscache", "replay", "a file with spaces"],
+        "tscache|replay|a file with spaces",
         Wanted::Replay("a file with spaces"),
     ),
     (
-        &["tscache", "replay", "Größe-日本.trace"],
+        "tscache|replay|Größe-日本.trace",
         Wanted::Replay("Größe-日本.trace"),
     ),
-    (&["tscache", "replay", "replay"], Wanted::Replay("replay")),
-    (&["tscache", "replay", ""], Wanted::Replay("")),
-    (&["tscache", "run", "x"], Wanted::Run("x")),
-    (&["tscache", "run", "run"], Wanted::Run("run")),
-    (&["tscache", "run", "replay"], Wanted::Run("replay")),
-    (&["tscache", "replay", "run"], Wanted::Replay("run")),
-    (&["tscache", "run", ""], Wanted::Run("")),
-    (&["tscache", "check", "a", "b"], Wanted::Check("a", "b")),
-    (&["tscache", "check", "x", "x"], Wanted::Check("x", "x")),
-    (
-        &["tscache", "check", "run", "check"],
-        Wanted::Check("run", "check"),
-    ),
-    (&["tscache", "check", "", ""], Wanted::Check("", "")),
+    ("tscache|replay|replay", Wanted::Replay("replay")),
+    ("tscache|replay|", Wanted::Replay("")),
+    ("tscache|run|x", Wanted::Run("x")),
+    ("tscache|run|run", Wanted::Run("run")),
+    ("tscache|run|replay", Wanted::Run("replay")),
+    ("tscache|replay|run", Wanted::Replay("run")),
+    ("tscache|run|", Wanted::Run("")),
+    ("tscache|check|a|b", Wanted::Check("a", "b")),
+    ("tscache|check|x|x", Wanted::Check("x", "x")),
+    ("tscache|check|run|check", Wanted::Check("run", "check")),
+    ("tscache|check||", Wanted::Check("", "")),
     // Hyphens.
-    (&["tscache", "replay", "-"], Wanted::Replay("-")),
-    (&["tscache", "replay", "--", "-x"], Wanted::Replay("-x")),
-    (&["tscache", "replay", "--", "--"], Wanted::Replay("--")),
-    (&["tscache", "replay", "x", "--"], Wanted::Replay("x")),
-    (&["tscache", "replay", "-x"], Wanted::Nothing),
-    (&["tscache", "replay", "--x"], Wanted::Nothing),
-    (&["tscache", "replay", "--"], Wanted::Nothing),
-    (&["tscache", "--", "replay", "x"], Wanted::Nothing),
-    (&["tscache", "run", "--", "-x"], Wanted::Run("-x")),
-    (&["tscache", "run", "-x"], Wanted::Nothing),
-    (
-        &["tscache", "check", "--", "-a", "-b"],
-        Wanted::Check("-a", "-b"),
-    ),
-    (
-        &["tscache", "check", "-", "--", "-b"],
-        Wanted::Check("-", "-b"),
-    ),
-    (&["tscache", "check", "-a", "b"], Wanted::Nothing),
-    (&["tscache", "check", "a", "--b"], Wanted::Nothing),
+    ("tscache|replay|-", Wanted::Replay("-")),
+    ("tscache|replay|--|-x", Wanted::Replay("-x")),
+    ("tscache|replay|--|--", Wanted::Replay("--")),
+    ("tscache|replay|x|--", Wanted::Replay("x")),
+    ("tscache|replay|-x", Wanted::Nothing),
+    ("tscache|replay|--x", Wanted::Nothing),
+    ("tscache|replay|--", Wanted::Nothing),
+    ("tscache|--|replay|x", Wanted::Nothing),
+    ("tscache|run|--|-x", Wanted::Run("-x")),
+    ("tscache|run|-x", Wanted::Nothing),
+    ("tscache|check|--|-a|-b", Wanted::Check("-a", "-b")),
+    ("tscache|check|-|--|-b", Wanted::Check("-", "-b")),
+    ("tscache|check|-a|b", Wanted::Nothing),
+    ("tscache|check|a|--b", Wanted::Nothing),
     // Fewer words, more words and other words.
-    (&[], Wanted::Nothing),
-    (&["tscache"], Wanted::Nothing),
-    (&["tscache", "replay"], Wanted::Nothing),
-    (&["tscache", "replay", "a", "b"], Wanted::Nothing),
-    (&["tscache", "run"], Wanted::Nothing),
-    (&["tscache", "run", "a", "b"], Wanted::Nothing),
-    (&["tscache", "check"], Wanted::Nothing),
-    (&["tscache", "check", "x"], Wanted::Nothing),
-    (&["tscache", "check", "a", "b", "c"], Wanted::Nothing),
-    (&["tscache", "x"], Wanted::Nothing),
+    ("", Wanted::Nothing),
+    ("tscache", Wanted::Nothing),
+    ("tscache|replay", Wanted::Nothing),
+    ("tscache|replay|a|b", Wanted::Nothing),
+    ("tscache|run", Wanted::Nothing),
+    ("tscache|run|a|b", Wanted::Nothing),
+    ("tscache|check", Wanted::Nothing),
+    ("tscache|check|x", Wanted::Nothing),
+    ("tscache|check|a|b|c", Wanted::Nothing),
+    ("tscache|x", Wanted::Nothing),
     // Calls for help.
-    (&["tscache", "--help"], Wanted::Nothing),
-    (&["tscache", "-h"], Wanted::Nothing),
-    (&["tscache", "help"], Wanted::Nothing),
-    (&["tscache", "--version"], Wanted::Nothing),
-    (&["tscache", "replay", "--help"], Wanted::Nothing),
+    ("tscache|--help", Wanted::Nothing),
+    ("tscache|-h", Wanted::Nothing),
+    ("tscache|help", Wanted::Nothing),
+    ("tscache|--version", Wanted::Nothing),
+    ("tscache|replay|--help", Wanted::Nothing),
 ];
 
 /// Whether that was asked for.
@@ -97,7 +88,7 @@ fn is_asked(asked: &Result<Asked, u8>, wanted: &Wanted) -> bool {
 }
 
 /// The first words that ask for something else, or are not fetched.
-fn first_wrong(alloc: Global, rows: &[Row]) -> Option<&'static [&'static str]> {
+fn first_wrong(alloc: Global, rows: &[Row]) -> Option<&'static str> {
     for (texts, wanted) in rows {
         let Ok(fetched) = words_of(alloc, texts, false) else {
             return Some(texts);
