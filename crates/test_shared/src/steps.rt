@@ -318,9 +318,11 @@ impl<C: Of + Send + Sync> Stage<C> {
         let Some(last) = self.guests.pop() else {
             return Told::Not(Why::Gone);
         };
-        let told = self.close(rt, alloc);
-        if told != Told::Not(Why::Open) {
-            return told;
+        match self.close(rt, alloc) {
+            Told::Not(Why::Open) => {}
+            // closed without its last seat
+            Told::Long(_) => return Told::Not(Why::Changed),
+            told => return told,
         }
         match self.guests.push(last) {
             Ok(()) => self.close(rt, alloc),
