@@ -1,5 +1,5 @@
 -- What an Add needs to fit before it is made, which hidden cache takes it in place, what becomes of a copy of it, and when it is given up. (For private contracts.)
-use Rattle.std.specs.Prelude.{◌≡◌, ℕ, Bool, true, false, not, ◌&&◌, ◌==◌, List, Option, Some, None, IsSome, Result, Ok, Err}
+use Rattle.std.specs.Prelude.{◌≡◌, ℕ, ◌+◌, ◌^◌, ◌<◌, ◌≤◌, ◌++◌, ◌∷◌, [], Bool, true, false, not, ◌&&◌, ◌==◌, List, Option, Some, None, IsSome, Result, Ok, Err}
 use Rattle.std.specs.Arc.{arc_value}
 use Rattle.std.specs.declared.sync.Arc.{Arc}
 use Rattle.std.specs.declared.alloc.Global.{Global}
@@ -8,21 +8,32 @@ use Rattle.tsc_time.specs.declared.memory.NoMemory.{NoMemory}
 use Rattle.tsc_page_base.specs.Page.{Mark}
 use Rattle.tsc_cache.specs.declared.added.Added.{Added}
 use Rattle.tsc_cache.specs.Batch.{all_fit}
-use Rattle.tsc_cache.specs.State.{is_kept}
+use Rattle.tsc_cache.specs.State.{is_kept, step_all}
+use Rattle.tsc_cache.specs.History.{History, state_of}
 use Rattle.tsc_cache.specs.CacheView.{CacheView, front_has_room_for}
 use Rattle.tsc_shared_desk.specs.declared.board.Marks.{Marks}
 use Rattle.tsc_shared_desk.specs.declared.board.Marks.TheVariants.{One, Many}
 use Rattle.tsc_shared_desk.specs.declared.board.Pending.{Pending}
 use Rattle.tsc_shared_desk.specs.declared.board.Held.{Held}
-use Rattle.tsc_shared_desk.specs.Desk.{marks_in}
+use Rattle.tsc_shared_desk.specs.declared.board.Slot.TheVariants.{Empty}
+use Rattle.tsc_shared_desk.specs.declared.board.Terms.{Terms}
+use Rattle.tsc_shared_desk.specs.declared.board.View.{View}
+use Rattle.tsc_shared_desk.specs.Desk.{marks_in, entry_of, IsAfter}
+use Rattle.tsc_shared_desk.specs.DeskSteps.{At, number_of, seen_of, count_of}
+use Rattle.tsc_shared_desk.specs.AtDesk.{HasCleared, HasDesk, HasFilled}
 use Rattle.tsc_shared_desk.specs.Waiting.{HasEnd}
 use Rattle.tsc_shared.specs.declared.adding.InPlace.{InPlace}
 use Rattle.tsc_shared.specs.declared.adding.InPlace.TheVariants.{Made, Untouched, Spoiled}
+use Rattle.tsc_shared.specs.declared.adding.Hindrance.{Hindrance}
+use Rattle.tsc_shared.specs.declared.adding.Hindrance.TheVariants as hindrance
+use Rattle.tsc_shared.specs.declared.adding.Prepared.{Prepared}
+use Rattle.tsc_shared.specs.declared.adding.Unprepared.{Unprepared}
 use Rattle.tsc_shared.specs.declared.answers.Receipt.{Receipt}
 use Rattle.tsc_shared.specs.declared.answers.AddFault.{AddFault}
+use Rattle.tsc_shared.specs.declared.answers.AddFault.TheVariants as fault
 use Rattle.tsc_shared.specs.declared.answers.TryAddFault.{TryAddFault}
 use Rattle.tsc_shared.specs.declared.answers.TryAddFault.TheVariants.{DeskBusy, SeatInside, Refused}
-use Rattle.tsc_shared.specs.Seats.{SeatView}
+use Rattle.tsc_shared.specs.Seats.{SeatView, FrontView}
 use Rattle.tsc_shared.specs.Answers.{Accepts}
 
 -- an Add that a cache has not had yet, where there is one, fits a page of it
@@ -88,3 +99,34 @@ IsWaited (Ok receipt) result = result ≡ Ok receipt
 IsWaited (Err DeskBusy) result = ⊥
 IsWaited (Err SeatInside) result = ⊥
 IsWaited (Err (Refused fault)) result = result ≡ Err fault
+
+-- One who holds the desk, as it was in v, has its Add prepared: all seats are cleared, their slots have handles on the cache that has had it, and there is room for it. What was held is what lay on the desk.
+pub record Prepares (copied : Result Pending NoMemory) (held : Held) (v : View) (me : At) (terms : Terms) (made : Prepared) : Type 0 where
+  pub add : Pending
+  pub copy : copied ≡ Ok add
+  pub room : held.length < terms.limit
+  pub below : held.length + 1 < 2 ^ 64
+  pub cleared : HasCleared v me Empty terms.seats
+  pub filled : HasFilled me.0 me Empty (arc_value made.held.value.shown) terms.seats
+  pub after : IsAfter v.terms (seen_of v ++ entry_of (number_of v) (count_of v) add ∷ []) made.held.value
+  pub added : (t : Terms) (h : History) → IsAfter t h held → made.added ≡ (step_all t.config (state_of t.config h) (marks_in add.marks) add.moment).added
+  pub lag : made.held.value.lag ≡ Some add
+  pub longer : made.held.value.length ≡ held.length + 1
+
+-- Why it does not make its Add: the history is full; or there was room, and memory was refused, or the tries came to their end.
+abbrev pub IsHindered : Option ℕ → ℕ → ℕ → Hindrance → Type 0
+IsHindered tries length limit hindrance.HistoryFull = limit ≤ length
+IsHindered tries length limit hindrance.NoMemory = length < limit
+IsHindered tries length limit hindrance.SeatInside = (length < limit) × HasEnd tries
+
+-- It still holds the desk, and makes no Add: what is to lie there stands for what lay there.
+pub record Leaves (tries : Option ℕ) (held : Held) (v : View) (me : At) (terms : Terms) (left : Unprepared) : Type 0 where
+  pub desk : HasDesk v me Empty
+  pub after : IsAfter v.terms (seen_of v) left.held.value
+  pub why : IsHindered tries held.length terms.limit left.why
+
+-- what a seat that saw such a history is told then
+abbrev pub fault_for : Hindrance → FrontView → TryAddFault
+fault_for hindrance.HistoryFull front = Refused (fault.HistoryFull front)
+fault_for hindrance.NoMemory front = Refused fault.NoMemory
+fault_for hindrance.SeatInside front = SeatInside
