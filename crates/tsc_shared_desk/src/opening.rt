@@ -1,6 +1,7 @@
 //! Making the desk, and the desk seats at it.
 ghost use Rattle.std.specs.Prelude.{◌≡◌, [], ◌∷◌, ◌+◌, ◌*◌, ◌++◌, ◌<◌, IfOk, OnOk, length, replicate};
-ghost use Rattle.tsc_shared_desk.specs.Desk.{first_view, keeping};
+ghost use Rattle.std.specs.Arc.{arc_value};
+ghost use Rattle.tsc_shared_desk.specs.Desk.{IsState, IsAfter, first_view, keeping};
 ghost use Rattle.tsc_shared_desk.specs.DeskSteps.{first_post, other_posts};
 ghost use Rattle.tsc_shared_desk.specs.Opening.{IsLaidOut, line_of};
 ghost use Rattle.tsc_shared_desk.specs.AtDesk.{IsSeatAt, IsSized, KeepsPosts};
@@ -45,19 +46,37 @@ fn first_slots(alloc: Global, held: Box<Held>, seats: u32) -> Result<Vec<Slot>, 
     Ok(slots)
 }
 
+/// An empty cache, and a handle on it.
+fn empty_cache(alloc: Global, terms: &Terms) -> Result<Arc<Cache>, NoMemory>
+    ensures { IfOk result (λ cache. IsState terms.now [] (arc_value cache)) }
+{
+    let cache = Cache::new(alloc, terms.config)?;
+    Ok(Arc::new(alloc, cache)?)
+}
+
+/// What lies on a desk at the opening: two empty caches.
+fn first_held(alloc: Global, terms: &Terms) -> Result<Box<Held>, NoMemory>
+    ensures { IfOk result (λ held. IsAfter terms.now [] held.value) }
+{
+    let shown = empty_cache(alloc, terms)?;
+    let spare = empty_cache(alloc, terms)?;
+    let held = Held {
+        shown,
+        spare: Some(spare),
+        lag: None,
+        length: 0,
+    };
+    Ok(Box::new(alloc, held)?)
+}
+
 /// A desk with two empty caches on it, and its first seat, which keeps the posts of all seats of the cache.
 pub fn new_desk(alloc: Global, terms: &Terms) -> Result<(Desk, DeskSeat), NoMemory>
     ensures desk { IfOk result (λ made. IsSized made.0.shared.table_id terms.now.seats × (made.0.shared.key ≡ terms.now)) }
     ensures all { IfOk result (λ made. (made.1.table_id ≡ made.0.shared.table_id) × (made.1.me ≡ (first_view terms.now, []))) }
 {
-    let held = Held {
-        shown: Arc::new(alloc, Cache::new(alloc, terms.config)?)?,
-        spare: Some(Arc::new(alloc, Cache::new(alloc, terms.config)?)?),
-        lag: None,
-        length: 0,
-    };
     let words = blank_words(alloc, terms.seats)?;
-    let slots = first_slots(alloc, Box::new(alloc, held)?, terms.seats)?;
+    let held = first_held(alloc, terms)?;
+    let slots = first_slots(alloc, held, terms.seats)?;
     match Table::new(alloc, words.as_slice(), slots, terms) {
         Ok(made) => Ok(made),
         Err(_refused) => Err(NoMemory),
