@@ -1,4 +1,4 @@
-use Rattle.std.proofs.Common.{◌∙◌, refl, ap}
+use Rattle.std.proofs.Common.{rules, ◌∙◌, refl, ap}
 use Rattle.tsc_shared_desk.specs.Desk.{side_slot}
 use Rattle.std.specs.Arc.{arc_value}
 use Rattle.tsc_shared_desk.proofs.AsCalled.{filled_more, first_todo, laid_all, filled_all}
@@ -24,3 +24,6 @@ returns-clause-cleared c = let i = c.loop-seat.invariant.1 in
 pub returns-clause-filled : goal.returns-clause-filled
 returns-clause-filled c = let i = c.loop-seat.invariant.1 in
     λ is_all. filled_all c.args.at_desk.now.me.0 (arc_value c.args.shown.now) c.loop-seat.at_desk.me c.loop-seat.seat c.args.seats c.loop-seat.all i.0 i.1 i.2 i.3 i.4 c.loop-seat-test.false is_all
+
+pub loop-seat-init : goal.loop-seat-init
+loop-seat-init c = search rules
