@@ -84,7 +84,7 @@ fn lower(i: usize, wrong: bool, least: usize) -> usize
     ensures one { (result ≡ least) ⊎ ((result ≡ i) × (wrong ≡ true)) }
     ensures lowest { wrong ≡ true → result ≤ i }
 {
-    if wrong && i < least { i } else { least }
+    if wrong { i.min(least) } else { least }
 }
 
 /// Lowers a line number to that of a lookup whose answer is another than the cache gives.

@@ -1,12 +1,13 @@
 -- Reading a log line by line, and that its bytes read as one thing only.
-use Rattle.std.proofs.Common.{◌≡◌, ◌≢◌, ℕ, ◌+◌, ◌<◌, ◌==◌, List, [], ◌∷◌, ◌++◌, length, All, false, Err, inl, inr, ◌⊎◌, sym, ap, ◌∙◌, subst, arith, append_assoc, length-append}
+use Rattle.std.proofs.Common.{◌≡◌, ◌≢◌, ℕ, ◌+◌, ◌<◌, ◌≤◌, ◌==◌, List, [], ◌∷◌, ◌++◌, length, All, true, false, Err, inl, inr, ◌⊎◌, sym, ap, ◌∙◌, subst, arith, append_assoc, append-nil, length-append}
+use Rattle.std.proofs.lemmas.Bool.{eqb-true}
 use Rattle.std.proofs.lemmas.List.Concat.{flat_map-append}
 use Rattle.std.proofs.lemmas.List.Elements.{All-push}
 use Rattle.tsc_trace.specs.declared.log.Line.{Line}
 use Rattle.tsc_trace.specs.declared.log_reader.LogFault.{LogFault}
 use Rattle.tsc_trace.specs.declared.log_reader.LogFault.TheVariants.{Text, NoMemory}
 use Rattle.tsc_trace.specs.LogText.{line_feed, line_text, log_text}
-use Rattle.tsc_trace.specs.LogReading.{IsWritable, HasNoLine, IsWrongAt, ReadsAs}
+use Rattle.tsc_trace.specs.LogReading.{IsWritable, HasNoLine, IsTextOf, IsWrongAt, IsTooLong, ReadsAs}
 use Rattle.tsc_trace.specs.ReadingBack.{IsWithout, IsNoLineText, AddsLine}
 use Rattle.tsc_trace.proofs.Cuts.{cut_same, no_cut}
 use Rattle.tsc_trace.proofs.LineTexts.{line_without_feed}
@@ -41,6 +42,23 @@ wrong_line bytes rest lines number text writable counted within more wrong =
       more = not_empty rest more;
       wrong = wrong;
     }
+
+-- as many lines as a log may have, and a rest behind them
+pub too_long : (bytes rest : List ℕ) (lines : List Line) (number : ℕ) → bytes ≡ log_text lines ++ rest → All IsWritable lines → number ≡ length lines
+    → number ≡ 65536 → false ≡ (length rest == 0) → IsTooLong bytes
+too_long bytes rest lines number text writable counted most more =
+    record { before = lines; rest = rest; text = text; writable = writable; full = omega arith; more = not_empty rest more }
+
+-- the text of all lines, which nothing follows
+pub whole_log : (bytes rest : List ℕ) (lines : List Line) (number : ℕ) → bytes ≡ log_text lines ++ rest → All IsWritable lines → number ≡ length lines
+    → number ≤ 65536 → true ≡ (length rest == 0) → IsTextOf bytes lines
+whole_log bytes [] lines number text writable counted within over =
+    record { text = text ∙ append-nil (log_text lines); is_log = record { writable = writable; within = omega arith } }
+whole_log bytes (b ∷ rest) lines number text writable counted within over = let none = eqb-true (length (b ∷ rest)) 0 (sym over) in absurd (omega arith)
+
+-- what follows a line feed is less than the whole
+pub line_shorter : (rest text after : List ℕ) → IsWithout line_feed text × (rest ≡ text ++ line_feed ∷ after) → length after < length rest
+line_shorter rest text after cut = let long = ap length cut.1 ∙ length-append text (line_feed ∷ after) in omega (arith, long)
 
 -- a text that was refused as no line, or for want of memory
 pub refused : (bytes : List ℕ) (fault : LogFault) (number : ℕ) (text : List ℕ) → (fault ≡ NoMemory) ⊎ ((fault ≡ Text (number + 1)) × IsNoLineText text)

@@ -1,6 +1,6 @@
-ghost use Rattle.std.specs.Prelude.{◌≡◌, All, IfOk};
+ghost use Rattle.std.specs.Prelude.{◌≡◌, ◌≤◌, All, IfOk, length};
 ghost use Rattle.tsc_trace.specs.Sayings.{front_of, kind_of_said, told_of};
-ghost use Rattle.tsc_trace.specs.LogText.{bit_text, log_text};
+ghost use Rattle.tsc_trace.specs.LogText.{bit_text, log_text, owner_text};
 ghost use Rattle.tsc_trace.specs.LogReading.{IsWritable};
 
 use crate::printer::Printer;
@@ -10,6 +10,7 @@ use std::marker::Model;
 use tsc_cache::Added;
 use tsc_time::{NoMemory, Timestamp, Value};
 use tsc_trace_json::Kind;
+use uuid::Uuid;
 
 /// What a call answered.
 #[derive(Clone, Copy, Debug, PartialEq, Eq)]
@@ -130,6 +131,17 @@ fn bit(b: bool) -> &'static str
     if b { "1" } else { "0" }
 }
 
+/// The name of an owner, which is written to `room`, or `none`.
+fn owner_word(owner: Option<Uuid>, room: &mut [u8]) -> &str
+    requires { 36 ≤ length room.old }
+    ensures { result.now ≡ owner_text owner }
+{
+    match owner {
+        Some(uuid) => uuid.hyphenated().encode_lower(room),
+        None => "none",
+    }
+}
+
 impl fmt::Display for Said {
     ghost use Rattle.std.specs.Prelude.{Some};
     ghost use Rattle.tsc_trace.specs.LogText.{said_text};
@@ -154,10 +166,9 @@ impl fmt::Display for Said {
                 let time = value.time();
                 let wall = time.wall();
                 let logical = time.logical();
-                match value.owner() {
-                    Some(owner) => write!(f, "get {front} {wall}.{logical} {owner}"),
-                    None => write!(f, "get {front} {wall}.{logical} none"),
-                }
+                let mut room = Uuid::encode_buffer();
+                let owner = owner_word(value.owner(), &mut room);
+                write!(f, "get {front} {wall}.{logical} {owner}")
             }
             Said::Low { front, time } => {
                 let wall = time.wall();

@@ -24,16 +24,16 @@ pub record IsWriting (old new : KnownWriter) (text rest : List ℕ) : Type 0 whe
   pub unfailed : new.has_failed ≡ old.has_failed
   pub taken : written ≢ [] → new.has_failed ≡ false
 
--- One more write took the first bytes of the rest.
-pub IsWriting-more : (old mid new : KnownWriter) (text rest : List ℕ) (count : ℕ)
-    → IsWriting old mid text rest → Appends mid.bytes new.bytes (take count rest) → new.has_failed ≡ mid.has_failed → mid.has_failed ≢ true
-    → IsWriting old new text (take (length rest - count) (drop count rest))
-IsWriting-more old mid new text rest count so_far more unfailed able =
+-- One more write took the first bytes of the rest, and what goes on is what stands behind them.
+pub IsWriting-more : (old mid new : KnownWriter) (text rest : List ℕ) (count place : ℕ)
+    → IsWriting old mid text rest → Appends mid.bytes new.bytes (take count rest) → place ≡ count → new.has_failed ≡ mid.has_failed → mid.has_failed ≢ true
+    → IsWriting old new text (take (length rest - place) (drop place rest))
+IsWriting-more old mid new text rest count place so_far more same unfailed able =
     let done = so_far.written in record {
-      written = done ++ take count rest;
-      split = so_far.split ∙ ap (λ l. done ++ l) (sym (take-append-drop count rest)) ∙ sym (append_assoc done (take count rest) (drop count rest))
-          ∙ ap (λ l. (done ++ take count rest) ++ l) (sym (take_rest rest count));
-      appended = Appends-trans _ _ _ _ _ so_far.appended more;
+      written = done ++ take place rest;
+      split = so_far.split ∙ ap (λ l. done ++ l) (sym (take-append-drop place rest)) ∙ sym (append_assoc done (take place rest) (drop place rest))
+          ∙ ap (λ l. (done ++ take place rest) ++ l) (sym (take_rest rest place));
+      appended = Appends-trans _ _ _ _ _ so_far.appended (subst (λ n. Appends mid.bytes new.bytes (take n rest)) (sym same) more);
       unfailed = unfailed ∙ so_far.unfailed;
       taken = λ some. unfailed ∙ is_false _ able;
     }

@@ -10,3 +10,4 @@ pub mod Texts
 pub mod AnyOrder
 pub mod Written
 pub mod Totals
+pub mod BothParts

@@ -139,6 +139,10 @@ items_over deep old all now new ds is h over =
 pub members_begin : (deep : ℕ) (all : List Token) → HasMembers deep all no_members all
 members_begin deep all = record { turns = length all; enough = omega arith; within = omega arith; read = λ n le. refl }
 
+-- a name and its value were read
+pub member_shorter : (deep : ℕ) (now mid new : List Token) (k : List ℕ) (d : Data) → read_key now ≡ Some (Some k, mid) → Reads deep mid d new → length new < length now
+member_shorter deep now mid new k d key r = let less = read_key-shorter now (Some k) mid key in omega (arith, less, r.shorter)
+
 pub members_go_on : (deep : ℕ) (all now mid new : List Token) (found : Members) (k : List ℕ) (d : Data) → HasMembers deep all found now → read_key now ≡ Some (Some k, mid) → Reads deep mid d new
     → HasMembers deep all (put k d found) new
 members_go_on deep all now mid new found k d h key r =

@@ -8,7 +8,7 @@ ghost use Rattle.tsc_trace_reader.specs.TokenReads.{Reads, Got, HasAllMembers};
 
 use super::mark::{marks, owner};
 use super::span::span_form;
-use super::token::{open_object, text, time};
+use super::token::{next_name, open_object, text, time};
 use json::Reader;
 use std::alloc::Global;
 use tsc_time::{Timestamp, Value};
@@ -49,7 +49,7 @@ impl<'a> CallParts<'a> {
         requires none { KeepsCall no_members self.old }
         ensures { OnSome result ((found : Members) × HasAllMembers 3 reader.old found reader.new × KeepsCall found self.new) }
     {
-        'members: while let Some(name) = reader.next_key().ok()? {
+        'members: while let Some(name) = next_name(reader)? {
             self.take(alloc, name, reader)?;
         }
         Some(())

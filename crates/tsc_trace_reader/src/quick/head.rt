@@ -9,7 +9,7 @@ ghost use Rattle.tsc_trace_reader.specs.Kept.{KeepsHead, list_of, call_list, thr
 ghost use Rattle.tsc_trace_reader.specs.TokenReads.{Reads, Got};
 
 use super::call::call;
-use super::token::{number_32, number_64, open_array, open_object, time};
+use super::token::{next_name, number_32, number_64, open_array, open_object, time};
 use json::Reader;
 use std::alloc::Global;
 use tsc_cache::Config;
@@ -137,7 +137,7 @@ pub(super) fn trace(alloc: Global, reader: &mut Reader<'_>) -> Option<Trace>
         low_water: None,
         threads: None,
     };
-    while let Some(name) = reader.next_key().ok()? {
+    while let Some(name) = next_name(reader)? {
         parts.take(alloc, name, reader)?;
     }
     parts.trace()

@@ -8,7 +8,7 @@ ghost use Rattle.tsc_trace_reader.specs.Kept.{KeepsMark, owner_there, list_of};
 ghost use Rattle.tsc_trace_reader.specs.TokenReads.{Reads, Got};
 
 use super::span::added_span;
-use super::token::{open_array, open_object, time};
+use super::token::{next_name, open_array, open_object, time};
 use json::{Reader, Token};
 use std::alloc::Global;
 use tsc_cache::Mark;
@@ -79,7 +79,7 @@ fn mark(alloc: Global, reader: &mut Reader<'_>) -> Option<Mark>
         time: None,
         owner: None,
     };
-    while let Some(name) = reader.next_key().ok()? {
+    while let Some(name) = next_name(reader)? {
         parts.take(alloc, name, reader)?;
     }
     parts.mark()

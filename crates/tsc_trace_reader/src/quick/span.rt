@@ -7,7 +7,7 @@ ghost use Rattle.tsc_trace_reader.specs.Kept.{KeepsSpan};
 ghost use Rattle.tsc_trace_reader.specs.TokenReads.{Reads, Got};
 
 use super::digits::bytes_of;
-use super::token::{open_object, text};
+use super::token::{next_name, open_object, text};
 use json::Reader;
 use std::alloc::Global;
 use tsc_span::{Ends, Key, Span};
@@ -99,7 +99,7 @@ pub(super) fn span_form(alloc: Global, reader: &mut Reader<'_>) -> Option<SpanFo
         ends: None,
         onward: None,
     };
-    while let Some(name) = reader.next_key().ok()? {
+    while let Some(name) = next_name(reader)? {
         parts.take(alloc, name, reader)?;
     }
     parts.form()

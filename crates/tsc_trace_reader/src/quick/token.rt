@@ -1,6 +1,7 @@
 //! The least values: brackets, numbers, texts and times.
 
-ghost use Rattle.std.specs.Prelude.{◌≡◌, ◌^◌, ◌∷◌, Some, Ok, IfSome, OnSome};
+ghost use Rattle.std.specs.Prelude.{◌≡◌, ◌^◌, ◌∷◌, Some, Ok, IfSome, OnSome, option_map};
+ghost use Rattle.json.specs.Json.{read_key};
 ghost use Rattle.json.specs.Token.{begin_array, begin_object};
 ghost use Rattle.serde_json.specs.Data.{unsigned, number, string};
 ghost use Rattle.serde_json.specs.Read.{number_of};
@@ -40,6 +41,14 @@ pub(super) fn open_object(reader: &mut Reader<'_>) -> Option<()>
         Token::BeginObject => Some(()),
         _ => None,
     }
+}
+
+/// The name of an object's next member, or none at the brace that closes it.
+#[inline(always)]
+pub(super) fn next_name<'a>(reader: &mut Reader<'a>) -> Option<Option<&'a str>>
+    ensures { IfSome result (λ name. read_key reader.old ≡ Some (option_map (λ n. n.now) name, reader.new)) }
+{
+    reader.next_key().ok()
 }
 
 /// An unsigned integer.

@@ -1,8 +1,11 @@
-use Rattle.std.proofs.Common.{sym, subst, ◌≤◌, suc, length, add-one, arith}
+use Rattle.std.proofs.Common.{sym, ap, subst, ◌≤◌, suc, length, add-one, arith}
+use Rattle.tsc_cache.specs.Settings.{Settings}
+use Rattle.tsc_cache.specs.State.{opening}
 use Rattle.tsc_cache.specs.CacheView.{StandsForState}
+use Rattle.tsc_trace_json.specs.Traces.{Trace}
 use Rattle.tsc_check.specs.Verdict.{adds_in, is_wrong_answer}
 use Rattle.tsc_check.specs.CheckParts.{Lowers, state_at, is_before_front}
-use Rattle.tsc_check.proofs.Sweeping.{lowers_next, found_least, found_none}
+use Rattle.tsc_check.proofs.Sweeping.{lowers_first, lowers_next, found_least, found_none}
 use Rattle.tsc_check.proofs.sweep.least_untrue.Goals as goal
 
 pub loop-front-preserved : goal.loop-front-preserved
@@ -32,3 +35,12 @@ returns g c =
     let o = c.args.order.now in
     let all : suc (adds_in lines) ≤ c.loop-front.front = omega (arith, c.loop-front-test.false, c.len-front-end.ensures, c.requires.placed.add_slots, o.adds.ok.0) in
     found_none trace lines (is_wrong_answer trace lines) c.requires.order c.loop-front.front c.loop-front.lowest all c.loop-front.invariant.lowers c.if-lowest-lines.false
+
+pub loop-front-init : goal.loop-front-init
+loop-front-init g c =
+    let config = ap (λ (t : Trace). t.config) c.trace.view_is in
+    let lines = c.args.lines.now in
+    record {
+      stands = subst (λ (s : Settings). StandsForState c.in_ok-cache.cache s (opening s)) config c.in_ok-cache.ensures.stands;
+      lowers = lowers_first (is_wrong_answer c.args.trace.now lines) lines (length lines);
+    }

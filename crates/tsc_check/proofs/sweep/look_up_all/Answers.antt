@@ -1,7 +1,7 @@
-use Rattle.std.proofs.Common.{◌≡◌, ◌∙◌, sym, subst, refl, ◌<◌, ℕ, suc, Bool, Option, Some, None, arith}
+use Rattle.std.proofs.Common.{◌≡◌, ◌∙◌, sym, subst, refl, ◌<◌, ℕ, suc, length, Bool, Option, Some, None, arith}
 use Rattle.tsc_check.specs.Verdict.{is_wrong_answer}
 use Rattle.tsc_check.specs.CheckParts.{looks_up_there, last_below}
-use Rattle.tsc_check.proofs.Sweeping.{last_is, lowers_more, lowers_all, next_is}
+use Rattle.tsc_check.proofs.Sweeping.{last_is, lowers_none, lowers_more, lowers_all, next_is, within_lines}
 use Rattle.tsc_check.proofs.sweep.look_up_all.Goals as goal
 use Rattle.tsc_check.proofs.Sweeping.{number_from_1}
 
@@ -75,3 +75,14 @@ returns g c =
     let inv = c.loop-next.invariant in
     let none = none_is c.loop-next.next (λ x. c.in_default.not-Some x) in
     lowers_all (is_wrong_answer c.args.trace.now lines) (looks_up_there lines c.args.front) inv.above c.args.least c.loop-next.lowest (sym inv.here ∙ none) inv.lowers
+
+pub loop-next-init : goal.loop-next-init
+loop-next-init g c =
+    let lines = c.args.lines.now in
+    let front = c.args.front in
+    record {
+      above = length lines;
+      within = omega arith;
+      here = c.index-next.ensures ∙ c.requires.placed.lookups_at front c.index-next.result.now c.requires.front;
+      lowers = lowers_none (is_wrong_answer c.args.trace.now lines) (looks_up_there lines front) (length lines) c.args.least (within_lines lines front);
+    }

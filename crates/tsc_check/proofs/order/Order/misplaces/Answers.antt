@@ -59,3 +59,10 @@ returns-else-is_add c =
     let less : nat_lt (front_of line.said) (get_or o.reached.items line.thread 0) ≡ false = ap (λ f. nat_lt f (get_or o.reached.items line.thread 0)) (sym front) ∙ sym (c.if-knows_more.ensures 0) in
     ap (λ n. nat_lt n c.front-front.result) last ∙ ap (nat_lt (adds_in lines)) front
     ∙ front_wrong o.adds.items o.lookups.items o.earlier.items o.reached.items lines c.args.i line c.requires.placed at less (sym c.if-is_add.ensures)
+
+pub knows_more-requires : goal.knows_more-requires
+knows_more-requires c =
+    let lines = c.args.lines.now in
+    let line = c.index-lines-i.result in
+    let at : slice_get lines c.args.i ≡ Some line = slice_get_read lines (length lines) c.args.i line refl c.requires.index c.index-lines-i.is in
+    c.requires.placed.of_lists c.args.i line at
