@@ -2,4 +2,5 @@ mod AtNumber
 mod LeftAlone
 mod MarksMade
 mod NewSeats
+mod NextNumber
 mod Trying

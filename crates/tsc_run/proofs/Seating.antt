@@ -1,5 +1,5 @@
 -- How many Adds the seats of lists' runs count: no more than the lists have, and fewer where an Add was refused. So a history that may have as many Adds as the lists is never full.
-use Rattle.std.proofs.Common.{◌≡◌, ◌∙◌, sym, ap, subst, Bool, true, ℕ, ◌+◌, ◌<◌, ◌≤◌, List, [], ◌∷◌, ◌++◌, length, drop, get_or, length-append, arith, Vec, Global}
+use Rattle.std.proofs.Common.{◌≡◌, ◌∙◌, refl, sym, ap, subst, Bool, true, ℕ, ◌+◌, ◌<◌, ◌≤◌, List, [], ◌∷◌, ◌++◌, length, drop, get_or, length-append, arith, Vec, Global}
 use Rattle.std.specs.Prelude.{cond, Ok, Err, IfOk, IfErr}
 use Rattle.std.proofs.lemmas.List.{length-map}
 use Rattle.std.proofs.lemmas.List.Sums.{sum_by-cons, sum_by_push}
@@ -12,7 +12,7 @@ use Rattle.tsc_trace_json.specs.declared.trace.Call.{Call}
 use Rattle.tsc_trace.specs.declared.log.Line.{Line}
 use Rattle.tsc_trace.specs.declared.log.Said.{Said}
 use Rattle.tsc_check.specs.TrueLog.{adds_of_list, adds_of_lists}
-use Rattle.tsc_shared.specs.Seats.{SharedView, SeatView, new_seat}
+use Rattle.tsc_shared.specs.Seats.{SharedView, SeatView, new_seat, new_seats}
 use Rattle.tsc_shared.specs.Answers.{GoesOn, Closes}
 use Rattle.tsc_shared.specs.declared.answers.Closed.{Closed}
 use Rattle.tsc_run.specs.declared.fault.RunFault.{RunFault}
@@ -120,6 +120,14 @@ module _ (cache : SharedView) (others : List (List Call)) (calls : List Call) (s
     ran = both_ran told more joined same ends.ran end.ran;
     stopped = one_stopped told more joined same ends.stopped end.stopped ends.few (omega (arith, end.few));
   }
+
+-- there are no lists
+pub no_lists : (cache : SharedView) (lists : List (Vec Call Global)) (lines : Vec Line Global) (before seats : List SeatView) → before ≡ new_seats cache 0 (length lists) → before ≡ seats ++ [] → seats ≡ [] → lines.items ≡ []
+    → EndsLists cache (calls_in lists) (Ok lines) seats
+no_lists cache [] lines before seats new parted none empty =
+    rw none record { of_cache = All-nil (λ (s : SeatView). s.cache ≡ cache); as_many = refl; few = omega arith; ran = empty; stopped = tt }
+no_lists cache (calls ∷ lists) lines before seats new parted none empty =
+    absurd (omega (arith, ap length new, ap length parted, length-append seats [], ap length none))
 
 -- the runs with that of the last list
 pub one_list_joined : (cache : SharedView) (lists others : List (Vec Call Global)) (calls : List Call) (told more joined : Told) (seats seats' : List SeatView) (from seat : SeatView)

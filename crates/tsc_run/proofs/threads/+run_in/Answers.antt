@@ -1,10 +1,10 @@
-use Rattle.std.proofs.Common.{◌≡◌, ◌∙◌, ap, subst, arith, ◌<◌, length, rules}
+use Rattle.std.proofs.Common.{◌≡◌, ◌∙◌, [], ap, subst, arith, ◌<◌, length, rules}
 use Rattle.tsc_shared.specs.Seats.{SeatView}
 use Rattle.tsc_trace_json.specs.Traces.{AllFit, EachFits}
 use Rattle.std.proofs.lemmas.List.{length-map}
 use Rattle.tsc_run.specs.Runs.{EndsList}
 use Rattle.tsc_run.proofs.Running.{as_many_seats, calls_in, seat_taken, last_fits, first_fits, fewer, first_all, last_all}
-use Rattle.tsc_run.proofs.Seating.{one_list_joined}
+use Rattle.tsc_run.proofs.Seating.{one_list_joined, no_lists}
 use Rattle.tsc_run.proofs.threads.+run_in.Goals as goal
 
 pub start_list-requires-clause-cache : goal.start_list-requires-clause-cache
@@ -49,3 +49,11 @@ returns-clause-runs g t c =
     let end = subst (λ calls. EndsList from calls run.told run.seat) c.in_ok-child.ensures.calls c.join-run.ensures in
     one_list_joined c.args.cache.now c.args.lists.now others calls c.in_ok-seats.field-0.told run.told c.joined.result c.in_ok-seats.field-0.seats.items c.push.new.self.items from run.seat
     parted (c.in_ok-child.ensures.seat ∙ taken.1) c.in_ok-seats.ensures.runs end c.joined.ensures c.in-Ok.ensures.items
+
+pub returns-in_default-clause-runs : goal.returns-in_default-clause-runs
+returns-in_default-clause-runs g t c =
+    let none : c.pop.new.self.items ≡ [] = search rules in
+    no_lists c.args.cache.now c.args.lists.now c.new.result c.args.seats.items c.pop.new.self.items c.requires.seats c.in_default.ensures.items none c.new.ensures.items
+
+pub returns-clause-room : goal.returns-clause-room
+returns-clause-room g t c = omega (arith, c.pop.ensures.capacity, c.in_ok-seats.ensures.room, c.in-Ok.ensures.capacity)
