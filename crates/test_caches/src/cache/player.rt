@@ -502,23 +502,31 @@ impl Player {
         }
     }
 
+    /// Whether what the caches show is what a step tells; `None` where it does something with them.
+    fn shows(&self, does: &Does, marks: &[Mark]) -> Option<bool> {
+        let shown = match *does {
+            Does::With => true,
+            Does::Look => self.answers(marks),
+            Does::Counted(pages) => self.is_plain() || self.counts(marks, pages),
+            Does::Stand(pages, rotations, floor) => self.stand() == (pages, rotations, at(floor)),
+            Does::Version(adds, pages, floor) => {
+                self.stood(adds, pages, at(floor)) && self.recalls(adds, marks)
+            }
+            Does::Hold(nodes, bytes) => self.is_plain() || holds(&self.cache, nodes, bytes),
+            Does::Keys => self.is_plain() || tells_keys(&self.cache, marks),
+            Does::Next(time, next) => parts(next_time(at(time))) == next,
+            Does::Told(floor) => self.is_told(marks, at(floor)),
+            _ => return None,
+        };
+        Some(shown)
+    }
+
     /// Does something with marks, and says whether what has to come of it does.
     fn does(&mut self, does: &Does, marks: &[Mark]) -> Result<bool, Fail> {
         match *does {
-            Does::With => Ok(true),
             Does::Add(now, told) => Ok(self.add(marks, at(now))? == (true, told)),
             Does::Each(now, told) => self.add_each(marks, at(now), told),
             Does::Begin => self.begin(marks),
-            Does::Look => Ok(self.answers(marks)),
-            Does::Counted(pages) => Ok(self.is_plain() || self.counts(marks, pages)),
-            Does::Stand(pages, rotations, floor) => {
-                Ok(self.stand() == (pages, rotations, at(floor)))
-            }
-            Does::Version(adds, pages, floor) => {
-                Ok(self.stood(adds, pages, at(floor)) && self.recalls(adds, marks))
-            }
-            Does::Hold(nodes, bytes) => { Ok(self.is_plain() || holds(&self.cache, nodes, bytes)) }
-            Does::Keys => Ok(self.is_plain() || tells_keys(&self.cache, marks)),
             Does::Share => match marks.first() {
                 Some(mark) => self.share(mark),
                 None => Ok(false),
@@ -530,13 +538,20 @@ impl Player {
                 self.keep_spans(marks)?;
                 Ok(self.writes(time, by, earliest))
             }
-            Does::Next(time, next) => Ok(parts(next_time(at(time))) == next),
             Does::Tell(most) => match marks.first() {
                 Some(mark) => self.tell(&mark.span, most),
                 None => Ok(false),
             },
-            Does::Told(floor) => Ok(self.is_told(marks, at(floor))),
             Does::Apply => self.apply(),
+            _ => Ok(false),
+        }
+    }
+
+    /// Takes a step with marks, and says whether it holds.
+    fn takes(&mut self, does: &Does, marks: &[Mark]) -> Result<bool, Fail> {
+        match self.shows(does, marks) {
+            Some(shown) => Ok(shown),
+            None => self.does(does, marks),
         }
     }
 
@@ -545,7 +560,7 @@ impl Player {
         let mut marks = Vec::new(self.alloc);
         for (i, step) in steps.iter().enumerate() {
             push(self.alloc, &mut marks, step.1, value(step.2, step.3))?;
-            if !self.does(&step.0, &marks)? {
+            if !self.takes(&step.0, &marks)? {
                 return Ok(Some(i));
             }
             if !matches!(step.0, Does::With) {
