@@ -54,6 +54,21 @@ fn has(least: u64, time: u64, long: Told, seen: Told) -> bool {
 }
 
 impl<C: Of> Meeting<'_, C> {
+    /// Adds a key at a time. `None` where memory is refused.
+    fn add_key<R: Wait + Abort>(
+        &self,
+        rt: &R,
+        alloc: Global,
+        home: &Home<C>,
+        guest: &mut Guest<C>,
+        key: &'static str,
+        time: u64,
+    ) -> Option<()> {
+        let adding = Adding::one(alloc, key, time, time)?;
+        self.add(rt, home, guest, &adding, By::Gate);
+        Some(())
+    }
+
     /// An Add of the seat's own key, at a time, with its front.
     fn post<R: Wait + Abort>(
         &self,
@@ -64,8 +79,7 @@ impl<C: Of> Meeting<'_, C> {
         time: u64,
     ) -> Option<Post<C>> {
         let key = *KEYS.get(guest.number() as usize)?;
-        let adding = Adding::one(alloc, key, time, time)?;
-        self.add(rt, home, guest, &adding, By::Gate);
+        self.add_key(rt, alloc, home, guest, key, time)?;
         let letter = guest.letter.take()?;
         Some(Post { letter, key, time })
     }

@@ -189,6 +189,35 @@ fn run<C: Of, R: Wait + Abort>(
     guest
 }
 
+/// All turns of all seats, each on a thread of its own. `None` where memory is refused.
+fn run_all<C: Of + Send + Sync, R: Threads + Wait + Abort + Sync>(
+    rt: &R,
+    alloc: Global,
+    home: &Home<C>,
+    guests: Vec<Guest<C>>,
+    meeting: &Meeting<'_, C>,
+) -> Option<Vec<Guest<C>>> {
+    thread::map_vec(
+        rt,
+        guests,
+        &|guest: Guest<C>| run(rt, alloc, home, guest, meeting),
+    )
+    .ok()
+}
+
+/// The same, and what is told of their end.
+fn run_to_end<C: Of + Send + Sync, R: Threads + Wait + Abort + Sync>(
+    rt: &R,
+    alloc: Global,
+    home: &Home<C>,
+    guests: Vec<Guest<C>>,
+    meeting: &Meeting<'_, C>,
+) -> Option<(Vec<Guest<C>>, Told, Option<Cache>)> {
+    let guests = run_all(rt, alloc, home, guests, meeting)?;
+    let (told, alone) = meeting.end(alloc);
+    Some((guests, told, alone))
+}
+
 /// All seats at the same time, and what is told of their end. `None` where memory is refused.
 pub fn meet<C: Of + Send + Sync, R: Threads + Wait + Abort + Sync>(
     rt: &R,
@@ -198,12 +227,5 @@ pub fn meet<C: Of + Send + Sync, R: Threads + Wait + Abort + Sync>(
     scene: &Scene,
 ) -> Option<(Vec<Guest<C>>, Told, Option<Cache>)> {
     let meeting = Meeting::of(alloc, scene, guests.len() as u64)?;
-    let guests = thread::map_vec(
-        rt,
-        guests,
-        &|guest: Guest<C>| run(rt, alloc, home, guest, &meeting),
-    );
-    let guests = guests.ok()?;
-    let (told, alone) = meeting.end(alloc);
-    Some((guests, told, alone))
+    run_to_end(rt, alloc, home, guests, &meeting)
 }
