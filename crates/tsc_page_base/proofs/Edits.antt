@@ -1,7 +1,5 @@
 -- What a new node and a raised value make of the list of nodes.
 use Rattle.std.proofs.Common.{◌≡◌, inl, inr, ◌∙◌, refl, sym, ap, subst, Bool, true, false, ◌||◌, ℕ, zero, suc, ◌≤◌, List, [], ◌∷◌, length, get_or, ◌-◌, arith}
-use Rattle.std.specs.Prelude.{Option, Some, None, not}
-use Rattle.std.specs.Option.{is_some}
 use Rattle.std.specs.List.{insert}
 use Rattle.std.specs.Str.{bytes_eq}
 use Rattle.std.proofs.lemmas.Slice.Eq.{bytes_eq-Decides}
@@ -9,7 +7,7 @@ use Rattle.tsc_time.specs.OwnedTime.{OwnedTime}
 use Rattle.std.proofs.lemmas.Bool.{cases_Bool}
 use Rattle.tsc_span.specs.Span.{KeyBytes, Cut, before, after, Interval}
 use Rattle.tsc_page_base.specs.PageView.{is_in}
-use Rattle.tsc_page_base.specs.Nodes.{Node, next_cut, node_stretches, node_keys, IsSorted, FitsAt, IsPlaceFor, node_in_gap, gap_value, raise_nodes}
+use Rattle.tsc_page_base.specs.Nodes.{Node, next_cut, node_stretches, node_keys, IsSorted, FitsAt, node_in_gap, gap_value, raise_nodes}
 use Rattle.tsc_page_base.proofs.Cuts.{first_low, rising_nodes, cuts_of_key}
 use Rattle.tsc_page_base.proofs.CutOrder.{Lt, Le, Lt-from_Le_sides, before-after, Lt-chain, Le-chain, Le-from_Lt, Lt-not_Le}
 
@@ -100,8 +98,3 @@ gap_value-at v (n ∷ ns) (suc i) d h g = let e : suc i - 1 ≡ i = omega arith 
 pub first_number : (n : ℕ) → (1 ≤ n → ⊥) → 0 ≡ n
 first_number zero h = refl
 first_number (suc n) h = absurd (h (omega arith))
-
--- a place is found just for a new key
-pub place_told : (k : KeyBytes) (ns : List Node) (r : Option ℕ) → IsSorted ns → IsPlaceFor k ns r → is_some r ≡ not (is_in k (node_keys ns))
-place_told k ns None sorted h = rw h refl
-place_told k ns (Some i) sorted h = rw (FitsAt-absent k ns i (before []) sorted h) refl

@@ -4,8 +4,7 @@ use mathlib.Core.Bool.{true≢false}
 use Rattle.std.specs.declared.cmp.Ordering.{Ordering}
 use Rattle.std.specs.declared.cmp.Ordering.TheVariants.{Less, Equal, Greater}
 use Rattle.std.specs.Ordering.{is_lt, is_eq, ordering_index, ordering_reverse, ordering_then}
-use Rattle.std.specs.Prelude.{Some, None}
-use Rattle.std.specs.Result.{result_err}
+use Rattle.std.specs.Prelude.{Some, None, is_err, not}
 use Rattle.std.specs.Str.{bytes_eq}
 use Rattle.std.specs.List.Sorted.{IsSearchInRange, IsBinarySearchResult, IsNonDecreasingBy}
 use Rattle.std.proofs.lemmas.Cmp.{nat_list_cmp_total, alike_right}
@@ -16,9 +15,10 @@ use Rattle.std.proofs.Math.Bool.{or-true}
 use Rattle.tsc_span.specs.Span.{KeyBytes, key_cmp, Cut, before, after, last}
 use Rattle.tsc_page_base.specs.PageView.{is_in}
 use Rattle.tsc_page_base.specs.Numbers.{IsKeyAt}
-use Rattle.tsc_page_base.specs.Nodes.{Node, node_keys, IsSorted, FitsAt, HasKeysBelow, StandsAt, FallsAt, place_of, IsPlaceFor, IsPlaceOf, IsFoundAt, IsNewKey}
+use Rattle.tsc_page_base.specs.Nodes.{Node, node_keys, IsSorted, FitsAt, HasKeysBelow, StandsAt, FallsAt, IsPlaceOf, IsFoundAt, IsNewKey}
 use Rattle.tsc_page_base.proofs.CutOrder.{Lt, Le, Le-from_Lt, after-before, below_last}
 use Rattle.tsc_page_base.proofs.Cuts.{lowest}
+use Rattle.tsc_page_base.proofs.Edits.{FitsAt-absent}
 use Rattle.tsc_page_base.proofs.Places.{sorted_at, before_or_past, some_node, all_smaller, falls_before}
 
 -- a key before another is less
@@ -89,14 +89,22 @@ searched ns sorted k (Err i) bound at =
       high = λ j d h g. after-before k (get_or ns j d).key (turned (get_or ns j d).key k (parted.1 j d h g));
     }
 
--- a key that is found nowhere has a place
-pub placed : (ns : List Node) (k : KeyBytes) (r : Result ℕ ℕ) → IsFoundAt ns k r → IsPlaceFor k ns (place_of r)
-placed ns k (Ok i) at = is_in_at ns i some_node k at.bound (sym (at.key some_node))
-placed ns k (Err i) at = fits_from ns i (before []) k at.low.bound (lowest (before k)) at.low.below at.high
+-- a key that stands somewhere has a node
+pub known_at : (ns : List Node) (k : KeyBytes) (i : ℕ) → StandsAt ns k i → is_in k (node_keys ns) ≡ true
+known_at ns k i at = is_in_at ns i some_node k at.bound (sym (at.key some_node))
 
--- and a copy of it is a new key there
+-- one that stands nowhere fits where it falls
+pub fits_at : (ns : List Node) (k : KeyBytes) (i : ℕ) → FallsAt ns k i → FitsAt k (before []) ns i
+fits_at ns k i at = fits_from ns i (before []) k at.low.bound (lowest (before k)) at.low.below at.high
+
+-- so a search tells whether a key is new
+pub found_told : (k : KeyBytes) (ns : List Node) (r : Result ℕ ℕ) → IsSorted ns → IsFoundAt ns k r → is_err r ≡ not (is_in k (node_keys ns))
+found_told k ns (Ok i) sorted at = rw (known_at ns k i at) refl
+found_told k ns (Err i) sorted at = rw (FitsAt-absent k ns i (before []) sorted (fits_at ns k i at)) refl
+
+-- and a copy of a new one is a new key there
 pub new_at : (ns : List Node) (k : KeyBytes) (i : ℕ) (copy : KeyBytes) → copy ≡ k → FallsAt ns k i → IsNewKey ns (Some k) (Some (i, copy))
-new_at ns k i copy same at = (same, placed ns k (Err i) at, at.low.bound)
+new_at ns k i copy same at = (same, fits_at ns k i at, at.low.bound)
 
 -- a key that compares as the same is the same
 pub stands_here : (ns : List Node) (k : KeyBytes) (i : ℕ) (e : Node) → i < length ns → key_cmp (get_or ns i e).key k ≡ Equal → StandsAt ns k i
@@ -146,7 +154,3 @@ is_equal Greater h = absurd (true≢false (sym h))
 -- and the same key compares so
 pub compares_same : (j k : KeyBytes) → j ≡ k → is_eq (key_cmp j k) ≡ true
 compares_same j k e = is_eq-slice_cmp j k ∙ (bytes_eq-Decides j k).1 e
-
-pub err_place : (r : Result ℕ ℕ) → result_err r ≡ place_of r
-err_place (Ok i) = refl
-err_place (Err i) = refl

@@ -173,16 +173,6 @@ pub record HoldsGapsOn (nodes : List Node) (span : Interval) (start end : ℕ) :
   pub below : (i : ℕ) (d : Node) → i < start → overlaps (gap_span nodes i (slice_index_or nodes i d)) span ≡ false
   pub above : (i : ℕ) (d : Node) → end ≤ i → i < length nodes → overlaps (gap_span nodes i (slice_index_or nodes i d)) span ≡ false
 
--- where a search ended that did not find its key
-abbrev pub place_of : Result ℕ ℕ → Option ℕ
-place_of (Ok i) = None
-place_of (Err i) = Some i
-
--- the place for a new key, or none where it is a node's
-abbrev pub IsPlaceFor : KeyBytes → List Node → Option ℕ → Type 0
-IsPlaceFor k nodes None = is_in k (node_keys nodes) ≡ true
-IsPlaceFor k nodes (Some i) = FitsAt k (before []) nodes i
-
 -- a new key with the place for it, or none where the key is a node's, or where there is none
 abbrev pub IsNewKey : List Node → Option KeyBytes → Option (ℕ × KeyBytes) → Type 0
 IsNewKey nodes None None = Unit {0}

@@ -9,7 +9,7 @@ ghost use Rattle.tsc_span.specs.Cuts.{cut_of};
 ghost use Rattle.tsc_page_base.specs.Numbers.{IsCutNumber};
 ghost use Rattle.tsc_page_base.specs.PageView.{is_new_among};
 ghost use Rattle.tsc_page_base.specs.KeysAbove.{first_above};
-ghost use Rattle.tsc_page_base.specs.Nodes.{paired, IsSorted, FitsAt, IsPlaceFor, IsFoundAt, IsPlaceOf, IsPlaceTold, BothStandWhereTold, HasKeysBelow, StandsAt, LiesFrom, index_of, key_above, first_gap, IsNewKey, FitsIn, with_new, IsInOrder, HasNodes, MakesNodes, AddsNodes, GrowsBy, new_count, found_cost, new_cost, HoldsKeysOn, HoldsGapsOn, node_keys, answer_of, raise_nodes, node_in_gap, gap_value, next_cut, node_stretches};
+ghost use Rattle.tsc_page_base.specs.Nodes.{paired, IsSorted, FitsAt, IsFoundAt, IsPlaceOf, IsPlaceTold, BothStandWhereTold, HasKeysBelow, StandsAt, LiesFrom, index_of, key_above, first_gap, IsNewKey, FitsIn, with_new, IsInOrder, HasNodes, MakesNodes, AddsNodes, GrowsBy, new_count, found_cost, new_cost, HoldsKeysOn, HoldsGapsOn, node_keys, answer_of, raise_nodes, node_in_gap, gap_value, next_cut, node_stretches};
 
 use crate::number::{KeyNumber, NumberedBytes, NumberedCut, NumberedKey};
 use std::alloc::{AllocError, Global};
@@ -18,7 +18,7 @@ use std::marker::Model;
 use std::ops::Range;
 use std::sync::Arc;
 use tsc_span::{Cut, Key};
-use tsc_time::{NoMemory, Timestamp, Value, ratchet};
+use tsc_time::{NoMemory, Timestamp, Value};
 
 /// How many nodes of a leaf that is cut stay in it.
 const LOWER_HALF: usize = 32;
@@ -127,13 +127,12 @@ impl Nodes {
         }
     }
 
-    /// The place for a key that has no node, or `None` for one that has. It costs a binary search.
-    pub fn place_for(&self, key: &Key) -> Option<usize>
+    /// Where a key stands, or else the place for it. It costs a binary search.
+    pub fn find(&self, key: &Key) -> Result<usize, usize>
         requires sorted { IsSorted self.now }
-        ensures place { IsPlaceFor key.now self.now result }
-        ensures bound { IfSome result (λ i. i ≤ length self.now) }
+        ensures { IsFoundAt self.now key.now result }
     {
-        self.lists().find(&NumberedBytes::new(key.bytes())).err()
+        self.lists().find(&NumberedBytes::new(key.bytes()))
     }
 
     /// The least key above a cut. It costs a binary search, and takes no memory.
@@ -158,10 +157,10 @@ impl Nodes {
         let mut best = Value::unowned(Timestamp::ZERO);
         let (keys, gaps) = self.lists().places_between(from, to, (None, None));
         for place in keys {
-            join(&mut best, &self.values[place].value);
+            best.raise(&self.values[place].value);
         }
         for place in gaps {
-            join(&mut best, &self.values[place].gap);
+            best.raise(&self.values[place].gap);
         }
         best
     }
@@ -175,8 +174,8 @@ impl Nodes {
         self.raise_near(from, to, (None, None), value);
     }
 
-    /// The same, where the keys of the cuts may stand at places that are told.
-    fn raise_near(
+    /// The same, where the keys of the cuts may stand at places that are told: a look at such a place takes the place of a search.
+    pub fn raise_near(
         &mut self,
         from: &NumberedCut<'_>,
         to: &NumberedCut<'_>,
@@ -550,10 +549,10 @@ fn raise_values(
     };
     let (raised_keys, raised_gaps) = lists.places_between(from, to, near);
     for place in raised_keys {
-        values[place].value = ratchet(values[place].value, value).0;
+        values[place].value.raise(&value);
     }
     for place in raised_gaps {
-        values[place].gap = ratchet(values[place].gap, value).0;
+        values[place].gap.raise(&value);
     }
 }
 
@@ -609,23 +608,6 @@ fn first_gap(place: Result<usize, usize>) -> usize
         Ok(at) => at,
         Err(at) => at.saturating_sub(1),
     }
-}
-
-/// Joins a value into the best so far, of which it mostly is the earlier one.
-#[inline]
-fn join(best: &mut Value, value: &Value)
-    ensures { best.new ≡ joint best.old (value.now ∷ []) }
-{
-    if value.time() >= best.time() {
-        *best = joint_of(best, value);
-    }
-}
-
-/// The joint value of two.
-fn joint_of(best: &Value, value: &Value) -> Value
-    ensures { result ≡ joint best.now (value.now ∷ []) }
-{
-    ratchet(*best, *value).0
 }
 
 /// Copies of up to two keys that have no node, of which the first is the smaller, with the places for them; and

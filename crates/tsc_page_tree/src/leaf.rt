@@ -86,7 +86,7 @@ impl Part for Leaf {
     }
 
     fn is_new(&self, key: &Key) -> bool {
-        self.nodes.place_for(key).is_some()
+        self.nodes.find(key).is_err()
     }
 
     fn key_above(&self, cut: &NumberedCut<'_>) -> Option<&Key> {
@@ -145,14 +145,24 @@ impl Part for Leaf {
         let Some(above) = Arc::get_mut(&mut high.nodes) else {
             return false
         };
-        if !has_key(below, add.first) {
-            return false;
-        }
-        if !has_key(above, add.second) {
-            return false;
-        }
-        below.raise_between(add.from, &NumberedCut::new(Cut::Last), add.value);
-        above.raise_between(&NumberedCut::new(Cut::Before(&[])), add.to, add.value);
+        let Some(start) = known_place(below, add.first) else {
+            return false
+        };
+        let Some(stop) = known_place(above, add.second) else {
+            return false
+        };
+        below.raise_near(
+            add.from,
+            &NumberedCut::new(Cut::Last),
+            (start, None),
+            add.value,
+        );
+        above.raise_near(
+            &NumberedCut::new(Cut::Before(&[])),
+            add.to,
+            (None, stop),
+            add.value,
+        );
         low.summary.reach(true, add.value);
         high.summary.reach(true, add.value);
         true
@@ -209,13 +219,16 @@ fn grow(nodes: &mut Nodes, key: &Key) -> Result<Option<Nodes>, NoMemory>
     }
 }
 
-/// Whether a key has a node, where it is one.
-fn has_key(nodes: &Nodes, key: Option<&Key>) -> bool
+/// Where a key stands, where it is one; `None` where it has no node.
+fn known_place(nodes: &Nodes, key: Option<&Key>) -> Option<Option<usize>>
     requires sorted { IsSorted nodes.now }
-    ensures { result ≡ true → HasKey (option_map (λ k. k.now) key.entry) nodes.now }
+    ensures { IfSome result (λ _. HasKey (option_map (λ k. k.now) key.entry) nodes.now) }
 {
     match key {
-        Some(key) => nodes.place_for(key).is_none(),
-        None => true,
+        Some(key) => match nodes.find(key) {
+            Ok(place) => Some(Some(place)),
+            Err(_) => None,
+        },
+        None => Some(None),
     }
 }

@@ -229,7 +229,7 @@ fn joint_below<P: Part>(parts: &[P], start: usize, to: &NumberedCut<'_>) -> Valu
         if !goes_on(parts, place, to) {
             return joined(best, &parts[place], &least, to);
         }
-        best = ratchet(best, parts[place].joint()).0;
+        best.raise(&parts[place].joint());
     }
     best
 }
@@ -413,7 +413,7 @@ pub(crate) fn joint<P: Part>(parts: &[P]) -> Value
 {
     let mut best = Value::unowned(Timestamp::ZERO);
     for part in parts {
-        best = ratchet(best, part.joint()).0;
+        best.raise(&part.joint());
     }
     best
 }

@@ -23,11 +23,13 @@ impl Summary {
         ensures joint { self.new.joint ≡ joint self.old.joint (value ∷ []) }
         ensures pending { self.new.pending ≡ Some (merged self.old.pending value) }
     {
-        self.joint = ratchet(self.joint, value).0;
-        self.pending = match self.pending {
-            Some(pending) => Some(ratchet(pending, value).0),
-            None => Some(value),
-        };
+        self.joint.raise(&value);
+        match &mut self.pending {
+            Some(pending) => {
+                pending.raise(&value);
+            }
+            None => self.pending = Some(value),
+        }
     }
 
     /// What is seen of a value below, where what is pending is reached or not.
@@ -55,7 +57,7 @@ impl Summary {
         self.start = start;
         if let Ok(Some(_)) = made {
             if reached {
-                self.joint = ratchet(self.joint, value).0;
+                self.joint.raise(&value);
             }
         }
     }
@@ -67,7 +69,7 @@ impl Summary {
         ensures pending { self.new.pending ≡ self.old.pending }
     {
         if reached {
-            self.joint = ratchet(self.joint, value).0;
+            self.joint.raise(&value);
         }
     }
 }

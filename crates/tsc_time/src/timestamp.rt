@@ -10,8 +10,8 @@ use std::marker::Model;
 /// smaller wall time comes first, and of two equal ones the smaller logical count.
 #[derive(Clone, Copy, Debug, PartialEq, Eq, PartialOrd, Ord, Hash)]
 pub struct Timestamp {
-    wall: u64,
-    logical: u32,
+    pub(crate) wall: u64,
+    pub(crate) logical: u32,
 }
 
 impl Model for Timestamp {

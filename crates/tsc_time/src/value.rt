@@ -13,22 +13,27 @@ use uuid::{Bytes, Uuid};
 ///
 /// A transaction's own reads do not push its writes, so an owner is worth keeping. The nil UUID names
 /// no transaction, and is never an owner.
+///
+/// The parts of the time are fields beside the owner, so a value has 32 bytes; with a `Timestamp` within it would have 40.
 #[derive(Clone, Copy, Debug, PartialEq, Eq)]
 pub struct Value {
-    time: Timestamp,
+    wall: u64,
+    logical: u32,
     owner: Option<Uuid>,
 }
 
 impl Model for Value {
+    ghost use Rattle.std.specs.Prelude.{◌≡◌, true};
+    ghost use Rattle.tsc_time.specs.Time.{is_in_range};
     ghost use Rattle.tsc_time.specs.OwnedTime.{OwnedTime, IsMadeOwner};
 
     ghost Value = { OwnedTime };
 
-    ghost view = { λ v. record { time = v.time; owner = v.owner } };
+    ghost view = { λ v. record { time = record { wall = v.wall; logical = v.logical }; owner = v.owner } };
 
-    ghost invariant = { λ v. IsMadeOwner v.owner };
+    ghost invariant = { λ v. (is_in_range (record { wall = v.wall; logical = v.logical }) ≡ true) × IsMadeOwner v.owner };
 
-    ghost inverse = { λ v. record { time = v.time; owner = v.owner } };
+    ghost inverse = { λ v. record { wall = v.time.wall; logical = v.time.logical; owner = v.owner } };
 }
 
 impl Value {
@@ -37,21 +42,32 @@ impl Value {
         ensures { result ≡ record { time = time; owner = owner_of owner } }
     {
         let owner = if is_nil(owner) { None } else { Some(owner) };
-        Value { time, owner }
+        Value {
+            wall: time.wall,
+            logical: time.logical,
+            owner,
+        }
     }
 
     /// A time that no transaction owns.
     pub const fn unowned(time: Timestamp) -> Value
         ensures { result ≡ unowned time }
     {
-        Value { time, owner: None }
+        Value {
+            wall: time.wall,
+            logical: time.logical,
+            owner: None,
+        }
     }
 
     /// The time.
     pub const fn time(self) -> Timestamp
         ensures { result ≡ self.time }
     {
-        self.time
+        Timestamp {
+            wall: self.wall,
+            logical: self.logical,
+        }
     }
 
     /// The transaction that owns the time, if one does. Whoever has a value also learns here that it can
@@ -62,6 +78,29 @@ impl Value {
         ensures made { IsMadeValue self }
     {
         self.owner
+    }
+
+    /// Ratchets a new value into this one, and says whether that changed it: `ratchetValue` of CockroachDB's
+    /// `pkg/kv/kvserver/tscache/cache.go`.
+    ///
+    /// Whichever is later stays. Two values of one time keep an owner that both name, and else lose it, since
+    /// the writes of each transaction have to heed the reads of the other.
+    #[inline]
+    pub fn raise(&mut self, new: &Value) -> bool
+        ensures value { self.new ≡ ratcheted self.old new.now }
+        ensures joint { self.new ≡ joint self.old (new.now ∷ []) }
+        ensures updated { IsTrue result ↔ (self.new ≢ self.old) }
+    {
+        if self.time() < new.time() {
+            *self = *new;
+            return true;
+        }
+        if self.time() != new.time() || same_owner(self.owner, new.owner) {
+            return false;
+        }
+        let updated = self.owner.is_some();
+        *self = Value::unowned(self.time());
+        updated
     }
 }
 
@@ -112,24 +151,13 @@ fn same_owner(a: Option<Uuid>, b: Option<Uuid>) -> bool
     }
 }
 
-/// What `new` makes of `old`, and whether that differs from `old`: `ratchetValue` of CockroachDB's
-/// `pkg/kv/kvserver/tscache/cache.go`.
-///
-/// Whichever is later is the result. Two values of one time keep an owner that both name, and else lose
-/// it, since the writes of each transaction have to heed the reads of the other.
+/// What `new` makes of `old`, and whether that differs from `old`, as [`Value::raise`] tells.
 pub fn ratchet(old: Value, new: Value) -> (Value, bool)
     ensures value { result.0 ≡ ratcheted old new }
     ensures joint { result.0 ≡ joint old (new ∷ []) }
     ensures updated { IsTrue result.1 ↔ (result.0 ≢ old) }
 {
-    if old.time < new.time {
-        return (new, true);
-    }
-    if new.time < old.time {
-        return (old, false);
-    }
-    if same_owner(old.owner, new.owner) {
-        return (old, false);
-    }
-    (Value::unowned(old.time), old.owner.is_some())
+    let mut value = old;
+    let updated = value.raise(&new);
+    (value, updated)
 }

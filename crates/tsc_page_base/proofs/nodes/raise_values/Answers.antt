@@ -1,6 +1,6 @@
 -- The keys and then the gaps between the cuts are raised, each once.
 use Rattle.std.proofs.Common.{◌≡◌, ◌∙◌, ◌<◌, ◌+◌, refl, sym, ap, subst, ℕ, List, [], ◌∷◌, length, get_or, set, arith}
-use Rattle.std.proofs.lemmas.List.{get_or_default, length-set}
+use Rattle.std.proofs.lemmas.List.{length-set}
 use Rattle.tsc_time.specs.OwnedTime.{OwnedTime}
 use Rattle.tsc_time.specs.Joint.{joint}
 use Rattle.tsc_span.specs.Span.{KeyBytes, Interval, between}
@@ -35,10 +35,9 @@ loop-place-preserved c =
     let so_far = c.loop-place.invariant in
     let d : Values = c.index_mut.result.now in
     let within : i < length now = omega (arith, steps, so_far.0.bound) in
-    let read : c.index.result.now ≡ get_or now i d = c.index.ensures ∙ ap (λ (j : ℕ). get_or now j c.index.result.now) steps.1.1 ∙ get_or_default now i c.index.result.now d within in
     let written : d ≡ get_or now i d = c.index_mut.ensures.value ∙ ap (λ (j : ℕ). get_or now j d) steps.1.1 in
-    let value : c.ratchet.result.0 ≡ joint (get_or now i d).value (c.args.value ∷ []) = c.ratchet.ensures.joint ∙ ap (λ (v : Values). joint v.value (c.args.value ∷ [])) read in
-    let n : Values = record { value = c.ratchet.result.0; gap = d.gap } in
+    let value : c.raise.new.self ≡ joint (get_or now i d).value (c.args.value ∷ []) = c.raise.ensures.joint ∙ ap (λ (v : Values). joint v.value (c.args.value ∷ [])) written in
+    let n : Values = record { value = c.raise.new.self; gap = d.gap } in
     let is = with_both (λ (v : Values) (w : OwnedTime). record { value = w; gap = v.gap }) written value in
     let changed = key_changed c.args.value old keys now first i n d so_far.2 so_far.0.low within is so_far.3 in (
       record { low = omega (arith, steps, so_far.0.low); order = omega (arith, steps); bound = omega (arith, steps, so_far.0.bound, length-set now place n) },
@@ -75,10 +74,9 @@ loop-place-2-preserved c =
     let so_far = c.loop-place-2.invariant in
     let d : Values = c.index_mut-in-loop-place-2.result.now in
     let within : i < length now = omega (arith, steps, so_far.0.bound) in
-    let read : c.index-in-loop-place-2.result.now ≡ get_or now i d = c.index-in-loop-place-2.ensures ∙ ap (λ (j : ℕ). get_or now j c.index-in-loop-place-2.result.now) steps.1.1 ∙ get_or_default now i c.index-in-loop-place-2.result.now d within in
     let written : d ≡ get_or now i d = c.index_mut-in-loop-place-2.ensures.value ∙ ap (λ (j : ℕ). get_or now j d) steps.1.1 in
-    let value : c.ratchet-in-loop-place-2.result.0 ≡ joint (get_or now i d).gap (c.args.value ∷ []) = c.ratchet-in-loop-place-2.ensures.joint ∙ ap (λ (v : Values). joint v.gap (c.args.value ∷ [])) read in
-    let n : Values = record { value = d.value; gap = c.ratchet-in-loop-place-2.result.0 } in
+    let value : c.raise-in-loop-place-2.new.self ≡ joint (get_or now i d).gap (c.args.value ∷ []) = c.raise-in-loop-place-2.ensures.joint ∙ ap (λ (v : Values). joint v.gap (c.args.value ∷ [])) written in
+    let n : Values = record { value = d.value; gap = c.raise-in-loop-place-2.new.self } in
     let is = with_both (λ (v : Values) (w : OwnedTime). record { value = v.value; gap = w }) written value in
     let changed = gap_changed c.args.value old keys now first i n d so_far.2 so_far.0.low within is so_far.3 in (
       record { low = omega (arith, steps, so_far.0.low); order = omega (arith, steps); bound = omega (arith, steps, so_far.0.bound, length-set now place n) },

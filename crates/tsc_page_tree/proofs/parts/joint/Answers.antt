@@ -17,4 +17,4 @@ loop-part-preserved g c =
     let items = c.args.parts.now in
     let i = c.loop-part.part-index in
     let more = joint_of_part read items i c.part-item.result c.loop-part.best c.joint.result c.requires.parts.sorted c.loop-part-test.true c.part-item.is c.joint.ensures c.loop-part.invariant in
-    subst (λ (w : OwnedTime). JointSoFar (nodes_of (map read items)) (nodes_of (drop (i + 1) (map read items))) w) (sym c.ratchet-best.ensures.joint) more
+    subst (λ (w : OwnedTime). JointSoFar (nodes_of (map read items)) (nodes_of (drop (i + 1) (map read items))) w) (sym c.raise.ensures.joint) more

@@ -71,9 +71,9 @@ loop-place-preserved g c =
     let some = all_some read g.P.Part.IsWhole items g.met.P.Part.some c.requires.parts.whole in
     let more = answers_go_on all (get_or ls p []) (nodes_of (drop (suc p) ls)) (before []) to (before []) c.loop-place.best (subst IsSorted first (sorted_from ls p sorted)) (lowest_below ls some sorted p) goes so_far in
     let answer = c.joint.ensures ∙ ap (λ (ns : List Node). answer_of ns (between (before []) last)) is in
-    let best = c.ratchet-best.ensures.joint ∙ ap (λ (w : OwnedTime). joint c.loop-place.best (w ∷ [])) answer in
+    let best = c.raise.ensures.joint ∙ ap (λ (w : OwnedTime). joint c.loop-place.best (w ∷ [])) answer in
     let next : suc p ≡ p + 1 = omega arith in
-    subst (λ (j : ℕ). AnswersSoFar all (nodes_of (drop j ls)) (before []) to (before []) c.ratchet-best.result.0) next
+    subst (λ (j : ℕ). AnswersSoFar all (nodes_of (drop j ls)) (before []) to (before []) c.raise.new.self) next
     (subst (λ (w : OwnedTime). AnswersSoFar all (nodes_of (drop (suc p) ls)) (before []) to (before []) w) (sym best) more)
 
 pub returns : goal.returns

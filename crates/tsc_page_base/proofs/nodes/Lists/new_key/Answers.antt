@@ -6,7 +6,7 @@ use Rattle.tsc_span.specs.Span.{KeyBytes, before}
 use Rattle.tsc_page_base.specs.PageView.{is_new_among}
 use Rattle.tsc_page_base.specs.Nodes.{Node, node_keys, IsFoundAt, IsNewKey, IsPlaceTold}
 use Rattle.tsc_page_base.proofs.Edits.{FitsAt-absent}
-use Rattle.tsc_page_base.proofs.Searches.{placed, new_at}
+use Rattle.tsc_page_base.proofs.Searches.{known_at, fits_at, new_at}
 use Rattle.tsc_page_base.proofs.nodes.Lists.new_key.Goals as goal
 
 pub returns-in_err-copy-in-Err-clause-memory : goal.returns-in_err-copy-in-Err-clause-memory
@@ -15,7 +15,7 @@ returns-in_err-copy-in-Err-clause-memory c known =
     let k : KeyBytes = c.in-Some.key.now in
     let place : ℕ = c.in-Err.place in
     let found : IsFoundAt nodes k (Err place) = subst (λ (m : KeyBytes). IsFoundAt nodes m (Err place)) (c.new.ensures ∙ c.bytes.ensures.value) (subst (IsFoundAt nodes c.new.result) c.in-Err.is c.find.ensures) in
-    let absent = FitsAt-absent k nodes place (before []) c.requires.sorted (placed nodes k (Err place) found) in
+    let absent = FitsAt-absent k nodes place (before []) c.requires.sorted (fits_at nodes k place found) in
     let new : true ≡ is_new_among (node_keys nodes) (option_map (λ k. k.now) c.args.key) = sym (ap not absent) ∙ ap (λ o. is_new_among (node_keys nodes) (option_map (λ k. k.now) o)) (sym c.in-Some.is) in
     absurd (true≢false (new ∙ known))
 
@@ -25,7 +25,7 @@ returns-in-Ok-clause-value c =
     let k : KeyBytes = c.in-Some.key.now in
     let place : ℕ = c.in-Ok.place in
     let found : IsFoundAt nodes k (Ok place) = subst (λ (m : KeyBytes). IsFoundAt nodes m (Ok place)) (c.new.ensures ∙ c.bytes.ensures.value) (subst (IsFoundAt nodes c.new.result) c.in-Ok.is c.find.ensures) in
-    subst (λ o. IsNewKey nodes (option_map (λ k. k.now) o) None) (sym c.in-Some.is) (placed nodes k (Ok place) found)
+    subst (λ o. IsNewKey nodes (option_map (λ k. k.now) o) None) (sym c.in-Some.is) (known_at nodes k place found)
 
 pub returns-in_ok-copy-in-Err-clause-value : goal.returns-in_ok-copy-in-Err-clause-value
 returns-in_ok-copy-in-Err-clause-value c =

@@ -34,10 +34,10 @@ loop-place-preserved c =
     let within : i < length nodes = omega (arith, steps, so_far.0.bound) in
     let inside : i < length values = omega (arith, within, c.self.invariant, long_as keys values nodes c.self.invariant c.self.view_is) in
     let value : d.value ≡ (get_or nodes i some_node).value = ap (λ (v : Values). v.value) (c.index.ensures ∙ ap (λ (j : ℕ). get_or values j d) steps.1.1) ∙ sym (value_at keys values nodes c.self.invariant c.self.view_is i some_node d inside) in
-    let best = c.join.ensures ∙ ap (λ (w : OwnedTime). joint c.loop-place.best (w ∷ [])) value in (
+    let best = c.raise.ensures.joint ∙ ap (λ (w : OwnedTime). joint c.loop-place.best (w ∷ [])) value in (
       record { low = omega (arith, steps, so_far.0.low); order = omega (arith, steps); bound = omega (arith, steps, so_far.0.bound) },
       steps.0 ∙ so_far.1,
-      subst (λ (j : ℕ). IsJointOf (KeySeen nodes first j) c.join.new.best) (sym steps.1.2)
+      subst (λ (j : ℕ). IsJointOf (KeySeen nodes first j) c.raise.new.self) (sym steps.1.2)
           (subst (IsJointOf (KeySeen nodes first (i + 1))) (sym best) (key_seen nodes first i some_node c.loop-place.best so_far.0.low within so_far.2)),
     )
 
@@ -72,10 +72,10 @@ loop-place-2-preserved c =
     let within : i < length nodes = omega (arith, steps, so_far.0.bound) in
     let inside : i < length values = omega (arith, within, c.self.invariant, long_as keys values nodes c.self.invariant c.self.view_is) in
     let value : d.gap ≡ (get_or nodes i some_node).gap = ap (λ (v : Values). v.gap) (c.index-in-loop-place-2.ensures ∙ ap (λ (j : ℕ). get_or values j d) steps.1.1) ∙ sym (gap_at keys values nodes c.self.invariant c.self.view_is i some_node d inside) in
-    let best = c.join-in-loop-place-2.ensures ∙ ap (λ (w : OwnedTime). joint c.loop-place-2.best (w ∷ [])) value in (
+    let best = c.raise-in-loop-place-2.ensures.joint ∙ ap (λ (w : OwnedTime). joint c.loop-place-2.best (w ∷ [])) value in (
       record { low = omega (arith, steps, so_far.0.low); order = omega (arith, steps); bound = omega (arith, steps, so_far.0.bound) },
       steps.0 ∙ so_far.1,
-      subst (λ (j : ℕ). IsJointOf (λ w. KeyMet nodes span w ⊎ GapSeen nodes first j w) c.join-in-loop-place-2.new.best) (sym steps.1.2)
+      subst (λ (j : ℕ). IsJointOf (λ w. KeyMet nodes span w ⊎ GapSeen nodes first j w) c.raise-in-loop-place-2.new.self) (sym steps.1.2)
           (subst (IsJointOf (λ w. KeyMet nodes span w ⊎ GapSeen nodes first (i + 1) w)) (sym best) (gap_seen nodes (KeyMet nodes span) first i some_node c.loop-place-2.best so_far.0.low within so_far.2)),
     )
 

@@ -1,15 +1,15 @@
--- A key is new where the nodes have a place for it.
+-- A key is new where it is not found.
 use Rattle.std.proofs.Common.{◌∙◌, ap, sym, subst, List}
 use Rattle.std.specs.Prelude.{not}
 use Rattle.std.specs.Arc.{arc_value}
 use Rattle.tsc_page_base.specs.PageView.{is_in}
 use Rattle.tsc_page_base.specs.Nodes.{Node, IsSorted, node_keys}
-use Rattle.tsc_page_base.proofs.Edits.{place_told}
+use Rattle.tsc_page_base.proofs.Searches.{found_told}
 use Rattle.tsc_page_tree.proofs.Pending.{sorted_without, pending-is_in}
 use Rattle.tsc_page_tree.proofs.leaf.LeafPart.is_new.Goals as goal
 
-pub place_for-requires : goal.place_for-requires
-place_for-requires c =
+pub find-requires : goal.find-requires
+find-requires c =
     let ns : List Node = arc_value c.args.self.now.nodes in
     record { sorted = subst IsSorted (sym c.deref.ensures) (sorted_without c.args.self.now.summary.pending ns c.requires.sorted) }
 
@@ -17,5 +17,5 @@ pub returns : goal.returns
 returns c =
     let ns : List Node = arc_value c.args.self.now.nodes in
     let k = c.args.key.now in
-    c.is_some.ensures ∙ place_told k c.deref.result.now c.place_for.result (subst IsSorted (sym c.deref.ensures) (sorted_without c.args.self.now.summary.pending ns c.requires.sorted)) c.place_for.ensures.place
+    c.is_err.ensures.value ∙ found_told k c.deref.result.now c.find.result (subst IsSorted (sym c.deref.ensures) (sorted_without c.args.self.now.summary.pending ns c.requires.sorted)) c.find.ensures
     ∙ ap (λ (ms : List Node). not (is_in k (node_keys ms))) c.deref.ensures ∙ ap not (sym (pending-is_in c.args.self.now.summary.pending k ns))
