@@ -75,11 +75,8 @@ pub extern "C" fn tsc_add(
     ensures refused { result ≢ OK → (why : Why) × (result ≡ code_of why) × RefusesTimedAdd why (cache_at (entries_of place.old.table) number) from.now to.now ends
         (value_of value.now).time (time_of now.now) }
 {
-    match held::add(alloc, place, number, from, to, ends, value, now) {
-        Ok(added) => {
-            *out = held::words_of(added);
-            OK
-        }
+    match held::add(alloc, place, number, from, to, ends, value, now, out) {
+        Ok(()) => OK,
         Err(why) => why.code(),
     }
 }

@@ -2,3 +2,4 @@ pub mod Timed
 pub mod Placing
 pub mod Chain
 pub mod Texts
+pub mod Lending

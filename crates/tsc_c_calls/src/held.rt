@@ -4,17 +4,17 @@ ghost use Rattle.std.specs.Prelude.{◌≡◌, ◌≢◌, IfOk, IfErr, OnErr, Ok
 ghost use Rattle.tsc_cache.specs.Settings.{Settings, settings_of};
 ghost use Rattle.tsc_cache.specs.declared.config.ConfigFault.{ConfigFault as Fault};
 ghost use Rattle.tsc_c_table.specs.Asked.{time_of, value_of, added_of};
-ghost use Rattle.tsc_c_table.specs.Calls.{Opens, Looks, StandsAt, Counts, AddsTo, AddsAllTo, IsClosed, RefusesLookup, RefusesAdd, RefusesAddAll};
+ghost use Rattle.tsc_c_table.specs.Calls.{Opens, Looks, StandsAt, Counts, AddsTo, AddsAllTo, IsClosed, RefusesLookup, RefusesAddAll};
 ghost use Rattle.tsc_c_table.specs.Table.{cache_at, entries_of, Keeps, GivesNext};
 ghost use Rattle.tsc_c_table.specs.declared.refusal.Refusal.TheVariants.{NoMemory};
 ghost use Rattle.tsc_c_calls.specs.Timed.{RefusesConfig, RefusesOpen, RefusesSettings, RefusesTimedAdd, RefusesTimedAddAll};
 
 use crate::place::Place;
 use std::alloc::Global;
-use tsc_c_table::asked::{time, value as value_asked};
+use tsc_c_table::asked::{time, words_of_added};
 use tsc_c_table::{Refusal, Table, TscAdded, TscFigures, TscMark, TscTime, TscValue};
 use tsc_cache::{Added, Config, ConfigFault};
-use tsc_time::{Timestamp, Value};
+use tsc_time::Timestamp;
 
 /// Opens a cache.
 pub fn open(
@@ -93,7 +93,7 @@ fn open_with(alloc: Global, place: &mut Place, config: Config) -> Result<u64, Re
     made
 }
 
-/// Adds to the cache at a number.
+/// Adds to the cache at a number, and writes what that did.
 pub fn add(
     alloc: Global,
     place: &mut Place,
@@ -103,39 +103,16 @@ pub fn add(
     ends: u32,
     value: &TscValue,
     now: &TscTime,
-) -> Result<Added, Refusal>
-    ensures added { IfOk result (λ added. AddsTo (cache_at (entries_of place.old.table) number) (cache_at (entries_of place.new.table) number) from.now to.now ends (value_of value.now) (time_of now.now) added) }
+    out: &mut TscAdded,
+) -> Result<(), Refusal>
+    ensures added { IfOk result (λ _. AddsTo (cache_at (entries_of place.old.table) number) (cache_at (entries_of place.new.table) number) from.now to.now ends (value_of value.now) (time_of now.now) (added_of out.new)) }
     ensures others { Keeps (entries_of place.old.table) (entries_of place.new.table) number }
     ensures unchanged { OnErr result (entries_of place.new.table ≡ entries_of place.old.table) }
+    ensures kept { OnErr result (out.new ≡ out.old) }
     ensures refused { IfErr result (λ why. RefusesTimedAdd why (cache_at (entries_of place.old.table) number) from.now to.now ends (value_of value.now).time (time_of now.now)) }
 {
-    let value = value_asked(value)?;
-    let now = time(now)?;
-    add_value(alloc, place, number, from, to, ends, value, now)
-}
-
-/// Adds a span with its value at a moment.
-fn add_value(
-    alloc: Global,
-    place: &mut Place,
-    number: u64,
-    from: &[u8],
-    to: &[u8],
-    ends: u32,
-    value: Value,
-    now: Timestamp,
-) -> Result<Added, Refusal>
-    ensures added { IfOk result (λ added. AddsTo (cache_at (entries_of place.old.table) number) (cache_at (entries_of place.new.table) number) from.now to.now ends value now added) }
-    ensures others { Keeps (entries_of place.old.table) (entries_of place.new.table) number }
-    ensures unchanged { OnErr result (entries_of place.new.table ≡ entries_of place.old.table) }
-    ensures refused { IfErr result (λ why. RefusesAdd why (cache_at (entries_of place.old.table) number) from.now to.now ends) }
-{
-    match place.take(alloc) {
-        Some(mut table) => {
-            let added = table.add(alloc, number, from, to, ends, value, now);
-            place.lay(table);
-            added
-        }
+    match place.table_mut() {
+        Some(table) => table.add(alloc, number, from, to, ends, value, now, out),
         None => Err(Refusal::Closed),
     }
 }
@@ -186,11 +163,7 @@ fn add_marks(
 pub fn words_of(added: Added) -> TscAdded
     ensures { added ≡ added_of result }
 {
-    TscAdded {
-        evicted: added.evicted,
-        kept: added.kept,
-        rotated: added.rotated,
-    }
+    words_of_added(added)
 }
 
 /// Writes the latest time on a span in the cache at a number.
@@ -208,12 +181,8 @@ pub fn get_max(
     ensures kept { OnErr result (out.new ≡ out.old) }
     ensures refused { IfErr result (λ why. RefusesLookup why (cache_at (entries_of place.old.table) number) ends) }
 {
-    match place.take(alloc) {
-        Some(table) => {
-            let found = table.get_max(number, from, to, ends, out);
-            place.lay(table);
-            found
-        }
+    match place.table_mut() {
+        Some(table) => table.get_max(number, from, to, ends, out),
         None => Err(Refusal::Closed),
     }
 }

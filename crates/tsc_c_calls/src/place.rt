@@ -1,3 +1,4 @@
+ghost use Rattle.std.specs.Borrow.{sem};
 ghost use Rattle.std.specs.Prelude.{◌≡◌};
 ghost use Rattle.std.specs.Option.{MatchOption};
 ghost use Rattle.std.specs.declared.option.Option.{Option as Maybe};
@@ -27,6 +28,8 @@ impl Model for Place {
 }
 
 impl Place {
+    ghost use Rattle.tsc_c_calls.specs.Lending.{LendsTable};
+
     /// Nothing is owned.
     pub fn empty() -> Place
         ensures { result.table ≡ None }
@@ -59,6 +62,18 @@ impl Place {
         ensures left { self.new.table ≡ None }
     {
         replace(self, Place::empty()).into_box(alloc)
+    }
+
+    /// The table that is owned, where it lies.
+    pub(crate) fn table_mut(&mut self) -> Option<&mut Table>
+        ensures* lends { sem 𝓛 (LendsTable self.entry result) }
+        ensures value { MatchOption result (self.old.table ≡ None) (λ table. self.old.table ≡ Some table.now) }
+    {
+        let at = self.at;
+        if at.is_null() {
+            return None;
+        }
+        Some(unsafe { &mut *(at as *mut Table) })
     }
 
     /// Owns this table. What was owned has to be taken before: it is not freed.

@@ -2,12 +2,12 @@
 
 ghost use Rattle.std.specs.Prelude.{◌≡◌, IfOk, IfErr, Some};
 ghost use Rattle.tsc_span.specs.Span.{range};
-ghost use Rattle.tsc_c_table.specs.Asked.{time_of, value_of, figures_told, form_of, add_span, lookup_span, RefusesTime, RefusesEnds, RefusesKey, RefusesRange, RefusesAddSpan};
+ghost use Rattle.tsc_c_table.specs.Asked.{time_of, value_of, added_of, figures_told, form_of, add_span, lookup_span, RefusesTime, RefusesEnds, RefusesKey, RefusesRange, RefusesAddSpan};
 
 use crate::refusal::Refusal;
-use crate::words::{TscFigures, TscTime, TscValue};
+use crate::words::{TscAdded, TscFigures, TscTime, TscValue};
 use std::alloc::Global;
-use tsc_cache::Figures;
+use tsc_cache::{Added, Figures};
 use tsc_span::{Ends, Key, Span, SpanFault, SpanRef};
 use tsc_time::{Timestamp, Value};
 use uuid::Uuid;
@@ -84,6 +84,17 @@ pub fn words_of_figures(figures: Figures) -> TscFigures
         rotations: figures.rotations,
         nodes: figures.nodes,
         bytes: figures.bytes,
+    }
+}
+
+/// The words of what an Add did.
+pub fn words_of_added(added: Added) -> TscAdded
+    ensures { added ≡ added_of result }
+{
+    TscAdded {
+        evicted: added.evicted,
+        kept: added.kept,
+        rotated: added.rotated,
     }
 }
 

@@ -2,20 +2,23 @@
 
 ghost use Rattle.std.specs.Prelude.{◌≡◌, ◌≢◌, ◌⊎◌, IfOk, IfErr, OnErr, None, [], option_map};
 ghost use Rattle.tsc_c_table.specs.Calls.{Opens, Looks, LooksIn, AddsTo, AddsIn, AddsAllTo, AddsAllIn, StandsAt, Counts, RefusesLookup, RefusesAdd, RefusesAddIn, RefusesAddAll, RefusesAddAllIn, IsClosed};
-ghost use Rattle.tsc_c_table.specs.Asked.{value_of, RefusesEnds};
+ghost use Rattle.tsc_c_table.specs.Asked.{time_of, value_of, added_of, RefusesEnds, RefusesTime};
 ghost use Rattle.tsc_c_table.specs.Table.{cache_of, cache_at, Keeps, GivesNext};
 ghost use Rattle.tsc_c_table.specs.declared.refusal.Refusal.TheVariants.{NoMemory, TooLarge};
 
-use crate::asked::{POINT, added_span, key, looked_up_span, words_of, words_of_figures};
+use crate::asked::{
+    POINT, added_span, key, looked_up_span, time, value as value_asked, words_of, words_of_added,
+    words_of_figures,
+};
 use crate::marks::marks;
 use crate::refusal::Refusal;
-use crate::words::{TscFigures, TscMark, TscValue};
+use crate::words::{TscAdded, TscFigures, TscMark, TscTime, TscValue};
 use std::alloc::Global;
 use std::mem::replace;
 use tsc_c_hall::{Chair, Host};
 use tsc_cache::{Added, Cache, CacheFault, Config, TimestampCache};
-use tsc_span::Span;
-use tsc_time::{Timestamp, Value};
+use tsc_span::{Span, SpanRef};
+use tsc_time::Timestamp;
 
 /// What a number that was given stands for.
 #[derive(Drop)]
@@ -48,15 +51,17 @@ impl Entry {
         from: &[u8],
         to: &[u8],
         ends: u32,
-        value: Value,
-        now: Timestamp,
-    ) -> Result<Added, Refusal>
-        ensures added { IfOk result (λ added. AddsTo (cache_of self.old) (cache_of self.new) from.now to.now ends value now added) }
-        ensures refused { IfErr result (λ why. RefusesAdd why (cache_of self.old) from.now to.now ends) }
+        value: &TscValue,
+        now: &TscTime,
+        out: &mut TscAdded,
+    ) -> Result<(), Refusal>
+        ensures added { IfOk result (λ _. AddsTo (cache_of self.old) (cache_of self.new) from.now to.now ends (value_of value.now) (time_of now.now) (added_of out.new)) }
+        ensures refused { IfErr result (λ why. RefusesTime why (value_of value.now).time ⊎ RefusesTime why (time_of now.now) ⊎ RefusesAdd why (cache_of self.old) from.now to.now ends) }
         ensures unchanged { OnErr result (self.new ≡ self.old) }
+        ensures kept { OnErr result (out.new ≡ out.old) }
     {
         match self {
-            Entry::Own(cache) => add_in(alloc, cache, from, to, ends, value, now),
+            Entry::Own(cache) => add_in(alloc, cache, from, to, ends, value, now, out),
             Entry::Closed | Entry::Shared(_) | Entry::Seat(_) => Err(Refusal::Closed),
         }
     }
@@ -193,16 +198,18 @@ impl Table {
         from: &[u8],
         to: &[u8],
         ends: u32,
-        value: Value,
-        now: Timestamp,
-    ) -> Result<Added, Refusal>
-        ensures added { IfOk result (λ added. AddsTo (cache_at self.old.entries.items number) (cache_at self.new.entries.items number) from.now to.now ends value now added) }
+        value: &TscValue,
+        now: &TscTime,
+        out: &mut TscAdded,
+    ) -> Result<(), Refusal>
+        ensures added { IfOk result (λ _. AddsTo (cache_at self.old.entries.items number) (cache_at self.new.entries.items number) from.now to.now ends (value_of value.now) (time_of now.now) (added_of out.new)) }
         ensures others { Keeps self.old.entries.items self.new.entries.items number }
-        ensures refused { IfErr result (λ why. RefusesAdd why (cache_at self.old.entries.items number) from.now to.now ends) }
+        ensures refused { IfErr result (λ why. RefusesTime why (value_of value.now).time ⊎ RefusesTime why (time_of now.now) ⊎ RefusesAdd why (cache_at self.old.entries.items number) from.now to.now ends) }
         ensures unchanged { OnErr result (self.new.entries.items ≡ self.old.entries.items) }
+        ensures kept { OnErr result (out.new ≡ out.old) }
     {
         match self.entries.get_mut(number as usize) {
-            Some(entry) => entry.add(alloc, from, to, ends, value, now),
+            Some(entry) => entry.add(alloc, from, to, ends, value, now, out),
             None => Err(Refusal::Closed),
         }
     }
@@ -254,34 +261,60 @@ fn look_in(
     ensures kept { OnErr result (out.new ≡ out.old) }
     ensures refused { IfErr result (λ why. RefusesEnds why ends) }
 {
+    if ends != POINT {
+        return look_formed(cache, from, to, ends, out);
+    }
+    *out = words_of(cache.get_max_in(&SpanRef::point(from)));
+    Ok(())
+}
+
+/// The same, in whatever form the span is.
+#[inline(never)]
+fn look_formed(
+    cache: &Cache,
+    from: &[u8],
+    to: &[u8],
+    ends: u32,
+    out: &mut TscValue,
+) -> Result<(), Refusal>
+    ensures value { IfOk result (λ _. LooksIn cache.now from.now to.now ends (value_of out.new)) }
+    ensures kept { OnErr result (out.new ≡ out.old) }
+    ensures refused { IfErr result (λ why. RefusesEnds why ends) }
+{
     let span = looked_up_span(from, to, ends)?;
     *out = words_of(cache.get_max_in(&span));
     Ok(())
 }
 
-/// Adds the span of two keys to a cache.
+/// Adds the span of two keys to a cache, and writes what that did.
 ///
 /// Most Adds are of a single key. Its span is made here, where it is lent: what a function returns would be copied, and what is written for the other
-/// forms would be written for this one too.
+/// forms would be written for this one too. The value and the moment are read last, and the answer is written where it is wanted: what is known
+/// across a call has to be put somewhere until then.
 fn add_in(
     alloc: Global,
     cache: &mut Cache,
     from: &[u8],
     to: &[u8],
     ends: u32,
-    value: Value,
-    now: Timestamp,
-) -> Result<Added, Refusal>
-    ensures added { IfOk result (λ added. AddsIn cache.old cache.new from.now to.now ends value now added) }
+    value: &TscValue,
+    now: &TscTime,
+    out: &mut TscAdded,
+) -> Result<(), Refusal>
+    ensures added { IfOk result (λ _. AddsIn cache.old cache.new from.now to.now ends (value_of value.now) (time_of now.now) (added_of out.new)) }
     ensures unchanged { OnErr result (cache.new ≡ cache.old) }
-    ensures refused { IfErr result (λ why. RefusesAddIn why cache.old from.now to.now ends) }
+    ensures kept { OnErr result (out.new ≡ out.old) }
+    ensures refused { IfErr result (λ why. RefusesTime why (value_of value.now).time ⊎ RefusesTime why (time_of now.now) ⊎ RefusesAddIn why cache.old from.now to.now ends) }
 {
     if ends != POINT {
-        return add_formed(alloc, cache, from, to, ends, value, now);
+        return add_formed(alloc, cache, from, to, ends, value, now, out);
     }
     let span = Span::point(key(alloc, from)?);
-    match cache.add(&span, value, now) {
-        Ok(added) => Ok(added),
+    match cache.add(&span, value_asked(value)?, time(now)?) {
+        Ok(added) => {
+            *out = words_of_added(added);
+            Ok(())
+        }
         Err(fault) => Err(of_fault(fault)),
     }
 }
@@ -294,16 +327,21 @@ fn add_formed(
     from: &[u8],
     to: &[u8],
     ends: u32,
-    value: Value,
-    now: Timestamp,
-) -> Result<Added, Refusal>
-    ensures added { IfOk result (λ added. AddsIn cache.old cache.new from.now to.now ends value now added) }
+    value: &TscValue,
+    now: &TscTime,
+    out: &mut TscAdded,
+) -> Result<(), Refusal>
+    ensures added { IfOk result (λ _. AddsIn cache.old cache.new from.now to.now ends (value_of value.now) (time_of now.now) (added_of out.new)) }
     ensures unchanged { OnErr result (cache.new ≡ cache.old) }
-    ensures refused { IfErr result (λ why. RefusesAddIn why cache.old from.now to.now ends) }
+    ensures kept { OnErr result (out.new ≡ out.old) }
+    ensures refused { IfErr result (λ why. RefusesTime why (value_of value.now).time ⊎ RefusesTime why (time_of now.now) ⊎ RefusesAddIn why cache.old from.now to.now ends) }
 {
     let span = added_span(alloc, from, to, ends)?;
-    match cache.add(&span, value, now) {
-        Ok(added) => Ok(added),
+    match cache.add(&span, value_asked(value)?, time(now)?) {
+        Ok(added) => {
+            *out = words_of_added(added);
+            Ok(())
+        }
         Err(fault) => Err(of_fault(fault)),
     }
 }

@@ -1,4 +1,4 @@
--- The words that are written tell the value that the cache answers.
+-- The words that are written tell the value that the cache answers to the single key.
 use Rattle.std.proofs.Common.{rules, subst}
 use Rattle.tsc_c_table.specs.Calls.{LooksIn}
 use Rattle.tsc_c_table.proofs.table.look_in.Goals as goal
