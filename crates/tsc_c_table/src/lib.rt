@@ -1,7 +1,7 @@
 //! The table behind a place of a program in C: caches, shared caches and seats by their numbers, and what the words of a call ask for.
 //!
-//! [`Table`] has the calls, over times, values and owned bytes. The words are as C lays them out, so that the calls for C hand them on as
-//! they come.
+//! [`Table`] has the calls, over times, values and bytes. The words are as C lays them out, so that the calls for C hand them on as
+//! they come. An Add of one span takes its words themselves, and writes its answer as words.
 #![tactic(auto)]
 
 pub mod asked;
