@@ -110,7 +110,6 @@ pub extern "C" fn tsc_add_all(
 /// The latest time on a span.
 #[unsafe(no_mangle)]
 pub extern "C" fn tsc_get_max(
-    alloc: Global,
     place: &mut Place,
     number: u64,
     from: &[u8],
@@ -123,7 +122,7 @@ pub extern "C" fn tsc_get_max(
     ensures kept { result ≢ OK → out.new ≡ out.old }
     ensures refused { result ≢ OK → (why : Why) × (result ≡ code_of why) × RefusesLookup why (cache_at (entries_of place.old.table) number) ends }
 {
-    match held::get_max(alloc, place, number, from, to, ends, out) {
+    match held::get_max(place, number, from, to, ends, out) {
         Ok(()) => OK,
         Err(why) => why.code(),
     }
@@ -131,18 +130,13 @@ pub extern "C" fn tsc_get_max(
 
 /// Where the floor stands.
 #[unsafe(no_mangle)]
-pub extern "C" fn tsc_low_water(
-    alloc: Global,
-    place: &mut Place,
-    number: u64,
-    out: &mut TscTime,
-) -> u32
+pub extern "C" fn tsc_low_water(place: &mut Place, number: u64, out: &mut TscTime) -> u32
     ensures unchanged { place.new.table ≡ place.old.table }
     ensures value { result ≡ OK → StandsAt (cache_at (entries_of place.old.table) number) (time_of out.new) }
     ensures kept { result ≢ OK → out.new ≡ out.old }
     ensures refused { result ≢ OK → (why : Why) × (result ≡ code_of why) × IsClosed why (cache_at (entries_of place.old.table) number) }
 {
-    match held::low_water(alloc, place, number) {
+    match held::low_water(place, number) {
         Ok(floor) => {
             *out = asked::words_of_time(floor);
             OK
@@ -153,18 +147,13 @@ pub extern "C" fn tsc_low_water(
 
 /// What can be counted of a cache.
 #[unsafe(no_mangle)]
-pub extern "C" fn tsc_figures_of(
-    alloc: Global,
-    place: &mut Place,
-    number: u64,
-    out: &mut TscFigures,
-) -> u32
+pub extern "C" fn tsc_figures_of(place: &mut Place, number: u64, out: &mut TscFigures) -> u32
     ensures unchanged { place.new.table ≡ place.old.table }
     ensures value { result ≡ OK → Counts (cache_at (entries_of place.old.table) number) out.new }
     ensures kept { result ≢ OK → out.new ≡ out.old }
     ensures refused { result ≢ OK → (why : Why) × (result ≡ code_of why) × IsClosed why (cache_at (entries_of place.old.table) number) }
 {
-    match held::figures(alloc, place, number) {
+    match held::figures(place, number) {
         Ok(figures) => {
             *out = figures;
             OK
@@ -175,14 +164,14 @@ pub extern "C" fn tsc_figures_of(
 
 /// Frees the cache of a number, which then names none for good.
 #[unsafe(no_mangle)]
-pub extern "C" fn tsc_close(alloc: Global, place: &mut Place, number: u64) -> u32
+pub extern "C" fn tsc_close(place: &mut Place, number: u64) -> u32
     ensures closed { cache_at (entries_of place.new.table) number ≡ None }
     ensures others { Keeps (entries_of place.old.table) (entries_of place.new.table) number }
     ensures done { result ≡ OK → cache_at (entries_of place.old.table) number ≢ None }
     ensures unchanged { result ≢ OK → entries_of place.new.table ≡ entries_of place.old.table }
     ensures refused { result ≢ OK → (why : Why) × (result ≡ code_of why) × IsClosed why (cache_at (entries_of place.old.table) number) }
 {
-    match held::close(alloc, place, number) {
+    match held::close(place, number) {
         Ok(()) => OK,
         Err(why) => why.code(),
     }

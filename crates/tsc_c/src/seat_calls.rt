@@ -114,7 +114,6 @@ pub extern "C" fn tsc_seat_add_all(
 /// The latest time on a span, at a seat, and how many Adds the seat has seen then.
 #[unsafe(no_mangle)]
 pub extern "C" fn tsc_seat_get_max(
-    alloc: Global,
     place: &mut Place,
     number: u64,
     from: &[u8],
@@ -129,7 +128,7 @@ pub extern "C" fn tsc_seat_get_max(
     ensures unchanged { result ≢ OK → (entries_of place.new.table ≡ entries_of place.old.table) × (seen.new ≡ seen.old) × (out.new ≡ out.old) }
     ensures refused { result ≢ OK → (why : Why) × (result ≡ code_of why) × RefusesSeatLookup why (seat_at (entries_of place.old.table) number) ends }
 {
-    match halls::seat_get_max(alloc, place, number, from, to, ends) {
+    match halls::seat_get_max(place, number, from, to, ends) {
         Ok(answer) => {
             *seen = answer.front;
             *out = asked::words_of(answer.value);
@@ -142,7 +141,6 @@ pub extern "C" fn tsc_seat_get_max(
 /// Where the floor stands, at a seat, and how many Adds the seat has seen then.
 #[unsafe(no_mangle)]
 pub extern "C" fn tsc_seat_low_water(
-    alloc: Global,
     place: &mut Place,
     number: u64,
     seen: &mut u64,
@@ -153,7 +151,7 @@ pub extern "C" fn tsc_seat_low_water(
     ensures unchanged { result ≢ OK → (entries_of place.new.table ≡ entries_of place.old.table) × (seen.new ≡ seen.old) × (out.new ≡ out.old) }
     ensures refused { result ≢ OK → (why : Why) × (result ≡ code_of why) × IsNoSeat why (seat_at (entries_of place.old.table) number) }
 {
-    match halls::seat_low_water(alloc, place, number) {
+    match halls::seat_low_water(place, number) {
         Ok(answer) => {
             *seen = answer.front;
             *out = asked::words_of_time(answer.time);
@@ -166,7 +164,6 @@ pub extern "C" fn tsc_seat_low_water(
 /// What can be counted of the cache at a seat, and how many Adds the seat has seen then.
 #[unsafe(no_mangle)]
 pub extern "C" fn tsc_seat_figures_of(
-    alloc: Global,
     place: &mut Place,
     number: u64,
     seen: &mut u64,
@@ -177,7 +174,7 @@ pub extern "C" fn tsc_seat_figures_of(
     ensures unchanged { result ≢ OK → (entries_of place.new.table ≡ entries_of place.old.table) × (seen.new ≡ seen.old) × (out.new ≡ out.old) }
     ensures refused { result ≢ OK → (why : Why) × (result ≡ code_of why) × IsNoSeat why (seat_at (entries_of place.old.table) number) }
 {
-    match halls::seat_figures(alloc, place, number) {
+    match halls::seat_figures(place, number) {
         Ok(answer) => {
             *seen = answer.front;
             *out = asked::words_of_figures(answer.figures);
@@ -189,14 +186,14 @@ pub extern "C" fn tsc_seat_figures_of(
 
 /// Hands in the seat of a number, which then names none for good.
 #[unsafe(no_mangle)]
-pub extern "C" fn tsc_seat_close(alloc: Global, place: &mut Place, number: u64) -> u32
+pub extern "C" fn tsc_seat_close(place: &mut Place, number: u64) -> u32
     ensures closed { seat_at (entries_of place.new.table) number ≡ None }
     ensures others { Keeps (entries_of place.old.table) (entries_of place.new.table) number }
     ensures done { result ≡ OK → seat_at (entries_of place.old.table) number ≢ None }
     ensures unchanged { result ≢ OK → entries_of place.new.table ≡ entries_of place.old.table }
     ensures refused { result ≢ OK → (why : Why) × (result ≡ code_of why) × IsNoSeat why (seat_at (entries_of place.old.table) number) }
 {
-    match halls::close_seat(alloc, place, number) {
+    match halls::close_seat(place, number) {
         Ok(()) => OK,
         Err(why) => why.code(),
     }
@@ -204,18 +201,13 @@ pub extern "C" fn tsc_seat_close(alloc: Global, place: &mut Place, number: u64) 
 
 /// Closes the shared cache of a number where all its seats were handed in, and writes how many Adds its history has.
 #[unsafe(no_mangle)]
-pub extern "C" fn tsc_close_shared(
-    alloc: Global,
-    place: &mut Place,
-    number: u64,
-    length: &mut u64,
-) -> u32
+pub extern "C" fn tsc_close_shared(place: &mut Place, number: u64, length: &mut u64) -> u32
     ensures closed { result ≡ OK → ClosesShared (shared_at (entries_of place.old.table) number) (shared_at (entries_of place.new.table) number) length.new }
     ensures others { Keeps (entries_of place.old.table) (entries_of place.new.table) number }
     ensures unchanged { result ≢ OK → (entries_of place.new.table ≡ entries_of place.old.table) × (length.new ≡ length.old) }
     ensures refused { result ≢ OK → (why : Why) × (result ≡ code_of why) × RefusesCloseShared why (shared_at (entries_of place.old.table) number) }
 {
-    match halls::close_shared(alloc, place, number) {
+    match halls::close_shared(place, number) {
         Ok(adds) => {
             *length = adds;
             OK

@@ -107,9 +107,9 @@ fn told_of(code: u32, at: u64, added: &TscAdded) -> Told {
 }
 
 /// The time, and the first byte of the owner.
-fn get_max(alloc: Global, place: &mut Place, number: u64, key: &[u8]) -> Told {
+fn get_max(place: &mut Place, number: u64, key: &[u8]) -> Told {
     let mut found = READ;
-    let code = tsc_get_max(alloc, place, number, key, b"", 8, &mut found);
+    let code = tsc_get_max(place, number, key, b"", 8, &mut found);
     told_value(code, 0, &found)
 }
 
@@ -126,9 +126,9 @@ fn told_value(code: u32, seen: u64, found: &TscValue) -> Told {
 }
 
 /// Where the floor stands.
-fn low_water(alloc: Global, place: &mut Place, number: u64) -> Told {
+fn low_water(place: &mut Place, number: u64) -> Told {
     let mut floor = NOW;
-    let code = tsc_low_water(alloc, place, number, &mut floor);
+    let code = tsc_low_water(place, number, &mut floor);
     (code, floor.wall, u64::from(floor.logical), 0, 0, 0)
 }
 
@@ -142,9 +142,9 @@ fn nothing_counted() -> TscFigures {
 }
 
 /// The pages, the rotations, the nodes and the bytes.
-fn figures(alloc: Global, place: &mut Place, number: u64) -> Told {
+fn figures(place: &mut Place, number: u64) -> Told {
     let mut told = nothing_counted();
-    let code = tsc_figures_of(alloc, place, number, &mut told);
+    let code = tsc_figures_of(place, number, &mut told);
     (code, told.pages, told.rotations, told.nodes, told.bytes, 0)
 }
 
@@ -176,26 +176,26 @@ fn seat_add_all(alloc: Global, place: &mut Place, seat: u64) -> Told {
 }
 
 /// The time, the first byte of the owner, and how many Adds the seat has seen then.
-fn seat_get_max(alloc: Global, place: &mut Place, seat: u64, key: &[u8]) -> Told {
+fn seat_get_max(place: &mut Place, seat: u64, key: &[u8]) -> Told {
     let mut seen = 9;
     let mut found = READ;
-    let code = tsc_seat_get_max(alloc, place, seat, key, b"", 8, &mut seen, &mut found);
+    let code = tsc_seat_get_max(place, seat, key, b"", 8, &mut seen, &mut found);
     told_value(code, seen, &found)
 }
 
 /// Where the floor stands, and how many Adds the seat has seen then.
-fn seat_low_water(alloc: Global, place: &mut Place, seat: u64) -> Told {
+fn seat_low_water(place: &mut Place, seat: u64) -> Told {
     let mut seen = 9;
     let mut floor = NOW;
-    let code = tsc_seat_low_water(alloc, place, seat, &mut seen, &mut floor);
+    let code = tsc_seat_low_water(place, seat, &mut seen, &mut floor);
     (code, floor.wall, u64::from(floor.logical), seen, 0, 0)
 }
 
 /// The pages, the rotations, the nodes and the bytes, and how many Adds the seat has seen then.
-fn seat_figures(alloc: Global, place: &mut Place, seat: u64) -> Told {
+fn seat_figures(place: &mut Place, seat: u64) -> Told {
     let mut seen = 9;
     let mut told = nothing_counted();
-    let code = tsc_seat_figures_of(alloc, place, seat, &mut seen, &mut told);
+    let code = tsc_seat_figures_of(place, seat, &mut seen, &mut told);
     (
         code,
         told.pages,
@@ -207,9 +207,9 @@ fn seat_figures(alloc: Global, place: &mut Place, seat: u64) -> Told {
 }
 
 /// How many Adds there were.
-fn close_shared(alloc: Global, place: &mut Place, number: u64) -> Told {
+fn close_shared(place: &mut Place, number: u64) -> Told {
     let mut length = 9;
-    let code = tsc_close_shared(alloc, place, number, &mut length);
+    let code = tsc_close_shared(place, number, &mut length);
     (code, length, 0, 0, 0, 0)
 }
 
@@ -231,20 +231,20 @@ fn make(alloc: Global, place: &mut Place, other: &mut Place, call: &Call) -> Tol
         Call::Open => open(alloc, place),
         Call::Add(number) => add(alloc, place, *number),
         Call::AddAll(number) => add_all(alloc, place, *number),
-        Call::GetMax(number, key) => get_max(alloc, place, *number, key),
-        Call::LowWater(number) => low_water(alloc, place, *number),
-        Call::Figures(number) => figures(alloc, place, *number),
-        Call::Close(number) => (tsc_close(alloc, place, *number), 0, 0, 0, 0, 0),
+        Call::GetMax(number, key) => get_max(place, *number, key),
+        Call::LowWater(number) => low_water(place, *number),
+        Call::Figures(number) => figures(place, *number),
+        Call::Close(number) => (tsc_close(place, *number), 0, 0, 0, 0, 0),
         Call::Free => freed(alloc, place),
         Call::OpenShared(seats) => open_shared(alloc, place, *seats),
         Call::Move(number) => moved(alloc, place, *number, other),
         Call::SeatAdd(seat, tries) => seat_add(alloc, place, *seat, *tries),
         Call::SeatAddAll(seat) => seat_add_all(alloc, place, *seat),
-        Call::SeatGetMax(seat, key) => seat_get_max(alloc, place, *seat, key),
-        Call::SeatLowWater(seat) => seat_low_water(alloc, place, *seat),
-        Call::SeatFigures(seat) => seat_figures(alloc, place, *seat),
-        Call::SeatClose(seat) => (tsc_seat_close(alloc, place, *seat), 0, 0, 0, 0, 0),
-        Call::CloseShared(number) => close_shared(alloc, place, *number),
+        Call::SeatGetMax(seat, key) => seat_get_max(place, *seat, key),
+        Call::SeatLowWater(seat) => seat_low_water(place, *seat),
+        Call::SeatFigures(seat) => seat_figures(place, *seat),
+        Call::SeatClose(seat) => (tsc_seat_close(place, *seat), 0, 0, 0, 0, 0),
+        Call::CloseShared(number) => close_shared(place, *number),
     }
 }
 

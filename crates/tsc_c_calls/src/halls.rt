@@ -61,7 +61,6 @@ fn open_shared_with(
 
 /// What the cache of the seat at a number answers to a span.
 pub fn seat_get_max(
-    alloc: Global,
     place: &mut Place,
     number: u64,
     from: &[u8],
@@ -73,46 +72,34 @@ pub fn seat_get_max(
     ensures unchanged { OnErr result (entries_of place.new.table ≡ entries_of place.old.table) }
     ensures refused { IfErr result (λ why. RefusesSeatLookup why (seat_at (entries_of place.old.table) number) ends) }
 {
-    match place.take(alloc) {
-        Some(mut table) => {
-            let found = table.seat_get_max(number, from, to, ends);
-            place.lay(table);
-            found
-        }
+    match place.table_mut() {
+        Some(table) => table.seat_get_max(number, from, to, ends),
         None => Err(Refusal::Closed),
     }
 }
 
 /// Where the floor of the cache of the seat at a number stands.
-pub fn seat_low_water(alloc: Global, place: &mut Place, number: u64) -> Result<LowWater, Refusal>
+pub fn seat_low_water(place: &mut Place, number: u64) -> Result<LowWater, Refusal>
     ensures floor { IfOk result (λ answer. SeatStandsAt (seat_at (entries_of place.old.table) number) (seat_at (entries_of place.new.table) number) answer.front answer.time) }
     ensures others { Keeps (entries_of place.old.table) (entries_of place.new.table) number }
     ensures unchanged { OnErr result (entries_of place.new.table ≡ entries_of place.old.table) }
     ensures refused { IfErr result (λ why. IsNoSeat why (seat_at (entries_of place.old.table) number)) }
 {
-    match place.take(alloc) {
-        Some(mut table) => {
-            let floor = table.seat_low_water(number);
-            place.lay(table);
-            floor
-        }
+    match place.table_mut() {
+        Some(table) => table.seat_low_water(number),
         None => Err(Refusal::Closed),
     }
 }
 
 /// What can be counted of the cache of the seat at a number.
-pub fn seat_figures(alloc: Global, place: &mut Place, number: u64) -> Result<SeatFigures, Refusal>
+pub fn seat_figures(place: &mut Place, number: u64) -> Result<SeatFigures, Refusal>
     ensures figures { IfOk result (λ answer. SeatCounts (seat_at (entries_of place.old.table) number) (seat_at (entries_of place.new.table) number) answer.front (figures_told answer.figures)) }
     ensures others { Keeps (entries_of place.old.table) (entries_of place.new.table) number }
     ensures unchanged { OnErr result (entries_of place.new.table ≡ entries_of place.old.table) }
     ensures refused { IfErr result (λ why. IsNoSeat why (seat_at (entries_of place.old.table) number)) }
 {
-    match place.take(alloc) {
-        Some(mut table) => {
-            let figures = table.seat_figures(number);
-            place.lay(table);
-            figures
-        }
+    match place.table_mut() {
+        Some(table) => table.seat_figures(number),
         None => Err(Refusal::Closed),
     }
 }
@@ -160,12 +147,8 @@ fn seat_add_value(
     ensures tried { IfOk result (λ _. tries ≢ 0) }
     ensures refused { IfErr result (λ why. RefusesSeatAdd why (seat_at (entries_of place.old.table) number) (seat_at (entries_of place.new.table) number) from.now to.now ends tries) }
 {
-    match place.take(alloc) {
-        Some(mut table) => {
-            let added = table.seat_add(alloc, number, from, to, ends, value, now, tries);
-            place.lay(table);
-            added
-        }
+    match place.table_mut() {
+        Some(table) => table.seat_add(alloc, number, from, to, ends, value, now, tries),
         None => Err(Refusal::Closed),
     }
 }
@@ -208,47 +191,35 @@ fn seat_add_marks(
     ensures tried { IfOk result (λ _. tries ≢ 0) }
     ensures refused { IfErr result (λ why. RefusesSeatAddAll why (seat_at (entries_of place.old.table) number) (seat_at (entries_of place.new.table) number) keys.now marks.now tries) }
 {
-    match place.take(alloc) {
-        Some(mut table) => {
-            let added = table.seat_add_all(alloc, number, keys, marks, now, tries);
-            place.lay(table);
-            added
-        }
+    match place.table_mut() {
+        Some(table) => table.seat_add_all(alloc, number, keys, marks, now, tries),
         None => Err(Refusal::Closed),
     }
 }
 
 /// Hands in the seat at a number.
-pub fn close_seat(alloc: Global, place: &mut Place, number: u64) -> Result<(), Refusal>
+pub fn close_seat(place: &mut Place, number: u64) -> Result<(), Refusal>
     ensures closed { seat_at (entries_of place.new.table) number ≡ None }
     ensures others { Keeps (entries_of place.old.table) (entries_of place.new.table) number }
     ensures unchanged { OnErr result (entries_of place.new.table ≡ entries_of place.old.table) }
     ensures refused { IfErr result (λ why. IsNoSeat why (seat_at (entries_of place.old.table) number)) }
     ensures done { IfOk result (λ _. seat_at (entries_of place.old.table) number ≢ None) }
 {
-    match place.take(alloc) {
-        Some(mut table) => {
-            let closed = table.close_seat(number);
-            place.lay(table);
-            closed
-        }
+    match place.table_mut() {
+        Some(table) => table.close_seat(number),
         None => Err(Refusal::Closed),
     }
 }
 
 /// Closes the shared cache at a number, and tells how many Adds its history has.
-pub fn close_shared(alloc: Global, place: &mut Place, number: u64) -> Result<u64, Refusal>
+pub fn close_shared(place: &mut Place, number: u64) -> Result<u64, Refusal>
     ensures closed { IfOk result (λ adds. ClosesShared (shared_at (entries_of place.old.table) number) (shared_at (entries_of place.new.table) number) adds) }
     ensures others { Keeps (entries_of place.old.table) (entries_of place.new.table) number }
     ensures unchanged { OnErr result (entries_of place.new.table ≡ entries_of place.old.table) }
     ensures refused { IfErr result (λ why. RefusesCloseShared why (shared_at (entries_of place.old.table) number)) }
 {
-    match place.take(alloc) {
-        Some(mut table) => {
-            let closed = table.close_shared(number);
-            place.lay(table);
-            closed
-        }
+    match place.table_mut() {
+        Some(table) => table.close_shared(number),
         None => Err(Refusal::Closed),
     }
 }
@@ -265,12 +236,8 @@ pub fn move_to(
     ensures other_unchanged { OnErr result (entries_of other.new.table ≡ entries_of other.old.table) }
     ensures refused { IfErr result (λ why. RefusesMove why (entries_of place.old.table) number) }
 {
-    match place.take(alloc) {
-        Some(mut table) => {
-            let moved = move_from(alloc, &mut table, number, other);
-            place.lay(table);
-            moved
-        }
+    match place.table_mut() {
+        Some(table) => move_from(alloc, table, number, other),
         None => Err(Refusal::Closed),
     }
 }

@@ -149,12 +149,8 @@ fn add_marks(
     ensures unchanged { OnErr result (entries_of place.new.table ≡ entries_of place.old.table) }
     ensures refused { IfErr result (λ why. RefusesAddAll why (cache_at (entries_of place.old.table) number) keys.now marks.now) }
 {
-    match place.take(alloc) {
-        Some(mut table) => {
-            let added = table.add_all(alloc, number, keys, marks, now);
-            place.lay(table);
-            added
-        }
+    match place.table_mut() {
+        Some(table) => table.add_all(alloc, number, keys, marks, now),
         None => Err(Refusal::Closed),
     }
 }
@@ -168,7 +164,6 @@ pub fn words_of(added: Added) -> TscAdded
 
 /// Writes the latest time on a span in the cache at a number.
 pub fn get_max(
-    alloc: Global,
     place: &mut Place,
     number: u64,
     from: &[u8],
@@ -188,51 +183,39 @@ pub fn get_max(
 }
 
 /// Where the floor of the cache at a number stands.
-pub fn low_water(alloc: Global, place: &mut Place, number: u64) -> Result<Timestamp, Refusal>
+pub fn low_water(place: &mut Place, number: u64) -> Result<Timestamp, Refusal>
     ensures unchanged { place.new.table ≡ place.old.table }
     ensures value { IfOk result (λ floor. StandsAt (cache_at (entries_of place.old.table) number) floor) }
     ensures refused { IfErr result (λ why. IsClosed why (cache_at (entries_of place.old.table) number)) }
 {
-    match place.take(alloc) {
-        Some(table) => {
-            let floor = table.low_water(number);
-            place.lay(table);
-            floor
-        }
+    match place.table_mut() {
+        Some(table) => table.low_water(number),
         None => Err(Refusal::Closed),
     }
 }
 
 /// What can be counted of the cache at a number.
-pub fn figures(alloc: Global, place: &mut Place, number: u64) -> Result<TscFigures, Refusal>
+pub fn figures(place: &mut Place, number: u64) -> Result<TscFigures, Refusal>
     ensures unchanged { place.new.table ≡ place.old.table }
     ensures value { IfOk result (λ figures. Counts (cache_at (entries_of place.old.table) number) figures) }
     ensures refused { IfErr result (λ why. IsClosed why (cache_at (entries_of place.old.table) number)) }
 {
-    match place.take(alloc) {
-        Some(table) => {
-            let figures = table.figures(number);
-            place.lay(table);
-            figures
-        }
+    match place.table_mut() {
+        Some(table) => table.figures(number),
         None => Err(Refusal::Closed),
     }
 }
 
 /// Frees the cache at a number.
-pub fn close(alloc: Global, place: &mut Place, number: u64) -> Result<(), Refusal>
+pub fn close(place: &mut Place, number: u64) -> Result<(), Refusal>
     ensures closed { cache_at (entries_of place.new.table) number ≡ None }
     ensures others { Keeps (entries_of place.old.table) (entries_of place.new.table) number }
     ensures refused { IfErr result (λ why. IsClosed why (cache_at (entries_of place.old.table) number)) }
     ensures done { IfOk result (λ _. cache_at (entries_of place.old.table) number ≢ None) }
     ensures unchanged { OnErr result (entries_of place.new.table ≡ entries_of place.old.table) }
 {
-    match place.take(alloc) {
-        Some(mut table) => {
-            let closed = table.close(number);
-            place.lay(table);
-            closed
-        }
+    match place.table_mut() {
+        Some(table) => table.close(number),
         None => Err(Refusal::Closed),
     }
 }
