@@ -1,14 +1,13 @@
 -- From call to call: what was opened, added and looked up at a number goes together into one history.
-use Rattle.std.proofs.Common.{◌≡◌, sym, ap, ◌∙◌, subst, ℕ, List, [], ◌∷◌, ◌++◌, Option, Some, None}
+use Rattle.std.proofs.Common.{◌≡◌, sym, ap, ◌∙◌, subst, List, [], ◌∷◌, ◌++◌, Option, Some, None}
 use Rattle.tsc_page_base.specs.Page.{Mark}
 use Rattle.tsc_time.specs.Time.{Time}
 use Rattle.tsc_cache.specs.Settings.{Settings}
 use Rattle.tsc_cache.specs.State.{step_all}
-use Rattle.tsc_cache.specs.declared.history.Entry.{Entry}
 use Rattle.tsc_cache.specs.History.{History, state_of}
 use Rattle.tsc_cache.specs.CacheView.{CacheView, StandsForState}
 use Rattle.tsc_cache.proofs.Histories.{state_of-push}
-use Rattle.tsc_c_table.specs.Calls.{Opens, Looks, AddsTo, AddsAllTo}
+use Rattle.tsc_c_table.specs.Calls.{Opens}
 use Rattle.tsc_c_calls.specs.Chain.{AddsUp, nothing_yet, one_more, several_more, left, HoldsHistory, AnswersAllAdded, next_entry}
 
 or_else : {X : Type 0} → X → Option X → X

@@ -1,5 +1,5 @@
 -- What is said is what was put into the buffer.
-use Rattle.std.proofs.Common.{◌≡◌, ℕ, List, subst, rules}
+use Rattle.std.proofs.Common.{ℕ, List, subst, rules}
 use Rattle.tsc_c_texts.specs.declared.outcome.Outcome.TheVariants.{Text, Refused}
 use Rattle.tsc_c_calls.specs.Texts.{Puts}
 use Rattle.tsc_c_calls.proofs.buffer.tell.Goals as goal
