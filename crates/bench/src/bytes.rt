@@ -1,7 +1,10 @@
 //! What is measured with keys and an owner that are given as bytes, as programs in C and in Rust give them to the library.
 //!
 //! The keys lie side by side, and all is done in the order in which `speed.c` and `speed.rs` do it, so that heap and caches of the
-//! processor have the same to do.
+//! processor have the same to do. How long a key is, who makes the Adds and at which moment is read where the program runs, as the library
+//! reads it: a compiler that knew it would leave out what each store has to do.
+ghost use Rattle.std.specs.Prelude.{◌≤◌};
+
 use crate::figure::{Figure, Least};
 use crate::keys::{APART, STRIDE};
 use crate::subject::Subject;
@@ -11,13 +14,10 @@ use std::time::Instant;
 use tsc_cache::{Cache, Config, TimestampCache};
 use tsc_span::{Key, Span, SpanRef};
 use tsc_time::{Timestamp, Value};
-use uuid::{Bytes, Uuid};
+use uuid::Uuid;
 
 /// The operations, in the order of their rows.
 pub static BYTES_OPERATIONS: [(&str, usize); 2] = [("lookup of a key", 0), ("add of a key", 1)];
-
-/// Who makes the Adds.
-const OWNER: Bytes = [0x11, 0, 0, 0, 0, 0, 0, 0, 0, 0, 0, 0, 0, 0, 0, 0];
 
 /// When the keys of the page are added first.
 const FIRST_WALL: u64 = 10;
@@ -25,30 +25,42 @@ const FIRST_WALL: u64 = 10;
 /// What a node with a key of 8 bytes costs.
 const COST: u32 = 40;
 
-/// Some keys.
-type Known = [[u8; 8]; 1024];
+/// How many keys are looked up and added.
+const PLACES: usize = 1024;
+
+/// Who makes the Adds.
+const OWNER: &str = "11000000-0000-0000-0000-000000000000";
 
 /// Measures calls on a cache of one page: lookups and Adds of known keys from all over it, turn by turn.
 pub fn measure_bytes(rt: &HostRuntime, nodes: u32, turns: u32) -> Option<Least> {
     let mut board = Board::new(Vec::new(rt.alloc()));
-    let mut cache = filled(rt.alloc(), nodes)?;
-    let keys = keys_of(nodes);
+    let owner = Uuid::parse_str(OWNER).ok()?;
+    let mut cache = filled(rt.alloc(), nodes, owner)?;
+    let keys = keys_of(rt.alloc(), nodes)?;
     for turn in 0..turns {
         let wall = FIRST_WALL.saturating_add(u64::from(turn)).saturating_add(1);
         board.keep(0, look_up(rt, &cache, &keys));
-        board.keep(1, add(rt, &mut cache, &keys, wall));
+        board.keep(1, add(rt, &mut cache, &keys, wall, owner));
     }
     board.end(true)
 }
 
 /// A cache with a full page.
-fn filled(alloc: Global, nodes: u32) -> Option<Cache> {
+fn filled(alloc: Global, nodes: u32, owner: Uuid) -> Option<Cache> {
     let size = nodes.saturating_mul(COST);
     let config = Config::new(size, size, 2, 1_000_000, Timestamp::ZERO).ok()?;
     let mut cache = Cache::new(alloc, config).ok()?;
     let mut is_full = true;
     for place in 0..u64::from(nodes) {
-        is_full = is_full && add_key(alloc, &mut cache, &key_of(place), FIRST_WALL);
+        is_full = is_full
+            && add_key(
+                alloc,
+                &mut cache,
+                &key_of(place),
+                FIRST_WALL,
+                owner,
+                Timestamp::ZERO,
+            );
     }
     is_full.then_some(cache)
 }
@@ -58,46 +70,61 @@ fn key_of(place: u64) -> [u8; 8] {
     place.wrapping_mul(APART).to_be_bytes()
 }
 
-/// Keys from all over the page.
-fn keys_of(nodes: u32) -> Known {
-    let mut keys = [[0; 8]; 1024];
+/// Keys from all over the page, side by side.
+fn keys_of(alloc: Global, nodes: u32) -> Option<Vec<u8>> {
+    let mut keys = Vec::new(alloc);
     let mut number: u64 = 0;
-    for key in &mut keys {
-        *key = key_of(number % u64::from(nodes.max(1)));
+    for _ in 0..PLACES {
+        keys.extend_from_slice(&key_of(number % u64::from(nodes.max(1))))
+            .ok()?;
         number = number.saturating_add(STRIDE);
     }
-    keys
+    Some(keys)
+}
+
+/// How many bytes each of the keys has.
+fn key_len(keys: &[u8]) -> usize
+    ensures { 1 ≤ result }
+{
+    (keys.len() / PLACES).max(1)
 }
 
 /// Looks up each of the keys.
-fn look_up(rt: &HostRuntime, cache: &Cache, keys: &Known) -> Option<Figure> {
+fn look_up(rt: &HostRuntime, cache: &Cache, keys: &[u8]) -> Option<Figure> {
     let mut latest = Timestamp::ZERO;
     let start = Instant::now(rt).ok()?;
-    for key in keys {
+    for key in keys.chunks_exact(key_len(keys)) {
         latest = latest.max(cache.get_max_in(&SpanRef::point(key)).time());
     }
-    let figure = Figure::since(rt, start, keys.len() as u64)?;
+    let figure = Figure::since(rt, start, PLACES as u64)?;
     // what was looked up is used, so that no compiler leaves the lookups out
     (Timestamp::ZERO < latest).then_some(figure)
 }
 
 /// Adds each of the keys at a wall time.
-fn add(rt: &HostRuntime, cache: &mut Cache, keys: &Known, wall: u64) -> Option<Figure> {
+fn add(rt: &HostRuntime, cache: &mut Cache, keys: &[u8], wall: u64, owner: Uuid) -> Option<Figure> {
+    let now = Timestamp::new(wall, 0)?;
     let start = Instant::now(rt).ok()?;
-    for key in keys {
-        if !add_key(rt.alloc(), cache, key, wall) {
+    for key in keys.chunks_exact(key_len(keys)) {
+        if !add_key(rt.alloc(), cache, key, wall, owner, now) {
             return None;
         }
     }
-    Figure::since(rt, start, keys.len() as u64)
+    Figure::since(rt, start, PLACES as u64)
 }
 
 /// Adds a key, of which a span is made by a copy, at a wall time. Tells whether that was done.
-fn add_key(alloc: Global, cache: &mut Cache, key: &[u8; 8], wall: u64) -> bool {
+fn add_key(
+    alloc: Global,
+    cache: &mut Cache,
+    key: &[u8],
+    wall: u64,
+    owner: Uuid,
+    now: Timestamp,
+) -> bool {
     let time = Timestamp::new(wall, 0).unwrap_or(Timestamp::MAX);
-    let value = Value::of(time, Uuid::from_bytes(OWNER));
     match Key::new(alloc, key) {
-        Ok(key) => cache.make_add(&Span::point(key), value, Timestamp::ZERO),
+        Ok(key) => cache.make_add(&Span::point(key), Value::of(time, owner), now),
         Err(_) => false,
     }
 }
