@@ -100,7 +100,7 @@ pub extern "C" fn tsc_add_all(
 {
     match held::add_all(alloc, place, number, keys, marks, now) {
         Ok(added) => {
-            *out = held::words_of(added);
+            *out = asked::words_of_added(added);
             OK
         }
         Err(why) => why.code(),

@@ -10,7 +10,7 @@ ghost use Rattle.tsc_c_table.specs.declared.refusal.Refusal.{Refusal as Why};
 ghost use Rattle.tsc_c_calls.specs.Timed.{RefusesOpenShared, RefusesTimedSeatAdd, RefusesTimedSeatAddAll};
 
 use std::alloc::Global;
-use tsc_c_calls::{Place, halls, held};
+use tsc_c_calls::{Place, halls};
 use tsc_c_table::{OK, TscAdded, TscFigures, TscMark, TscTime, TscValue, asked};
 
 /// Opens a cache that threads share, and writes its number. Its seats have the numbers behind that, in their order.
@@ -71,7 +71,7 @@ pub extern "C" fn tsc_seat_add(
     match halls::seat_add(alloc, place, number, from, to, ends, value, now, tries) {
         Ok(did) => {
             *place_in_history = did.place;
-            *out = held::words_of(did.added);
+            *out = asked::words_of_added(did.added);
             OK
         }
         Err(why) => why.code(),
@@ -104,7 +104,7 @@ pub extern "C" fn tsc_seat_add_all(
     match halls::seat_add_all(alloc, place, number, keys, marks, now, tries) {
         Ok(did) => {
             *place_in_history = did.place;
-            *out = held::words_of(did.added);
+            *out = asked::words_of_added(did.added);
             OK
         }
         Err(why) => why.code(),

@@ -11,7 +11,7 @@ ghost use Rattle.tsc_c_calls.specs.Timed.{RefusesConfig, RefusesOpen, RefusesSet
 
 use crate::place::Place;
 use std::alloc::Global;
-use tsc_c_table::asked::{time, words_of_added};
+use tsc_c_table::asked::time;
 use tsc_c_table::{Refusal, Table, TscAdded, TscFigures, TscMark, TscTime, TscValue};
 use tsc_cache::{Added, Config, ConfigFault};
 use tsc_time::Timestamp;
@@ -153,13 +153,6 @@ fn add_marks(
         Some(table) => table.add_all(alloc, number, keys, marks, now),
         None => Err(Refusal::Closed),
     }
-}
-
-/// The words of what an Add did.
-pub fn words_of(added: Added) -> TscAdded
-    ensures { added ≡ added_of result }
-{
-    words_of_added(added)
 }
 
 /// Writes the latest time on a span in the cache at a number.
