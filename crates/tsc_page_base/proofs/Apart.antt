@@ -9,7 +9,6 @@ use Rattle.tsc_span.specs.Span.{KeyBytes, key_cmp}
 use Rattle.tsc_page_base.specs.declared.nodes.Values.{Values}
 use Rattle.tsc_page_base.specs.Nodes.{Node, paired, node_keys, IsSorted, IsFoundAt}
 use Rattle.tsc_page_base.proofs.Places.{some_node}
-use Rattle.tsc_page_base.proofs.Searches.{searched}
 use Rattle.tsc_page_base.proofs.RaisedNodes.{ChangesPlaces, key_raised, gap_raised, one_changed}
 
 -- a node of a key with its values
@@ -89,17 +88,6 @@ pub paired-keys : (ks : List KeyBytes) (vs : List Values) → length ks ≡ leng
 paired-keys [] vs same = refl
 paired-keys (k ∷ ks) [] same = absurd (omega (arith, same))
 paired-keys (k ∷ ks) (v ∷ vs) same = ap (λ (ms : List KeyBytes). k ∷ ms) (paired-keys ks vs (omega (arith, same)))
-
--- what a binary search among the keys finds
-pub searched_keys : (ks : List KeyBytes) (vs : List Values) (ns : List Node) → length ks ≡ length vs → paired ks vs ≡ ns → IsSorted ns → (q : KeyBytes) (r : Result ℕ ℕ) → IsSearchInRange r (length ks) → IsBinarySearchResult (λ (k : KeyBytes). key_cmp k q) ks r → IsFoundAt ns q r
-searched_keys ks vs ns same is sorted q (Ok i) bound at = searched ns sorted q (Ok i) (omega (arith, bound, long_as ks vs ns same is)) (λ d. ap (λ (k : KeyBytes). key_cmp k q) (key_at ks vs ns same is i d d.key bound) ∙ at d.key)
-searched_keys ks vs ns same is sorted q (Err i) bound at =
-    let long : length ns ≡ length ks = long_as ks vs ns same is in
-    searched ns sorted q (Err i) (omega (arith, bound, long)) (λ rise.
-    let parted = at (λ j m k h g. subst (λ (x : KeyBytes). ordering_index (key_cmp x q) ≤ ordering_index (key_cmp (get_or ks m k) q)) (key_at ks vs ns same is j some_node k (omega (arith, h, g))) (subst (λ (x : KeyBytes). ordering_index (key_cmp (get_or ns j some_node).key q) ≤ ordering_index (key_cmp x q)) (key_at ks vs ns same is m some_node k g) (rise j m some_node h (omega (arith, g, long))))) in (
-      λ j d h g. ap (λ (k : KeyBytes). key_cmp k q) (key_at ks vs ns same is j d d.key (omega (arith, bound, g))) ∙ parted.0 j d.key h g,
-      λ j d h g. ap (λ (k : KeyBytes). key_cmp k q) (key_at ks vs ns same is j d d.key (omega (arith, long, g))) ∙ parted.1 j d.key h (omega (arith, long, g)),
-    ))
 
 -- clones of keys are the keys
 pub cloned_keys : (ks ms : List KeyBytes) → AllZip (λ (k m : KeyBytes). m ≡ k) ks ms → ms ≡ ks

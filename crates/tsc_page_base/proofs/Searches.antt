@@ -1,9 +1,9 @@
--- What a binary search for a key finds: its node, or the place for it.
+-- What a search for a key finds: its node, or the place for it.
 use Rattle.std.proofs.Common.{◌≡◌, inl, inr, ◌∙◌, refl, sym, ap, subst, true, ℕ, zero, suc, ◌+◌, ◌<◌, ◌≤◌, List, [], ◌∷◌, length, get_or, Result, Ok, Err, arith}
 use mathlib.Core.Bool.{true≢false}
 use Rattle.std.specs.declared.cmp.Ordering.{Ordering}
 use Rattle.std.specs.declared.cmp.Ordering.TheVariants.{Less, Equal, Greater}
-use Rattle.std.specs.Ordering.{is_lt, is_eq, ordering_index, ordering_reverse, ordering_then}
+use Rattle.std.specs.Ordering.{is_lt, is_le, is_eq, ordering_index, ordering_reverse, ordering_then}
 use Rattle.std.specs.Prelude.{Some, None, is_err, not}
 use Rattle.std.specs.Str.{bytes_eq}
 use Rattle.std.specs.List.Sorted.{IsSearchInRange, IsBinarySearchResult, IsNonDecreasingBy}
@@ -33,36 +33,6 @@ less_from_Lt k m h = by (key_cmp k m) h
 pub turned : (k m : KeyBytes) → key_cmp k m ≡ Greater → key_cmp m k ≡ Less
 turned k m h = nat_list_cmp_total.antisymm m k ∙ ap ordering_reverse h
 
--- of two keys in order the greater one compares no less with a third
-no_less : (k m q : KeyBytes) → key_cmp k m ≡ Less → ordering_index (key_cmp k q) ≤ ordering_index (key_cmp m q)
-no_less k m q h = by (key_cmp k q) (key_cmp m q) refl refl
-  where
-    by : (o p : Ordering) → key_cmp k q ≡ o → key_cmp m q ≡ p → ordering_index o ≤ ordering_index p
-    by Less Less e f = omega arith
-    by Less Equal e f = omega arith
-    by Less Greater e f = omega arith
-    by Equal Less e f = absurd (clash (sym e ∙ nat_list_cmp_total.trans k m q h f))
-      where
-        clash : Equal ≡ Less → ⊥
-        clash c = cc
-    by Equal Equal e f = omega arith
-    by Equal Greater e f = omega arith
-    by Greater Less e f = absurd (clash (sym e ∙ nat_list_cmp_total.trans k m q h f))
-      where
-        clash : Greater ≡ Less → ⊥
-        clash c = cc
-    by Greater Equal e f = absurd (clash (sym e ∙ sym (alike_right nat_list_cmp_total m q k f) ∙ h))
-      where
-        clash : Greater ≡ Less → ⊥
-        clash c = cc
-    by Greater Greater e f = omega arith
-
-comparisons_rise : (ns : List Node) → IsSorted ns → (k : KeyBytes) → IsNonDecreasingBy (λ (n : Node). ordering_index (key_cmp n.key k)) ns
-comparisons_rise ns sorted k i j d h g = elim (before_or_past i j) [
-  | inl l ↦ no_less (get_or ns i d).key (get_or ns j d).key k (less_from_Lt (get_or ns i d).key (get_or ns j d).key (sorted_at ns sorted i j d l g))
-  | inr l ↦ let e : i ≡ j = omega arith in rw e (omega arith)
-]
-
 -- a key that stands at some place is in the list
 is_in_at : (ns : List Node) (i : ℕ) (d : Node) (k : KeyBytes) → i < length ns → k ≡ (get_or ns i d).key → is_in k (node_keys ns) ≡ true
 is_in_at [] i d k h e = absurd (omega arith)
@@ -75,19 +45,6 @@ fits_from [] zero low k h up smaller greater = (up, below_last k)
 fits_from (n ∷ ns) zero low k h up smaller greater = (up, greater zero some_node (omega arith) (omega arith))
 fits_from [] (suc i) low k h up smaller greater = absurd (omega arith)
 fits_from (n ∷ ns) (suc i) low k h up smaller greater = fits_from ns i (after n.key) k (omega arith) (Le-from_Lt (after n.key) (before k) (smaller zero some_node (omega arith))) (λ j d g. smaller (suc j) d (omega arith)) (λ j d g l. greater (suc j) d (omega arith) (omega arith))
-
--- what a search finds
-pub searched : (ns : List Node) → IsSorted ns → (k : KeyBytes) (r : Result ℕ ℕ) → IsSearchInRange r (length ns) → IsBinarySearchResult (λ (n : Node). key_cmp n.key k) ns r → IsFoundAt ns k r
-searched ns sorted k (Ok i) bound at = record {
-  bound = bound;
-  key = λ d. (bytes_eq-Decides (get_or ns i d).key k).0 (sym (is_eq-slice_cmp (get_or ns i d).key k) ∙ ap is_eq (at d));
-}
-searched ns sorted k (Err i) bound at =
-    let parted = at (comparisons_rise ns sorted k) in
-    record {
-      low = record { bound = bound; below = λ j d h. after-before (get_or ns j d).key k (parted.0 j d (omega arith) h) };
-      high = λ j d h g. after-before k (get_or ns j d).key (turned (get_or ns j d).key k (parted.1 j d h g));
-    }
 
 -- a key that stands somewhere has a node
 pub known_at : (ns : List Node) (k : KeyBytes) (i : ℕ) → StandsAt ns k i → is_in k (node_keys ns) ≡ true
@@ -120,6 +77,19 @@ smaller_here ns sorted k i e inside less = all_smaller ns sorted k i e inside (a
 -- and a greater one above, with all behind it
 pub greater_here : (ns : List Node) → IsSorted ns → (k : KeyBytes) (i : ℕ) (e : Node) → HasKeysBelow ns k i → i < length ns → key_cmp (get_or ns i e).key k ≡ Greater → FallsAt ns k i
 greater_here ns sorted k i e low inside greater = falls_before ns sorted k i e low inside (after-before k (get_or ns i e).key (turned (get_or ns i e).key k greater))
+
+-- below one that isn't greater are all before it
+pub not_greater_here : (ns : List Node) → IsSorted ns → (k : KeyBytes) (i : ℕ) (e : Node) → i < length ns → is_le (key_cmp (get_or ns i e).key k) ≡ true → HasKeysBelow ns k i
+not_greater_here ns sorted k i e inside tells = by (key_cmp (get_or ns i e).key k) refl tells
+  where
+    by : (o : Ordering) → key_cmp (get_or ns i e).key k ≡ o → is_le o ≡ true → HasKeysBelow ns k i
+    by Less is t =
+        let more = smaller_here ns sorted k i e inside is in
+        record { bound = omega (arith, inside); below = λ j d h. more.below j d (omega (arith, h)) }
+    by Equal is t =
+        let at = stands_here ns k i e inside is in
+        record { bound = omega (arith, inside); below = λ j d h. subst (λ (m : KeyBytes). Lt (after (get_or ns j d).key) (before m)) (at.key d) (sorted_at ns sorted j i d h inside) }
+    by Greater is t = absurd (true≢false (sym t))
 
 -- one key in two options
 same : (j k : KeyBytes) → Some k ≡ Some j → k ≡ j

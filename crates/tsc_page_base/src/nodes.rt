@@ -23,6 +23,9 @@ use tsc_time::{NoMemory, Timestamp, Value};
 /// How many nodes of a leaf that is cut stay in it.
 const LOWER_HALF: usize = 32;
 
+/// How far the keys stand from one another that a search looks at first.
+const STRIDE: usize = 8;
+
 /// How much nodes grow: how many come in, and what their keys cost together.
 #[derive(Clone, Copy, Debug)]
 pub struct Grown {
@@ -337,12 +340,29 @@ impl<'a> Model for Lists<'a> {
 }
 
 impl<'a> Lists<'a> {
-    /// Where a key stands, or else the place for it.
+    /// Where a key stands, or else the place for it. It looks at every eighth key, and then at one after another from the last of
+    /// these that isn't above on. Where each look is, none of the others tells, so the processor reads ahead; each of a binary
+    /// search has to wait for the one before.
     fn find(&self, key: &NumberedBytes<'_>) -> Result<usize, usize>
         requires sorted { IsSorted self.now }
         ensures { IsFoundAt self.now key.now result }
     {
-        self.keys.binary_search_by(|other| key.compare(other))
+        self.find_from(self.stride_before(key), key)
+    }
+
+    /// The last of every eighth place, from the first on, before which all keys are below a key.
+    fn stride_before(&self, key: &NumberedBytes<'_>) -> usize
+        requires sorted { IsSorted self.now }
+        ensures { HasKeysBelow self.now key.now result }
+    {
+        let mut low = 0;
+        for stride in 1..self.keys.len().div_ceil(STRIDE) {
+            let place = stride * STRIDE;
+            if key.compare(&self.keys[place]).is_le() {
+                low = place;
+            }
+        }
+        low
     }
 
     /// The same as `find`, by a look at one key after another from a place on, before which all are below.

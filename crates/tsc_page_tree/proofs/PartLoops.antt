@@ -4,7 +4,7 @@ use Rattle.std.proofs.lemmas.List.{get_or_default, get_or-set_same, get_or-set_o
 use Rattle.tsc_time.specs.OwnedTime.{OwnedTime}
 use Rattle.tsc_span.specs.Span.{Cut, is_below}
 use Rattle.tsc_page_base.specs.Nodes.{Node, IsSorted, raise_nodes}
-use Rattle.tsc_page_tree.specs.Leaves.{nodes_of, start_of, IsLeafAt}
+use Rattle.tsc_page_tree.specs.Leaves.{nodes_of, start_of, IsLeafAt, IsNotAbove}
 use Rattle.tsc_page_tree.specs.Pending.{everything}
 use Rattle.tsc_page_base.proofs.Places.{before_or_past}
 use Rattle.tsc_page_tree.proofs.LeafLists.{leaf_sorted, part_read}
@@ -51,51 +51,27 @@ same_by s [] i d y inside same = absurd (omega (arith, inside))
 same_by s (x ∷ xs) zero d y inside same = ap (λ z. z ∷ map s xs) same
 same_by s (x ∷ xs) (suc i) d y inside same = ap (λ zs. s x ∷ zs) (same_by s xs i d y (omega (arith, inside)) same)
 
--- The part in which a cut falls stands between two places.
-pub record IsLeafWithin (ls : List (List Node)) (c : Cut) (low high : ℕ) : Type 0 where
-  pub order : low ≤ high
-  pub bound : high ≤ length ls - 1
-  pub above : 1 ≤ low → is_below c (start_of (get_or ls low [])) ≡ false
-  pub below : suc high < length ls → is_below c (start_of (get_or ls (suc high) [])) ≡ true
+-- the first place isn't above a cut
+pub none_above : (ls : List (List Node)) (c : Cut) → IsNotAbove ls c 0
+none_above ls c = record { bound = omega arith; low = λ h. absurd (omega (arith, h)) }
 
-pub within_all : (ls : List (List Node)) (c : Cut) (high : ℕ) → high ≡ length ls - 1 → IsLeafWithin ls c 0 high
-within_all ls c high is = record {
-  order = omega arith;
-  bound = omega (arith, is);
-  above = λ h. absurd (omega (arith, h));
-  below = λ h. absurd (omega (arith, h, is));
+-- nor that of a part that doesn't begin above it
+pub not_above : {X : Type 0} (f : X → List Node) (xs : List X) (c : Cut) (p : ℕ) (d : X) → p < length xs → is_below c (start_of (f (get_or xs p d))) ≡ false → IsNotAbove (map f xs) c p
+not_above f xs c p d inside tells = record {
+  bound = omega (arith, inside, length-map xs f);
+  low = λ h. subst (λ (l : List Node). is_below c (start_of l) ≡ false) (part_read f xs p d inside) tells;
 }
 
--- a part begins above the cut
-pub within_lower : {X : Type 0} (f : X → List Node) (xs : List X) (c : Cut) (low high middle : ℕ) (d : X) → low ≤ middle → middle < high → is_below c (start_of (f (get_or xs (middle + 1) d))) ≡ true
-    → IsLeafWithin (map f xs) c low high → IsLeafWithin (map f xs) c low middle
-within_lower f xs c low high middle d up inside tells so_far =
-    let next : middle + 1 ≡ suc middle = omega arith in
-    let here : suc middle < length xs = omega (arith, inside, so_far.bound, length-map xs f) in
+-- where the next part begins above the cut, it falls in the one before
+pub falls_before_next : {X : Type 0} (f : X → List Node) (xs : List X) (c : Cut) (p : ℕ) (d : X) → 1 ≤ p → p < length xs → is_below c (start_of (f (get_or xs p d))) ≡ true → IsNotAbove (map f xs) c (p - 1) → IsLeafAt (map f xs) c (p - 1)
+falls_before_next f xs c p d some inside tells so_far =
+    let next : p ≡ suc (p - 1) = omega (arith, some) in
     record {
-      order = up;
-      bound = omega (arith, inside, so_far.bound);
-      above = so_far.above;
-      below = λ h. subst (λ (l : List Node). is_below c (start_of l) ≡ true) (part_read f xs (suc middle) d here) (subst (λ (j : ℕ). is_below c (start_of (f (get_or xs j d))) ≡ true) next tells);
-    }
-
--- and another doesn't
-pub within_upper : {X : Type 0} (f : X → List Node) (xs : List X) (c : Cut) (low high middle : ℕ) (d : X) → middle < high → is_below c (start_of (f (get_or xs (middle + 1) d))) ≡ false
-    → IsLeafWithin (map f xs) c low high → IsLeafWithin (map f xs) c (middle + 1) high
-within_upper f xs c low high middle d inside tells so_far =
-    let here : middle + 1 < length xs = omega (arith, inside, so_far.bound, length-map xs f) in
-    record {
-      order = omega (arith, inside);
       bound = so_far.bound;
-      above = λ h. subst (λ (l : List Node). is_below c (start_of l) ≡ false) (part_read f xs (middle + 1) d here) tells;
-      below = so_far.below;
+      low = so_far.low;
+      high = λ h. subst (λ (j : ℕ). is_below c (start_of (get_or (map f xs) j [])) ≡ true) next (subst (λ (l : List Node). is_below c (start_of l) ≡ true) (part_read f xs p d inside) tells);
     }
 
-pub within_one : (ls : List (List Node)) (c : Cut) (low high : ℕ) → high ≤ low → IsLeafWithin ls c low high → IsLeafAt ls c low
-within_one ls c low high met so_far =
-    let same : high ≡ low = omega (arith, met, so_far.order) in
-    record {
-      bound = omega (arith, same, so_far.bound);
-      low = so_far.above;
-      high = λ h. subst (λ (j : ℕ). is_below c (start_of (get_or ls (suc j) [])) ≡ true) same (so_far.below (omega (arith, h, same)));
-    }
+-- and where there is none, in the last one
+pub falls_in_last : (ls : List (List Node)) (c : Cut) (p : ℕ) → p ≡ length ls - 1 → IsNotAbove ls c p → IsLeafAt ls c p
+falls_in_last ls c p is so_far = record { bound = so_far.bound; low = so_far.low; high = λ h. absurd (omega (arith, h, is)) }

@@ -50,6 +50,11 @@ pub record IsLeafAt (ls : List (List Node)) (c : Cut) (p : ℕ) : Type 0 where
   pub low : 1 ≤ p → is_below c (start_of (slice_index_or ls p [])) ≡ false
   pub high : suc p < length ls → is_below c (start_of (slice_index_or ls (suc p) [])) ≡ true
 
+-- A place at which no leaf begins above a cut: the first one, whatever is there, or that of a leaf that doesn't.
+pub record IsNotAbove (ls : List (List Node)) (c : Cut) (p : ℕ) : Type 0 where
+  pub bound : p ≤ length ls - 1
+  pub low : 1 ≤ p → is_below c (start_of (slice_index_or ls p [])) ≡ false
+
 -- What an Add of a span makes of nodes: those of its end keys come in, and the value is raised in it.
 pub record AddsTo (old new : List Node) (span : Interval) (value : OwnedTime) : Type 0 where
   pub mid : List Node

@@ -7,7 +7,7 @@ ghost use Rattle.tsc_page_base.specs.Numbers.{IsCutNumber};
 ghost use Rattle.tsc_page_base.specs.PageView.{is_in};
 ghost use Rattle.tsc_page_base.specs.KeysAbove.{first_above};
 ghost use Rattle.tsc_page_base.specs.Nodes.{Node, IsSorted, node_keys, answer_of, raise_nodes};
-ghost use Rattle.tsc_page_tree.specs.Leaves.{AreParts, HasNode, IsLeafAt, nodes_of, start_of};
+ghost use Rattle.tsc_page_tree.specs.Leaves.{AreParts, HasNode, IsLeafAt, IsNotAbove, nodes_of, start_of};
 ghost use Rattle.tsc_page_tree.specs.Pending.{everything, all_joint, sizes_of, AreSizesOf, TellsSize, IsAddTold};
 ghost use Rattle.tsc_page_tree.specs.Copies.{IsSameAs};
 ghost use Rattle.tsc_page_tree.specs.Across.{IsAcrossTold};
@@ -18,6 +18,9 @@ use std::alloc::Global;
 use tsc_page_base::{Grown, KeyNumber, NumberedCut};
 use tsc_span::{Cut, Key};
 use tsc_time::{NoMemory, Timestamp, Value, ratchet};
+
+/// How far the parts stand from one another that a search looks at first.
+const STRIDE: usize = 8;
 
 /// Nodes that stand in a list with others of their kind, one after another.
 pub trait Part: Clone + Drop {
@@ -128,19 +131,31 @@ pub trait Part: Clone + Drop {
     ghost copied: { (p q : Self) → Self.is_clone p q → IsSameAs nodes sizes IsWhole p q };
 }
 
-/// The place of the part in which a cut falls.
+/// The place of the part in which a cut falls. It looks at every eighth part, and then at one after another from the last of these
+/// that doesn't begin above the cut on. Where each look is, none of the others tells, so the processor reads ahead; each of a binary
+/// search has to wait for the one before.
 pub(crate) fn part_at<P: Part>(parts: &[P], cut: &NumberedCut<'_>) -> usize
     requires whole { All P.IsWhole parts.now }
     ensures { IsLeafAt (map P.nodes parts.now) cut.now result }
 {
+    for next in stride_at(parts, cut) + 1..parts.len() {
+        if parts[next].starts_above(cut) {
+            return next - 1;
+        }
+    }
+    parts.len().saturating_sub(1)
+}
+
+/// The last of every eighth place, from the first on, at which a part doesn't begin above a cut.
+fn stride_at<P: Part>(parts: &[P], cut: &NumberedCut<'_>) -> usize
+    requires whole { All P.IsWhole parts.now }
+    ensures { IsNotAbove (map P.nodes parts.now) cut.now result }
+{
     let mut low = 0;
-    let mut high = parts.len().saturating_sub(1);
-    while low < high {
-        let middle = low + (high - low) / 2;
-        if parts[middle + 1].starts_above(cut) {
-            high = middle;
-        } else {
-            low = middle + 1;
+    for stride in 1..parts.len().div_ceil(STRIDE) {
+        let place = stride * STRIDE;
+        if !parts[place].starts_above(cut) {
+            low = place;
         }
     }
     low
