@@ -1,17 +1,20 @@
 -- What is told of a part's nodes, once a value was held back above them, pushed down or added below.
-use Rattle.std.proofs.Common.{◌∙◌, sym, ap, subst, cond, ℕ, ◌≤◌, List, [], ◌∷◌, length, arith}
-use Rattle.std.specs.Prelude.{Option, Some, None, Result, Ok, Err}
+use Rattle.std.proofs.Common.{◌≡◌, ◌∙◌, refl, sym, ap, subst, cond, true, false, ℕ, ◌≤◌, List, [], ◌∷◌, ◌++◌, length, arith}
+use mathlib.Core.Bool.{true≢false}
+use Rattle.std.specs.Prelude.{Option, Some, None, is_some, Result, Ok, Err, Vec}
 use Rattle.tsc_time.specs.OwnedTime.{OwnedTime}
 use Rattle.tsc_time.specs.Joint.{joint}
-use Rattle.tsc_span.specs.Span.{is_below}
+use Rattle.tsc_span.specs.Span.{KeyBytes, is_below}
 use Rattle.tsc_page_base.specs.Numbers.{IsCutNumber}
 use Rattle.tsc_page_base.specs.declared.nodes.Grown.{Grown}
 use Rattle.tsc_page_base.specs.Nodes.{Node, IsSorted, IsInOrder}
-use Rattle.tsc_page_tree.specs.Leaves.{start_of}
+use Rattle.tsc_page_tree.specs.Leaves.{start_of, HasNode}
 use Rattle.tsc_page_tree.specs.Pending.{with_pending, merged, all_joint, IsToldOf, Addend, IsAddTold, joint_after}
+use Rattle.tsc_page_tree.specs.Trees.{nodes_in, items_in}
 use Rattle.tsc_page_base.proofs.CutOrder.{Lt}
 use Rattle.tsc_page_tree.proofs.Pending.{raise_merged, pending-start, pending-length}
-use Rattle.tsc_page_tree.proofs.AllJoint.{all_joint_whole, all_joint_added}
+use Rattle.tsc_page_tree.proofs.AllJoint.{all_joint_whole, all_joint_made, all_joint_added}
+use Rattle.tsc_page_tree.proofs.LeafMakes.{append_nil}
 
 -- where they begin
 pub told_start : (n : ℕ) (all : OwnedTime) (p : Option OwnedTime) (ns : List Node) → IsToldOf n all p ns → IsCutNumber n (start_of (with_pending p ns))
@@ -51,3 +54,19 @@ told_added (Err e) n m all old new was now a room sorted order up start left tol
   start = start;
   joint = told.joint ∙ ap (λ (ns : List Node). all_joint ns) (sym left.0);
 }
+
+-- A new node has the value of the gap in which it falls, so the joint value stays where nothing was cut off.
+pub told_made : (n : ℕ) (all : OwnedTime) (p : Option OwnedTime) (ns old new rest : List Node) (k : KeyBytes) → IsSorted (with_pending p ns) → IsToldOf n all p ns → old ≡ with_pending p ns → HasNode old (new ++ rest) k → rest ≡ [] → all ≡ all_joint new
+told_made n all p ns old new rest k sorted told is made none =
+    let kept : HasNode old (new ++ []) k = subst (λ (more : List Node). HasNode old (new ++ more) k) none made in
+    let has : HasNode (with_pending p ns) (new ++ []) k = subst (λ (x : List Node). HasNode x (new ++ []) k) is kept in
+    told.joint ∙ sym (all_joint_made (with_pending p ns) (new ++ []) k sorted has) ∙ ap all_joint (append_nil new)
+
+-- nothing was cut off
+pub no_nodes : (o : Option (List Node)) → is_some o ≡ false → nodes_in o ≡ []
+no_nodes None h = refl
+no_nodes (Some ns) h = absurd (true≢false h)
+
+pub no_items : {X Z : Type 0} (o : Option (Vec X Z)) → is_some o ≡ false → items_in o ≡ []
+no_items None h = refl
+no_items (Some xs) h = absurd (true≢false h)

@@ -1,8 +1,8 @@
-ghost use Rattle.std.specs.Prelude.{◌≡◌, ◌≤◌, ◌++◌, length, map, take, drop, None, IfOk, OnOk, IfSome};
+ghost use Rattle.std.specs.Prelude.{◌≡◌, ◌≤◌, ◌++◌, length, map, take, drop, false, None, IfOk, OnOk, IfSome};
 ghost use Rattle.std.specs.List.{All};
 ghost use Rattle.tsc_page_base.specs.Nodes.{IsSorted};
 ghost use Rattle.tsc_page_tree.specs.Leaves.{AreParts, HasNode, nodes_of};
-ghost use Rattle.tsc_page_tree.specs.Pending.{with_pending};
+ghost use Rattle.tsc_page_tree.specs.Pending.{with_pending, all_joint};
 ghost use Rattle.tsc_page_tree.specs.Trees.{fork_nodes, fork_sizes, fork_copied, AreFewParts, IsWholeFork, IsForkCopy, IsTold, items_in, level_nodes, IsWholeLevel};
 
 use crate::addition::Addition;
@@ -152,7 +152,7 @@ impl<P: Part> Part for Fork<P> {
         let parts = Arc::make_mut(&mut self.parts)?;
         push_down(parts, &self.summary);
         let upper = grow(parts, alloc, key)?;
-        self.summary = summary_of(parts);
+        self.summary = summary_with(parts, &self.summary, upper.is_some());
         match upper {
             Some(upper) => Ok(Some(Fork::new(alloc, upper)?)),
             None => Ok(None),
@@ -200,6 +200,25 @@ fn summary_of<P: Part>(parts: &[P]) -> Summary
     Summary {
         start: parts::start_number(parts),
         joint: parts::joint(parts),
+        pending: None,
+    }
+}
+
+/// What is known of all nodes of parts over which nothing is pending, by what was known before one of them was made. A new node has the
+/// value of the gap in which it falls, so the joint value stays, unless parts were cut off.
+fn summary_with<P: Part>(parts: &[P], before: &Summary, cut: bool) -> Summary
+    requires few { AreFewParts P.IsWhole parts.now }
+    requires sorted { IsSorted (nodes_of (map P.nodes parts.now)) }
+    requires kept { cut ≡ false → before.now.joint ≡ all_joint (nodes_of (map P.nodes parts.now)) }
+    ensures told { IsTold result (nodes_of (map P.nodes parts.now)) }
+    ensures pending { result.pending ≡ None }
+{
+    if cut {
+        return summary_of(parts);
+    }
+    Summary {
+        start: parts::start_number(parts),
+        joint: before.joint,
         pending: None,
     }
 }

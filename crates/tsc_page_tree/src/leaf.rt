@@ -1,7 +1,7 @@
-ghost use Rattle.std.specs.Prelude.{◌≡◌, ◌≤◌, ◌++◌, length, true, option_map, None, IfOk, OnOk, IfSome};
+ghost use Rattle.std.specs.Prelude.{◌≡◌, ◌≤◌, ◌++◌, length, true, false, option_map, None, IfOk, OnOk, IfSome};
 ghost use Rattle.tsc_page_base.specs.Nodes.{IsSorted};
 ghost use Rattle.tsc_page_tree.specs.Leaves.{IsLeaf, HasNode};
-ghost use Rattle.tsc_page_tree.specs.Pending.{with_pending};
+ghost use Rattle.tsc_page_tree.specs.Pending.{with_pending, all_joint};
 ghost use Rattle.tsc_page_tree.specs.Across.{HasKey};
 ghost use Rattle.tsc_page_tree.specs.Trees.{nodes_in, leaf_nodes, leaf_sizes, leaf_copied, IsWholeLeaf, IsLeafCopy, IsTold};
 
@@ -116,7 +116,7 @@ impl Part for Leaf {
         let nodes = Arc::make_mut(&mut self.nodes)?;
         push_down(nodes, &self.summary);
         let upper = grow(nodes, key)?;
-        self.summary = summary_of(nodes);
+        self.summary = summary_with(nodes, &self.summary, upper.is_some());
         match upper {
             Some(upper) => Ok(Some(Leaf::new(alloc, upper)?)),
             None => Ok(None),
@@ -187,6 +187,25 @@ fn summary_of(nodes: &Nodes) -> Summary
     Summary {
         start: nodes.start_number(),
         joint: nodes.joint_between(&least, &last),
+        pending: None,
+    }
+}
+
+/// What is known of nodes over which nothing is pending, by what was known before one of them was made. A new node has the value of
+/// the gap in which it falls, so the joint value stays, unless nodes were cut off.
+fn summary_with(nodes: &Nodes, before: &Summary, cut: bool) -> Summary
+    requires some { 1 ≤ length nodes.now }
+    requires sorted { IsSorted nodes.now }
+    requires kept { cut ≡ false → before.now.joint ≡ all_joint nodes.now }
+    ensures told { IsTold result nodes.now }
+    ensures pending { result.pending ≡ None }
+{
+    if cut {
+        return summary_of(nodes);
+    }
+    Summary {
+        start: nodes.start_number(),
+        joint: before.joint,
         pending: None,
     }
 }

@@ -1,4 +1,4 @@
--- What is pending goes down before the node is made, and all that is known is made anew.
+-- What is pending goes down before the node is made, and the joint value stays unless the fork was cut.
 use Rattle.std.proofs.Common.{◌≡◌, ◌∙◌, ◌++◌, inl, inr, sym, ap, subst, map, [], List, length, arith, rules}
 use Rattle.std.specs.Prelude.{Option}
 use Rattle.std.specs.Arc.{arc_value}
@@ -7,11 +7,12 @@ use Rattle.std.proofs.lemmas.List.{with_items_is}
 use Rattle.tsc_time.specs.OwnedTime.{OwnedTime}
 use Rattle.tsc_page_base.specs.Nodes.{Node, IsSorted}
 use Rattle.tsc_page_tree.specs.Leaves.{nodes_of, AreParts, HasNode}
-use Rattle.tsc_page_tree.specs.Pending.{with_pending}
+use Rattle.tsc_page_tree.specs.Pending.{with_pending, all_joint}
 use Rattle.tsc_page_tree.specs.Trees.{fork_nodes, IsTold, IsForkOf, items_in}
 use Rattle.tsc_page_tree.proofs.Joins.{sorted_left, sorted_right}
 use Rattle.tsc_page_tree.proofs.LeafMakes.{append_nil}
 use Rattle.tsc_page_tree.proofs.PartLists.{AreSameAs, same_list, copies_same, copies_sorted, made_sorted}
+use Rattle.tsc_page_tree.proofs.Told.{told_made, no_items}
 use Rattle.tsc_page_tree.proofs.Wholes.{fork_whole, fork_parts}
 use Rattle.tsc_page_tree.proofs.fork.ForkPart.make_node.Given.{Over}
 use Rattle.tsc_page_tree.proofs.fork.ForkPart.make_node.Goals.{After-push_down}
@@ -47,14 +48,24 @@ pub grow-requires-clause-sorted : goal.grow-requires-clause-sorted
 grow-requires-clause-sorted g c =
     subst IsSorted (sym (all_pushed g (goal.at.grow-requires-clause-sorted g c).After-push_down)) c.requires.sorted
 
-pub summary_of-self-requires-clause-sorted : goal.summary_of-self-requires-clause-sorted
-summary_of-self-requires-clause-sorted g c =
+pub summary_with-self-requires-clause-sorted : goal.summary_with-self-requires-clause-sorted
+summary_with-self-requires-clause-sorted g c =
     let f = g.P.Part.nodes in
     let xs = (arc_value c.args.self.now.parts).items in
     let p = c.args.self.now.summary.pending in
     let gs = c.grow.new.parts.items in
-    let made = subst (λ (ns : List Node). HasNode ns (nodes_of (map f gs) ++ nodes_of (map f (items_in c.in_ok-upper.upper))) c.args.key.now) (all_pushed g (goal.at.summary_of-self-requires-clause-sorted g c).After-push_down) c.in_ok-upper.ensures.made in
+    let made = subst (λ (ns : List Node). HasNode ns (nodes_of (map f gs) ++ nodes_of (map f (items_in c.in_ok-upper.upper))) c.args.key.now) (all_pushed g (goal.at.summary_with-self-requires-clause-sorted g c).After-push_down) c.in_ok-upper.ensures.made in
     subst (λ (is : List g.row.P.Denot). IsSorted (nodes_of (map f is))) (sym c.deref.ensures.value) (sorted_left (nodes_of (map f gs)) (nodes_of (map f (items_in c.in_ok-upper.upper))) (made_sorted (with_pending p (nodes_of (map f xs))) _ c.args.key.now c.requires.sorted made))
+
+pub summary_with-self-requires-clause-kept : goal.summary_with-self-requires-clause-kept
+summary_with-self-requires-clause-kept g c = λ h.
+    let f = g.P.Part.nodes in
+    let xs = (arc_value c.args.self.now.parts).items in
+    let s = c.args.self.now.summary in
+    let gs = c.grow.new.parts.items in
+    let none = ap (λ (is : List g.row.P.Denot). nodes_of (map f is)) (no_items c.in_ok-upper.upper (sym c.is_some.ensures ∙ h)) in
+    let stays = told_made s.start s.joint s.pending (nodes_of (map f xs)) _ (nodes_of (map f gs)) (nodes_of (map f (items_in c.in_ok-upper.upper))) c.args.key.now c.requires.sorted c.requires.whole.told (all_pushed g (goal.at.summary_with-self-requires-clause-kept g c).After-push_down) c.in_ok-upper.ensures.made none in
+    stays ∙ ap (λ (is : List g.row.P.Denot). all_joint (nodes_of (map f is))) (sym c.deref.ensures.value)
 
 pub new-requires-clause-sorted : goal.new-requires-clause-sorted
 new-requires-clause-sorted g c =
@@ -73,7 +84,7 @@ returns-in_ok-new-in-Some-clause-made g c =
     let gs = c.grow.new.parts.items in
     let made = subst (λ (ns : List Node). HasNode ns (nodes_of (map f gs) ++ nodes_of (map f (items_in c.in_ok-upper.upper))) c.args.key.now) (all_pushed g (goal.at.returns-in_ok-new-in-Some-clause-made g c).After-push_down) c.in_ok-upper.ensures.made in
     let held = ap (λ u. u.items) (c.make_mut.follows.holds c.grow.new.parts (search rules)) in
-    let first = ap (λ (o : Option OwnedTime). with_pending o (nodes_of (map f (arc_value (c.make_mut.follows.lender c.grow.new.parts)).items))) c.summary_of-self.ensures.pending ∙ ap (λ (is : List g.row.P.Denot). nodes_of (map f is)) held in
+    let first = ap (λ (o : Option OwnedTime). with_pending o (nodes_of (map f (arc_value (c.make_mut.follows.lender c.grow.new.parts)).items))) c.summary_with-self.ensures.pending ∙ ap (λ (is : List g.row.P.Denot). nodes_of (map f is)) held in
     let told = subst (λ o. HasNode (with_pending p (nodes_of (map f xs))) (nodes_of (map f gs) ++ nodes_of (map f (items_in o))) c.args.key.now) c.in-Some.is made in
     subst (λ (ns : List Node). HasNode (with_pending p (nodes_of (map f xs))) ns c.args.key.now)
     (sym (ap (λ (ns : List Node). ns ++ (fork_nodes f c.in_ok-new-in-Some.field-0 ++ [])) first ∙ ap (λ (ns : List Node). nodes_of (map f gs) ++ ns) (append_nil (fork_nodes f c.in_ok-new-in-Some.field-0) ∙ c.in_ok-new-in-Some.ensures.nodes))) told
@@ -85,8 +96,8 @@ returns-in_ok-new-in-Some-clause-whole g c =
     let Q = g.P.Part.IsWhole in
     let gs = c.grow.new.parts.items in
     let held = ap (λ u. u.items) (c.make_mut.follows.holds c.grow.new.parts (search rules)) in
-    let told = subst (λ (is : List g.row.P.Denot). IsTold c.summary_of-self.result (nodes_of (map f is))) c.deref.ensures.value c.summary_of-self.ensures.told in
-    subst (λ (is : List g.row.P.Denot). IsForkOf f s Q c.summary_of-self.result is) (sym held) (fork_whole f s Q c.summary_of-self.result gs g.met.P.Part.counted c.in_ok-upper.ensures.few told)
+    let told = subst (λ (is : List g.row.P.Denot). IsTold c.summary_with-self.result (nodes_of (map f is))) c.deref.ensures.value c.summary_with-self.ensures.told in
+    subst (λ (is : List g.row.P.Denot). IsForkOf f s Q c.summary_with-self.result is) (sym held) (fork_whole f s Q c.summary_with-self.result gs g.met.P.Part.counted c.in_ok-upper.ensures.few told)
 
 pub returns-in-None-clause-made : goal.returns-in-None-clause-made
 returns-in-None-clause-made g c =
@@ -96,7 +107,7 @@ returns-in-None-clause-made g c =
     let gs = c.grow.new.parts.items in
     let made = subst (λ (ns : List Node). HasNode ns (nodes_of (map f gs) ++ nodes_of (map f (items_in c.in_ok-upper.upper))) c.args.key.now) (all_pushed g (goal.at.returns-in-None-clause-made g c).After-push_down) c.in_ok-upper.ensures.made in
     let held = ap (λ u. u.items) (c.make_mut.follows.holds c.grow.new.parts (search rules)) in
-    let first = ap (λ (o : Option OwnedTime). with_pending o (nodes_of (map f (arc_value (c.make_mut.follows.lender c.grow.new.parts)).items))) c.summary_of-self.ensures.pending ∙ ap (λ (is : List g.row.P.Denot). nodes_of (map f is)) held in
+    let first = ap (λ (o : Option OwnedTime). with_pending o (nodes_of (map f (arc_value (c.make_mut.follows.lender c.grow.new.parts)).items))) c.summary_with-self.ensures.pending ∙ ap (λ (is : List g.row.P.Denot). nodes_of (map f is)) held in
     let told = subst (λ o. HasNode (with_pending p (nodes_of (map f xs))) (nodes_of (map f gs) ++ nodes_of (map f (items_in o))) c.args.key.now) c.in-None.is made in
     subst (λ (ns : List Node). HasNode (with_pending p (nodes_of (map f xs))) ns c.args.key.now) (sym (ap (λ (ns : List Node). ns ++ []) first)) told
 
@@ -107,5 +118,5 @@ returns-in-None-clause-whole g c =
     let Q = g.P.Part.IsWhole in
     let gs = c.grow.new.parts.items in
     let held = ap (λ u. u.items) (c.make_mut.follows.holds c.grow.new.parts (search rules)) in
-    let told = subst (λ (is : List g.row.P.Denot). IsTold c.summary_of-self.result (nodes_of (map f is))) c.deref.ensures.value c.summary_of-self.ensures.told in
-    subst (λ (is : List g.row.P.Denot). IsForkOf f s Q c.summary_of-self.result is) (sym held) (fork_whole f s Q c.summary_of-self.result gs g.met.P.Part.counted c.in_ok-upper.ensures.few told)
+    let told = subst (λ (is : List g.row.P.Denot). IsTold c.summary_with-self.result (nodes_of (map f is))) c.deref.ensures.value c.summary_with-self.ensures.told in
+    subst (λ (is : List g.row.P.Denot). IsForkOf f s Q c.summary_with-self.result is) (sym held) (fork_whole f s Q c.summary_with-self.result gs g.met.P.Part.counted c.in_ok-upper.ensures.few told)
