@@ -1,13 +1,11 @@
 -- Nodes whose keys and values stand in two lists.
-use Rattle.std.proofs.Common.{◌≡◌, ◌∙◌, refl, sym, ap, subst, ℕ, zero, suc, ◌+◌, ◌<◌, ◌≤◌, List, [], ◌∷◌, length, take, drop, get_or, set, Result, Ok, Err, arith}
+use Rattle.std.proofs.Common.{◌≡◌, ◌∙◌, refl, sym, ap, subst, ℕ, zero, suc, ◌+◌, ◌<◌, ◌≤◌, List, [], ◌∷◌, length, take, drop, get_or, set, arith}
 use Rattle.std.specs.List.{insert, AllZip}
-use Rattle.std.specs.List.Sorted.{IsSearchInRange, IsBinarySearchResult}
-use Rattle.std.specs.Ordering.{ordering_index}
 use Rattle.tsc_time.specs.OwnedTime.{OwnedTime}
 use Rattle.tsc_time.specs.Joint.{joint}
-use Rattle.tsc_span.specs.Span.{KeyBytes, key_cmp}
+use Rattle.tsc_span.specs.Span.{KeyBytes}
 use Rattle.tsc_page_base.specs.declared.nodes.Values.{Values}
-use Rattle.tsc_page_base.specs.Nodes.{Node, paired, node_keys, IsSorted, IsFoundAt}
+use Rattle.tsc_page_base.specs.Nodes.{Node, paired, node_keys}
 use Rattle.tsc_page_base.proofs.Places.{some_node}
 use Rattle.tsc_page_base.proofs.RaisedNodes.{ChangesPlaces, key_raised, gap_raised, one_changed}
 

@@ -1,13 +1,12 @@
 -- What a search for a key finds: its node, or the place for it.
-use Rattle.std.proofs.Common.{◌≡◌, inl, inr, ◌∙◌, refl, sym, ap, subst, true, ℕ, zero, suc, ◌+◌, ◌<◌, ◌≤◌, List, [], ◌∷◌, length, get_or, Result, Ok, Err, arith}
+use Rattle.std.proofs.Common.{◌≡◌, ◌∙◌, refl, sym, ap, subst, true, ℕ, zero, suc, ◌+◌, ◌<◌, ◌≤◌, List, [], ◌∷◌, length, get_or, Result, Ok, Err, arith}
 use mathlib.Core.Bool.{true≢false}
 use Rattle.std.specs.declared.cmp.Ordering.{Ordering}
 use Rattle.std.specs.declared.cmp.Ordering.TheVariants.{Less, Equal, Greater}
-use Rattle.std.specs.Ordering.{is_lt, is_le, is_eq, ordering_index, ordering_reverse, ordering_then}
+use Rattle.std.specs.Ordering.{is_lt, is_le, is_eq, ordering_reverse, ordering_then}
 use Rattle.std.specs.Prelude.{Some, None, is_err, not}
 use Rattle.std.specs.Str.{bytes_eq}
-use Rattle.std.specs.List.Sorted.{IsSearchInRange, IsBinarySearchResult, IsNonDecreasingBy}
-use Rattle.std.proofs.lemmas.Cmp.{nat_list_cmp_total, alike_right}
+use Rattle.std.proofs.lemmas.Cmp.{nat_list_cmp_total}
 use Rattle.std.proofs.lemmas.List.{get_or_default}
 use Rattle.std.proofs.lemmas.Map.Text.{is_eq-slice_cmp}
 use Rattle.std.proofs.lemmas.Slice.Eq.{bytes_eq-Decides}
@@ -19,7 +18,7 @@ use Rattle.tsc_page_base.specs.Nodes.{Node, node_keys, IsSorted, FitsAt, HasKeys
 use Rattle.tsc_page_base.proofs.CutOrder.{Lt, Le, Le-from_Lt, after-before, below_last}
 use Rattle.tsc_page_base.proofs.Cuts.{lowest}
 use Rattle.tsc_page_base.proofs.Edits.{FitsAt-absent}
-use Rattle.tsc_page_base.proofs.Places.{sorted_at, before_or_past, some_node, all_smaller, falls_before}
+use Rattle.tsc_page_base.proofs.Places.{sorted_at, some_node, all_smaller, falls_before}
 
 -- a key before another is less
 less_from_Lt : (k m : KeyBytes) → Lt (after k) (before m) → key_cmp k m ≡ Less

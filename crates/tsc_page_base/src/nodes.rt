@@ -356,11 +356,12 @@ impl<'a> Lists<'a> {
         ensures { HasKeysBelow self.now key.now result }
     {
         let mut low = 0;
-        for stride in 1..self.keys.len().div_ceil(STRIDE) {
-            let place = stride * STRIDE;
+        let mut place = STRIDE;
+        while place < self.keys.len() {
             if key.compare(&self.keys[place]).is_le() {
                 low = place;
             }
+            place += STRIDE;
         }
         low
     }

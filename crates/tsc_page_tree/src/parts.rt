@@ -152,8 +152,9 @@ fn stride_at<P: Part>(parts: &[P], cut: &NumberedCut<'_>) -> usize
     ensures { IsNotAbove (map P.nodes parts.now) cut.now result }
 {
     let mut low = 0;
-    for stride in 1..parts.len().div_ceil(STRIDE) {
-        let place = stride * STRIDE;
+    let mut place = 0;
+    while parts.len() - place > STRIDE {
+        place += STRIDE;
         if !parts[place].starts_above(cut) {
             low = place;
         }

@@ -1,7 +1,11 @@
-use Rattle.std.proofs.Common.{map}
+use Rattle.std.proofs.Common.{◌≤◌, ◌-◌, map, length}
 use Rattle.tsc_page_tree.specs.Leaves.{IsNotAbove}
 use Rattle.tsc_page_tree.proofs.parts.stride_at.Given as goal
 
 -- the place found so far isn't above
-abbrev pub invariant-loop-stride : goal.invariant-loop-stride
-invariant-loop-stride g l = IsNotAbove (map g.P.Part.nodes l.parts) l.cut l.low
+abbrev pub invariant-loop-place : goal.invariant-loop-place
+invariant-loop-place g l = (l.place ≤ length l.parts) × IsNotAbove (map g.P.Part.nodes l.parts) l.cut l.low
+
+-- fewer parts are left
+abbrev pub decreases-loop-place : goal.decreases-loop-place
+decreases-loop-place g l = length l.parts - l.place

@@ -1,6 +1,11 @@
+use Rattle.std.proofs.Common.{◌-◌, length}
 use Rattle.tsc_page_base.specs.Nodes.{HasKeysBelow}
 use Rattle.tsc_page_base.proofs.nodes.Lists.stride_before.Given as goal
 
 -- the keys before the place found so far are below
-abbrev pub invariant-loop-stride : goal.invariant-loop-stride
-invariant-loop-stride l = HasKeysBelow l.self l.key l.low
+abbrev pub invariant-loop-place : goal.invariant-loop-place
+invariant-loop-place l = HasKeysBelow l.self l.key l.low
+
+-- fewer keys are left
+abbrev pub decreases-loop-place : goal.decreases-loop-place
+decreases-loop-place l = length l.self-inside.keys.now - l.place
