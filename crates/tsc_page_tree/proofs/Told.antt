@@ -1,5 +1,5 @@
 -- What is told of a part's nodes, once a value was held back above them, pushed down or added below.
-use Rattle.std.proofs.Common.{◌≡◌, ◌∙◌, refl, sym, ap, subst, cond, true, false, ℕ, ◌≤◌, List, [], ◌∷◌, ◌++◌, length, arith}
+use Rattle.std.proofs.Common.{◌≡◌, ◌∙◌, refl, sym, ap, subst, cond, false, ℕ, ◌≤◌, List, [], ◌∷◌, ◌++◌, length, arith}
 use mathlib.Core.Bool.{true≢false}
 use Rattle.std.specs.Prelude.{Option, Some, None, is_some, Result, Ok, Err, Vec}
 use Rattle.tsc_time.specs.OwnedTime.{OwnedTime}

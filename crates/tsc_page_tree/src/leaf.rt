@@ -1,5 +1,6 @@
 ghost use Rattle.std.specs.Prelude.{◌≡◌, ◌≤◌, ◌++◌, length, true, false, option_map, None, IfOk, OnOk, IfSome};
-ghost use Rattle.tsc_page_base.specs.Nodes.{IsSorted};
+ghost use Rattle.tsc_span.specs.Span.{last, is_below, between};
+ghost use Rattle.tsc_page_base.specs.Nodes.{IsSorted, raise_nodes};
 ghost use Rattle.tsc_page_tree.specs.Leaves.{IsLeaf, HasNode};
 ghost use Rattle.tsc_page_tree.specs.Pending.{with_pending, all_joint};
 ghost use Rattle.tsc_page_tree.specs.Across.{HasKey};
@@ -151,19 +152,13 @@ impl Part for Leaf {
         let Some(stop) = known_place(above, add.second) else {
             return false
         };
-        below.raise_near(
-            add.from,
-            &NumberedCut::new(Cut::Last),
-            (start, None),
-            add.value,
-        );
+        raise_above(below, &mut low.summary, add.from, start, add.value);
         above.raise_near(
             &NumberedCut::new(Cut::Before(&[])),
             add.to,
             (None, stop),
             add.value,
         );
-        low.summary.reach(true, add.value);
         high.summary.reach(true, add.value);
         true
     }
@@ -219,6 +214,30 @@ fn push_down(nodes: &mut Nodes, summary: &Summary)
         let least = NumberedCut::new(Cut::Before(&[]));
         let last = NumberedCut::new(Cut::Last);
         nodes.raise_between(&least, &last, pending);
+    }
+}
+
+/// Ratchets a value into what lies above a cut, of nodes of which a summary tells. The key of the cut may stand at a place that is told.
+/// Where all of them lie above it they aren't looked into.
+fn raise_above(
+    nodes: &mut Nodes,
+    summary: &mut Summary,
+    from: &NumberedCut<'_>,
+    near: Option<usize>,
+    value: Value,
+)
+    requires told { IsTold summary.old nodes.old }
+    requires sorted { IsSorted (with_pending summary.old.pending nodes.old) }
+    requires order { is_below from.now last ≡ true }
+    ensures raised { with_pending summary.new.pending nodes.new ≡ raise_nodes (between from.now last) value (with_pending summary.old.pending nodes.old) }
+    ensures told { IsTold summary.new nodes.new }
+    ensures len { length nodes.new ≡ length nodes.old }
+{
+    if nodes.starts_below(from) {
+        nodes.raise_near(from, &NumberedCut::new(Cut::Last), (near, None), value);
+        summary.reach(true, value);
+    } else {
+        summary.raise(value);
     }
 }
 

@@ -1,5 +1,5 @@
 -- The part before the first one that begins above the cut, or the last one.
-use Rattle.std.proofs.Common.{◌≡◌, ◌∙◌, ◌-◌, sym, ap, true, map}
+use Rattle.std.proofs.Common.{◌∙◌, sym, ap}
 use Rattle.tsc_span.specs.Span.{is_below}
 use Rattle.tsc_page_tree.specs.Leaves.{start_of}
 use Rattle.tsc_page_tree.proofs.PartLoops.{falls_before_next}

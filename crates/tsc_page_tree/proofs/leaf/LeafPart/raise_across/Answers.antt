@@ -1,19 +1,24 @@
--- Both leaves are raised below what is pending.
-use Rattle.std.proofs.Common.{◌∙◌, ◌∷◌, [], sym, ap, subst, true, List, arith}
+-- The lower leaf is raised by its nodes or by what is pending, the upper one below that.
+use Rattle.std.proofs.Common.{◌≡◌, ◌∙◌, ◌∷◌, [], sym, ap, subst, List, length, arith}
 use Rattle.std.specs.Prelude.{Option, option_map}
 use Rattle.std.specs.Arc.{arc_value}
 use Rattle.tsc_time.specs.OwnedTime.{OwnedTime}
 use Rattle.tsc_time.specs.Joint.{joint}
 use Rattle.tsc_span.specs.Span.{KeyBytes, Cut, before, last, between}
 use Rattle.tsc_page_base.specs.Nodes.{Node, IsSorted, raise_nodes}
-use Rattle.tsc_page_tree.specs.Pending.{with_pending, Addend}
+use Rattle.tsc_page_tree.specs.Pending.{with_pending, IsToldOf, Addend}
+use Rattle.tsc_page_tree.specs.Trees.{IsTold}
 use Rattle.tsc_page_tree.specs.Across.{HasKey, AreRaisedAcross}
-use Rattle.tsc_page_base.proofs.CutOrder.{Lt}
-use Rattle.tsc_page_tree.proofs.Pending.{sorted_without}
-use Rattle.tsc_page_tree.proofs.TreeAcross.{across_pending, told_across_low, told_across_high, long_across}
+use Rattle.tsc_page_base.proofs.CutOrder.{Lt, Le_Lt-chain}
+use Rattle.tsc_page_base.proofs.Cuts.{lowest}
+use Rattle.tsc_page_base.proofs.Edits.{raise_nodes-length}
+use Rattle.tsc_page_tree.proofs.Joins.{up_to_last}
+use Rattle.tsc_page_tree.proofs.Pending.{raise_pending, sorted_without}
+use Rattle.tsc_page_tree.proofs.PartAcross.{told_reached}
+use Rattle.tsc_page_tree.proofs.TreeAcross.{has_pending}
 use Rattle.tsc_page_tree.proofs.Wholes.{leaf_whole, told_as}
 use Rattle.tsc_page_tree.proofs.leaf.LeafPart.raise_across.Goals as goal
-use Rattle.tsc_page_tree.proofs.leaf.LeafPart.raise_across.Goals.{After-raise_near-2}
+use Rattle.tsc_page_tree.proofs.leaf.LeafPart.raise_across.Goals.{After-raise_near}
 
 pub known_place-requires : goal.known_place-requires
 known_place-requires c = record { sorted = subst IsSorted (sym c.in-Some.ensures.value) (sorted_without c.args.low.now.summary.pending (arc_value c.args.low.now.nodes) c.requires.sorted_low) }
@@ -21,76 +26,83 @@ known_place-requires c = record { sorted = subst IsSorted (sym c.in-Some.ensures
 pub known_place-requires-2 : goal.known_place-requires-2
 known_place-requires-2 c = record { sorted = subst IsSorted (sym c.in-Some-get_mut.ensures.value) (sorted_without c.args.high.now.summary.pending (arc_value c.args.high.now.nodes) c.requires.sorted_high) }
 
-pub raise_near-requires-clause-sorted : goal.raise_near-requires-clause-sorted
-raise_near-requires-clause-sorted c = subst IsSorted (sym c.in-Some.ensures.value) (sorted_without c.args.low.now.summary.pending (arc_value c.args.low.now.nodes) c.requires.sorted_low)
+pub raise_above-requires-clause-told : goal.raise_above-requires-clause-told
+raise_above-requires-clause-told c = subst (IsTold c.args.low.now.summary) (sym c.in-Some.ensures.value) c.requires.whole_low.told
 
-pub raise_near-requires-2-clause-sorted : goal.raise_near-requires-2-clause-sorted
-raise_near-requires-2-clause-sorted c = subst IsSorted (sym c.in-Some-get_mut.ensures.value) (sorted_without c.args.high.now.summary.pending (arc_value c.args.high.now.nodes) c.requires.sorted_high)
+pub raise_above-requires-clause-sorted : goal.raise_above-requires-clause-sorted
+raise_above-requires-clause-sorted c = subst (λ (ns : List Node). IsSorted (with_pending c.args.low.now.summary.pending ns)) (sym c.in-Some.ensures.value) c.requires.sorted_low
+
+pub raise_above-requires-clause-order : goal.raise_above-requires-clause-order
+raise_above-requires-clause-order c = up_to_last c.add.inside.from.now c.add.inside.to.now c.add.invariant.0
+
+pub raise_near-requires-clause-sorted : goal.raise_near-requires-clause-sorted
+raise_near-requires-clause-sorted c = subst IsSorted (sym c.in-Some-get_mut.ensures.value) (sorted_without c.args.high.now.summary.pending (arc_value c.args.high.now.nodes) c.requires.sorted_high)
+
+pub raise_near-requires-clause-order : goal.raise_near-requires-clause-order
+raise_near-requires-clause-order c =
+    subst (λ (z : Cut). Lt z c.add.inside.to.now) (sym c.new.ensures) (Le_Lt-chain (before []) c.add.inside.from.now c.add.inside.to.now (lowest c.add.inside.from.now) c.add.invariant.0)
+
+-- what the nodes of the upper leaf become
+raised_high : (c : After-raise_near) → c.raise_near.new.self ≡ raise_nodes (between (before []) c.args.add.now.to) c.args.add.now.value (arc_value c.args.high.now.nodes)
+raised_high c =
+    let ms : List Node = arc_value c.args.high.now.nodes in
+    let t : Cut = c.add.inside.to.now in
+    let v : OwnedTime = c.add.inside.value in
+    subst (λ (b : Addend). c.raise_near.new.self ≡ raise_nodes (between (before []) b.to) b.value ms) c.add.view_is
+    (c.raise_near.ensures ∙ ap (λ (z : Cut). raise_nodes (between z t) v c.in-Some-get_mut.above.now) c.new.ensures ∙ ap (raise_nodes (between (before []) t) v) c.in-Some-get_mut.ensures.value)
 
 -- both leaves are raised within the span
-across : (c : After-raise_near-2) → AreRaisedAcross (arc_value c.args.low.now.nodes) c.raise_near.new.self (arc_value c.args.high.now.nodes) c.raise_near-2.new.self c.args.add.now
+across : (c : After-raise_near)
+    → AreRaisedAcross (with_pending c.args.low.now.summary.pending (arc_value c.args.low.now.nodes)) (with_pending c.raise_above.new.summary.pending c.raise_above.new.nodes)
+        (with_pending c.args.high.now.summary.pending (arc_value c.args.high.now.nodes)) (with_pending c.args.high.now.summary.pending c.raise_near.new.self) c.args.add.now
 across c =
     let ns : List Node = arc_value c.args.low.now.nodes in
     let ms : List Node = arc_value c.args.high.now.nodes in
+    let p = c.args.low.now.summary.pending in
+    let q = c.args.high.now.summary.pending in
     let o : Option KeyBytes = option_map (λ k. k.now) c.add.inside.first in
     let r : Option KeyBytes = option_map (λ k. k.now) c.add.inside.second in
     let f : Cut = c.add.inside.from.now in
     let t : Cut = c.add.inside.to.now in
     let v : OwnedTime = c.add.inside.value in
-    subst (λ (b : Addend). AreRaisedAcross ns c.raise_near.new.self ms c.raise_near-2.new.self b) c.add.view_is (record {
-      first = subst (λ (xs : List Node). HasKey o xs) c.in-Some.ensures.value c.in-Some-known_place.ensures;
-      second = subst (λ (xs : List Node). HasKey r xs) c.in-Some-get_mut.ensures.value c.in-Some-known_place-2.ensures;
-      raised_low = c.raise_near.ensures ∙ ap (λ (z : Cut). raise_nodes (between f z) v c.in-Some.below.now) c.new.ensures ∙ ap (raise_nodes (between f last) v) c.in-Some.ensures.value;
-      raised_high = c.raise_near-2.ensures ∙ ap (λ (z : Cut). raise_nodes (between z t) v c.in-Some-get_mut.above.now) c.new-2.ensures ∙ ap (raise_nodes (between (before []) t) v) c.in-Some-get_mut.ensures.value;
+    let high = raised_high c in
+    subst (λ (b : Addend). AreRaisedAcross (with_pending p ns) (with_pending c.raise_above.new.summary.pending c.raise_above.new.nodes) (with_pending q ms) (with_pending q c.raise_near.new.self) b) c.add.view_is (record {
+      first = has_pending o p ns (subst (λ (xs : List Node). HasKey o xs) c.in-Some.ensures.value c.in-Some-known_place.ensures);
+      second = has_pending r q ms (subst (λ (xs : List Node). HasKey r xs) c.in-Some-get_mut.ensures.value c.in-Some-known_place-2.ensures);
+      raised_low = c.raise_above.ensures.raised ∙ ap (λ (xs : List Node). raise_nodes (between f last) v (with_pending p xs)) c.in-Some.ensures.value;
+      raised_high = ap (with_pending q) (subst (λ (b : Addend). c.raise_near.new.self ≡ raise_nodes (between (before []) b.to) b.value ms) (sym c.add.view_is) high) ∙ raise_pending q (between (before []) t) v ms;
     })
 
 pub returns-clause-told : goal.returns-clause-told
 returns-clause-told c =
+    let told = across (goal.at.returns-clause-told c).After-raise_near in
     let ns : List Node = arc_value c.args.low.now.nodes in
     let ms : List Node = arc_value c.args.high.now.nodes in
     let p = c.args.low.now.summary.pending in
     let q = c.args.high.now.summary.pending in
-    let nl : List Node = c.raise_near.new.self in
-    let nh : List Node = c.raise_near-2.new.self in
-    let a : Addend = c.args.add.now in
-    let told : AreRaisedAcross (with_pending p ns) (with_pending p nl) (with_pending q ms) (with_pending q nh) a = across_pending true ns nl ms nh a p q (across (goal.at.returns-clause-told c).After-raise_near-2) in
-    subst (λ (o : Option OwnedTime). AreRaisedAcross (with_pending p ns) (with_pending o nl) (with_pending q ms) (with_pending c.reach-2.new.self.pending nh) a) (sym c.reach.ensures.pending)
-    (subst (λ (o : Option OwnedTime). AreRaisedAcross (with_pending p ns) (with_pending p nl) (with_pending q ms) (with_pending o nh) a) (sym c.reach-2.ensures.pending) told)
+    subst (λ (o : Option OwnedTime). AreRaisedAcross (with_pending p ns) (with_pending c.raise_above.new.summary.pending c.raise_above.new.nodes) (with_pending q ms) (with_pending o c.raise_near.new.self) c.args.add.now) (sym c.reach.ensures.pending) told
 
 pub returns-clause-sizes_low : goal.returns-clause-sizes_low
-returns-clause-sizes_low c = ap (λ n. n ∷ []) (long_across true _ _ _ _ c.args.add.now (across (goal.at.returns-clause-sizes_low c).After-raise_near-2)).0
+returns-clause-sizes_low c = ap (λ n. n ∷ []) (c.raise_above.ensures.len ∙ ap length c.in-Some.ensures.value)
 
 pub returns-clause-sizes_high : goal.returns-clause-sizes_high
-returns-clause-sizes_high c = ap (λ n. n ∷ []) (long_across true _ _ _ _ c.args.add.now (across (goal.at.returns-clause-sizes_high c).After-raise_near-2)).1
+returns-clause-sizes_high c = ap (λ n. n ∷ []) (ap length (raised_high (goal.at.returns-clause-sizes_high c).After-raise_near) ∙ raise_nodes-length (between (before []) c.args.add.now.to) c.args.add.now.value (arc_value c.args.high.now.nodes))
 
 pub returns-clause-low : goal.returns-clause-low
 returns-clause-low c =
-    let ns : List Node = arc_value c.args.low.now.nodes in
-    let ms : List Node = arc_value c.args.high.now.nodes in
-    let p = c.args.low.now.summary.pending in
-    let nl : List Node = c.raise_near.new.self in
-    let nh : List Node = c.raise_near-2.new.self in
-    let a : Addend = c.args.add.now in
-    let both = across (goal.at.returns-clause-low c).After-raise_near-2 in
-    let s = c.args.low.now.summary in
-    let up : Lt a.from a.to = subst (λ (v : Addend). Lt v.from v.to) c.add.view_is c.add.invariant.0 in
-    let long = (long_across true ns nl ms nh a both).0 in
-    leaf_whole c.reach.new.self nl (omega (arith, long, c.requires.whole_low.leaf.0), omega (arith, long, c.requires.whole_low.leaf.1))
-    (told_as s.start c.reach.new.self.start _ c.reach.new.self.joint _ c.reach.new.self.pending nl c.reach.ensures.start (c.reach.ensures.joint ∙ ap (λ (v : Addend). joint s.joint (v.value ∷ [])) c.add.view_is) c.reach.ensures.pending
-    (told_across_low true s.start s.joint ns nl ms nh a p c.requires.sorted_low up both c.requires.whole_low.told))
+    let long = c.raise_above.ensures.len ∙ ap length c.in-Some.ensures.value in
+    leaf_whole c.raise_above.new.summary c.raise_above.new.nodes (omega (arith, long, c.requires.whole_low.leaf.0), omega (arith, long, c.requires.whole_low.leaf.1)) c.raise_above.ensures.told
 
 pub returns-clause-high : goal.returns-clause-high
 returns-clause-high c =
-    let ns : List Node = arc_value c.args.low.now.nodes in
     let ms : List Node = arc_value c.args.high.now.nodes in
-    let q = c.args.high.now.summary.pending in
-    let nl : List Node = c.raise_near.new.self in
-    let nh : List Node = c.raise_near-2.new.self in
     let a : Addend = c.args.add.now in
-    let both = across (goal.at.returns-clause-high c).After-raise_near-2 in
     let s = c.args.high.now.summary in
+    let nh : List Node = c.raise_near.new.self in
+    let is = raised_high (goal.at.returns-clause-high c).After-raise_near in
     let up : Lt a.from a.to = subst (λ (v : Addend). Lt v.from v.to) c.add.view_is c.add.invariant.0 in
-    let long = (long_across true ns nl ms nh a both).1 in
-    leaf_whole c.reach-2.new.self nh (omega (arith, long, c.requires.whole_high.leaf.0), omega (arith, long, c.requires.whole_high.leaf.1))
-    (told_as s.start c.reach-2.new.self.start _ c.reach-2.new.self.joint _ c.reach-2.new.self.pending nh c.reach-2.ensures.start (c.reach-2.ensures.joint ∙ ap (λ (v : Addend). joint s.joint (v.value ∷ [])) c.add.view_is) c.reach-2.ensures.pending
-    (told_across_high true s.start s.joint ns nl ms nh a q c.requires.sorted_high up c.requires.reaches both c.requires.whole_high.told))
+    let long = ap length is ∙ raise_nodes-length (between (before []) a.to) a.value ms in
+    let reached = told_reached s.start s.joint a.value s.pending (before []) a.to ms c.requires.sorted_high (Le_Lt-chain (before []) a.from a.to (lowest a.from) up) c.requires.reaches c.requires.whole_high.told in
+    leaf_whole c.reach.new.self nh (omega (arith, long, c.requires.whole_high.leaf.0), omega (arith, long, c.requires.whole_high.leaf.1))
+    (told_as s.start c.reach.new.self.start _ c.reach.new.self.joint _ c.reach.new.self.pending nh c.reach.ensures.start (c.reach.ensures.joint ∙ ap (λ (v : Addend). joint s.joint (v.value ∷ [])) c.add.view_is) c.reach.ensures.pending
+    (subst (λ (ns : List Node). IsToldOf s.start (joint s.joint (a.value ∷ [])) s.pending ns) (sym is) reached))
