@@ -130,7 +130,7 @@ impl Nodes {
         }
     }
 
-    /// Where a key stands, or else the place for it. It costs a binary search.
+    /// Where a key stands, or else the place for it. It costs a search.
     pub fn find(&self, key: &Key) -> Result<usize, usize>
         requires sorted { IsSorted self.now }
         ensures { IsFoundAt self.now key.now result }
@@ -138,7 +138,7 @@ impl Nodes {
         self.lists().find(&NumberedBytes::new(key.bytes()))
     }
 
-    /// The least key above a cut. It costs a binary search, and takes no memory.
+    /// The least key above a cut. It costs a search, and takes no memory.
     pub fn key_above(&self, cut: &NumberedCut<'_>) -> Option<&Key>
         requires sorted { IsSorted self.now }
         ensures { option_map (λ k. k.now) result ≡ first_above cut.now (node_keys self.now) }
@@ -150,7 +150,7 @@ impl Nodes {
         }
     }
 
-    /// The joint value of the keys and gaps between two cuts. It costs a binary search for the first cut, a look at
+    /// The joint value of the keys and gaps between two cuts. It costs a search for the first cut, a look at
     /// one key after another from there to the second, and a step for each node between them.
     pub fn joint_between(&self, from: &NumberedCut<'_>, to: &NumberedCut<'_>) -> Value
         requires sorted { IsSorted self.now }
@@ -200,7 +200,7 @@ impl Nodes {
     }
 
     /// Copies of the keys that have no node, with the places for them. Where both have nodes no memory is
-    /// asked for. It costs a binary search for each key.
+    /// asked for. It costs a search for each key.
     fn new_keys(&self, first: Option<&Key>, second: Option<&Key>) -> Result<NewKeys, NoMemory>
         requires sorted { IsSorted self.now }
         ensures first { IfOk result (λ new. IsNewKey self.now (option_map (λ k. k.now) first.entry) new.first) }
@@ -239,7 +239,7 @@ impl Nodes {
     }
 
     /// Makes a node of a key, where it has none. A list of keys that others hold too is copied then, and it takes the memory of
-    /// a copy of the key. It costs a binary search, and a move of what stands above a new node.
+    /// a copy of the key. It costs a search, and a move of what stands above a new node.
     pub fn make_node(&mut self, key: &Key) -> Result<(), NoMemory>
         requires sorted { IsSorted self.old }
         ensures { OnOk result (MakesNodes self.old self.new (Some key.now) None) }
@@ -340,9 +340,8 @@ impl<'a> Model for Lists<'a> {
 }
 
 impl<'a> Lists<'a> {
-    /// Where a key stands, or else the place for it. It looks at every eighth key, and then at one after another from the last of
-    /// these that isn't above on. Where each look is, none of the others tells, so the processor reads ahead; each of a binary
-    /// search has to wait for the one before.
+    /// Where a key stands, or else the place for it. It looks at every eighth key, and from the last of these that isn't above on at
+    /// one after another. No look has to wait for what another one reads, as in a binary search, so the processor reads ahead.
     fn find(&self, key: &NumberedBytes<'_>) -> Result<usize, usize>
         requires sorted { IsSorted self.now }
         ensures { IsFoundAt self.now key.now result }
@@ -350,7 +349,7 @@ impl<'a> Lists<'a> {
         self.find_from(self.stride_before(key), key)
     }
 
-    /// The last of every eighth place, from the first on, before which all keys are below a key.
+    /// The last of every eighth place, from the first one on, before which all keys lie below a key.
     fn stride_before(&self, key: &NumberedBytes<'_>) -> usize
         requires sorted { IsSorted self.now }
         ensures { HasKeysBelow self.now key.now result }

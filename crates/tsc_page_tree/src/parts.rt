@@ -131,9 +131,8 @@ pub trait Part: Clone + Drop {
     ghost copied: { (p q : Self) → Self.is_clone p q → IsSameAs nodes sizes IsWhole p q };
 }
 
-/// The place of the part in which a cut falls. It looks at every eighth part, and then at one after another from the last of these
-/// that doesn't begin above the cut on. Where each look is, none of the others tells, so the processor reads ahead; each of a binary
-/// search has to wait for the one before.
+/// The place of the part in which a cut falls. It looks at every eighth part, and from the last of these that doesn't begin above the
+/// cut on at one after another. No look has to wait for what another one reads, as in a binary search, so the processor reads ahead.
 pub(crate) fn part_at<P: Part>(parts: &[P], cut: &NumberedCut<'_>) -> usize
     requires whole { All P.IsWhole parts.now }
     ensures { IsLeafAt (map P.nodes parts.now) cut.now result }
@@ -146,7 +145,7 @@ pub(crate) fn part_at<P: Part>(parts: &[P], cut: &NumberedCut<'_>) -> usize
     parts.len().saturating_sub(1)
 }
 
-/// The last of every eighth place, from the first on, at which a part doesn't begin above a cut.
+/// The last of every eighth place, from the first one on, at which no part begins above a cut.
 fn stride_at<P: Part>(parts: &[P], cut: &NumberedCut<'_>) -> usize
     requires whole { All P.IsWhole parts.now }
     ensures { IsNotAbove (map P.nodes parts.now) cut.now result }

@@ -54,7 +54,7 @@ raised_high c =
 -- both leaves are raised within the span
 across : (c : After-raise_near)
     → AreRaisedAcross (with_pending c.args.low.now.summary.pending (arc_value c.args.low.now.nodes)) (with_pending c.raise_above.new.summary.pending c.raise_above.new.nodes)
-        (with_pending c.args.high.now.summary.pending (arc_value c.args.high.now.nodes)) (with_pending c.args.high.now.summary.pending c.raise_near.new.self) c.args.add.now
+    (with_pending c.args.high.now.summary.pending (arc_value c.args.high.now.nodes)) (with_pending c.args.high.now.summary.pending c.raise_near.new.self) c.args.add.now
 across c =
     let ns : List Node = arc_value c.args.low.now.nodes in
     let ms : List Node = arc_value c.args.high.now.nodes in
