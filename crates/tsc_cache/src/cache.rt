@@ -88,6 +88,7 @@ impl TimestampCache for Cache {
     }
 
     fn low_water(&self) -> Timestamp {
+        let _first = self.config.page_first();
         self.floor
     }
 

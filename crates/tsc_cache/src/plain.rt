@@ -81,6 +81,7 @@ impl TimestampCache for PlainCache {
     }
 
     fn low_water(&self) -> Timestamp {
+        let _first = self.config.page_first();
         self.floor
     }
 
