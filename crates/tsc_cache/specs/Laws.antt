@@ -4,6 +4,7 @@ use Rattle.tsc_time.specs.Time.{Time, is_before, time_minus}
 use Rattle.tsc_time.specs.OwnedTime.{Owner, OwnedTime}
 use Rattle.tsc_time.specs.Joint.{joint_above, IsAtMost}
 use Rattle.tsc_span.specs.Span.{Interval, overlaps}
+use Rattle.tsc_page_base.specs.Limits.{least_size, most_size}
 use Rattle.tsc_page_base.specs.Page.{Mark, PageMarks, top}
 use Rattle.tsc_cache.specs.Settings.{Settings}
 use Rattle.tsc_cache.specs.declared.added.Added.{Added}
@@ -86,4 +87,4 @@ pub record IsFirstDoubled (most size cost next : ℕ) : Type 0 where
 
 -- So it is whatever the sizes are, where the cost is no more than the most.
 abbrev pub SizesDouble : Type 0
-SizesDouble = (most size cost : ℕ) → 64 ≤ size → most ≤ 1073741824 → cost ≤ most → IsFirstDoubled most size cost (next_size most size cost)
+SizesDouble = (most size cost : ℕ) → least_size ≤ size → most ≤ most_size → cost ≤ most → IsFirstDoubled most size cost (next_size most size cost)

@@ -2,8 +2,8 @@
 use Rattle.std.specs.Prelude.{◌≡◌, ℕ, ◌&&◌, nat_le, not, Bool, true, Result, Ok, Err, if◌then◌else◌}
 use Rattle.tsc_time.specs.Time.{Time}
 use Rattle.tsc_span.specs.Span.{Interval, span_cost}
-use Rattle.tsc_page_base.specs.declared.TheConstants.{LEAST_SIZE, MOST_SIZE}
-use Rattle.tsc_cache.specs.declared.config.TheConstants.{LEAST_MIN_PAGES, MOST_MIN_PAGES, LONGEST_RETENTION}
+use Rattle.tsc_page_base.specs.Limits.{least_size, most_size}
+use Rattle.tsc_cache.specs.Limits.{least_min_pages, most_min_pages, longest_retention}
 use Rattle.tsc_cache.specs.declared.config.ConfigFault.{ConfigFault}
 use Rattle.tsc_cache.specs.declared.config.ConfigFault.TheVariants.{PageSize, MinPages, Retention}
 
@@ -17,15 +17,15 @@ pub record Settings : Type 0 where
 
 -- whether these may be the sizes of the first page and of the largest one
 abbrev pub are_page_sizes : ℕ → ℕ → Bool
-are_page_sizes page_first page_max = nat_le LEAST_SIZE page_first && (nat_le page_first page_max && nat_le page_max MOST_SIZE)
+are_page_sizes page_first page_max = nat_le least_size page_first && (nat_le page_first page_max && nat_le page_max most_size)
 
 -- whether this may be the number of pages below which none is dropped
 abbrev pub is_min_pages : ℕ → Bool
-is_min_pages n = nat_le LEAST_MIN_PAGES n && nat_le n MOST_MIN_PAGES
+is_min_pages n = nat_le least_min_pages n && nat_le n most_min_pages
 
 -- whether reads may be retained for so many nanoseconds
 abbrev pub is_retention : ℕ → Bool
-is_retention n = nat_le n LONGEST_RETENTION
+is_retention n = nat_le n longest_retention
 
 -- the settings of these values, or the first fault
 abbrev pub settings_of : ℕ → ℕ → ℕ → ℕ → Time → Result Settings ConfigFault

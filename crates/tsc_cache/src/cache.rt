@@ -88,6 +88,7 @@ impl TimestampCache for Cache {
     }
 
     fn low_water(&self) -> Timestamp {
+        let _first = self.config.page_first();
         self.floor
     }
 
@@ -170,7 +171,11 @@ impl Cache {
     /// refused stay: so it is for a cache that is thrown away then, and [`add_all`](Cache::add_all) for any other.
     ///
     /// Where none is kept nothing changes, and no memory is taken. Else it costs an [`add`](Cache::add) for each mark.
-    pub fn add_each(&mut self, marks: &[Mark], now: Timestamp) -> Result<Added, CacheFault>
+    pub fn add_each_until_refused(
+        &mut self,
+        marks: &[Mark],
+        now: Timestamp,
+    ) -> Result<Added, CacheFault>
         ensures stands { OnOk result (StandsAfterAll self.old self.new marks.now now) }
         ensures added { IfOk result (TellsAddedAll self.old marks.now now) }
         ensures seen { IfOk result (λ added. AddsAll self.old self.new marks.now now added) }

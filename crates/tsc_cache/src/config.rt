@@ -1,5 +1,5 @@
 ghost use Rattle.std.specs.Prelude.{◌≡◌, ◌≤◌, ◌<◌, ◌*◌, ◌^◌, length, min};
-ghost use Rattle.tsc_page_base.specs.declared.TheConstants.{LEAST_SIZE, MOST_SIZE};
+ghost use Rattle.tsc_page_base.specs.Limits.{least_size, most_size};
 ghost use Rattle.tsc_cache.specs.Settings.{Settings, settings_of, fits, IsWithinLimits};
 ghost use Rattle.tsc_cache.specs.State.{is_past_retention, next_size, counted_on};
 ghost use Rattle.tsc_cache.specs.Batch.{all_fit};
@@ -99,8 +99,8 @@ impl Config {
     pub fn page_first(&self) -> u32
         ensures value { result ≡ self.now.page_first }
         ensures limits { IsWithinLimits self.now }
-        ensures least { LEAST_SIZE ≤ result }
-        ensures most { result ≤ MOST_SIZE }
+        ensures least { least_size ≤ result }
+        ensures most { result ≤ most_size }
     {
         self.page_first
     }
@@ -108,8 +108,8 @@ impl Config {
     /// How many bytes a page may have at the most.
     pub fn page_max(&self) -> u32
         ensures value { result ≡ self.now.page_max }
-        ensures least { LEAST_SIZE ≤ result }
-        ensures most { result ≤ MOST_SIZE }
+        ensures least { least_size ≤ result }
+        ensures most { result ≤ most_size }
     {
         self.page_max
     }
@@ -139,8 +139,8 @@ impl Config {
     pub(crate) fn next_size(&self, size: u32, cost: u32) -> u32
         ensures value { result ≡ next_size self.now.page_max size cost }
         ensures enough { cost ≤ self.now.page_max → cost ≤ result }
-        ensures least { LEAST_SIZE ≤ size → LEAST_SIZE ≤ result }
-        ensures most { result ≤ MOST_SIZE }
+        ensures least { least_size ≤ size → least_size ≤ result }
+        ensures most { result ≤ most_size }
     {
         let mut next = size;
         for times in 0..DOUBLINGS {
@@ -155,8 +155,8 @@ impl Config {
     /// Twice a size, and no more than `page_max`.
     fn doubled(&self, size: u32) -> u32
         ensures value { result ≡ min self.now.page_max (2 * size) }
-        ensures least { LEAST_SIZE ≤ size → LEAST_SIZE ≤ result }
-        ensures most { result ≤ MOST_SIZE }
+        ensures least { least_size ≤ size → least_size ≤ result }
+        ensures most { result ≤ most_size }
     {
         size.saturating_mul(2).min(self.page_max)
     }

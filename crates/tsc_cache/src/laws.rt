@@ -3,14 +3,22 @@
 //! No program needs to call these functions: their contracts are the laws. Whoever keeps a history, as a
 //! ghost, calls [`can_be_added`] or [`can_all_be_added`] to know of an Add that it may stand there.
 ghost use Rattle.tsc_cache.specs.Laws.{KeptUp, Rising, Beginnings, FloorBehind, Real, NoWriteBelowARead, EvictsExpired, OneMarkIsAStep, OneMarkIsAnAdd, ListsJoin, SizesDouble};
+ghost use Rattle.tsc_cache.specs.Limits.{least_min_pages, most_min_pages, longest_retention};
 ghost use Rattle.tsc_cache.specs.Settings.{fits};
 ghost use Rattle.tsc_cache.specs.Batch.{all_fit};
 ghost use Rattle.tsc_cache.specs.History.{CanBeAdded, CanAllBeAdded};
 ghost use Rattle.std.specs.Prelude.{◌≡◌, true};
 
-use crate::{Config, Mark};
+use crate::{Config, LEAST_MIN_PAGES, LONGEST_RETENTION, MOST_MIN_PAGES, Mark};
 use tsc_span::Span;
 use tsc_time::{Timestamp, Value};
+
+/// [`LEAST_MIN_PAGES`], [`MOST_MIN_PAGES`] and [`LONGEST_RETENTION`] are the numbers of the definitions.
+pub fn limits()
+    ensures least_pages { LEAST_MIN_PAGES ≡ least_min_pages }
+    ensures most_pages { MOST_MIN_PAGES ≡ most_min_pages }
+    ensures retention { LONGEST_RETENTION ≡ longest_retention }
+{}
 
 /// A lookup answers no less than any Add that overlaps its span, also one that was not kept, and one
 /// whose page is gone.

@@ -70,7 +70,7 @@ impl TimestampCache for PlainCache {
             return Ok(Added::nothing());
         }
         let mut next = self.try_copy()?;
-        let added = next.add_each(marks, now)?;
+        let added = next.add_each_until_refused(marks, now)?;
         *self = next;
         Ok(added)
     }
@@ -81,6 +81,7 @@ impl TimestampCache for PlainCache {
     }
 
     fn low_water(&self) -> Timestamp {
+        let _first = self.config.page_first();
         self.floor
     }
 
@@ -131,7 +132,7 @@ impl Rotate for PlainCache {
 
 impl PlainCache {
     /// Adds marks that fit. Where memory is refused, those before stay.
-    fn add_each(&mut self, marks: &[Mark], now: Timestamp) -> Result<Added, NoMemory>
+    fn add_each_until_refused(&mut self, marks: &[Mark], now: Timestamp) -> Result<Added, NoMemory>
         requires fits { all_fit self.old.settings marks.now ≡ true }
         requires few { length self.old.pages + length marks.now < 2 ^ 64 }
         ensures { IfOk result (λ added. AddsAll self.old self.new marks.now now added) }

@@ -1,5 +1,5 @@
 ghost use Rattle.std.specs.Prelude.{◌≡◌, ◌↔◌, Bool, length, true, false, IsOk, IfOk, IsErrOf, OnOk, OnErr};
-ghost use Rattle.tsc_cache.specs.Settings.{Settings, fits};
+ghost use Rattle.tsc_cache.specs.Settings.{Settings, IsWithinLimits, fits};
 ghost use Rattle.tsc_cache.specs.State.{CacheState, opening, look, is_kept};
 ghost use Rattle.tsc_cache.specs.CacheView.{CacheView, StandsForState, StandsAfter, StandsAfterAll, TellsAdded, TellsAddedAll, Adds, cache_answer};
 ghost use Rattle.tsc_cache.specs.Batch.{all_fit, is_any_kept, AddsAll};
@@ -54,9 +54,10 @@ pub trait TimestampCache: Drop {
         ensures value { result ≡ cache_answer (view self.now) span.now }
         ensures stands { (settings : Settings) (s : CacheState) → StandsForState (view self.now) settings s → result ≡ look s span.now };
 
-    /// Where the floor stands.
+    /// Where the floor stands. Whoever has a cache also learns here that its settings are within their limits.
     fn low_water(&self) -> Timestamp
         ensures value { result ≡ (view self.now).floor }
+        ensures limits { IsWithinLimits (view self.now).settings }
         ensures stands { (settings : Settings) (s : CacheState) → StandsForState (view self.now) settings s → result ≡ s.floor };
 
     /// How many pages there are.

@@ -2,6 +2,7 @@ pub mod Roots
 pub use Rattle.tsc_time.specs.Time
 pub use Rattle.tsc_time.specs.Joint
 pub use Rattle.tsc_span.specs.Span
+pub use Rattle.tsc_page_base.specs.Limits
 pub use Rattle.tsc_page_base.specs.Page
 pub use Rattle.tsc_page_base.specs.PageView
 pub use Rattle.tsc_page_base.specs.Nodes

@@ -3,7 +3,7 @@ ghost use Rattle.tsc_time.specs.Joint.{joint_above};
 ghost use Rattle.tsc_time.specs.Time.{zero_time, is_before, later};
 ghost use Rattle.tsc_span.specs.Span.{is_empty_span, end_keys};
 ghost use Rattle.tsc_span.specs.Cuts.{cut_of};
-ghost use Rattle.tsc_page_base.specs.declared.TheConstants.{LEAST_SIZE, MOST_SIZE};
+ghost use Rattle.tsc_page_base.specs.Limits.{least_size, most_size};
 ghost use Rattle.tsc_page_base.specs.Page.{PageMarks, top, values_on, marked_keys, count_distinct, has_room};
 ghost use Rattle.tsc_page_base.specs.KeysAbove.{IsLeastAbove};
 ghost use Rattle.tsc_page_base.specs.PageView.{AreLeafSizes, StandsFor, StandsWith, HasKeysWith, AnswersWith, NoAnswerAboveTop, answer, has_room_for};
@@ -28,7 +28,7 @@ pub struct Page {
 
 impl Model for Page {
     ghost use Rattle.std.specs.Prelude.{◌≡◌, ◌≤◌};
-    ghost use Rattle.tsc_page_base.specs.declared.TheConstants.{LEAST_SIZE, MOST_SIZE};
+    ghost use Rattle.tsc_page_base.specs.Limits.{least_size, most_size};
     ghost use Rattle.tsc_page_base.specs.PageView.{PageView, NoAnswerAboveTop};
     ghost use Rattle.tsc_page_base.specs.Nodes.{page_of};
     ghost use Rattle.tsc_page.specs.Roots.{tree_nodes, tree_sizes, IsCounted};
@@ -37,7 +37,7 @@ impl Model for Page {
 
     ghost view = { λ p. page_of p.size p.top (tree_nodes p.tree) (tree_sizes p.tree) };
 
-    ghost invariant = { λ p. IsCounted p.tree × (p.tree.bytes ≤ p.size) × (LEAST_SIZE ≤ p.size) × (p.size ≤ MOST_SIZE)
+    ghost invariant = { λ p. IsCounted p.tree × (p.tree.bytes ≤ p.size) × (least_size ≤ p.size) × (p.size ≤ most_size)
         × NoAnswerAboveTop (page_of p.size p.top (tree_nodes p.tree) (tree_sizes p.tree)) };
 }
 

@@ -2,7 +2,7 @@ ghost use Rattle.std.specs.Prelude.{◌≡◌, None, ◌<◌, ◌≤◌, ◌+◌
 ghost use Rattle.std.specs.List.{All};
 ghost use Rattle.tsc_span.specs.Span.{is_below, after, between, end_keys, key_cost};
 ghost use Rattle.tsc_span.specs.Cuts.{cut_of};
-ghost use Rattle.tsc_page_base.specs.declared.TheConstants.{MOST_SIZE};
+ghost use Rattle.tsc_page_base.specs.Limits.{most_size};
 ghost use Rattle.tsc_page_base.specs.Page.{cost_distinct};
 ghost use Rattle.tsc_page_base.specs.PageView.{is_new_among, new_weight};
 ghost use Rattle.tsc_page_base.specs.KeysAbove.{first_above};
@@ -91,7 +91,7 @@ impl Tree {
     /// that depends on whether they have nodes.
     pub(crate) fn has_room(&self, first: Option<&Key>, second: Option<&Key>, most: u32) -> bool
         requires counted { IsCounted self.now }
-        requires within { self.now.bytes ≤ MOST_SIZE }
+        requires within { self.now.bytes ≤ most_size }
         ensures { result ≡ nat_le (self.now.bytes + new_weight key_cost (node_keys (tree_nodes self.now)) (option_map (λ k. k.now) first.entry)
             + new_weight key_cost (node_keys (tree_nodes self.now)) (option_map (λ k. k.now) second.entry)) most }
     {
@@ -147,7 +147,7 @@ impl Tree {
     ) -> Result<bool, NoMemory>
         requires counted { IsCounted self.old }
         requires within { self.old.bytes ≤ most }
-        requires small { most ≤ MOST_SIZE }
+        requires small { most ≤ most_size }
         requires order { is_below (cut_of from) (cut_of to) ≡ true }
         requires first { LiesAt (option_map (λ k. k.now) first) (cut_of from) }
         requires second { LiesAt (option_map (λ k. k.now) second) (cut_of to) }
@@ -185,7 +185,7 @@ impl Tree {
     ) -> Result<Option<Tree>, NoMemory>
         requires counted { IsCounted self.now }
         requires within { self.now.bytes ≤ most }
-        requires small { most ≤ MOST_SIZE }
+        requires small { most ≤ most_size }
         requires order { is_below (cut_of from) (cut_of to) ≡ true }
         requires keys { option_to_list (option_map (λ k. k.now) first) ++ option_to_list (option_map (λ k. k.now) second) ≡ end_keys (between (cut_of from) (cut_of to)) }
         ensures added { IfOk result (λ made. IfSome made (λ tree. AddsTo (tree_nodes self.now) (tree_nodes tree) (between (cut_of from.entry) (cut_of to.entry)) value)) }
@@ -217,7 +217,7 @@ impl Tree {
     ) -> Result<bool, NoMemory>
         requires counted { IsCounted self.old }
         requires within { self.old.bytes ≤ most }
-        requires small { most ≤ MOST_SIZE }
+        requires small { most ≤ most_size }
         requires order { is_below from.now to.now ≡ true }
         requires first { LiesAt (option_map (λ k. k.now) first) from.now }
         requires second { LiesAt (option_map (λ k. k.now) second) to.now }

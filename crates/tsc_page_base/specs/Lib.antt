@@ -1,3 +1,4 @@
+pub mod Limits
 pub mod Page
 pub mod PageView
 pub mod Nodes

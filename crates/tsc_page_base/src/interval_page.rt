@@ -2,7 +2,7 @@ ghost use Rattle.std.specs.Prelude.{◌≡◌, ◌≤◌, ◌*◌, nat_le, true,
 ghost use Rattle.tsc_time.specs.Joint.{joint_above};
 ghost use Rattle.tsc_time.specs.Time.{zero_time, is_before, later};
 ghost use Rattle.tsc_span.specs.Span.{Interval, is_empty_span, span_cost};
-ghost use Rattle.tsc_page_base.specs.declared.TheConstants.{LEAST_SIZE, MOST_SIZE};
+ghost use Rattle.tsc_page_base.specs.Limits.{least_size, most_size};
 ghost use Rattle.tsc_page_base.specs.Page.{PageMarks, empty_page, top, values_on, marked_keys, count_distinct, cost_distinct, has_room};
 ghost use Rattle.tsc_page_base.specs.PageView.{PageView, StandsFor, StandsWith, HasKeysWith, AnswersWith, NoAnswerAboveTop, answer, bytes_of, has_room_for};
 
@@ -20,8 +20,8 @@ pub trait IntervalPage: Drop {
     /// the least that its top can be. It takes no memory until something is added, so it cannot answer that memory is
     /// wanting.
     fn new(alloc: Global, size: u32, base: Timestamp) -> Result<Self, NoMemory>
-        requires at_least { LEAST_SIZE ≤ size }
-        requires at_most { size ≤ MOST_SIZE }
+        requires at_least { least_size ≤ size }
+        requires at_most { size ≤ most_size }
         ensures stands { IfOk result (λ page. StandsFor (view page) (empty_page size base)) }
         ensures room { IfOk result (λ page. (span : Interval) → has_room_for (view page) span ≡ nat_le (span_cost span) size) }
         ensures memory { IsOk result };
@@ -30,8 +30,8 @@ pub trait IntervalPage: Drop {
     fn size(&self) -> u32
         ensures value { result ≡ (view self.now).size }
         ensures stands { (p : PageMarks) → StandsFor (view self.now) p → result ≡ p.size }
-        ensures least { LEAST_SIZE ≤ result }
-        ensures most { result ≤ MOST_SIZE };
+        ensures least { least_size ≤ result }
+        ensures most { result ≤ most_size };
 
     /// What the end keys of all that was added cost together, each of them once: for each as many bytes as it has, and
     /// 32 more.

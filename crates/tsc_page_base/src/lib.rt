@@ -15,6 +15,7 @@
 #![tactic(auto)]
 
 mod interval_page;
+pub mod laws;
 mod nodes;
 mod number;
 mod plain;

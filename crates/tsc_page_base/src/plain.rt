@@ -1,7 +1,7 @@
 ghost use Rattle.std.specs.Prelude.{◌≡◌, ◌≤◌, ◌*◌, ◌||◌, true, false, IfOk, option_map};
 ghost use Rattle.tsc_time.specs.Time.{later};
 ghost use Rattle.tsc_span.specs.Span.{overlaps, end_keys, key_cost};
-ghost use Rattle.tsc_page_base.specs.declared.TheConstants.{LEAST_SIZE, MOST_SIZE};
+ghost use Rattle.tsc_page_base.specs.Limits.{least_size, most_size};
 ghost use Rattle.tsc_page_base.specs.Page.{Mark, top, marked_keys, count_distinct, cost_distinct};
 ghost use Rattle.tsc_page_base.specs.PageView.{is_in, new_weight, is_new_among};
 
@@ -26,14 +26,14 @@ pub struct PlainPage {
 impl Model for PlainPage {
     ghost use Rattle.std.specs.Prelude.{◌≤◌};
     ghost use Rattle.tsc_page_base.specs.Page.{cost_distinct, marked_keys};
-    ghost use Rattle.tsc_page_base.specs.declared.TheConstants.{LEAST_SIZE, MOST_SIZE};
+    ghost use Rattle.tsc_page_base.specs.Limits.{least_size, most_size};
     ghost use Rattle.tsc_page_base.specs.PageView.{PageView, view_of};
 
     ghost Value = { PageView };
 
     ghost view = { λ p. view_of (record { size = p.size; base = p.base; marks = p.marks.items }) };
 
-    ghost invariant = { λ p. (cost_distinct (marked_keys p.marks.items) ≤ p.size) × (LEAST_SIZE ≤ p.size) × (p.size ≤ MOST_SIZE) };
+    ghost invariant = { λ p. (cost_distinct (marked_keys p.marks.items) ≤ p.size) × (least_size ≤ p.size) × (p.size ≤ most_size) };
 }
 
 /// A span with the value that was added to it.
@@ -181,7 +181,7 @@ fn new_cost(key: Option<&Key>, marks: &[PlainMark]) -> u32
 
 /// How many different end keys a list has. It compares each with all later ones.
 fn count_keys(marks: &[PlainMark]) -> usize
-    requires { cost_distinct (marked_keys marks.now) ≤ MOST_SIZE }
+    requires { cost_distinct (marked_keys marks.now) ≤ most_size }
     ensures { result ≡ count_distinct (marked_keys marks.now) }
 {
     let mut count = 0;
@@ -196,7 +196,7 @@ fn count_keys(marks: &[PlainMark]) -> usize
 
 /// What they cost together.
 fn cost_keys(marks: &[PlainMark]) -> u32
-    requires { cost_distinct (marked_keys marks.now) ≤ MOST_SIZE }
+    requires { cost_distinct (marked_keys marks.now) ≤ most_size }
     ensures { result ≡ cost_distinct (marked_keys marks.now) }
 {
     let mut cost = 0;

@@ -8,7 +8,8 @@ use Rattle.std.specs.List.{All}
 use Rattle.std.proofs.lemmas.Bool.{le-leb}
 use Rattle.std.proofs.lemmas.Option.{same_Some}
 use Rattle.std.proofs.lemmas.List.Elements.{All-nil}
-use Rattle.tsc_span.specs.Span.{KeyBytes, longest_key, key_cmp, before, after, last, Interval, nothing, between, point, start_cut, end_cut, range, onward}
+use Rattle.tsc_span.specs.Limits.{longest_key}
+use Rattle.tsc_span.specs.Span.{KeyBytes, key_cmp, before, after, last, Interval, nothing, between, point, start_cut, end_cut, range, onward}
 use Rattle.tsc_span.specs.MadeSpan.{IsKey, IsMadeSpan, IsOfRange, IsOnward, MadeByConstructor}
 use Rattle.tsc_span.proofs.CutOrder.{key_cmp-same, sides_in_order}
 use Rattle.tsc_span.proofs.Ranges.{range_of_greater, range_of_equal, range_of_less}

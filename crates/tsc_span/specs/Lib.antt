@@ -1,3 +1,4 @@
+pub mod Limits
 pub mod Span
 pub mod MadeKey
 pub mod MadeSpan

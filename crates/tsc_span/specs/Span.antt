@@ -6,15 +6,11 @@ use Rattle.std.specs.declared.cmp.Ordering.TheVariants.{Less, Equal, Greater}
 use Rattle.std.specs.Ordering.{nat_cmp, is_lt, ordering_then}
 use Rattle.std.specs.Cmp.Lexicographic.{slice_cmp}
 use Rattle.std.specs.Str.{bytes_eq}
-use Rattle.tsc_span.specs.declared.key.TheConstants.{LONGEST_KEY}
+pub use Rattle.tsc_span.specs.Limits.{longest_key}
 
 -- a key is a text of bytes
 abbrev pub KeyBytes : Type 0
 KeyBytes = List ℕ
-
--- how many bytes a key has at the most
-abbrev pub longest_key : ℕ
-longest_key = LONGEST_KEY
 
 -- whether bytes are few enough for a key
 abbrev pub fits_key : KeyBytes → Bool

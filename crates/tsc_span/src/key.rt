@@ -3,7 +3,8 @@ ghost use Rattle.std.specs.List.{All};
 ghost use Rattle.std.specs.Str.{bytes_eq};
 ghost use Rattle.std.specs.Cmp.{partial_equiv_from_equiv};
 ghost use Rattle.std.specs.Cmp.Lexicographic.{nat_list_eq_equiv, nat_list_cmp_total, texts_ties, texts_po};
-ghost use Rattle.tsc_span.specs.Span.{longest_key, key_cmp, key_cost};
+ghost use Rattle.tsc_span.specs.Limits.{longest_key};
+ghost use Rattle.tsc_span.specs.Span.{key_cmp, key_cost};
 ghost use Rattle.tsc_span.specs.MadeKey.{made_key};
 
 use crate::SpanFault;

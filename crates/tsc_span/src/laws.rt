@@ -3,12 +3,18 @@
 //! No program needs to call these functions: their contracts are the laws, for every value.
 ghost use Rattle.std.specs.Prelude.{◌≡◌, ◌↔◌, IsTrue, not};
 ghost use Rattle.std.specs.Ordering.{is_lt};
+ghost use Rattle.tsc_span.specs.Limits.{longest_key};
 ghost use Rattle.tsc_span.specs.Span.{key_cmp, is_empty_span};
 ghost use Rattle.tsc_span.specs.MadeSpan.{MadeByConstructor};
 ghost use Rattle.tsc_span.specs.Laws.{IsCutOrder, CoversIsOverlap, OverlapBothWays};
 
-use crate::{Key, Span};
+use crate::{Key, LONGEST_KEY, Span};
 use std::cmp::Ordering;
+
+/// [`LONGEST_KEY`] is the number of the definitions.
+pub fn limits()
+    ensures { LONGEST_KEY ≡ longest_key }
+{}
 
 /// `cmp` on keys is their order.
 pub fn compares_keys(a: &Key, b: &Key) -> Ordering

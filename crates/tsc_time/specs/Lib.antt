@@ -1,3 +1,4 @@
+pub mod Limits
 pub mod Time
 pub mod OwnedTime
 pub mod Joint

@@ -1,20 +1,13 @@
 -- Timestamps: `hlc.Timestamp` of CockroachDB's pkg/util/hlc, without its negative values.
-use Rattle.std.specs.Prelude.{ℕ, ◌-◌, ◌^◌, ◌&&◌, ◌==◌, nat_lt, nat_le, Bool, Option, Some, None, if◌then◌else◌}
+use Rattle.std.specs.Prelude.{ℕ, ◌-◌, ◌&&◌, ◌==◌, nat_lt, nat_le, Bool, Option, Some, None, if◌then◌else◌}
 use Rattle.std.specs.declared.cmp.Ordering.{Ordering}
 use Rattle.std.specs.Ordering.{nat_cmp, is_lt, ordering_then}
+use Rattle.tsc_time.specs.Limits.{wall_limit, logical_limit}
 
 -- a wall time in nanoseconds, and a logical count
 pub record Time : Type 0 where
   pub wall : ℕ
   pub logical : ℕ
-
--- what a wall time stays below
-abbrev pub wall_limit : ℕ
-wall_limit = 2 ^ 63
-
--- and what a logical count stays below
-abbrev pub logical_limit : ℕ
-logical_limit = 2 ^ 31
 
 -- whether both parts are in range
 abbrev pub is_in_range : Time → Bool

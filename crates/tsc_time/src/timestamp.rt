@@ -1,5 +1,6 @@
 ghost use Rattle.std.specs.Prelude.{◌≡◌, ◌<◌, IsTrue, true, false, Some, None, if◌then◌else◌};
-ghost use Rattle.tsc_time.specs.Time.{is_in_range, zero_time, time_minus, wall_limit, logical_limit};
+ghost use Rattle.tsc_time.specs.Limits.{wall_limit, logical_limit};
+ghost use Rattle.tsc_time.specs.Time.{is_in_range, zero_time, time_minus};
 
 use std::marker::Model;
 

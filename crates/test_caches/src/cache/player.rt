@@ -1,6 +1,7 @@
 //! Plays rows on caches: one to which marks are added by some call, and one beside it to which they are added one by one.
 //!
-//! A call that is refused memory has to leave all as it was, but for `add_each`, which leaves some of its marks. It is then made again.
+//! A call that is refused memory has to leave all as it was, but for `add_each_until_refused`, which leaves
+//! some of its marks. It is then made again.
 use super::marks::{at, config, push, value};
 use super::rows::{
     Call, Does, FIRST, FLOOR, Limits, NOBODY, RETENTION, Row, Step, Table, Text, Time, Told,
@@ -226,7 +227,7 @@ impl Player {
             return self.plain.add_all(marks, now);
         }
         match self.call {
-            Call::AddEach => self.cache.add_each(marks, now),
+            Call::AddEach => self.cache.add_each_until_refused(marks, now),
             _ => self.cache.add_all(marks, now),
         }
     }

@@ -4,7 +4,7 @@ use Rattle.tsc_cache.specs.declared.added.Added.{Added}
 use Rattle.tsc_cache.specs.CacheView.{CacheView}
 use Rattle.tsc_cache.specs.Batch.{is_any_kept, AddsAll}
 use Rattle.tsc_cache.proofs.Batches.{none_adds, adds_all_stands}
-use Rattle.tsc_cache.proofs.cache.Cache.add_each.Goals as goal
+use Rattle.tsc_cache.proofs.cache.Cache.add_each_until_refused.Goals as goal
 
 pub returns-then-not-is_any_kept-clause-seen : goal.returns-then-not-is_any_kept-clause-seen
 returns-then-not-is_any_kept-clause-seen c =

@@ -5,7 +5,7 @@ use Rattle.tsc_cache.specs.declared.added.Added.{Added}
 use Rattle.tsc_cache.specs.Settings.{fits}
 use Rattle.tsc_cache.specs.CacheView.{Adds}
 use Rattle.tsc_cache.proofs.Batches.{IsUnderWay, begun, next_fits, few_dropped, one_more, all_added}
-use Rattle.tsc_cache.proofs.plain.PlainCache.add_each.Goals as goal
+use Rattle.tsc_cache.proofs.plain.PlainCache.add_each_until_refused.Goals as goal
 
 pub loop-mark-init : goal.loop-mark-init
 loop-mark-init c = begun c.args.self.now c.args.marks.now c.args.now c.nothing-added.result c.requires.fits c.nothing-added.ensures
