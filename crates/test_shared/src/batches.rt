@@ -95,7 +95,8 @@ static ROWS: [Row; 9] = [
             (0, Act::Gate, Long(1)),
         ],
     },
-    // One that rotates, the empty one, and one of which no mark is kept: one is at the floor, and the other is of the empty span.
+    // One that rotates, the empty one, and one of which no mark is kept: one is at the floor, and
+    // the other is of the empty span.
     Row {
         pages: PAGES,
         seats: 2,

@@ -112,8 +112,9 @@ static KNOWN_KEYS: Row = Row {
     ],
 };
 
-/// More than 4,096 keys on one page, and then one of them 40 times, where both sides have it. Each of these Adds takes a copy of its key and no
-/// other memory, also where it is made in place on so large a page, so no growth of theirs is made good.
+/// More than 4,096 keys on one page, and then one of them 40 times, where both sides have it. Each
+/// of these Adds takes a copy of its key and no other memory: no growth of theirs is made good.
+/// `scripts/refuse-each-growth last tests` counts them.
 static LARGE: Row = Row {
     pages: (1_048_576, 1_048_576, 2),
     seats: 2,

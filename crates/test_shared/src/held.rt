@@ -13,7 +13,8 @@ use std::sync::Wait;
 use std::test::Fail;
 use std::thread;
 
-/// The first seat makes an Add that is held up until each other seat has asked so often for a key, or for the range up to a second one.
+/// The first seat makes an Add that is held up until each other seat has asked so often for a key,
+/// or for the range up to a second one.
 pub struct Plan {
     pub held: Entry,
     pub now: u64,

@@ -97,7 +97,8 @@ impl Adding {
         Some(Adding::One(Mark { span, value }, at(wall)))
     }
 
-    /// The keys of so many numbers, of four bytes each, at 20.0 by the first owner. `None` where memory is refused.
+    /// The keys of so many numbers, of four bytes each, at 20.0 by the first owner. `None` where
+    /// memory is refused.
     pub fn numbers(alloc: Global, count: u32) -> Option<Adding> {
         let mut marks = Vec::with_capacity(alloc, count as usize).ok()?;
         for number in 0..count {

@@ -180,7 +180,8 @@ static TOLD: [Row; 6] = [
             (0, CloseLate, Long(0)),
         ],
     },
-    // One seat learns an older front of the other, and the two meet. An Add that the cache does not keep has its place too.
+    // One seat learns an older front of the other, and the two meet. An Add that the cache does
+    // not keep has its place too.
     Row {
         pages: PAGES,
         seats: 2,

@@ -270,7 +270,8 @@ impl<C: Of + Send + Sync> Stage<C> {
         }
     }
 
-    /// So many Adds of a key at times that rise, and what the last one is told, or the first one that brings a new page or is refused.
+    /// So many Adds of a key at times that rise, and what the last one is told, or the first one
+    /// that brings a new page or is refused.
     fn add_often<R: Wait>(
         &mut self,
         rt: &R,
