@@ -3,9 +3,9 @@ use super::marks::Adding;
 use super::marks::Entry::{One, Several};
 use super::party::By::{Gate, Plain};
 use super::party::Owner::{First, Other};
-use super::party::Told::{Full, Long, Not, Place, Value};
+use super::party::Told::{Counted, Full, Long, Not, Place, Value};
 use super::party::{Guest, Home, Of, Owner, Told, Why};
-use super::steps::Act::{self, Again, AtOnce, Close, Get, Low};
+use super::steps::Act::{self, Again, AtOnce, Close, Figures, Get, Low};
 use super::steps::{KEPT, PAGES, Row, play, play_all};
 use super::threads::{Meeting, Scene, check};
 use std::alloc::Global;
@@ -95,7 +95,8 @@ static ROWS: [Row; 9] = [
             (0, Act::Gate, Long(1)),
         ],
     },
-    // One that rotates, the empty one, and one of which no mark is kept.
+    // One that rotates, the empty one, and one of which no mark is kept: one is at the floor, and
+    // the other is of the empty span.
     Row {
         pages: PAGES,
         seats: 2,
@@ -117,6 +118,7 @@ static ROWS: [Row; 9] = [
                 ),
                 Place(0, (true, true, 0), 1),
             ),
+            (1, Figures, Counted((2, 1, 5, 165, 5), 1)),
             (
                 0,
                 Again(Several(&[]), 20, Gate),
@@ -124,7 +126,11 @@ static ROWS: [Row; 9] = [
             ),
             (
                 0,
-                Again(Several(&[("a", "", 5, First)]), 20, Gate),
+                Again(
+                    Several(&[("a", "", 5, First), ("a", "a", 20, First)]),
+                    20,
+                    Gate,
+                ),
                 Place(2, (false, false, 0), 3),
             ),
             (1, Get("e", ""), Value((20, 0), First, 3)),

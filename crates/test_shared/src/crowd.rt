@@ -17,7 +17,7 @@ use tsc_span::Ends;
 pub struct Plan {
     /// How many each seat makes.
     pub each: u32,
-    /// How many the history may have of all.
+    /// How many of all are accepted.
     pub limit: u64,
     pub by: By,
     pub what: What,
@@ -210,7 +210,7 @@ static IN_ORDER: [Row; 2] = [
     Row {
         pages: PAGES,
         seats: 2,
-        limit: 4,
+        limit: 100,
         opens_again: false,
         steps: &[
             (

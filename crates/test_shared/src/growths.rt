@@ -4,8 +4,8 @@
 use super::marks::Entry::{One, Several};
 use super::party::By::{Gate, Plain};
 use super::party::Owner;
-use super::party::Told::Place;
-use super::steps::Act::{Add, Again};
+use super::party::Told::{Counted, Place, Value};
+use super::steps::Act::{Add, Again, Figures, Fill, Get, Often};
 use super::steps::{KEPT, PAGES, ROTATED, Row, play};
 use std::test::Fail;
 
@@ -111,6 +111,29 @@ static KNOWN_KEYS: Row = Row {
         ),
     ],
 };
+
+/// More than 4,096 keys on one page, and then one of them 40 times, where both sides have it. Each
+/// of these Adds takes a copy of its key and no other memory: no growth of theirs is made good.
+/// `scripts/refuse-each-growth last tests` counts them.
+static LARGE: Row = Row {
+    pages: (1_048_576, 1_048_576, 2),
+    seats: 2,
+    limit: 100,
+    opens_again: false,
+    steps: &[
+        (0, Fill(4097), Place(0, KEPT, 1)),
+        (0, Often("\0\0\x08\0", 1), Place(1, KEPT, 2)),
+        (1, Figures, Counted((1, 0, 4097, 4097 * 36, 5), 2)),
+        (0, Often("\0\0\x08\0", 40), Place(41, KEPT, 42)),
+        (1, Figures, Counted((1, 0, 4097, 4097 * 36, 5), 42)),
+        (1, Get("\0\0\x08\0", ""), Value((60, 0), Owner::First, 42)),
+    ],
+};
+
+#[test]
+fn known_keys_on_a_large_page(rt: HostRuntime) -> Result<(), Fail> {
+    play(&rt, rt.alloc(), &LARGE)
+}
 
 #[test]
 fn a_batch_of_known_keys(rt: HostRuntime) -> Result<(), Fail> {

@@ -13,14 +13,17 @@ use std::sync::Wait;
 use std::test::Fail;
 use std::thread;
 
-/// The first seat makes an Add that is held up until each other seat has asked for `a` and `b` so often.
+/// The first seat makes an Add that is held up until each other seat has asked so often for a key,
+/// or for the range up to a second one.
 pub struct Plan {
     pub held: Entry,
     pub now: u64,
     /// What the held Add is told.
     pub told: Told,
     pub looks: u32,
-    /// What the others are told of `a` and `b` together meanwhile.
+    /// What the others look up.
+    pub asked: (&'static str, &'static str),
+    /// What they are told of it meanwhile.
     pub meanwhile: Told,
     /// And of the floor.
     pub floor: Told,
@@ -40,6 +43,7 @@ static FIRST: Row = Row {
                 now: 20,
                 told: Place(0, KEPT, 1),
                 looks: 1,
+                asked: ("a", ""),
                 meanwhile: Value((5, 0), Owner::None, 0),
                 floor: Value((5, 0), Owner::None, 0),
             })),
@@ -66,6 +70,7 @@ static BATCH: Row = Row {
                 now: 20,
                 told: Place(0, KEPT, 1),
                 looks: 1,
+                asked: ("a", "c"),
                 meanwhile: Value((5, 0), Owner::None, 0),
                 floor: Value((5, 0), Owner::None, 0),
             })),
@@ -100,6 +105,7 @@ static ROTATING: Row = Row {
                 now: 40,
                 told: Place(8, (true, true, 1), 9),
                 looks: 1,
+                asked: ("a", ""),
                 meanwhile: Value((20, 0), Owner::First, 8),
                 floor: Value((5, 0), Owner::None, 8),
             })),
@@ -127,6 +133,7 @@ static MANY: Row = Row {
                 now: 20,
                 told: Place(1, KEPT, 2),
                 looks: 1000,
+                asked: ("a", ""),
                 meanwhile: Value((20, 0), Owner::First, 1),
                 floor: Value((5, 0), Owner::None, 1),
             })),
@@ -139,14 +146,20 @@ static MANY: Row = Row {
     ],
 };
 
+/// What a seat is told of a key, or of the range up to a second one.
+fn get<C: Of>(home: &Home<C>, guest: &mut Guest<C>, (start, end): (&str, &str)) -> Told {
+    if end.is_empty() {
+        home.get_key(guest, start)
+    } else {
+        home.get_between(guest, start, Some(end), (false, true))
+    }
+}
+
 impl<C: Of> Meeting<'_, C> {
     /// Looks as often as the plan says, and tries to add the same, after however many tries, which leaves the seat as it was.
     fn look<R: Wait + Abort>(&self, rt: &R, home: &Home<C>, guest: &mut Guest<C>, plan: &Plan) {
         for _ in 0..plan.looks {
-            let (told, floor) = (
-                home.get_between(guest, "a", Some("c"), (false, true)),
-                home.low(guest),
-            );
+            let (told, floor) = (get(home, guest, plan.asked), home.low(guest));
             check(rt, told == plan.meanwhile, told);
             check(rt, floor == plan.floor, floor);
         }

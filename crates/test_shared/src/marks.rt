@@ -97,6 +97,18 @@ impl Adding {
         Some(Adding::One(Mark { span, value }, at(wall)))
     }
 
+    /// The keys of so many numbers, of four bytes each, at 20.0 by the first owner. `None` where
+    /// memory is refused.
+    pub fn numbers(alloc: Global, count: u32) -> Option<Adding> {
+        let mut marks = Vec::with_capacity(alloc, count as usize).ok()?;
+        for number in 0..count {
+            let span = Span::point(Key::new(alloc, &number.to_be_bytes()).ok()?);
+            let value = value_of(20, Owner::First);
+            marks.push(Mark { span, value }).ok()?;
+        }
+        Some(Adding::Several(marks, at(20)))
+    }
+
     /// Several marks, at a moment. `None` where memory is refused.
     pub fn several(alloc: Global, rows: &[MarkRow], now: u64) -> Option<Adding> {
         let mut marks = Vec::with_capacity(alloc, rows.len()).ok()?;

@@ -108,15 +108,15 @@ fn bytes_are_looked_up_by_their_ends(rt: HostRuntime) -> Result<(), Fail> {
     play(&rt, rt.alloc(), &BETWEEN)
 }
 
-/// The second seat is dropped, and the first one adds.
+/// The first seat adds, and the second one is dropped.
 static DROPPED: Row = Row {
     pages: PAGES,
     seats: 2,
     limit: 10,
     opens_again: false,
     steps: &[
-        (1, Leave, Not(Why::Done)),
         (0, Add(One("a", 20), 20, Gate), Place(0, KEPT, 1)),
+        (1, Leave, Not(Why::Done)),
         (0, Close, Not(Why::Open)),
         (0, Get("b", ""), Value((5, 0), Owner::None, 1)),
         (0, Close, Not(Why::Open)),
@@ -180,7 +180,8 @@ static TOLD: [Row; 6] = [
             (0, CloseLate, Long(0)),
         ],
     },
-    // Two seats meet. An Add that the cache does not keep has its place too.
+    // One seat learns an older front of the other, and the two meet. An Add that the cache does
+    // not keep has its place too.
     Row {
         pages: PAGES,
         seats: 2,
@@ -188,8 +189,10 @@ static TOLD: [Row; 6] = [
         opens_again: false,
         steps: &[
             (1, Low, Value((5, 0), Owner::None, 0)),
-            (0, Add(One("a", 20), 20, Plain), Place(0, KEPT, 1)),
+            (0, Add(One("a", 20), 20, Gate), Place(0, KEPT, 1)),
+            (0, Send, Long(1)),
             (0, Add(One("b", 20), 20, Plain), Place(1, KEPT, 2)),
+            (1, Learn, Long(2)),
             (0, Meet, Long(2)),
             (
                 1,

@@ -24,6 +24,10 @@ pub enum Act {
     Add(Entry, u64, By),
     /// The same, made once more where it is refused memory. After the refusal all is as before.
     Again(Entry, u64, By),
+    /// Adds so many keys of four bytes as one entry, each of them a number.
+    Fill(u32),
+    /// Adds a key so often, each time at a later time, and in place.
+    Often(&'static str, u32),
     /// Looks up a key, or the range up to a second one.
     Get(&'static str, &'static str),
     /// Looks up the keys from a start to an end, of which either may be excluded.
@@ -258,6 +262,37 @@ impl<C: Of + Send + Sync> Stage<C> {
         }
     }
 
+    /// An entry of the keys of so many numbers.
+    fn fill<R: Wait>(&mut self, rt: &R, alloc: Global, seat: usize, count: u32) -> Told {
+        match Adding::numbers(alloc, count) {
+            Some(adding) => self.add(rt, seat, &adding, By::Plain),
+            None => Told::Not(Why::NoMemory),
+        }
+    }
+
+    /// So many Adds of a key at times that rise, and what the last one is told, or the first one
+    /// that brings a new page or is refused.
+    fn add_often<R: Wait>(
+        &mut self,
+        rt: &R,
+        alloc: Global,
+        seat: usize,
+        (key, count): (&'static str, u32),
+    ) -> Told {
+        let mut told = Told::Not(Why::Done);
+        for round in 0..count {
+            let wall = u64::from(round).saturating_add(21);
+            told = match Adding::one(alloc, key, wall, 20) {
+                Some(adding) => self.add(rt, seat, &adding, By::Plain),
+                None => Told::Not(Why::NoMemory),
+            };
+            if !is_in_place(told) {
+                return told;
+            }
+        }
+        told
+    }
+
     /// What a seat is told.
     fn take_one<R: Wait>(&mut self, rt: &R, alloc: Global, seat: usize, act: &Act) -> Told {
         let (Some(home), Some(guest)) = (&self.home, self.guests.get_mut(seat)) else {
@@ -375,6 +410,8 @@ impl<C: Of + Send + Sync> Stage<C> {
             Act::Again(entry, now, by) => {
                 self.add_entry(rt, alloc, seat, (entry, *now, *by, true))
             }
+            Act::Fill(count) => self.fill(rt, alloc, seat, *count),
+            Act::Often(key, count) => self.add_often(rt, alloc, seat, (key, *count)),
             Act::Gate => Told::Long(self.gate.told()),
             Act::Copy(start, end) => copy_again(alloc, start, end),
             Act::Leave => self.leave(),
@@ -403,6 +440,11 @@ impl<C: Of + Send + Sync> Stage<C> {
         }
         None
     }
+}
+
+/// Whether an Add is kept, and brings no new page.
+fn is_in_place(told: Told) -> bool {
+    matches!(told, Told::Place(_, (true, false, 0), _))
 }
 
 /// How a cache ends that these seats close. `None` where that is refused memory.

@@ -7,8 +7,9 @@ use Rattle.tsc_time.proofs.TimeOrder.{is_before-itself, no_earlier-transitive}
 use Rattle.tsc_span.specs.Span.{Interval}
 use Rattle.tsc_cache.specs.History.{History, BeginsWith}
 use Rattle.tsc_cache.proofs.Beginnings.{begins_itself, begins_on, begins_entries}
-use Rattle.tsc_shared.specs.Seats.{SeatView}
-use Rattle.timestamp_cache.specs.Clear.{IsClearOfReads, IsClearOfAllReads, AsksEarliestAt, AsksInTurn, all_asked, none_told, one_told, AsksOfAllAt}
+use Rattle.tsc_shared.specs.Seats.{SeatView, IsSeat}
+use Rattle.tsc_shared.specs.Answers.{GoesOn}
+use Rattle.timestamp_cache.specs.Clear.{IsClearOfReads, IsClearOfAllReads, AsksEarliestAt, AsksInTurn, all_asked, none_told, one_told, IsClearInTurn, all_clear, one_clear, IsClearOfLast, AsksOfAllAt}
 use Rattle.timestamp_cache.proofs.Earliest.{clear_later}
 
 -- ---- reads
@@ -22,50 +23,74 @@ clear_first : (h start : History) (span : Interval) (others : List Interval) (by
 clear_first h start span others by t begins first rest zero d below = first
 clear_first h start span others by t begins first rest (suc k) d below = λ e m there own over. rest k d (omega (arith, below)) e m (begins_entries h start e begins there) own over
 
+-- What is clear of each span in turn is clear of the last one in the end.
+last_clear : (by : Owner) (t : Time) (h end : History) (spans : List Interval) → IsClearInTurn by t h spans end → IsClearOfLast end spans by t
+last_clear by t h end spans (all_clear seen) = tt
+last_clear by t h end spans (one_clear before seen last span others begins clear (all_clear s)) = clear
+last_clear by t h end spans (one_clear before seen last span others begins clear (one_clear b s l next more on again rest)) =
+    last_clear by t seen last (next ∷ more) (one_clear b s l next more on again rest)
+
+last_of : (by : Owner) (h end : History) (spans : List Interval) (told : Option Time) → IfSome told (λ t. IsClearInTurn by t h spans end) → IfSome told (λ t. IsClearOfLast end spans by t)
+last_of by h end spans None clear = tt
+last_of by h end spans (Some t) clear = last_clear by t h end spans clear
+
+-- and of all in the beginning
+first_clear : (by : Owner) (t : Time) (h end : History) (spans : List Interval) → IsClearInTurn by t h spans end → IsClearOfAllReads h spans by t
+first_clear by t h end spans (all_clear seen) = λ k d below. absurd (omega (arith, below))
+first_clear by t h end spans (one_clear before seen last span others begins clear rest) =
+    clear_first seen before span others by t begins (λ e m there own over. clear e m (begins_entries seen before e begins there) own over) (first_clear by t seen last others rest)
+
+first_of : (by : Owner) (h end : History) (spans : List Interval) (told : Option Time) → IfSome told (λ t. IsClearInTurn by t h spans end) → IfSome told (λ t. IsClearOfAllReads h spans by t)
+first_of by h end spans None clear = tt
+first_of by h end spans (Some t) clear = first_clear by t h end spans clear
+
+-- a seat that goes on twice goes on
+goes_further : (old next new : SeatView) → GoesOn old next → GoesOn next new → GoesOn old new
+goes_further old next new first second = record {
+  cache = second.cache ∙ first.cache;
+  number = second.number ∙ first.number;
+  begins = begins_on new.seen next.seen old.seen second.begins first.begins;
+  is_seat = second.is_seat;
+}
+
 -- ---- all that is told
+
+-- all of it, from what is told in turn
+told_all : (old new : SeatView) (spans : List Interval) (by : Owner) (from : Time) (told : Option Time) → GoesOn old new → new.count ≡ old.count → AsksInTurn by old new spans from told
+    → IfSome told (λ t. is_before t from ≡ false) → IfSome told (λ t. IsClearInTurn by t old.seen spans new.seen) → AsksOfAllAt old new spans by from told
+told_all old new spans by from told on count turn later clear = record {
+  goes_on = on;
+  count = count;
+  in_turn = turn;
+  from_on = later;
+  each = clear;
+  last = last_of by old.seen new.seen spans told clear;
+  reads = first_of by old.seen new.seen spans told clear;
+}
 
 -- one span more in front
 ahead : (old next new : SeatView) (span : Interval) (others : List Interval) (by : Owner) (from at : Time) (told : Option Time) → AsksEarliestAt old next span by from (Some at) → AsksOfAllAt next new others by at told
     → AsksOfAllAt old new (span ∷ others) by from told
-ahead old next new span others by from at told asks all = record {
-  cache = all.cache ∙ asks.goes_on.cache;
-  number = all.number ∙ asks.goes_on.number;
-  count = all.count ∙ asks.count;
-  begins = begins_on new.seen next.seen old.seen all.begins asks.goes_on.begins;
-  in_turn = one_told old next new span others from at told asks all.in_turn;
-  from_on = no_earlier told all.from_on;
-  reads = clear_there told all.from_on all.reads;
-}
+ahead old next new span others by from at told asks all =
+    told_all old new (span ∷ others) by from told (goes_further old next new asks.goes_on all.goes_on) (all.count ∙ asks.count) (one_told old next new span others from at told asks all.in_turn)
+    (no_earlier told all.from_on) (clear_there told all.from_on all.each)
   where
     no_earlier : (o : Option Time) → IfSome o (λ t. is_before t at ≡ false) → IfSome o (λ t. is_before t from ≡ false)
     no_earlier None on = tt
     no_earlier (Some t) on = no_earlier-transitive from at t asks.earliest.from_on on
 
-    clear_there : (o : Option Time) → IfSome o (λ t. is_before t at ≡ false) → IfSome o (λ t. IsClearOfAllReads next.seen others by t) → IfSome o (λ t. IsClearOfAllReads old.seen (span ∷ others) by t)
+    clear_there : (o : Option Time) → IfSome o (λ t. is_before t at ≡ false) → IfSome o (λ t. IsClearInTurn by t next.seen others new.seen) → IfSome o (λ t. IsClearInTurn by t old.seen (span ∷ others) new.seen)
     clear_there None on clear = tt
-    clear_there (Some t) on clear = clear_first next.seen old.seen span others by t asks.goes_on.begins (clear_still next.seen old.seen span by at t asks.goes_on.begins on asks.reads) clear
+    clear_there (Some t) on clear = one_clear old.seen next.seen new.seen span others asks.goes_on.begins (clear_still next.seen next.seen span by at t (begins_itself next.seen) on asks.reads) clear
 
 -- What a seat is told of spans in turn is all that it asks for.
-pub asks_all : (by : Owner) (old new : SeatView) (spans : List Interval) (from : Time) (told : Option Time) → AsksInTurn by old new spans from told → AsksOfAllAt old new spans by from told
-asks_all by old new spans from told (all_asked seat at) = record {
-  cache = refl;
-  number = refl;
-  count = refl;
-  begins = begins_itself seat.seen;
-  in_turn = all_asked seat at;
-  from_on = is_before-itself at;
-  reads = λ k d below. absurd (omega (arith, below));
-}
-asks_all by old new spans from told (none_told first last span others at asks) = record {
-  cache = asks.goes_on.cache;
-  number = asks.goes_on.number;
-  count = asks.count;
-  begins = asks.goes_on.begins;
-  in_turn = none_told first last span others at asks;
-  from_on = tt;
-  reads = tt;
-}
-asks_all by old new spans from told (one_told first next last span others at later end asks rest) = ahead first next last span others by at later end asks (asks_all by next last others later end rest)
+pub asks_all : (by : Owner) (old new : SeatView) (spans : List Interval) (from : Time) (told : Option Time) → IsSeat old → AsksInTurn by old new spans from told → AsksOfAllAt old new spans by from told
+asks_all by old new spans from told is (all_asked seat at) =
+    told_all seat seat [] by at (Some at) (record { cache = refl; number = refl; begins = begins_itself seat.seen; is_seat = is }) refl (all_asked seat at) (is_before-itself at) (all_clear seat.seen)
+asks_all by old new spans from told is (none_told first last span others at asks) =
+    told_all first last (span ∷ others) by at None asks.goes_on asks.count (none_told first last span others at asks) tt tt
+asks_all by old new spans from told is (one_told first next last span others at later end asks rest) =
+    ahead first next last span others by at later end asks (asks_all by next last others later end asks.goes_on.is_seat rest)
 
 -- ---- one after another
 
@@ -90,16 +115,16 @@ asked_more old now next spans i s by from at later there is so_far asks = record
 }
 
 -- where there is no time for one more, there is none for all
-pub asked_last : (old now new : SeatView) (spans : List Interval) (i : ℕ) (s : Interval) (by : Owner) (from at : Time) → i < length spans → get_or spans i s ≡ s
+pub asked_last : (old now new : SeatView) (spans : List Interval) (i : ℕ) (s : Interval) (by : Owner) (from at : Time) → IsSeat old → i < length spans → get_or spans i s ≡ s
     → HasAsked old now spans (drop i spans) by from at → AsksEarliestAt now new s by at None → AsksOfAllAt old new spans by from None
-asked_last old now new spans i s by from at there is so_far asks =
-    asks_all by old new spans from None (so_far.goes_on new None
+asked_last old now new spans i s by from at seat there is so_far asks =
+    asks_all by old new spans from None seat (so_far.goes_on new None
     (subst (λ (left : List Interval). AsksInTurn by now new left at None) (sym (left_from spans i s there is)) (none_told now new s (drop (i + 1) spans) at asks)))
 
 -- until none is left
-pub asked_all : (old new : SeatView) (spans : List Interval) (i : ℕ) (by : Owner) (from at : Time) → length spans ≤ i → HasAsked old new spans (drop i spans) by from at → AsksOfAllAt old new spans by from (Some at)
-asked_all old new spans i by from at past so_far =
-    asks_all by old new spans from (Some at) (so_far.goes_on new (Some at) (subst (λ (left : List Interval). AsksInTurn by new new left at (Some at)) (sym (drop_of_length-le spans past)) (all_asked new at)))
+pub asked_all : (old new : SeatView) (spans : List Interval) (i : ℕ) (by : Owner) (from at : Time) → IsSeat old → length spans ≤ i → HasAsked old new spans (drop i spans) by from at → AsksOfAllAt old new spans by from (Some at)
+asked_all old new spans i by from at seat past so_far =
+    asks_all by old new spans from (Some at) seat (so_far.goes_on new (Some at) (subst (λ (left : List Interval). AsksInTurn by new new left at (Some at)) (sym (drop_of_length-le spans past)) (all_asked new at)))
 
 -- ---- of one span
 

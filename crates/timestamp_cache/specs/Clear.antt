@@ -47,12 +47,30 @@ pub data AsksInTurn (by : Owner) : SeatView → SeatView → List Interval → T
   one_told : (old next new : SeatView) (span : Interval) (others : List Interval) (from at : Time) (told : Option Time)
       → AsksEarliestAt old next span by from (Some at) → AsksInTurn by next new others at told → AsksInTurn by old new (span ∷ others) from told
 
--- A seat asks for the earliest time, from one on, at which a write of all of some spans is clear: it asks of them in turn. A time that it is told is not before the one from which it asked, and there the write is clear of each read on any of the spans that the seat had seen when it was called.
+-- A write is clear of each read on some spans, of each in the history that was seen when it was
+-- asked of. Each history begins with the one before it.
+pub data IsClearInTurn (by : Owner) (at : Time) : History → List Interval → History → Type 0 where
+  all_clear : (seen : History) → IsClearInTurn by at seen [] seen
+  one_clear : (before seen last : History) (span : Interval) (others : List Interval) → BeginsWith seen before → IsClearOfReads seen span by at
+      → IsClearInTurn by at seen others last → IsClearInTurn by at before (span ∷ others) last
+
+-- A write is clear of each read of a history on the last of some spans.
+abbrev pub IsClearOfLast : History → List Interval → Owner → Time → Type 0
+IsClearOfLast h [] by at = Unit {0}
+IsClearOfLast h (span ∷ []) by at = IsClearOfReads h span by at
+IsClearOfLast h (span ∷ next ∷ others) by at = IsClearOfLast h (next ∷ others) by at
+
+-- A seat asks for the earliest time, from one on, at which a write of all of some spans is clear:
+-- it asks of them in turn. A time that it is told is not before the one from which it asked. There
+-- the write is clear:
 pub record AsksOfAllAt (old new : SeatView) (spans : List Interval) (by : Owner) (from : Time) (told : Option Time) : Type 0 where
-  pub cache : new.cache ≡ old.cache
-  pub number : new.number ≡ old.number
+  pub goes_on : GoesOn old new
   pub count : new.count ≡ old.count
-  pub begins : BeginsWith new.seen old.seen
   pub in_turn : AsksInTurn by old new spans from told
   pub from_on : IfSome told (λ t. is_before t from ≡ false)
+  -- of each read on each span that the seat had seen when it asked of that one
+  pub each : IfSome told (λ t. IsClearInTurn by t old.seen spans new.seen)
+  -- so of each read on the last span that the seat has seen in the end
+  pub last : IfSome told (λ t. IsClearOfLast new.seen spans by t)
+  -- and of each read on any of them that it had seen when it was called
   pub reads : IfSome told (λ t. IsClearOfAllReads old.seen spans by t)

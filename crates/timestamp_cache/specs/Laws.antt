@@ -8,6 +8,7 @@ use Rattle.tsc_span.specs.Span.{Interval, overlaps}
 use Rattle.tsc_page_base.specs.Page.{Mark}
 use Rattle.tsc_cache.specs.Settings.{Settings}
 use Rattle.tsc_cache.specs.State.{CacheState, step_all, look}
+use Rattle.tsc_cache.specs.CacheView.{CacheView, StandsForState, cache_answer}
 use Rattle.tsc_cache.specs.declared.history.Entry.{Entry}
 use Rattle.tsc_cache.specs.History.{History, state_from, state_of, BeginsWith}
 use Rattle.tsc_shared.specs.declared.answers.Receipt.{Receipt}
@@ -34,6 +35,11 @@ pub record ReadsAreCarried : Type 0 where
       → Contains ms m → overlaps m.span span ≡ true → IsAtMost m.value answer
   pub clear : (adder added guest told later : SeatView) (ms : List Mark) (span : Interval) (answer : OwnedTime) (m : Mark) (by : Owner) (at : Time) → Carries adder added guest told later ms span answer
       → Contains ms m → overlaps m.span span ≡ true → IsClearOf answer by at → IsClearOf m.value by at
+
+-- A cache answers to each span what each state answers that it stands for. So what is said of a
+-- cache's answers holds of a lookup in such a state.
+abbrev pub AnswersAreLookedUp : Type 0
+AnswersAreLookedUp = (cache : CacheView) (settings : Settings) (s : CacheState) (span : Interval) → StandsForState cache settings s → cache_answer cache span ≡ look s span
 
 -- A time is no earlier than the moment of any entry less the retention, where there is such a time.
 abbrev pub IsRetained : Settings → History → Time → Type 0

@@ -1,13 +1,21 @@
-//! Laws of histories of reads, over the definitions alone: those of `tsc_cache`, and four on what a store rests on.
+//! Laws of histories of reads, over the definitions alone: those of `tsc_cache`, and five on what
+//! a store rests on.
 //!
 //! No program needs to call these functions: their contracts are the laws.
-ghost use Rattle.timestamp_cache.specs.Laws.{ReadsAreCarried, PushedByReadsAlone, ClearIsAtMost, ReadsAreHandedOn};
+ghost use Rattle.timestamp_cache.specs.Laws.{AnswersAreLookedUp, ReadsAreCarried, PushedByReadsAlone, ClearIsAtMost, ReadsAreHandedOn};
 
 pub use tsc_cache::laws::{
     beginnings, can_all_be_added, can_be_added, evicts_the_expired, floor_behind, kept_up,
     lists_join, no_write_below_a_read, one_mark_is_a_step, one_mark_is_an_add, real, rising,
     sizes_double,
 };
+
+/// A cache answers to each span what each state answers that it stands for. So what
+/// [`may_write`](crate::may_write) and [`earliest_write`](crate::earliest_write) promise of a
+/// cache's answers holds of what a lookup in such a state answers, on every span.
+pub fn answers_are_looked_up()
+    ensures { AnswersAreLookedUp }
+{}
 
 /// What one seat added bounds what another is answered that learned the front of that Add, or of a later one, and a write that is
 /// clear of the answer is clear of what was added. So a writer that was handed a front with its latch writes below no read that came before it.

@@ -57,11 +57,18 @@ pub fn earliest_write(cache: &Cache, spans: &[Span], at: Timestamp, by: Uuid) ->
     Some(time)
 }
 
-/// As [`earliest_write`], for a seat of a shared cache: the earliest time, not before `at`, at which the write is clear of what lookups of the spans
-/// by the seat answer, one after another. It is then clear of each read on one of the spans that the seat had seen before.
+/// As [`earliest_write`], for a seat of a shared cache: the earliest time, not before `at`, at
+/// which the write is clear of what lookups of the spans by the seat answer, one after another.
 ///
-/// Each lookup may see more than the one before it, so what is told is the time from the one lookup's on that is clear of the next: it is
-/// exact for each of them, and `None` where one of them tells none. It waits for nobody, takes no memory, and is never [`Gone`].
+/// Each lookup may see more than the one before it. So what is told is the time from the one
+/// lookup's on that is clear of the next: it is exact for each of them, and `None` where one of
+/// them tells none.
+///
+/// It is clear of each read on a span that the seat had seen when that span was looked up. So on
+/// the last span it is clear of each read that the seat has seen in the end, and on each other one
+/// of each that it had seen before the call, or more.
+///
+/// It waits for nobody, takes no memory, and is never [`Gone`].
 pub fn earliest_write_at(
     cache: &SharedCache,
     seat: &mut Seat,
@@ -74,6 +81,7 @@ pub fn earliest_write_at(
     ensures asked { IfOk result (λ told. AsksOfAllAt seat.old seat.new spans.now by at told) }
     ensures reads { IfOk result (λ told. IfSome told (λ t. IsClearOfAllReads seat.old.seen spans.now by t)) }
 {
+    let _number = seat.number();
     let mut time = at;
     for span in spans {
         match earliest_of_one(cache, seat, span, time, by)? {

@@ -23,6 +23,7 @@ pub(crate) fn seat_all(
     ensures { IfOk result (λ seats. seats.items ≡ new_seats (shared_view desk.now.table_id terms.now) 0 terms.now.seats) }
 {
     let count = terms.seats;
+    let _first = terms.config.page_first();
     let mut seats = Vec::with_capacity(alloc, count as usize)?;
     for number in 0..count {
         let at_desk = deal(desk, &mut all);

@@ -91,8 +91,8 @@ pub fn read_max(
     ensures looked { (cache : CacheView) × HasLooked at_desk.old.me.0 at_desk.new.me result.1 cache × ((settings : Settings) (s : CacheState) → StandsForState cache settings s → result.0 ≡ state.look s span.now) }
 {
     let front = pick_up(desk, at_desk, number);
-    let slot = at_desk.slot_mut(desk, side_slot(number, front % 2));
-    let value = max_of(slot, span);
+    let shown = at_desk.slot_mut(desk, side_slot(number, front % 2));
+    let value = max_of(shown, span);
     leave(desk, at_desk, number);
     (value, front)
 }

@@ -1,4 +1,4 @@
-use Rattle.std.proofs.Common.{◌≡◌, ◌∙◌, true, false, true≢false, refl, sym, ap, subst}
+use Rattle.std.proofs.Common.{rules, ◌≡◌, ◌∙◌, true, false, true≢false, refl, sym, ap, subst}
 use Rattle.tsc_cache.specs.Batch.{all_fit}
 use Rattle.tsc_shared.specs.Seats.{SharedView}
 use Rattle.tsc_shared.proofs.SeatSteps.{goes_nowhere, not_where_it_fits, copy_added, accepts_where_copied}
@@ -29,3 +29,6 @@ returns-then-not-fits_all-clause-no_tries g c = λ _ fit. absurd (true≢false (
 
 pub returns-clause-no_tries : goal.returns-clause-no_tries
 returns-clause-no_tries g c = λ none _. c.add_copy.ensures.no_tries none
+
+pub add_copy-requires-clause-untold : goal.add_copy-requires-clause-untold
+add_copy-requires-clause-untold g c = search rules

@@ -1,0 +1,5 @@
+use Rattle.tsc_cache.proofs.StatesSeen.{answers_look}
+use Rattle.timestamp_cache.proofs.laws.answers_are_looked_up.Goals as goal
+
+pub returns : goal.returns
+returns c = answers_look
