@@ -1,5 +1,5 @@
 -- What can be seen afterwards stands for the next state.
-use Rattle.std.proofs.Common.{◌≡◌, ◌∙◌, sym, ap, subst, true, false}
+use Rattle.std.proofs.Common.{rules, ◌≡◌, ◌∙◌, sym, ap, subst, true, false}
 use Rattle.std.specs.Prelude.{IfOk}
 use Rattle.tsc_page_base.specs.Page.{Mark}
 use Rattle.tsc_cache.specs.contracts.cache.Cache.{the_view}
@@ -61,3 +61,6 @@ returns-clause-added c =
 
 pub invariant_of-self-2 : goal.invariant_of-self-2
 invariant_of-self-2 c = subst AreStacked (sym (c.in_ok-mark_front.ensures.full c.if-branch.false)) c.self.invariant
+
+pub returns-clause-unchanged : goal.returns-clause-unchanged
+returns-clause-unchanged c = search rules

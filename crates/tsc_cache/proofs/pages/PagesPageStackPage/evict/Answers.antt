@@ -1,5 +1,5 @@
 -- One page more is dropped.
-use Rattle.std.proofs.Common.{subst, arith}
+use Rattle.std.proofs.Common.{rules, subst, arith}
 use Rattle.std.proofs.lemmas.List.{length-map}
 use Rattle.std.specs.Arc.{arc_value}
 use Rattle.tsc_cache.specs.CacheParts.{older_of}
@@ -26,3 +26,6 @@ loop-top-preserved c =
       c.loop-top.invariant.0,
       dropping-more c.args.config.now c.args.floor c.args.now (older_of c.args.self.now) (older_of c.loop-top.self) _ (arc_value popped.0) c.loop-top.floor c.in-Some.top c.max-floor.result c.loop-top.evicted c.loop-top.invariant.1 c.max-floor.ensures popped.1 found,
     )
+
+pub returns-clause-dropped : goal.returns-clause-dropped
+returns-clause-dropped c = search rules
