@@ -19,7 +19,7 @@ invariant_of-push c =
     new_rests c.deal-at_desk.result c.args.terms.now c.loop-number.number
     (dealt_then c.loop-number.all.me c.deal-at_desk.result.me c.args.terms.now c.loop-number.number c.args.terms.now.seats c.loop-number-test.true c.loop-number.invariant.1 c.deal-at_desk.ensures.first)
     c.loop-number-test.true
-    c.page_first-_first.ensures.limits
+    c.page_first-first.ensures.limits
     (resize c.args.desk.now.table_id c.deal-at_desk.result.table_id c.args.all.me.0.terms.seats c.args.terms.now.seats (c.deal-at_desk.ensures.its_table ∙ c.loop-number.invariant.0 ∙ c.requires.at_desk.table) (sym (ap (λ m. m.0.terms.seats) c.requires.all)) c.requires.at_desk.sized)
 
 pub loop-number-preserved : goal.loop-number-preserved
