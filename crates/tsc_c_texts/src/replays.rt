@@ -1,6 +1,6 @@
 //! Replays of the bytes of a trace.
 ghost use Rattle.std.specs.Prelude.{◌≡◌, ◌≢◌, ◌≤◌, IfOk, IfErr, length};
-ghost use Rattle.tsc_trace_io.specs.Stream.{longest_input};
+ghost use Rattle.tsc_c_texts.specs.Limits.{longest_text};
 ghost use Rattle.tsc_trace.specs.Replay.{fault_text};
 ghost use Rattle.tsc_trace.specs.declared.replays.ReplayFault.TheVariants as replay_fault;
 ghost use Rattle.tsc_c_texts.specs.Texts.{IsTrace, IsNoTrace, SaysOfReplay};

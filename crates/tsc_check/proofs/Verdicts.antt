@@ -1,7 +1,7 @@
 -- The verdict, by the first test that a line fails.
 use Rattle.std.proofs.Common.{◌≡◌, ◌∙◌, sym, ap, refl, ℕ, zero, suc, Bool, true, false, ◌+◌, ◌^◌, max, ◌<◌, ◌≤◌, List, length, Option, Some, None, add-one, arith}
 use Rattle.std.specs.Prelude.{slice_get, if◌then◌else◌, IfSome}
-use Rattle.tsc_trace_json.specs.Lists.{most_calls}
+use Rattle.tsc_trace_json.specs.Limits.{most_calls}
 use Rattle.std.proofs.lemmas.Option.{slice_get_within}
 use Rattle.tsc_trace_json.specs.declared.trace.Call.{Call}
 use Rattle.tsc_trace_json.specs.Traces.{Trace}

@@ -1,6 +1,6 @@
 //! Which line is not that of its call.
 ghost use Rattle.std.specs.Prelude.{◌≡◌, ◌≤◌, ◌+◌, ◌++◌, length, drop, List, Option, Some, None, MatchOption, IfNone, IfSome, ◌<◌, ◌^◌};
-ghost use Rattle.tsc_trace_json.specs.Lists.{most_calls};
+ghost use Rattle.tsc_trace_json.specs.Limits.{most_calls};
 ghost use Rattle.tsc_check.specs.Verdict.{PlacedCall, calls_of, calls_of_list, is_of_kind, is_line_of};
 ghost use Rattle.tsc_check.specs.CheckParts.{first_other};
 

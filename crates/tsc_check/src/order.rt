@@ -1,6 +1,6 @@
 //! The lines of a log in the order of the Adds.
 ghost use Rattle.std.specs.Prelude.{◌≡◌, ◌<◌, ◌≤◌, ◌+◌, ◌^◌, ℕ, nat_lt, suc, length, get_or, is_some, false, None, IfOk, OnOk, IfNone};
-ghost use Rattle.tsc_trace_json.specs.Lists.{most_calls};
+ghost use Rattle.tsc_trace_json.specs.Limits.{most_calls};
 ghost use Rattle.tsc_trace.specs.Sayings.{front_of};
 ghost use Rattle.tsc_check.specs.Verdict.{adds_in, is_add, is_wrong_place, least, reach};
 ghost use Rattle.tsc_check.specs.CheckParts.{AreOfLists, HasPlaced};

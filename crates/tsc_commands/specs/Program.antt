@@ -1,13 +1,13 @@
 -- What the program does: what its words ask for, what that comes to, its exit status, and what it tells.
-use Rattle.std.specs.Prelude.{◌≡◌, ◌++◌, ℕ, List, [], ◌∷◌, map, Option, Result, Ok, Err, Vec, string_bytes}
+use Rattle.std.specs.Prelude.{◌≡◌, ◌++◌, ℕ, List, [], ◌∷◌, map, Result, Ok, Err, Vec, string_bytes}
 use Rattle.std.specs.declared.string.String.{String}
 use Rattle.std.specs.declared.alloc.Global.{Global}
 use Rattle.tsc_trace.specs.LogText.{line_feed}
-use Rattle.tsc_trace_io.specs.Stream.{KnownReader, KnownWriter, fresh_reader}
+use Rattle.tsc_trace_io.specs.Stream.{KnownReader, KnownWriter}
 use Rattle.tsc_trace.specs.declared.replays.ReplayFault.{ReplayFault}
 use Rattle.tsc_trace.specs.declared.replays.ReplayFault.TheVariants.{Read, NoMemory}
 use Rattle.tsc_commands.specs.Check.{EndsCheck}
-use Rattle.tsc_commands.specs.Place.{Opening}
+use Rattle.tsc_commands.specs.Place.{KnownFile, Opening, fresh_file}
 use Rattle.tsc_commands.specs.Replay.{EndsReplay, Tells, fault_line, status_of}
 use Rattle.tsc_commands.specs.Run.{EndsRun}
 use Rattle.tsc_commands.specs.Words.{Answers, Request, Word, check, refusal_status, refusal_text, replay, request_in, run}
@@ -40,14 +40,14 @@ fault_of_open open_fault.NoMemory = NoMemory
 abbrev pub Ends : Type 1
 Ends = ℕ → KnownReader → KnownReader → KnownWriter → KnownWriter → KnownWriter → KnownWriter → Type 0
 
--- A command went over a file with these bytes, where they are known, from its first byte on.
-pub record GoesOverBytes (command : Ends) (bytes : Option (List ℕ)) (status : ℕ) (writer writer' errors errors' : KnownWriter) : Type 0 where
+-- A command went over a file of which this is known, from its first byte on.
+pub record GoesOverFile (command : Ends) (file : KnownFile) (status : ℕ) (writer writer' errors errors' : KnownWriter) : Type 0 where
   pub reader' : KnownReader
-  pub ends : command status (fresh_reader bytes) reader' writer writer' errors errors'
+  pub ends : command status (fresh_file file) reader' writer writer' errors errors'
 
 -- how a command over a file ends, by what opening the file came to
 abbrev pub GoesOverOpening : Ends → Opening → ℕ → KnownWriter → KnownWriter → KnownWriter → KnownWriter → Type 0
-GoesOverOpening command (Ok bytes) status writer writer' errors errors' = GoesOverBytes command bytes status writer writer' errors errors'
+GoesOverOpening command (Ok file) status writer writer' errors errors' = GoesOverFile command file status writer writer' errors errors'
 GoesOverOpening command (Err fault) status writer writer' errors errors' =
     OnlyTells (fault_line (fault_of_open fault)) (status_of (fault_of_open fault)) status writer writer' errors errors'
 
@@ -63,17 +63,17 @@ EndsCheckOf may_be status trace trace' writer writer' errors errors' =
     GoesOver (λ ended log log'. EndsCheck ended trace trace' log log') may_be status writer writer' errors errors'
 
 -- How the program ends, by what it is asked to do: to replay or to run the file of a name, to check the log in a file against the trace in
--- another, which is opened first, or nothing. It tells of a run that a thread was not started only where the start of one was refused.
-abbrev pub DoesAsked : Type 0 → Result Request WordsFault → (Word → Opening → Type 0) → ℕ → KnownWriter → KnownWriter → KnownWriter → KnownWriter → Type 0
-DoesAsked refused (Ok (replay file)) opens status writer writer' errors errors' = GoesOver EndsReplay (opens file) status writer writer' errors errors'
-DoesAsked refused (Ok (run file)) opens status writer writer' errors errors' = GoesOver (EndsRun refused) (opens file) status writer writer' errors errors'
-DoesAsked refused (Ok (check trace log)) opens status writer writer' errors errors' =
+-- another, which is opened first, or nothing.
+abbrev pub DoesAsked : Result Request WordsFault → (Word → Opening → Type 0) → ℕ → KnownWriter → KnownWriter → KnownWriter → KnownWriter → Type 0
+DoesAsked (Ok (replay file)) opens status writer writer' errors errors' = GoesOver EndsReplay (opens file) status writer writer' errors errors'
+DoesAsked (Ok (run file)) opens status writer writer' errors errors' = GoesOver EndsRun (opens file) status writer writer' errors errors'
+DoesAsked (Ok (check trace log)) opens status writer writer' errors errors' =
     GoesOver (EndsCheckOf (opens log)) (opens trace) status writer writer' errors errors'
-DoesAsked refused (Err fault) opens status writer writer' errors errors' =
+DoesAsked (Err fault) opens status writer writer' errors errors' =
     OnlyTells (refusal_text fault ++ line_feed ∷ []) (refusal_status fault) status writer writer' errors errors'
 
 -- The program did what its words ask for, with what opening the file of a name may come to.
-pub record RunsProgram (refused : Type 0) (words : Result (List Word) WordsFault) (opens : Word → Opening → Type 0) (status : ℕ) (writer writer' errors errors' : KnownWriter) : Type 0 where
+pub record RunsProgram (words : Result (List Word) WordsFault) (opens : Word → Opening → Type 0) (status : ℕ) (writer writer' errors errors' : KnownWriter) : Type 0 where
   pub asked : Result Request WordsFault
   pub is_asked : AskFor words asked
-  pub ends : DoesAsked refused asked opens status writer writer' errors errors'
+  pub ends : DoesAsked asked opens status writer writer' errors errors'

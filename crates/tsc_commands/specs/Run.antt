@@ -26,13 +26,13 @@ pub record SucceedsRun (status : ℕ) (reader reader' : KnownReader) (writer wri
   pub quiet : errors' ≡ errors
 
 -- The run ended early, and that was told, with its exit status.
-pub record FailsRun (refused : Type 0) (status : ℕ) (reader reader' : KnownReader) (writer writer' errors errors' : KnownWriter) : Type 0 where
+pub record FailsRun (status : ℕ) (reader reader' : KnownReader) (writer writer' errors errors' : KnownWriter) : Type 0 where
   pub stop : RunStop
-  pub stopped : StopsRun refused stop reader reader' writer writer'
+  pub stopped : StopsRun stop reader reader' writer writer'
   pub is_status : status ≡ stop_status stop
   pub told : Tells (stop_line stop) errors errors'
 
--- how the command ends; where it tells that a thread was not started, the start of one was refused
-abbrev pub EndsRun : Type 0 → ℕ → KnownReader → KnownReader → KnownWriter → KnownWriter → KnownWriter → KnownWriter → Type 0
-EndsRun refused status reader reader' writer writer' errors errors' =
-    SucceedsRun status reader reader' writer writer' errors errors' ⊎ FailsRun refused status reader reader' writer writer' errors errors'
+-- how the command ends
+abbrev pub EndsRun : ℕ → KnownReader → KnownReader → KnownWriter → KnownWriter → KnownWriter → KnownWriter → Type 0
+EndsRun status reader reader' writer writer' errors errors' =
+    SucceedsRun status reader reader' writer writer' errors errors' ⊎ FailsRun status reader reader' writer writer' errors errors'

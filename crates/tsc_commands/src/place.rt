@@ -1,7 +1,6 @@
 //! Places where the program finds files by their names.
-ghost use Rattle.std.specs.Prelude.{ℕ, List, Option, Result};
-ghost use Rattle.tsc_commands.specs.Place.{IsOpening};
-ghost use Rattle.tsc_commands.specs.declared.place.OpenFault.{OpenFault};
+ghost use Rattle.std.specs.Prelude.{ℕ, List};
+ghost use Rattle.tsc_commands.specs.Place.{IsOpening, Opening};
 
 use tsc_trace_io::Source;
 
@@ -19,8 +18,9 @@ pub trait Place {
     /// A file that was opened.
     type File: Source + Drop;
 
-    /// What opening the file of a name may come to: its bytes, where they are known, or why there are none.
-    ghost opens: { Self → List ℕ → Result (Option (List ℕ)) OpenFault → Type 0 };
+    /// What opening the file of a name may come to: its bytes, where they are known, and with which
+    /// troubles a read may end, or why it is not opened.
+    ghost opens: { Self → List ℕ → Opening → Type 0 };
 
     /// Opens the file of a name, to be read from its first byte on.
     fn open(&self, name: &str) -> Result<Self::File, OpenFault>

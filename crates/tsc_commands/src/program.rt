@@ -16,7 +16,6 @@ use std::alloc::Global;
 use std::process::ExitCode;
 use std::sync::Wait;
 use std::thread::Threads;
-use tsc_run::RefusesThreads;
 use tsc_shared::Gate;
 use tsc_trace::ReplayFault;
 use tsc_trace_io::{Progress, Sink, Source, write_output};
@@ -27,13 +26,7 @@ use tsc_trace_io::{Progress, Sink, Source, write_output};
 /// `words` are the words, its own name first, or why they are not to be had. Only a log or a verdict goes
 /// to the output. A fault is told by one line on `errors`, and telling it changes no status. `rt` starts the
 /// threads of a run, for whose end the call waits. `meter` is told of each call that a command makes.
-pub fn program<
-    T: RefusesThreads + Threads + Wait + Sync,
-    P: Place,
-    W: Sink,
-    E: Sink,
-    M: Progress + Gate + Sync,
->(
+pub fn program<T: Threads + Wait + Sync, P: Place, W: Sink, E: Sink, M: Progress + Gate + Sync>(
     rt: &T,
     alloc: Global,
     words: Result<Vec<String>, WordsFault>,
@@ -42,7 +35,7 @@ pub fn program<
     errors: &mut Errors<E>,
     meter: &M,
 ) -> ExitCode
-    ensures { RunsProgram (T.HasRefused rt.now) (texts_of words) (P.opens place.now) (exit_status result)
+    ensures { RunsProgram (texts_of words) (P.opens place.now) (exit_status result)
         (W.known output.old.writer) (W.known output.new.writer) (E.known errors.old.writer) (E.known errors.new.writer) }
 {
     let status = do_asked(
@@ -58,13 +51,7 @@ pub fn program<
 }
 
 /// Does what the words ask for, and gives the exit status.
-fn do_asked<
-    T: RefusesThreads + Threads + Wait + Sync,
-    P: Place,
-    W: Sink,
-    E: Sink,
-    M: Progress + Gate + Sync,
->(
+fn do_asked<T: Threads + Wait + Sync, P: Place, W: Sink, E: Sink, M: Progress + Gate + Sync>(
     rt: &T,
     alloc: Global,
     words: Result<Vec<String>, WordsFault>,
@@ -73,7 +60,7 @@ fn do_asked<
     errors: &mut E,
     meter: &M,
 ) -> u8
-    ensures { RunsProgram (T.HasRefused rt.now) (texts_of words) (P.opens place.now) result
+    ensures { RunsProgram (texts_of words) (P.opens place.now) result
         (W.known writer.old) (W.known writer.new) (E.known errors.old) (E.known errors.new) }
 {
     match asked(alloc, words) {
@@ -115,7 +102,7 @@ fn replay_file<P: Place, W: Sink, E: Sink, M: Progress>(
 }
 
 /// Runs the trace in the file of a name on threads.
-fn run_file<T: RefusesThreads + Threads + Wait + Sync, P: Place, W: Sink, E: Sink, M: Gate + Sync>(
+fn run_file<T: Threads + Wait + Sync, P: Place, W: Sink, E: Sink, M: Gate + Sync>(
     rt: &T,
     alloc: Global,
     place: &P,
@@ -124,7 +111,7 @@ fn run_file<T: RefusesThreads + Threads + Wait + Sync, P: Place, W: Sink, E: Sin
     errors: &mut E,
     meter: &M,
 ) -> u8
-    ensures { GoesOver (EndsRun (T.HasRefused rt.now)) (P.opens place.now file.now) result
+    ensures { GoesOver EndsRun (P.opens place.now file.now) result
         (W.known writer.old) (W.known writer.new) (E.known errors.old) (E.known errors.new) }
 {
     match place.open(file) {

@@ -12,7 +12,7 @@ use std::env::Env;
 use std::io::{ErrorKind, Stderr, Stdout};
 use std::rt::Files;
 use std::{env, fs};
-use tsc_trace_io::Metered;
+use tsc_trace_io::{AnyTrouble, Metered};
 
 /// The program's words, of which the first is its own name. A word that is no text is wrong.
 pub fn fetch_words<R: Env + AllocGlobal>(rt: &R) -> Result<Vec<String>, WordsFault> {
@@ -33,16 +33,16 @@ fn words_fault(kind: ErrorKind) -> WordsFault
 }
 
 /// Standard output, which takes the logs and the verdicts.
-pub fn standard_output(stdout: Stdout) -> Output<Metered<Stdout>> {
+pub fn standard_output(stdout: Stdout) -> Output<Metered<AnyTrouble<Stdout>>> {
     Output {
-        writer: Metered::new(stdout),
+        writer: Metered::new(AnyTrouble(stdout)),
     }
 }
 
 /// Standard error, on which faults are told.
-pub fn standard_errors(stderr: Stderr) -> Errors<Metered<Stderr>> {
+pub fn standard_errors(stderr: Stderr) -> Errors<Metered<AnyTrouble<Stderr>>> {
     Errors {
-        writer: Metered::new(stderr),
+        writer: Metered::new(AnyTrouble(stderr)),
     }
 }
 
@@ -59,13 +59,13 @@ impl<'a, R> SystemFiles<'a, R> {
 }
 
 impl<R: Files> Place for SystemFiles<'_, R> {
-    type File = Metered<R::File>;
+    type File = Metered<AnyTrouble<R::File>>;
 
     ghost opens = { says_nothing };
 
-    fn open(&self, name: &str) -> Result<Metered<R::File>, OpenFault> {
+    fn open(&self, name: &str) -> Result<Metered<AnyTrouble<R::File>>, OpenFault> {
         match fs::open(self.runtime, name) {
-            Ok(file) => Ok(Metered::new(file)),
+            Ok(file) => Ok(Metered::new(AnyTrouble(file))),
             Err(error) => Err(open_fault(error.kind())),
         }
     }

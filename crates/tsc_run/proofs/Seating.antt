@@ -147,9 +147,9 @@ never_full cache lists seats closed limit early closes =
     omega (arith, limit, early.full, early.fewer, closes.counted, closes.adds, begins_length closes.history early.seat.seen begins)
 
 -- so a run does not end with that
-pub can_end : (refused : Type 0) (why : RunFault) (cache : SharedView) (lists : List (List Call)) (seats : List SeatView) (closed : Closed) → cache.limit ≡ adds_of_lists lists → StopsLists why cache lists seats → Closes cache seats closed → CanEndRun refused why
-can_end refused fault.HistoryFull cache lists seats closed limit stopped closes = never_full cache lists seats closed limit stopped closes
-can_end refused fault.NoMemory cache lists seats closed limit stopped closes = tt
-can_end refused (fault.Open why) cache lists seats closed limit stopped closes = absurd stopped
-can_end refused fault.Gone cache lists seats closed limit stopped closes = absurd stopped
-can_end refused fault.NoThread cache lists seats closed limit stopped closes = absurd stopped
+pub can_end : (why : RunFault) (cache : SharedView) (lists : List (List Call)) (seats : List SeatView) (closed : Closed) → cache.limit ≡ adds_of_lists lists → StopsLists why cache lists seats → Closes cache seats closed → CanEndRun why
+can_end fault.HistoryFull cache lists seats closed limit stopped closes = never_full cache lists seats closed limit stopped closes
+can_end fault.NoMemory cache lists seats closed limit stopped closes = tt
+can_end (fault.Open why) cache lists seats closed limit stopped closes = absurd stopped
+can_end fault.Gone cache lists seats closed limit stopped closes = absurd stopped
+can_end fault.NoThread cache lists seats closed limit stopped closes = absurd stopped

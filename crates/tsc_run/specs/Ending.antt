@@ -36,25 +36,25 @@ pub record NotRun (reader reader' : KnownReader) (writer writer' : KnownWriter) 
   pub read : HasReadTrace reader reader' trace
   pub silent : writer' ≡ writer
 
--- What a run can end with in place of a log: a growth was refused, or a thread was not started, where the start of one was refused. It has seats enough for all lists and a place for each, each lookup is answered, and there may be as many Adds as the lists have.
-abbrev pub CanEndRun : Type 0 → RunFault → Type 0
-CanEndRun refused (run_fault.Open why) = why ≡ open_fault.NoMemory
-CanEndRun refused run_fault.NoMemory = Unit {0}
-CanEndRun refused run_fault.Gone = ⊥
-CanEndRun refused run_fault.HistoryFull = ⊥
-CanEndRun refused run_fault.NoThread = refused
+-- What a run can end with in place of a log: a growth was refused, or a thread was not started. It has seats enough for all lists and a place for each, each lookup is answered, and there may be as many Adds as the lists have.
+abbrev pub CanEndRun : RunFault → Type 0
+CanEndRun (run_fault.Open why) = why ≡ open_fault.NoMemory
+CanEndRun run_fault.NoMemory = Unit {0}
+CanEndRun run_fault.Gone = ⊥
+CanEndRun run_fault.HistoryFull = ⊥
+CanEndRun run_fault.NoThread = Unit {0}
 
--- how a run that stopped so ended, and that the start of a thread was refused, where it says so
-abbrev pub StopsRun : Type 0 → RunStop → KnownReader → KnownReader → KnownWriter → KnownWriter → Type 0
-StopsRun refused (Stream Read) reader reader' writer writer' = NotRead reader reader' writer writer'
-StopsRun refused (Stream TooLong) reader reader' writer writer' = TooMuchRead reader reader' writer writer'
-StopsRun refused (Stream (Refused fault)) reader reader' writer writer' = RefusedAs fault reader reader' writer writer'
-StopsRun refused (Stream Write) reader reader' writer writer' = LogNotWritten reader reader' writer writer'
-StopsRun refused (Stream NoMemory) reader reader' writer writer' = OutOfMemory reader reader' writer writer'
-StopsRun refused NoView reader reader' writer writer' = ⊥
-StopsRun refused NoPlace reader reader' writer writer' = ⊥
-StopsRun refused HistoryFull reader reader' writer writer' = ⊥
-StopsRun refused NoThread reader reader' writer writer' = refused × NotRun reader reader' writer writer'
+-- how a run that stopped so ended
+abbrev pub StopsRun : RunStop → KnownReader → KnownReader → KnownWriter → KnownWriter → Type 0
+StopsRun (Stream Read) reader reader' writer writer' = NotRead reader reader' writer writer'
+StopsRun (Stream TooLong) reader reader' writer writer' = TooMuchRead reader reader' writer writer'
+StopsRun (Stream (Refused fault)) reader reader' writer writer' = RefusedAs fault reader reader' writer writer'
+StopsRun (Stream Write) reader reader' writer writer' = LogNotWritten reader reader' writer writer'
+StopsRun (Stream NoMemory) reader reader' writer writer' = OutOfMemory reader reader' writer writer'
+StopsRun NoView reader reader' writer writer' = ⊥
+StopsRun NoPlace reader reader' writer writer' = ⊥
+StopsRun HistoryFull reader reader' writer writer' = ⊥
+StopsRun NoThread reader reader' writer writer' = NotRun reader reader' writer writer'
 
 -- how a fault of a run ends it
 abbrev pub stop_of_run : RunFault → RunStop

@@ -2,7 +2,7 @@
 ghost use Rattle.std.specs.Prelude.{◌≡◌, ◌≢◌, ◌≤◌, true, IfOk, IfErr, length};
 ghost use Rattle.tsc_trace_json.specs.Calls.{adds, call_fits};
 ghost use Rattle.tsc_trace_json.specs.Traces.{EachFits};
-ghost use Rattle.tsc_trace_json.specs.Lists.{most_calls};
+ghost use Rattle.tsc_trace_json.specs.Limits.{most_calls};
 ghost use Rattle.tsc_shared.specs.Seats.{SeatView};
 ghost use Rattle.tsc_shared.specs.Answers.{GoesOn, RefusedFor, Refuses};
 ghost use Rattle.tsc_shared.specs.declared.answers.AddFault.TheVariants.{TooLarge};

@@ -1,6 +1,6 @@
-ghost use Rattle.std.specs.Prelude.{◌≡◌, ◌≤◌, IfOk, IfErr, length, map};
+ghost use Rattle.std.specs.Prelude.{◌≡◌, ◌≤◌, Err, IfOk, IfErr, length, map};
 ghost use Rattle.std.specs.List.{sum_by};
-ghost use Rattle.tsc_trace_json.specs.Lists.{most_calls};
+ghost use Rattle.tsc_trace_json.specs.Limits.{most_calls};
 ghost use Rattle.tsc_cache.specs.History.{History};
 ghost use Rattle.tsc_check.specs.Verdict.{verdict_of};
 ghost use Rattle.tsc_check.specs.declared.verdict.Verdict.TheVariants.{Right};
@@ -58,7 +58,8 @@ pub fn run_trace<R: RefusesThreads + Threads + Wait + Sync, G: Gate + Sync>(
 ) -> Result<Log, RunFault>
     ensures right { IfOk result (λ log. verdict_of trace.now log.lines ≡ Right) }
     ensures run { IfOk result (λ log. (h : History) × IsRunOf trace.now log.lines h) }
-    ensures why { IfErr result (CanEndRun (R.HasRefused rt.now)) }
+    ensures why { IfErr result CanEndRun }
+    ensures no_thread { result ≡ Err RunFault.NoThread → R.HasRefused rt.now }
 {
     let lists = trace.threads.slice();
     let adds = count_all_adds(lists);

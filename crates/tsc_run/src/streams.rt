@@ -1,5 +1,5 @@
 //! Runs of recorded traces from a reader to a writer.
-ghost use Rattle.std.specs.Prelude.{◌≡◌, Some, IfErr, OnOk, OnErr};
+ghost use Rattle.std.specs.Prelude.{◌≡◌, Some, Err, IfErr, OnOk, OnErr};
 ghost use Rattle.tsc_trace_io.specs.Stream.{CouldNotWrite, HasWritten};
 ghost use Rattle.tsc_trace.specs.Replay.{fault_of_output};
 ghost use Rattle.tsc_run.specs.Ending.{Ran, StopsRun, stop_of_run, stop_text};
@@ -108,8 +108,9 @@ pub fn run_stream<T: RefusesThreads + Threads + Wait + Sync, R: Source, W: Sink,
     gate: &G,
 ) -> Result<(), RunStop>
     ensures ok { OnOk result (Ran (R.known reader.old) (R.known reader.new) (W.known writer.old) (W.known writer.new)) }
-    ensures err { IfErr result (λ stop. StopsRun (T.HasRefused rt.now) stop (R.known reader.old) (R.known reader.new)
+    ensures err { IfErr result (λ stop. StopsRun stop (R.known reader.old) (R.known reader.new)
         (W.known writer.old) (W.known writer.new)) }
+    ensures no_thread { result ≡ Err RunStop.NoThread → T.HasRefused rt.now }
 {
     let trace = read_trace_from(alloc, reader)?;
     let log = run_trace(rt, alloc, &trace, gate)?;

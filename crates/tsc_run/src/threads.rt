@@ -2,10 +2,9 @@
 ghost use Rattle.std.specs.Prelude.{◌≡◌, ◌≤◌, ◌++◌, ◌∷◌, [], IfOk, IfErr, IfSome, IfNone, length, map, vec_capacity};
 ghost use Rattle.std.specs.List.{sum_by};
 ghost use Rattle.tsc_trace_json.specs.Traces.{AllFit};
-ghost use Rattle.tsc_trace_json.specs.Lists.{most_calls};
+ghost use Rattle.tsc_trace_json.specs.Limits.{most_calls};
 ghost use Rattle.tsc_shared.specs.Seats.{new_seats};
 ghost use Rattle.tsc_run.specs.Runs.{EndsLists, Joins};
-ghost use Rattle.tsc_run.specs.Ending.{CanEndRun};
 
 use crate::fault::RunFault;
 use crate::list::ListRun;
@@ -98,7 +97,7 @@ pub(crate) fn run_lists<R: RefusesThreads + Threads + Wait + Sync, G: Gate + Syn
     requires calls { sum_by length (map (λ calls. calls.items) lists.now) ≤ most_calls }
     requires fits { AllFit cache.now.config (map (λ calls. calls.items) lists.now) }
     ensures runs { IfOk result (λ runs. EndsLists cache.now (map (λ calls. calls.items) lists.now) runs.told runs.seats.items) }
-    ensures why { IfErr result (CanEndRun (R.HasRefused rt.now)) }
+    ensures why { IfErr result (λ why. (why ≡ RunFault.NoThread) × R.HasRefused rt.now) }
 {
     let ended = thread::scope(
         thread::scope_env(),

@@ -9,7 +9,8 @@ use Rattle.tsc_trace.specs.declared.log.Log.{Log}
 use Rattle.tsc_trace.specs.declared.log_reader.LogFault.{LogFault}
 use Rattle.tsc_trace.specs.declared.log_reader.LogFault.TheVariants.{Text, Length, NoMemory}
 use Rattle.tsc_trace.specs.LogText.{line_feed, line_text, log_text}
-use Rattle.tsc_trace.specs.LogReading.{most_lines, IsWritable, IsTextOf, HasNoLine, IsWrongAt, IsTooLong, ReadsAs, OneReading, ReadsBackLogs, ReadsAgain}
+use Rattle.tsc_trace.specs.Limits.{most_lines}
+use Rattle.tsc_trace.specs.LogReading.{IsWritable, IsTextOf, HasNoLine, IsWrongAt, IsTooLong, ReadsAs, OneReading, ReadsBackLogs, ReadsAgain}
 use Rattle.tsc_trace.proofs.OneText.{same_line_then}
 
 ended : (mark : ℕ) (a b c : List ℕ) → ((a ++ mark ∷ []) ++ b) ++ c ≡ a ++ mark ∷ (b ++ c)

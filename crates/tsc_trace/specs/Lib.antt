@@ -1,3 +1,4 @@
+pub mod Limits
 pub mod Sayings
 pub mod Log
 pub mod LogText

@@ -8,11 +8,8 @@ use Rattle.tsc_trace.specs.declared.log.Said.{Said}
 use Rattle.tsc_trace.specs.declared.log.Said.TheVariants as said
 use Rattle.tsc_trace.specs.declared.log_reader.LogFault.{LogFault}
 use Rattle.tsc_trace.specs.declared.log_reader.LogFault.TheVariants.{Text, Length, NoMemory}
+use Rattle.tsc_trace.specs.Limits.{most_lines}
 use Rattle.tsc_trace.specs.LogText.{line_feed, line_text, log_text}
-
--- how many lines a log has at the most
-abbrev pub most_lines : ℕ
-most_lines = 65536
 
 -- An answer that a log can hold: its counts take 64 bits, and its time and owner can be made.
 abbrev pub IsWritableSaid : Said → Type 0

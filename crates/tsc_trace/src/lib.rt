@@ -21,6 +21,6 @@ pub use replays::{
     OutFault, ReplayFault, read_trace_from, replay, replay_stream, replay_stream_with_progress,
     write_log,
 };
-pub use tsc_trace_io::{Metered, Sink, Source};
+pub use tsc_trace_io::{AnyTrouble, Metered, MeteredRead, MeteredWrite, Sink, Source};
 pub use tsc_trace_json::{Call, Kind, Lists, Marks, Trace, TraceFault};
 pub use tsc_trace_reader::read_trace;

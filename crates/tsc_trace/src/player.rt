@@ -5,7 +5,7 @@ ghost use Rattle.tsc_cache.specs.State.{CacheState};
 ghost use Rattle.tsc_cache.specs.CacheView.{StandsForState};
 ghost use Rattle.tsc_trace_json.specs.Calls.{call_fits, one_mark, several_marks};
 ghost use Rattle.tsc_trace_json.specs.Traces.{EachFits};
-ghost use Rattle.tsc_trace_json.specs.Lists.{most_calls};
+ghost use Rattle.tsc_trace_json.specs.Limits.{most_calls};
 ghost use Rattle.tsc_trace.specs.Log.{log_of, made};
 ghost use Rattle.tsc_trace.specs.Play.{Standing, said_at, next, next_all, played};
 

@@ -4,6 +4,7 @@ ghost use Rattle.tsc_trace.specs.LogText.{log_text};
 ghost use Rattle.tsc_trace.specs.Replay.{Done, HasReadTrace, StopsReadingTrace, StopsReplay, StopsWriting, fault_of_input, fault_of_output, fault_of_trace, fault_text, replay_text};
 ghost use Rattle.tsc_trace_io.specs.Stream.{CouldNotWrite, HasWritten};
 ghost use Rattle.tsc_trace.specs.declared.replays.OutFault.TheVariants as out_fault;
+ghost use Rattle.tsc_trace.specs.declared.replays.ReplayFault.TheVariants as replay_fault;
 
 use crate::log::{Log, log_text};
 use crate::player::play_with_progress;
@@ -162,6 +163,22 @@ impl From<OutFault> for ReplayFault {
     }
 }
 
+impl From<NoMemory> for ReplayFault {
+    ghost from_gives = { λ _ given. given ≡ replay_fault.NoMemory };
+
+    fn from(_refused: NoMemory) -> ReplayFault {
+        ReplayFault::NoMemory
+    }
+}
+
+impl From<WriteFailed> for ReplayFault {
+    ghost from_gives = { λ _ given. given ≡ replay_fault.Write };
+
+    fn from(_failed: WriteFailed) -> ReplayFault {
+        ReplayFault::Write
+    }
+}
+
 /// Writes the text of a log. The text is made whole in memory before any of it is written.
 pub fn write_log<W: Sink>(alloc: Global, log: &Log, writer: &mut W) -> Result<(), OutFault>
     ensures ok { OnOk result (HasWritten (W.known writer.old) (W.known writer.new) (log_text log.now.lines)) }
@@ -172,28 +189,22 @@ pub fn write_log<W: Sink>(alloc: Global, log: &Log, writer: &mut W) -> Result<()
     Ok(write_output(writer, &text)?)
 }
 
-/// Replays a trace on one thread, and writes the text of its log.
+/// The text of the log of a trace's replay on one thread. Each call is told as soon as it was made.
+fn replayed<P: Progress>(alloc: Global, trace: &Trace, progress: &P) -> Result<Vec<u8>, NoMemory>
+    ensures { IfOk result (λ text. text.items ≡ replay_text trace.now) }
+{
+    log_text(alloc, &play_with_progress(alloc, trace, progress)?)
+}
+
+/// Replays a trace on one thread, and writes the text of its log. The text is made whole in memory before
+/// any of it is written.
 pub fn replay<W: Sink>(alloc: Global, trace: &Trace, writer: &mut W) -> Result<(), OutFault>
     ensures ok { OnOk result (HasWritten (W.known writer.old) (W.known writer.new) (replay_text trace.now)) }
     ensures err { IfErr result (λ fault.
         StopsWriting fault (W.known writer.old) (W.known writer.new) (replay_text trace.now)) }
 {
-    replay_with_progress(alloc, trace, writer, &NoProgress)
-}
-
-/// The same, where each call is told as soon as it was made.
-fn replay_with_progress<W: Sink, P: Progress>(
-    alloc: Global,
-    trace: &Trace,
-    writer: &mut W,
-    progress: &P,
-) -> Result<(), OutFault>
-    ensures ok { OnOk result (HasWritten (W.known writer.old) (W.known writer.new) (replay_text trace.now)) }
-    ensures err { IfErr result (λ fault.
-        StopsWriting fault (W.known writer.old) (W.known writer.new) (replay_text trace.now)) }
-{
-    let log = play_with_progress(alloc, trace, progress)?;
-    write_log(alloc, &log, writer)
+    let text = replayed(alloc, trace, &NoProgress)?;
+    Ok(write_output(writer, &text)?)
 }
 
 /// Reads a trace to the end of a reader. It is never [`ReplayFault::Write`].
@@ -237,5 +248,6 @@ pub fn replay_stream_with_progress<R: Source, W: Sink, P: Progress>(
         (W.known writer.old) (W.known writer.new)) }
 {
     let trace = read_trace_from(alloc, reader)?;
-    Ok(replay_with_progress(alloc, &trace, writer, progress)?)
+    let text = replayed(alloc, &trace, progress)?;
+    Ok(write_output(writer, &text)?)
 }

@@ -1,2 +1,3 @@
 pub mod ReadSoFar
 pub mod WrittenSoFar
+pub mod Reliable

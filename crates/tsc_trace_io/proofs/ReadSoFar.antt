@@ -1,11 +1,14 @@
 -- Reading an input in place: how far it has come.
-use Rattle.std.proofs.Common.{◌≡◌, ◌≢◌, ◌⊎◌, inr, refl, ℕ, zero, suc, Ok, ◌+◌, ◌<◌, ◌≤◌, List, ◌++◌, length, take, sym, ap, ◌∙◌, subst, arith, length-append, length-take, length-take-le, append_assoc}
+use Rattle.std.proofs.Common.{◌≡◌, ◌≢◌, ◌⊎◌, inl, inr, refl, true, false, ℕ, zero, suc, Ok, Err, ◌+◌, ◌<◌, ◌≤◌, List, ◌++◌, length, take, sym, ap, ◌∙◌, subst, arith, length-append, length-take, length-take-le, append_assoc}
 use Rattle.std.proofs.Math.Seq.{take-append-add}
 use Rattle.std.proofs.lemmas.List.{take-take, take-append-le}
 use Rattle.std.proofs.KnownBytes.{Consumes-trans, Consumes-kept}
 use Rattle.std.specs.Io.KnownBytes.{Consumes, Keeps}
-use Rattle.tsc_trace_io.specs.Stream.{KnownReader, longest_input, phase_after, HasReadTooMuch, HasReadWithin}
+use Rattle.tsc_trace_io.specs.Limits.{longest_input}
+use Rattle.tsc_trace_io.specs.Stream.{KnownReader, AfterRead, IsSpentReader, WhyNotRead, CouldNotRead, phase_after, HasReadTooMuch, HasReadWithin}
 use Rattle.tsc_trace_io.specs.declared.stream.Phase.TheVariants as phase
+use Rattle.tsc_trace_io.specs.declared.stream.Trouble.{Trouble}
+use Rattle.tsc_trace_io.specs.declared.stream.Trouble.TheVariants.{Interrupted, Failed}
 
 -- The first bytes of a buffer are what was read, and reading goes on, or has not begun.
 pub record HasFilled (old new : KnownReader) (buffer : List ℕ) (filled : ℕ) : Type 0 where
@@ -13,6 +16,8 @@ pub record HasFilled (old new : KnownReader) (buffer : List ℕ) (filled : ℕ) 
   pub small : filled ≤ longest_input
   pub consumed : Consumes old.bytes new.bytes (take filled buffer)
   pub goes_on : (new ≡ old) ⊎ (new.phase ≡ phase.Open)
+  pub troubles : new.troubles ≡ old.troubles
+  pub each_gave : old.troubles Interrupted ≡ false → old.turns ≤ new.turns + filled
 
 -- a part that was read behind a front
 pub take-read_behind : (xs part after tail : List ℕ) (filled count len : ℕ) → filled ≤ length xs → count ≤ length part → filled + count ≤ len
@@ -32,9 +37,9 @@ take-read_behind xs part after tail filled count len within fits small =
 pub HasFilled-more : (old mid new : KnownReader) (buffer xs part after tail : List ℕ) (filled count len : ℕ)
     → HasFilled old mid buffer filled → take filled xs ≡ take filled buffer → filled ≤ length xs → count ≤ length part
     → Consumes mid.bytes new.bytes (take count part) → filled + count ≤ len → filled + count ≤ longest_input
-    → new.phase ≡ phase.Open
+    → new.phase ≡ phase.Open → AfterRead mid new (Ok count) → count ≢ 0
     → HasFilled old new (take len ((take filled xs ++ (part ++ after)) ++ tail)) (filled + count)
-HasFilled-more old mid new buffer xs part after tail filled count len so_far front within fits read room small open_still =
+HasFilled-more old mid new buffer xs part after tail filled count len so_far front within fits read room small open_still told some =
     let front_read = subst (Consumes old.bytes mid.bytes) (sym front) so_far.consumed in
     record {
       within = omega (
@@ -48,6 +53,8 @@ HasFilled-more old mid new buffer xs part after tail filled count len so_far fro
       small = small;
       consumed = subst (Consumes old.bytes new.bytes) (sym (take-read_behind xs part after tail filled count len within fits room)) (Consumes-trans _ _ _ _ _ front_read read);
       goes_on = inr open_still;
+      troubles = told.troubles ∙ so_far.troubles;
+      each_gave = λ calm. let before = so_far.each_gave calm in let turn = told.turn in omega (arith, some);
     }
 
 -- What one more read gave is too much.
@@ -71,12 +78,35 @@ HasReadWithin-filled old new buffer filled so_far = record {
   within = omega (arith, so_far.small, length-take-le filled buffer so_far.within);
 }
 
--- What was read so far, where a last read gave nothing.
-pub HasReadWithin-kept : (old mid new : KnownReader) (buffer : List ℕ) (filled : ℕ) → HasFilled old mid buffer filled → Keeps mid.bytes new.bytes → HasReadWithin old new
-HasReadWithin-kept old mid new buffer filled so_far kept = record {
-  read = take filled buffer;
-  consumed = Consumes-kept _ _ _ _ so_far.consumed kept;
-  within = omega (arith, so_far.small, length-take-le filled buffer so_far.within);
+-- Why a last read failed.
+why_not_read : (old mid new : KnownReader) (buffer : List ℕ) (filled : ℕ) → HasFilled old mid buffer filled → AfterRead mid new (Err Failed)
+    → IsSpentReader mid ⊎ (mid.troubles Failed ≡ true) → WhyNotRead old new (take filled buffer)
+why_not_read old mid new buffer filled so_far told (inr may) = inr (inl (sym (ap (λ troubles. troubles Failed) so_far.troubles) ∙ may))
+why_not_read old mid new buffer filled so_far told (inl (inl failed)) = elim so_far.goes_on [
+  | inl same ↦ inl (sym (ap (λ (reader : KnownReader). reader.phase) same) ∙ failed)
+  | inr goes_on ↦ let no = sym goes_on ∙ failed in absurd cc
+]
+why_not_read old mid new buffer filled so_far told (inl (inr none)) =
+    let left = told.turn in
+    let last = none.0 in
+    inr (inr (record {
+      none_left = omega arith;
+      each_gave = λ calm. let before = so_far.each_gave calm in omega (arith, length-take-le filled buffer so_far.within);
+    }))
+
+-- What was read so far, where a last read failed.
+pub CouldNotRead-filled : (old mid new : KnownReader) (buffer : List ℕ) (filled : ℕ) (trouble : Trouble) → trouble ≡ Failed
+    → HasFilled old mid buffer filled → Keeps mid.bytes new.bytes
+    → AfterRead mid new (Err trouble) → IsSpentReader mid ⊎ (mid.troubles trouble ≡ true) → CouldNotRead old new
+CouldNotRead-filled old mid new buffer filled Interrupted is so_far kept told why = absurd cc
+CouldNotRead-filled old mid new buffer filled Failed is so_far kept told why = record {
+  begun = record {
+    read = take filled buffer;
+    consumed = Consumes-kept _ _ _ _ so_far.consumed kept;
+    within = omega (arith, so_far.small, length-take-le filled buffer so_far.within);
+  };
+  failed = told.phase;
+  why = why_not_read old mid new buffer filled so_far told why;
 }
 
 -- A read that gave bytes leaves the reader open.

@@ -1,2 +1,4 @@
+pub mod Limits
 pub mod Stream
 pub mod MeteredParts
+pub mod StreamLaws

@@ -1,6 +1,6 @@
 -- What is known of a metered reader or writer.
 use Rattle.std.specs.Prelude.{ℕ, List, [], Option, option_map, Bool, true, false}
-use Rattle.tsc_trace_io.specs.Stream.{KnownReader, KnownWriter}
+use Rattle.tsc_trace_io.specs.Stream.{KnownReader, KnownWriter, Troubles}
 use Rattle.tsc_trace_io.specs.declared.metered.Metered.{Metered}
 use Rattle.tsc_trace_io.specs.declared.stream.Phase.{Phase}
 use Rattle.tsc_trace_io.specs.declared.stream.Phase.TheVariants as phase
@@ -23,9 +23,9 @@ left_in phase.Open known = known
 left_in phase.Ended known = option_map (λ bytes. []) known
 left_in phase.Failed known = known
 
--- what is known of it as a reader, beside the bytes that the one inside has left
-abbrev pub reader_of : {T : Type 0} → Option (List ℕ) → Metered T → KnownReader
-reader_of known m = record { bytes = left_in m.phase known; phase = m.phase; turns = m.turns }
+-- what is known of it as a reader, of which the one inside has these bytes left, and these troubles
+abbrev pub reader_of : {T : Type 0} → Option (List ℕ) → Troubles → Metered T → KnownReader
+reader_of known troubles m = record { bytes = left_in m.phase known; troubles = troubles; phase = m.phase; turns = m.turns }
 
 -- whether a call has failed
 abbrev pub is_failed : Phase → Bool
@@ -33,6 +33,6 @@ is_failed phase.Open = false
 is_failed phase.Ended = false
 is_failed phase.Failed = true
 
--- what is known of it as a writer, beside the bytes that the one inside holds
-abbrev pub writer_of : {T : Type 0} → Option (List ℕ) → Metered T → KnownWriter
-writer_of known m = record { bytes = known; has_failed = is_failed m.phase; turns = m.turns }
+-- what is known of it as a writer, of which the one inside holds these bytes, and has these troubles
+abbrev pub writer_of : {T : Type 0} → Option (List ℕ) → Troubles → Metered T → KnownWriter
+writer_of known troubles m = record { bytes = known; troubles = troubles; has_failed = is_failed m.phase; turns = m.turns }

@@ -1,4 +1,7 @@
 //! Readers and writers for tests, whose calls go wrong in a set way.
+ghost use Rattle.tsc_trace_io.specs.Stream.{any_trouble};
+
+use crate::inner::{MeteredRead, MeteredWrite};
 use std::io;
 use std::io::{ErrorKind, Read, Write};
 
@@ -65,6 +68,14 @@ impl<R: Read> Read for Faulty<R> {
     }
 }
 
+impl<R: Read> MeteredRead for Faulty<R> {
+    ghost troubles = { λ _. any_trouble };
+
+    fn read_once(&mut self, buf: &mut [u8]) -> Result<usize, ErrorKind> {
+        self.read(buf).map_err(|error| error.kind())
+    }
+}
+
 impl<W: Write> Write for Faulty<W> {
     fn write(&mut self, buf: &[u8]) -> io::Result<usize> {
         let len = self.begin(buf.len())?.min(buf.len());
@@ -73,5 +84,13 @@ impl<W: Write> Write for Faulty<W> {
 
     fn flush(&mut self) -> io::Result<()> {
         self.inner.flush()
+    }
+}
+
+impl<W: Write> MeteredWrite for Faulty<W> {
+    ghost troubles = { λ _. any_trouble };
+
+    fn write_once(&mut self, buf: &[u8]) -> Result<usize, ErrorKind> {
+        self.write(buf).map_err(|error| error.kind())
     }
 }

@@ -1,6 +1,7 @@
 //! Reading all that a reader has left.
 ghost use Rattle.std.specs.Prelude.{◌≡◌, ◌<◌, ◌≤◌, take, vec_len, IfOk, IfErr, OnOk};
-ghost use Rattle.tsc_trace_io.specs.Stream.{HasRead, StopsReading, longest_input};
+ghost use Rattle.tsc_trace_io.specs.Limits.{longest_input};
+ghost use Rattle.tsc_trace_io.specs.Stream.{HasRead, StopsReading};
 
 use crate::stream::{Source, Trouble};
 use std::alloc::{AllocError, Global};

@@ -2,18 +2,22 @@
 //!
 //! No clause over `std`'s `Read` and `Write` can say that a call failed. [`Source`] and [`Sink`] can, so a
 //! contract over them tells why a command gave up. A [`Metered`] reader or writer is one of `std` with its
-//! calls counted. What it makes of a call to the one inside is proved; that it makes that call is for its few
-//! lines, and for tests. [`read_input`] reads all that a reader has left, and [`write_output`] writes a whole
+//! calls counted, which fails only where the one inside failed, or where it was called as often as it may be.
+//! With which troubles the one inside may end tells [`MeteredRead`], or [`MeteredWrite`]: bytes in memory are
+//! read without any. [`read_input`] reads all that a reader has left, and [`write_output`] writes a whole
 //! text. A [`Progress`] is told how far a long work is.
 #![tactic(auto)]
 
 pub mod fakes;
+mod inner;
 mod input;
+pub mod laws;
 mod metered;
 mod output;
 mod progress;
 mod stream;
 
+pub use inner::{AnyTrouble, MeteredRead, MeteredWrite};
 pub use input::{InputFault, read_input};
 pub use metered::Metered;
 pub use output::{WriteFailed, write_both, write_output};

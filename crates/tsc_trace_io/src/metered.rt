@@ -2,15 +2,17 @@
 ghost use Rattle.std.specs.Prelude.{◌≡◌, ◌≢◌, ◌↔◌, ◌<◌, ◌-◌, Some, None, IsTrue, Ok, Err, IfOk, IfErr, IfSome};
 ghost use Rattle.tsc_trace_io.specs.Stream.{fresh_reader, fresh_writer, phase_after};
 
+use crate::inner::{MeteredRead, MeteredWrite};
 use crate::stream::{Phase, Sink, Source, Trouble};
-use std::io::{ErrorKind, Read, Write};
+use std::io::ErrorKind;
 
 /// How often a command reads before it gives up, and how often it writes.
 pub(crate) const MOST_TURNS: u32 = 33_554_432;
 
 /// A reader or a writer of `std` that may be called 33,554,432 times, unless it is made with another number.
 ///
-/// Once a call has failed, or a read has told the end, the one inside is not asked again.
+/// It fails only where the one inside did, or no call is left. Once a call has failed, or a read has told the
+/// end, the one inside is not asked again.
 #[derive(Drop)]
 pub struct Metered<T> {
     inner: T,
@@ -21,12 +23,13 @@ pub struct Metered<T> {
 impl<T> Metered<T> {
     ghost use Rattle.std.specs.Prelude.{List, Option, ℕ};
     ghost use Rattle.tsc_trace_io.specs.MeteredParts.{inner_of, phase_in, reader_of, turns_of, writer_of};
+    ghost use Rattle.tsc_trace_io.specs.Stream.{Troubles};
 
     /// `inner`, which has not been called yet.
     pub fn new(inner: T) -> Metered<T>
         ensures inner { inner_of result ≡ inner }
-        ensures reader { (bytes : Option (List ℕ)) → reader_of bytes result ≡ fresh_reader bytes }
-        ensures writer { (bytes : Option (List ℕ)) → writer_of bytes result ≡ fresh_writer bytes }
+        ensures reader { (bytes : Option (List ℕ)) (troubles : Troubles) → reader_of bytes troubles result ≡ fresh_reader bytes troubles }
+        ensures writer { (bytes : Option (List ℕ)) (troubles : Troubles) → writer_of bytes troubles result ≡ fresh_writer bytes troubles }
     {
         Metered {
             inner,
@@ -122,27 +125,27 @@ fn phase_after(told: Result<usize, Trouble>) -> Phase
     }
 }
 
-impl<R: Read> Source for Metered<R> {
+impl<R: MeteredRead> Source for Metered<R> {
     ghost use Rattle.tsc_trace_io.specs.MeteredParts.{inner_of, reader_of};
 
-    ghost known = { λ m. reader_of (R.remaining (inner_of m)) m };
+    ghost known = { λ m. reader_of (R.remaining (inner_of m)) (R.troubles (inner_of m)) m };
 
     fn read(&mut self, buf: &mut [u8]) -> Result<usize, Trouble> {
         let unasked = self.read_unasked();
         self.count_call();
         let told = match unasked {
             Some(told) => told,
-            None => settled(self.inner.read(buf).map_err(|error| error.kind())),
+            None => settled(self.inner.read_once(buf)),
         };
         self.phase = phase_after(told);
         told
     }
 }
 
-impl<W: Write> Sink for Metered<W> {
+impl<W: MeteredWrite> Sink for Metered<W> {
     ghost use Rattle.tsc_trace_io.specs.MeteredParts.{inner_of, writer_of};
 
-    ghost known = { λ m. writer_of (W.contents (inner_of m)) m };
+    ghost known = { λ m. writer_of (W.contents (inner_of m)) (W.troubles (inner_of m)) m };
 
     fn write(&mut self, buf: &[u8]) -> Result<usize, Trouble> {
         let asks = self.asks_to_write();
@@ -151,7 +154,7 @@ impl<W: Write> Sink for Metered<W> {
             self.phase = Phase::Failed;
             return Err(Trouble::Failed);
         }
-        let told = settled_write(self.inner.write(buf).map_err(|error| error.kind()));
+        let told = settled_write(self.inner.write_once(buf));
         if told == Err(Trouble::Failed) {
             self.phase = Phase::Failed;
         }

@@ -1,7 +1,7 @@
 //! Readers and writers that may be called a bounded number of times, and fail for good.
-ghost use Rattle.std.specs.Prelude.{◌≡◌, ◌≢◌, ◌-◌, ◌<◌, ◌≤◌, ◌||◌, length, true, Ok, Err, IfOk};
+ghost use Rattle.std.specs.Prelude.{◌≡◌, ◌⊎◌, ◌<◌, ◌≤◌, length, true, Ok, Err, IfOk, IfErr};
 ghost use Rattle.std.specs.Io.KnownBytes.{ReadConsumes, WriteAppends};
-ghost use Rattle.tsc_trace_io.specs.Stream.{KnownReader, KnownWriter, is_failure, phase_after};
+ghost use Rattle.tsc_trace_io.specs.Stream.{AfterRead, AfterWrite, IsSpentReader, IsSpentWriter, KnownReader, KnownWriter};
 
 /// Why a reader gave nothing, or a writer took nothing.
 #[derive(Clone, Copy, Debug, PartialEq, Eq)]
@@ -33,12 +33,11 @@ pub trait Source {
         requires room { 0 < length buf.old }
         ensures bound { IfOk result (λ n. n ≤ length buf.new) }
         ensures bytes { ReadConsumes (known self.old).bytes (known self.new).bytes result buf.new }
-        ensures phase { (known self.new).phase ≡ phase_after result }
+        ensures after { AfterRead (known self.old) (known self.new) result }
         ensures ended { (known self.old).phase ≡ Phase.Ended → result ≡ Ok 0 }
-        ensures failed { (known self.old).phase ≡ Phase.Failed → result ≡ Err Trouble.Failed }
-        ensures turn { (known self.new).turns ≡ (known self.old).turns - 1 }
-        ensures last { (known self.old).turns ≡ 0 → (known self.old).phase ≢ Phase.Ended
-            → result ≡ Err Trouble.Failed };
+        ensures failed { IsSpentReader (known self.old) → result ≡ Err Trouble.Failed }
+        ensures why { IfErr result (λ trouble.
+            IsSpentReader (known self.old) ⊎ ((known self.old).troubles trouble ≡ true)) };
 }
 
 /// A writer that may be called a bounded number of times. A failure is final.
@@ -51,8 +50,8 @@ pub trait Sink {
         requires bytes { 0 < length buf.now }
         ensures bound { IfOk result (λ n. (0 < n) × (n ≤ length buf.now)) }
         ensures bytes { WriteAppends (known self.old).bytes (known self.new).bytes result buf.now }
-        ensures remembers { (known self.new).has_failed ≡ ((known self.old).has_failed || is_failure result) }
-        ensures failed { (known self.old).has_failed ≡ true → result ≡ Err Trouble.Failed }
-        ensures turn { (known self.new).turns ≡ (known self.old).turns - 1 }
-        ensures last { (known self.old).turns ≡ 0 → result ≡ Err Trouble.Failed };
+        ensures after { AfterWrite (known self.old) (known self.new) result }
+        ensures failed { IsSpentWriter (known self.old) → result ≡ Err Trouble.Failed }
+        ensures why { IfErr result (λ trouble.
+            IsSpentWriter (known self.old) ⊎ ((known self.old).troubles trouble ≡ true)) };
 }

@@ -17,7 +17,8 @@ use Rattle.tsc_cache.specs.Settings.{Settings}
 use Rattle.serde_json.specs.Data.{Data, object, Items, Members, no_members, member}
 use Rattle.serde_json.specs.Find.{get_member}
 use Rattle.tsc_page_base.specs.Page.{Mark}
-use Rattle.tsc_trace_json.specs.Lists.{most_marks, fits_trace}
+use Rattle.tsc_trace_json.specs.Limits.{most_marks}
+use Rattle.tsc_trace_json.specs.Lists.{fits_trace}
 use Rattle.tsc_trace_json.specs.MemberOrder.{IsReordered, itself, arrays, objects, AreReordered, no_more, one_more, FindsReordered, neither, both_find}
 use Rattle.tsc_trace_json.specs.TraceText.{listed, array_of, object_of, text_of, unsigned_of, number_below, names_only, only_named, needed, needed_as, two_of, time_in_range, time_of, key_of, owner_member, ends_of, excluded_of, start_form, start_to_end_form, range_form, onward_form, form_of, span_names, form_in, span_form, added_span, looked_up_span, add_names, add_in, add_of, mark_names, mark_in, mark_of, marks_in, few_of, marks_of, batch_names, batch_in, batch_of, get_names, get_in, get_of, low_of, call_by_name, call_of, fitting_call, numbers_in, lists_in, lists_of, head_names, head_in, head_of, settings_in, calls_of, threads_of, trace_of, json_of, trace_of_bytes}
 use Rattle.tsc_trace_json.specs.declared.read.head.Numbers.{Numbers}

@@ -6,7 +6,6 @@ use Rattle.std.proofs.lemmas.Option.{slice_get_within, get_or_from_slice_get}
 use Rattle.serde_json.specs.Data.{Data}
 use Rattle.tsc_cache.specs.Settings.{Settings}
 use Rattle.tsc_trace_json.specs.declared.trace.Call.{Call}
-use Rattle.tsc_trace_json.specs.declared.read.TraceFault.{TraceFault}
 use Rattle.tsc_trace_json.specs.declared.read.part.PartFault.TheVariants.{TooLarge}
 use Rattle.tsc_trace_json.specs.Calls.{call_fits}
 use Rattle.tsc_trace_json.specs.Traces.{EachFits, AllFit}

@@ -1,6 +1,5 @@
 -- Marks of a batch, read one after another.
 use Rattle.std.proofs.Common.{◌≡◌, ◌⊎◌, inl, inr, ◌∙◌, refl, sym, ap, subst, ℕ, ◌+◌, ◌<◌, ◌≤◌, Bool, true, false, List, [], ◌∷◌, ◌++◌, length, map, get_or, drop, append_assoc, append-nil, nat_le, Result, Ok, Err, Vec, Global, arith}
-use Rattle.std.specs.Prelude.{if◌then◌else◌}
 use Rattle.std.proofs.lemmas.Bool.Decides.{nat_tests}
 use Rattle.serde_json.specs.Data.{Data}
 use Rattle.serde_json.specs.View.{view}
@@ -9,7 +8,7 @@ use Rattle.tsc_page_base.specs.Page.{Mark}
 use Rattle.tsc_trace_json.specs.declared.read.part.PartFault.{PartFault}
 use Rattle.tsc_trace_json.specs.declared.read.part.Refusal.{Refusal}
 use Rattle.tsc_trace_json.specs.declared.read.part.Refusal.TheVariants as refusal
-use Rattle.tsc_trace_json.specs.Reading.{Gives, AddsMark, joined, lesser_refusal}
+use Rattle.tsc_trace_json.specs.Reading.{Gives, AddsMark, joined}
 use Rattle.tsc_trace_json.specs.TraceParts.{Part, both, fault_number, lesser_fault, ◌>>=◌}
 use Rattle.tsc_trace_json.specs.TraceText.{mark_of, with_others, marks_in}
 use Rattle.tsc_trace_json.proofs.Calls.{here, past}

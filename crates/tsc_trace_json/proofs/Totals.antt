@@ -6,7 +6,8 @@ use Rattle.std.proofs.lemmas.Bool.{leb-true}
 use Rattle.std.proofs.lemmas.Option.{slice_get_past, slice_get-get_or}
 use Rattle.std.proofs.lemmas.List.{length-map, get_or-map}
 use Rattle.std.proofs.lemmas.List.Sums.{get_or-le-sum_by}
-use Rattle.tsc_trace_json.specs.Lists.{most_calls, fits_trace}
+use Rattle.tsc_trace_json.specs.Limits.{most_calls}
+use Rattle.tsc_trace_json.specs.Lists.{fits_trace}
 
 both : (a b : Bool) → a && b ≡ true → (a ≡ true) × (b ≡ true)
 both true b h = (refl, h)

@@ -24,7 +24,8 @@ use Rattle.tsc_page_base.specs.declared.TheConstants.{LEAST_SIZE, MOST_SIZE}
 use Rattle.tsc_cache.specs.declared.config.TheConstants.{LEAST_MIN_PAGES, MOST_MIN_PAGES, LONGEST_RETENTION}
 use Rattle.tsc_cache.specs.Settings.{Settings, are_page_sizes, IsWithinLimits}
 use Rattle.tsc_page_base.specs.Page.{Mark}
-use Rattle.tsc_trace_json.specs.Lists.{most_marks, fits_trace}
+use Rattle.tsc_trace_json.specs.Limits.{most_marks}
+use Rattle.tsc_trace_json.specs.Lists.{fits_trace}
 use Rattle.tsc_trace_json.specs.declared.trace.Call.{Call}
 use Rattle.tsc_trace_json.specs.declared.trace.Call.TheVariants.{Add, Batch, Get, Low}
 use Rattle.tsc_trace_json.specs.Calls.{call_fits}

@@ -1,18 +1,7 @@
--- How many lists, and how many calls, a trace may have, and how many marks a batch.
-use Rattle.std.specs.Prelude.{ℕ, List, length, ◌&&◌, nat_le, Bool}
+-- Which lists of calls a trace may have.
+use Rattle.std.specs.Prelude.{List, length, ◌&&◌, nat_le, Bool}
 use Rattle.std.specs.List.{sum_by}
-
--- how many lists a trace has at the most
-abbrev pub most_lists : ℕ
-most_lists = 64
-
--- and how many calls, over all its lists
-abbrev pub most_calls : ℕ
-most_calls = 65536
-
--- how many marks a batch has at the most
-abbrev pub most_marks : ℕ
-most_marks = 1024
+use Rattle.tsc_trace_json.specs.Limits.{most_lists, most_calls}
 
 -- whether a trace may have these lists of calls
 abbrev pub fits_trace : {C : Type 0} → List (List C) → Bool

@@ -10,7 +10,8 @@ use Rattle.tsc_span.specs.Span.{KeyBytes, before, after, last, Interval, nothing
 use Rattle.tsc_span.specs.MadeSpan.{IsMadeSpan}
 use Rattle.tsc_cache.specs.Settings.{IsWithinLimits}
 use Rattle.tsc_page_base.specs.Page.{Mark}
-use Rattle.tsc_trace_json.specs.Lists.{most_marks, fits_trace}
+use Rattle.tsc_trace_json.specs.Limits.{most_marks}
+use Rattle.tsc_trace_json.specs.Lists.{fits_trace}
 use Rattle.tsc_trace_json.specs.declared.trace.Call.{Call}
 use Rattle.tsc_trace_json.specs.declared.trace.Call.TheVariants.{Add, Batch, Get, Low}
 use Rattle.tsc_trace_json.specs.Traces.{Trace, AllFit}

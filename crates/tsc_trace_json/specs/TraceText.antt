@@ -14,7 +14,8 @@ use Rattle.tsc_span.specs.declared.span.Ends.{Ends}
 use Rattle.tsc_span.specs.Span.{KeyBytes, Interval, nothing, point, range, onward, start_to_end, fits_key}
 use Rattle.tsc_cache.specs.Settings.{Settings, settings_of}
 use Rattle.tsc_page_base.specs.Page.{Mark}
-use Rattle.tsc_trace_json.specs.Lists.{most_marks, fits_trace}
+use Rattle.tsc_trace_json.specs.Limits.{most_marks}
+use Rattle.tsc_trace_json.specs.Lists.{fits_trace}
 use Rattle.tsc_trace_json.specs.TraceParts.{Part, both, ◌>>=◌, where_holds, at_call}
 use Rattle.tsc_trace_json.specs.declared.trace.Call.{Call}
 use Rattle.tsc_trace_json.specs.declared.trace.Call.TheVariants.{Add, Batch, Get, Low}

@@ -1,7 +1,8 @@
 ghost use Rattle.std.specs.Prelude.{◌≡◌, ◌≤◌, true, map, length, nat_le, option_map, slice_get, IfSome, SomeIff};
 ghost use Rattle.std.specs.List.{sum_by};
 ghost use Rattle.tsc_trace_json.specs.Calls.{adds, call_fits, kind_of};
-ghost use Rattle.tsc_trace_json.specs.Lists.{most_lists, most_calls, most_marks, fits_trace};
+ghost use Rattle.tsc_trace_json.specs.Limits.{most_lists, most_calls, most_marks};
+ghost use Rattle.tsc_trace_json.specs.Lists.{fits_trace};
 
 use std::marker::Model;
 use tsc_cache::{Config, Mark};

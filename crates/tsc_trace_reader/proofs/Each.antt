@@ -8,7 +8,8 @@ use Rattle.serde_json.specs.Data.{Data}
 use Rattle.serde_json.specs.View.{items_of}
 use Rattle.tsc_page_base.specs.Page.{Mark}
 use Rattle.tsc_trace_json.specs.declared.trace.Call.{Call}
-use Rattle.tsc_trace_json.specs.Lists.{most_marks, fits_trace}
+use Rattle.tsc_trace_json.specs.Limits.{most_marks}
+use Rattle.tsc_trace_json.specs.Lists.{fits_trace}
 use Rattle.tsc_trace_json.specs.TraceData.{list_data}
 use Rattle.tsc_trace_json.specs.TraceParts.{Part, ◌>>=◌}
 use Rattle.tsc_trace_json.specs.TraceText.{listed, array_of, mark_of, marks_in, with_others, few_of, marks_of}

@@ -3,7 +3,8 @@
 ghost use Rattle.std.specs.Prelude.{◌≡◌, ◌≤◌, ◌^◌, map, length, nat_le, codes};
 ghost use Rattle.std.specs.List.{sum_by};
 ghost use Rattle.serde_json.specs.View.{view, members_view};
-ghost use Rattle.tsc_trace_json.specs.Lists.{most_calls, fits_trace};
+ghost use Rattle.tsc_trace_json.specs.Limits.{most_calls};
+ghost use Rattle.tsc_trace_json.specs.Lists.{fits_trace};
 ghost use Rattle.tsc_trace_json.specs.Reading.{Gives, Tells};
 ghost use Rattle.tsc_trace_json.specs.Rows.{rows_view};
 ghost use Rattle.tsc_trace_json.specs.TraceParts.{at_call};

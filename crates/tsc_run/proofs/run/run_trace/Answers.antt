@@ -9,6 +9,7 @@ use Rattle.tsc_check.proofs.TrueVerdict.{run_is_right}
 use Rattle.std.specs.Prelude.{Ok, Err, IfOk, IfErr}
 use Rattle.tsc_run.specs.Runs.{RunsAll, StopsLists, Told}
 use Rattle.tsc_run.proofs.Seating.{can_end}
+use Rattle.tsc_run.proofs.Unstarted.{is_started}
 use Rattle.tsc_run.proofs.Truth.{run_of}
 use Rattle.tsc_run.proofs.run.run_trace.Goals as goal
 
@@ -44,6 +45,7 @@ returns g c =
       right = ap (verdict_of c.args.trace.now) c.of.ensures ∙ run_is_right c.args.trace.now lines ran.0 ran.1;
       run = (ran.0, subst (λ ls. IsRunOf c.args.trace.now ls ran.0) (sym c.of.ensures) ran.1);
       why = tt;
+      no_thread = λ is. absurd cc;
     }
 
 pub returns-in_err-lines-clause-why : goal.returns-in_err-lines-clause-why
@@ -53,4 +55,13 @@ returns-in_err-lines-clause-why g c =
     let told : c.in_ok-runs.runs.told ≡ Err why = search rules in
     let stopped = subst (λ (told : Told). IfErr told (λ why. StopsLists why cache lists seats)) told c.in_ok-runs.ensures.runs.stopped in
     let same : c.from_residual-in_err-lines.result ≡ Err why = search rules in
-    rw same (can_end _ why cache lists seats c.in-Ok._closed limit stopped c.in-Ok.ensures.closed)
+    rw same (can_end why cache lists seats c.in-Ok._closed limit stopped c.in-Ok.ensures.closed)
+
+pub returns-in_err-lines-clause-no_thread : goal.returns-in_err-lines-clause-no_thread
+returns-in_err-lines-clause-no_thread g c =
+    let cache = c.in_ok-cache.cache in let lists = map (λ calls. calls.items) c.slice-lists.result.now in let seats = c.in_ok-runs.runs.seats.items in let why = c.in_err-lines.field-0.0 in
+    let told : c.in_ok-runs.runs.told ≡ Err why = search rules in
+    let stopped = subst (λ (told : Told). IfErr told (λ why. StopsLists why cache lists seats)) told c.in_ok-runs.ensures.runs.stopped in
+    let same : c.from_residual-in_err-lines.result ≡ Err why = search rules in
+    let started = is_started why cache lists seats stopped in
+    λ is. let no = sym same ∙ is in absurd (started cc)

@@ -4,7 +4,8 @@ use Rattle.std.specs.Prelude.{slice_get}
 use Rattle.tsc_cache.specs.Settings.{Settings}
 use Rattle.tsc_cache.specs.State.{opening}
 use Rattle.tsc_cache.specs.CacheView.{StandsForState}
-use Rattle.tsc_trace_json.specs.Lists.{fits_trace, most_calls}
+use Rattle.tsc_trace_json.specs.Limits.{most_calls}
+use Rattle.tsc_trace_json.specs.Lists.{fits_trace}
 use Rattle.tsc_trace_json.specs.Traces.{Trace, EachFits, AllFit}
 use Rattle.tsc_trace.specs.Play.{next_all, played}
 use Rattle.tsc_trace.specs.Log.{log_of}

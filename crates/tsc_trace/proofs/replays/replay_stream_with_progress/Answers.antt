@@ -4,3 +4,6 @@ use Rattle.tsc_trace.proofs.replays.replay_stream_with_progress.Goals as goal
 
 pub returns-clause-ok : goal.returns-clause-ok
 returns-clause-ok g c = search rules
+
+pub returns-in_err-write_output-clause-err : goal.returns-in_err-write_output-clause-err
+returns-in_err-write_output-clause-err g c = search rules

@@ -1,6 +1,6 @@
 use Rattle.std.proofs.Common.{◌≡◌, drop, map, length, nat_le}
 use Rattle.std.specs.List.{sum_by}
-use Rattle.tsc_trace_json.specs.Lists.{most_calls}
+use Rattle.tsc_trace_json.specs.Limits.{most_calls}
 use Rattle.tsc_trace_json.proofs.trace.has_few_calls.Given as goal
 
 -- the lists that are left have few enough calls where all lists do

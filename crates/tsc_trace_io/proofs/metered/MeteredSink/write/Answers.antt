@@ -4,3 +4,6 @@ use Rattle.tsc_trace_io.proofs.metered.MeteredSink.write.Goals as goal
 
 pub returns-else-eq-clause-bytes : goal.returns-else-eq-clause-bytes
 returns-else-eq-clause-bytes g c = search rules
+
+pub returns-then-eq-clause-why : goal.returns-then-eq-clause-why
+returns-then-eq-clause-why g c = search rules

@@ -1,6 +1,6 @@
 use Rattle.std.proofs.Common.{◌≡◌, drop, length, nat_le}
 use Rattle.std.specs.List.{sum_by}
-use Rattle.tsc_trace_json.specs.Lists.{most_calls}
+use Rattle.tsc_trace_json.specs.Limits.{most_calls}
 use Rattle.tsc_trace_json.specs.Rows.{rows_view}
 use Rattle.tsc_trace_json.proofs.read.head.has_few_calls.Given as goal
 

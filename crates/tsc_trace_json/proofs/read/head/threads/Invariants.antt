@@ -1,6 +1,6 @@
 use Rattle.std.proofs.Common.{◌≡◌, ◌+◌, ◌≤◌, drop, length, map}
 use Rattle.std.specs.List.{sum_by}
-use Rattle.tsc_trace_json.specs.Lists.{most_calls}
+use Rattle.tsc_trace_json.specs.Limits.{most_calls}
 use Rattle.tsc_trace_json.specs.Rows.{rows_view}
 use Rattle.tsc_trace_json.specs.TraceText.{threads_of}
 use Rattle.tsc_trace_json.proofs.Calls.{with_front}
