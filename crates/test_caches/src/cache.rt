@@ -12,4 +12,5 @@ mod random;
 mod refused;
 mod rows;
 mod texts;
+mod work;
 mod writes;

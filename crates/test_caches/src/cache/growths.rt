@@ -1,8 +1,13 @@
-//! How many growths a call asks for. Each test makes one call again where it is refused memory, and nothing else, so as many runs of it
-//! pass as that call asks for growths: `scripts/refuse-each-growth` counts them.
+//! How many growths a call asks for, and for how many bytes. Each test makes one call again where it
+//! is refused memory, and nothing else, so as many runs of it pass as that call asks for growths:
+//! `scripts/refuse-each-growth` counts them, and their bytes.
 use super::player::play;
-use super::rows::Does::{Add, Begin, Look, Stand, Version};
-use super::rows::{AT_20, AT_30, Call, FLOOR, KEPT, Limits, NOBODY, NONE, Row, Table, Text};
+use super::rows::Does::{
+    Add, Apply, Begin, Known, Look, Open, Read, Stand, Tell, Told, Version, With,
+};
+use super::rows::{
+    AT_20, AT_22, AT_30, Call, FIRST, FLOOR, KEPT, Limits, NOBODY, NONE, Row, SECOND, Table, Text,
+};
 use std::test::Fail;
 
 /// Pages that stay, each of which one key fills, or 66 keys of one byte in two leaves.
@@ -52,6 +57,50 @@ const TWO_LEAVES: Row = (
     ],
 );
 
+/// A page of 5,120 keys.
+const LARGE: Limits = (1_048_576, 1_048_576, 64, 1000);
+
+/// A key of it, a range over many leaves, and one over all.
+const OF_LARGE: Text =
+    b"\x00\x00\x02\x01|[\x00\x00\x01\x01,\x00\x00\x08\x01)|[\x00\x00\x00\x00,\x00\x00\x13\xff]";
+
+const KNOWN_ON_LARGE: Row = (
+    "known keys on a large page, in place",
+    &[
+        (Read, b"#\x14\x00", AT_20, NOBODY),
+        (Stand(1, 0, FLOOR), NONE, FLOOR, NOBODY),
+        (Known, OF_LARGE, AT_30, NOBODY),
+        (Look, OF_LARGE, AT_30, NOBODY),
+    ],
+);
+
+const NEXT_ON_LARGE: Row = (
+    "a known key on a large page",
+    &[
+        (Begin, b"#\x14\x00", AT_20, NOBODY),
+        (Add(AT_20, KEPT), b"\x00\x00\x02\x01", AT_30, NOBODY),
+        (Look, b"\x00\x00\x02\x01", AT_30, NOBODY),
+        (Stand(1, 0, FLOOR), NONE, FLOOR, NOBODY),
+    ],
+);
+
+const HANDED_ON: Row = (
+    "what was read is told, and added to another cache",
+    &[
+        (Open(FLOOR), NONE, FLOOR, NOBODY),
+        (Read, b"b", AT_20, FIRST),
+        (Read, b"[d,f)", AT_22, SECOND),
+        (Tell(1000), b"[a,z)", FLOOR, NOBODY),
+        (With, b"b", AT_20, FIRST),
+        (With, b"d", AT_22, SECOND),
+        (Told(FLOOR), b"(d,f)", AT_22, SECOND),
+        (Open((3, 0)), NONE, FLOOR, NOBODY),
+        (Apply, NONE, FLOOR, NOBODY),
+        (Look, b"b", AT_20, FIRST),
+        (Look, b"[d,f)", AT_22, SECOND),
+    ],
+);
+
 static NEXT_ON_ONE: [Table; 1] = [(LIMITS, &[Call::Next], NONE, &[ONE_PAGE])];
 
 static NEXT_ON_MANY: [Table; 1] = [(LIMITS, &[Call::Next], NONE, &[MANY_PAGES])];
@@ -59,6 +108,12 @@ static NEXT_ON_MANY: [Table; 1] = [(LIMITS, &[Call::Next], NONE, &[MANY_PAGES])]
 static NEXT_ALL: [Table; 1] = [(LIMITS, &[Call::NextAll], NONE, &[TWO_LEAVES])];
 
 static IN_PLACE: [Table; 1] = [(LIMITS, &[Call::Add], NONE, &[MANY_PAGES])];
+
+static IN_PLACE_OF_MANY: [Table; 1] = [(LARGE, &[Call::Add], NONE, &[KNOWN_ON_LARGE])];
+
+static NEXT_OF_MANY: [Table; 1] = [(LARGE, &[Call::Next], NONE, &[NEXT_ON_LARGE])];
+
+static HANDING_ON: [Table; 1] = [(LIMITS, &[Call::Add], NONE, &[HANDED_ON])];
 
 #[test]
 fn next_on_one_page(rt: HostRuntime) -> Result<(), Fail> {
@@ -78,4 +133,19 @@ fn next_all_of_two_leaves(rt: HostRuntime) -> Result<(), Fail> {
 #[test]
 fn an_add_in_place_on_17_pages(rt: HostRuntime) -> Result<(), Fail> {
     play(&rt, rt.alloc(), &IN_PLACE)
+}
+
+#[test]
+fn known_keys_of_a_large_page(rt: HostRuntime) -> Result<(), Fail> {
+    play(&rt, rt.alloc(), &IN_PLACE_OF_MANY)
+}
+
+#[test]
+fn next_on_a_large_page(rt: HostRuntime) -> Result<(), Fail> {
+    play(&rt, rt.alloc(), &NEXT_OF_MANY)
+}
+
+#[test]
+fn what_was_read_is_handed_on(rt: HostRuntime) -> Result<(), Fail> {
+    play(&rt, rt.alloc(), &HANDING_ON)
 }

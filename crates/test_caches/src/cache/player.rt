@@ -11,8 +11,8 @@ use std::mem;
 use std::process::Abort;
 use std::test::Fail;
 use timestamp_cache::{
-    Added, Cache, CacheFault, Config, Cut, Key, Mark, ReadSummary, Span, Timestamp, TimestampCache,
-    Uuid, Value, apply, earliest_write, may_write, next_time, summary,
+    Added, Cache, CacheFault, Config, Cut, Key, Mark, NoMemory, ReadSummary, Span, Timestamp,
+    TimestampCache, Uuid, Value, apply, earliest_write, may_write, next_time, summary,
 };
 use tsc_cache::PlainCache;
 
@@ -345,8 +345,10 @@ impl Player {
     fn begin(&mut self, marks: &[Mark]) -> Result<bool, Fail> {
         for mark in marks {
             let (span, value, now) = (&mark.span, mark.value, mark.value.time());
+            if self.is_plain() {
+                self.plain.add(span, value, now)?;
+            }
             self.cache.add(span, value, now)?;
-            self.plain.add(span, value, now)?;
             self.beside.add(span, value, now)?;
         }
         Ok(true)
@@ -454,6 +456,18 @@ impl Player {
         Ok(true)
     }
 
+    /// The same, for which no memory is asked, and says whether each is kept in place.
+    fn read_known(&mut self, marks: &[Mark]) -> bool {
+        let mut all = true;
+        for mark in marks {
+            all &= match self.cache.add(&mark.span, mark.value, mark.value.time()) {
+                Ok(added) => added.kept && !added.rotated,
+                Err(_) => false,
+            };
+        }
+        all
+    }
+
     /// Keeps the spans of marks.
     fn keep_spans(&mut self, marks: &[Mark]) -> Result<(), Fail> {
         self.spans.clear();
@@ -479,9 +493,13 @@ impl Player {
         told == earliest && self.may_write(at, by) == (earliest == Some(time))
     }
 
-    /// Has the cache tell what was read of a span, in so many marks.
+    /// Has the cache tell what was read of a span, in so many marks; once more where memory is
+    /// refused.
     fn tell(&mut self, span: &Span, most: usize) -> Result<bool, Fail> {
-        let told = summary(self.alloc, &self.cache, span, most)?;
+        let told = match summary(self.alloc, &self.cache, span, most) {
+            Err(NoMemory) => summary(self.alloc, &self.cache, span, most)?,
+            Ok(told) => told,
+        };
         let right = told.span == *span;
         self.summary = Some(told);
         Ok(right)
@@ -495,12 +513,16 @@ impl Player {
         }
     }
 
-    /// Adds what was told.
+    /// Adds what was told, once more where memory is refused.
     fn apply(&mut self) -> Result<bool, Fail> {
-        match &self.summary {
-            Some(told) => Ok(apply(&mut self.cache, told, at((30, 0)))?.kept),
-            None => Ok(false),
-        }
+        let (Some(told), now) = (&self.summary, at((30, 0))) else {
+            return Ok(false);
+        };
+        let added = match apply(&mut self.cache, told, now) {
+            Err(CacheFault::NoMemory) => apply(&mut self.cache, told, now)?,
+            added => added?,
+        };
+        Ok(added.kept)
     }
 
     /// Whether what the caches show is what a step tells; `None` where it does something with them.
@@ -535,6 +557,7 @@ impl Player {
             Does::Swap => Ok(self.swap()),
             Does::Open(floor) => self.open(at(floor)),
             Does::Read => self.read(marks),
+            Does::Known => Ok(self.read_known(marks)),
             Does::Write(time, by, earliest) => {
                 self.keep_spans(marks)?;
                 Ok(self.writes(time, by, earliest))

@@ -22,7 +22,8 @@ pub enum Does {
     Add(Time, Told),
     /// Each is added by itself, and tells this.
     Each(Time, Told),
-    /// Each is added at its own time, in place, to all caches, and not once more where memory is refused.
+    /// Each is added at its own time, in place, to all caches that the call adds to, and not once
+    /// more where memory is refused.
     Begin,
     /// Each is answered.
     Look,
@@ -44,15 +45,17 @@ pub enum Does {
     Open(Time),
     /// Each is added to the cache alone, at its own time.
     Read,
+    /// The same, and no memory is asked for.
+    Known,
     /// Somebody may write all of the spans from a time on at this one at the earliest, and each of them alone just where that is at once.
     Write(Time, u128, Option<Time>),
     /// A time is followed by this one.
     Next(Time, Option<Time>),
-    /// What was read of the first span is told, in so many marks.
+    /// What was read of the first span is told, in so many marks; once more where memory is refused.
     Tell(usize),
     /// The floor is here in what was told, and the marks are these.
     Told(Time),
-    /// What was told is added to the cache.
+    /// What was told is added to the cache, once more where memory is refused.
     Apply,
 }
 

@@ -51,9 +51,10 @@ fn a_full_page(rt: HostRuntime) -> Result<(), Fail> {
     play_steps(&rt, rt.alloc(), &FULL)
 }
 
-/// Full pages, and known keys to which values are then added in place: in one leaf of 32 keys, over several, and up to where a leaf begins. The
-/// leaves are in lists of 1,024 keys, and in the second page these in lists of 32,768: over one such list, over two, and up to where one begins.
-static KNOWN: [Step; 18] = [
+/// A full page, and known keys to which values are then added in place: in one leaf of 32 keys, over
+/// several, and up to where a leaf begins. The leaves are in lists of 1,024 keys: over one such list,
+/// over two, and up to where one begins.
+static KNOWN: [Step; 8] = [
     Step::Filled(Order::Rising, 2081, With::Own(1, false), 0),
     Step::Known(Over::Through(40, 40), 70000),
     Step::Known(Over::UpTo(32, 64), 70001),
@@ -62,6 +63,17 @@ static KNOWN: [Step; 18] = [
     Step::Known(Over::UpTo(1000, 1056), 70004),
     Step::Known(Over::Through(1023, 1024), 70005),
     Step::Known(Over::Through(0, 2080), 70006),
+];
+
+/// For `scripts/refuse-each-growth`, as the test of this name in `tree`. Nothing takes memory behind
+/// the Adds.
+#[test]
+fn known_keys_take_no_memory(rt: HostRuntime) -> Result<(), Fail> {
+    play_steps(&rt, rt.alloc(), &KNOWN)
+}
+
+/// The same where these lists are in lists of 32,768 keys.
+static KNOWN_OF_MANY: [Step; 10] = [
     Step::Filled(Order::Rising, 66593, With::Own(1, false), 0),
     Step::Known(Over::Through(40, 40), 70000),
     Step::Known(Over::UpTo(31, 64), 70001),
@@ -74,10 +86,22 @@ static KNOWN: [Step; 18] = [
     Step::Known(Over::Through(0, 66592), 70008),
 ];
 
-/// For `scripts/refuse-each-growth`, as the test of this name in `tree`. Nothing takes memory behind the Adds.
 #[test]
-fn known_keys_take_no_memory(rt: HostRuntime) -> Result<(), Fail> {
-    play_steps(&rt, rt.alloc(), &KNOWN)
+fn known_keys_of_many_take_no_memory(rt: HostRuntime) -> Result<(), Fail> {
+    play_steps(&rt, rt.alloc(), &KNOWN_OF_MANY)
+}
+
+/// New keys of a page of 5,000 nodes, which are added in place: one, and both ends of a range.
+static NEW: [Step; 3] = [
+    Step::Filled(Order::Rising, 5000, With::Own(4, false), 40),
+    Step::InPlace(Over::At(130), 99),
+    Step::InPlace(Over::UpTo(137, 139), 99),
+];
+
+/// As many runs of it pass as the Adds ask for growths: `scripts/refuse-each-growth` counts them.
+#[test]
+fn new_keys_in_place_of_many(rt: HostRuntime) -> Result<(), Fail> {
+    play_steps(&rt, rt.alloc(), &NEW)
 }
 
 /// More leaves than one list has: each key's own time, then one value, and then another one beside a copy that doesn't tell it.

@@ -7,9 +7,9 @@ use tsc_span::{Ends, Key, Span, SpanFault};
 use tsc_time::{NoMemory, Timestamp, Value};
 use uuid::Uuid;
 
-pub(crate) const FIRST: u128 = 1;
+pub(crate) const FIRST: u128 = 0x11111111_1111_4111_8111_111111111111;
 
-pub(crate) const SECOND: u128 = 2;
+pub(crate) const SECOND: u128 = 0x22222222_2222_4222_8222_222222222222;
 
 pub(crate) const NOBODY: u128 = 0;
 
@@ -109,6 +109,9 @@ pub(crate) const M: u32 = NAMED + 0x6d;
 pub(crate) const Z: u32 = NAMED + 0x7a;
 
 pub(crate) const LAST: u32 = NAMED + 0xff;
+
+/// From this number on keys are the one byte that the number's last one is.
+pub(crate) const BYTE: u32 = 1 << 29;
 
 /// One of the longest keys, by its last byte.
 fn long_key(alloc: Global, last: u8) -> Result<Key, SpanFault> {

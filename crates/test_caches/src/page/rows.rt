@@ -5,7 +5,7 @@ use super::pages::{
 use super::steps::{Step, play_steps};
 use std::test::Fail;
 
-static STEPS: [Step; 182] = [
+static STEPS: [Step; 183] = [
     Step::Between(&[EMPTY, A, NEXT, B, C, D, E, F, G, LONG]),
     Step::Strict(true),
     // an empty page
@@ -46,6 +46,7 @@ static STEPS: [Step; 182] = [
     Step::Copy(true),
     Step::Swap,
     Step::Add(Over::UpTo(C, D), 30, 0, SECOND),
+    Step::Look(Over::At(C), 30, 0, SECOND),
     Step::Look(Over::UpTo(C, D), 30, 0, SECOND),
     Step::Shows(4, 132, 30, 0),
     Step::Swap,

@@ -1,47 +1,55 @@
 //! Adds over leaves that copies of a page share with it.
-use super::pages::{FIRST, NOBODY, Over, SECOND};
+use super::pages::{BYTE, FIRST, NOBODY, Over, SECOND};
 use super::steps::{Order, Step, With, play_steps};
 use std::test::Fail;
 
-/// A page of the keys 0 to 129, each with a time of its own, to which is added. The first Add is to a single key, the second to a
-/// range over it and most of the leaves, and the third to one that ends at a new key.
+/// A page of the keys of one byte 0 to 129, each with a time of its own, and a copy that shares its
+/// leaves. The first Add is to a range over most of the leaves, and the second ends at a new key.
 static LOOKS: [Step; 36] = [
-    Step::Filled(Order::Rising, 0, With::Own(1, false), 190),
-    Step::Seconds(256),
-    Step::Adds(130, With::Own(1, false)),
+    Step::Filled(Order::Rising, 0, With::Bytes, 200),
+    Step::Between(&[
+        BYTE,
+        BYTE + 9,
+        BYTE + 10,
+        BYTE + 119,
+        BYTE + 120,
+        BYTE + 129,
+    ]),
+    Step::Adds(130, With::Bytes),
+    Step::Shows(130, 4290, 130, 0),
     Step::Copy(true),
     Step::Leaves(&[32, 32, 32, 34]),
-    Step::Add(Over::At(40), 150, 0, SECOND),
-    Step::Add(Over::UpTo(10, 120), 200, 0, SECOND),
-    Step::Shows(130, 4680, 200, 0),
-    Step::Look(Over::At(10), 200, 0, SECOND),
-    Step::Look(Over::At(11), 200, 0, SECOND),
-    Step::Look(Over::At(31), 200, 0, SECOND),
-    Step::Look(Over::At(32), 200, 0, SECOND),
-    Step::Look(Over::At(63), 200, 0, SECOND),
-    Step::Look(Over::At(64), 200, 0, SECOND),
-    Step::Look(Over::At(95), 200, 0, SECOND),
-    Step::Look(Over::At(96), 200, 0, SECOND),
-    Step::Look(Over::At(119), 200, 0, SECOND),
-    Step::Look(Over::At(0), 1, 0, FIRST),
-    Step::Look(Over::At(9), 10, 0, FIRST),
-    Step::Look(Over::At(120), 121, 0, FIRST),
-    Step::Look(Over::At(129), 130, 0, FIRST),
-    Step::Look(Over::Gap(9, 10), 0, 0, NOBODY),
-    Step::Look(Over::Gap(119, 120), 200, 0, SECOND),
-    Step::Look(Over::Gap(31, 32), 200, 0, SECOND),
+    Step::Add(Over::UpTo(BYTE + 10, BYTE + 120), 200, 0, SECOND),
+    Step::Shows(130, 4290, 200, 0),
+    Step::Each(BYTE + 10, BYTE + 120, Some(200), SECOND),
+    Step::Look(Over::At(BYTE + 120), 121, 0, FIRST),
+    Step::Look(Over::At(BYTE + 9), 10, 0, FIRST),
+    Step::Look(Over::Gap(BYTE + 9, BYTE + 10), 0, 0, NOBODY),
+    Step::Look(Over::Gap(BYTE + 119, BYTE + 120), 200, 0, SECOND),
+    Step::Look(Over::Gap(BYTE + 31, BYTE + 32), 200, 0, SECOND),
+    Step::Each(BYTE, BYTE + 10, None, FIRST),
+    Step::Each(BYTE + 120, BYTE + 130, None, FIRST),
+    Step::Leaves(&[32, 32, 32, 34]),
+    // the copy answers as before
+    Step::Swap,
+    Step::Shows(130, 4290, 130, 0),
+    Step::Each(BYTE, BYTE + 130, None, FIRST),
+    Step::Look(Over::Gap(BYTE + 9, BYTE + 10), 0, 0, NOBODY),
+    Step::Look(Over::Gap(BYTE + 119, BYTE + 120), 0, 0, NOBODY),
     Step::Leaves(&[32, 32, 32, 34]),
     Step::Swap,
-    Step::Leaves(&[32, 32, 32, 34]),
-    Step::Swap,
-    Step::Add(Over::UpTo(10, 150), 201, 0, FIRST),
+    // a range over leaves that nobody else holds, with a new key in the last
+    Step::Add(Over::UpTo(BYTE + 10, BYTE + 150), 201, 0, FIRST),
     Step::Leaves(&[32, 32, 32, 35]),
-    Step::Shows(131, 4716, 201, 0),
-    Step::Look(Over::At(40), 201, 0, FIRST),
-    // the copy is as the page was at first
+    Step::Shows(131, 4323, 201, 0),
+    Step::Each(BYTE + 10, BYTE + 130, Some(201), FIRST),
+    Step::Look(Over::Gap(BYTE + 129, BYTE + 150), 201, 0, FIRST),
+    Step::Look(Over::At(BYTE + 150), 0, 0, NOBODY),
+    Step::Each(BYTE, BYTE + 10, None, FIRST),
     Step::Swap,
-    Step::Shows(130, 4680, 130, 0),
-    Step::Look(Over::At(40), 41, 0, FIRST),
+    Step::Shows(130, 4290, 130, 0),
+    Step::Each(BYTE, BYTE + 130, None, FIRST),
+    Step::Look(Over::Gap(BYTE + 119, BYTE + 120), 0, 0, NOBODY),
     Step::Leaves(&[32, 32, 32, 34]),
 ];
 

@@ -1,6 +1,6 @@
 //! Steps with pages, and what these show then: what the tests of pages are told in.
 use super::pages::{
-    FIRST, LATER, Over, Pages, add_to, add_to_plain, at, end, has_leaves, shown, span, value,
+    BYTE, FIRST, LATER, Over, Pages, add_to, add_to_plain, at, end, has_leaves, shown, span, value,
 };
 use std::alloc::Global;
 use std::mem;
@@ -29,6 +29,8 @@ pub(crate) enum With {
     Own(u32, bool),
     /// The single keys of each fourth number from one on, at one wall time.
     Late(u32, u64),
+    /// The single keys of one byte from 0 on, each with a time of its own: the page alone.
+    Bytes,
 }
 
 /// What is done with two pages, a [`Page`] and a [`PlainPage`], or what they then show. A value is a wall time, a logical count and an
@@ -76,6 +78,9 @@ pub(crate) enum Step {
     Many(u32, u32),
     /// The size of all leaves but the last, and of that.
     All(u32, u32),
+    /// Each single key from one number up to another is answered this wall time, or its own, and
+    /// this owner.
+    Each(u32, u32, Option<u64>, u128),
     /// Each key, or each of so many, is told its own time, but from one up to another it is told a later one.
     Own(usize, u32, u32, u64),
     /// The end keys are those of the numbers 4, 8, 12, .., as each place from a number on tells, so many of them.
@@ -111,15 +116,22 @@ fn over_at(with: With, at: u32, count: u32) -> Over {
         With::Fourths => Over::At(at.saturating_add(1).saturating_mul(4)),
         With::Own(apart, _) => Over::At(at.saturating_mul(apart)),
         With::Late(first, _) => Over::At(at.saturating_mul(4).saturating_add(first)),
+        With::Bytes => Over::At(BYTE.saturating_add(at)),
     }
+}
+
+/// The value of a key of a number that has a time of its own.
+fn own_value(at: u32) -> Value {
+    value(u64::from(at) + 1, 0, FIRST)
 }
 
 /// The value that is added there in a step.
 fn value_at(with: With, at: u32, step: u32) -> Value {
     match with {
         With::Ranges(_) | With::Fourths => value(u64::from(step % 50) + 1, 0, u128::from(step % 3)),
-        With::Own(apart, _) => value(u64::from(at.saturating_mul(apart)) + 1, 0, FIRST),
+        With::Own(apart, _) => own_value(at.saturating_mul(apart)),
         With::Late(_, wall) => value(wall, 0, LATER),
+        With::Bytes => own_value(at),
     }
 }
 
@@ -405,7 +417,7 @@ impl Player {
         let each = match with {
             With::Ranges(_) => 129,
             With::Fourths => 32,
-            With::Own(_, _) | With::Late(_, _) => count,
+            With::Own(_, _) | With::Late(_, _) | With::Bytes => count,
         };
         let mut all = true;
         for step in 0..count {
@@ -427,22 +439,23 @@ impl Player {
             With::Ranges(first) => ((first, count), 5),
             With::Fourths if count < 200 => ((0, count * 4 + 8), 13),
             With::Fourths => ((0, count * 4 + 8), 1171),
-            With::Own(_, _) | With::Late(_, _) => ((0, 0), 1),
+            With::Own(_, _) | With::Late(_, _) | With::Bytes => ((0, 0), 1),
         };
         self.ranges = numbers > 0;
         self.push_between(first, first.saturating_add(numbers), stride)
     }
 
-    /// Goes on with pages that are filled. A range's two keys cost at most 60 each, and a single key 36.
+    /// Goes on with pages that are filled. A range's two keys cost at most 60 each, a single key 36,
+    /// and one of one byte 33.
     fn refill(&mut self, order: Order, count: u32, with: With, more: u32) -> bool {
-        let cost = if matches!(with, With::Ranges(_)) {
-            60
-        } else {
-            36
+        let cost = match with {
+            With::Ranges(_) => 60,
+            With::Bytes => 33,
+            _ => 36,
         };
         let size = count.saturating_add(more).saturating_mul(cost);
         let made = self.look_over(count, with) && self.restart(size, 0);
-        self.alone = matches!(with, With::Own(_, false));
+        self.alone = matches!(with, With::Own(_, false) | With::Bytes);
         made && self.fill(order, count, with, false)
     }
 
@@ -635,6 +648,25 @@ impl Player {
         told && self.pages.page.lookup(span) == value
     }
 
+    /// Whether the key of a number is answered a value.
+    fn answers_at(&mut self, at: u32, value: Value) -> bool {
+        match span(self.alloc, Over::At(at)) {
+            Ok(span) => self.answers(&span, value),
+            Err(fault) => self.refuse_span(fault),
+        }
+    }
+
+    /// Whether each key from one number up to another is answered a wall time, or its own, and an
+    /// owner.
+    fn answers_each(&mut self, (from, to): (u32, u32), wall: Option<u64>, owner: u128) -> bool {
+        let mut alike = true;
+        for at in from..to {
+            let own = u64::from(at % BYTE) + 1;
+            alike &= self.answers_at(at, value(wall.unwrap_or(own), 0, owner));
+        }
+        alike
+    }
+
     /// Whether a page with one more value can be made, or can't.
     fn makes(&mut self, span: &Span, value: Value, room: bool) -> bool {
         if span.is_empty() {
@@ -744,6 +776,7 @@ impl Player {
             Step::Adds(count, with) => self.fill(Order::Rising, count, with, true),
             Step::Between(numbers) => self.look_up(numbers, 0),
             Step::Seconds(end) => self.look_up(&[], end),
+            Step::Each(from, to, wall, owner) => self.answers_each((from, to), wall, owner),
             Step::Own(stride, from, to, wall) => self.tells_own(stride, (from, to), wall),
             Step::Strict(strict) => self.be_strict(strict),
             Step::Swap => self.swap(),

@@ -1,0 +1,101 @@
+/* Tests for how much memory the calls of libtscache ask, through its header: how many requests each makes, and for how many bytes at
+ * most in all, which is what was measured and some hundredths more. Linked with -Wl,--wrap=malloc,--wrap=realloc. It says at the end
+ * `N passed, M failed`. */
+#include "tscache.h"
+#include <inttypes.h>
+#include <stdio.h>
+#include <stdlib.h>
+#include <string.h>
+
+static int passed, failed;
+
+/* What was asked for since the last call was looked at. */
+static uint64_t requests, bytes;
+void *__real_malloc(size_t size);
+void *__real_realloc(void *block, size_t size);
+
+void *__wrap_malloc(size_t size)
+{
+    requests++;
+    bytes += size;
+    return __real_malloc(size);
+}
+
+void *__wrap_realloc(void *block, size_t size)
+{
+    requests++;
+    bytes += size;
+    return __real_realloc(block, size);
+}
+
+/* A call has made so many requests, for so many bytes at most, and was answered TSC_OK. */
+static void asks(const char *call, uint32_t answer, uint64_t wanted, uint64_t most)
+{
+    if (answer == TSC_OK && requests == wanted && bytes <= most) {
+        passed++;
+    } else {
+        failed++;
+        printf("%s: answer %" PRIu32 ", %" PRIu64 " requests for memory and not %" PRIu64 ", %" PRIu64 " bytes and not %" PRIu64 " at most\n", call,
+               answer, requests, wanted, bytes, most);
+    }
+    requests = bytes = 0;
+}
+
+static const tsc_time LOW = {5, 0}, NOW = {20, 0};
+static const tsc_value READ = {20, 1, {0x11}}, LATER = {21, 0, {0x11}};
+
+static void of_a_cache(void)
+{
+    tsc_place place = {NULL}, other = {NULL};
+    uint64_t n = 77, second = 77, moved = 77;
+    tsc_added added;
+    tsc_value value;
+    tsc_mark marks[2] = {{0, 1, 0, 0, {30, 0, {0}}, TSC_POINT}, {1, 1, 0, 0, {31, 0, {0}}, TSC_POINT}};
+    asks("tsc_open", tsc_try_open(&place, 1024, 1024, 2, 10, &LOW, &n), 3, 600);
+    asks("tsc_open of a second one", tsc_try_open(&place, 1024, 1024, 2, 10, &LOW, &second), 1, 84);
+    asks("tsc_add of a first key", tsc_try_add(&place, n, "x", 1, NULL, 0, TSC_POINT, &READ, &NOW, &added), 8, 315);
+    asks("tsc_add of a second key", tsc_try_add(&place, n, "y", 1, NULL, 0, TSC_POINT, &READ, &NOW, &added), 5, 430);
+    asks("tsc_add of a known key", tsc_try_add(&place, n, "x", 1, NULL, 0, TSC_POINT, &LATER, &NOW, &added), 1, 1);
+    asks("tsc_get_max", tsc_try_get_max(&place, n, "x", 1, NULL, 0, TSC_POINT, &value), 0, 0);
+    asks("tsc_add_all of known keys", tsc_try_add_all(&place, n, "xy", 2, marks, 2, &NOW, &added), 7, 890);
+    asks("tsc_move to an empty place", tsc_try_move(&place, n, &other, &moved), 2, 520);
+    asks("tsc_move of a second one", tsc_try_move(&place, second, &other, &moved), 0, 0);
+    tsc_try_free(&place);
+    tsc_try_free(&other);
+}
+
+static void of_seats(void)
+{
+    tsc_place place = {NULL}, other = {NULL};
+    uint64_t n = 77, moved = 77, at = 77, seen = 77;
+    tsc_added added;
+    tsc_value value;
+    asks("tsc_open_shared", tsc_try_open_shared(&place, 1024, 1024, 2, 10, &LOW, 2, 9, &n), 19, 4000);
+    asks("tsc_seat_add of a first key", tsc_seat_try_add(&place, n + 1, "x", 1, NULL, 0, TSC_POINT, &READ, &NOW, 1, &at, &added), 9, 316);
+    asks("tsc_seat_add of a second key", tsc_seat_try_add(&place, n + 1, "y", 1, NULL, 0, TSC_POINT, &READ, &NOW, 1, &at, &added), 13, 745);
+    asks("tsc_seat_add of a known key", tsc_seat_try_add(&place, n + 1, "y", 1, NULL, 0, TSC_POINT, &LATER, &NOW, 1, &at, &added), 6, 430);
+    asks("tsc_seat_get_max", tsc_seat_try_get_max(&place, n + 2, "x", 1, NULL, 0, TSC_POINT, &seen, &value), 0, 0);
+    asks("tsc_move of a seat", tsc_try_move(&place, n + 1, &other, &moved), 2, 520);
+    tsc_try_free(&place);
+    tsc_try_free(&other);
+}
+
+static void of_texts(void)
+{
+    const char *trace = "{\"page_first\":132,\"page_max\":132,\"min_pages\":2,\"retention\":10,\"low_water\":[5,0],\"threads\":[["
+                        "{\"op\":\"add\",\"span\":{\"start\":\"61\"},\"time\":[20,0],\"now\":[20,0]},{\"op\":\"get\",\"span\":{\"start\":\"61\"}}]]}";
+    const char *log = "0 0 add 0 1 0 0\n0 1 get 1 20.0 none\n";
+    char out[200];
+    size_t len = 0;
+    asks("tsc_replay", tsc_try_replay(trace, strlen(trace), out, sizeof out, &len), 16, 1475);
+    asks("tsc_check", tsc_try_check(trace, strlen(trace), log, strlen(log), out, sizeof out, &len), 19, 1570);
+}
+
+int main(void)
+{
+    of_a_cache();
+    of_seats();
+    of_texts();
+    printf("%d passed, %d failed\n", passed, failed);
+    return failed != 0;
+}
