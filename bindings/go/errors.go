@@ -7,8 +7,8 @@ import "C"
 
 import "fmt"
 
-// Refused is why a call was refused, by its code in tscache.h. A call that is refused adds nothing. Each of the codes below is an error, which
-// errors.Is finds and == tells from others.
+// Refused is why a call was refused, by its code in tscache.h. A call that is refused adds
+// nothing. Each of the codes below is an error, which errors.Is finds and == tells from others.
 type Refused uint32
 
 // Why calls are refused.
@@ -23,7 +23,8 @@ const (
 	ErrKeyTooLong Refused = C.TSC_KEY_TOO_LONG
 	// ErrInverted is of a span to be added whose first key is greater than the second.
 	ErrInverted Refused = C.TSC_INVERTED
-	// ErrTooLarge is of a span to be added that costs more than PageMax: 32 and its bytes for each key.
+	// ErrTooLarge is of a span to be added that costs more than PageMax: 32 and its bytes for each
+	// key.
 	ErrTooLarge Refused = C.TSC_TOO_LARGE
 	// ErrPageSize is of a PageFirst below 64, or above PageMax, or of a PageMax above 2^30.
 	ErrPageSize Refused = C.TSC_PAGE_SIZE
@@ -37,11 +38,13 @@ const (
 	ErrSeats Refused = C.TSC_SEATS
 	// ErrStillOut is of a shared cache of which a seat was not closed.
 	ErrStillOut Refused = C.TSC_STILL_OUT
-	// ErrBusy is of an Add that found others in the way at each of its tries. Call runtime.Gosched, and try again.
+	// ErrBusy is of an Add that found others in the way at each of its tries. Call
+	// runtime.Gosched, and try again.
 	ErrBusy Refused = C.TSC_BUSY
 	// ErrFull is of a shared cache that has had as many Adds as it may have.
 	ErrFull Refused = C.TSC_FULL
-	// ErrNoTime is of a write for which there is no time: a read of somebody else is at the last one. No code of tscache.h says so.
+	// ErrNoTime is of a write for which there is no time: a read of somebody else is at the last
+	// one. No code of tscache.h says so.
 	ErrNoTime Refused = 1 << 16
 )
 

@@ -9,7 +9,8 @@ import (
 	"maulviolet.invalid/tscache/internal/heap"
 )
 
-// Opened and dropped so often, each thing leaves nothing behind, whether it is closed or left to the collector.
+// Opened and dropped so often, each thing leaves nothing behind, whether it is closed or left to
+// the collector.
 func TestNothingIsLeftBehind(t *testing.T) {
 	const times, most = 2000, 64 << 10 // less than an empty cache takes, times 2,000
 	config := Config{PageFirst: 132, PageMax: 132, MinPages: 2, Retention: 10, LowWater: Time{5, 0}}
@@ -76,7 +77,8 @@ func TestNothingIsLeftBehind(t *testing.T) {
 	}
 }
 
-// finalizersRun waits until the finalizers that the collector has found have run: one goroutine runs all of them, in their order.
+// finalizersRun waits until the finalizers that the collector has found have run: one goroutine
+// runs all of them, in their order.
 func finalizersRun() {
 	done := make(chan struct{})
 	func() {

@@ -1,10 +1,11 @@
 package tscache
 
-// Pool has the seats of a shared cache go round among any number of goroutines: each takes one for a call, or for a few, and puts it back. At once as many
-// go on as there are seats, and the others wait; runtime.GOMAXPROCS(0) seats are as many as can be busy at once.
+// Pool has the seats of a shared cache go round among any number of goroutines: each takes one for
+// a call, or for a few, and puts it back. At once as many go on as there are seats, and the others
+// wait; runtime.GOMAXPROCS(0) seats are as many as can be busy at once.
 //
-// A goroutine that gets another seat than the time before goes on from there all the same: a lookup that begins once an Add has returned counts
-// that Add, whichever seats the two are of.
+// A goroutine that gets another seat than the time before goes on from there all the same: a
+// lookup that begins once an Add has returned counts that Add, whichever seats the two are of.
 type Pool struct{ free chan *Seat }
 
 // NewPool makes a pool of these seats, none of which is used by itself from then on.
@@ -16,7 +17,8 @@ func NewPool(seats []*Seat) *Pool {
 	return p
 }
 
-// Get takes a seat, and waits until there is one. A goroutine that holds one and waits for another may wait for good.
+// Get takes a seat, and waits until there is one. A goroutine that holds one and waits for another
+// may wait for good.
 func (p *Pool) Get() *Seat { return <-p.free }
 
 // Put puts back a seat that Get gave.
@@ -28,7 +30,8 @@ func (p *Pool) Put(seat *Seat) {
 	}
 }
 
-// Do has the work done with a seat, which is put back also where the work panics. The work takes no other seat of the pool, and keeps none.
+// Do has the work done with a seat, which is put back also where the work panics. The work takes
+// no other seat of the pool, and keeps none.
 func (p *Pool) Do(work func(*Seat)) {
 	seat := p.Get()
 	defer p.Put(seat)

@@ -1,10 +1,13 @@
-// Package tscache is the timestamp cache: for each span of keys the latest time at which it was read, and by which transaction.
+// Package tscache is the timestamp cache: for each span of keys the latest time at which it was
+// read, and by which transaction.
 //
-// A store asks it before a write, by EarliestWrite, so that no write changes what a read saw. A Cache serves one goroutine at a time, and a
-// Shared cache as many as it has seats, or by a Pool any number.
+// A store asks it before a write, by EarliestWrite, so that no write changes what a read saw. A
+// Cache serves one goroutine at a time, and a Shared cache as many as it has seats, or by a Pool
+// any number.
 //
-// All that is here calls libtscache.a, whose functions are proved to do what they say; see tscache.h. Nothing of this package is
-// proved itself. README.md says how a program finds the library.
+// All that is here calls libtscache.a, whose functions are proved to do what they say; see
+// tscache.h. Nothing of this package is proved itself. README.md says how a program finds the
+// library.
 package tscache
 
 /*
@@ -12,8 +15,9 @@ package tscache
 #include <string.h>
 #include "tscache.h"
 
-// What a Cache, a Shared or a Seat has outside of Go: its place, the number of what lies there, and what calls read and write beside keys. So a
-// call takes no memory of Go's, and hands over no pointer into it but those of keys and marks. The place is bytes for Go, since cgo looks at each
+// What a Cache, a Shared or a Seat has outside of Go: its place, the number of what lies there,
+// and what calls read and write beside keys. So a call takes no memory of Go's, and hands over no
+// pointer into it but those of keys and marks. The place is bytes for Go, since cgo looks at each
 // block that has a pointer in it, at each call.
 typedef struct {
     unsigned char place[sizeof(tsc_place)];
@@ -128,8 +132,9 @@ type Config struct {
 	LowWater Time
 }
 
-// DefaultConfig has pages of 128 KiB that grow to 32 MiB, at least two of them, and ten seconds. Its floor stands at the first time of all; the
-// holder of a lease sets LowWater to the start of that.
+// DefaultConfig has pages of 128 KiB that grow to 32 MiB, at least two of them, and ten seconds.
+// Its floor stands at the first time of all; the holder of a lease sets LowWater to the start of
+// that.
 func DefaultConfig() Config {
 	return Config{PageFirst: 128 << 10, PageMax: 32 << 20, MinPages: 2, Retention: 10 * time.Second}
 }
@@ -148,8 +153,8 @@ const (
 // noEnds are the ends of a span that is refused with ErrEnds.
 const noEnds = ^C.uint32_t(0)
 
-// Span names keys by its ends. Make it by Point, Range and Onward; Span{} is refused with ErrEnds. It has the slices that it is made of, and copies
-// no key.
+// Span names keys by its ends. Make it by Point, Range and Onward; Span{} is refused with ErrEnds.
+// It has the slices that it is made of, and copies no key.
 type Span struct {
 	from, to []byte
 	// one more than the ends that tscache.h knows, so that Span{} has none of these
@@ -181,24 +186,26 @@ type Mark struct {
 	Value Value
 }
 
-// Added is what an Add did: whether its span is not empty and its time above the floor, whether a new page came to the front, and
-// how many were dropped.
+// Added is what an Add did: whether its span is not empty and its time above the floor, whether a
+// new page came to the front, and how many were dropped.
 type Added struct {
 	Kept, Rotated bool
 	Evicted       uint64
 }
 
-// Figures is how many pages there are, how often they rotated, how many end keys they hold, each counted once for each page that
-// holds it, and what these cost: for each as many bytes as it has, and 32 more. Each count stays at 2^64 - 1 once it is there.
+// Figures is how many pages there are, how often they rotated, how many end keys they hold, each
+// counted once for each page that holds it, and what these cost: for each as many bytes as it has,
+// and 32 more. Each count stays at 2^64 - 1 once it is there.
 type Figures struct {
 	Pages, Rotations, Nodes, Bytes uint64
 }
 
-// apart is how many bytes a Cache and a Seat have for themselves, here and in C, so that no two of them lie in one line of the processor's caches: each call
-// writes to both parts.
+// apart is how many bytes a Cache and a Seat have for themselves, here and in C, so that no two of
+// them lie in one line of the processor's caches: each call writes to both parts.
 const apart = C.TSC_GO_APART
 
-// owned is what a Cache, a Shared and a Seat have in common: a block, and whether a call is under way.
+// owned is what a Cache, a Shared and a Seat have in common: a block, and whether a call is under
+// way.
 type owned struct {
 	block *C.tsc_go_block
 	taken uint32
@@ -240,7 +247,8 @@ func (o *owned) free() {
 	runtime.KeepAlive(o)
 }
 
-// Cache is a timestamp cache. Its calls come one at a time, from one goroutine or under a lock; where two come at once the second one panics.
+// Cache is a timestamp cache. Its calls come one at a time, from one goroutine or under a lock;
+// where two come at once the second one panics.
 type Cache struct{ owned }
 
 // Open makes a cache to which nothing was added. Close frees it, and else the collector does.
@@ -261,7 +269,8 @@ func Open(config Config) (*Cache, error) {
 	return c, nil
 }
 
-// Close frees the cache. Other calls are then refused with ErrClosed, and a second Close does nothing.
+// Close frees the cache. Other calls are then refused with ErrClosed, and a second Close does
+// nothing.
 func (c *Cache) Close() {
 	runtime.SetFinalizer(c, nil)
 	c.free()
@@ -297,9 +306,10 @@ func (c *Cache) AddAll(marks []Mark, now Time) (Added, error) {
 	return out, err
 }
 
-// GetMax is the latest time on a span, with its owner where all reads of that time are one transaction's, or the floor. A range
-// whose first key is greater than the second is empty, and the floor answers. Keys may be of any length, and no memory is taken: it is
-// refused with ErrClosed and ErrEnds alone.
+// GetMax is the latest time on a span, with its owner where all reads of that time are one
+// transaction's, or the floor. A range whose first key is greater than the second is empty, and
+// the floor answers. Keys may be of any length, and no memory is taken: it is refused with
+// ErrClosed and ErrEnds alone.
 func (c *Cache) GetMax(span Span) (Value, error) {
 	c.take()
 	if c.block == nil {
@@ -341,15 +351,18 @@ func (c *Cache) Figures() (Figures, error) {
 // Shared is a timestamp cache that goroutines share, for who opened it. They use it by its seats.
 type Shared struct{ owned }
 
-// Seat is a seat of a shared cache. Its calls come one at a time, and where two come at once the second one panics; those of different seats may come
-// at once. Where there are more goroutines than seats a Pool has the seats go round.
+// Seat is a seat of a shared cache. Its calls come one at a time, and where two come at once the
+// second one panics; those of different seats may come at once. Where there are more goroutines
+// than seats a Pool has the seats go round.
 //
-// There is one history of all Adds of the cache, and what a seat has seen are the first so many of it. So a lookup that tells more of them than the
-// place of an Add counts that Add, whichever seat made it, and so does each later lookup of its seat.
+// There is one history of all Adds of the cache, and what a seat has seen are the first so many of
+// it. So a lookup that tells more of them than the place of an Add counts that Add, whichever seat
+// made it, and so does each later lookup of its seat.
 type Seat struct{ owned }
 
-// OpenShared makes a cache to which nothing was added, and its seats, 1 to 64 of them. There may be limit Adds; a limit below math.MaxUint64 is for tests.
-// Close frees each of them, and else the collector does.
+// OpenShared makes a cache to which nothing was added, and its seats, 1 to 64 of them. There may
+// be limit Adds; a limit below math.MaxUint64 is for tests. Close frees each of them, and else the
+// collector does.
 func OpenShared(config Config, seats uint32, limit uint64) (*Shared, []*Seat, error) {
 	s := &Shared{}
 	if err := s.open(); err != nil {
@@ -389,7 +402,8 @@ func (s *Shared) seat(i C.uint64_t) (*Seat, error) {
 	return seat, nil
 }
 
-// Close frees the cache, and tells how many Adds there were. It is refused with ErrStillOut where a seat was not closed, and nothing is changed then.
+// Close frees the cache, and tells how many Adds there were. It is refused with ErrStillOut where
+// a seat was not closed, and nothing is changed then.
 func (s *Shared) Close() (uint64, error) {
 	s.take()
 	if s.block == nil {
@@ -406,15 +420,17 @@ func (s *Shared) Close() (uint64, error) {
 	return length, nil
 }
 
-// Close hands the seat in. Other calls are then refused with ErrClosed, and a second Close does nothing.
+// Close hands the seat in. Other calls are then refused with ErrClosed, and a second Close does
+// nothing.
 func (s *Seat) Close() {
 	runtime.SetFinalizer(s, nil)
 	s.free()
 }
 
-// Add adds a span that was read, and tells which place the Add has among all of the cache, counted from 0. It waits for nobody: where others
-// are in the way at each of so many tries it is refused with ErrBusy, and may be tried again. Take 64 tries; where it is refused call runtime.Gosched, and
-// try again.
+// Add adds a span that was read, and tells which place the Add has among all of the cache, counted
+// from 0. It waits for nobody: where others are in the way at each of so many tries it is refused
+// with ErrBusy, and may be tried again. Take 64 tries; where it is refused call runtime.Gosched,
+// and try again.
 func (s *Seat) Add(span Span, value Value, now Time, tries uint32) (uint64, Added, error) {
 	s.take()
 	if s.block == nil {
@@ -444,7 +460,8 @@ func (s *Seat) AddAll(marks []Mark, now Time, tries uint32) (uint64, Added, erro
 	return place, out, err
 }
 
-// GetMax is the latest time on a span, as that of a Cache, and how many Adds the seat has seen then. It waits for nobody.
+// GetMax is the latest time on a span, as that of a Cache, and how many Adds the seat has seen
+// then. It waits for nobody.
 func (s *Seat) GetMax(span Span) (Value, uint64, error) {
 	s.take()
 	if s.block == nil {
@@ -491,7 +508,8 @@ func (s *Seat) told(code C.uint32_t) uint64 {
 	return uint64(s.block.told)
 }
 
-// flat gives the keys of some marks, one behind the other, and the marks with their places there, and one more mark behind them, which is nobody's.
+// flat gives the keys of some marks, one behind the other, and the marks with their places there,
+// and one more mark behind them, which is nobody's.
 func flat(marks []Mark) ([]byte, []C.tsc_mark) {
 	var keys []byte
 	asked := make([]C.tsc_mark, len(marks)+1)
@@ -510,7 +528,8 @@ func flat(marks []Mark) ([]byte, []C.tsc_mark) {
 // nothing is where a key without bytes lies.
 var nothing [1]byte
 
-// bytes leads to the bytes of a key. A pointer to bytes is one that cgo needs not look behind, so a key may lie beside pointers.
+// bytes leads to the bytes of a key. A pointer to bytes is one that cgo needs not look behind, so
+// a key may lie beside pointers.
 func bytes(b []byte) *C.uint8_t {
 	if len(b) == 0 {
 		b = nothing[:]

@@ -13,7 +13,8 @@ import (
 	"unsafe"
 )
 
-// row is what a program keeps a key in: bytes beside a pointer into Go's memory, so that cgo may not look at the whole of it.
+// row is what a program keeps a key in: bytes beside a pointer into Go's memory, so that cgo may
+// not look at the whole of it.
 type row struct {
 	key    [8]byte
 	holder *string
@@ -128,7 +129,8 @@ func TestACallWhileAnotherIsUnderWayPanics(t *testing.T) {
 	}
 }
 
-// Two goroutines on one cache: each call that begins while another is under way panics, and the cache is none the worse for it.
+// Two goroutines on one cache: each call that begins while another is under way panics, and the
+// cache is none the worse for it.
 func TestTwoGoroutinesOnOneCache(t *testing.T) {
 	c := small(t)
 	var met int64

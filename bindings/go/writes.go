@@ -2,13 +2,15 @@ package tscache
 
 import "math"
 
-// Time is a time of a hybrid logical clock: nanoseconds below 2^63, and a count below 2^31 among those of one nanosecond.
+// Time is a time of a hybrid logical clock: nanoseconds below 2^63, and a count below 2^31 among
+// those of one nanosecond.
 type Time struct {
 	Wall    uint64
 	Logical uint32
 }
 
-// Before says whether the time is the earlier one: the smaller wall time is, and of two equal ones the smaller count.
+// Before says whether the time is the earlier one: the smaller wall time is, and of two equal ones
+// the smaller count.
 func (t Time) Before(other Time) bool {
 	return t.Wall < other.Wall || t.Wall == other.Wall && t.Logical < other.Logical
 }
@@ -27,17 +29,20 @@ func (t Time) Next() (Time, bool) {
 
 func (t Time) isInRange() bool { return t.Wall <= math.MaxInt64 && t.Logical <= math.MaxInt32 }
 
-// IsClearOf says whether a write of a transaction at some time is clear of a read, or of what a lookup answers: that one is earlier, or it is at the
-// same time and the transaction's own. An own read that is later is not passed over: where it is an answer, an earlier read of somebody else may lie
-// behind it.
+// IsClearOf says whether a write of a transaction at some time is clear of a read, or of what a
+// lookup answers: that one is earlier, or it is at the same time and the transaction's own. An own
+// read that is later is not passed over: where it is an answer, an earlier read of somebody else
+// may lie behind it.
 func IsClearOf(read Value, at Time, by [16]byte) bool {
 	return read.Time.Before(at) || read.Time == at && isOwn(read, by)
 }
 
 func isOwn(read Value, by [16]byte) bool { return read.Owner == by && by != [16]byte{} }
 
-// EarliestClearOf is the earliest time, not before at, at which a write of a transaction is clear of a read, or of what a lookup answers: at itself, the
-// time of an own read that is later, or else the time after the read's. There is none where that is the last time, and not the transaction's own.
+// EarliestClearOf is the earliest time, not before at, at which a write of a transaction is clear
+// of a read, or of what a lookup answers: at itself, the time of an own read that is later, or
+// else the time after the read's. There is none where that is the last time, and not the
+// transaction's own.
 func EarliestClearOf(read Value, at Time, by [16]byte) (Time, bool) {
 	switch {
 	case IsClearOf(read, at, by):
@@ -77,14 +82,16 @@ func earliestWrite(latest func(Span) (Value, error), spans []Span, at Time, by [
 	return at, nil
 }
 
-// MayWrite says whether a transaction may write a span at some time: whether that is clear of what a lookup of the span answers, and so of each read
-// that was added there, also of one that was dropped since. It is refused with ErrTime, and as GetMax is.
+// MayWrite says whether a transaction may write a span at some time: whether that is clear of what
+// a lookup of the span answers, and so of each read that was added there, also of one that was
+// dropped since. It is refused with ErrTime, and as GetMax is.
 func (c *Cache) MayWrite(span Span, at Time, by [16]byte) (bool, error) {
 	return mayWrite(c.GetMax, span, at, by)
 }
 
-// EarliestWrite is the earliest time, not before at, at which a transaction may write all of these spans. It costs a lookup for each. It is refused with
-// ErrNoTime where there is none, with ErrTime, and as GetMax is.
+// EarliestWrite is the earliest time, not before at, at which a transaction may write all of these
+// spans. It costs a lookup for each. It is refused with ErrNoTime where there is none, with
+// ErrTime, and as GetMax is.
 func (c *Cache) EarliestWrite(spans []Span, at Time, by [16]byte) (Time, error) {
 	return earliestWrite(c.GetMax, spans, at, by)
 }

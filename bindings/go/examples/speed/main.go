@@ -1,9 +1,11 @@
-// Speed times lookups and Adds of single keys that are there, of 65,536 keys or as many as the first word says, and an empty call of C beside them. Then
-// goroutines look up by seats of a shared cache, one each and by a pool.
+// Speed times lookups and Adds of single keys that are there, of 65,536 keys or as many as the
+// first word says, and an empty call of C beside them. Then goroutines look up by seats of a
+// shared cache, one each and by a pool.
 //
-// It prints the nanoseconds of one call, in that turn over 1,024 places in which it was quickest, of 225; and the lookups of all goroutines together in a
-// millisecond, in the quickest of nine rounds. The keys, and the order of all that is done, are those of bindings/c/speed.c, so that its figures can stand beside
-// these.
+// It prints the nanoseconds of one call, in that turn over 1,024 places in which it was quickest,
+// of 225; and the lookups of all goroutines together in a millisecond, in the quickest of nine
+// rounds. The keys, and the order of all that is done, are those of bindings/c/speed.c, so that
+// its figures can stand beside these.
 package main
 
 /*

@@ -8,7 +8,8 @@ package heap
 */
 import "C"
 
-// InUse is how many bytes malloc has handed out that were not freed, or keeps for the thread that freed them.
+// InUse is how many bytes malloc has handed out that were not freed, or keeps for the thread that
+// freed them.
 func InUse() int64 {
 	info := C.mallinfo2()
 	return int64(info.uordblks) + int64(info.hblkhd)
