@@ -15,11 +15,12 @@
  *     tsc_try_get_max(&place, n, "b", 1, NULL, 0, TSC_POINT, &latest);                // latest.wall is 20
  *     tsc_free(&place);
  *
- * When a write may be made: a transaction may write a span at a time where what a lookup of the span answers is earlier, or is at that very time and
- * owned by the transaction (with an owner that is not zeros). Where it may not, the earliest time that will do is that of the answer if the transaction
- * owns it, and else the one after it, which `tsc_next` tells; if there is none the write is refused. Of several spans each has to let it pass, so
- * a store goes from span to span and on to a later time where one asks for that, and never back. The trap: an answer of the transaction's own at
- * 30 hides a read of somebody else at 20, so a write below 30 is never let pass because the answer is its own.
+ * When a write may be made: at a time above what a lookup of its span answers, or at that very time
+ * where its transaction owns the answer, which sixteen zeros never do. Else the earliest time that
+ * will do is the answer's if the transaction owns it, and if not the one after it, which `tsc_next`
+ * tells. Each of several spans has to let the write pass, so a store goes from span to span, on to a
+ * later time where one asks for that, and never back. The trap: an own answer at 30 hides a read of
+ * somebody else at 20, so that a write at 25 is never let pass because the answer is its own.
  *
  * Each function that is declared here is proved, over whatever numbers and bytes it is given, to return and to do what is said
  * of it, as long as the caller keeps to this:

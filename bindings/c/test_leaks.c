@@ -1,6 +1,6 @@
-/* Opens and drops caches, shared caches and seats 2,000 times each, and looks that as much memory is
- * handed out after as before. It says at the end `N passed, M failed`. It needs glibc's `mallinfo2`;
- * elsewhere it checks the calls alone. */
+/* Opens and drops caches, shared caches and seats 2,000 times each, and looks that as much memory
+ * is handed out after as before. It says at the end `N passed, M failed`. It needs glibc's
+ * `mallinfo2`; elsewhere it checks the calls alone. */
 #include "tscache.h"
 
 #include <malloc.h>
@@ -37,14 +37,16 @@ static const tsc_value READ = {20, 0, {0x11}};
 static uint32_t add(tsc_place *place, uint64_t n)
 {
     tsc_added a;
-    return tsc_add(place, n, (const uint8_t *)"a", 1, (const uint8_t *)"", 0, TSC_POINT, &READ, &NOW, &a);
+    return tsc_add(place, n, (const uint8_t *)"a", 1, (const uint8_t *)"", 0, TSC_POINT, &READ,
+                   &NOW, &a);
 }
 
 static uint32_t seat_add(tsc_place *place, uint64_t seat)
 {
     tsc_added a;
     uint64_t at;
-    return tsc_seat_add(place, seat, (const uint8_t *)"a", 1, (const uint8_t *)"", 0, TSC_POINT, &READ, &NOW, 64, &at, &a);
+    return tsc_seat_add(place, seat, (const uint8_t *)"a", 1, (const uint8_t *)"", 0, TSC_POINT,
+                        &READ, &NOW, 64, &at, &a);
 }
 
 /* Each of these opens something and drops it, and says whether each call did what it should. */
@@ -53,7 +55,8 @@ static bool caches(void)
 {
     tsc_place place = {NULL};
     uint64_t n;
-    bool is_right = tsc_open(&place, 132, 132, 2, 10, &LOW, &n) == TSC_OK && add(&place, n) == TSC_OK;
+    bool is_right =
+        tsc_open(&place, 132, 132, 2, 10, &LOW, &n) == TSC_OK && add(&place, n) == TSC_OK;
     tsc_free(&place);
     return is_right && place.at == NULL;
 }
@@ -62,9 +65,9 @@ static bool refused_ones(void)
 {
     tsc_place place = {NULL};
     uint64_t n;
-    bool is_right = tsc_open(&place, 132, 132, 0, 10, &LOW, &n) == TSC_MIN_PAGES
-        && tsc_open_shared(&place, 132, 132, 2, 10, &LOW, 65, 9, &n) == TSC_SEATS
-        && tsc_close(&place, 0) == TSC_CLOSED;
+    bool is_right = tsc_open(&place, 132, 132, 0, 10, &LOW, &n) == TSC_MIN_PAGES &&
+                    tsc_open_shared(&place, 132, 132, 2, 10, &LOW, 65, 9, &n) == TSC_SEATS &&
+                    tsc_close(&place, 0) == TSC_CLOSED;
     tsc_free(&place);
     return is_right;
 }
@@ -73,11 +76,13 @@ static bool shared_ones(bool closes)
 {
     tsc_place place = {NULL}, other = {NULL};
     uint64_t n, seat, adds;
-    bool is_right = tsc_open_shared(&place, 132, 132, 2, 10, &LOW, 2, 9, &n) == TSC_OK
-        && tsc_move(&place, n + 2, &other, &seat) == TSC_OK && seat_add(&other, seat) == TSC_OK;
+    bool is_right = tsc_open_shared(&place, 132, 132, 2, 10, &LOW, 2, 9, &n) == TSC_OK &&
+                    tsc_move(&place, n + 2, &other, &seat) == TSC_OK &&
+                    seat_add(&other, seat) == TSC_OK;
     if (closes)
-        is_right = is_right && tsc_seat_close(&other, seat) == TSC_OK && tsc_seat_close(&place, n + 1) == TSC_OK
-            && tsc_close_shared(&place, n, &adds) == TSC_OK && adds == 1;
+        is_right = is_right && tsc_seat_close(&other, seat) == TSC_OK &&
+                   tsc_seat_close(&place, n + 1) == TSC_OK &&
+                   tsc_close_shared(&place, n, &adds) == TSC_OK && adds == 1;
     tsc_free(&place);
     tsc_free(&other);
     return is_right;

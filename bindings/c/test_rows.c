@@ -1,5 +1,5 @@
-/* Plays the rows of bindings/rows.txt, whose head says what they are, on a cache, by one seat of a shared cache, and by three seats in turn. It says at the
- * end `N passed, M failed`. */
+/* Plays the rows of bindings/rows.txt, whose head says what they are, on a cache, by one seat of
+ * a shared cache, and by three seats in turn. It says at the end `N passed, M failed`. */
 #include "tscache.h"
 
 #include <inttypes.h>
@@ -136,22 +136,22 @@ static void close_table(struct table *t)
 static uint32_t open_table(struct table *t, char *const *word)
 {
     tsc_time low = time_of(word[5]);
-    uint32_t first = (uint32_t)strtoul(word[1], NULL, 10), max = (uint32_t)strtoul(word[2], NULL, 10), pages = (uint32_t)strtoul(word[3], NULL, 10);
+    uint32_t first = (uint32_t)strtoul(word[1], NULL, 10),
+             max = (uint32_t)strtoul(word[2], NULL, 10),
+             pages = (uint32_t)strtoul(word[3], NULL, 10);
     uint64_t retention = strtoull(word[4], NULL, 10);
     close_table(t);
     if (t->seats == 0)
         return tsc_open(&t->opened, first, max, pages, retention, &low, &t->number);
-    uint32_t answer = tsc_open_shared(&t->opened, first, max, pages, retention, &low, t->seats, strtoull(word[6], NULL, 10), &t->number);
+    uint32_t answer = tsc_open_shared(&t->opened, first, max, pages, retention, &low, t->seats,
+                                      strtoull(word[6], NULL, 10), &t->number);
     for (uint32_t i = 0; answer == TSC_OK && i < t->seats; i++)
         answer = tsc_move(&t->opened, t->number + 1 + i, &t->places[i], &t->numbers[i]);
     return answer;
 }
 
 /* The seat whose turn it is. */
-static uint32_t next_seat(struct table *t)
-{
-    return t->turn++ % t->seats;
-}
+static uint32_t next_seat(struct table *t) { return t->turn++ % t->seats; }
 
 static void has_seen(struct table *t, uint32_t answer, uint64_t seen)
 {
@@ -164,24 +164,29 @@ static void is_added(struct table *t, uint32_t answer, uint64_t place)
     t->adds += answer == TSC_OK;
 }
 
-static uint32_t add(struct table *t, const struct span *s, const tsc_value *v, const tsc_time *now, tsc_added *out)
+static uint32_t add(struct table *t, const struct span *s, const tsc_value *v, const tsc_time *now,
+                    tsc_added *out)
 {
     if (t->seats == 0)
-        return tsc_add(&t->opened, t->number, s->from, s->from_len, s->to, s->to_len, s->ends, v, now, out);
+        return tsc_add(&t->opened, t->number, s->from, s->from_len, s->to, s->to_len, s->ends, v,
+                       now, out);
     uint32_t i = next_seat(t);
     uint64_t place = 0;
-    uint32_t answer = tsc_seat_add(&t->places[i], t->numbers[i], s->from, s->from_len, s->to, s->to_len, s->ends, v, now, t->tries, &place, out);
+    uint32_t answer = tsc_seat_add(&t->places[i], t->numbers[i], s->from, s->from_len, s->to,
+                                   s->to_len, s->ends, v, now, t->tries, &place, out);
     is_added(t, answer, place);
     return answer;
 }
 
-static uint32_t add_all(struct table *t, const uint8_t *keys, size_t keys_len, const tsc_mark *marks, size_t len, const tsc_time *now, tsc_added *out)
+static uint32_t add_all(struct table *t, const uint8_t *keys, size_t keys_len,
+                        const tsc_mark *marks, size_t len, const tsc_time *now, tsc_added *out)
 {
     if (t->seats == 0)
         return tsc_add_all(&t->opened, t->number, keys, keys_len, marks, len, now, out);
     uint32_t i = next_seat(t);
     uint64_t place = 0;
-    uint32_t answer = tsc_seat_add_all(&t->places[i], t->numbers[i], keys, keys_len, marks, len, now, t->tries, &place, out);
+    uint32_t answer = tsc_seat_add_all(&t->places[i], t->numbers[i], keys, keys_len, marks, len,
+                                       now, t->tries, &place, out);
     is_added(t, answer, place);
     return answer;
 }
@@ -189,10 +194,12 @@ static uint32_t add_all(struct table *t, const uint8_t *keys, size_t keys_len, c
 static uint32_t get_max(struct table *t, const struct span *s, tsc_value *out)
 {
     if (t->seats == 0)
-        return tsc_get_max(&t->opened, t->number, s->from, s->from_len, s->to, s->to_len, s->ends, out);
+        return tsc_get_max(&t->opened, t->number, s->from, s->from_len, s->to, s->to_len, s->ends,
+                           out);
     uint32_t i = next_seat(t);
     uint64_t seen = 0;
-    uint32_t answer = tsc_seat_get_max(&t->places[i], t->numbers[i], s->from, s->from_len, s->to, s->to_len, s->ends, &seen, out);
+    uint32_t answer = tsc_seat_get_max(&t->places[i], t->numbers[i], s->from, s->from_len, s->to,
+                                       s->to_len, s->ends, &seen, out);
     has_seen(t, answer, seen);
     return answer;
 }
@@ -227,7 +234,8 @@ static bool is_clear_of(const tsc_value *read, tsc_time at, const uint8_t by[16]
     return tsc_before(time, at) || (!tsc_before(at, time) && memcmp(read->owner, by, 16) == 0);
 }
 
-static bool earliest(struct table *t, char *const *spans, int count, tsc_time *at, const uint8_t by[16])
+static bool earliest(struct table *t, char *const *spans, int count, tsc_time *at,
+                     const uint8_t by[16])
 {
     for (int i = 0; i < count; i++) {
         struct span s = span_of(spans[i]);
@@ -264,7 +272,12 @@ static void batch(struct table *t, const struct line *l, char *told)
         struct span s = span_of(l->word[i]);
         if (count == MARKS)
             wrong_row("a batch of too many marks");
-        marks[count++] = (tsc_mark){len, s.from_len, len + s.from_len, s.to_len, value_of(l->word[i + 1], l->word[i + 2]), s.ends};
+        marks[count++] = (tsc_mark){len,
+                                    s.from_len,
+                                    len + s.from_len,
+                                    s.to_len,
+                                    value_of(l->word[i + 1], l->word[i + 2]),
+                                    s.ends};
         memcpy(keys + len, s.from, s.from_len);
         memcpy(keys + len + s.from_len, s.to, s.to_len);
         len += s.from_len + s.to_len;
@@ -282,7 +295,8 @@ static void call(struct table *t, const struct line *l, char *told)
         tsc_place place = {NULL};
         tsc_time low = {5, 0};
         uint64_t n;
-        strcpy(told, name_of(tsc_open_shared(&place, 132, 132, 2, 10, &low, (uint32_t)strtoul(w[1], NULL, 10), 9, &n)));
+        strcpy(told, name_of(tsc_open_shared(&place, 132, 132, 2, 10, &low,
+                                             (uint32_t)strtoul(w[1], NULL, 10), 9, &n)));
         tsc_free(&place);
     } else if (strcmp(w[0], "tries") == 0) {
         t->tries = (uint32_t)strtoul(w[1], NULL, 10);
@@ -299,7 +313,8 @@ static void call(struct table *t, const struct line *l, char *told)
         tsc_value v;
         uint32_t answer = get_max(t, &s, &v);
         if (answer == TSC_OK)
-            sprintf(told, "%" PRIu64 ".%" PRIu32 " %c", v.wall, v.logical, v.owner[0] ? v.owner[0] : '-');
+            sprintf(told, "%" PRIu64 ".%" PRIu32 " %c", v.wall, v.logical,
+                    v.owner[0] ? v.owner[0] : '-');
         for (int i = 1; answer == TSC_OK && i < 16; i++)
             t->is_right = t->is_right && v.owner[i] == v.owner[0];
     } else if (strcmp(w[0], "low") == 0) {
@@ -309,7 +324,8 @@ static void call(struct table *t, const struct line *l, char *told)
     } else if (strcmp(w[0], "figures") == 0) {
         tsc_figures f;
         if (figures_of(t, &f) == TSC_OK)
-            sprintf(told, "%" PRIu64 " %" PRIu64 " %" PRIu64 " %" PRIu64, f.pages, f.rotations, f.nodes, f.bytes);
+            sprintf(told, "%" PRIu64 " %" PRIu64 " %" PRIu64 " %" PRIu64, f.pages, f.rotations,
+                    f.nodes, f.bytes);
     } else if (strcmp(w[0], "may") == 0) {
         struct span s = span_of(w[1]);
         tsc_value read, wanted = value_of(w[2], w[3]);
@@ -354,7 +370,8 @@ static void play(FILE *file, uint32_t seats)
             passed++;
         } else {
             failed++;
-            printf("rows.txt:%d, %u seats: %s%s: %s", number, seats, told, t.is_right ? "" : ", of a wrong place", text);
+            printf("rows.txt:%d, %u seats: %s%s: %s", number, seats, told,
+                   t.is_right ? "" : ", of a wrong place", text);
         }
     }
     close_table(&t);

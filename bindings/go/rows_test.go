@@ -119,8 +119,11 @@ type table struct {
 }
 
 func (p *table) open(words []string, seats uint32) (err error) {
-	retention := number(words[3], 64)
-	config := Config{uint32(number(words[0], 32)), uint32(number(words[1], 32)), uint32(number(words[2], 32)), time.Duration(retention), timeAt(words[4])}
+	size := func(word string) uint32 { return uint32(number(word, 32)) }
+	config := Config{
+		PageFirst: size(words[0]), PageMax: size(words[1]), MinPages: size(words[2]),
+		Retention: time.Duration(number(words[3], 64)), LowWater: timeAt(words[4]),
+	}
 	if seats == 0 {
 		p.cache, err = Open(config)
 	} else {

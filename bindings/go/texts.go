@@ -15,7 +15,9 @@ func (r TextRefused) Error() string { return "tscache: " + string(r) }
 func Replay(trace []byte) ([]byte, error) {
 	return told(func(out []byte) (uint32, int) {
 		var length C.size_t
-		code := C.tsc_replay(bytes(trace), C.size_t(len(trace)), bytes(out), C.size_t(len(out)), &length)
+		code := C.tsc_replay(
+			bytes(trace), C.size_t(len(trace)), bytes(out), C.size_t(len(out)), &length,
+		)
 		return uint32(code), int(length)
 	})
 }
@@ -26,7 +28,10 @@ func Replay(trace []byte) ([]byte, error) {
 func Check(trace, log []byte) ([]byte, error) {
 	return told(func(out []byte) (uint32, int) {
 		var length C.size_t
-		code := C.tsc_check(bytes(trace), C.size_t(len(trace)), bytes(log), C.size_t(len(log)), bytes(out), C.size_t(len(out)), &length)
+		code := C.tsc_check(
+			bytes(trace), C.size_t(len(trace)), bytes(log), C.size_t(len(log)), bytes(out),
+			C.size_t(len(out)), &length,
+		)
 		return uint32(code), int(length)
 	})
 }

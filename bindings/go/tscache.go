@@ -31,7 +31,8 @@ typedef struct {
 
 enum { TSC_GO_APART = 128 };
 
-_Static_assert(sizeof(tsc_go_block) <= TSC_GO_APART, "a block lies in one piece of memory that no other block shares");
+_Static_assert(sizeof(tsc_go_block) <= TSC_GO_APART,
+               "a block lies in one piece of memory that no other block shares");
 
 static tsc_go_block *tsc_go_new(void)
 {
@@ -39,7 +40,10 @@ static tsc_go_block *tsc_go_new(void)
     return (tsc_go_block *)(block ? memset(block, 0, TSC_GO_APART) : NULL);
 }
 
-static tsc_place *tsc_go_place(tsc_go_block *b) { return (tsc_place *)(void *)b->place; }
+static tsc_place *tsc_go_place(tsc_go_block *b)
+{
+    return (tsc_place *)(void *)b->place;
+}
 
 static void tsc_go_free(tsc_go_block *b)
 {
@@ -47,15 +51,19 @@ static void tsc_go_free(tsc_go_block *b)
     free(b);
 }
 
-static uint32_t tsc_go_open(tsc_go_block *b, uint32_t page_first, uint32_t page_max, uint32_t min_pages, uint64_t retention)
+static uint32_t tsc_go_open(tsc_go_block *b, uint32_t page_first, uint32_t page_max,
+                            uint32_t min_pages, uint64_t retention)
 {
-    return tsc_open(tsc_go_place(b), page_first, page_max, min_pages, retention, &b->time, &b->number);
+    return tsc_open(tsc_go_place(b), page_first, page_max, min_pages, retention, &b->time,
+                    &b->number);
 }
 
-static uint32_t tsc_go_open_shared(tsc_go_block *b, uint32_t page_first, uint32_t page_max, uint32_t min_pages, uint64_t retention, uint32_t seats,
+static uint32_t tsc_go_open_shared(tsc_go_block *b, uint32_t page_first, uint32_t page_max,
+                                   uint32_t min_pages, uint64_t retention, uint32_t seats,
                                    uint64_t limit)
 {
-    return tsc_open_shared(tsc_go_place(b), page_first, page_max, min_pages, retention, &b->time, seats, limit, &b->number);
+    return tsc_open_shared(tsc_go_place(b), page_first, page_max, min_pages, retention, &b->time,
+                           seats, limit, &b->number);
 }
 
 static uint32_t tsc_go_move(tsc_go_block *b, uint64_t seat, tsc_go_block *other)
@@ -63,45 +71,71 @@ static uint32_t tsc_go_move(tsc_go_block *b, uint64_t seat, tsc_go_block *other)
     return tsc_move(tsc_go_place(b), b->number + seat, tsc_go_place(other), &other->number);
 }
 
-static uint32_t tsc_go_close_shared(tsc_go_block *b) { return tsc_close_shared(tsc_go_place(b), b->number, &b->told); }
-
-static uint32_t tsc_go_add(tsc_go_block *b, const uint8_t *from, size_t from_len, const uint8_t *to, size_t to_len, uint32_t ends)
+static uint32_t tsc_go_close_shared(tsc_go_block *b)
 {
-    return tsc_add(tsc_go_place(b), b->number, from, from_len, to, to_len, ends, &b->value, &b->time, &b->added);
+    return tsc_close_shared(tsc_go_place(b), b->number, &b->told);
 }
 
-static uint32_t tsc_go_add_all(tsc_go_block *b, const uint8_t *keys, size_t keys_len, const tsc_mark *marks, size_t marks_len)
+static uint32_t tsc_go_add(tsc_go_block *b, const uint8_t *from, size_t from_len,
+                           const uint8_t *to, size_t to_len, uint32_t ends)
 {
-    return tsc_add_all(tsc_go_place(b), b->number, keys, keys_len, marks, marks_len, &b->time, &b->added);
+    return tsc_add(tsc_go_place(b), b->number, from, from_len, to, to_len, ends, &b->value,
+                   &b->time, &b->added);
 }
 
-static uint32_t tsc_go_get_max(tsc_go_block *b, const uint8_t *from, size_t from_len, const uint8_t *to, size_t to_len, uint32_t ends)
+static uint32_t tsc_go_add_all(tsc_go_block *b, const uint8_t *keys, size_t keys_len,
+                               const tsc_mark *marks, size_t marks_len)
+{
+    return tsc_add_all(tsc_go_place(b), b->number, keys, keys_len, marks, marks_len, &b->time,
+                       &b->added);
+}
+
+static uint32_t tsc_go_get_max(tsc_go_block *b, const uint8_t *from, size_t from_len,
+                               const uint8_t *to, size_t to_len, uint32_t ends)
 {
     return tsc_get_max(tsc_go_place(b), b->number, from, from_len, to, to_len, ends, &b->value);
 }
 
-static uint32_t tsc_go_low_water(tsc_go_block *b) { return tsc_low_water(tsc_go_place(b), b->number, &b->time); }
-
-static uint32_t tsc_go_figures(tsc_go_block *b) { return tsc_figures_of(tsc_go_place(b), b->number, &b->figures); }
-
-static uint32_t tsc_go_seat_add(tsc_go_block *b, const uint8_t *from, size_t from_len, const uint8_t *to, size_t to_len, uint32_t ends, uint32_t tries)
+static uint32_t tsc_go_low_water(tsc_go_block *b)
 {
-    return tsc_seat_add(tsc_go_place(b), b->number, from, from_len, to, to_len, ends, &b->value, &b->time, tries, &b->told, &b->added);
+    return tsc_low_water(tsc_go_place(b), b->number, &b->time);
 }
 
-static uint32_t tsc_go_seat_add_all(tsc_go_block *b, const uint8_t *keys, size_t keys_len, const tsc_mark *marks, size_t marks_len, uint32_t tries)
+static uint32_t tsc_go_figures(tsc_go_block *b)
 {
-    return tsc_seat_add_all(tsc_go_place(b), b->number, keys, keys_len, marks, marks_len, &b->time, tries, &b->told, &b->added);
+    return tsc_figures_of(tsc_go_place(b), b->number, &b->figures);
 }
 
-static uint32_t tsc_go_seat_get_max(tsc_go_block *b, const uint8_t *from, size_t from_len, const uint8_t *to, size_t to_len, uint32_t ends)
+static uint32_t tsc_go_seat_add(tsc_go_block *b, const uint8_t *from, size_t from_len,
+                                const uint8_t *to, size_t to_len, uint32_t ends, uint32_t tries)
 {
-    return tsc_seat_get_max(tsc_go_place(b), b->number, from, from_len, to, to_len, ends, &b->told, &b->value);
+    return tsc_seat_add(tsc_go_place(b), b->number, from, from_len, to, to_len, ends, &b->value,
+                        &b->time, tries, &b->told, &b->added);
 }
 
-static uint32_t tsc_go_seat_low_water(tsc_go_block *b) { return tsc_seat_low_water(tsc_go_place(b), b->number, &b->told, &b->time); }
+static uint32_t tsc_go_seat_add_all(tsc_go_block *b, const uint8_t *keys, size_t keys_len,
+                                    const tsc_mark *marks, size_t marks_len, uint32_t tries)
+{
+    return tsc_seat_add_all(tsc_go_place(b), b->number, keys, keys_len, marks, marks_len, &b->time,
+                            tries, &b->told, &b->added);
+}
 
-static uint32_t tsc_go_seat_figures(tsc_go_block *b) { return tsc_seat_figures_of(tsc_go_place(b), b->number, &b->told, &b->figures); }
+static uint32_t tsc_go_seat_get_max(tsc_go_block *b, const uint8_t *from, size_t from_len,
+                                    const uint8_t *to, size_t to_len, uint32_t ends)
+{
+    return tsc_seat_get_max(tsc_go_place(b), b->number, from, from_len, to, to_len, ends, &b->told,
+                            &b->value);
+}
+
+static uint32_t tsc_go_seat_low_water(tsc_go_block *b)
+{
+    return tsc_seat_low_water(tsc_go_place(b), b->number, &b->told, &b->time);
+}
+
+static uint32_t tsc_go_seat_figures(tsc_go_block *b)
+{
+    return tsc_seat_figures_of(tsc_go_place(b), b->number, &b->told, &b->figures);
+}
 */
 import "C"
 
@@ -212,10 +246,13 @@ type owned struct {
 	_     [apart - unsafe.Sizeof(uintptr(0)) - 8]byte
 }
 
+const atOnce = "tscache: two goroutines use one Cache, Shared or Seat at once; " +
+	"give each a Seat of a Pool, or hold a lock round each call"
+
 // take begins a call. Two at once would have the library write the same memory twice at once.
 func (o *owned) take() {
 	if !atomic.CompareAndSwapUint32(&o.taken, 0, 1) {
-		panic("tscache: two goroutines use one Cache, Shared or Seat at once; give each a Seat of a Pool, or hold a lock round each call")
+		panic(atOnce)
 	}
 }
 
@@ -260,7 +297,10 @@ func Open(config Config) (*Cache, error) {
 	runtime.SetFinalizer(c, (*Cache).Close)
 	c.take()
 	putTime(&c.block.time, config.LowWater)
-	err := c.leave(C.tsc_go_open(c.block, C.uint32_t(config.PageFirst), C.uint32_t(config.PageMax), C.uint32_t(config.MinPages), C.uint64_t(config.Retention)))
+	err := c.leave(C.tsc_go_open(
+		c.block, C.uint32_t(config.PageFirst), C.uint32_t(config.PageMax),
+		C.uint32_t(config.MinPages), C.uint64_t(config.Retention)),
+	)
 	if err != nil {
 		c.Close()
 		return nil, err
@@ -284,7 +324,10 @@ func (c *Cache) Add(span Span, value Value, now Time) (Added, error) {
 	}
 	putValue(&c.block.value, value)
 	putTime(&c.block.time, now)
-	code := C.tsc_go_add(c.block, bytes(span.from), C.size_t(len(span.from)), bytes(span.to), C.size_t(len(span.to)), span.ends-1)
+	code := C.tsc_go_add(
+		c.block, bytes(span.from), C.size_t(len(span.from)), bytes(span.to),
+		C.size_t(len(span.to)), span.ends-1,
+	)
 	out := added(code, &c.block.added)
 	err := c.leave(code)
 	runtime.KeepAlive(c)
@@ -299,7 +342,9 @@ func (c *Cache) AddAll(marks []Mark, now Time) (Added, error) {
 		return Added{}, c.leave(C.TSC_CLOSED)
 	}
 	putTime(&c.block.time, now)
-	code := C.tsc_go_add_all(c.block, bytes(keys), C.size_t(len(keys)), &asked[0], C.size_t(len(marks)))
+	code := C.tsc_go_add_all(
+		c.block, bytes(keys), C.size_t(len(keys)), &asked[0], C.size_t(len(marks)),
+	)
 	out := added(code, &c.block.added)
 	err := c.leave(code)
 	runtime.KeepAlive(c)
@@ -315,7 +360,10 @@ func (c *Cache) GetMax(span Span) (Value, error) {
 	if c.block == nil {
 		return Value{}, c.leave(C.TSC_CLOSED)
 	}
-	code := C.tsc_go_get_max(c.block, bytes(span.from), C.size_t(len(span.from)), bytes(span.to), C.size_t(len(span.to)), span.ends-1)
+	code := C.tsc_go_get_max(
+		c.block, bytes(span.from), C.size_t(len(span.from)), bytes(span.to),
+		C.size_t(len(span.to)), span.ends-1,
+	)
 	out := valueOf(code, &c.block.value)
 	err := c.leave(code)
 	runtime.KeepAlive(c)
@@ -348,6 +396,9 @@ func (c *Cache) Figures() (Figures, error) {
 	return out, err
 }
 
+// MaxSeats is how many seats a shared cache may have.
+const MaxSeats = 64
+
 // Shared is a timestamp cache that goroutines share, for who opened it. They use it by its seats.
 type Shared struct{ owned }
 
@@ -371,7 +422,11 @@ func OpenShared(config Config, seats uint32, limit uint64) (*Shared, []*Seat, er
 	runtime.SetFinalizer(s, (*Shared).free)
 	s.take()
 	putTime(&s.block.time, config.LowWater)
-	err := s.leave(C.tsc_go_open_shared(s.block, C.uint32_t(config.PageFirst), C.uint32_t(config.PageMax), C.uint32_t(config.MinPages), C.uint64_t(config.Retention), C.uint32_t(seats), C.uint64_t(limit)))
+	err := s.leave(C.tsc_go_open_shared(
+		s.block, C.uint32_t(config.PageFirst), C.uint32_t(config.PageMax),
+		C.uint32_t(config.MinPages), C.uint64_t(config.Retention), C.uint32_t(seats),
+		C.uint64_t(limit)),
+	)
 	var all []*Seat
 	for i := uint32(1); err == nil && i <= seats; i++ {
 		var seat *Seat
@@ -438,7 +493,10 @@ func (s *Seat) Add(span Span, value Value, now Time, tries uint32) (uint64, Adde
 	}
 	putValue(&s.block.value, value)
 	putTime(&s.block.time, now)
-	code := C.tsc_go_seat_add(s.block, bytes(span.from), C.size_t(len(span.from)), bytes(span.to), C.size_t(len(span.to)), span.ends-1, C.uint32_t(tries))
+	code := C.tsc_go_seat_add(
+		s.block, bytes(span.from), C.size_t(len(span.from)), bytes(span.to),
+		C.size_t(len(span.to)), span.ends-1, C.uint32_t(tries),
+	)
 	place, out := s.told(code), added(code, &s.block.added)
 	err := s.leave(code)
 	runtime.KeepAlive(s)
@@ -453,7 +511,10 @@ func (s *Seat) AddAll(marks []Mark, now Time, tries uint32) (uint64, Added, erro
 		return 0, Added{}, s.leave(C.TSC_CLOSED)
 	}
 	putTime(&s.block.time, now)
-	code := C.tsc_go_seat_add_all(s.block, bytes(keys), C.size_t(len(keys)), &asked[0], C.size_t(len(marks)), C.uint32_t(tries))
+	code := C.tsc_go_seat_add_all(
+		s.block, bytes(keys), C.size_t(len(keys)), &asked[0], C.size_t(len(marks)),
+		C.uint32_t(tries),
+	)
 	place, out := s.told(code), added(code, &s.block.added)
 	err := s.leave(code)
 	runtime.KeepAlive(s)
@@ -467,7 +528,10 @@ func (s *Seat) GetMax(span Span) (Value, uint64, error) {
 	if s.block == nil {
 		return Value{}, 0, s.leave(C.TSC_CLOSED)
 	}
-	code := C.tsc_go_seat_get_max(s.block, bytes(span.from), C.size_t(len(span.from)), bytes(span.to), C.size_t(len(span.to)), span.ends-1)
+	code := C.tsc_go_seat_get_max(
+		s.block, bytes(span.from), C.size_t(len(span.from)), bytes(span.to),
+		C.size_t(len(span.to)), span.ends-1,
+	)
 	seen, out := s.told(code), valueOf(code, &s.block.value)
 	err := s.leave(code)
 	runtime.KeepAlive(s)

@@ -64,7 +64,9 @@ func mayWrite(latest func(Span) (Value, error), span Span, at Time, by [16]byte)
 }
 
 // earliestWrite goes from span to span, and to a later time where one of them asks for that.
-func earliestWrite(latest func(Span) (Value, error), spans []Span, at Time, by [16]byte) (Time, error) {
+func earliestWrite(latest func(Span) (Value, error), spans []Span, at Time, by [16]byte) (
+	Time, error,
+) {
 	if !at.isInRange() {
 		return Time{}, ErrTime
 	}

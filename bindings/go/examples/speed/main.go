@@ -159,8 +159,14 @@ func onGoroutines(nodes uint64, spans []tscache.Span) {
 			}
 		}
 	}
-	fmt.Printf("Go, %d nodes, lookups of seats in a millisecond: %d on 1 goroutine, %d on 4\n", nodes, together(1, own), together(4, own))
-	fmt.Printf("Go, %d nodes, lookups by a pool of 4 seats in a millisecond: %d on 1 goroutine, %d on 4\n", nodes, together(1, pooled), together(4, pooled))
+	for _, row := range []struct {
+		what string
+		work func(int)
+	}{{"of seats", own}, {"by a pool of 4 seats", pooled}} {
+		one, four := together(1, row.work), together(4, row.work)
+		fmt.Printf("Go, %d nodes, lookups %s in a millisecond: ", nodes, row.what)
+		fmt.Printf("%d on 1 goroutine, %d on 4\n", one, four)
+	}
 }
 
 func main() {
