@@ -879,6 +879,33 @@ mod tests {
         assert_eq!(shared.close().unwrap(), accepted);
     }
 
+    /// Each code of `tscache.h` is one error, with a text of its own.
+    #[test]
+    fn codes() {
+        let rows = [
+            (2, Error::Time),
+            (4, Error::KeyTooLong),
+            (5, Error::Inverted),
+            (6, Error::TooLarge),
+            (8, Error::PageSize),
+            (9, Error::MinPages),
+            (10, Error::Retention),
+            (11, Error::NoMemory),
+            (12, Error::Seats),
+            (14, Error::Busy),
+            (15, Error::Full),
+            (1, Error::Other(1)),
+            (13, Error::Other(13)),
+            (99, Error::Other(99)),
+        ];
+        for (code, wanted) in rows {
+            assert_eq!(done(code), Err(wanted));
+            let alike = rows.iter().filter(|(_, other)| other.to_string() == wanted.to_string());
+            assert_eq!(alike.count(), 1, "{wanted}");
+        }
+        assert_eq!(done(0), Ok(()));
+    }
+
     /// What threads use at once lies apart.
     #[test]
     fn seats_lie_apart() {
