@@ -15,12 +15,13 @@
  *     tsc_try_get_max(&place, n, "b", 1, NULL, 0, TSC_POINT, &latest);                // latest.wall is 20
  *     tsc_free(&place);
  *
- * When a write may be made: at a time above what a lookup of its span answers, or at that very time
- * where its transaction owns the answer, which sixteen zeros never do. Else the earliest time that
- * will do is the answer's if the transaction owns it, and if not the one after it, which `tsc_next`
- * tells. Each of several spans has to let the write pass, so a store goes from span to span, on to a
- * later time where one asks for that, and never back. The trap: an own answer at 30 hides a read of
- * somebody else at 20, so that a write at 25 is never let pass because the answer is its own.
+ * When a write may be made: at a time above what a lookup of its span answers, or at that very
+ * time where its transaction owns the answer, which sixteen zeros never do. Else the earliest time
+ * that will do is the answer's if the transaction owns it, and if not the one after it, which
+ * `tsc_next` tells. Each of several spans has to let the write pass, so a store goes from span to
+ * span, on to a later time where one asks for that, and never back. The trap: an own answer at 30
+ * hides a read of somebody else at 20, so that a write at 25 is never let pass because the answer
+ * is its own.
  *
  * Each function that is declared here is proved, over whatever numbers and bytes it is given, to return and to do what is said
  * of it, as long as the caller keeps to this:
@@ -179,7 +180,8 @@ void tsc_free(tsc_place *place);
 uint32_t tsc_move(tsc_place *place, uint64_t number, tsc_place *other, uint64_t *other_number);
 
 /* Opens a cache that threads share, and writes its number. Its `seats` have the numbers behind that, in their order: 1 to 64 of them.
- * There may be `limit` Adds: take UINT64_MAX, which is never reached, since a smaller limit is for tests. What else it takes is as with `tsc_open`. */
+ * There may be `limit` Adds: take UINT64_MAX, which is never reached, since a smaller limit is for
+ * tests. What else it takes is as with `tsc_open`. */
 uint32_t tsc_open_shared(tsc_place *place, uint32_t page_first, uint32_t page_max, uint32_t min_pages, uint64_t retention,
                          const tsc_time *low_water, uint32_t seats, uint64_t limit, uint64_t *number);
 
@@ -197,9 +199,11 @@ uint32_t tsc_open_shared(tsc_place *place, uint32_t page_first, uint32_t page_ma
  * lookups and comparisons tell by the rule at the head of this file.
  *
  * An Add takes its turn. It tries so many times to begin, where another seat is at it, and looks so many times at each seat that is inside a
- * lookup. Where others are in the way each time it is refused by TSC_BUSY and may be tried again; with 0 tries it always is. Take 64 tries; where it
- * is refused let other threads run (`sched_yield`, `thrd_yield`), and try again. TSC_FULL comes where there were `limit` Adds. `place_in_history` is where this one stands among all Adds, from 0 on. Lookups wait for nobody, and are
- * refused as those of `tsc_get_max` are. `seen` is how many Adds the seat has seen then, which never goes back. */
+ * lookup. Where others are in the way each time it is refused by TSC_BUSY and may be tried again; with 0 tries it always is. Take
+ * 64 tries; where it is refused let other threads run (`sched_yield`, `thrd_yield`), and try again.
+ * TSC_FULL comes where there were `limit` Adds. `place_in_history` is where this one stands among all
+ * Adds, from 0 on. Lookups wait for nobody, and are refused as those of `tsc_get_max` are. `seen` is
+ * how many Adds the seat has seen then, which never goes back. */
 uint32_t tsc_seat_add(tsc_place *place, uint64_t seat, const uint8_t *from, size_t from_len, const uint8_t *to, size_t to_len,
                       uint32_t ends, const tsc_value *value, const tsc_time *now, uint32_t tries, uint64_t *place_in_history,
                       tsc_added *out);
@@ -373,19 +377,20 @@ static inline uint32_t tsc_try_check(const void *trace, size_t trace_len, const 
 
 /* Times. The smaller wall time comes first, and of two equal ones the smaller count. */
 
-static inline bool tsc_before(tsc_time time, tsc_time other)
+static inline bool tsc_before(tsc_time one, tsc_time other)
 {
-    return time.wall < other.wall || (time.wall == other.wall && time.logical < other.logical);
+    return one.wall < other.wall || (one.wall == other.wall && one.logical < other.logical);
 }
 
-/* The first time after this one, written to `next`. It is false, and nothing is written, after the last time. */
-static inline bool tsc_next(tsc_time time, tsc_time *next)
+/* Writes the first time after this one. After the last time there is none: it is false then, and
+ * nothing is written. */
+static inline bool tsc_next(tsc_time one, tsc_time *next)
 {
-    if (time.logical < INT32_MAX) {
-        next->wall = time.wall;
-        next->logical = time.logical + 1;
-    } else if (time.wall < INT64_MAX) {
-        next->wall = time.wall + 1;
+    if (one.logical < INT32_MAX) {
+        next->wall = one.wall;
+        next->logical = one.logical + 1;
+    } else if (one.wall < INT64_MAX) {
+        next->wall = one.wall + 1;
         next->logical = 0;
     } else {
         return false;

@@ -23,7 +23,9 @@ type row struct {
 func TestKeysBesidePointers(t *testing.T) {
 	holder := "somebody"
 	from, to := &row{[8]byte{'a'}, &holder}, &row{[8]byte{'c'}, &holder}
-	spans := []Span{Point(from.key[:5]), Range(from.key[:1], to.key[:1], ExcludeTo), Onward(to.key[2:3], ExcludeFrom)}
+	spans := []Span{
+		Point(from.key[:5]), Range(from.key[:1], to.key[:1], ExcludeTo), Onward(to.key[2:3], ExcludeFrom),
+	}
 	marks := []Mark{{spans[0], at(20, one)}, {spans[1], at(21, one)}}
 	now := Time{20, 0}
 	c := small(t)
@@ -36,7 +38,8 @@ func TestKeysBesidePointers(t *testing.T) {
 		text   [256]byte
 		holder *string
 	}{holder: &holder}
-	length := copy(trace.text[:], `{"page_first":132,"page_max":132,"min_pages":2,"retention":10,"low_water":[5,0],"threads":[[]]}`)
+	length := copy(trace.text[:], `{"page_first":132,"page_max":132,"min_pages":2,"retention":10,`+
+		`"low_water":[5,0],"threads":[[]]}`)
 	for _, span := range spans {
 		calls := map[string]func() error{
 			"Cache.Add":           func() error { _, err := c.Add(span, at(20, one), now); return err },
@@ -160,7 +163,10 @@ func TestTwoGoroutinesOnOneCache(t *testing.T) {
 }
 
 func TestErrors(t *testing.T) {
-	all := []error{ErrClosed, ErrTime, ErrEnds, ErrKeyTooLong, ErrInverted, ErrTooLarge, ErrPageSize, ErrMinPages, ErrRetention, ErrNoMemory, ErrSeats, ErrStillOut, ErrBusy, ErrFull, ErrNoTime}
+	all := []error{
+		ErrClosed, ErrTime, ErrEnds, ErrKeyTooLong, ErrInverted, ErrTooLarge, ErrPageSize, ErrMinPages,
+		ErrRetention, ErrNoMemory, ErrSeats, ErrStillOut, ErrBusy, ErrFull, ErrNoTime,
+	}
 	told := map[string]bool{}
 	for i, err := range all {
 		for j, other := range all {
@@ -176,8 +182,13 @@ func TestErrors(t *testing.T) {
 	if len(told) != len(all) {
 		t.Error("two errors have one text")
 	}
-	if ErrClosed.Error() != "tscache: the cache or the seat is closed" || Refused(99).Error() != "tscache: code 99 of the library" {
-		t.Error(ErrClosed, Refused(99))
+	for refused, wanted := range map[Refused]string{
+		ErrClosed: "tscache: the cache or the seat is closed",
+		99:        "tscache: code 99 of the library",
+	} {
+		if refused.Error() != wanted {
+			t.Error(refused)
+		}
 	}
 }
 
@@ -199,7 +210,8 @@ func TestClosed(t *testing.T) {
 
 func TestSpansOfNoEnds(t *testing.T) {
 	c := small(t)
-	for i, span := range []Span{{}, Range([]byte("a"), []byte("c"), 4), Range([]byte("a"), []byte("c"), 8), Onward([]byte("a"), ExcludeTo), Onward([]byte("a"), 4)} {
+	a, b := []byte("a"), []byte("b")
+	for i, span := range []Span{{}, Range(a, b, 4), Range(a, b, 8), Onward(a, ExcludeTo), Onward(a, 4)} {
 		if _, err := c.Add(span, at(20, one), Time{20, 0}); err != ErrEnds {
 			t.Errorf("span %d: got %v", i, err)
 		}
@@ -286,9 +298,18 @@ func TestPool(t *testing.T) {
 
 func TestTimes(t *testing.T) {
 	last := Time{math.MaxInt64, math.MaxInt32}
-	for i, r := range []struct{ time, next Time }{{Time{}, Time{0, 1}}, {Time{20, 5}, Time{20, 6}}, {Time{20, math.MaxInt32}, Time{21, 0}}, {Time{math.MaxInt64, 5}, Time{math.MaxInt64, 6}}} {
-		if next, there := r.time.Next(); !there || next != r.next || !r.time.Before(next) || next.Before(r.time) || r.time.Before(r.time) {
+	for i, r := range []struct{ time, next Time }{
+		{Time{}, Time{0, 1}},
+		{Time{20, 5}, Time{20, 6}},
+		{Time{20, math.MaxInt32}, Time{21, 0}},
+		{Time{math.MaxInt64, 5}, Time{math.MaxInt64, 6}},
+	} {
+		next, there := r.time.Next()
+		if !there || next != r.next {
 			t.Errorf("row %d: got %v", i, next)
+		}
+		if !r.time.Before(next) || next.Before(r.time) || r.time.Before(r.time) {
+			t.Errorf("row %d: %v comes next", i, next)
 		}
 	}
 	if next, there := last.Next(); there {
@@ -297,7 +318,12 @@ func TestTimes(t *testing.T) {
 	for i, r := range []struct {
 		one, other Time
 		before     bool
-	}{{Time{20, 9}, Time{21, 0}, true}, {Time{21, 0}, Time{20, 9}, false}, {Time{20, 1}, Time{20, 2}, true}, {Time{20, 2}, Time{20, 1}, false}} {
+	}{
+		{Time{20, 9}, Time{21, 0}, true},
+		{Time{21, 0}, Time{20, 9}, false},
+		{Time{20, 1}, Time{20, 2}, true},
+		{Time{20, 2}, Time{20, 1}, false},
+	} {
 		if r.one.Before(r.other) != r.before {
 			t.Errorf("row %d", i)
 		}
@@ -324,8 +350,12 @@ func TestClearOf(t *testing.T) {
 		{Value{Time{20, 0}, none}, Time{20, 0}, none, Time{20, 1}, true},
 	} {
 		got, there := EarliestClearOf(r.read, r.at, r.by)
-		if got != r.want || there != r.there || IsClearOf(r.read, r.at, r.by) != (there && got == r.at) || there && !IsClearOf(r.read, got, r.by) {
+		if got != r.want || there != r.there {
 			t.Errorf("row %d: got %v, %v", i, got, there)
+		}
+		isClear := IsClearOf(r.read, r.at, r.by)
+		if isClear != (there && got == r.at) || there && !IsClearOf(r.read, got, r.by) {
+			t.Errorf("row %d: %v", i, isClear)
 		}
 	}
 }
