@@ -15,6 +15,14 @@
  *     tsc_try_get_max(&place, n, "b", 1, NULL, 0, TSC_POINT, &latest);                // latest.wall is 20
  *     tsc_free(&place);
  *
+ * When a write may be made: at a time above what a lookup of its span answers, or at that very
+ * time where its transaction owns the answer, which sixteen zeros never do. Else the earliest time
+ * that will do is the answer's if the transaction owns it, and if not the one after it, which
+ * `tsc_next` tells. Each of several spans has to let the write pass, so a store goes from span to
+ * span, on to a later time where one asks for that, and never back. The trap: an own answer at 30
+ * hides a read of somebody else at 20, so that a write at 25 is never let pass because the answer
+ * is its own.
+ *
  * Each function that is declared here is proved, over whatever numbers and bytes it is given, to return and to do what is said
  * of it, as long as the caller keeps to this:
  *
@@ -41,9 +49,9 @@
  *
  *     uint64_t n, seat, at, seen, adds;
  *     static tsc_place theirs;                                 // the place of another thread
- *     if (tsc_open_shared(&place, 4096, 65536, 2, 10000000000, &low, 2, 1000000, &n)) return 1;   // seats n + 1 and n + 2
+ *     if (tsc_open_shared(&place, 4096, 65536, 2, 10000000000, &low, 2, UINT64_MAX, &n)) return 1;   // seats n + 1 and n + 2
  *     if (tsc_move(&place, n + 2, &theirs, &seat)) return 1;   // the other thread's seat is number `seat` of `theirs`
- *     while (tsc_seat_try_add(&place, n + 1, "a", 1, "c", 1, TSC_EXCLUDE_TO, &read, &now, 100, &at, &added) == TSC_BUSY)
+ *     while (tsc_seat_try_add(&place, n + 1, "a", 1, "c", 1, TSC_EXCLUDE_TO, &read, &now, 64, &at, &added) == TSC_BUSY)
  *         thrd_yield();
  *     tsc_seat_try_get_max(&theirs, seat, "b", 1, NULL, 0, TSC_POINT, &seen, &latest);            // in the other thread
  *     tsc_seat_close(&theirs, seat);                           // each seat is handed in,
@@ -172,7 +180,8 @@ void tsc_free(tsc_place *place);
 uint32_t tsc_move(tsc_place *place, uint64_t number, tsc_place *other, uint64_t *other_number);
 
 /* Opens a cache that threads share, and writes its number. Its `seats` have the numbers behind that, in their order: 1 to 64 of them.
- * There may be `limit` Adds. What else it takes is as with `tsc_open`. */
+ * There may be `limit` Adds: take UINT64_MAX, which is never reached, since a smaller limit is for
+ * tests. What else it takes is as with `tsc_open`. */
 uint32_t tsc_open_shared(tsc_place *place, uint32_t page_first, uint32_t page_max, uint32_t min_pages, uint64_t retention,
                          const tsc_time *low_water, uint32_t seats, uint64_t limit, uint64_t *number);
 
@@ -187,12 +196,14 @@ uint32_t tsc_open_shared(tsc_place *place, uint32_t page_first, uint32_t page_ma
  *
  * There is no call that has a seat learn what another one has seen, none that tells the reads of a span to the next holder of a lease (that
  * one opens its cache with `low_water` at or above each time at which a read was answered), and none for the earliest time of a write, which
- * is what a lookup and a comparison tell.
+ * lookups and comparisons tell by the rule at the head of this file.
  *
  * An Add takes its turn. It tries so many times to begin, where another seat is at it, and looks so many times at each seat that is inside a
- * lookup. Where others are in the way each time it is refused by TSC_BUSY and may be tried again; with 0 tries it always is. TSC_FULL
- * comes where there were `limit` Adds. `place_in_history` is where this one stands among all Adds, from 0 on. Lookups wait for nobody, and are
- * refused as those of `tsc_get_max` are. `seen` is how many Adds the seat has seen then, which never goes back. */
+ * lookup. Where others are in the way each time it is refused by TSC_BUSY and may be tried again; with 0 tries it always is. Take
+ * 64 tries; where it is refused let other threads run (`sched_yield`, `thrd_yield`), and try again.
+ * TSC_FULL comes where there were `limit` Adds. `place_in_history` is where this one stands among all
+ * Adds, from 0 on. Lookups wait for nobody, and are refused as those of `tsc_get_max` are. `seen` is
+ * how many Adds the seat has seen then, which never goes back. */
 uint32_t tsc_seat_add(tsc_place *place, uint64_t seat, const uint8_t *from, size_t from_len, const uint8_t *to, size_t to_len,
                       uint32_t ends, const tsc_value *value, const tsc_time *now, uint32_t tries, uint64_t *place_in_history,
                       tsc_added *out);
@@ -362,6 +373,29 @@ static inline uint32_t tsc_try_check(const void *trace, size_t trace_len, const 
     if (!len || (!trace && trace_len) || (!log && log_len) || (!out && room))
         return TSC_NULL;
     return tsc_check(tsc_bytes(trace), trace_len, tsc_bytes(log), log_len, out ? (uint8_t *)out : none, room, len);
+}
+
+/* Times. The smaller wall time comes first, and of two equal ones the smaller count. */
+
+static inline bool tsc_before(tsc_time one, tsc_time other)
+{
+    return one.wall < other.wall || (one.wall == other.wall && one.logical < other.logical);
+}
+
+/* Writes the first time after this one. After the last time there is none: it is false then, and
+ * nothing is written. */
+static inline bool tsc_next(tsc_time one, tsc_time *next)
+{
+    if (one.logical < INT32_MAX) {
+        next->wall = one.wall;
+        next->logical = one.logical + 1;
+    } else if (one.wall < INT64_MAX) {
+        next->wall = one.wall + 1;
+        next->logical = 0;
+    } else {
+        return false;
+    }
+    return true;
 }
 
 /* The name of what a call answered. */

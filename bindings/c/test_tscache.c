@@ -537,6 +537,38 @@ static void lookups(void)
     tsc_free(&c.place);
 }
 
+/* Which of two times is earlier, and which is the next. */
+static void times(void)
+{
+    static const uint64_t WALL = INT64_MAX;
+    static const uint32_t LOGICAL = INT32_MAX;
+    static const tsc_time RISING[] = {
+        {0, 0}, {0, 1}, {0, INT32_MAX}, {20, 0}, {20, 5}, {21, 0}, {INT64_MAX, 0}, {INT64_MAX, INT32_MAX},
+    };
+    enum { COUNT = sizeof RISING / sizeof *RISING };
+    for (int i = 0; i < COUNT; i++)
+        for (int j = 0; j < COUNT; j++)
+            CHECK(tsc_before(RISING[i], RISING[j]) == (i < j));
+    static const struct {
+        tsc_time time, next;
+    } ROWS[] = {
+        {{0, 0}, {0, 1}},
+        {{20, 5}, {20, 6}},
+        {{20, INT32_MAX - 1}, {20, INT32_MAX}},
+        {{20, INT32_MAX}, {21, 0}},
+        {{INT64_MAX - 1, INT32_MAX}, {INT64_MAX, 0}},
+        {{INT64_MAX, 5}, {INT64_MAX, 6}},
+    };
+    for (size_t i = 0; i < sizeof ROWS / sizeof *ROWS; i++) {
+        tsc_time next = {7, 7};
+        CHECK(tsc_next(ROWS[i].time, &next) && next.wall == ROWS[i].next.wall && next.logical == ROWS[i].next.logical);
+        CHECK(tsc_before(ROWS[i].time, next));
+    }
+    tsc_time same = {20, 5}, next = {7, 7};
+    CHECK(tsc_next(same, &same) && same.wall == 20 && same.logical == 6); /* into the time itself */
+    CHECK(!tsc_next((tsc_time){WALL, LOGICAL}, &next) && next.wall == 7 && next.logical == 7);
+}
+
 /* How many of the calls that take a number don't answer that this one names nothing, or write something. */
 static uint64_t names_something(tsc_place *place, uint64_t number)
 {
@@ -814,6 +846,7 @@ int main(int argc, char **argv)
     texts();
     nulls();
     lookups();
+    times();
     numbers();
     memory();
     printf("%d passed, %d failed\n", passed, failed);

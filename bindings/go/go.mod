@@ -1,3 +1,3 @@
-module tscache
+module maulviolet.invalid/tscache
 
 go 1.19

@@ -2,6 +2,7 @@ package tscache
 
 import (
 	"fmt"
+	"reflect"
 	"strings"
 	"testing"
 )
@@ -46,5 +47,29 @@ func TestRefusedTexts(t *testing.T) {
 		if got, err := Check([]byte(row.trace), []byte(row.log)); got != nil || err != TextRefused(row.why) {
 			t.Errorf("got %q, %v", got, err)
 		}
+	}
+}
+
+// A text that is longer than the first room is asked for once more, with as much room as it was
+// told to take.
+func TestRoomForTexts(t *testing.T) {
+	for _, row := range []struct {
+		length int
+		rooms  []int
+	}{{0, []int{4096}}, {4096, []int{4096}}, {4097, []int{4096, 4097}}, {70001, []int{4096, 70001}}} {
+		var rooms []int
+		text, err := told(func(out []byte) (uint32, int) {
+			rooms = append(rooms, len(out))
+			if len(out) < row.length {
+				return 17, row.length
+			}
+			return 0, row.length
+		})
+		if err != nil || len(text) != row.length || !reflect.DeepEqual(rooms, row.rooms) {
+			t.Errorf("a text of %d bytes: got %d, %v, by rooms of %v", row.length, len(text), err, rooms)
+		}
+	}
+	if text, err := told(func([]byte) (uint32, int) { return 11, 0 }); text != nil || err != ErrNoMemory {
+		t.Errorf("got %q, %v", text, err)
 	}
 }

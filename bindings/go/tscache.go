@@ -1,27 +1,150 @@
-// Package tscache is the timestamp cache: for each span of keys the latest time at which it was read, and by which transaction.
+// Package tscache is the timestamp cache: for each span of keys the latest time at which it was
+// read, and by which transaction.
 //
-// All that is here calls libtscache.a, whose functions are proved to do what they say; see tscache.h. Build that with
-// scripts/build-c-library OUT, and set CGO_CFLAGS=-IOUT and CGO_LDFLAGS=-LOUT. Nothing of this package is proved itself.
+// A store asks it before a write, by EarliestWrite, so that no write changes what a read saw. A
+// Cache serves one goroutine at a time, and a Shared cache as many as it has seats, or by a Pool
+// any number.
+//
+// All that is here calls libtscache.a, whose functions are proved to do what they say; see
+// tscache.h. Nothing of this package is proved itself. README.md says how a program finds the
+// library.
 package tscache
 
 /*
-#cgo LDFLAGS: -ltscache
 #include <stdlib.h>
+#include <string.h>
 #include "tscache.h"
+
+// What a Cache, a Shared or a Seat has outside of Go: its place, the number of what lies there,
+// and what calls read and write beside keys. So a call takes no memory of Go's, and hands over no
+// pointer into it but those of keys and marks. The place is bytes for Go, since cgo looks at each
+// block that has a pointer in it, at each call.
+typedef struct {
+    unsigned char place[sizeof(tsc_place)];
+    uint64_t number;
+    uint64_t told;
+    tsc_value value;
+    tsc_time time;
+    tsc_added added;
+    tsc_figures figures;
+} tsc_go_block;
+
+enum { TSC_GO_APART = 128 };
+
+_Static_assert(sizeof(tsc_go_block) <= TSC_GO_APART,
+               "a block lies in one piece of memory that no other block shares");
+
+static tsc_go_block *tsc_go_new(void)
+{
+    void *block = aligned_alloc(TSC_GO_APART, TSC_GO_APART);
+    return (tsc_go_block *)(block ? memset(block, 0, TSC_GO_APART) : NULL);
+}
+
+static tsc_place *tsc_go_place(tsc_go_block *b)
+{
+    return (tsc_place *)(void *)b->place;
+}
+
+static void tsc_go_free(tsc_go_block *b)
+{
+    tsc_free(tsc_go_place(b));
+    free(b);
+}
+
+static uint32_t tsc_go_open(tsc_go_block *b, uint32_t page_first, uint32_t page_max,
+                            uint32_t min_pages, uint64_t retention)
+{
+    return tsc_open(tsc_go_place(b), page_first, page_max, min_pages, retention, &b->time,
+                    &b->number);
+}
+
+static uint32_t tsc_go_open_shared(tsc_go_block *b, uint32_t page_first, uint32_t page_max,
+                                   uint32_t min_pages, uint64_t retention, uint32_t seats,
+                                   uint64_t limit)
+{
+    return tsc_open_shared(tsc_go_place(b), page_first, page_max, min_pages, retention, &b->time,
+                           seats, limit, &b->number);
+}
+
+static uint32_t tsc_go_move(tsc_go_block *b, uint64_t seat, tsc_go_block *other)
+{
+    return tsc_move(tsc_go_place(b), b->number + seat, tsc_go_place(other), &other->number);
+}
+
+static uint32_t tsc_go_close_shared(tsc_go_block *b)
+{
+    return tsc_close_shared(tsc_go_place(b), b->number, &b->told);
+}
+
+static uint32_t tsc_go_add(tsc_go_block *b, const uint8_t *from, size_t from_len,
+                           const uint8_t *to, size_t to_len, uint32_t ends)
+{
+    return tsc_add(tsc_go_place(b), b->number, from, from_len, to, to_len, ends, &b->value,
+                   &b->time, &b->added);
+}
+
+static uint32_t tsc_go_add_all(tsc_go_block *b, const uint8_t *keys, size_t keys_len,
+                               const tsc_mark *marks, size_t marks_len)
+{
+    return tsc_add_all(tsc_go_place(b), b->number, keys, keys_len, marks, marks_len, &b->time,
+                       &b->added);
+}
+
+static uint32_t tsc_go_get_max(tsc_go_block *b, const uint8_t *from, size_t from_len,
+                               const uint8_t *to, size_t to_len, uint32_t ends)
+{
+    return tsc_get_max(tsc_go_place(b), b->number, from, from_len, to, to_len, ends, &b->value);
+}
+
+static uint32_t tsc_go_low_water(tsc_go_block *b)
+{
+    return tsc_low_water(tsc_go_place(b), b->number, &b->time);
+}
+
+static uint32_t tsc_go_figures(tsc_go_block *b)
+{
+    return tsc_figures_of(tsc_go_place(b), b->number, &b->figures);
+}
+
+static uint32_t tsc_go_seat_add(tsc_go_block *b, const uint8_t *from, size_t from_len,
+                                const uint8_t *to, size_t to_len, uint32_t ends, uint32_t tries)
+{
+    return tsc_seat_add(tsc_go_place(b), b->number, from, from_len, to, to_len, ends, &b->value,
+                        &b->time, tries, &b->told, &b->added);
+}
+
+static uint32_t tsc_go_seat_add_all(tsc_go_block *b, const uint8_t *keys, size_t keys_len,
+                                    const tsc_mark *marks, size_t marks_len, uint32_t tries)
+{
+    return tsc_seat_add_all(tsc_go_place(b), b->number, keys, keys_len, marks, marks_len, &b->time,
+                            tries, &b->told, &b->added);
+}
+
+static uint32_t tsc_go_seat_get_max(tsc_go_block *b, const uint8_t *from, size_t from_len,
+                                    const uint8_t *to, size_t to_len, uint32_t ends)
+{
+    return tsc_seat_get_max(tsc_go_place(b), b->number, from, from_len, to, to_len, ends, &b->told,
+                            &b->value);
+}
+
+static uint32_t tsc_go_seat_low_water(tsc_go_block *b)
+{
+    return tsc_seat_low_water(tsc_go_place(b), b->number, &b->told, &b->time);
+}
+
+static uint32_t tsc_go_seat_figures(tsc_go_block *b)
+{
+    return tsc_seat_figures_of(tsc_go_place(b), b->number, &b->told, &b->figures);
+}
 */
 import "C"
 
 import (
-	"fmt"
 	"runtime"
+	"sync/atomic"
+	"time"
 	"unsafe"
 )
-
-// Time is a time of a hybrid logical clock: nanoseconds below 2^63, and a count below 2^31 among those of one nanosecond.
-type Time struct {
-	Wall    uint64
-	Logical uint32
-}
 
 // Value is a time with the transaction that owns it. Sixteen zero bytes name none.
 type Value struct {
@@ -37,36 +160,58 @@ type Config struct {
 	PageMax uint32
 	// MinPages is how many pages there are at the least when one is dropped: 1 to 64.
 	MinPages uint32
-	// Retention is for how many nanoseconds reads are kept, below 2^63.
-	Retention uint64
+	// Retention is for how long reads are kept. It is not negative.
+	Retention time.Duration
 	// LowWater is where the floor stands at first.
 	LowWater Time
 }
 
-// Span names keys by its ends. Make it by Point, Range and Onward.
+// DefaultConfig has pages of 128 KiB that grow to 32 MiB, at least two of them, and ten seconds.
+// Its floor stands at the first time of all; the holder of a lease sets LowWater to the start of
+// that.
+func DefaultConfig() Config {
+	return Config{PageFirst: 128 << 10, PageMax: 32 << 20, MinPages: 2, Retention: 10 * time.Second}
+}
+
+// Ends says which ends of a Range, or of Onward, are no part of it.
+type Ends uint32
+
+// The ends of a span.
+const (
+	IncludeBoth Ends = 0
+	ExcludeFrom Ends = C.TSC_EXCLUDE_FROM
+	ExcludeTo   Ends = C.TSC_EXCLUDE_TO
+	ExcludeBoth Ends = C.TSC_EXCLUDE_FROM | C.TSC_EXCLUDE_TO
+)
+
+// noEnds are the ends of a span that is refused with ErrEnds.
+const noEnds = ^C.uint32_t(0)
+
+// Span names keys by its ends. Make it by Point, Range and Onward; Span{} is refused with ErrEnds.
+// It has the slices that it is made of, and copies no key.
 type Span struct {
 	from, to []byte
-	ends     C.uint32_t
+	// one more than the ends that tscache.h knows, so that Span{} has none of these
+	ends C.uint32_t
 }
 
 // Point is one key.
-func Point(key []byte) Span { return Span{key, nil, C.TSC_POINT} }
+func Point(key []byte) Span { return Span{key, nil, C.TSC_POINT + 1} }
 
-// Range is from one key to another, either of which may be excluded.
-func Range(from, to []byte, excludeFrom, excludeTo bool) Span {
-	return Span{from, to, flag(excludeFrom, C.TSC_EXCLUDE_FROM) | flag(excludeTo, C.TSC_EXCLUDE_TO)}
-}
-
-// Onward is all keys from one on, which may itself be excluded.
-func Onward(from []byte, excludeFrom bool) Span {
-	return Span{from, nil, C.TSC_ONWARD | flag(excludeFrom, C.TSC_EXCLUDE_FROM)}
-}
-
-func flag(set bool, value C.uint32_t) C.uint32_t {
-	if set {
-		return value
+// Range is from one key to another.
+func Range(from, to []byte, ends Ends) Span {
+	if ends > ExcludeBoth {
+		return Span{ends: noEnds}
 	}
-	return 0
+	return Span{from, to, C.uint32_t(ends) + 1}
+}
+
+// Onward is all keys from one on. It has no last key, so ExcludeTo is refused with ErrEnds.
+func Onward(from []byte, ends Ends) Span {
+	if ends > ExcludeFrom {
+		return Span{ends: noEnds}
+	}
+	return Span{from, nil, C.TSC_ONWARD + C.uint32_t(ends) + 1}
 }
 
 // Mark is a span with the value that is added to it.
@@ -75,371 +220,422 @@ type Mark struct {
 	Value Value
 }
 
-// Added is what an Add did: whether its span is not empty and its time above the floor, whether a new page came to the front, and
-// how many were dropped.
+// Added is what an Add did: whether its span is not empty and its time above the floor, whether a
+// new page came to the front, and how many were dropped.
 type Added struct {
 	Kept, Rotated bool
 	Evicted       uint64
 }
 
-// Figures is how many pages there are, how often they rotated, how many end keys they hold, each counted once for each page that
-// holds it, and what these cost: for each as many bytes as it has, and 32 more. Each count stays at 2^64 - 1 once it is there.
+// Figures is how many pages there are, how often they rotated, how many end keys they hold, each
+// counted once for each page that holds it, and what these cost: for each as many bytes as it has,
+// and 32 more. Each count stays at 2^64 - 1 once it is there.
 type Figures struct {
 	Pages, Rotations, Nodes, Bytes uint64
 }
 
-func figuresOf(words C.tsc_figures) Figures {
-	return Figures{uint64(words.pages), uint64(words.rotations), uint64(words.nodes), uint64(words.bytes)}
+// apart is how many bytes a Cache and a Seat have for themselves, here and in C, so that no two of
+// them lie in one line of the processor's caches: each call writes to both parts.
+const apart = C.TSC_GO_APART
+
+// owned is what a Cache, a Shared and a Seat have in common: a block, and whether a call is under
+// way.
+type owned struct {
+	block *C.tsc_go_block
+	taken uint32
+	_     [apart - unsafe.Sizeof(uintptr(0)) - 8]byte
 }
 
-// Refused is why a call was refused, by its code in tscache.h. A call that is refused adds nothing.
-type Refused uint32
+const atOnce = "tscache: two goroutines use one Cache, Shared or Seat at once; " +
+	"give each a Seat of a Pool, or hold a lock round each call"
 
-// The codes of tscache.h.
-const (
-	Closed     Refused = C.TSC_CLOSED
-	TimeRange  Refused = C.TSC_TIME
-	KeyTooLong Refused = C.TSC_KEY_TOO_LONG
-	Inverted   Refused = C.TSC_INVERTED
-	TooLarge   Refused = C.TSC_TOO_LARGE
-	PageSize   Refused = C.TSC_PAGE_SIZE
-	MinPages   Refused = C.TSC_MIN_PAGES
-	Retention  Refused = C.TSC_RETENTION
-	NoMemory   Refused = C.TSC_NO_MEMORY
-	Seats      Refused = C.TSC_SEATS
-	StillOut   Refused = C.TSC_STILL_OUT
-	Busy       Refused = C.TSC_BUSY
-	Full       Refused = C.TSC_FULL
-)
-
-func (r Refused) Error() string {
-	return fmt.Sprintf("tscache: %s", C.GoString(C.tsc_text(C.uint32_t(r))))
+// take begins a call. Two at once would have the library write the same memory twice at once.
+func (o *owned) take() {
+	if !atomic.CompareAndSwapUint32(&o.taken, 0, 1) {
+		panic(atOnce)
+	}
 }
 
-func done(code C.uint32_t) error {
+// leave ends a call, and says what came of it.
+func (o *owned) leave(code C.uint32_t) error {
+	atomic.StoreUint32(&o.taken, 0)
 	if code == C.TSC_OK {
 		return nil
 	}
 	return Refused(code)
 }
 
-// Cache is a timestamp cache in a place of its own. Its calls come one at a time: from one goroutine, or under a lock.
-type Cache struct {
-	place  *C.tsc_place
-	number C.uint64_t
+// open takes memory of C's for a block of zeros.
+func (o *owned) open() error {
+	if o.block = C.tsc_go_new(); o.block == nil {
+		return ErrNoMemory
+	}
+	return nil
 }
+
+// free frees the block, with what lies in its place. A second call does nothing.
+func (o *owned) free() {
+	o.take()
+	if o.block != nil {
+		C.tsc_go_free(o.block)
+		o.block = nil
+	}
+	_ = o.leave(C.TSC_OK)
+	runtime.KeepAlive(o)
+}
+
+// Cache is a timestamp cache. Its calls come one at a time, from one goroutine or under a lock;
+// where two come at once the second one panics.
+type Cache struct{ owned }
 
 // Open makes a cache to which nothing was added. Close frees it, and else the collector does.
 func Open(config Config) (*Cache, error) {
-	place := newPlace()
-	if place == nil {
-		return nil, NoMemory
-	}
-	c := &Cache{place: place}
-	low := cTime(config.LowWater)
-	code := C.tsc_open(place, C.uint32_t(config.PageFirst), C.uint32_t(config.PageMax), C.uint32_t(config.MinPages), C.uint64_t(config.Retention), &low, &c.number)
-	if err := done(code); err != nil {
-		c.Close()
+	c := &Cache{}
+	if err := c.open(); err != nil {
 		return nil, err
 	}
 	runtime.SetFinalizer(c, (*Cache).Close)
+	c.take()
+	putTime(&c.block.time, config.LowWater)
+	err := c.leave(C.tsc_go_open(
+		c.block, C.uint32_t(config.PageFirst), C.uint32_t(config.PageMax),
+		C.uint32_t(config.MinPages), C.uint64_t(config.Retention)),
+	)
+	if err != nil {
+		c.Close()
+		return nil, err
+	}
+	runtime.KeepAlive(c)
 	return c, nil
 }
 
-// Close frees the cache. Other calls are then refused with Closed, and a second Close does nothing.
+// Close frees the cache. Other calls are then refused with ErrClosed, and a second Close does
+// nothing.
 func (c *Cache) Close() {
-	if c.place == nil {
-		return
-	}
-	C.tsc_free(c.place)
-	C.free(unsafe.Pointer(c.place))
-	c.place = nil
 	runtime.SetFinalizer(c, nil)
+	c.free()
 }
 
 // Add adds a span that was read, with the time and the owner of the read, at the moment now.
 func (c *Cache) Add(span Span, value Value, now Time) (Added, error) {
-	if c.place == nil {
-		return Added{}, Closed
+	c.take()
+	if c.block == nil {
+		return Added{}, c.leave(C.TSC_CLOSED)
 	}
-	v, at := cValue(value), cTime(now)
-	var out C.tsc_added
-	code := C.tsc_try_add(c.place, c.number, bytes(span.from), C.size_t(len(span.from)), bytes(span.to), C.size_t(len(span.to)), span.ends, &v, &at, &out)
+	putValue(&c.block.value, value)
+	putTime(&c.block.time, now)
+	code := C.tsc_go_add(
+		c.block, bytes(span.from), C.size_t(len(span.from)), bytes(span.to),
+		C.size_t(len(span.to)), span.ends-1,
+	)
+	out := added(code, &c.block.added)
+	err := c.leave(code)
 	runtime.KeepAlive(c)
-	if err := done(code); err != nil {
-		return Added{}, err
-	}
-	return added(out), nil
+	return out, err
 }
 
 // AddAll adds several marks, one after another at one moment, all of them or none.
 func (c *Cache) AddAll(marks []Mark, now Time) (Added, error) {
-	if c.place == nil {
-		return Added{}, Closed
+	keys, asked := flat(marks)
+	c.take()
+	if c.block == nil {
+		return Added{}, c.leave(C.TSC_CLOSED)
 	}
-	keys, asked, first := flat(marks)
-	at := cTime(now)
-	var out C.tsc_added
-	code := C.tsc_try_add_all(c.place, c.number, bytes(keys), C.size_t(len(keys)), first, C.size_t(len(asked)), &at, &out)
+	putTime(&c.block.time, now)
+	code := C.tsc_go_add_all(
+		c.block, bytes(keys), C.size_t(len(keys)), &asked[0], C.size_t(len(marks)),
+	)
+	out := added(code, &c.block.added)
+	err := c.leave(code)
 	runtime.KeepAlive(c)
-	if err := done(code); err != nil {
-		return Added{}, err
-	}
-	return added(out), nil
+	return out, err
 }
 
-// GetMax is the latest time on a span, with its owner where all reads of that time are one transaction's, or the floor. A range
-// whose first key is greater than the second is empty, and the floor answers. Keys may be of any length, and no memory is taken: it is
-// refused with Closed alone.
+// GetMax is the latest time on a span, with its owner where all reads of that time are one
+// transaction's, or the floor. A range whose first key is greater than the second is empty, and
+// the floor answers. Keys may be of any length, and no memory is taken: it is refused with
+// ErrClosed and ErrEnds alone.
 func (c *Cache) GetMax(span Span) (Value, error) {
-	if c.place == nil {
-		return Value{}, Closed
+	c.take()
+	if c.block == nil {
+		return Value{}, c.leave(C.TSC_CLOSED)
 	}
-	var out C.tsc_value
-	code := C.tsc_try_get_max(c.place, c.number, bytes(span.from), C.size_t(len(span.from)), bytes(span.to), C.size_t(len(span.to)), span.ends, &out)
+	code := C.tsc_go_get_max(
+		c.block, bytes(span.from), C.size_t(len(span.from)), bytes(span.to),
+		C.size_t(len(span.to)), span.ends-1,
+	)
+	out := valueOf(code, &c.block.value)
+	err := c.leave(code)
 	runtime.KeepAlive(c)
-	if err := done(code); err != nil {
-		return Value{}, err
-	}
-	return goValue(out), nil
+	return out, err
 }
 
 // LowWater is where the floor stands.
 func (c *Cache) LowWater() (Time, error) {
-	if c.place == nil {
-		return Time{}, Closed
+	c.take()
+	if c.block == nil {
+		return Time{}, c.leave(C.TSC_CLOSED)
 	}
-	var out C.tsc_time
-	code := C.tsc_low_water(c.place, c.number, &out)
+	code := C.tsc_go_low_water(c.block)
+	out := timeOf(code, &c.block.time)
+	err := c.leave(code)
 	runtime.KeepAlive(c)
-	return Time{uint64(out.wall), uint32(out.logical)}, done(code)
+	return out, err
 }
 
 // Figures is what can be counted.
 func (c *Cache) Figures() (Figures, error) {
-	if c.place == nil {
-		return Figures{}, Closed
+	c.take()
+	if c.block == nil {
+		return Figures{}, c.leave(C.TSC_CLOSED)
 	}
-	var out C.tsc_figures
-	code := C.tsc_figures_of(c.place, c.number, &out)
+	code := C.tsc_go_figures(c.block)
+	out := figuresOf(code, &c.block.figures)
+	err := c.leave(code)
 	runtime.KeepAlive(c)
-	return figuresOf(out), done(code)
+	return out, err
 }
+
+// MaxSeats is how many seats a shared cache may have.
+const MaxSeats = 64
 
 // Shared is a timestamp cache that goroutines share, for who opened it. They use it by its seats.
-type Shared struct {
-	place  *C.tsc_place
-	number C.uint64_t
-}
+type Shared struct{ owned }
 
-// Seat is a seat of a shared cache, in a place of its own. Its calls come one at a time; those of different seats may come at once.
+// Seat is a seat of a shared cache. Its calls come one at a time, and where two come at once the
+// second one panics; those of different seats may come at once. Where there are more goroutines
+// than seats a Pool has the seats go round.
 //
-// There is one history of all Adds of the cache, and what a seat has seen are the first so many of it. So a lookup that tells more of them than the
-// place of an Add counts that Add, whichever seat made it, and so does each later lookup of its seat.
-type Seat struct {
-	place  *C.tsc_place
-	number C.uint64_t
-}
+// There is one history of all Adds of the cache, and what a seat has seen are the first so many of
+// it. So a lookup that tells more of them than the place of an Add counts that Add, whichever seat
+// made it, and so does each later lookup of its seat.
+type Seat struct{ owned }
 
-// OpenShared makes a cache to which nothing was added, and its seats, 1 to 64 of them. There may be limit Adds. Close frees each of
-// them, and else the collector does.
+// OpenShared makes a cache to which nothing was added, and its seats, 1 to 64 of them. There may
+// be limit Adds; a limit below math.MaxUint64 is for tests. Close frees each of them, and else the
+// collector does.
 func OpenShared(config Config, seats uint32, limit uint64) (*Shared, []*Seat, error) {
-	place := newPlace()
-	if place == nil {
-		return nil, nil, NoMemory
+	s := &Shared{}
+	if err := s.open(); err != nil {
+		return nil, nil, err
 	}
-	s := &Shared{place: place}
 	runtime.SetFinalizer(s, (*Shared).free)
-	low := cTime(config.LowWater)
-	code := C.tsc_open_shared(place, C.uint32_t(config.PageFirst), C.uint32_t(config.PageMax), C.uint32_t(config.MinPages), C.uint64_t(config.Retention), &low, C.uint32_t(seats), C.uint64_t(limit), &s.number)
-	if err := done(code); err != nil {
+	s.take()
+	putTime(&s.block.time, config.LowWater)
+	err := s.leave(C.tsc_go_open_shared(
+		s.block, C.uint32_t(config.PageFirst), C.uint32_t(config.PageMax),
+		C.uint32_t(config.MinPages), C.uint64_t(config.Retention), C.uint32_t(seats),
+		C.uint64_t(limit)),
+	)
+	var all []*Seat
+	for i := uint32(1); err == nil && i <= seats; i++ {
+		var seat *Seat
+		seat, err = s.seat(C.uint64_t(i))
+		all = append(all, seat)
+	}
+	if err != nil {
 		s.free()
 		return nil, nil, err
 	}
-	all := make([]*Seat, seats)
-	for i := range all {
-		seat, err := s.seat(C.uint64_t(i) + 1)
-		if err != nil {
-			s.free()
-			return nil, nil, err
-		}
-		all[i] = seat
-	}
+	runtime.KeepAlive(s)
 	return s, all, nil
 }
 
 func (s *Shared) seat(i C.uint64_t) (*Seat, error) {
-	place := newPlace()
-	if place == nil {
-		return nil, NoMemory
+	seat := &Seat{}
+	if err := seat.open(); err != nil {
+		return nil, err
 	}
-	seat := &Seat{place: place}
 	runtime.SetFinalizer(seat, (*Seat).Close)
-	if err := done(C.tsc_move(s.place, s.number+i, place, &seat.number)); err != nil {
+	s.take()
+	if err := s.leave(C.tsc_go_move(s.block, i, seat.block)); err != nil {
 		seat.Close()
 		return nil, err
 	}
+	runtime.KeepAlive(s)
+	runtime.KeepAlive(seat)
 	return seat, nil
 }
 
-func (s *Shared) free() {
-	if s.place == nil {
-		return
-	}
-	C.tsc_free(s.place)
-	C.free(unsafe.Pointer(s.place))
-	s.place = nil
-	runtime.SetFinalizer(s, nil)
-}
-
-// Close frees the cache, and tells how many Adds there were. It is refused with StillOut where a seat was not closed, and nothing is changed then.
+// Close frees the cache, and tells how many Adds there were. It is refused with ErrStillOut where
+// a seat was not closed, and nothing is changed then.
 func (s *Shared) Close() (uint64, error) {
-	if s.place == nil {
-		return 0, Closed
+	s.take()
+	if s.block == nil {
+		return 0, s.leave(C.TSC_CLOSED)
 	}
-	var length C.uint64_t
-	if err := done(C.tsc_close_shared(s.place, s.number, &length)); err != nil {
+	code := C.tsc_go_close_shared(s.block)
+	length := uint64(s.block.told)
+	if err := s.leave(code); err != nil {
+		runtime.KeepAlive(s)
 		return 0, err
 	}
-	s.free()
-	return uint64(length), nil
-}
-
-// Close hands the seat in. Other calls are then refused with Closed, and a second Close does nothing.
-func (s *Seat) Close() {
-	if s.place == nil {
-		return
-	}
-	C.tsc_free(s.place)
-	C.free(unsafe.Pointer(s.place))
-	s.place = nil
 	runtime.SetFinalizer(s, nil)
+	s.free()
+	return length, nil
 }
 
-// Add adds a span that was read, and tells which place the Add has among all of the cache, counted from 0. It waits for nobody: where others
-// are in the way at each of so many tries it is refused with Busy, and may be tried again.
+// Close hands the seat in. Other calls are then refused with ErrClosed, and a second Close does
+// nothing.
+func (s *Seat) Close() {
+	runtime.SetFinalizer(s, nil)
+	s.free()
+}
+
+// Add adds a span that was read, and tells which place the Add has among all of the cache, counted
+// from 0. It waits for nobody: where others are in the way at each of so many tries it is refused
+// with ErrBusy, and may be tried again. Take 64 tries; where it is refused call runtime.Gosched,
+// and try again.
 func (s *Seat) Add(span Span, value Value, now Time, tries uint32) (uint64, Added, error) {
-	if s.place == nil {
-		return 0, Added{}, Closed
+	s.take()
+	if s.block == nil {
+		return 0, Added{}, s.leave(C.TSC_CLOSED)
 	}
-	v, at := cValue(value), cTime(now)
-	var place C.uint64_t
-	var out C.tsc_added
-	code := C.tsc_seat_try_add(s.place, s.number, bytes(span.from), C.size_t(len(span.from)), bytes(span.to), C.size_t(len(span.to)), span.ends, &v, &at, C.uint32_t(tries), &place, &out)
+	putValue(&s.block.value, value)
+	putTime(&s.block.time, now)
+	code := C.tsc_go_seat_add(
+		s.block, bytes(span.from), C.size_t(len(span.from)), bytes(span.to),
+		C.size_t(len(span.to)), span.ends-1, C.uint32_t(tries),
+	)
+	place, out := s.told(code), added(code, &s.block.added)
+	err := s.leave(code)
 	runtime.KeepAlive(s)
-	if err := done(code); err != nil {
-		return 0, Added{}, err
-	}
-	return uint64(place), added(out), nil
+	return place, out, err
 }
 
 // AddAll adds several marks as one Add, all of them or none, as Add does.
 func (s *Seat) AddAll(marks []Mark, now Time, tries uint32) (uint64, Added, error) {
-	if s.place == nil {
-		return 0, Added{}, Closed
+	keys, asked := flat(marks)
+	s.take()
+	if s.block == nil {
+		return 0, Added{}, s.leave(C.TSC_CLOSED)
 	}
-	keys, asked, first := flat(marks)
-	at := cTime(now)
-	var place C.uint64_t
-	var out C.tsc_added
-	code := C.tsc_seat_try_add_all(s.place, s.number, bytes(keys), C.size_t(len(keys)), first, C.size_t(len(asked)), &at, C.uint32_t(tries), &place, &out)
+	putTime(&s.block.time, now)
+	code := C.tsc_go_seat_add_all(
+		s.block, bytes(keys), C.size_t(len(keys)), &asked[0], C.size_t(len(marks)),
+		C.uint32_t(tries),
+	)
+	place, out := s.told(code), added(code, &s.block.added)
+	err := s.leave(code)
 	runtime.KeepAlive(s)
-	if err := done(code); err != nil {
-		return 0, Added{}, err
-	}
-	return uint64(place), added(out), nil
+	return place, out, err
 }
 
-// GetMax is the latest time on a span, as that of a Cache, and how many Adds the seat has seen then. It waits for nobody.
+// GetMax is the latest time on a span, as that of a Cache, and how many Adds the seat has seen
+// then. It waits for nobody.
 func (s *Seat) GetMax(span Span) (Value, uint64, error) {
-	if s.place == nil {
-		return Value{}, 0, Closed
+	s.take()
+	if s.block == nil {
+		return Value{}, 0, s.leave(C.TSC_CLOSED)
 	}
-	var seen C.uint64_t
-	var out C.tsc_value
-	code := C.tsc_seat_try_get_max(s.place, s.number, bytes(span.from), C.size_t(len(span.from)), bytes(span.to), C.size_t(len(span.to)), span.ends, &seen, &out)
+	code := C.tsc_go_seat_get_max(
+		s.block, bytes(span.from), C.size_t(len(span.from)), bytes(span.to),
+		C.size_t(len(span.to)), span.ends-1,
+	)
+	seen, out := s.told(code), valueOf(code, &s.block.value)
+	err := s.leave(code)
 	runtime.KeepAlive(s)
-	if err := done(code); err != nil {
-		return Value{}, 0, err
-	}
-	return goValue(out), uint64(seen), nil
+	return out, seen, err
 }
 
 // LowWater is where the floor stands, and how many Adds the seat has seen then.
 func (s *Seat) LowWater() (Time, uint64, error) {
-	if s.place == nil {
-		return Time{}, 0, Closed
+	s.take()
+	if s.block == nil {
+		return Time{}, 0, s.leave(C.TSC_CLOSED)
 	}
-	var seen C.uint64_t
-	var out C.tsc_time
-	code := C.tsc_seat_low_water(s.place, s.number, &seen, &out)
+	code := C.tsc_go_seat_low_water(s.block)
+	seen, out := s.told(code), timeOf(code, &s.block.time)
+	err := s.leave(code)
 	runtime.KeepAlive(s)
-	return Time{uint64(out.wall), uint32(out.logical)}, uint64(seen), done(code)
+	return out, seen, err
 }
 
 // Figures is what can be counted, and how many Adds the seat has seen then.
 func (s *Seat) Figures() (Figures, uint64, error) {
-	if s.place == nil {
-		return Figures{}, 0, Closed
+	s.take()
+	if s.block == nil {
+		return Figures{}, 0, s.leave(C.TSC_CLOSED)
 	}
-	var seen C.uint64_t
-	var out C.tsc_figures
-	code := C.tsc_seat_figures_of(s.place, s.number, &seen, &out)
+	code := C.tsc_go_seat_figures(s.block)
+	seen, out := s.told(code), figuresOf(code, &s.block.figures)
+	err := s.leave(code)
 	runtime.KeepAlive(s)
-	return figuresOf(out), uint64(seen), done(code)
+	return out, seen, err
 }
 
-// newPlace gives a place with room behind it, so that no two lie in one line of the processor's caches: each call writes to its place.
-func newPlace() *C.tsc_place {
-	return (*C.tsc_place)(C.calloc(128, 1))
+// told is the place of an Add, or how many Adds the seat has seen.
+func (s *Seat) told(code C.uint32_t) uint64 {
+	if code != C.TSC_OK {
+		return 0
+	}
+	return uint64(s.block.told)
 }
 
-// flat gives the keys of some marks, one behind the other, and the marks with their places there, and the first of these.
-func flat(marks []Mark) ([]byte, []C.tsc_mark, *C.tsc_mark) {
+// flat gives the keys of some marks, one behind the other, and the marks with their places there,
+// and one more mark behind them, which is nobody's.
+func flat(marks []Mark) ([]byte, []C.tsc_mark) {
 	var keys []byte
-	asked := make([]C.tsc_mark, len(marks))
+	asked := make([]C.tsc_mark, len(marks)+1)
 	for i, m := range marks {
 		asked[i] = C.tsc_mark{
 			from_at: C.size_t(len(keys)), from_len: C.size_t(len(m.Span.from)),
 			to_at: C.size_t(len(keys) + len(m.Span.from)), to_len: C.size_t(len(m.Span.to)),
-			value: cValue(m.Value), ends: m.Span.ends,
+			ends: m.Span.ends - 1,
 		}
+		putValue(&asked[i].value, m.Value)
 		keys = append(append(keys, m.Span.from...), m.Span.to...)
 	}
-	var first *C.tsc_mark
-	if len(asked) > 0 {
-		first = &asked[0]
-	}
-	return keys, asked, first
+	return keys, asked
 }
 
-func bytes(b []byte) unsafe.Pointer {
+// nothing is where a key without bytes lies.
+var nothing [1]byte
+
+// bytes leads to the bytes of a key. A pointer to bytes is one that cgo needs not look behind, so
+// a key may lie beside pointers.
+func bytes(b []byte) *C.uint8_t {
 	if len(b) == 0 {
-		return nil
+		b = nothing[:]
 	}
-	return unsafe.Pointer(&b[0])
+	return (*C.uint8_t)(unsafe.Pointer(&b[0]))
 }
 
-func cTime(t Time) C.tsc_time {
-	return C.tsc_time{wall: C.uint64_t(t.Wall), logical: C.uint32_t(t.Logical)}
+func putTime(to *C.tsc_time, t Time) {
+	to.wall, to.logical = C.uint64_t(t.Wall), C.uint32_t(t.Logical)
 }
 
-func cValue(v Value) C.tsc_value {
-	out := C.tsc_value{wall: C.uint64_t(v.Time.Wall), logical: C.uint32_t(v.Time.Logical)}
-	for i, b := range v.Owner {
-		out.owner[i] = C.uint8_t(b)
+func putValue(to *C.tsc_value, v Value) {
+	to.wall, to.logical = C.uint64_t(v.Time.Wall), C.uint32_t(v.Time.Logical)
+	*(*[16]byte)(unsafe.Pointer(&to.owner)) = v.Owner
+}
+
+// What a call that was not refused has written.
+
+func timeOf(code C.uint32_t, t *C.tsc_time) Time {
+	if code != C.TSC_OK {
+		return Time{}
 	}
-	return out
+	return Time{uint64(t.wall), uint32(t.logical)}
 }
 
-func goValue(v C.tsc_value) Value {
-	value := Value{Time: Time{uint64(v.wall), uint32(v.logical)}}
-	for i, b := range v.owner {
-		value.Owner[i] = byte(b)
+func valueOf(code C.uint32_t, v *C.tsc_value) Value {
+	if code != C.TSC_OK {
+		return Value{}
 	}
-	return value
+	return Value{Time{uint64(v.wall), uint32(v.logical)}, *(*[16]byte)(unsafe.Pointer(&v.owner))}
 }
 
-func added(out C.tsc_added) Added {
-	return Added{Kept: bool(out.kept), Rotated: bool(out.rotated), Evicted: uint64(out.evicted)}
+func added(code C.uint32_t, a *C.tsc_added) Added {
+	if code != C.TSC_OK {
+		return Added{}
+	}
+	return Added{Kept: bool(a.kept), Rotated: bool(a.rotated), Evicted: uint64(a.evicted)}
+}
+
+func figuresOf(code C.uint32_t, f *C.tsc_figures) Figures {
+	if code != C.TSC_OK {
+		return Figures{}
+	}
+	return Figures{uint64(f.pages), uint64(f.rotations), uint64(f.nodes), uint64(f.bytes)}
 }

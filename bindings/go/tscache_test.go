@@ -28,17 +28,17 @@ func wants(t *testing.T, c *Cache, span Span, value Value) {
 
 func TestSpans(t *testing.T) {
 	c := small(t)
-	if a, err := c.Add(Range([]byte("a"), []byte("c"), true, true), at(20, one), Time{20, 0}); err != nil || a != (Added{Kept: true}) {
+	if a, err := c.Add(Range([]byte("a"), []byte("c"), ExcludeBoth), at(20, one), Time{20, 0}); err != nil || a != (Added{Kept: true}) {
 		t.Errorf("got %v, %v", a, err)
 	}
 	wants(t, c, Point([]byte("a")), at(5, [16]byte{}))
 	wants(t, c, Point([]byte("b")), at(20, one))
-	if _, err := c.Add(Onward([]byte("b"), false), at(20, two), Time{20, 0}); err != nil {
+	if _, err := c.Add(Onward([]byte("b"), IncludeBoth), at(20, two), Time{20, 0}); err != nil {
 		t.Error(err)
 	}
 	wants(t, c, Point([]byte("b")), at(20, [16]byte{}))
-	wants(t, c, Onward([]byte("x"), true), at(20, two))
-	wants(t, c, Range([]byte("c"), []byte("a"), false, true), at(5, [16]byte{}))
+	wants(t, c, Onward([]byte("x"), ExcludeFrom), at(20, two))
+	wants(t, c, Range([]byte("c"), []byte("a"), ExcludeTo), at(5, [16]byte{}))
 	wants(t, c, Point(nil), at(5, [16]byte{}))
 }
 
@@ -92,7 +92,7 @@ func TestLogicalCounts(t *testing.T) {
 			t.Errorf("got %v, %v, %v", got, a, err)
 		}
 	}
-	if _, _, err := seats[0].Add(Point([]byte("a")), value, Time{20, 3}, 1); err != Full {
+	if _, _, err := seats[0].Add(Point([]byte("a")), value, Time{20, 3}, 1); err != ErrFull {
 		t.Errorf("got %v", err)
 	}
 	if v, seen, err := seats[0].GetMax(Point([]byte("a"))); err != nil || v != value || seen != 2 {
@@ -105,12 +105,12 @@ func TestLogicalCounts(t *testing.T) {
 
 func TestMarks(t *testing.T) {
 	c := small(t)
-	marks := []Mark{{Point([]byte("a")), at(20, one)}, {Range([]byte("c"), []byte("b"), false, false), at(20, two)}}
-	if _, err := c.AddAll(marks, Time{20, 0}); err != Inverted {
+	marks := []Mark{{Point([]byte("a")), at(20, one)}, {Range([]byte("c"), []byte("b"), IncludeBoth), at(20, two)}}
+	if _, err := c.AddAll(marks, Time{20, 0}); err != ErrInverted {
 		t.Errorf("got %v", err)
 	}
 	wants(t, c, Point([]byte("a")), at(5, [16]byte{}))
-	marks[1].Span = Range([]byte("b"), []byte("c"), false, false)
+	marks[1].Span = Range([]byte("b"), []byte("c"), IncludeBoth)
 	if a, err := c.AddAll(marks, Time{20, 0}); err != nil || !a.Kept {
 		t.Errorf("got %v, %v", a, err)
 	}
@@ -122,51 +122,48 @@ func TestMarks(t *testing.T) {
 
 func TestRefusals(t *testing.T) {
 	c := small(t)
-	if _, err := c.Add(Point(make([]byte, 4097)), at(20, one), Time{20, 0}); err != KeyTooLong {
+	if _, err := c.Add(Point(make([]byte, 4097)), at(20, one), Time{20, 0}); err != ErrKeyTooLong {
 		t.Errorf("got %v", err)
 	}
-	wants(t, c, Range(make([]byte, 4097), []byte("b"), false, true), at(5, [16]byte{}))
-	if _, err := c.Add(Point(make([]byte, 101)), at(20, one), Time{20, 0}); err != TooLarge {
+	wants(t, c, Range(make([]byte, 4097), []byte("b"), ExcludeTo), at(5, [16]byte{}))
+	if _, err := c.Add(Point(make([]byte, 101)), at(20, one), Time{20, 0}); err != ErrTooLarge {
 		t.Errorf("got %v", err)
 	}
-	if _, err := c.Add(Point([]byte("a")), at(1<<63, one), Time{20, 0}); err != TimeRange {
+	if _, err := c.Add(Point([]byte("a")), at(1<<63, one), Time{20, 0}); err != ErrTime {
 		t.Errorf("got %v", err)
 	}
-	if _, err := Open(Config{PageFirst: 63, PageMax: 132, MinPages: 2}); err != PageSize {
+	if _, err := Open(Config{PageFirst: 63, PageMax: 132, MinPages: 2}); err != ErrPageSize {
 		t.Errorf("got %v", err)
 	}
-	if _, err := Open(Config{PageFirst: 64, PageMax: 132}); err != MinPages {
+	if _, err := Open(Config{PageFirst: 64, PageMax: 132}); err != ErrMinPages {
 		t.Errorf("got %v", err)
 	}
-	if _, err := Open(Config{PageFirst: 64, PageMax: 132, MinPages: 2, Retention: 1 << 63}); err != Retention {
+	if _, err := Open(Config{PageFirst: 64, PageMax: 132, MinPages: 2, Retention: -1}); err != ErrRetention {
 		t.Errorf("got %v", err)
 	}
 	c.Close()
 	c.Close()
-	if _, err := c.GetMax(Point([]byte("a"))); err != Closed {
+	if _, err := c.GetMax(Point([]byte("a"))); err != ErrClosed {
 		t.Errorf("got %v", err)
-	}
-	if Closed.Error() != "tscache: the number names nothing of this kind" {
-		t.Error(Closed.Error())
 	}
 }
 
 func TestSeats(t *testing.T) {
 	config := Config{PageFirst: 4096, PageMax: 65536, MinPages: 2, Retention: 10, LowWater: Time{5, 0}}
-	if _, _, err := OpenShared(config, 65, 9); err != Seats {
+	if _, _, err := OpenShared(config, 65, 9); err != ErrSeats {
 		t.Errorf("got %v", err)
 	}
-	if _, _, err := OpenShared(config, 1<<32-1, 9); err != Seats {
+	if _, _, err := OpenShared(config, 1<<32-1, 9); err != ErrSeats {
 		t.Errorf("got %v", err)
 	}
 	shared, seats, err := OpenShared(config, 4, 1000)
 	if err != nil {
 		t.Fatal(err)
 	}
-	if _, _, err := seats[0].AddAll(nil, Time{20, 0}, 0); err != Busy {
+	if _, _, err := seats[0].AddAll(nil, Time{20, 0}, 0); err != ErrBusy {
 		t.Errorf("got %v", err)
 	}
-	if _, err := shared.Close(); err != StillOut {
+	if _, err := shared.Close(); err != ErrStillOut {
 		t.Errorf("got %v", err)
 	}
 	accepted := make(chan uint64)
@@ -176,7 +173,7 @@ func TestSeats(t *testing.T) {
 			var n uint64
 			for wall := uint64(20); wall < 120; wall++ {
 				_, a, err := seat.Add(Point([]byte("a")), at(wall, one), Time{20, 0}, 8)
-				if err == Busy {
+				if err == ErrBusy {
 					continue
 				}
 				if err != nil || !a.Kept {

@@ -1,11 +1,14 @@
-//! Times lookups and Adds of single keys that are there, of 65,536 keys or as many as the first word says: through this crate, and in a `BTreeMap`
-//! behind a mutex that keeps the latest time of each key and knows no ranges. Then seats of a shared cache look up on 1 and 4 threads, and
-//! so do threads that share the map.
+//! Times lookups and Adds of single keys that are there, of 65,536 keys or as many as the first
+//! word says: through this crate, and in a `BTreeMap` behind a mutex that keeps the latest time of
+//! each key and knows no ranges. Then seats of a shared cache look up on 1 and 4 threads, and so
+//! do threads that share the map.
 //!
-//! It prints the nanoseconds of one call, in that turn over 1,024 places in which it was quickest, of 225; and the lookups of all threads together in a
-//! millisecond, in the quickest round of nine. Each turn looks up, and then adds. The keys, where they lie, and the order of all that is done are those of
-//! `speed.c` and of the repository's `bench bytes`, so that their figures can stand beside these; the map is made when the cache is done with,
-//! or else its keys would lie between those of the cache.
+//! It prints the nanoseconds of one call, in that turn over 1,024 places in which it was quickest,
+//! of 225; and the lookups of all threads together in a millisecond, in the quickest round of
+//! nine. Each turn looks up, and then adds. The keys, where they lie, and the order of all that is
+//! done are those of `speed.c` and of the repository's `bench bytes`, so that their figures can
+//! stand beside these; the map is made when the cache is done with, or else its keys would lie
+//! between those of the cache.
 use std::collections::BTreeMap;
 use std::hint::black_box;
 use std::sync::{Barrier, Mutex};
@@ -30,7 +33,9 @@ fn key_of(place: u64) -> [u8; 8] {
 }
 
 /// Of many turns, each at a later time, the least that lookups took, and the least that Adds took.
-fn least(mut turn: impl FnMut(u64) -> Result<[Duration; 2], Error>) -> Result<[Duration; 2], Error> {
+fn least(
+    mut turn: impl FnMut(u64) -> Result<[Duration; 2], Error>,
+) -> Result<[Duration; 2], Error> {
     let mut best = [Duration::MAX; 2];
     for i in 0..TURNS {
         let times = turn(FIRST_WALL + 1 + i)?;
@@ -106,7 +111,8 @@ fn print(who: &str, [lookup, add]: [Duration; 2]) {
     println!("{who}, add of a key: {} ns", each(add));
 }
 
-/// How many calls all threads make in a millisecond, each of which goes over all places again and again, from the same moment on.
+/// How many calls all threads make in a millisecond, each of which goes over all places again and
+/// again, from the same moment on.
 fn together(threads: u64, work: &(dyn Fn(u64) + Sync)) -> u128 {
     let barrier = Barrier::new(threads as usize);
     let times: Vec<Duration> = thread::scope(|scope| {
@@ -133,7 +139,12 @@ fn on_threads(nodes: u64, places: &[[u8; 8]]) -> Result<(), Error> {
     let (_shared, seats) = Shared::open(&config(nodes), 4, 1 << 40)?;
     let seats: Vec<_> = seats.into_iter().map(Mutex::new).collect();
     for place in 0..nodes {
-        seats[0].lock().unwrap().add(&Span::Point(&key_of(place)), at(FIRST_WALL), Time::new(1, 0), 8)?;
+        seats[0].lock().unwrap().add(
+            &Span::Point(&key_of(place)),
+            at(FIRST_WALL),
+            Time::new(1, 0),
+            8,
+        )?;
     }
     let of_seats = |thread: u64| {
         let mut seat = seats[thread as usize].lock().unwrap();
@@ -150,7 +161,9 @@ fn on_threads(nodes: u64, places: &[[u8; 8]]) -> Result<(), Error> {
             }
         }
     };
-    let best = |threads, work: &(dyn Fn(u64) + Sync)| (0..ROUNDS).map(|_| together(threads, work)).max().unwrap_or_default();
+    let best = |threads, work: &(dyn Fn(u64) + Sync)| {
+        (0..ROUNDS).map(|_| together(threads, work)).max().unwrap_or_default()
+    };
     let (one, four) = (best(1, &of_seats), best(4, &of_seats));
     let (map_one, map_four) = (best(1, &of_map), best(4, &of_map));
     println!("Rust, {nodes} nodes, lookups of seats in a millisecond: {one} on 1 thread, {four} on 4, {} per cent", four * 100 / one.max(1));

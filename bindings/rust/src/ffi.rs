@@ -1,4 +1,5 @@
-//! `tscache.h`, word for word. `Time` and `Figures` of this crate are those of C, and stand for them.
+//! `tscache.h`, word for word. `Time` and `Figures` of this crate are those of C, and stand for
+//! them.
 use crate::{Figures, Time};
 use std::ffi::c_void;
 
@@ -38,35 +39,126 @@ pub struct Mark {
 }
 
 extern "C" {
-    pub fn tsc_open(place: *mut Place, page_first: u32, page_max: u32, min_pages: u32, retention: u64, low_water: *const Time, number: *mut u64) -> u32;
+    pub fn tsc_open(
+        place: *mut Place,
+        page_first: u32,
+        page_max: u32,
+        min_pages: u32,
+        retention: u64,
+        low_water: *const Time,
+        number: *mut u64,
+    ) -> u32;
     pub fn tsc_add(
-        place: *mut Place, number: u64, from: *const u8, from_len: usize, to: *const u8, to_len: usize, ends: u32, value: *const Value, now: *const Time, out: *mut Added,
+        place: *mut Place,
+        number: u64,
+        from: *const u8,
+        from_len: usize,
+        to: *const u8,
+        to_len: usize,
+        ends: u32,
+        value: *const Value,
+        now: *const Time,
+        out: *mut Added,
     ) -> u32;
     pub fn tsc_add_all(
-        place: *mut Place, number: u64, keys: *const u8, keys_len: usize, marks: *const Mark, marks_len: usize, now: *const Time, out: *mut Added,
+        place: *mut Place,
+        number: u64,
+        keys: *const u8,
+        keys_len: usize,
+        marks: *const Mark,
+        marks_len: usize,
+        now: *const Time,
+        out: *mut Added,
     ) -> u32;
-    pub fn tsc_get_max(place: *mut Place, number: u64, from: *const u8, from_len: usize, to: *const u8, to_len: usize, ends: u32, out: *mut Value) -> u32;
+    pub fn tsc_get_max(
+        place: *mut Place,
+        number: u64,
+        from: *const u8,
+        from_len: usize,
+        to: *const u8,
+        to_len: usize,
+        ends: u32,
+        out: *mut Value,
+    ) -> u32;
     pub fn tsc_low_water(place: *mut Place, number: u64, out: *mut Time) -> u32;
     pub fn tsc_figures_of(place: *mut Place, number: u64, out: *mut Figures) -> u32;
     pub fn tsc_free(place: *mut Place);
-    pub fn tsc_move(place: *mut Place, number: u64, other: *mut Place, other_number: *mut u64) -> u32;
+    pub fn tsc_move(
+        place: *mut Place,
+        number: u64,
+        other: *mut Place,
+        other_number: *mut u64,
+    ) -> u32;
     pub fn tsc_open_shared(
-        place: *mut Place, page_first: u32, page_max: u32, min_pages: u32, retention: u64, low_water: *const Time, seats: u32, limit: u64, number: *mut u64,
+        place: *mut Place,
+        page_first: u32,
+        page_max: u32,
+        min_pages: u32,
+        retention: u64,
+        low_water: *const Time,
+        seats: u32,
+        limit: u64,
+        number: *mut u64,
     ) -> u32;
     pub fn tsc_seat_add(
-        place: *mut Place, seat: u64, from: *const u8, from_len: usize, to: *const u8, to_len: usize, ends: u32, value: *const Value, now: *const Time, tries: u32,
-        place_in_history: *mut u64, out: *mut Added,
+        place: *mut Place,
+        seat: u64,
+        from: *const u8,
+        from_len: usize,
+        to: *const u8,
+        to_len: usize,
+        ends: u32,
+        value: *const Value,
+        now: *const Time,
+        tries: u32,
+        place_in_history: *mut u64,
+        out: *mut Added,
     ) -> u32;
     pub fn tsc_seat_add_all(
-        place: *mut Place, seat: u64, keys: *const u8, keys_len: usize, marks: *const Mark, marks_len: usize, now: *const Time, tries: u32, place_in_history: *mut u64,
+        place: *mut Place,
+        seat: u64,
+        keys: *const u8,
+        keys_len: usize,
+        marks: *const Mark,
+        marks_len: usize,
+        now: *const Time,
+        tries: u32,
+        place_in_history: *mut u64,
         out: *mut Added,
     ) -> u32;
     pub fn tsc_seat_get_max(
-        place: *mut Place, seat: u64, from: *const u8, from_len: usize, to: *const u8, to_len: usize, ends: u32, seen: *mut u64, out: *mut Value,
+        place: *mut Place,
+        seat: u64,
+        from: *const u8,
+        from_len: usize,
+        to: *const u8,
+        to_len: usize,
+        ends: u32,
+        seen: *mut u64,
+        out: *mut Value,
     ) -> u32;
     pub fn tsc_seat_low_water(place: *mut Place, seat: u64, seen: *mut u64, out: *mut Time) -> u32;
-    pub fn tsc_seat_figures_of(place: *mut Place, seat: u64, seen: *mut u64, out: *mut Figures) -> u32;
+    pub fn tsc_seat_figures_of(
+        place: *mut Place,
+        seat: u64,
+        seen: *mut u64,
+        out: *mut Figures,
+    ) -> u32;
     pub fn tsc_close_shared(place: *mut Place, number: u64, length: *mut u64) -> u32;
-    pub fn tsc_replay(trace: *const u8, trace_len: usize, out: *mut u8, room: usize, len: *mut usize) -> u32;
-    pub fn tsc_check(trace: *const u8, trace_len: usize, log: *const u8, log_len: usize, out: *mut u8, room: usize, len: *mut usize) -> u32;
+    pub fn tsc_replay(
+        trace: *const u8,
+        trace_len: usize,
+        out: *mut u8,
+        room: usize,
+        len: *mut usize,
+    ) -> u32;
+    pub fn tsc_check(
+        trace: *const u8,
+        trace_len: usize,
+        log: *const u8,
+        log_len: usize,
+        out: *mut u8,
+        room: usize,
+        len: *mut usize,
+    ) -> u32;
 }

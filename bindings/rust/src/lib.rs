@@ -1,8 +1,9 @@
-//! The timestamp cache: for each span of keys the latest time at which it was read, and by which transaction.
+//! The timestamp cache: for each span of keys the latest time at which it was read, and by which
+//! transaction.
 //!
-//! All that is here calls `libtscache.a`, whose functions are proved to do what they say; see `tscache.h`. Build that with
-//! `scripts/build-c-library OUT`, and set `TSCACHE_DIR=OUT` for cargo. This crate stands on no other, and nothing of it is
-//! proved itself.
+//! All that is here calls `libtscache.a`, whose functions are proved to do what they say; see
+//! `tscache.h`. Build that with `scripts/build-c-library OUT`, and set `TSCACHE_DIR=OUT` for
+//! cargo. This crate stands on no other, and nothing of it is proved itself.
 //!
 //! ```
 //! use tscache::{Cache, Config, Span, Time, Value};
@@ -28,7 +29,8 @@ mod writes;
 pub use texts::{check, replay, TextError};
 pub use writes::{earliest_clear_of, is_clear_of};
 
-/// A time of a hybrid logical clock. The smaller wall time comes first, and of two equal ones the smaller count.
+/// A time of a hybrid logical clock. The smaller wall time comes first, and of two equal ones the
+/// smaller count.
 // (it is `tsc_time`)
 #[repr(C)]
 #[derive(Clone, Copy, Debug, Default, PartialEq, Eq, PartialOrd, Ord, Hash)]
@@ -74,7 +76,13 @@ pub struct Config {
 /// Pages of 128 KiB that grow to 32 MiB, at least two of them, and ten seconds.
 impl Default for Config {
     fn default() -> Config {
-        Config { page_first: 128 << 10, page_max: 32 << 20, min_pages: 2, retention: 10_000_000_000, low_water: Time::new(0, 0) }
+        Config {
+            page_first: 128 << 10,
+            page_max: 32 << 20,
+            min_pages: 2,
+            retention: 10_000_000_000,
+            low_water: Time::new(0, 0),
+        }
     }
 }
 
@@ -114,10 +122,15 @@ impl<'a> Span<'a> {
     fn parts(&self) -> (&'a [u8], &'a [u8], u32) {
         match *self {
             Span::Point(key) => (key, &[], ffi::POINT),
-            Span::Range { from, to, exclude_from, exclude_to } => {
-                (from, to, u32::from(exclude_from) * ffi::EXCLUDE_FROM + u32::from(exclude_to) * ffi::EXCLUDE_TO)
+            Span::Range { from, to, exclude_from, exclude_to } => (
+                from,
+                to,
+                u32::from(exclude_from) * ffi::EXCLUDE_FROM
+                    + u32::from(exclude_to) * ffi::EXCLUDE_TO,
+            ),
+            Span::Onward { from, exclude_from } => {
+                (from, &[], ffi::ONWARD + u32::from(exclude_from) * ffi::EXCLUDE_FROM)
             }
-            Span::Onward { from, exclude_from } => (from, &[], ffi::ONWARD + u32::from(exclude_from) * ffi::EXCLUDE_FROM),
         }
     }
 }
@@ -207,8 +220,8 @@ impl fmt::Display for Error {
 
 impl std::error::Error for Error {}
 
-/// Ends the program where a call that only reads was refused, which none of this crate brings about: what it would tell else is a time of
-/// zero, below which any write passes.
+/// Ends the program where a call that only reads was refused, which none of this crate brings
+/// about: what it would tell else is a time of zero, below which any write passes.
 #[inline]
 #[track_caller]
 fn answered(code: u32) {
@@ -253,7 +266,11 @@ fn fault(code: u32) -> Error {
 impl From<Value> for ffi::Value {
     #[inline]
     fn from(value: Value) -> ffi::Value {
-        ffi::Value { wall: value.time.wall, logical: value.time.logical, owner: value.owner.unwrap_or([0; 16]) }
+        ffi::Value {
+            wall: value.time.wall,
+            logical: value.time.logical,
+            owner: value.owner.unwrap_or([0; 16]),
+        }
     }
 }
 
@@ -281,7 +298,14 @@ fn flat(marks: &[Mark<'_>]) -> (Vec<u8>, Vec<ffi::Mark>) {
         let (from_at, to_at) = (keys.len(), keys.len() + from.len());
         keys.extend_from_slice(from);
         keys.extend_from_slice(to);
-        asked.push(ffi::Mark { from_at, from_len: from.len(), to_at, to_len: to.len(), value: mark.value.into(), ends });
+        asked.push(ffi::Mark {
+            from_at,
+            from_len: from.len(),
+            to_at,
+            to_len: to.len(),
+            value: mark.value.into(),
+            ends,
+        });
     }
     (keys, asked)
 }
@@ -299,7 +323,8 @@ fn flat(marks: &[Mark<'_>]) -> (Vec<u8>, Vec<ffi::Mark>) {
 /// fn moved<T: Send>() {}
 /// moved::<tscache::Cache>();
 /// ```
-// Each call writes to its place, so those that threads use at once lie in different lines of the processor's caches, and not beside each other.
+// Each call writes to its place, so those that threads use at once lie in different lines of the
+// processor's caches, and not beside each other.
 #[derive(Debug)]
 #[repr(align(128))]
 pub struct Cache {
@@ -307,12 +332,14 @@ pub struct Cache {
     number: u64,
 }
 
-// SAFETY: the library proves of its place that what it owns may go to another thread, and each call takes `&mut self`.
+// SAFETY: the library proves of its place that what it owns may go to another thread, and each
+// call takes `&mut self`.
 unsafe impl Send for Cache {}
 
-// SAFETY, of each call below: the place began as null and only these calls change it; it is behind `&mut` and so used by one call
-// at a time; it is never copied; each pointer comes from a reference or a slice that lives through the call, and what is written
-// to is a local of its own, which a call writes as a whole wherever it answers 0.
+// SAFETY, of each call below: the place began as null and only these calls change it; it is behind
+// `&mut` and so used by one call at a time; it is never copied; each pointer comes from a
+// reference or a slice that lives through the call, and what is written to is a local of its own,
+// which a call writes as a whole wherever it answers 0.
 impl Cache {
     /// A cache to which nothing was added.
     ///
@@ -323,7 +350,17 @@ impl Cache {
     pub fn open(config: &Config) -> Result<Cache, Error> {
         let mut cache = Cache { place: ffi::Place { at: null_mut::<c_void>() }, number: 0 };
         let Config { page_first, page_max, min_pages, retention, low_water } = *config;
-        done(unsafe { ffi::tsc_open(&mut cache.place, page_first, page_max, min_pages, retention, &low_water, &mut cache.number) })?;
+        done(unsafe {
+            ffi::tsc_open(
+                &mut cache.place,
+                page_first,
+                page_max,
+                min_pages,
+                retention,
+                &low_water,
+                &mut cache.number,
+            )
+        })?;
         Ok(cache)
     }
 
@@ -333,7 +370,18 @@ impl Cache {
         let (from, to, ends) = span.parts();
         let mut added = MaybeUninit::<ffi::Added>::uninit();
         done(unsafe {
-            ffi::tsc_add(&mut self.place, self.number, from.as_ptr(), from.len(), to.as_ptr(), to.len(), ends, &value.into(), &now, added.as_mut_ptr())
+            ffi::tsc_add(
+                &mut self.place,
+                self.number,
+                from.as_ptr(),
+                from.len(),
+                to.as_ptr(),
+                to.len(),
+                ends,
+                &value.into(),
+                &now,
+                added.as_mut_ptr(),
+            )
         })?;
         Ok(unsafe { added.assume_init() }.into())
     }
@@ -355,19 +403,40 @@ impl Cache {
         let (keys, asked) = flat(marks);
         let mut added = MaybeUninit::<ffi::Added>::uninit();
         done(unsafe {
-            ffi::tsc_add_all(&mut self.place, self.number, keys.as_ptr(), keys.len(), asked.as_ptr(), asked.len(), &now, added.as_mut_ptr())
+            ffi::tsc_add_all(
+                &mut self.place,
+                self.number,
+                keys.as_ptr(),
+                keys.len(),
+                asked.as_ptr(),
+                asked.len(),
+                &now,
+                added.as_mut_ptr(),
+            )
         })?;
         Ok(unsafe { added.assume_init() }.into())
     }
 
-    /// The latest time on a span, with its owner where all reads of that time are one transaction's, or the floor. A range whose
-    /// first key is greater than the second is empty, and the floor answers. Keys may be of any length, and no memory is taken.
+    /// The latest time on a span, with its owner where all reads of that time are one
+    /// transaction's, or the floor. A range whose first key is greater than the second is empty,
+    /// and the floor answers. Keys may be of any length, and no memory is taken.
     #[inline]
     pub fn get_max(&mut self, span: &Span<'_>) -> Value {
         let (from, to, ends) = span.parts();
         let mut found = MaybeUninit::<ffi::Value>::uninit();
         // it is refused only where the number names no cache, or there are no such ends
-        answered(unsafe { ffi::tsc_get_max(&mut self.place, self.number, from.as_ptr(), from.len(), to.as_ptr(), to.len(), ends, found.as_mut_ptr()) });
+        answered(unsafe {
+            ffi::tsc_get_max(
+                &mut self.place,
+                self.number,
+                from.as_ptr(),
+                from.len(),
+                to.as_ptr(),
+                to.len(),
+                ends,
+                found.as_mut_ptr(),
+            )
+        });
         unsafe { found.assume_init() }.into()
     }
 
@@ -385,7 +454,9 @@ impl Cache {
     pub fn figures(&mut self) -> Figures {
         let mut figures = MaybeUninit::uninit();
         // it is refused only where the number names no cache
-        answered(unsafe { ffi::tsc_figures_of(&mut self.place, self.number, figures.as_mut_ptr()) });
+        answered(unsafe {
+            ffi::tsc_figures_of(&mut self.place, self.number, figures.as_mut_ptr())
+        });
         unsafe { figures.assume_init() }
     }
 }
@@ -400,12 +471,13 @@ impl Drop for Cache {
 ///
 /// ```
 /// use tscache::{Config, Shared, Span, Time, Value};
-/// let (shared, seats) = Shared::open(&Config::default(), 2, 1_000_000)?;
+/// let (shared, seats) = Shared::open(&Config::default(), 2, u64::MAX)?;
 /// let value = Value { time: Time::new(20, 0), owner: Some([0x11; 16]) };
 /// std::thread::scope(|scope| {
 ///     for mut seat in seats {
 ///         scope.spawn(move || {
-///             while seat.add(&Span::Point(b"a"), value, Time::new(20, 0), 100) == Err(tscache::Error::Busy) {
+///             let (span, now) = (Span::Point(b"a"), Time::new(20, 0));
+///             while seat.add(&span, value, now, 64) == Err(tscache::Error::Busy) {
 ///                 std::thread::yield_now();
 ///             }
 ///             assert_eq!(seat.get_max(&Span::Point(b"a")).0, value);
@@ -423,8 +495,9 @@ pub struct Shared {
 
 /// A seat of a [shared](Shared) cache, in a place of its own. It is handed in where it is dropped.
 ///
-/// There is one history of all Adds of the cache, and what a seat has seen are the first so many of it. So a lookup that tells more of them than the place
-/// of an Add counts that Add, whichever seat made it, and so does each later lookup of its seat.
+/// There is one history of all Adds of the cache, and what a seat has seen are the first so many
+/// of it. So a lookup that tells more of them than the place of an Add counts that Add, whichever
+/// seat made it, and so does each later lookup of its seat.
 ///
 /// It may go to another thread, and is used by one at a time:
 ///
@@ -453,12 +526,23 @@ unsafe impl Send for Shared {}
 unsafe impl Send for Seat {}
 
 impl Shared {
-    /// A cache to which nothing was added, and its seats, 1 to 64 of them. There may be `limit` Adds.
+    /// A cache to which nothing was added, and its seats, 1 to 64 of them. There may be `limit` Adds:
+    /// take `u64::MAX`, which is never reached, since a smaller limit is for tests.
     pub fn open(config: &Config, seats: u32, limit: u64) -> Result<(Shared, Vec<Seat>), Error> {
         let mut shared = Shared { place: ffi::Place { at: null_mut::<c_void>() }, number: 0 };
         let Config { page_first, page_max, min_pages, retention, low_water } = *config;
         done(unsafe {
-            ffi::tsc_open_shared(&mut shared.place, page_first, page_max, min_pages, retention, &low_water, seats, limit, &mut shared.number)
+            ffi::tsc_open_shared(
+                &mut shared.place,
+                page_first,
+                page_max,
+                min_pages,
+                retention,
+                &low_water,
+                seats,
+                limit,
+                &mut shared.number,
+            )
         })?;
         let seats = (1..=u64::from(seats)).map(|i| shared.seat(i)).collect::<Result<_, _>>()?;
         Ok((shared, seats))
@@ -466,11 +550,14 @@ impl Shared {
 
     fn seat(&mut self, i: u64) -> Result<Seat, Error> {
         let mut seat = Seat { place: ffi::Place { at: null_mut::<c_void>() }, number: 0 };
-        done(unsafe { ffi::tsc_move(&mut self.place, self.number + i, &mut seat.place, &mut seat.number) })?;
+        done(unsafe {
+            ffi::tsc_move(&mut self.place, self.number + i, &mut seat.place, &mut seat.number)
+        })?;
         Ok(seat)
     }
 
-    /// How many Adds there were, once each seat was dropped. Where one wasn't, the cache is handed back.
+    /// How many Adds there were, once each seat was dropped. Where one wasn't, the cache is handed
+    /// back.
     pub fn close(mut self) -> Result<u64, Shared> {
         let mut length = 0;
         match unsafe { ffi::tsc_close_shared(&mut self.place, self.number, &mut length) } {
@@ -488,40 +575,84 @@ impl Drop for Shared {
 
 // SAFETY, of each call below: as of those of `Cache`.
 impl Seat {
-    /// Adds a span that was read, and tells which place the Add has among all of the cache, counted from 0. It waits for nobody:
-    /// where others are in the way at each of so many tries it is refused as [`Error::Busy`], and may be tried again.
+    /// Adds a span that was read, and tells which place the Add has among all of the cache, counted
+    /// from 0. It waits for nobody: where others are in the way at each of so many tries it is refused
+    /// as [`Error::Busy`]. Take 64 tries; where it is refused call `std::thread::yield_now`, and try
+    /// again.
     #[inline]
-    pub fn add(&mut self, span: &Span<'_>, value: Value, now: Time, tries: u32) -> Result<(u64, Added), Error> {
+    pub fn add(
+        &mut self,
+        span: &Span<'_>,
+        value: Value,
+        now: Time,
+        tries: u32,
+    ) -> Result<(u64, Added), Error> {
         let (from, to, ends) = span.parts();
         let (mut place, mut added) = (0, MaybeUninit::<ffi::Added>::uninit());
         done(unsafe {
             ffi::tsc_seat_add(
-                &mut self.place, self.number, from.as_ptr(), from.len(), to.as_ptr(), to.len(), ends, &value.into(), &now, tries, &mut place, added.as_mut_ptr(),
+                &mut self.place,
+                self.number,
+                from.as_ptr(),
+                from.len(),
+                to.as_ptr(),
+                to.len(),
+                ends,
+                &value.into(),
+                &now,
+                tries,
+                &mut place,
+                added.as_mut_ptr(),
             )
         })?;
         Ok((place, unsafe { added.assume_init() }.into()))
     }
 
     /// Adds several marks as one Add, all of them or none, as [`add`](Seat::add) does.
-    pub fn add_all(&mut self, marks: &[Mark<'_>], now: Time, tries: u32) -> Result<(u64, Added), Error> {
+    pub fn add_all(
+        &mut self,
+        marks: &[Mark<'_>],
+        now: Time,
+        tries: u32,
+    ) -> Result<(u64, Added), Error> {
         let (keys, asked) = flat(marks);
         let (mut place, mut added) = (0, MaybeUninit::<ffi::Added>::uninit());
         done(unsafe {
             ffi::tsc_seat_add_all(
-                &mut self.place, self.number, keys.as_ptr(), keys.len(), asked.as_ptr(), asked.len(), &now, tries, &mut place, added.as_mut_ptr(),
+                &mut self.place,
+                self.number,
+                keys.as_ptr(),
+                keys.len(),
+                asked.as_ptr(),
+                asked.len(),
+                &now,
+                tries,
+                &mut place,
+                added.as_mut_ptr(),
             )
         })?;
         Ok((place, unsafe { added.assume_init() }.into()))
     }
 
-    /// The latest time on a span, as [`Cache::get_max`] answers, and how many Adds the seat has seen then. It waits for nobody.
+    /// The latest time on a span, as [`Cache::get_max`] answers, and how many Adds the seat has
+    /// seen then. It waits for nobody.
     #[inline]
     pub fn get_max(&mut self, span: &Span<'_>) -> (Value, u64) {
         let (from, to, ends) = span.parts();
         let (mut seen, mut found) = (0, MaybeUninit::<ffi::Value>::uninit());
         // it is refused only where the number names no seat, or there are no such ends
         answered(unsafe {
-            ffi::tsc_seat_get_max(&mut self.place, self.number, from.as_ptr(), from.len(), to.as_ptr(), to.len(), ends, &mut seen, found.as_mut_ptr())
+            ffi::tsc_seat_get_max(
+                &mut self.place,
+                self.number,
+                from.as_ptr(),
+                from.len(),
+                to.as_ptr(),
+                to.len(),
+                ends,
+                &mut seen,
+                found.as_mut_ptr(),
+            )
         });
         (unsafe { found.assume_init() }.into(), seen)
     }
@@ -531,7 +662,9 @@ impl Seat {
     pub fn low_water(&mut self) -> (Time, u64) {
         let (mut seen, mut floor) = (0, MaybeUninit::uninit());
         // it is refused only where the number names no seat
-        answered(unsafe { ffi::tsc_seat_low_water(&mut self.place, self.number, &mut seen, floor.as_mut_ptr()) });
+        answered(unsafe {
+            ffi::tsc_seat_low_water(&mut self.place, self.number, &mut seen, floor.as_mut_ptr())
+        });
         (unsafe { floor.assume_init() }, seen)
     }
 
@@ -540,7 +673,9 @@ impl Seat {
     pub fn figures(&mut self) -> (Figures, u64) {
         let (mut seen, mut figures) = (0, MaybeUninit::uninit());
         // it is refused only where the number names no seat
-        answered(unsafe { ffi::tsc_seat_figures_of(&mut self.place, self.number, &mut seen, figures.as_mut_ptr()) });
+        answered(unsafe {
+            ffi::tsc_seat_figures_of(&mut self.place, self.number, &mut seen, figures.as_mut_ptr())
+        });
         (unsafe { figures.assume_init() }, seen)
     }
 }
@@ -563,7 +698,14 @@ mod tests {
     }
 
     fn small() -> Cache {
-        Cache::open(&Config { page_first: 132, page_max: 132, min_pages: 2, retention: 10, low_water: Time::new(5, 0) }).unwrap()
+        Cache::open(&Config {
+            page_first: 132,
+            page_max: 132,
+            min_pages: 2,
+            retention: 10,
+            low_water: Time::new(5, 0),
+        })
+        .unwrap()
     }
 
     #[test]
@@ -571,7 +713,10 @@ mod tests {
         let mut cache = small();
         let now = Time::new(20, 0);
         let open = Span::Range { from: b"a", to: b"c", exclude_from: true, exclude_to: true };
-        assert_eq!(cache.add(&open, at(20, ONE), now), Ok(Added { kept: true, rotated: false, evicted: 0 }));
+        assert_eq!(
+            cache.add(&open, at(20, ONE), now),
+            Ok(Added { kept: true, rotated: false, evicted: 0 })
+        );
         assert_eq!(cache.get_max(&Span::Point(b"a")), at(5, None));
         assert_eq!(cache.get_max(&Span::Point(b"b")), at(20, ONE));
         cache.add(&Span::Onward { from: b"b", exclude_from: false }, at(20, TWO), now).unwrap();
@@ -586,12 +731,18 @@ mod tests {
         for key in [b"a", b"b", b"c", b"d"] {
             assert!(cache.add(&Span::Point(key), at(20, ONE), Time::new(20, 0)).unwrap().kept);
         }
-        assert_eq!(cache.add(&Span::Point(b"e"), at(20, ONE), Time::new(20, 0)), Ok(Added { kept: true, rotated: true, evicted: 0 }));
+        assert_eq!(
+            cache.add(&Span::Point(b"e"), at(20, ONE), Time::new(20, 0)),
+            Ok(Added { kept: true, rotated: true, evicted: 0 })
+        );
         assert_eq!(cache.figures(), Figures { pages: 2, rotations: 1, nodes: 5, bytes: 165 });
         for key in [b"f", b"g", b"h"] {
             cache.add(&Span::Point(key), at(41, ONE), Time::new(40, 0)).unwrap();
         }
-        assert_eq!(cache.add(&Span::Point(b"i"), at(41, ONE), Time::new(40, 0)), Ok(Added { kept: true, rotated: true, evicted: 1 }));
+        assert_eq!(
+            cache.add(&Span::Point(b"i"), at(41, ONE), Time::new(40, 0)),
+            Ok(Added { kept: true, rotated: true, evicted: 1 })
+        );
         assert_eq!(cache.figures(), Figures { pages: 2, rotations: 2, nodes: 5, bytes: 165 });
         assert_eq!(cache.low_water(), Time::new(20, 0));
         assert_eq!(cache.get_max(&Span::Point(b"a")), at(20, None));
@@ -606,9 +757,18 @@ mod tests {
         assert_eq!(cache.add(&Span::Point(&[0; 101]), at(20, ONE), now), Err(Error::TooLarge));
         assert_eq!(cache.add(&Span::until(b"c", b"a"), at(20, ONE), now), Err(Error::Inverted));
         assert_eq!(cache.add(&Span::Point(b"a"), at(1 << 63, ONE), now), Err(Error::Time));
-        assert_eq!(cache.add(&Span::Point(b"a"), at(20, ONE), Time::new(0, 1 << 31)), Err(Error::Time));
-        assert_eq!(Cache::open(&Config { min_pages: 0, ..Config::default() }).err(), Some(Error::MinPages));
-        assert_eq!(Cache::open(&Config { retention: 1 << 63, ..Config::default() }).err(), Some(Error::Retention));
+        assert_eq!(
+            cache.add(&Span::Point(b"a"), at(20, ONE), Time::new(0, 1 << 31)),
+            Err(Error::Time)
+        );
+        assert_eq!(
+            Cache::open(&Config { min_pages: 0, ..Config::default() }).err(),
+            Some(Error::MinPages)
+        );
+        assert_eq!(
+            Cache::open(&Config { retention: 1 << 63, ..Config::default() }).err(),
+            Some(Error::Retention)
+        );
         assert_eq!(cache.figures(), Figures { pages: 1, rotations: 0, nodes: 0, bytes: 0 });
     }
 
@@ -622,22 +782,55 @@ mod tests {
         assert_eq!((cache.get_max(&Span::Point(b"a")), cache.low_water()), (value, time(5)));
         let (_shared, mut seats) = Shared::open(&config, 1, 2).unwrap();
         for place in 0..2 {
-            assert_eq!(seats[0].add(&Span::Point(b"a"), value, time(20), 1).map(|told| told.0), Ok(place));
+            assert_eq!(
+                seats[0].add(&Span::Point(b"a"), value, time(20), 1).map(|told| told.0),
+                Ok(place)
+            );
         }
-        assert_eq!((seats[0].get_max(&Span::Point(b"a")), seats[0].low_water()), ((value, 2), (time(5), 2)));
+        assert_eq!(
+            (seats[0].get_max(&Span::Point(b"a")), seats[0].low_water()),
+            ((value, 2), (time(5), 2))
+        );
     }
 
     #[test]
     fn defaults_and_texts() {
-        let config = Config { page_first: 131_072, page_max: 33_554_432, min_pages: 2, retention: 10_000_000_000, low_water: Time::new(0, 0) };
+        let config = Config {
+            page_first: 131_072,
+            page_max: 33_554_432,
+            min_pages: 2,
+            retention: 10_000_000_000,
+            low_water: Time::new(0, 0),
+        };
         assert_eq!(Config::default(), config);
-        let faults = [Error::Time, Error::KeyTooLong, Error::Inverted, Error::TooLarge, Error::PageSize, Error::MinPages];
-        let texts = ["a time is out of range", "a key is too long", "the range is inverted", "the span is too large for a page"];
+        let faults = [
+            Error::Time,
+            Error::KeyTooLong,
+            Error::Inverted,
+            Error::TooLarge,
+            Error::PageSize,
+            Error::MinPages,
+        ];
+        let texts = [
+            "a time is out of range",
+            "a key is too long",
+            "the range is inverted",
+            "the span is too large for a page",
+        ];
         assert_eq!(faults.map(|why| why.to_string())[..4], texts);
-        assert_eq!(faults[4].to_string(), "page_first is 64 to page_max, and page_max is at most 2^30");
+        assert_eq!(
+            faults[4].to_string(),
+            "page_first is 64 to page_max, and page_max is at most 2^30"
+        );
         assert_eq!(faults[5].to_string(), "min_pages is 1 to 64");
         let faults = [Error::NoMemory, Error::Seats, Error::Busy, Error::Full, Error::Other(99)];
-        let texts = ["out of memory", "seats are 1 to 64", "others were in the way", "there are as many Adds as there may be", "code 99 of the library"];
+        let texts = [
+            "out of memory",
+            "seats are 1 to 64",
+            "others were in the way",
+            "there are as many Adds as there may be",
+            "code 99 of the library",
+        ];
         assert_eq!(faults.map(|why| why.to_string()), texts);
         assert_eq!(Error::Retention.to_string(), "retention is at most 2^63 - 1 nanoseconds");
     }
@@ -686,6 +879,42 @@ mod tests {
         assert_eq!(shared.close().unwrap(), accepted);
     }
 
+    /// Each code of `tscache.h` is one error, with a text of its own.
+    #[test]
+    fn codes() {
+        let rows = [
+            (2, Error::Time),
+            (4, Error::KeyTooLong),
+            (5, Error::Inverted),
+            (6, Error::TooLarge),
+            (8, Error::PageSize),
+            (9, Error::MinPages),
+            (10, Error::Retention),
+            (11, Error::NoMemory),
+            (12, Error::Seats),
+            (14, Error::Busy),
+            (15, Error::Full),
+            (1, Error::Other(1)),
+            (13, Error::Other(13)),
+            (99, Error::Other(99)),
+        ];
+        for (code, wanted) in rows {
+            assert_eq!(done(code), Err(wanted));
+            let alike = rows.iter().filter(|(_, other)| other.to_string() == wanted.to_string());
+            assert_eq!(alike.count(), 1, "{wanted}");
+        }
+        assert_eq!(done(0), Ok(()));
+    }
+
+    /// What threads use at once lies apart.
+    #[test]
+    fn seats_lie_apart() {
+        assert!(std::mem::align_of::<Cache>() >= 128 && std::mem::align_of::<Seat>() >= 128);
+        let (_shared, seats) = Shared::open(&Config::default(), 64, 9).unwrap();
+        let at: Vec<_> = seats.iter().map(|seat| seat as *const Seat as usize).collect();
+        assert!(at.windows(2).all(|two| two[0] % 128 == 0 && two[1] - two[0] >= 128));
+    }
+
     #[test]
     fn seats() {
         assert_eq!(Shared::open(&Config::default(), 65, 9).err(), Some(Error::Seats));
@@ -694,10 +923,19 @@ mod tests {
         let now = Time::new(20, 0);
         assert_eq!(seats[0].add(&Span::Point(b"a"), at(20, ONE), now, 0), Err(Error::Busy));
         assert_eq!(seats[0].add_all(&[], now, 0), Err(Error::Busy));
-        let marks = [Mark { span: Span::Point(b"a"), value: at(20, ONE) }, Mark { span: Span::Point(b"b"), value: at(21, TWO) }];
-        assert_eq!(seats[0].add_all(&marks, now, 1), Ok((0, Added { kept: true, rotated: false, evicted: 0 })));
+        let marks = [
+            Mark { span: Span::Point(b"a"), value: at(20, ONE) },
+            Mark { span: Span::Point(b"b"), value: at(21, TWO) },
+        ];
+        assert_eq!(
+            seats[0].add_all(&marks, now, 1),
+            Ok((0, Added { kept: true, rotated: false, evicted: 0 }))
+        );
         assert_eq!(seats[1].get_max(&Span::until(b"a", &[b'z'; 5000])), (at(21, TWO), 1));
-        assert_eq!(seats[1].figures(), (Figures { pages: 1, rotations: 0, nodes: 2, bytes: 66 }, 1));
+        assert_eq!(
+            seats[1].figures(),
+            (Figures { pages: 1, rotations: 0, nodes: 2, bytes: 66 }, 1)
+        );
         assert_eq!(seats[1].add(&Span::Point(b"a"), at(20, ONE), now, 1), Err(Error::Full));
         drop(seats);
         assert_eq!(shared.close().unwrap(), 1);

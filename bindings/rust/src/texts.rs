@@ -25,7 +25,8 @@ impl fmt::Display for TextError {
 
 impl std::error::Error for TextError {}
 
-/// Replays a trace on one thread, and gives the text of its log. A trace has 16,777,216 bytes at the most.
+/// Replays a trace on one thread, and gives the text of its log. A trace has 16,777,216 bytes at
+/// the most.
 ///
 /// ```
 /// let trace = br#"{"page_first":132,"page_max":132,"min_pages":2,"retention":10,"low_water":[5,0],
@@ -38,20 +39,32 @@ impl std::error::Error for TextError {}
 /// # Ok::<(), tscache::TextError>(())
 /// ```
 pub fn replay(trace: &[u8]) -> Result<Vec<u8>, TextError> {
-    // SAFETY: each pointer comes from a slice or a reference that lives through the call, and what is written to is the vector's own,
-    // of which no one else has a reference, and a local
-    told(|out, len| unsafe { ffi::tsc_replay(trace.as_ptr(), trace.len(), out.as_mut_ptr(), out.len(), len) })
-}
-
-/// Checks a log against its trace, and gives the line of the verdict. A log has 16,777,216 bytes at the most, as a trace has.
-pub fn check(trace: &[u8], log: &[u8]) -> Result<Vec<u8>, TextError> {
-    // SAFETY: as of `replay`
+    // SAFETY: each pointer comes from a slice or a reference that lives through the call, and what
+    // is written to is the vector's own, of which no one else has a reference, and a local
     told(|out, len| unsafe {
-        ffi::tsc_check(trace.as_ptr(), trace.len(), log.as_ptr(), log.len(), out.as_mut_ptr(), out.len(), len)
+        ffi::tsc_replay(trace.as_ptr(), trace.len(), out.as_mut_ptr(), out.len(), len)
     })
 }
 
-/// Asks with room for a short text, and where that is too little once more, with as much as it takes.
+/// Checks a log against its trace, and gives the line of the verdict. A log has 16,777,216 bytes
+/// at the most, as a trace has.
+pub fn check(trace: &[u8], log: &[u8]) -> Result<Vec<u8>, TextError> {
+    // SAFETY: as of `replay`
+    told(|out, len| unsafe {
+        ffi::tsc_check(
+            trace.as_ptr(),
+            trace.len(),
+            log.as_ptr(),
+            log.len(),
+            out.as_mut_ptr(),
+            out.len(),
+            len,
+        )
+    })
+}
+
+/// Asks with room for a short text, and where that is too little once more, with as much as it
+/// takes.
 fn told(ask: impl Fn(&mut [u8], &mut usize) -> u32) -> Result<Vec<u8>, TextError> {
     let mut room = 4096;
     loop {
@@ -77,6 +90,7 @@ fn told(ask: impl Fn(&mut [u8], &mut usize) -> u32) -> Result<Vec<u8>, TextError
 #[cfg(test)]
 mod tests {
     use super::*;
+    use std::cell::RefCell;
 
     /// A trace of so many lookups, and its log.
     fn lookups(count: usize) -> (String, String) {
@@ -100,6 +114,29 @@ mod tests {
         }
     }
 
+    /// A text that is longer than the first room is asked for once more, with as much room as it
+    /// was told to take.
+    #[test]
+    fn room_for_texts() {
+        let rows: [(usize, &[usize]); 4] =
+            [(0, &[4096]), (4096, &[4096]), (4097, &[4096, 4097]), (70_001, &[4096, 70_001])];
+        for (length, wanted) in rows {
+            let rooms = RefCell::new(Vec::new());
+            let text = told(|out, len| {
+                rooms.borrow_mut().push(out.len());
+                *len = length;
+                if out.len() < length {
+                    17
+                } else {
+                    0
+                }
+            });
+            assert_eq!(text.map(|text| text.len()), Ok(length));
+            assert_eq!(rooms.into_inner(), wanted);
+        }
+        assert_eq!(told(|_, _| 11), Err(TextError::NoMemory));
+    }
+
     #[test]
     fn refused_bytes() {
         let (trace, log) = lookups(1);
@@ -108,6 +145,9 @@ mod tests {
         assert_eq!(check(b"", b""), refused("trace refused: fault 1"));
         assert_eq!(check(log.as_bytes(), trace.as_bytes()), refused("trace refused: fault 1"));
         assert_eq!(check(trace.as_bytes(), b"0 0 get"), refused("log refused: fault 1 at line 1"));
-        assert_eq!(TextError::Refused("trace refused: fault 1".into()).to_string(), "trace refused: fault 1");
+        assert_eq!(
+            TextError::Refused("trace refused: fault 1".into()).to_string(),
+            "trace refused: fault 1"
+        );
     }
 }

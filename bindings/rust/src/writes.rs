@@ -1,4 +1,5 @@
-//! When a write is clear of reads: the same calls as those of the crate `timestamp_cache`, over what lookups answer.
+//! When a write is clear of reads: the same calls as those of the crate `timestamp_cache`, over
+//! what lookups answer.
 use crate::{Cache, Seat, Span, Time, Value};
 
 const MOST_WALL: u64 = i64::MAX as u64;
@@ -25,15 +26,16 @@ impl Time {
     }
 }
 
-/// Whether a write of a transaction at some time is clear of a read, or of what a lookup answers: that one is earlier, or it is at the same time and
-/// the transaction's own.
+/// Whether a write of a transaction at some time is clear of a read, or of what a lookup answers:
+/// that one is earlier, or it is at the same time and the transaction's own.
 #[inline]
 pub fn is_clear_of(read: Value, at: Time, by: [u8; 16]) -> bool {
     read.time < at || (read.time == at && read.owner == Some(by))
 }
 
-/// The earliest time, not before `at`, at which a write of a transaction is clear of a read, or of what a lookup answers: `at` itself, the time of an
-/// own read that is later, or else the time after the read's. It is `None` where that is the last one, and not the transaction's own.
+/// The earliest time, not before `at`, at which a write of a transaction is clear of a read, or of
+/// what a lookup answers: `at` itself, the time of an own read that is later, or else the time
+/// after the read's. It is `None` where that is the last one, and not the transaction's own.
 ///
 /// ```
 /// use tscache::{earliest_clear_of, Time, Value};
@@ -54,21 +56,29 @@ pub fn earliest_clear_of(read: Value, at: Time, by: [u8; 16]) -> Option<Time> {
     }
 }
 
-/// The earliest time, not before `at`, at which a write is clear of what a lookup of each of some spans answers.
+/// The earliest time, not before `at`, at which a write is clear of what a lookup of each of some
+/// spans answers.
 #[inline]
-fn earliest(spans: &[Span<'_>], at: Time, by: [u8; 16], mut latest: impl FnMut(&Span<'_>) -> Value) -> Option<Time> {
+fn earliest(
+    spans: &[Span<'_>],
+    at: Time,
+    by: [u8; 16],
+    mut latest: impl FnMut(&Span<'_>) -> Value,
+) -> Option<Time> {
     spans.iter().try_fold(at, |time, span| earliest_clear_of(latest(span), time, by))
 }
 
 impl Cache {
-    /// Whether a transaction may write a span at some time: whether that is clear of what a lookup of the span answers, and so of each read that was
-    /// added there, also of one that was dropped since.
+    /// Whether a transaction may write a span at some time: whether that is clear of what a lookup
+    /// of the span answers, and so of each read that was added there, also of one that was dropped
+    /// since.
     #[inline]
     pub fn may_write(&mut self, span: &Span<'_>, at: Time, by: [u8; 16]) -> bool {
         is_clear_of(self.get_max(span), at, by)
     }
 
-    /// The earliest time, not before `at`, at which a transaction may write all of these spans; `None` where there is none. It costs a lookup for each.
+    /// The earliest time, not before `at`, at which a transaction may write all of these spans;
+    /// `None` where there is none. It costs a lookup for each.
     ///
     /// ```
     /// use tscache::{Cache, Config, Error, Span, Time, Value};
@@ -110,7 +120,8 @@ mod tests {
     const TWO: [u8; 16] = [0x22; 16];
     const LAST: Time = Time::new(MOST_WALL, MOST_LOGICAL);
 
-    /// A read, the time and the transaction of a write, and the earliest time at which that is clear.
+    /// A read, the time and the transaction of a write, and the earliest time at which that is
+    /// clear.
     type Row = ((Time, Option<[u8; 16]>), Time, [u8; 16], Option<Time>);
 
     #[test]
@@ -132,7 +143,7 @@ mod tests {
             let told = earliest_clear_of(read, at, by);
             assert_eq!(told, wanted, "row {row}");
             assert_eq!(is_clear_of(read, at, by), told == Some(at), "row {row}");
-            assert!(told.is_none_or(|told| is_clear_of(read, told, by)), "row {row}");
+            assert!(told.map_or(true, |told| is_clear_of(read, told, by)), "row {row}");
         }
     }
 
@@ -144,7 +155,10 @@ mod tests {
         let spans = [Span::Point(b"b"), Span::until(b"a", b"b")];
         assert_eq!(seats[1].earliest_write(&spans, Time::new(15, 0), TWO), Some(Time::new(20, 1)));
         assert_eq!(seats[1].earliest_write(&spans, Time::new(15, 0), ONE), Some(Time::new(20, 0)));
-        assert!(!seats[1].may_write(&spans[1], Time::new(20, 0), TWO) && seats[1].may_write(&spans[1], Time::new(20, 0), ONE));
+        assert!(
+            !seats[1].may_write(&spans[1], Time::new(20, 0), TWO)
+                && seats[1].may_write(&spans[1], Time::new(20, 0), ONE)
+        );
         drop(seats);
         assert_eq!(shared.close().unwrap(), 1);
     }

@@ -1,0 +1,118 @@
+/* Opens and drops caches, shared caches and seats 2,000 times each, and looks that as much memory
+ * is handed out after as before. It says at the end `N passed, M failed`. It needs glibc's
+ * `mallinfo2`; elsewhere it checks the calls alone. */
+#include "tscache.h"
+
+#include <malloc.h>
+#include <stdio.h>
+
+/* So many bytes less than 2,000 of the least that a leak would be. */
+enum { TIMES = 2000, MOST = 16384 };
+
+static int passed, failed;
+
+static void check(bool holds, const char *what)
+{
+    if (holds) {
+        passed++;
+    } else {
+        failed++;
+        printf("test_leaks.c: %s\n", what);
+    }
+}
+
+static size_t in_use(void)
+{
+#if defined(__GLIBC__) && (__GLIBC__ > 2 || (__GLIBC__ == 2 && __GLIBC_MINOR__ >= 33))
+    struct mallinfo2 info = mallinfo2();
+    return info.uordblks + info.hblkhd;
+#else
+    return 0;
+#endif
+}
+
+static const tsc_time LOW = {5, 0}, NOW = {20, 0};
+static const tsc_value READ = {20, 0, {0x11}};
+
+static uint32_t add(tsc_place *place, uint64_t n)
+{
+    tsc_added a;
+    return tsc_add(place, n, (const uint8_t *)"a", 1, (const uint8_t *)"", 0, TSC_POINT, &READ,
+                   &NOW, &a);
+}
+
+static uint32_t seat_add(tsc_place *place, uint64_t seat)
+{
+    tsc_added a;
+    uint64_t at;
+    return tsc_seat_add(place, seat, (const uint8_t *)"a", 1, (const uint8_t *)"", 0, TSC_POINT,
+                        &READ, &NOW, 64, &at, &a);
+}
+
+/* Each of these opens something and drops it, and says whether each call did what it should. */
+
+static bool caches(void)
+{
+    tsc_place place = {NULL};
+    uint64_t n;
+    bool is_right =
+        tsc_open(&place, 132, 132, 2, 10, &LOW, &n) == TSC_OK && add(&place, n) == TSC_OK;
+    tsc_free(&place);
+    return is_right && place.at == NULL;
+}
+
+static bool refused_ones(void)
+{
+    tsc_place place = {NULL};
+    uint64_t n;
+    bool is_right = tsc_open(&place, 132, 132, 0, 10, &LOW, &n) == TSC_MIN_PAGES &&
+                    tsc_open_shared(&place, 132, 132, 2, 10, &LOW, 65, 9, &n) == TSC_SEATS &&
+                    tsc_close(&place, 0) == TSC_CLOSED;
+    tsc_free(&place);
+    return is_right;
+}
+
+static bool shared_ones(bool closes)
+{
+    tsc_place place = {NULL}, other = {NULL};
+    uint64_t n, seat, adds;
+    bool is_right = tsc_open_shared(&place, 132, 132, 2, 10, &LOW, 2, 9, &n) == TSC_OK &&
+                    tsc_move(&place, n + 2, &other, &seat) == TSC_OK &&
+                    seat_add(&other, seat) == TSC_OK;
+    if (closes)
+        is_right = is_right && tsc_seat_close(&other, seat) == TSC_OK &&
+                   tsc_seat_close(&place, n + 1) == TSC_OK &&
+                   tsc_close_shared(&place, n, &adds) == TSC_OK && adds == 1;
+    tsc_free(&place);
+    tsc_free(&other);
+    return is_right;
+}
+
+static bool shared_caches(void) { return shared_ones(true); }
+
+static bool shared_caches_with_their_seats(void) { return shared_ones(false); }
+
+static void leaves(bool (*run)(void), const char *what)
+{
+    bool is_right = true;
+    for (int i = 0; i < TIMES / 10; i++)
+        is_right = run() && is_right;
+    size_t before = in_use();
+    for (int i = 0; i < TIMES; i++)
+        is_right = run() && is_right;
+    size_t after = in_use();
+    check(is_right, what);
+    check(after <= before + MOST, what);
+    if (after > before + MOST)
+        printf("%d %s leave %zu bytes\n", TIMES, what, after - before);
+}
+
+int main(void)
+{
+    leaves(caches, "caches");
+    leaves(refused_ones, "refused ones");
+    leaves(shared_caches, "shared caches");
+    leaves(shared_caches_with_their_seats, "shared caches with their seats");
+    printf("%d passed, %d failed\n", passed, failed);
+    return failed != 0;
+}

@@ -1,0 +1,392 @@
+/* Plays the rows of bindings/rows.txt, whose head says what they are, on a cache, by one seat of
+ * a shared cache, and by three seats in turn. It says at the end `N passed, M failed`. */
+#include "tscache.h"
+
+#include <inttypes.h>
+#include <stdio.h>
+#include <stdlib.h>
+#include <string.h>
+
+enum { WORDS = 64, LONGEST = 5008, MARKS = 16, CHAIRS = 3 };
+
+static int passed, failed;
+
+/* A line: its words, before `=` and behind it. */
+struct line {
+    char *word[WORDS];
+    int words, calls;
+};
+
+static void wrong_row(const char *why)
+{
+    fprintf(stderr, "rows.txt: %s\n0 passed, 1 failed\n", why);
+    exit(1);
+}
+
+static struct line split(char *text)
+{
+    struct line l = {{NULL}, 0, -1};
+    for (char *word = strtok(text, " \n"); word; word = strtok(NULL, " \n")) {
+        if (strcmp(word, "=") == 0)
+            l.calls = l.words;
+        else if (l.words < WORDS)
+            l.word[l.words++] = word;
+        else
+            wrong_row("a line of too many words");
+    }
+    return l;
+}
+
+/* Spans. */
+
+struct span {
+    uint8_t from[LONGEST], to[LONGEST];
+    size_t from_len, to_len;
+    uint32_t ends;
+};
+
+/* Reads a key up to one of `ends`, and gives what lies behind it. */
+static const char *key(const char *text, const char *ends, uint8_t *bytes, size_t *len)
+{
+    *len = 0;
+    while (*text && !strchr(ends, *text) && strncmp(text, "..", 2) != 0) {
+        char digits[3] = {0}, *rest = NULL;
+        uint8_t byte = (uint8_t)*text++;
+        if (byte == '%') {
+            memcpy(digits, text, 2);
+            byte = (uint8_t)strtoul(digits, NULL, 16);
+            text += 2;
+        }
+        unsigned long times = *text == '*' ? strtoul(text + 1, &rest, 10) : 1;
+        if (rest)
+            text = rest;
+        if (*len + times > LONGEST)
+            wrong_row("a key that is too long for this player");
+        memset(bytes + *len, byte, times);
+        *len += times;
+    }
+    return text;
+}
+
+static struct span span_of(const char *text)
+{
+    struct span s = {{0}, {0}, 0, 0, text[0] == '(' ? TSC_EXCLUDE_FROM : 0};
+    text = key(text + 1, ",])", s.from, &s.from_len);
+    if (strcmp(text, "]") == 0) {
+        s.ends = TSC_POINT;
+    } else if (strcmp(text, "..]") == 0) {
+        s.ends |= TSC_ONWARD;
+    } else {
+        text = key(text + 1, "])", s.to, &s.to_len);
+        s.ends |= *text == ')' ? TSC_EXCLUDE_TO : 0;
+    }
+    return s;
+}
+
+static tsc_time time_of(const char *text)
+{
+    char *dot;
+    tsc_time t = {strtoull(text, &dot, 10), 0};
+    t.logical = (uint32_t)strtoul(dot + 1, NULL, 10);
+    return t;
+}
+
+static tsc_value value_of(const char *time, const char *owner)
+{
+    tsc_time t = time_of(time);
+    tsc_value v = {t.wall, t.logical, {0}};
+    memset(v.owner, owner[0] == '-' ? 0 : owner[0], 16);
+    return v;
+}
+
+static const char *name_of(uint32_t answer)
+{
+    switch (answer) {
+    case TSC_OK: return "done";
+    case TSC_TIME: return "time";
+    case TSC_KEY_TOO_LONG: return "key_too_long";
+    case TSC_INVERTED: return "inverted";
+    case TSC_TOO_LARGE: return "too_large";
+    case TSC_PAGE_SIZE: return "page_size";
+    case TSC_MIN_PAGES: return "min_pages";
+    case TSC_RETENTION: return "retention";
+    case TSC_SEATS: return "seats";
+    case TSC_BUSY: return "busy";
+    case TSC_FULL: return "full";
+    default: return tsc_text(answer);
+    }
+}
+
+/* What a case is played on: a cache where there are no seats. */
+struct table {
+    tsc_place opened, places[CHAIRS];
+    uint64_t number, numbers[CHAIRS], adds;
+    uint32_t seats, turn, tries;
+    bool is_right; /* the places of Adds, and what seats have seen */
+};
+
+static void close_table(struct table *t)
+{
+    for (uint32_t i = 0; i < t->seats; i++)
+        tsc_free(&t->places[i]);
+    tsc_free(&t->opened);
+    t->adds = t->turn = 0;
+}
+
+static uint32_t open_table(struct table *t, char *const *word)
+{
+    tsc_time low = time_of(word[5]);
+    uint32_t first = (uint32_t)strtoul(word[1], NULL, 10),
+             max = (uint32_t)strtoul(word[2], NULL, 10),
+             pages = (uint32_t)strtoul(word[3], NULL, 10);
+    uint64_t retention = strtoull(word[4], NULL, 10);
+    close_table(t);
+    if (t->seats == 0)
+        return tsc_open(&t->opened, first, max, pages, retention, &low, &t->number);
+    uint32_t answer = tsc_open_shared(&t->opened, first, max, pages, retention, &low, t->seats,
+                                      strtoull(word[6], NULL, 10), &t->number);
+    for (uint32_t i = 0; answer == TSC_OK && i < t->seats; i++)
+        answer = tsc_move(&t->opened, t->number + 1 + i, &t->places[i], &t->numbers[i]);
+    return answer;
+}
+
+/* The seat whose turn it is. */
+static uint32_t next_seat(struct table *t) { return t->turn++ % t->seats; }
+
+static void has_seen(struct table *t, uint32_t answer, uint64_t seen)
+{
+    t->is_right = t->is_right && (answer != TSC_OK || seen == t->adds);
+}
+
+static void is_added(struct table *t, uint32_t answer, uint64_t place)
+{
+    has_seen(t, answer, place);
+    t->adds += answer == TSC_OK;
+}
+
+static uint32_t add(struct table *t, const struct span *s, const tsc_value *v, const tsc_time *now,
+                    tsc_added *out)
+{
+    if (t->seats == 0)
+        return tsc_add(&t->opened, t->number, s->from, s->from_len, s->to, s->to_len, s->ends, v,
+                       now, out);
+    uint32_t i = next_seat(t);
+    uint64_t place = 0;
+    uint32_t answer = tsc_seat_add(&t->places[i], t->numbers[i], s->from, s->from_len, s->to,
+                                   s->to_len, s->ends, v, now, t->tries, &place, out);
+    is_added(t, answer, place);
+    return answer;
+}
+
+static uint32_t add_all(struct table *t, const uint8_t *keys, size_t keys_len,
+                        const tsc_mark *marks, size_t len, const tsc_time *now, tsc_added *out)
+{
+    if (t->seats == 0)
+        return tsc_add_all(&t->opened, t->number, keys, keys_len, marks, len, now, out);
+    uint32_t i = next_seat(t);
+    uint64_t place = 0;
+    uint32_t answer = tsc_seat_add_all(&t->places[i], t->numbers[i], keys, keys_len, marks, len,
+                                       now, t->tries, &place, out);
+    is_added(t, answer, place);
+    return answer;
+}
+
+static uint32_t get_max(struct table *t, const struct span *s, tsc_value *out)
+{
+    if (t->seats == 0)
+        return tsc_get_max(&t->opened, t->number, s->from, s->from_len, s->to, s->to_len, s->ends,
+                           out);
+    uint32_t i = next_seat(t);
+    uint64_t seen = 0;
+    uint32_t answer = tsc_seat_get_max(&t->places[i], t->numbers[i], s->from, s->from_len, s->to,
+                                       s->to_len, s->ends, &seen, out);
+    has_seen(t, answer, seen);
+    return answer;
+}
+
+static uint32_t low_water(struct table *t, tsc_time *out)
+{
+    if (t->seats == 0)
+        return tsc_low_water(&t->opened, t->number, out);
+    uint32_t i = next_seat(t);
+    uint64_t seen = 0;
+    uint32_t answer = tsc_seat_low_water(&t->places[i], t->numbers[i], &seen, out);
+    has_seen(t, answer, seen);
+    return answer;
+}
+
+static uint32_t figures_of(struct table *t, tsc_figures *out)
+{
+    if (t->seats == 0)
+        return tsc_figures_of(&t->opened, t->number, out);
+    uint32_t i = next_seat(t);
+    uint64_t seen = 0;
+    uint32_t answer = tsc_seat_figures_of(&t->places[i], t->numbers[i], &seen, out);
+    has_seen(t, answer, seen);
+    return answer;
+}
+
+/* The rule of tscache.h. */
+
+static bool is_clear_of(const tsc_value *read, tsc_time at, const uint8_t by[16])
+{
+    tsc_time time = {read->wall, read->logical};
+    return tsc_before(time, at) || (!tsc_before(at, time) && memcmp(read->owner, by, 16) == 0);
+}
+
+static bool earliest(struct table *t, char *const *spans, int count, tsc_time *at,
+                     const uint8_t by[16])
+{
+    for (int i = 0; i < count; i++) {
+        struct span s = span_of(spans[i]);
+        tsc_value read;
+        t->is_right = get_max(t, &s, &read) == TSC_OK && t->is_right;
+        if (is_clear_of(&read, *at, by))
+            continue;
+        *at = (tsc_time){read.wall, read.logical};
+        if (memcmp(read.owner, by, 16) != 0 && !tsc_next(*at, at))
+            return false;
+    }
+    return true;
+}
+
+/* Calls. Each writes what it was answered as the rows say it. */
+
+static void say_added(char *told, uint32_t answer, const tsc_added *a)
+{
+    if (answer != TSC_OK)
+        strcpy(told, name_of(answer));
+    else
+        sprintf(told, "%d %d %" PRIu64, a->kept, a->rotated, a->evicted);
+}
+
+static void batch(struct table *t, const struct line *l, char *told)
+{
+    static uint8_t keys[2 * MARKS * LONGEST];
+    static const tsc_mark none;
+    tsc_mark marks[MARKS] = {none};
+    tsc_time now = time_of(l->word[1]);
+    tsc_added a;
+    size_t len = 0, count = 0;
+    for (int i = 2; i + 2 < l->calls; i += 3) {
+        struct span s = span_of(l->word[i]);
+        if (count == MARKS)
+            wrong_row("a batch of too many marks");
+        marks[count++] = (tsc_mark){len,
+                                    s.from_len,
+                                    len + s.from_len,
+                                    s.to_len,
+                                    value_of(l->word[i + 1], l->word[i + 2]),
+                                    s.ends};
+        memcpy(keys + len, s.from, s.from_len);
+        memcpy(keys + len + s.from_len, s.to, s.to_len);
+        len += s.from_len + s.to_len;
+    }
+    say_added(told, add_all(t, keys, len, marks, count, &now, &a), &a);
+}
+
+static void call(struct table *t, const struct line *l, char *told)
+{
+    char *const *w = l->word;
+    tsc_added a;
+    if (strcmp(w[0], "open") == 0) {
+        strcpy(told, name_of(open_table(t, w)));
+    } else if (strcmp(w[0], "chairs") == 0) {
+        tsc_place place = {NULL};
+        tsc_time low = {5, 0};
+        uint64_t n;
+        strcpy(told, name_of(tsc_open_shared(&place, 132, 132, 2, 10, &low,
+                                             (uint32_t)strtoul(w[1], NULL, 10), 9, &n)));
+        tsc_free(&place);
+    } else if (strcmp(w[0], "tries") == 0) {
+        t->tries = (uint32_t)strtoul(w[1], NULL, 10);
+        strcpy(told, "done");
+    } else if (strcmp(w[0], "add") == 0) {
+        struct span s = span_of(w[1]);
+        tsc_value v = value_of(w[2], w[3]);
+        tsc_time now = time_of(w[4]);
+        say_added(told, add(t, &s, &v, &now, &a), &a);
+    } else if (strcmp(w[0], "batch") == 0) {
+        batch(t, l, told);
+    } else if (strcmp(w[0], "get") == 0) {
+        struct span s = span_of(w[1]);
+        tsc_value v;
+        uint32_t answer = get_max(t, &s, &v);
+        if (answer == TSC_OK)
+            sprintf(told, "%" PRIu64 ".%" PRIu32 " %c", v.wall, v.logical,
+                    v.owner[0] ? v.owner[0] : '-');
+        for (int i = 1; answer == TSC_OK && i < 16; i++)
+            t->is_right = t->is_right && v.owner[i] == v.owner[0];
+    } else if (strcmp(w[0], "low") == 0) {
+        tsc_time low;
+        if (low_water(t, &low) == TSC_OK)
+            sprintf(told, "%" PRIu64 ".%" PRIu32, low.wall, low.logical);
+    } else if (strcmp(w[0], "figures") == 0) {
+        tsc_figures f;
+        if (figures_of(t, &f) == TSC_OK)
+            sprintf(told, "%" PRIu64 " %" PRIu64 " %" PRIu64 " %" PRIu64, f.pages, f.rotations,
+                    f.nodes, f.bytes);
+    } else if (strcmp(w[0], "may") == 0) {
+        struct span s = span_of(w[1]);
+        tsc_value read, wanted = value_of(w[2], w[3]);
+        if (get_max(t, &s, &read) == TSC_OK)
+            strcpy(told, is_clear_of(&read, time_of(w[2]), wanted.owner) ? "yes" : "no");
+    } else if (strcmp(w[0], "earliest") == 0) {
+        tsc_time at = time_of(w[1]);
+        tsc_value wanted = value_of(w[1], w[2]);
+        if (!earliest(t, w + 3, l->calls - 3, &at, wanted.owner))
+            strcpy(told, "none");
+        else
+            sprintf(told, "%" PRIu64 ".%" PRIu32, at.wall, at.logical);
+    } else {
+        wrong_row(w[0]);
+    }
+}
+
+static void play(FILE *file, uint32_t seats)
+{
+    static char text[8192], copy[8192];
+    struct table t = {0};
+    bool is_played = false;
+    t.seats = seats;
+    for (int number = 1; fgets(text, sizeof text, file); number++) {
+        strcpy(copy, text);
+        struct line l = split(copy);
+        if (l.words == 0 || text[0] == '#')
+            continue;
+        if (l.calls < 0) { /* the name of a case */
+            is_played = strcmp(l.word[0], "case") == 0 || seats > 0;
+            t.tries = 64;
+            continue;
+        }
+        if (!is_played)
+            continue;
+        char told[128] = "refused", wanted[128] = "";
+        t.is_right = true;
+        call(&t, &l, told);
+        for (int i = l.calls; i < l.words; i++)
+            strcat(strcat(wanted, i == l.calls ? "" : " "), l.word[i]);
+        if (t.is_right && strcmp(told, wanted) == 0) {
+            passed++;
+        } else {
+            failed++;
+            printf("rows.txt:%d, %u seats: %s%s: %s", number, seats, told,
+                   t.is_right ? "" : ", of a wrong place", text);
+        }
+    }
+    close_table(&t);
+}
+
+int main(void)
+{
+    static const uint32_t SEATS[] = {0, 1, CHAIRS};
+    for (size_t i = 0; i < sizeof SEATS / sizeof *SEATS; i++) {
+        FILE *file = fopen(ROWS, "r");
+        if (!file)
+            wrong_row("it can't be read");
+        play(file, SEATS[i]);
+        fclose(file);
+    }
+    printf("%d passed, %d failed\n", passed, failed);
+    return failed != 0;
+}

@@ -1,0 +1,6 @@
+//go:build tscache_pkgconfig
+
+package tscache
+
+// #cgo pkg-config: tscache
+import "C"

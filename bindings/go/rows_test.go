@@ -1,0 +1,321 @@
+package tscache
+
+import (
+	"fmt"
+	"os"
+	"strconv"
+	"strings"
+	"testing"
+	"time"
+)
+
+// Rows are those of bindings/rows.txt, whose head says what they are. They are played on a Cache,
+// by one seat of a Shared cache, and by three seats in turn.
+
+// wantedErrors has the names of refusals in the rows.
+var wantedErrors = map[string]error{
+	"time": ErrTime, "key_too_long": ErrKeyTooLong, "inverted": ErrInverted, "too_large": ErrTooLarge,
+	"page_size": ErrPageSize, "min_pages": ErrMinPages, "retention": ErrRetention, "seats": ErrSeats,
+	"busy": ErrBusy, "full": ErrFull,
+}
+
+func number(text string, bits int) uint64 {
+	n, err := strconv.ParseUint(text, 10, bits)
+	if err != nil {
+		panic(err)
+	}
+	return n
+}
+
+func keyOf(text string) []byte {
+	key := []byte{}
+	for len(text) > 0 {
+		b, times := text[0], uint64(1)
+		text = text[1:]
+		if b == '%' {
+			n, err := strconv.ParseUint(text[:2], 16, 8)
+			if err != nil {
+				panic(err)
+			}
+			b, text = byte(n), text[2:]
+		}
+		if strings.HasPrefix(text, "*") {
+			digits := len(text) - 1 - len(strings.TrimLeft(text[1:], "0123456789"))
+			times, text = number(text[1:1+digits], 16), text[1+digits:]
+		}
+		for ; times > 0; times-- {
+			key = append(key, b)
+		}
+	}
+	return key
+}
+
+func spanOf(text string) Span {
+	ends, inner := IncludeBoth, text[1:len(text)-1]
+	if text[0] == '(' {
+		ends |= ExcludeFrom
+	}
+	if text[len(text)-1] == ')' {
+		ends |= ExcludeTo
+	}
+	if strings.HasSuffix(inner, "..") {
+		return Onward(keyOf(strings.TrimSuffix(inner, "..")), ends)
+	}
+	if comma := strings.IndexByte(inner, ','); comma >= 0 {
+		return Range(keyOf(inner[:comma]), keyOf(inner[comma+1:]), ends)
+	}
+	return Point(keyOf(inner))
+}
+
+func spansOf(texts []string) []Span {
+	var spans []Span
+	for _, text := range texts {
+		spans = append(spans, spanOf(text))
+	}
+	return spans
+}
+
+func timeAt(text string) Time {
+	wall, logical, _ := strings.Cut(text, ".")
+	return Time{number(wall, 64), uint32(number(logical, 32))}
+}
+
+func ownerOf(text string) (owner [16]byte) {
+	for i := range owner {
+		if text != "-" {
+			owner[i] = text[0]
+		}
+	}
+	return owner
+}
+
+func toldTime(t Time) string { return fmt.Sprintf("%d.%d", t.Wall, t.Logical) }
+
+func toldValue(v Value) string {
+	name := "-"
+	if v.Owner != [16]byte{} {
+		name = string(v.Owner[:1])
+	}
+	if v.Owner != ownerOf(name) {
+		name = fmt.Sprint(v.Owner)
+	}
+	return toldTime(v.Time) + " " + name
+}
+
+func toldAdded(a Added) string {
+	bit := map[bool]int{true: 1}
+	return fmt.Sprintf("%d %d %d", bit[a.Kept], bit[a.Rotated], a.Evicted)
+}
+
+// table is what a case is played on: a cache where there are no seats.
+type table struct {
+	t      *testing.T
+	cache  *Cache
+	shared *Shared
+	seats  []*Seat
+	turn   int
+	tries  uint32
+	adds   uint64
+}
+
+func (p *table) open(words []string, seats uint32) (err error) {
+	size := func(word string) uint32 { return uint32(number(word, 32)) }
+	config := Config{
+		PageFirst: size(words[0]), PageMax: size(words[1]), MinPages: size(words[2]),
+		Retention: time.Duration(number(words[3], 64)), LowWater: timeAt(words[4]),
+	}
+	if seats == 0 {
+		p.cache, err = Open(config)
+	} else {
+		p.shared, p.seats, err = OpenShared(config, seats, number(words[5], 64))
+	}
+	return err
+}
+
+func (p *table) close() {
+	if p.cache != nil {
+		p.cache.Close()
+	}
+	for _, seat := range p.seats {
+		seat.Close()
+	}
+	if p.shared != nil {
+		if n, err := p.shared.Close(); n != p.adds || err != nil {
+			p.t.Errorf("closed with %d Adds, %v", n, err)
+		}
+	}
+}
+
+func (p *table) next() *Seat {
+	p.turn++
+	return p.seats[p.turn%len(p.seats)]
+}
+
+// seen tells of an answer that came of other Adds than all so far.
+func (p *table) seen(told string, seen uint64, err error) (string, error) {
+	if err == nil && seen != p.adds {
+		told += fmt.Sprintf(" of %d Adds", seen)
+	}
+	return told, err
+}
+
+// added tells of an Add that has another place than the next.
+func (p *table) added(place uint64, a Added, err error) (string, error) {
+	told, err := p.seen(toldAdded(a), place, err)
+	if err == nil {
+		p.adds++
+	}
+	return told, err
+}
+
+func (p *table) call(words []string) (string, error) {
+	op, rest := words[0], words[1:]
+	switch {
+	case op == "add":
+		span, value, now := spanOf(rest[0]), Value{timeAt(rest[1]), ownerOf(rest[2])}, timeAt(rest[3])
+		if p.cache != nil {
+			a, err := p.cache.Add(span, value, now)
+			return toldAdded(a), err
+		}
+		return p.added(p.next().Add(span, value, now, p.tries))
+	case op == "batch":
+		var marks []Mark
+		for i := 1; i < len(rest); i += 3 {
+			marks = append(marks, Mark{spanOf(rest[i]), Value{timeAt(rest[i+1]), ownerOf(rest[i+2])}})
+		}
+		if p.cache != nil {
+			a, err := p.cache.AddAll(marks, timeAt(rest[0]))
+			return toldAdded(a), err
+		}
+		return p.added(p.next().AddAll(marks, timeAt(rest[0]), p.tries))
+	case op == "tries":
+		p.tries = uint32(number(rest[0], 32))
+		return "done", nil
+	case p.cache != nil:
+		return p.ofCache(op, rest)
+	default:
+		return p.ofSeat(op, rest, p.next())
+	}
+}
+
+// ask has a Cache or a Seat tell of writes.
+type ask interface {
+	MayWrite(Span, Time, [16]byte) (bool, error)
+	EarliestWrite([]Span, Time, [16]byte) (Time, error)
+}
+
+func (p *table) ofWrites(of ask, op string, rest []string) (string, error) {
+	switch op {
+	case "may":
+		may, err := of.MayWrite(spanOf(rest[0]), timeAt(rest[1]), ownerOf(rest[2]))
+		return map[bool]string{true: "yes", false: "no"}[may], err
+	case "earliest":
+		at, err := of.EarliestWrite(spansOf(rest[2:]), timeAt(rest[0]), ownerOf(rest[1]))
+		if err == ErrNoTime {
+			return "none", nil
+		}
+		return toldTime(at), err
+	}
+	return "", fmt.Errorf("no such call: %s", op)
+}
+
+func toldFigures(f Figures) string {
+	return fmt.Sprintf("%d %d %d %d", f.Pages, f.Rotations, f.Nodes, f.Bytes)
+}
+
+func (p *table) ofCache(op string, rest []string) (string, error) {
+	switch op {
+	case "get":
+		value, err := p.cache.GetMax(spanOf(rest[0]))
+		return toldValue(value), err
+	case "low":
+		low, err := p.cache.LowWater()
+		return toldTime(low), err
+	case "figures":
+		f, err := p.cache.Figures()
+		return toldFigures(f), err
+	}
+	return p.ofWrites(p.cache, op, rest)
+}
+
+func (p *table) ofSeat(op string, rest []string, seat *Seat) (string, error) {
+	switch op {
+	case "get":
+		value, seen, err := seat.GetMax(spanOf(rest[0]))
+		return p.seen(toldValue(value), seen, err)
+	case "low":
+		low, seen, err := seat.LowWater()
+		return p.seen(toldTime(low), seen, err)
+	case "figures":
+		f, seen, err := seat.Figures()
+		return p.seen(toldFigures(f), seen, err)
+	}
+	return p.ofWrites(seat, op, rest)
+}
+
+// chairs opens a shared cache with so many seats, and closes it.
+func chairs(count uint32) error {
+	shared, seats, err := OpenShared(DefaultConfig(), count, 9)
+	if err != nil {
+		return err
+	}
+	if len(seats) != int(count) {
+		return fmt.Errorf("there are %d seats", len(seats))
+	}
+	for _, seat := range seats {
+		seat.Close()
+	}
+	_, err = shared.Close()
+	return err
+}
+
+func playRows(t *testing.T, seats uint32) (rows int) {
+	text, err := os.ReadFile("../rows.txt")
+	if err != nil {
+		t.Fatal(err)
+	}
+	p, isPlayed := &table{t: t}, false
+	for i, line := range strings.Split(string(text), "\n") {
+		if line == "" || line[0] == '#' {
+			continue
+		}
+		call, wanted, isCall := strings.Cut(line, " =")
+		if !isCall {
+			p.close()
+			p, isPlayed = &table{t: t, tries: 64}, seats > 0 || strings.HasPrefix(line, "case")
+			continue
+		}
+		if !isPlayed {
+			continue
+		}
+		words, told := strings.Split(call, " "), "done"
+		switch words[0] {
+		case "open":
+			p.close()
+			p = &table{t: t, tries: 64}
+			err = p.open(words[1:], seats)
+		case "chairs":
+			err = chairs(uint32(number(words[1], 32)))
+		default:
+			told, err = p.call(words)
+		}
+		rows++
+		wanted = strings.TrimPrefix(wanted, " ")
+		if refusal, isRefusal := wantedErrors[wanted]; isRefusal && err == refusal {
+			continue
+		}
+		if err != nil || told != wanted {
+			t.Errorf("rows.txt:%d, %d seats: got %s, %v: %s", i+1, seats, told, err, line)
+		}
+	}
+	p.close()
+	return rows
+}
+
+func TestRows(t *testing.T) {
+	for _, seats := range []uint32{0, 1, 3} {
+		if rows := playRows(t, seats); rows < 400 {
+			t.Errorf("there were %d rows", rows)
+		}
+	}
+}
