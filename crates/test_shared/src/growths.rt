@@ -1,6 +1,7 @@
-//! How many growths an Add to a shared cache asks for, before and after its pages rotate. Each test makes one Add again where it is
-//! refused memory. Where an Add in place on the hidden side is refused, that side is made anew from the one that is shown, so the
-//! cache makes some growths good by itself, and `scripts/refuse-each-growth` counts for how many a whole test asks.
+//! How many growths an Add to a shared cache asks for, before and after its pages rotate. Each test but
+//! that of a large page makes one Add again where it is refused memory. Where an Add in place on the
+//! hidden side is refused, that side is made anew from the one that is shown, so the cache makes some
+//! growths good by itself, and `scripts/refuse-each-growth` counts for how many a whole test asks.
 use super::marks::Entry::{One, Several};
 use super::party::By::{Gate, Plain};
 use super::party::Owner;
