@@ -14,7 +14,7 @@ use Rattle.tsc_cache.proofs.StatesSeen.{answers_look}
 use Rattle.timestamp_cache.specs.Words.{Time, is_before, Owner, OwnedTime, owner_of, IsAtMost, KeyBytes, Interval, point, Mark, Settings, CacheView, StandsForState, look, History, Entry, state_of, cache_answer}
 use Rattle.timestamp_cache.specs.Clear.{IsClearOf}
 use Rattle.uuid.specs.Parts.{is_nil_bytes}
-use Rattle.mvcc_range.specs.Versions.{is_written, Content, Chains, Version, Write, Read, after_writes, as_of, laid, newest_time, IsAfter, Matches}
+use Rattle.mvcc_range.specs.Versions.{is_written, Content, Chains, chain_of, Version, Write, Read, after_writes, as_of, laid, newest_time, IsAfter, Matches}
 use Rattle.mvcc_range.specs.Serial.{Transaction, empty, executed_all, IsSerial, serial_order}
 use Rattle.mvcc_range.specs.Steps.{RangeView, mark_of, Answers, MayCommit, Commits, HandsOn, Answered, Execution, opened, answers, commits, hands_on}
 use Rattle.mvcc_range.specs.Laws.{Serializable, HasNotWritten, Repeatable, Unpushed}
@@ -38,8 +38,8 @@ pub record Keeps (range : RangeView) (answered : List Answered) (committed : Lis
   pub settings : Settings
   pub history : History
   pub stands : StandsForState range.cache settings (state_of settings history)
-  pub chains : (k : KeyBytes) → range.chains k ≡ all_laid committed k
-  pub newest : (k : KeyBytes) → AreNewestFirst (range.chains k)
+  pub chains : (k : KeyBytes) → chain_of range.chains k ≡ all_laid committed k
+  pub newest : (k : KeyBytes) → AreNewestFirst (chain_of range.chains k)
   pub guarded : AreGuarded range.span range.cache committed
   pub found : (passes : Time → Bool) (k : KeyBytes) → found passes (all_laid committed k) ≡ content_after passes k None (serial_order committed)
   pub serial : IsSerial empty (serial_order committed)
@@ -100,12 +100,12 @@ guards_added span new settings h at by (r ∷ reads) all now among is = (
 -- ---- a transaction that may commit
 
 -- It writes no key that a later one wrote,
-apart_writes : (range : RangeView) (committed : List Transaction) (t : Transaction) → ((k : KeyBytes) → range.chains k ≡ all_laid committed k) → ((k : KeyBytes) → AreNewestFirst (range.chains k)) → MayCommit range t → (k : KeyBytes)
+apart_writes : (range : RangeView) (committed : List Transaction) (t : Transaction) → ((k : KeyBytes) → chain_of range.chains k ≡ all_laid committed k) → ((k : KeyBytes) → AreNewestFirst (chain_of range.chains k)) → MayCommit range t → (k : KeyBytes)
     → AllByRecursion (λ (u : Transaction). is_before t.at u.at ≡ true → is_written k t.writes ≡ true → is_written k u.writes ≡ false) committed
 apart_writes range committed t chains newest may k = elim (cases_Bool (is_written k t.writes)) [
   | inr n ↦ any (λ (u : Transaction). is_before t.at u.at ≡ true → is_written k t.writes ≡ true → is_written k u.writes ≡ false) committed (λ u b w. absurd (both_ways (is_written k t.writes) n w))
-  | inl h ↦ let after : IsAfter (newest_time (range.chains k)) t.at = of_written (λ (q : KeyBytes). IsAfter (newest_time (range.chains q)) t.at) t.writes k may.free.after h in
-      let all : AllByRecursion (λ (v : Version). is_before v.at t.at ≡ true) (all_laid committed k) = subst (AllByRecursion (λ (v : Version). is_before v.at t.at ≡ true)) (chains k) (later_than_all t.at (range.chains k) (newest k) after) in
+  | inl h ↦ let after : IsAfter (newest_time (chain_of range.chains k)) t.at = of_written (λ (q : KeyBytes). IsAfter (newest_time (chain_of range.chains q)) t.at) t.writes k may.free.after h in
+      let all : AllByRecursion (λ (v : Version). is_before v.at t.at ≡ true) (all_laid committed k) = subst (AllByRecursion (λ (v : Version). is_before v.at t.at ≡ true)) (chains k) (later_than_all t.at (chain_of range.chains k) (newest k) after) in
       each (λ (u : Transaction). is_written k u.writes ≡ true → is_before u.at t.at ≡ true) (λ (u : Transaction). is_before t.at u.at ≡ true → is_written k t.writes ≡ true → is_written k u.writes ≡ false) committed
       (λ u earlier later x. elim (cases_Bool (is_written k u.writes)) [
         | inr n ↦ n
@@ -156,8 +156,8 @@ kept_on old new t now a less c is = (
     Strange : Time → Owner → Type 0
     Strange u by = u ≡ a.at → by ≡ a.by → ⊥
 
-    parts : HasNotWritten a.by a.at new.chains → (k : KeyBytes) → AllByRecursion (λ (v : Version). v.at ≡ a.at → v.by ≡ a.by → ⊥) (old.chains k) × (is_written k t.writes ≡ true → t.at ≡ a.at → t.by ≡ a.by → ⊥)
-    parts none k = laid_parts (λ (u : Time) (by : Owner). u ≡ a.at → by ≡ a.by → ⊥) k t.at t.by t.writes (old.chains k)
+    parts : HasNotWritten a.by a.at new.chains → (k : KeyBytes) → AllByRecursion (λ (v : Version). v.at ≡ a.at → v.by ≡ a.by → ⊥) (chain_of old.chains k) × (is_written k t.writes ≡ true → t.at ≡ a.at → t.by ≡ a.by → ⊥)
+    parts none k = laid_parts (λ (u : Time) (by : Owner). u ≡ a.at → by ≡ a.by → ⊥) k t.at t.by t.writes (chain_of old.chains k)
         (subst (AllByRecursion (λ (v : Version). v.at ≡ a.at → v.by ≡ a.by → ⊥)) (c.does.chains k) (none k))
 
     later : (k : KeyBytes) → covers a.read.span k ≡ true → (is_written k t.writes ≡ true → t.at ≡ a.at → t.by ≡ a.by → ⊥) → is_written k t.writes ≡ true → is_before a.at t.at ≡ true
@@ -168,13 +168,13 @@ kept_on old new t now a less c is = (
 
     same : (k : KeyBytes) → covers a.read.span k ≡ true → (is_written k t.writes ≡ true → t.at ≡ a.at → t.by ≡ a.by → ⊥) → as_of a.at new.chains k ≡ as_of a.at old.chains k
     same k x none =
-        as_of_found a.at (new.chains k) ∙ (ap (λ (vs : List Version). found (upto a.at) vs) (c.does.chains k)
-        ∙ (found_laid (upto a.at) k t.at t.by t.writes (old.chains k) ∙ (unchanged ∙ sym (as_of_found a.at (old.chains k)))))
+        as_of_found a.at (chain_of new.chains k) ∙ (ap (λ (vs : List Version). found (upto a.at) vs) (c.does.chains k)
+        ∙ (found_laid (upto a.at) k t.at t.by t.writes (chain_of old.chains k) ∙ (unchanged ∙ sym (as_of_found a.at (chain_of old.chains k)))))
       where
-        unchanged : (if upto a.at t.at then after_writes k (found (upto a.at) (old.chains k)) t.writes else found (upto a.at) (old.chains k)) ≡ found (upto a.at) (old.chains k)
+        unchanged : (if upto a.at t.at then after_writes k (found (upto a.at) (chain_of old.chains k)) t.writes else found (upto a.at) (chain_of old.chains k)) ≡ found (upto a.at) (chain_of old.chains k)
         unchanged = elim (cases_Bool (is_written k t.writes)) [
-          | inl w ↦ ap (λ (b : Bool). if not b then after_writes k (found (upto a.at) (old.chains k)) t.writes else found (upto a.at) (old.chains k)) (later k x none w)
-          | inr n ↦ same_or (upto a.at t.at) (after_writes k (found (upto a.at) (old.chains k)) t.writes) (found (upto a.at) (old.chains k)) (not_written k (found (upto a.at) (old.chains k)) t.writes n)
+          | inl w ↦ ap (λ (b : Bool). if not b then after_writes k (found (upto a.at) (chain_of old.chains k)) t.writes else found (upto a.at) (chain_of old.chains k)) (later k x none w)
+          | inr n ↦ same_or (upto a.at t.at) (after_writes k (found (upto a.at) (chain_of old.chains k)) t.writes) (found (upto a.at) (chain_of old.chains k)) (not_written k (found (upto a.at) (chain_of old.chains k)) t.writes n)
         ]
 
 -- ---- call by call
@@ -191,8 +191,8 @@ keeps_commits old new answered committed t now k c =
       history = more h ms now;
       stands = stands;
       chains = λ key. c.does.chains key ∙ ap (λ (vs : List Version). laid key t.at t.by t.writes vs) (k.chains key);
-      newest = λ key. subst AreNewestFirst (sym (c.does.chains key)) (laid_newest_first key t.at t.by t.writes (old.chains key)
-          (λ w. of_written (λ (q : KeyBytes). IsAfter (newest_time (old.chains q)) t.at) t.writes key c.may.free.after w) (k.newest key));
+      newest = λ key. subst AreNewestFirst (sym (c.does.chains key)) (laid_newest_first key t.at t.by t.writes (chain_of old.chains key)
+          (λ w. of_written (λ (q : KeyBytes). IsAfter (newest_time (chain_of old.chains q)) t.at) t.writes key c.may.free.after w) (k.newest key));
       guarded = (
         guards_added new.span new.cache settings h t.at t.by t.reads t.reads now (λ r i. i) stands,
         subst (λ (s : Interval). AreGuarded s new.cache committed) (sym c.does.span) (guarded_on old.span old.cache new.cache committed less k.guarded),
@@ -205,7 +205,7 @@ keeps_commits old new answered committed t now k c =
           (each_in_order (λ (u : Transaction). is_before t.at u.at ≡ true → AreUndisturbed t.writes u.reads) committed (apart_reads old committed t k.guarded c.may))
           (each (λ (r : Read). Matches r (as_of t.at old.chains)) (λ (r : Read). Matches r (λ key. content_after (upto t.at) key None (serial_order committed))) t.reads
           (λ r m. matches_same r (as_of t.at old.chains) (λ key. content_after (upto t.at) key None (serial_order committed))
-          (λ key x. as_of_found t.at (old.chains key) ∙ (ap (λ (vs : List Version). found (upto t.at) vs) (k.chains key) ∙ k.found (upto t.at) key)) m)
+          (λ key x. as_of_found t.at (chain_of old.chains key) ∙ (ap (λ (vs : List Version). found (upto t.at) vs) (k.chains key) ∙ k.found (upto t.at) key)) m)
           (recursion_from_All (λ (r : Read). Matches r (as_of t.at old.chains)) t.reads c.may.refreshed)) k.serial;
       kept = each (IsKept old) (IsKept new) answered (λ a is. kept_on old new t now a less c is) k.kept;
     }
@@ -230,8 +230,8 @@ keeps_answers old new answered committed by at now read k a =
       settings = settings;
       history = more h ms now;
       stands = stands;
-      chains = λ key. ap (λ (chains : Chains). chains key) a.chains ∙ k.chains key;
-      newest = λ key. subst (λ (chains : Chains). AreNewestFirst (chains key)) (sym a.chains) (k.newest key);
+      chains = λ key. ap (λ (chains : Chains). chain_of chains key) a.chains ∙ k.chains key;
+      newest = λ key. subst (λ (chains : Chains). AreNewestFirst (chain_of chains key)) (sym a.chains) (k.newest key);
       guarded = subst (λ (s : Interval). AreGuarded s new.cache committed) (sym a.span) (guarded_on old.span old.cache new.cache committed less k.guarded);
       found = k.found;
       serial = k.serial;
@@ -252,8 +252,8 @@ keeps_handing_on old new answered committed k hands =
       settings = hands.takes_over.settings;
       history = hands.takes_over.history;
       stands = hands.takes_over.cache;
-      chains = λ key. ap (λ (chains : Chains). chains key) hands.chains ∙ k.chains key;
-      newest = λ key. subst (λ (chains : Chains). AreNewestFirst (chains key)) (sym hands.chains) (k.newest key);
+      chains = λ key. ap (λ (chains : Chains). chain_of chains key) hands.chains ∙ k.chains key;
+      newest = λ key. subst (λ (chains : Chains). AreNewestFirst (chain_of chains key)) (sym hands.chains) (k.newest key);
       guarded = subst (λ (s : Interval). AreGuarded s new.cache committed) (sym hands.span) (guarded_on old.span old.cache new.cache committed less k.guarded);
       found = k.found;
       serial = k.serial;
@@ -265,8 +265,8 @@ keeps range answered committed (opened r is) = record {
   settings = is.settings;
   history = [];
   stands = is.cache;
-  chains = is.chains;
-  newest = λ k. subst AreNewestFirst (sym (is.chains k)) tt;
+  chains = λ k. ap (λ (chains : Chains). chain_of chains k) is.chains;
+  newest = λ k. subst (λ (chains : Chains). AreNewestFirst (chain_of chains k)) (sym is.chains) tt;
   guarded = tt;
   found = λ passes k. refl;
   serial = tt;
@@ -284,7 +284,7 @@ serializable range answered committed run =
     let k = keeps range answered committed run in
     record {
       serial = k.serial;
-      final = λ key. newest_found (range.chains key) ∙ (ap (λ (vs : List Version). found always vs) (k.chains key) ∙ (k.found always key ∙ sym (all_leave empty (serial_order committed) key)));
+      final = λ key. newest_found (chain_of range.chains key) ∙ (ap (λ (vs : List Version). found always vs) (k.chains key) ∙ (k.found always key ∙ sym (all_leave empty (serial_order committed) key)));
     }
 
 -- each read stays so,

@@ -6,7 +6,7 @@ use Rattle.std.specs.List.Sorted.{IsStrictlySortedBy}
 use Rattle.std.specs.Map.{lookup, keys_of}
 use Rattle.std.specs.BTreeMap.{BTreeMap, is_at}
 use Rattle.std.specs.BTreeMap.Range.{range_contains, entries_between}
-use Rattle.std.specs.declared.ops.bounds.Bound.TheVariants.{Included, Unbounded}
+use Rattle.std.specs.declared.ops.Bound.TheVariants.{Included, Unbounded}
 use Rattle.std.specs.Ordering.{is_lt, is_le, is_eq, ordering_reverse, ordering_then}
 use Rattle.std.specs.declared.cmp.Ordering.{Ordering}
 use Rattle.std.specs.declared.cmp.Ordering.TheVariants.{Less, Equal, Greater}
@@ -15,16 +15,17 @@ use Rattle.std.proofs.lemmas.Bool.{cases_Bool, both_ways}
 use Rattle.std.proofs.lemmas.Slice.Eq.{bytes_eq-Decides}
 use Rattle.std.proofs.lemmas.List.Elements.{All-from_recursion, recursion_from_All}
 use Rattle.std.proofs.lemmas.Map.Keys.{sorted_head, sorted_tail}
+use Rattle.std.proofs.lemmas.List.Kept.{IsStrictlySortedBy-filter}
 use Rattle.tsc_span.specs.Span.{Cut, before, after, last, nothing, between, covers, key_cmp, is_below, end_keys, different_keys, key_of_cut}
 use Rattle.tsc_span.proofs.CutOrder.{key_cmp_back, key_cmp-same}
 use Rattle.tsc_span.proofs.Overlaps.{is_below-opposite, no_lower-transitive, is_below-transitive}
 use Rattle.timestamp_cache.specs.Words.{Time, KeyBytes, Interval}
-use Rattle.mvcc_range.specs.Versions.{Content, Contents, Version, Read, Row, content_as_of, as_of, row_of, AreInKeyOrder, Matches, chains_in}
+use Rattle.mvcc_range.specs.Versions.{Content, Contents, Version, Read, Row, content_as_of, as_of, row_of, AreInKeyOrder, Matches, Chains, chain_of}
 use Rattle.mvcc_range.specs.RowsIn.{row_for, row_in, rows_in, stops_before}
 use Rattle.mvcc_range.proofs.Placing.{each}
 
-abbrev Entries : Type 0
-Entries = List (KeyBytes × List Version)
+abbrev pub Entries : Type 0
+Entries = Chains
 
 -- Each key is lower than those behind it.
 abbrev pub AreSorted : Entries → Type 0
@@ -101,12 +102,12 @@ each_row : (P : KeyBytes → Type 0) (span : Interval) (at : Time) (es : Entries
 each_row P span at [] all = tt
 each_row P span at (e ∷ es) all = elim (cases_Bool (covers span e.0)) [
   | inr out ↦ rw out (each_row P span at es all.1)
-  | inl c ↦ rw c (front (content_as_of at e.1))
+  | inl c ↦ rw c (front (content_as_of at e.1) (each_row P span at es all.1))
 ]
   where
-    front : (d : Content) → AllByRecursion (λ (r : Row). P r.key) (row_for e.0 d ++ rows_in span at es)
-    front None = each_row P span at es all.1
-    front (Some b) = (all.0, each_row P span at es all.1)
+    front : (d : Content) → AllByRecursion (λ (r : Row). P r.key) (rows_in span at es) → AllByRecursion (λ (r : Row). P r.key) (row_for e.0 d ++ rows_in span at es)
+    front None rest = rest
+    front (Some b) rest = (all.0, rest)
 
 -- the keys behind the first are above it
 above_first : (e : KeyBytes × List Version) (es : Entries) → AreSorted (e ∷ es) → AllByRecursion (λ (q : KeyBytes). lower e.0 q ≡ true) (keys_of es)
@@ -117,39 +118,33 @@ rows_within : (span : Interval) (at : Time) (es : Entries) → AllByRecursion (�
 rows_within span at [] = tt
 rows_within span at (e ∷ es) = elim (cases_Bool (covers span e.0)) [
   | inr out ↦ rw out (rows_within span at es)
-  | inl c ↦ rw c (front (content_as_of at e.1) c)
+  | inl c ↦ rw c (front (content_as_of at e.1) c (rows_within span at es))
 ]
   where
-    front : (d : Content) → covers span e.0 ≡ true → AllByRecursion (λ (r : Row). covers span r.key ≡ true) (row_for e.0 d ++ rows_in span at es)
-    front None c = rows_within span at es
-    front (Some b) c = (c, rows_within span at es)
+    front : (d : Content) → covers span e.0 ≡ true → AllByRecursion (λ (r : Row). covers span r.key ≡ true) (rows_in span at es) → AllByRecursion (λ (r : Row). covers span r.key ≡ true) (row_for e.0 d ++ rows_in span at es)
+    front None c rest = rest
+    front (Some b) c rest = (c, rest)
 
 -- and they are in order
 rows_order : (span : Interval) (at : Time) (es : Entries) → AreSorted es → AreInKeyOrder (rows_in span at es)
 rows_order span at [] sorted = tt
 rows_order span at (e ∷ es) sorted = elim (cases_Bool (covers span e.0)) [
-  | inr out ↦ rw out rest
-  | inl c ↦ rw c (front (content_as_of at e.1))
+  | inr out ↦ rw out (rows_order span at es (sorted_tail key_cmp e.0 (keys_of es) sorted))
+  | inl c ↦ rw c (front (content_as_of at e.1) (rows_order span at es (sorted_tail key_cmp e.0 (keys_of es) sorted)))
 ]
   where
-    rest : AreInKeyOrder (rows_in span at es)
-    rest = rows_order span at es (sorted_tail key_cmp e.0 (keys_of es) sorted)
-
-    front : (d : Content) → AreInKeyOrder (row_for e.0 d ++ rows_in span at es)
-    front None = rest
-    front (Some b) = (each_row (λ (q : KeyBytes). lower e.0 q ≡ true) span at es (above_first e es sorted), rest)
+    front : (d : Content) → AreInKeyOrder (rows_in span at es) → AreInKeyOrder (row_for e.0 d ++ rows_in span at es)
+    front None rest = rest
+    front (Some b) rest = (each_row (λ (q : KeyBytes). lower e.0 q ≡ true) span at es (above_first e es sorted), rest)
 
 -- Of each key of the span they say what its versions say.
 rows_say : (span : Interval) (at : Time) (es : Entries) (k : KeyBytes) → AreSorted es → covers span k ≡ true → row_of k (rows_in span at es) ≡ content_as_of at (unwrap_or (lookup (is_at (key_cmp k)) es) [])
 rows_say span at [] k sorted c = refl
 rows_say span at (e ∷ es) k sorted c = elim (cases_Bool (bytes_eq e.0 k)) [
   | inl same ↦ own same ((bytes_eq-Decides e.0 k).0 same)
-  | inr n ↦ let test : is_eq (key_cmp k e.0) ≡ false = is_at-same k e.0 ∙ n in rw test (beside n)
+  | inr n ↦ let test : is_eq (key_cmp k e.0) ≡ false = is_at-same k e.0 ∙ n in rw test (beside n (rows_say span at es k (sorted_tail key_cmp e.0 (keys_of es) sorted) c))
 ]
   where
-    rest : row_of k (rows_in span at es) ≡ content_as_of at (unwrap_or (lookup (is_at (key_cmp k)) es) [])
-    rest = rows_say span at es k (sorted_tail key_cmp e.0 (keys_of es) sorted) c
-
     front : (d : Content) → bytes_eq e.0 k ≡ true → e.0 ≡ k → row_of k (row_for e.0 d ++ rows_in span at es) ≡ d
     front None same is = absent k (rows_in span at es) (subst (λ (q : KeyBytes). AllByRecursion (λ (r : Row). lower q r.key ≡ true) (rows_in span at es)) is (each_row (λ (q : KeyBytes). lower e.0 q ≡ true) span at es (above_first e es sorted)))
     front (Some b) same is = rw same refl
@@ -164,18 +159,18 @@ rows_say span at (e ∷ es) k sorted c = elim (cases_Bool (bytes_eq e.0 k)) [
     other None n = refl
     other (Some b) n = rw n refl
 
-    beside : bytes_eq e.0 k ≡ false → row_of k (rows_in span at (e ∷ es)) ≡ content_as_of at (unwrap_or (lookup (is_at (key_cmp k)) es) [])
-    beside n = elim (cases_Bool (covers span e.0)) [
+    beside : bytes_eq e.0 k ≡ false → row_of k (rows_in span at es) ≡ content_as_of at (unwrap_or (lookup (is_at (key_cmp k)) es) []) → row_of k (rows_in span at (e ∷ es)) ≡ content_as_of at (unwrap_or (lookup (is_at (key_cmp k)) es) [])
+    beside n rest = elim (cases_Bool (covers span e.0)) [
       | inr out ↦ rw out rest
       | inl in_it ↦ rw in_it (other (content_as_of at e.1) n ∙ rest)
     ]
 
 -- So they are what is there.
-pub rows_match : (span : Interval) (at : Time) (map : BTreeMap KeyBytes (List Version)) → AreSorted map.entries → Matches (record { span = span; rows = rows_in span at map.entries }) (as_of at (chains_in map))
-rows_match span at map sorted = record {
-  rows = λ k c. rows_say span at map.entries k sorted c;
-  within = All-from_recursion (λ (r : Row). covers span r.key ≡ true) (rows_in span at map.entries) (rows_within span at map.entries);
-  order = rows_order span at map.entries sorted;
+pub rows_match : (span : Interval) (at : Time) (es : Chains) → AreSorted es → Matches (record { span = span; rows = rows_in span at es }) (as_of at es)
+rows_match span at es sorted = record {
+  rows = λ k c. rows_say span at es k sorted c;
+  within = All-from_recursion (λ (r : Row). covers span r.key ≡ true) (rows_in span at es) (rows_within span at es);
+  order = rows_order span at es sorted;
 }
 
 -- ---- where a span starts and stops
@@ -252,6 +247,19 @@ rows_from span at q (x ∷ es) e = elim (cases_Bool (is_le (key_cmp q x.0))) [
       | inr out ↦ out
       | inl c ↦ absurd (both_ways (is_le (key_cmp q x.0)) n (from_first span x.0 q c e))
     ]
+
+-- Those keys are in order too.
+keys_filter : (p : KeyBytes → Bool) (es : Entries) → keys_of (filter (λ (e : KeyBytes × List Version). p e.0) es) ≡ filter p (keys_of es)
+keys_filter p [] = refl
+keys_filter p (e ∷ es) = elim (cases_Bool (p e.0)) [
+  | inl h ↦ rw h (ap (λ (ks : List KeyBytes). e.0 ∷ ks) (keys_filter p es))
+  | inr h ↦ rw h (keys_filter p es)
+]
+
+pub sorted_from : (q : KeyBytes) (es : Entries) → AreSorted es → AreSorted (entries_between key_cmp (Included q) Unbounded es)
+sorted_from q es sorted =
+    let p : KeyBytes → Bool = range_contains key_cmp (Included q) Unbounded in
+    subst (IsStrictlySortedBy key_cmp) (sym (keys_filter p es)) (IsStrictlySortedBy-filter key_cmp p (keys_of es) sorted)
 
 -- Where a span stops before a key, it has neither that nor any above it.
 stops_on : (span : Interval) (k m : KeyBytes) → stops_before span k ≡ true → lower k m ≡ true → stops_before span m ≡ true

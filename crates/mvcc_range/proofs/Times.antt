@@ -1,5 +1,5 @@
 -- The earliest time that is free for writes.
-use Rattle.std.proofs.Common.{◌≡◌, ◌∙◌, ap, sym, refl, subst, ℕ, map, ◌+◌, ◌<◌, ◌≤◌, take, List, [], ◌∷◌, ◌++◌, length, get_or, true, false, Some, None, Option, arith}
+use Rattle.std.proofs.Common.{◌≡◌, ◌∙◌, ap, sym, refl, subst, inl, inr, ℕ, map, ◌+◌, ◌<◌, ◌≤◌, take, List, [], ◌∷◌, ◌++◌, length, get_or, true, false, Some, None, Option, arith}
 use Rattle.std.specs.List.{All, AllByRecursion}
 use Rattle.std.proofs.lemmas.Bool.{cases_Bool, both_ways}
 use Rattle.std.proofs.lemmas.List.{take_more, take_all}
@@ -9,7 +9,7 @@ use Rattle.timestamp_cache.specs.Words.{Time, is_in_range, is_before, Owner, Int
 use Rattle.timestamp_cache.specs.Clear.{IsClearOf, IsClearOfAnswers}
 use Rattle.timestamp_cache.specs.Earliest.{IsEarliest, TellsEarliest}
 use Rattle.timestamp_cache.proofs.Earliest.{one_more, none_more}
-use Rattle.mvcc_range.specs.Versions.{Chains, Write, newest_time, IsAfter}
+use Rattle.mvcc_range.specs.Versions.{Chains, chain_of, Write, newest_time, IsAfter}
 use Rattle.mvcc_range.specs.Steps.{IsAfterWrites, IsFree}
 
 -- ---- one key
@@ -38,7 +38,7 @@ after_stays (Some last) t u on h = elim (cases_Bool (is_before last u)) [ inl b 
 
 all_stay : (chains : Chains) (ws : List Write) (t u : Time) → is_before u t ≡ false → IsAfterWrites chains ws t → IsAfterWrites chains ws u
 all_stay chains [] t u on h = tt
-all_stay chains (w ∷ ws) t u on h = (after_stays (newest_time (chains w.key)) t u on h.0, all_stay chains ws t u on h.1)
+all_stay chains (w ∷ ws) t u on h = (after_stays (newest_time (chain_of chains w.key)) t u on h.0, all_stay chains ws t u on h.1)
 
 pub none_yet : (chains : Chains) (ws : List Write) (from : Time) → is_in_range from ≡ true → IsEarliest (IsAfterWrites chains (take 0 ws)) from from
 none_yet chains ws from range = record { in_range = range; from_on = is_before-itself from; holds = tt; least = λ t _ on _. on }
@@ -55,22 +55,22 @@ pop P [] x all = (tt, all.0)
 pop P (y ∷ ys) x all = let rest = pop P ys x all.1 in ((all.0, rest.0), rest.1)
 
 abbrev Passes : Chains → Time → Write → Type 0
-Passes chains t w = IsAfter (newest_time (chains w.key)) t
+Passes chains t w = IsAfter (newest_time (chain_of chains w.key)) t
 
 pub one_more_key : (chains : Chains) (ws : List Write) (i : ℕ) (w : Write) (from at next : Time) → i < length ws → get_or ws i w ≡ w
-    → IsEarliest (IsAfterWrites chains (take i ws)) from at → IsEarliest (IsAfter (newest_time (chains w.key))) at next → IsEarliest (IsAfterWrites chains (take (i + 1) ws)) from next
+    → IsEarliest (IsAfterWrites chains (take i ws)) from at → IsEarliest (IsAfter (newest_time (chain_of chains w.key))) at next → IsEarliest (IsAfterWrites chains (take (i + 1) ws)) from next
 one_more_key chains ws i w from at next below is so_far one =
-    one_more (IsAfterWrites chains (take i ws)) (IsAfter (newest_time (chains w.key))) (IsAfterWrites chains (take (i + 1) ws)) from at next
+    one_more (IsAfterWrites chains (take i ws)) (IsAfter (newest_time (chain_of chains w.key))) (IsAfterWrites chains (take (i + 1) ws)) from at next
     (λ t u on. all_stay chains (take i ws) t u on)
     (λ t all own. subst (λ (xs : List Write). IsAfterWrites chains xs t) (sym (more ws i w below is)) (push (Passes chains t) (take i ws) w all own))
     (λ t all. pop (Passes chains t) (take i ws) w (subst (λ (xs : List Write). IsAfterWrites chains xs t) (more ws i w below is) all)) so_far one
 
 pub no_more_keys : (chains : Chains) (ws : List Write) (i : ℕ) (w : Write) (from at : Time) → i < length ws → get_or ws i w ≡ w
-    → IsEarliest (IsAfterWrites chains (take i ws)) from at → TellsEarliest (IsAfter (newest_time (chains w.key))) at None → TellsEarliest (IsAfterWrites chains ws) from None
+    → IsEarliest (IsAfterWrites chains (take i ws)) from at → TellsEarliest (IsAfter (newest_time (chain_of chains w.key))) at None → TellsEarliest (IsAfterWrites chains ws) from None
 no_more_keys chains ws i w from at below is so_far none =
-    none_more (IsAfterWrites chains (take i ws)) (IsAfter (newest_time (chains w.key))) (IsAfterWrites chains ws) from at
+    none_more (IsAfterWrites chains (take i ws)) (IsAfter (newest_time (chain_of chains w.key))) (IsAfterWrites chains ws) from at
     (λ t all. let each : All (Passes chains t) ws = All-from_recursion (Passes chains t) ws all in
-      (recursion_from_All (Passes chains t) (take i ws) (All-take (Passes chains t) i ws each), subst (Passes chains t) is (each i w below))) so_far none
+    (recursion_from_All (Passes chains t) (take i ws) (All-take (Passes chains t) i ws each), subst (Passes chains t) is (each i w below))) so_far none
 
 pub all_keys : (chains : Chains) (ws : List Write) (i : ℕ) (from at : Time) → length ws ≤ i → IsEarliest (IsAfterWrites chains (take i ws)) from at → TellsEarliest (IsAfterWrites chains ws) from (Some at)
 all_keys chains ws i from at past so_far = let P : List Write → Type 0 = λ (xs : List Write). IsEarliest (IsAfterWrites chains xs) from at in subst P (take_all i ws past) so_far

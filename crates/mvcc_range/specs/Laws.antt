@@ -3,7 +3,7 @@ use Rattle.std.specs.Prelude.{◌≡◌, List, true}
 use Rattle.std.specs.List.{All, AllByRecursion, Contains}
 use Rattle.tsc_span.specs.Span.{covers}
 use Rattle.timestamp_cache.specs.Words.{Time, Owner, KeyBytes}
-use Rattle.mvcc_range.specs.Versions.{Chains, latest, as_of, Matches}
+use Rattle.mvcc_range.specs.Versions.{Chains, chain_of, latest, as_of, Matches}
 use Rattle.mvcc_range.specs.Serial.{Transaction, empty, executed_all, IsSerial, serial_order}
 use Rattle.mvcc_range.specs.Steps.{RangeView, Answered, Execution, IsFree, MayCommit}
 
@@ -18,7 +18,7 @@ Serializable = (range : RangeView) (answered : List Answered) (committed : List 
 
 -- A transaction has written nothing at a time.
 abbrev pub HasNotWritten : Owner → Time → Chains → Type 0
-HasNotWritten by at chains = (k : KeyBytes) → AllByRecursion (λ v. v.at ≡ at → v.by ≡ by → ⊥) (chains k)
+HasNotWritten by at chains = (k : KeyBytes) → AllByRecursion (λ v. v.at ≡ at → v.by ≡ by → ⊥) (chain_of chains k)
 
 -- Whatever calls were made of a range, each read that was ever answered is just what is there as of its time, unless its own transaction wrote at that very time.
 abbrev pub Repeatable : Type 0

@@ -7,7 +7,7 @@ use Rattle.tsc_cache.specs.State.{opening}
 use Rattle.tsc_cache.specs.CacheView.{StandsAfter, StandsAfterAll}
 use Rattle.timestamp_cache.specs.Words.{Time, is_before, Owner, owner_of, IsAtMost, KeyBytes, Interval, point, Mark, Settings, CacheView, StandsForState, CacheState, look, History, state_of, cache_answer}
 use Rattle.timestamp_cache.specs.Clear.{IsClearOf}
-use Rattle.mvcc_range.specs.Versions.{Write, Read, Chains, as_of, laid, newest_time, IsAfter, Matches}
+use Rattle.mvcc_range.specs.Versions.{Write, Read, Chains, chain_of, as_of, laid, newest_time, IsAfter, Matches}
 use Rattle.mvcc_range.specs.Serial.{Transaction}
 
 -- a range: the keys that it is of, the cache of its reads, and the versions of each key
@@ -28,8 +28,14 @@ reads_fit settings (r ∷ rs) = fits settings r.span && reads_fit settings rs
 -- A range was opened: no key has a version, and its cache has no reads.
 pub record IsOpened (range : RangeView) : Type 0 where
   pub settings : Settings
-  pub chains : (k : KeyBytes) → range.chains k ≡ []
+  pub chains : range.chains ≡ []
   pub cache : StandsForState range.cache settings (opening settings)
+
+-- A range is as before: its span, its cache, and the versions of each key.
+pub record IsSame (old new : RangeView) : Type 0 where
+  pub span : new.span ≡ old.span
+  pub cache : new.cache ≡ old.cache
+  pub chains : (k : KeyBytes) → chain_of new.chains k ≡ chain_of old.chains k
 
 -- A read at a time is answered: its rows are what is there as of then, and it is remembered.
 pub record Answers (old new : RangeView) (by : Owner) (at now : Time) (read : Read) : Type 0 where
@@ -40,7 +46,7 @@ pub record Answers (old new : RangeView) (by : Owner) (at now : Time) (read : Re
 
 -- A time is later than the last write of each key that is written.
 abbrev pub IsAfterWrites : Chains → List Write → Time → Type 0
-IsAfterWrites chains writes t = AllByRecursion (λ w. IsAfter (newest_time (chains w.key)) t) writes
+IsAfterWrites chains writes t = AllByRecursion (λ w. IsAfter (newest_time (chain_of chains w.key)) t) writes
 
 -- A time is free for a transaction's writes: it is later than the last write of each of their keys, and clear of each read of them that the cache remembers.
 pub record IsFree (cache : CacheView) (chains : Chains) (by : Owner) (writes : List Write) (at : Time) : Type 0 where
@@ -57,7 +63,7 @@ pub record MayCommit (range : RangeView) (t : Transaction) : Type 0 where
 pub record LaysDown (old new : RangeView) (t : Transaction) (now : Time) : Type 0 where
   pub span : new.span ≡ old.span
   pub remembered : StandsAfterAll old.cache new.cache (map (mark_of t.at t.by) t.reads) now
-  pub chains : (k : KeyBytes) → new.chains k ≡ laid k t.at t.by t.writes (old.chains k)
+  pub chains : (k : KeyBytes) → chain_of new.chains k ≡ laid k t.at t.by t.writes (chain_of old.chains k)
 
 -- It may commit, and does.
 pub record Commits (old new : RangeView) (t : Transaction) (now : Time) : Type 0 where

@@ -3,7 +3,8 @@ use Rattle.std.specs.Prelude.{◌≡◌, ℕ, List, [], ◌∷◌, Bool, true, f
 use Rattle.std.specs.List.{All, AllByRecursion}
 use Rattle.std.specs.Ordering.{is_lt}
 use Rattle.std.specs.Str.{bytes_eq}
-use Rattle.std.specs.BTreeMap.{BTreeMap, get}
+use Rattle.std.specs.BTreeMap.{is_at}
+use Rattle.std.specs.Map.{lookup}
 use Rattle.tsc_span.specs.Span.{Interval, nothing, between, is_below, covers, key_cmp}
 use Rattle.timestamp_cache.specs.Words.{Time, is_before, Owner, KeyBytes}
 
@@ -21,9 +22,13 @@ pub record Version : Type 0 where
   pub by : Owner
   pub content : Content
 
--- the versions of each key, the newest first
+-- keys with their versions, the newest first: a key's first entry counts, and a key without one has no versions
 abbrev pub Chains : Type 0
-Chains = KeyBytes → List Version
+Chains = List (KeyBytes × List Version)
+
+-- the versions of a key
+abbrev pub chain_of : Chains → KeyBytes → List Version
+chain_of chains k = unwrap_or (lookup (is_at (key_cmp k)) chains) []
 
 -- A write of a key: its bytes, or nothing for a deletion.
 pub record Write : Type 0 where
@@ -49,7 +54,7 @@ content_as_of at (v ∷ vs) = if is_before at v.at then content_as_of at vs else
 
 -- what each key has as of a time
 abbrev pub as_of : Time → Chains → Contents
-as_of at chains k = content_as_of at (chains k)
+as_of at chains k = content_as_of at (chain_of chains k)
 
 -- what a key has by its newest version
 abbrev pub newest_content : List Version → Content
@@ -58,7 +63,7 @@ newest_content (v ∷ vs) = v.content
 
 -- what each key has by all versions
 abbrev pub latest : Chains → Contents
-latest chains k = newest_content (chains k)
+latest chains k = newest_content (chain_of chains k)
 
 -- what rows say of a key
 abbrev pub row_of : KeyBytes → List Row → Content
@@ -115,7 +120,3 @@ is_within (between first end) (between from to) = not (is_below first from) && n
 abbrev pub are_within : List Write → Interval → Bool
 are_within [] outer = true
 are_within (w ∷ ws) outer = covers outer w.key && are_within ws outer
-
--- the versions that a map of chains has of each key
-abbrev pub chains_in : BTreeMap KeyBytes (List Version) → Chains
-chains_in map k = unwrap_or (get key_cmp map k) []

@@ -5,7 +5,7 @@ ghost use Rattle.std.specs.BTreeMap.{get};
 ghost use Rattle.tsc_span.specs.Span.{key_cmp};
 ghost use Rattle.timestamp_cache.specs.Words.{KeyBytes, is_before};
 ghost use Rattle.timestamp_cache.specs.Earliest.{TellsEarliest};
-ghost use Rattle.mvcc_range.specs.Versions.{content_as_of, newest_time, IsAfter, laid, chains_in};
+ghost use Rattle.mvcc_range.specs.Versions.{content_as_of, newest_time, IsAfter, laid, chain_of};
 ghost use Rattle.mvcc_range.specs.Steps.{IsAfterWrites};
 ghost use Rattle.mvcc_range.specs.Maps.{HasRoom, HaveRoom, nodes_of};
 
@@ -36,7 +36,7 @@ fn is_later(version: &Version, at: Timestamp) -> bool
 
 /// When a key was last written.
 fn newest_time(chains: &BTreeMap<Key, LinkedList<Version>>, key: &Key) -> Option<Timestamp>
-    ensures { result ≡ newest_time (chains_in chains.now key.now) }
+    ensures { result ≡ newest_time (chain_of chains.now.entries key.now) }
 {
     match chains.get(key) {
         Some(chain) => front_time(chain),
@@ -60,7 +60,7 @@ pub(crate) fn time_after(
     writes: &[Write],
     from: Timestamp,
 ) -> Option<Timestamp>
-    ensures { TellsEarliest (IsAfterWrites (chains_in chains.now) writes.now) from result }
+    ensures { TellsEarliest (IsAfterWrites chains.now.entries writes.now) from result }
 {
     let mut at = from;
     for write in writes {
@@ -78,7 +78,7 @@ fn time_after_write(
     write: &Write,
     from: Timestamp,
 ) -> Option<Timestamp>
-    ensures { TellsEarliest (IsAfter (newest_time (chains_in chains.now write.now.key))) from result }
+    ensures { TellsEarliest (IsAfter (newest_time (chain_of chains.now.entries write.now.key))) from result }
 {
     time_after_one(newest_time(chains, &write.key), from)
 }
@@ -151,7 +151,7 @@ pub(crate) fn make_room(
     chains: &mut BTreeMap<Key, LinkedList<Version>>,
     writes: &[Write],
 ) -> Result<(), NoMemory>
-    ensures same { (k : KeyBytes) → chains_in chains.new k ≡ chains_in chains.old k }
+    ensures same { (k : KeyBytes) → chain_of chains.new.entries k ≡ chain_of chains.old.entries k }
     ensures room { OnOk result (HaveRoom (length writes.now) chains.new writes.now) }
 {
     for write in writes {
@@ -167,7 +167,7 @@ fn make_room_for(
     write: &Write,
     count: usize,
 ) -> Result<(), NoMemory>
-    ensures same { (k : KeyBytes) → chains_in chains.new k ≡ chains_in chains.old k }
+    ensures same { (k : KeyBytes) → chain_of chains.new.entries k ≡ chain_of chains.old.entries k }
     ensures room { OnOk result (HasRoom count chains.new write.now.key) }
     ensures keeps { (k : KeyBytes) → HasRoom count chains.old k → HasRoom count chains.new k }
 {
@@ -181,7 +181,7 @@ fn make_chain(
     key: &Key,
     count: usize,
 ) -> Result<(), NoMemory>
-    ensures same { (k : KeyBytes) → chains_in chains.new k ≡ chains_in chains.old k }
+    ensures same { (k : KeyBytes) → chain_of chains.new.entries k ≡ chain_of chains.old.entries k }
     ensures room { OnOk result (HasRoom count chains.new key.now) }
     ensures keeps { (k : KeyBytes) → HasRoom count chains.old k → HasRoom count chains.new k }
 {
@@ -210,7 +210,7 @@ fn add_chain(
     count: usize,
 ) -> Result<(), NoMemory>
     requires { get key_cmp chains.old key.now ≡ None }
-    ensures same { (k : KeyBytes) → chains_in chains.new k ≡ chains_in chains.old k }
+    ensures same { (k : KeyBytes) → chain_of chains.new.entries k ≡ chain_of chains.old.entries k }
     ensures room { OnOk result (HasRoom count chains.new key.now) }
     ensures keeps { (k : KeyBytes) → HasRoom count chains.old k → HasRoom count chains.new k }
 {
@@ -231,7 +231,7 @@ pub(crate) fn link_all(
 )
     requires nodes { nodes ≡ nodes_of at by writes.now }
     requires room { HaveRoom (length writes.now) chains.old writes.now }
-    ensures { (k : KeyBytes) → chains_in chains.new k ≡ laid k at by writes.now (chains_in chains.old k) }
+    ensures { (k : KeyBytes) → chain_of chains.new.entries k ≡ laid k at by writes.now (chain_of chains.old.entries k) }
 {
     let mut rest = nodes;
     for write in writes {
@@ -249,21 +249,17 @@ fn link_write(
 )
     requires one { length node ≡ 1 }
     requires room { HasRoom 1 chains.old write.now.key }
-    ensures chains { (k : KeyBytes) → chains_in chains.new k ≡ (if bytes_eq write.now.key k then node ++ chains_in chains.old k else chains_in chains.old k) }
+    ensures chains { (k : KeyBytes) → chain_of chains.new.entries k ≡ (if bytes_eq write.now.key k then node ++ chain_of chains.old.entries k else chain_of chains.old.entries k) }
     ensures room { (k : KeyBytes) (n : ℕ) → HasRoom (n + 1) chains.old k → HasRoom n chains.new k }
 {
     link(chains, &write.key, node);
 }
 
 /// Puts a version at the front of a key's chain.
-fn link(
-    chains: &mut BTreeMap<Key, LinkedList<Version>>,
-    key: &Key,
-    mut node: LinkedList<Version>,
-)
+fn link(chains: &mut BTreeMap<Key, LinkedList<Version>>, key: &Key, mut node: LinkedList<Version>)
     requires one { length node ≡ 1 }
     requires room { HasRoom 1 chains.old key.now }
-    ensures chains { (k : KeyBytes) → chains_in chains.new k ≡ (if bytes_eq key.now k then node ++ chains_in chains.old k else chains_in chains.old k) }
+    ensures chains { (k : KeyBytes) → chain_of chains.new.entries k ≡ (if bytes_eq key.now k then node ++ chain_of chains.old.entries k else chain_of chains.old.entries k) }
     ensures room { (k : KeyBytes) (n : ℕ) → HasRoom (n + 1) chains.old k → HasRoom n chains.new k }
 {
     if let Some(chain) = chains.get_mut(key) {

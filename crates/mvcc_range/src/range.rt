@@ -5,9 +5,11 @@ ghost use Rattle.tsc_span.specs.Span.{point};
 ghost use Rattle.tsc_cache.specs.Settings.{fits};
 ghost use Rattle.tsc_cache.specs.Batch.{all_fit};
 ghost use Rattle.tsc_cache.specs.CacheView.{StandsAfter, StandsAfterAll};
+ghost use Rattle.timestamp_cache.specs.Words.{KeyBytes};
 ghost use Rattle.timestamp_cache.specs.Earliest.{TellsEarliest};
-ghost use Rattle.mvcc_range.specs.Versions.{as_of, Matches, is_within, are_within, chains_in};
-ghost use Rattle.mvcc_range.specs.Steps.{mark_of, reads_fit, IsOpened, Answers, IsFree, HandsOn, LaysDown, TakesOver};
+ghost use Rattle.mvcc_range.specs.Versions.{chain_of, as_of, laid, Matches, is_within, are_within};
+ghost use Rattle.mvcc_range.specs.Steps.{mark_of, reads_fit, IsOpened, IsSame, Answers, IsFree, HandsOn, LaysDown, TakesOver};
+ghost use Rattle.mvcc_range.specs.Maps.{nodes_of};
 ghost use Rattle.mvcc_range.specs.Calls.{Reads, Ends};
 
 use crate::chains::{link_all, make_room, nodes_of, time_after};
@@ -32,12 +34,11 @@ pub struct Range {
 }
 
 impl Model for Range {
-    ghost use Rattle.mvcc_range.specs.Versions.{chains_in};
     ghost use Rattle.mvcc_range.specs.Steps.{RangeView};
 
     ghost Value = { RangeView };
 
-    ghost view = { λ r. record { span = r.span; cache = r.cache; chains = chains_in r.chains } };
+    ghost view = { λ r. record { span = r.span; cache = r.cache; chains = r.chains.entries } };
 }
 
 /// What becomes of a transaction that is to commit.
@@ -98,7 +99,7 @@ impl Range {
         now: Timestamp,
     ) -> Result<Outcome, RangeError>
         ensures ok { IfOk result (λ outcome. Ends self.old self.new transaction.now now outcome) }
-        ensures err { OnErr result (self.new ≡ self.old) }
+        ensures err { OnErr result (IsSame self.old self.new) }
         ensures out_of_range { IsErrOf result RangeError.OutOfRange ↔ (are_within transaction.now.writes self.old.span ≡ false) }
         ensures too_large { IsErrOf result RangeError.TooLarge ↔ ((are_within transaction.now.writes self.old.span && not (reads_fit self.old.cache.settings transaction.now.reads)) ≡ true) }
     {
@@ -106,7 +107,8 @@ impl Range {
         let Some(at) = self.free_time(transaction)? else {
             return Ok(Outcome::Restart(Reason::NoTime));
         };
-        if !self.are_still_so(&transaction.reads, at)? {
+        let so = self.are_still_so(&transaction.reads, at)?;
+        if !so {
             return Ok(Outcome::Restart(Reason::Changed(at)));
         }
         self.lay_down(transaction, at, now)?;
@@ -189,7 +191,14 @@ impl Range {
     {
         let by = transaction.by;
         let from = transaction.at;
-        free_time(self.alloc, &self.cache, &self.chains, &transaction.writes, from, by)
+        free_time(
+            self.alloc,
+            &self.cache,
+            &self.chains,
+            &transaction.writes,
+            from,
+            by,
+        )
     }
 
     /// Whether some reads are still what is there as of a time.
@@ -208,16 +217,47 @@ impl Range {
     ) -> Result<(), NoMemory>
         requires { reads_fit self.old.cache.settings transaction.now.reads ≡ true }
         ensures ok { OnOk result (LaysDown self.old self.new (record transaction.now { at = at }) now) }
-        ensures err { OnErr result (self.new ≡ self.old) }
+        ensures err { OnErr result (IsSame self.old self.new) }
     {
         let by = transaction.by;
         let marks = marks_of(self.alloc, &transaction.reads, at, by)?;
         let nodes = nodes_of(self.alloc, &transaction.writes, at, by)?;
-        make_room(self.alloc, &mut self.chains, &transaction.writes)?;
-        add_all(&mut self.cache, &marks, now)?;
-        link_all(&mut self.chains, &transaction.writes, nodes, at, by);
-        Ok(())
+        let writes = transaction.writes.as_slice();
+        lay_down(
+            self.alloc,
+            &mut self.cache,
+            &mut self.chains,
+            &marks,
+            writes,
+            nodes,
+            (at, by),
+            now,
+        )
     }
+}
+
+/// Adds reads to a cache and versions to chains, or leaves both as they are.
+fn lay_down(
+    alloc: Global,
+    cache: &mut Cache,
+    chains: &mut BTreeMap<Key, LinkedList<Version>>,
+    marks: &[Mark],
+    writes: &[Write],
+    nodes: LinkedList<LinkedList<Version>>,
+    stamp: (Timestamp, Uuid),
+    now: Timestamp,
+) -> Result<(), NoMemory>
+    requires fit { all_fit cache.old.settings marks.now ≡ true }
+    requires nodes { nodes ≡ nodes_of stamp.0 stamp.1 writes.now }
+    ensures done { OnOk result (StandsAfterAll cache.old cache.new marks.now now
+        × ((k : KeyBytes) → chain_of chains.new.entries k ≡ laid k stamp.0 stamp.1 writes.now (chain_of chains.old.entries k))) }
+    ensures cache { OnErr result (cache.new ≡ cache.old) }
+    ensures chains { OnErr result ((k : KeyBytes) → chain_of chains.new.entries k ≡ chain_of chains.old.entries k) }
+{
+    make_room(alloc, chains, writes)?;
+    add_all(cache, marks, now)?;
+    link_all(chains, writes, nodes, stamp.0, stamp.1);
+    Ok(())
 }
 
 /// The earliest time, from one on, that is free for writes.
@@ -229,7 +269,7 @@ fn free_time(
     from: Timestamp,
     by: Uuid,
 ) -> Result<Option<Timestamp>, NoMemory>
-    ensures { IfOk result (λ at. TellsEarliest (IsFree cache.now (chains_in chains.now) by writes.now) from at) }
+    ensures { IfOk result (λ at. TellsEarliest (IsFree cache.now chains.now.entries by writes.now) from at) }
 {
     match time_after(chains, writes, from) {
         Some(after) => {
@@ -247,10 +287,11 @@ fn are_still_so(
     reads: &[Read],
     at: Timestamp,
 ) -> Result<bool, NoMemory>
-    ensures { IfOk result (λ so. IsTrue so ↔ All (λ r. Matches r (as_of at (chains_in chains.now))) reads.now) }
+    ensures { IfOk result (λ so. IsTrue so ↔ All (λ r. Matches r (as_of at chains.now.entries)) reads.now) }
 {
     for read in reads {
-        if !is_still_so(alloc, chains, read, at)? {
+        let so = is_still_so(alloc, chains, read, at)?;
+        if !so {
             return Ok(false);
         }
     }

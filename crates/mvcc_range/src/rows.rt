@@ -1,7 +1,7 @@
 //! What a span has as of a time.
-ghost use Rattle.std.specs.Prelude.{◌≡◌, ◌↔◌, ◌++◌, IsTrue, IfOk, OnOk, Some, true};
-ghost use Rattle.tsc_span.specs.Span.{covers};
-ghost use Rattle.mvcc_range.specs.Versions.{as_of, Matches, chains_in};
+ghost use Rattle.std.specs.Prelude.{◌≡◌, ◌↔◌, ◌++◌, IsTrue, IfOk, OnOk, Some, true, slice_get};
+ghost use Rattle.tsc_span.specs.Span.{covers, end_keys};
+ghost use Rattle.mvcc_range.specs.Versions.{as_of, Matches};
 ghost use Rattle.mvcc_range.specs.RowsIn.{row_for, row_in, stops_before};
 
 use crate::chains::content_as_of;
@@ -18,12 +18,26 @@ pub(crate) fn rows_as_of(
     span: &Span,
     at: Timestamp,
 ) -> Result<Vec<Row>, NoMemory>
-    ensures { IfOk result (λ rows. Matches (record { span = span.now; rows = rows.items }) (as_of at (chains_in chains.now))) }
+    ensures { IfOk result (λ rows. Matches (record { span = span.now; rows = rows.items }) (as_of at chains.now.entries)) }
+{
+    match span.end_keys().0 {
+        Some(first) => rows_from(alloc, chains, span, first, at),
+        None => Ok(Vec::new(alloc)),
+    }
+}
+
+/// The rows of a span, whose first end key is given, as of a time.
+fn rows_from(
+    alloc: Global,
+    chains: &BTreeMap<Key, LinkedList<Version>>,
+    span: &Span,
+    first: &Key,
+    at: Timestamp,
+) -> Result<Vec<Row>, NoMemory>
+    requires { slice_get (end_keys span.now) 0 ≡ Some first.now }
+    ensures { IfOk result (λ rows. Matches (record { span = span.now; rows = rows.items }) (as_of at chains.now.entries)) }
 {
     let mut rows = Vec::new(alloc);
-    let Some(first) = span.end_keys().0 else {
-        return Ok(rows);
-    };
     for (key, chain) in chains.range(first..) {
         if stops_before(span, key) {
             return Ok(rows);
@@ -88,7 +102,7 @@ pub(crate) fn is_still_so(
     read: &Read,
     at: Timestamp,
 ) -> Result<bool, NoMemory>
-    ensures { IfOk result (λ so. IsTrue so ↔ Matches read.now (as_of at (chains_in chains.now))) }
+    ensures { IfOk result (λ so. IsTrue so ↔ Matches read.now (as_of at chains.now.entries)) }
 {
     let rows = rows_as_of(alloc, chains, &read.span, at)?;
     Ok(same_rows(&rows, &read.rows))

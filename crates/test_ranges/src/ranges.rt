@@ -65,7 +65,8 @@ fn contents_of(rows: &[Row]) -> Contents {
 impl Store for Ranged {
     fn begin(&mut self, name: Name) -> Result<(), Fail> {
         let id = Uuid::from_bytes([name.id; 16]);
-        self.begun.push(Transaction::new(self.alloc, time(name.time)?, id))?;
+        self.begun
+            .push(Transaction::new(self.alloc, time(name.time)?, id))?;
         Ok(())
     }
 
@@ -112,7 +113,11 @@ impl Store for Ranged {
 fn time_of(outcome: Outcome) -> Option<u64> {
     match outcome {
         Outcome::Committed(at) => {
-            Some(at.wall().saturating_mul(WALL).saturating_add(u64::from(at.logical())))
+            Some(
+                at.wall()
+                    .saturating_mul(WALL)
+                    .saturating_add(u64::from(at.logical())),
+            )
         }
         Outcome::Restart(_) => None,
     }

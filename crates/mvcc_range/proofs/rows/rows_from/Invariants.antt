@@ -1,7 +1,7 @@
 use Rattle.std.proofs.Common.{◌≡◌, ◌++◌}
 use Rattle.mvcc_range.specs.RowsIn.{rows_in}
 use Rattle.mvcc_range.proofs.RowsAsOf.{AreSorted}
-use Rattle.mvcc_range.proofs.rows.rows_as_of.Given as goal
+use Rattle.mvcc_range.proofs.rows.rows_from.Given as goal
 
 -- With those of the keys that are left, the rows are all there are.
 abbrev pub invariant-loop-key : goal.invariant-loop-key
