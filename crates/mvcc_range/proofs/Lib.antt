@@ -1,0 +1,8 @@
+pub mod Placing
+pub mod Laying
+pub mod Keeping
+pub mod Times
+pub mod RowsAsOf
+pub mod Linking
+pub mod HandingOn
+mod Examples

@@ -1,0 +1,17 @@
+use Rattle.std.proofs.Common.{rules, sym}
+use Rattle.mvcc_range.proofs.Times.{none_yet, one_more_key, no_more_keys, all_keys}
+use Rattle.mvcc_range.proofs.chains.time_after.Goals as goal
+
+pub loop-write-init : goal.loop-write-init
+loop-write-init c = none_yet c.args.chains.now.entries c.args.writes.now c.args.from (search rules)
+
+pub loop-write-preserved : goal.loop-write-preserved
+loop-write-preserved c =
+    one_more_key c.args.chains.now.entries c.args.writes.now c.loop-write.write-index c.write-item.result c.args.from c.loop-write.at c.in-Some.next c.loop-write-test.true (sym c.write-item.is) c.loop-write.invariant c.in-Some.ensures
+
+pub returns-in-None : goal.returns-in-None
+returns-in-None c =
+    no_more_keys c.args.chains.now.entries c.args.writes.now c.loop-write.write-index c.write-item.result c.args.from c.loop-write.at c.loop-write-test.true (sym c.write-item.is) c.loop-write.invariant c.in-None.ensures
+
+pub returns : goal.returns
+returns c = all_keys c.args.chains.now.entries c.args.writes.now c.loop-write.write-index c.args.from c.loop-write.at c.loop-write-test.false c.loop-write.invariant

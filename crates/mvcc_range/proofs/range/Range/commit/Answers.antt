@@ -1,0 +1,28 @@
+use Rattle.std.proofs.Common.{◌≡◌, ◌∙◌, ap, subst, List, Option}
+use Rattle.std.specs.List.{All}
+use Rattle.timestamp_cache.specs.Words.{Time}
+use Rattle.timestamp_cache.specs.Earliest.{IsEarliest, TellsEarliest}
+use Rattle.mvcc_range.specs.Versions.{Read, as_of, Matches}
+use Rattle.mvcc_range.specs.Serial.{Transaction}
+use Rattle.mvcc_range.specs.Steps.{IsFree}
+use Rattle.mvcc_range.proofs.Linking.{all_within}
+use Rattle.mvcc_range.proofs.range.Range.commit.Goals as goal
+
+pub returns-clause-ok : goal.returns-clause-ok
+returns-clause-ok c =
+    let range = c.args.self.now in
+    let t = c.args.transaction.now in
+    let at = c.in-Some.at in
+    let earliest : IsEarliest (IsFree range.cache range.chains t.by t.writes) t.at at
+    = subst (λ (o : Option Time). TellsEarliest (IsFree range.cache range.chains t.by t.writes) t.at o) c.in-Some.is c.in_ok-at.ensures in
+    let reads : c.deref.result.now ≡ t.reads = c.deref.ensures.value ∙ ap (λ (x : Transaction). x.reads) c.transaction.view_is in (
+      earliest,
+      record {
+        may = record {
+          within = all_within t.writes range.span c.in_ok-check_commit.ensures.ok.0;
+          refreshed = subst (λ (rs : List Read). All (λ (r : Read). Matches r (as_of at range.chains)) rs) reads (c.in_ok-so.ensures.0 c.if-not-so.false);
+          free = earliest.holds;
+        };
+        does = c.in_ok-lay_down.ensures.ok;
+      },
+    )

@@ -1,0 +1,270 @@
+//! The versions of each key, the newest first, in a map by key.
+ghost use Rattle.std.specs.Prelude.{◌≡◌, ◌+◌, ◌<◌, ◌∷◌, [], ◌++◌, ℕ, Some, None, option_map, length, IfOk, OnOk, if◌then◌else◌};
+ghost use Rattle.std.specs.Str.{bytes_eq};
+ghost use Rattle.std.specs.BTreeMap.{get};
+ghost use Rattle.tsc_span.specs.Span.{key_cmp};
+ghost use Rattle.timestamp_cache.specs.Words.{KeyBytes, is_before};
+ghost use Rattle.timestamp_cache.specs.Earliest.{TellsEarliest};
+ghost use Rattle.mvcc_range.specs.Versions.{content_as_of, newest_time, IsAfter, laid, chain_of};
+ghost use Rattle.mvcc_range.specs.Steps.{IsAfterWrites};
+ghost use Rattle.mvcc_range.specs.Maps.{HasRoom, HaveRoom, nodes_of};
+
+use crate::Write;
+use crate::versions::Version;
+use std::alloc::Global;
+use std::collections::{BTreeMap, LinkedList};
+use timestamp_cache::{Key, NoMemory, Timestamp, Uuid, next_time};
+
+/// What a key has as of a time, by its versions.
+pub(crate) fn content_as_of(chain: &LinkedList<Version>, at: Timestamp) -> Option<&Vec<u8>>
+    ensures { option_map (λ b. b.now.items) result ≡ content_as_of at chain.now }
+{
+    for version in chain {
+        if !is_later(version, at) {
+            return version.content.as_ref();
+        }
+    }
+    None
+}
+
+/// Whether a version is later than a time.
+fn is_later(version: &Version, at: Timestamp) -> bool
+    ensures { result ≡ is_before at version.now.at }
+{
+    at < version.at
+}
+
+/// When a key was last written.
+fn newest_time(chains: &BTreeMap<Key, LinkedList<Version>>, key: &Key) -> Option<Timestamp>
+    ensures { result ≡ newest_time (chain_of chains.now.entries key.now) }
+{
+    match chains.get(key) {
+        Some(chain) => front_time(chain),
+        None => None,
+    }
+}
+
+/// When the newest version of a chain was laid down.
+fn front_time(chain: &LinkedList<Version>) -> Option<Timestamp>
+    ensures { result ≡ newest_time chain.now }
+{
+    match chain.front() {
+        Some(version) => Some(version.at),
+        None => None,
+    }
+}
+
+/// The earliest time, from one on, that is later than the last write of each key that is written.
+pub(crate) fn time_after(
+    chains: &BTreeMap<Key, LinkedList<Version>>,
+    writes: &[Write],
+    from: Timestamp,
+) -> Option<Timestamp>
+    ensures { TellsEarliest (IsAfterWrites chains.now.entries writes.now) from result }
+{
+    let mut at = from;
+    for write in writes {
+        match time_after_write(chains, write, at) {
+            Some(next) => at = next,
+            None => return None,
+        }
+    }
+    Some(at)
+}
+
+/// The earliest time, from one on, that is later than the last write of a key that is written.
+fn time_after_write(
+    chains: &BTreeMap<Key, LinkedList<Version>>,
+    write: &Write,
+    from: Timestamp,
+) -> Option<Timestamp>
+    ensures { TellsEarliest (IsAfter (newest_time (chain_of chains.now.entries write.now.key))) from result }
+{
+    time_after_one(newest_time(chains, &write.key), from)
+}
+
+/// The earliest time, from one on, that is later than a key's last write.
+fn time_after_one(last: Option<Timestamp>, from: Timestamp) -> Option<Timestamp>
+    ensures { TellsEarliest (IsAfter last) from result }
+{
+    match last {
+        Some(last) => time_behind(last, from),
+        None => Some(from),
+    }
+}
+
+/// The earliest time, from one on, that is later than another.
+fn time_behind(last: Timestamp, from: Timestamp) -> Option<Timestamp>
+    ensures { TellsEarliest (IsAfter (Some last)) from result }
+{
+    if last < from {
+        Some(from)
+    } else {
+        next_time(last)
+    }
+}
+
+/// The versions that writes lay down at a time, each as a chain of its own.
+pub(crate) fn nodes_of(
+    alloc: Global,
+    writes: &[Write],
+    at: Timestamp,
+    by: Uuid,
+) -> Result<LinkedList<LinkedList<Version>>, NoMemory>
+    ensures { IfOk result (λ nodes. nodes ≡ nodes_of at by writes.now) }
+{
+    let mut nodes = LinkedList::new(alloc);
+    for write in writes {
+        nodes.push_back(node_of(alloc, write, at, by)?)?;
+    }
+    Ok(nodes)
+}
+
+/// The version that a write lays down, as a chain of its own.
+fn node_of(
+    alloc: Global,
+    write: &Write,
+    at: Timestamp,
+    by: Uuid,
+) -> Result<LinkedList<Version>, NoMemory>
+    ensures { IfOk result (λ node. node ≡ record { at = at; by = by; content = write.now.content } ∷ []) }
+{
+    let content = copy_of(&write.content)?;
+    let mut node = LinkedList::new(alloc);
+    node.push_back(Version { at, by, content })?;
+    Ok(node)
+}
+
+/// A copy of what a key has.
+fn copy_of(content: &Option<Vec<u8>>) -> Result<Option<Vec<u8>>, NoMemory>
+    ensures { IfOk result (λ copy. option_map (λ b. b.items) copy ≡ option_map (λ b. b.items) content.now) }
+{
+    match content {
+        Some(bytes) => Ok(Some(bytes.clone()?)),
+        None => Ok(None),
+    }
+}
+
+/// Makes a chain, where there is none, for each key that is written, so that [`link_all`] needs no memory. No key gets a version.
+pub(crate) fn make_room(
+    alloc: Global,
+    chains: &mut BTreeMap<Key, LinkedList<Version>>,
+    writes: &[Write],
+) -> Result<(), NoMemory>
+    ensures same { (k : KeyBytes) → chain_of chains.new.entries k ≡ chain_of chains.old.entries k }
+    ensures room { OnOk result (HaveRoom (length writes.now) chains.new writes.now) }
+{
+    for write in writes {
+        make_room_for(alloc, chains, write, writes.len())?;
+    }
+    Ok(())
+}
+
+/// Makes a chain for a key that is written, where there is none.
+fn make_room_for(
+    alloc: Global,
+    chains: &mut BTreeMap<Key, LinkedList<Version>>,
+    write: &Write,
+    count: usize,
+) -> Result<(), NoMemory>
+    ensures same { (k : KeyBytes) → chain_of chains.new.entries k ≡ chain_of chains.old.entries k }
+    ensures room { OnOk result (HasRoom count chains.new write.now.key) }
+    ensures keeps { (k : KeyBytes) → HasRoom count chains.old k → HasRoom count chains.new k }
+{
+    make_chain(alloc, chains, &write.key, count)
+}
+
+/// Makes a chain for a key, where there is none.
+fn make_chain(
+    alloc: Global,
+    chains: &mut BTreeMap<Key, LinkedList<Version>>,
+    key: &Key,
+    count: usize,
+) -> Result<(), NoMemory>
+    ensures same { (k : KeyBytes) → chain_of chains.new.entries k ≡ chain_of chains.old.entries k }
+    ensures room { OnOk result (HasRoom count chains.new key.now) }
+    ensures keeps { (k : KeyBytes) → HasRoom count chains.old k → HasRoom count chains.new k }
+{
+    match chains.get(key) {
+        Some(chain) => check_room(chain, count),
+        None => add_chain(alloc, chains, key, count),
+    }
+}
+
+/// Whether so many versions more can stand in a chain.
+fn check_room(chain: &LinkedList<Version>, count: usize) -> Result<(), NoMemory>
+    ensures { OnOk result (length chain.now + count < 9223372036854775808) }
+{
+    if count <= 9223372036854775807 - chain.len() {
+        Ok(())
+    } else {
+        Err(NoMemory)
+    }
+}
+
+/// Adds a chain without versions for a key that has none.
+fn add_chain(
+    alloc: Global,
+    chains: &mut BTreeMap<Key, LinkedList<Version>>,
+    key: &Key,
+    count: usize,
+) -> Result<(), NoMemory>
+    requires { get key_cmp chains.old key.now ≡ None }
+    ensures same { (k : KeyBytes) → chain_of chains.new.entries k ≡ chain_of chains.old.entries k }
+    ensures room { OnOk result (HasRoom count chains.new key.now) }
+    ensures keeps { (k : KeyBytes) → HasRoom count chains.old k → HasRoom count chains.new k }
+{
+    let chain = LinkedList::new(alloc);
+    check_room(&chain, count)?;
+    let key = key.try_copy()?;
+    chains.insert(key, chain)?;
+    Ok(())
+}
+
+/// Lays down versions that were made for writes, each at the front of its key's chain.
+pub(crate) fn link_all(
+    chains: &mut BTreeMap<Key, LinkedList<Version>>,
+    writes: &[Write],
+    nodes: LinkedList<LinkedList<Version>>,
+    at: Timestamp,
+    by: Uuid,
+)
+    requires nodes { nodes ≡ nodes_of at by writes.now }
+    requires room { HaveRoom (length writes.now) chains.old writes.now }
+    ensures { (k : KeyBytes) → chain_of chains.new.entries k ≡ laid k at by writes.now (chain_of chains.old.entries k) }
+{
+    let mut rest = nodes;
+    for write in writes {
+        if let Some(node) = rest.pop_front() {
+            link_write(chains, write, node);
+        }
+    }
+}
+
+/// Puts a version at the front of the chain of a key that is written.
+fn link_write(
+    chains: &mut BTreeMap<Key, LinkedList<Version>>,
+    write: &Write,
+    node: LinkedList<Version>,
+)
+    requires one { length node ≡ 1 }
+    requires room { HasRoom 1 chains.old write.now.key }
+    ensures chains { (k : KeyBytes) → chain_of chains.new.entries k ≡ (if bytes_eq write.now.key k then node ++ chain_of chains.old.entries k else chain_of chains.old.entries k) }
+    ensures room { (k : KeyBytes) (n : ℕ) → HasRoom (n + 1) chains.old k → HasRoom n chains.new k }
+{
+    link(chains, &write.key, node);
+}
+
+/// Puts a version at the front of a key's chain.
+fn link(chains: &mut BTreeMap<Key, LinkedList<Version>>, key: &Key, mut node: LinkedList<Version>)
+    requires one { length node ≡ 1 }
+    requires room { HasRoom 1 chains.old key.now }
+    ensures chains { (k : KeyBytes) → chain_of chains.new.entries k ≡ (if bytes_eq key.now k then node ++ chain_of chains.old.entries k else chain_of chains.old.entries k) }
+    ensures room { (k : KeyBytes) (n : ℕ) → HasRoom (n + 1) chains.old k → HasRoom n chains.new k }
+{
+    if let Some(chain) = chains.get_mut(key) {
+        // The older ones follow it.
+        let _joined = node.append(chain);
+        *chain = node;
+    }
+}

@@ -1,0 +1,409 @@
+//! A range, and the calls on it.
+ghost use Rattle.std.specs.Prelude.{◌≡◌, ◌↔◌, ◌≤◌, ◌+◌, ◌∷◌, [], ◌++◌, ◌&&◌, not, map, true, false, IsTrue, IfOk, IsErrOf, OnOk, OnErr, vec_len, vec_capacity};
+ghost use Rattle.std.specs.List.{All};
+ghost use Rattle.tsc_span.specs.Span.{point};
+ghost use Rattle.tsc_cache.specs.Settings.{fits};
+ghost use Rattle.tsc_cache.specs.Batch.{all_fit};
+ghost use Rattle.tsc_cache.specs.CacheView.{StandsAfter, StandsAfterAll};
+ghost use Rattle.timestamp_cache.specs.Words.{KeyBytes};
+ghost use Rattle.timestamp_cache.specs.Earliest.{TellsEarliest};
+ghost use Rattle.mvcc_range.specs.Versions.{chain_of, as_of, laid, Matches, is_within, are_within};
+ghost use Rattle.mvcc_range.specs.Steps.{mark_of, reads_fit, IsOpened, IsSame, Answers, IsFree, HandsOn, LaysDown, TakesOver};
+ghost use Rattle.mvcc_range.specs.Maps.{nodes_of};
+ghost use Rattle.mvcc_range.specs.Calls.{Reads, Ends};
+
+use crate::chains::{link_all, make_room, nodes_of, time_after};
+use crate::rows::{is_still_so, rows_as_of};
+use crate::versions::Version;
+use crate::{RangeError, Read, Transaction, Write};
+use std::alloc::Global;
+use std::collections::{BTreeMap, LinkedList};
+use std::marker::Model;
+use timestamp_cache::{
+    Cache, CacheFault, Config, Key, Mark, NoMemory, Span, Timestamp, TimestampCache, Uuid, Value,
+    apply, earliest_write, summary,
+};
+
+/// One range of a store, under a lease: the versions of its keys, and the reads that were answered.
+#[derive(Drop)]
+pub struct Range {
+    alloc: Global,
+    span: Span,
+    cache: Cache,
+    chains: BTreeMap<Key, LinkedList<Version>>,
+}
+
+impl Model for Range {
+    ghost use Rattle.mvcc_range.specs.Steps.{RangeView};
+
+    ghost Value = { RangeView };
+
+    ghost view = { λ r. record { span = r.span; cache = r.cache; chains = r.chains.entries } };
+}
+
+/// What becomes of a transaction that is to commit.
+#[derive(Clone, Copy, Debug, PartialEq, Eq)]
+pub enum Outcome {
+    /// It committed at this time.
+    Committed(Timestamp),
+    /// It didn't, and has to begin again at a later time.
+    Restart(Reason),
+}
+
+/// Why a transaction has to restart.
+#[derive(Clone, Copy, Debug, PartialEq, Eq)]
+pub enum Reason {
+    /// It was pushed to this time, and what it read isn't so any more then.
+    Changed(Timestamp),
+    /// No time is free for its writes, since the last one of all is taken.
+    NoTime,
+}
+
+impl Range {
+    /// A range of keys that have nothing yet.
+    pub fn open(alloc: Global, span: Span, config: Config) -> Result<Range, NoMemory>
+        ensures opened { IfOk result (λ range. IsOpened range) }
+        ensures span { IfOk result (λ range. range.span ≡ span) }
+    {
+        Ok(Range {
+            alloc,
+            span,
+            cache: Cache::new(alloc, config)?,
+            chains: BTreeMap::new(alloc),
+        })
+    }
+
+    /// Answers a read of a transaction, which has it then as the last of its reads.
+    pub fn read(
+        &mut self,
+        transaction: &mut Transaction,
+        span: &Span,
+        now: Timestamp,
+    ) -> Result<(), RangeError>
+        ensures ok { OnOk result (Reads self.old self.new transaction.old transaction.new span.now now) }
+        ensures err { OnErr result ((self.new ≡ self.old) × (transaction.new ≡ transaction.old)) }
+        ensures out_of_range { IsErrOf result RangeError.OutOfRange ↔ (is_within span.now self.old.span ≡ false) }
+        ensures too_large { IsErrOf result RangeError.TooLarge ↔ ((is_within span.now self.old.span && not (fits self.old.cache.settings span.now)) ≡ true) }
+    {
+        self.check_read(span)?;
+        let read = self.look(span, transaction.at)?;
+        self.answer(transaction, read, now)?;
+        Ok(())
+    }
+
+    /// Commits a transaction at the earliest time, from the one on at which it reads, that is free for its writes. Where what it read isn't so any
+    /// more as of then, it has to restart.
+    pub fn commit(
+        &mut self,
+        transaction: &Transaction,
+        now: Timestamp,
+    ) -> Result<Outcome, RangeError>
+        ensures ok { IfOk result (λ outcome. Ends self.old self.new transaction.now now outcome) }
+        ensures err { OnErr result (IsSame self.old self.new) }
+        ensures out_of_range { IsErrOf result RangeError.OutOfRange ↔ (are_within transaction.now.writes self.old.span ≡ false) }
+        ensures too_large { IsErrOf result RangeError.TooLarge ↔ ((are_within transaction.now.writes self.old.span && not (reads_fit self.old.cache.settings transaction.now.reads)) ≡ true) }
+    {
+        self.check_commit(transaction)?;
+        let Some(at) = self.free_time(transaction)? else {
+            return Ok(Outcome::Restart(Reason::NoTime));
+        };
+        let so = self.are_still_so(&transaction.reads, at)?;
+        if !so {
+            return Ok(Outcome::Restart(Reason::Changed(at)));
+        }
+        self.lay_down(transaction, at, now)?;
+        Ok(Outcome::Committed(at))
+    }
+
+    /// Hands the range on to a new lease: a new cache takes over what a summary of the old one tells of the range's span, in at most so many marks.
+    pub fn hand_on(&mut self, config: Config, most: usize, now: Timestamp) -> Result<(), CacheFault>
+        ensures ok { OnOk result (HandsOn self.old self.new) }
+        ensures err { OnErr result (self.new ≡ self.old) }
+    {
+        self.cache = taken_over(self.alloc, &self.cache, &self.span, config, most, now)?;
+        Ok(())
+    }
+
+    /// Whether a span may be read.
+    fn check_read(&self, span: &Span) -> Result<(), RangeError>
+        ensures ok { OnOk result ((is_within span.now self.now.span ≡ true) × (fits self.now.cache.settings span.now ≡ true)) }
+        ensures out_of_range { IsErrOf result RangeError.OutOfRange ↔ (is_within span.now self.now.span ≡ false) }
+        ensures too_large { IsErrOf result RangeError.TooLarge ↔ ((is_within span.now self.now.span && not (fits self.now.cache.settings span.now)) ≡ true) }
+        ensures memory { IsErrOf result RangeError.NoMemory → ⊥ }
+    {
+        if !is_within(span, &self.span) {
+            return Err(RangeError::OutOfRange);
+        }
+        if !self.cache.fits(span) {
+            return Err(RangeError::TooLarge);
+        }
+        Ok(())
+    }
+
+    /// Whether a transaction's writes are the range's, and its reads can be remembered.
+    fn check_commit(&self, transaction: &Transaction) -> Result<(), RangeError>
+        ensures ok { OnOk result ((are_within transaction.now.writes self.now.span ≡ true) × (reads_fit self.now.cache.settings transaction.now.reads ≡ true)) }
+        ensures out_of_range { IsErrOf result RangeError.OutOfRange ↔ (are_within transaction.now.writes self.now.span ≡ false) }
+        ensures too_large { IsErrOf result RangeError.TooLarge ↔ ((are_within transaction.now.writes self.now.span && not (reads_fit self.now.cache.settings transaction.now.reads)) ≡ true) }
+    {
+        if !are_within(&transaction.writes, &self.span) {
+            return Err(RangeError::OutOfRange);
+        }
+        if !reads_fit(&self.cache, &transaction.reads) {
+            return Err(RangeError::TooLarge);
+        }
+        Ok(())
+    }
+
+    /// What a span has as of a time.
+    fn look(&self, span: &Span, at: Timestamp) -> Result<Read, NoMemory>
+        ensures { IfOk result (λ read. (read.span ≡ span.now) × Matches read (as_of at self.now.chains)) }
+    {
+        Ok(Read {
+            span: span.try_copy()?,
+            rows: rows_as_of(self.alloc, &self.chains, span, at)?,
+        })
+    }
+
+    /// Remembers a read that was answered, and gives it to its transaction.
+    fn answer(
+        &mut self,
+        transaction: &mut Transaction,
+        read: Read,
+        now: Timestamp,
+    ) -> Result<(), NoMemory>
+        requires matches { Matches read (as_of transaction.old.at self.old.chains) }
+        requires fits { fits self.old.cache.settings read.span ≡ true }
+        ensures ok { OnOk result (Answers self.old self.new transaction.old.by transaction.old.at now read) }
+        ensures has { OnOk result (transaction.new ≡ record transaction.old { reads = transaction.old.reads ++ read ∷ [] }) }
+        ensures err { OnErr result ((self.new ≡ self.old) × (transaction.new ≡ transaction.old)) }
+    {
+        let value = Value::of(transaction.at, transaction.by);
+        reserve(&mut transaction.reads, 1)?;
+        add(&mut self.cache, &read.span, value, now)?;
+        transaction.reads.push_reserved(read);
+        Ok(())
+    }
+
+    /// The earliest time, from the one on at which a transaction reads, that is free for its writes.
+    fn free_time(&self, transaction: &Transaction) -> Result<Option<Timestamp>, NoMemory>
+        ensures { IfOk result (λ at. TellsEarliest (IsFree self.now.cache self.now.chains transaction.now.by transaction.now.writes) transaction.now.at at) }
+    {
+        let by = transaction.by;
+        let from = transaction.at;
+        free_time(
+            self.alloc,
+            &self.cache,
+            &self.chains,
+            &transaction.writes,
+            from,
+            by,
+        )
+    }
+
+    /// Whether some reads are still what is there as of a time.
+    fn are_still_so(&self, reads: &[Read], at: Timestamp) -> Result<bool, NoMemory>
+        ensures { IfOk result (λ so. IsTrue so ↔ All (λ r. Matches r (as_of at self.now.chains)) reads.now) }
+    {
+        are_still_so(self.alloc, &self.chains, reads, at)
+    }
+
+    /// Remembers the reads of a transaction at a time, and lays down its writes as versions of it.
+    fn lay_down(
+        &mut self,
+        transaction: &Transaction,
+        at: Timestamp,
+        now: Timestamp,
+    ) -> Result<(), NoMemory>
+        requires { reads_fit self.old.cache.settings transaction.now.reads ≡ true }
+        ensures ok { OnOk result (LaysDown self.old self.new (record transaction.now { at = at }) now) }
+        ensures err { OnErr result (IsSame self.old self.new) }
+    {
+        let by = transaction.by;
+        let marks = marks_of(self.alloc, &transaction.reads, at, by)?;
+        let nodes = nodes_of(self.alloc, &transaction.writes, at, by)?;
+        let writes = transaction.writes.as_slice();
+        lay_down(
+            self.alloc,
+            &mut self.cache,
+            &mut self.chains,
+            &marks,
+            writes,
+            nodes,
+            (at, by),
+            now,
+        )
+    }
+}
+
+/// Adds reads to a cache and versions to chains, or leaves both as they are.
+fn lay_down(
+    alloc: Global,
+    cache: &mut Cache,
+    chains: &mut BTreeMap<Key, LinkedList<Version>>,
+    marks: &[Mark],
+    writes: &[Write],
+    nodes: LinkedList<LinkedList<Version>>,
+    stamp: (Timestamp, Uuid),
+    now: Timestamp,
+) -> Result<(), NoMemory>
+    requires fit { all_fit cache.old.settings marks.now ≡ true }
+    requires nodes { nodes ≡ nodes_of stamp.0 stamp.1 writes.now }
+    ensures done { OnOk result (StandsAfterAll cache.old cache.new marks.now now
+        × ((k : KeyBytes) → chain_of chains.new.entries k ≡ laid k stamp.0 stamp.1 writes.now (chain_of chains.old.entries k))) }
+    ensures cache { OnErr result (cache.new ≡ cache.old) }
+    ensures chains { OnErr result ((k : KeyBytes) → chain_of chains.new.entries k ≡ chain_of chains.old.entries k) }
+{
+    make_room(alloc, chains, writes)?;
+    add_all(cache, marks, now)?;
+    link_all(chains, writes, nodes, stamp.0, stamp.1);
+    Ok(())
+}
+
+/// The earliest time, from one on, that is free for writes.
+fn free_time(
+    alloc: Global,
+    cache: &Cache,
+    chains: &BTreeMap<Key, LinkedList<Version>>,
+    writes: &[Write],
+    from: Timestamp,
+    by: Uuid,
+) -> Result<Option<Timestamp>, NoMemory>
+    ensures { IfOk result (λ at. TellsEarliest (IsFree cache.now chains.now.entries by writes.now) from at) }
+{
+    match time_after(chains, writes, from) {
+        Some(after) => {
+            let keys = keys_of(alloc, writes)?;
+            Ok(earliest_write(cache, &keys, after, by))
+        }
+        None => Ok(None),
+    }
+}
+
+/// Whether some reads are still what is there as of a time.
+fn are_still_so(
+    alloc: Global,
+    chains: &BTreeMap<Key, LinkedList<Version>>,
+    reads: &[Read],
+    at: Timestamp,
+) -> Result<bool, NoMemory>
+    ensures { IfOk result (λ so. IsTrue so ↔ All (λ r. Matches r (as_of at chains.now.entries)) reads.now) }
+{
+    for read in reads {
+        let so = is_still_so(alloc, chains, read, at)?;
+        if !so {
+            return Ok(false);
+        }
+    }
+    Ok(true)
+}
+
+/// A new cache that takes over what a summary of another one tells of a span, in at most so many marks.
+fn taken_over(
+    alloc: Global,
+    cache: &Cache,
+    span: &Span,
+    config: Config,
+    most: usize,
+    now: Timestamp,
+) -> Result<Cache, CacheFault>
+    ensures { IfOk result (λ next. TakesOver span.now cache.now next) }
+{
+    let told = summary(alloc, cache, span, most)?;
+    let mut next = Cache::new(alloc, config)?;
+    apply(&mut next, &told, now)?;
+    Ok(next)
+}
+
+/// Whether a span lies within another.
+fn is_within(span: &Span, outer: &Span) -> bool
+    ensures { result ≡ is_within span.now outer.now }
+{
+    match (span.cuts(), outer.cuts()) {
+        (Some((first, end)), Some((from, to))) => !first.is_below(from) && !to.is_below(end),
+        (Some(_), None) => false,
+        (None, _) => true,
+    }
+}
+
+/// Whether each key that is written lies in a span.
+fn are_within(writes: &[Write], outer: &Span) -> bool
+    ensures { result ≡ are_within writes.now outer.now }
+{
+    for write in writes {
+        if !outer.covers(write.key.bytes()) {
+            return false;
+        }
+    }
+    true
+}
+
+/// Whether a cache has room for each of some reads.
+fn reads_fit(cache: &Cache, reads: &[Read]) -> bool
+    ensures { result ≡ reads_fit cache.now.settings reads.now }
+{
+    for read in reads {
+        if !cache.fits(&read.span) {
+            return false;
+        }
+    }
+    true
+}
+
+/// Adds a read that fits.
+fn add(cache: &mut Cache, span: &Span, value: Value, now: Timestamp) -> Result<(), NoMemory>
+    requires { fits cache.old.settings span.now ≡ true }
+    ensures stands { OnOk result (StandsAfter cache.old cache.new (record { span = span.now; value = value }) now) }
+    ensures unchanged { OnErr result (cache.new ≡ cache.old) }
+{
+    match cache.add(span, value, now) {
+        Ok(_) => Ok(()),
+        Err(_) => Err(NoMemory),
+    }
+}
+
+/// Adds reads that fit, all of them or none.
+fn add_all(cache: &mut Cache, marks: &[Mark], now: Timestamp) -> Result<(), NoMemory>
+    requires { all_fit cache.old.settings marks.now ≡ true }
+    ensures stands { OnOk result (StandsAfterAll cache.old cache.new marks.now now) }
+    ensures unchanged { OnErr result (cache.new ≡ cache.old) }
+{
+    match cache.add_all(marks, now) {
+        Ok(_) => Ok(()),
+        Err(_) => Err(NoMemory),
+    }
+}
+
+/// Makes room for some more of a list.
+fn reserve<T>(all: &mut Vec<T>, more: usize) -> Result<(), NoMemory>
+    ensures items { all.new.items ≡ all.old.items }
+    ensures room { OnOk result (vec_len all.new + more ≤ vec_capacity all.new) }
+{
+    all.reserve(more)?;
+    Ok(())
+}
+
+/// The keys that are written, each as a span.
+fn keys_of(alloc: Global, writes: &[Write]) -> Result<Vec<Span>, NoMemory>
+    ensures { IfOk result (λ keys. keys.items ≡ map (λ w. point w.key) writes.now) }
+{
+    let mut keys = Vec::new(alloc);
+    for write in writes {
+        keys.push(Span::point(write.key.try_copy()?))?;
+    }
+    Ok(keys)
+}
+
+/// What the cache remembers of reads.
+fn marks_of(alloc: Global, reads: &[Read], at: Timestamp, by: Uuid) -> Result<Vec<Mark>, NoMemory>
+    ensures { IfOk result (λ marks. marks.items ≡ map (mark_of at by) reads.now) }
+{
+    let mut marks = Vec::new(alloc);
+    for read in reads {
+        marks.push(Mark {
+            span: read.span.try_copy()?,
+            value: Value::of(at, by),
+        })?;
+    }
+    Ok(marks)
+}

@@ -1,0 +1,347 @@
+//! What transactions read and when they commit, row by row.
+use crate::{Outcome, Range, RangeError, Reason, Transaction, Write};
+use anyhow::{Context, Result};
+use std::alloc::Global;
+use timestamp_cache::{Config, Key, Span, Timestamp, Uuid};
+
+/// A step of a scenario. Transactions are numbered in the order in which they begin.
+#[derive(Clone, Copy)]
+enum Step {
+    /// A transaction of this id begins, at a time.
+    Begin(u8, u64),
+    /// A transaction reads from one key up to another, or one key where the other is empty: the rows, as `a=1 b=2`.
+    Read(usize, &'static str, &'static str, &'static str),
+    /// A transaction writes a key, or deletes it where the value is empty.
+    Put(usize, &'static str, &'static str),
+    /// A transaction commits.
+    Commit(usize, End),
+    /// The range is handed on, in at most so many marks.
+    HandOn(usize),
+}
+
+/// What becomes of a commit: a wall time, and a logical count.
+#[derive(Clone, Copy, PartialEq, Eq)]
+enum End {
+    At(u64, u32),
+    Changed(u64, u32),
+    NoTime,
+}
+
+use End::{At, Changed, NoTime};
+use Step::{Begin, Commit, HandOn, Put, Read};
+
+/// The last wall time of all.
+const LAST: u64 = u64::MAX;
+
+/// The first transaction, which writes a, b and c at 10.
+const FILL: [Step; 5] = [
+    Begin(9, 10),
+    Put(0, "a", "1"),
+    Put(0, "c", "3"),
+    Put(0, "b", "2"),
+    Commit(0, At(10, 0)),
+];
+
+const SCENARIOS: [(&str, &[Step]); 12] = [
+    (
+        "rows are in order, as of a time",
+        &[
+            Begin(1, 20),
+            Read(1, "a", "z", "a=1 b=2 c=3"),
+            Read(1, "b", "", "b=2"),
+            Read(1, "aa", "c", "b=2"),
+            Read(1, "d", "z", ""),
+            Begin(2, 9),
+            Read(2, "a", "z", ""),
+            Begin(3, 10),
+            Read(3, "a", "c", "a=1 b=2"),
+        ],
+    ),
+    (
+        "no update is lost",
+        &[
+            Begin(1, 20),
+            Begin(2, 21),
+            Read(1, "a", "", "a=1"),
+            Read(2, "a", "", "a=1"),
+            Put(1, "a", "one"),
+            Put(2, "a", "two"),
+            Commit(1, At(21, 1)),
+            Commit(2, Changed(21, 2)),
+        ],
+    ),
+    (
+        "no write is skewed",
+        &[
+            Begin(1, 20),
+            Begin(2, 20),
+            Read(1, "a", "c", "a=1 b=2"),
+            Read(2, "a", "c", "a=1 b=2"),
+            Put(1, "a", "one"),
+            Put(2, "b", "two"),
+            Commit(1, At(20, 1)),
+            Commit(2, Changed(20, 2)),
+        ],
+    ),
+    (
+        "no phantom appears",
+        &[
+            Begin(1, 30),
+            Read(1, "a", "z", "a=1 b=2 c=3"),
+            Begin(2, 20),
+            Put(2, "bb", "new"),
+            Commit(2, At(30, 1)),
+            Read(1, "a", "z", "a=1 b=2 c=3"),
+            Commit(1, At(30, 0)),
+            Begin(3, 31),
+            Read(3, "b", "c", "b=2 bb=new"),
+        ],
+    ),
+    (
+        "who only reads is not pushed",
+        &[
+            Begin(1, 20),
+            Read(1, "a", "z", "a=1 b=2 c=3"),
+            Begin(2, 25),
+            Put(2, "a", "new"),
+            Commit(2, At(25, 0)),
+            Commit(1, At(20, 0)),
+        ],
+    ),
+    (
+        "who is pushed refreshes its reads, which count at the later time",
+        &[
+            Begin(1, 40),
+            Read(1, "b", "", "b=2"),
+            Begin(2, 20),
+            Read(2, "a", "", "a=1"),
+            Put(2, "b", "x"),
+            Commit(2, At(40, 1)),
+            Begin(3, 30),
+            Put(3, "a", "y"),
+            Commit(3, At(40, 2)),
+            Begin(4, 50),
+            Read(4, "a", "z", "a=y b=x c=3"),
+        ],
+    ),
+    (
+        "who restarts may commit later",
+        &[
+            Begin(1, 20),
+            Read(1, "a", "", "a=1"),
+            Begin(2, 25),
+            Put(2, "a", "new"),
+            Commit(2, At(25, 0)),
+            Put(1, "a", "old"),
+            Commit(1, Changed(25, 1)),
+            Begin(1, 30),
+            Read(3, "a", "", "a=new"),
+            Put(3, "a", "newer"),
+            Commit(3, At(30, 0)),
+        ],
+    ),
+    (
+        "two at one time",
+        &[
+            Begin(1, 20),
+            Begin(2, 20),
+            Begin(3, 20),
+            Put(1, "a", "one"),
+            Put(2, "b", "two"),
+            Put(3, "a", "three"),
+            Commit(1, At(20, 0)),
+            Commit(2, At(20, 0)),
+            Commit(3, At(20, 1)),
+        ],
+    ),
+    (
+        "an own later read pushes to its time, and not above",
+        &[
+            Begin(1, 30),
+            Read(1, "b", "", "b=2"),
+            Begin(1, 20),
+            Put(2, "b", "own"),
+            Commit(2, At(30, 0)),
+        ],
+    ),
+    (
+        "a deletion is a version",
+        &[
+            Begin(1, 20),
+            Put(1, "b", ""),
+            Commit(1, At(20, 0)),
+            Begin(2, 20),
+            Read(2, "a", "z", "a=1 c=3"),
+            Begin(3, 19),
+            Read(3, "a", "z", "a=1 b=2 c=3"),
+            Begin(4, 15),
+            Put(4, "b", "late"),
+            Commit(4, At(20, 1)),
+        ],
+    ),
+    (
+        "a new lease minds the reads of the old one, by marks",
+        &[
+            Begin(1, 30),
+            Read(1, "a", "c", "a=1 b=2"),
+            HandOn(100),
+            Begin(2, 20),
+            Put(2, "b", "new"),
+            Commit(2, At(30, 1)),
+            Begin(3, 20),
+            Put(3, "c", "new"),
+            Commit(3, At(20, 0)),
+        ],
+    ),
+    (
+        "a new lease minds them by a floor, where no mark is sent",
+        &[
+            Begin(1, 30),
+            Read(1, "a", "c", "a=1 b=2"),
+            HandOn(0),
+            Begin(2, 20),
+            Put(2, "b", "new"),
+            Commit(2, At(30, 1)),
+            Begin(3, 20),
+            Put(3, "c", "new"),
+            Commit(3, At(30, 1)),
+        ],
+    ),
+];
+
+fn time(wall: u64) -> Result<Timestamp> {
+    Timestamp::new(wall, 0).context("no such time")
+}
+
+fn key(alloc: Global, text: &str) -> Result<Key> {
+    Ok(Key::new(alloc, text.as_bytes())?)
+}
+
+fn config() -> Result<Config> {
+    Ok(Config::new(4096, 4096, 2, 1000, time(5)?)?)
+}
+
+fn open(alloc: Global) -> Result<Range> {
+    let span = Span::of(key(alloc, "a")?, key(alloc, "z")?)?;
+    Ok(Range::open(alloc, span, config()?)?)
+}
+
+fn begin(alloc: Global, name: u8, wall: u64) -> Result<Transaction> {
+    Ok(Transaction::new(alloc, time(wall)?, Uuid::from_bytes([name; 16])))
+}
+
+fn put(alloc: Global, transaction: &mut Transaction, name: &str, value: &str) -> Result<()> {
+    let content = if value.is_empty() {
+        None
+    } else {
+        Some(Vec::from_slice(alloc, value.as_bytes())?)
+    };
+    let key = key(alloc, name)?;
+    transaction.write(Write { key, content })?;
+    Ok(())
+}
+
+fn read(
+    alloc: Global,
+    range: &mut Range,
+    transaction: &mut Transaction,
+    from: &str,
+    to: &str,
+) -> Result<String> {
+    let span = Span::of(key(alloc, from)?, key(alloc, to)?)?;
+    range.read(transaction, &span, time(100)?)?;
+    let mut text = String::new(alloc);
+    let read = transaction.reads().last().context("nothing read")?;
+    for row in &read.rows {
+        if !text.is_empty() {
+            text.push(' ')?;
+        }
+        text.push_str(std::str::from_utf8(row.key.bytes())?)?;
+        text.push('=')?;
+        text.push_str(std::str::from_utf8(row.value.as_slice())?)?;
+    }
+    Ok(text)
+}
+
+fn end_of(outcome: Outcome) -> End {
+    match outcome {
+        Outcome::Committed(at) => At(at.wall(), at.logical()),
+        Outcome::Restart(reason) => restart(reason),
+    }
+}
+
+fn restart(reason: Reason) -> End {
+    match reason {
+        Reason::Changed(at) => Changed(at.wall(), at.logical()),
+        Reason::NoTime => NoTime,
+    }
+}
+
+fn commit(range: &mut Range, transaction: &Transaction) -> Result<End> {
+    match range.commit(transaction, time(100)?) {
+        Ok(outcome) => Ok(end_of(outcome)),
+        Err(error) => Err(error.into()),
+    }
+}
+
+/// Whether a step does what it is to do.
+fn takes(
+    alloc: Global,
+    range: &mut Range,
+    transactions: &mut Vec<Transaction>,
+    step: Step,
+) -> Result<bool> {
+    match step {
+        Begin(name, wall) => {
+            transactions.push(begin(alloc, name, wall)?)?;
+            Ok(true)
+        }
+        Read(number, from, to, rows) => {
+            let transaction = transactions.get_mut(number).context("not begun")?;
+            Ok(read(alloc, range, transaction, from, to)?.as_str() == rows)
+        }
+        Put(number, name, value) => {
+            let transaction = transactions.get_mut(number).context("not begun")?;
+            put(alloc, transaction, name, value)?;
+            Ok(true)
+        }
+        Commit(number, end) => {
+            let transaction = transactions.get(number).context("not begun")?;
+            Ok(commit(range, transaction)? == end)
+        }
+        HandOn(most) => {
+            range.hand_on(config()?, most, time(100)?)?;
+            Ok(true)
+        }
+    }
+}
+
+/// The first step that does not do what it is to do, or how many there are.
+fn play(
+    alloc: Global,
+    range: &mut Range,
+    transactions: &mut Vec<Transaction>,
+    steps: &[Step],
+) -> Result<usize> {
+    for (i, step) in steps.iter().enumerate() {
+        if !takes(alloc, range, transactions, *step)? {
+            return Ok(i);
+        }
+    }
+    Ok(steps.len())
+}
+
+fn play_all(alloc: Global, steps: &[Step]) -> Result<usize> {
+    let mut range = open(alloc)?;
+    let mut transactions = Vec::new(alloc);
+    play(alloc, &mut range, &mut transactions, &FILL)?;
+    play(alloc, &mut range, &mut transactions, steps)
+}
+
+#[test]
+fn scenarios_go_as_said(rt: HostRuntime) {
+    for (name, steps) in SCENARIOS {
+        let played = play_all(rt.alloc(), steps).expect(&rt, name);
+        assert_eq!(rt; played, steps.len(), "{name}");
+    }
+}

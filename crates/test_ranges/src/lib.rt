@@ -1,0 +1,16 @@
+//! Random histories of transactions, each executed once more by brute force in the serial order.
+//!
+//! The executor shares no code with the range. It finds no violation in what [`mvcc_range::Range`] answers, and finds some
+//! in the answers of each plain store that leaves a step out.
+#![tactic(auto)]
+
+#[cfg(test)]
+mod executor;
+#[cfg(test)]
+mod histories;
+#[cfg(test)]
+mod plain;
+#[cfg(test)]
+mod ranges;
+#[cfg(test)]
+mod tests;
