@@ -3,6 +3,8 @@
 #[cfg(test)]
 mod check;
 #[cfg(test)]
+mod hostile;
+#[cfg(test)]
 mod lines;
 #[cfg(test)]
 mod memory;

@@ -1,5 +1,5 @@
 //! Checks over memory: of logs whose verdicts are known, and with readers and writers whose calls go wrong.
-use crate::commands::memory::Command::{Check, Replay};
+use crate::commands::memory::Command::Check;
 use crate::commands::memory::{CALM, CALMLY, Calls, Troubled, end_with, ends, play_troubled};
 use crate::commands::traces::{
     NO_JSON, OVERLAPPING_READS, OVERLAPPING_READS_LOG, RACE, TWO_THREADS, TWO_THREADS_LOG,
@@ -7,7 +7,6 @@ use crate::commands::traces::{
 use crate::rows::unfolded;
 use std::alloc::{AllocError, Global};
 use std::sync::Wait;
-use std::test::Fail;
 use std::thread::Threads;
 use tsc_shared::NoGate;
 use tsc_trace_io::fakes::Mishap;
@@ -22,7 +21,7 @@ const ONE_LIST: &str =
 {"op":"add","span":{"start":"61"},"time":[20,0],"owner":"11111111-1111-4111-8111-111111111111","now":[20,0]},
 {"op":"get","span":{"start":"61"}}]]}"#;
 
-const NO_CALLS: &str =
+pub(crate) const NO_CALLS: &str =
     r#"{"page_first":132,"page_max":132,"min_pages":2,"retention":10,"low_water":[5,0],"threads":[[]]}"#;
 
 const NO_LISTS: &str =
@@ -246,16 +245,4 @@ fn checks_end_as_their_rows_say(rt: HostRuntime) {
     play_troubled(&rt, rt.alloc(), &MISHAPS);
     let cut = first_wrong_cut(&rt, rt.alloc(), OVERLAPPING_READS_LOG.as_bytes());
     assert_eq!(rt; cut, None);
-}
-
-/// Of one byte more than an input may have: a replay, and a check of a log.
-#[test]
-fn inputs_that_are_too_long(rt: HostRuntime) -> Result<(), Fail> {
-    let blanks = Vec::from_elem(rt.alloc(), b' ', 16_777_217)?;
-    let end = (4, &b""[..], &b"input too long\n"[..]);
-    let replay = (Replay, blanks.as_slice(), &b""[..]);
-    assert!(rt; ends(&rt, rt.alloc(), &NoGate, replay, CALMLY, end));
-    let check = (Check, NO_CALLS.as_bytes(), blanks.as_slice());
-    assert!(rt; ends(&rt, rt.alloc(), &NoGate, check, CALMLY, end));
-    Ok(())
 }

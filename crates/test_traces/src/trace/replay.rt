@@ -45,15 +45,15 @@ static REPLAYS: [(&str, &str); 13] = [
     ),
     // the pages rotate twice, and the second time the oldest one is dropped
     (
-        r#"[[{"op":"add","span":{"start":"61"},"time":[20,0],"now":[20,0]},
-{"op":"add","span":{"start":"62"},"time":[20,0],"now":[20,0]},
-{"op":"add","span":{"start":"63"},"time":[20,0],"now":[20,0]},
-{"op":"add","span":{"start":"64"},"time":[20,0],"now":[20,0]},
-{"op":"add","span":{"start":"65"},"time":[20,0],"now":[20,0]},
-{"op":"add","span":{"start":"66"},"time":[41,0],"now":[40,0]},
-{"op":"add","span":{"start":"67"},"time":[41,0],"now":[40,0]},
-{"op":"add","span":{"start":"68"},"time":[41,0],"now":[40,0]},
-{"op":"add","span":{"start":"69"},"time":[41,0],"now":[40,0]},
+        r#"[[{"op":"add","span":{"start":"61"},"time":[20,0],"owner":"11111111-1111-4111-8111-111111111111","now":[20,0]},
+{"op":"add","span":{"start":"62"},"time":[20,0],"owner":"11111111-1111-4111-8111-111111111111","now":[20,0]},
+{"op":"add","span":{"start":"63"},"time":[20,0],"owner":"11111111-1111-4111-8111-111111111111","now":[20,0]},
+{"op":"add","span":{"start":"64"},"time":[20,0],"owner":"11111111-1111-4111-8111-111111111111","now":[20,0]},
+{"op":"add","span":{"start":"65"},"time":[20,0],"owner":"11111111-1111-4111-8111-111111111111","now":[20,0]},
+{"op":"add","span":{"start":"66"},"time":[41,0],"owner":"11111111-1111-4111-8111-111111111111","now":[40,0]},
+{"op":"add","span":{"start":"67"},"time":[41,0],"owner":"11111111-1111-4111-8111-111111111111","now":[40,0]},
+{"op":"add","span":{"start":"68"},"time":[41,0],"owner":"11111111-1111-4111-8111-111111111111","now":[40,0]},
+{"op":"add","span":{"start":"69"},"time":[41,0],"owner":"11111111-1111-4111-8111-111111111111","now":[40,0]},
 {"op":"get","span":{"start":"61"}},
 {"op":"low"}]]}"#,
         "0 0 add 0 1 0 0
@@ -400,11 +400,27 @@ fn wrong_end(alloc: Global, text: &str, rows: &[End]) -> Option<usize> {
     None
 }
 
+/// How a replay of bytes in memory ends. It is proved that no read of them fails.
+fn replay_in_memory(alloc: Global, bytes: &[u8], writer: &mut Output) -> Result<(), ReplayFault> {
+    match replay_stream(alloc, &mut Metered::new(bytes), writer) {
+        Err(ReplayFault::Read) => unreachable!(),
+        ended => ended,
+    }
+}
+
+/// Whether such a replay of a trace writes this.
+fn replays_in_memory(alloc: Global, text: &str, want: &str) -> bool {
+    let mut writer = new_writer(alloc, AGAIN.calls);
+    let ended = replay_in_memory(alloc, text.as_bytes(), &mut writer);
+    ended.is_ok() && writer.into_inner().inner.as_slice() == want.as_bytes()
+}
+
 #[test]
 fn replays(rt: HostRuntime) -> Result<(), Fail> {
     none(&rt, first_wrong(rt.alloc(), &SLOWLY, &REPLAYS)?);
     let text = format!(in rt.alloc(); "{HEAD}{OVERLAPPING_READS}")?;
     none(&rt, wrong_end(rt.alloc(), &text, &ENDS));
+    assert!(rt; replays_in_memory(rt.alloc(), &text, OVERLAPPING_READS_LOG));
     Ok(())
 }
 

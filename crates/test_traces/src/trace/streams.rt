@@ -5,7 +5,7 @@ use std::io;
 use std::io::Read;
 use tsc_trace_io::fakes::{Faulty, Mishap};
 use tsc_trace_io::{
-    InputFault, Metered, Sink, Source, Trouble, WriteFailed, read_input, write_output,
+    AnyTrouble, InputFault, Metered, Sink, Source, Trouble, WriteFailed, read_input, write_output,
 };
 
 /// How often a reader is read at the most, and a writer written to.
@@ -224,7 +224,7 @@ static SPACES: [(u64, Result<usize, InputFault>); 3] = [
 /// The number of the first row of spaces, from 0, whose reading ends otherwise.
 fn wrong_spaces(alloc: Global, rows: &[(u64, Result<usize, InputFault>)]) -> Option<usize> {
     for (i, (count, want)) in rows.iter().enumerate() {
-        let mut reader = Metered::new(io::repeat(b' ').take(*count));
+        let mut reader = Metered::new(AnyTrouble(io::repeat(b' ').take(*count)));
         let read = match read_input(alloc, &mut reader) {
             Ok(input) => Ok(input.len()),
             Err(fault) => Err(fault),
