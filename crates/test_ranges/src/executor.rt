@@ -56,38 +56,33 @@ fn execute(contents: &mut Contents, transaction: &Committed) -> bool {
     true
 }
 
-/// The next transaction in the serial order behind a time and a turn.
-fn next_after(done: &[Committed], last: Option<(u64, usize)>) -> Option<&Committed> {
-    let mut next: Option<&Committed> = None;
+/// Whether a transaction stands before another in the serial order.
+fn is_before(one: &Committed, other: &Committed) -> bool {
+    one.time < other.time || (one.time == other.time && one.turn < other.turn)
+}
+
+/// How many transactions stand before one in the serial order.
+fn place_of(done: &[Committed], one: &Committed) -> usize {
+    done.iter().filter(|other| is_before(other, one)).count()
+}
+
+/// Executes the transaction that has some place in the serial order.
+fn execute_at(done: &[Committed], place: usize, contents: &mut Contents) -> bool {
     for transaction in done {
-        let place = (transaction.time, transaction.turn);
-        let behind = match last {
-            Some(last) => place > last,
-            None => true,
-        };
-        let before = match next {
-            Some(other) => place < (other.time, other.turn),
-            None => true,
-        };
-        if behind && before {
-            next = Some(transaction);
+        if place_of(done, transaction) == place {
+            return execute(contents, transaction);
         }
     }
-    next
+    false
 }
 
 /// Whether transactions are serializable in the order of their times, and leave just what the keys have in the end.
 pub fn is_serial(done: &[Committed], end: &Contents) -> bool {
     let mut contents: Contents = [None; KEYS];
-    let mut last = None;
-    for _ in done {
-        let Some(transaction) = next_after(done, last) else {
-            return false;
-        };
-        if !execute(&mut contents, transaction) {
+    for place in 0..done.len() {
+        if !execute_at(done, place, &mut contents) {
             return false;
         }
-        last = Some((transaction.time, transaction.turn));
     }
     contents == *end
 }

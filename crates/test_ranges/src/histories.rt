@@ -1,4 +1,6 @@
 //! Histories that look random: what transactions do, and in which order.
+ghost use Rattle.std.specs.Prelude.{◌≤◌, ◌<◌};
+
 use crate::executor::{Committed, Contents, KEYS, KeyWrite, SpanRead, is_serial};
 use std::alloc::Global;
 use std::test::Fail;
@@ -39,7 +41,9 @@ pub struct Sequence {
 
 impl Sequence {
     /// The next number, from 0 to below `end`.
-    pub fn below(&mut self, end: u32) -> u32 {
+    pub fn below(&mut self, end: u32) -> u32
+        ensures { 1 ≤ end → result < end }
+    {
         self.state = self
             .state
             .wrapping_mul(6_364_136_223_846_793_005)

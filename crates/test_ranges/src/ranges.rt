@@ -54,7 +54,7 @@ fn contents_of(rows: &[Row]) -> Contents {
     let mut contents: Contents = [None; KEYS];
     for row in rows {
         for (number, name) in NAMES.iter().enumerate() {
-            if row.key.bytes() == *name {
+            if number < KEYS && row.key.bytes() == *name {
                 contents[number] = Some(number_of(row));
             }
         }
