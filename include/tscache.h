@@ -69,6 +69,16 @@
 extern "C" {
 #endif
 
+/* The version of this header: a million for each major number, a thousand for each minor one, and the patch. Before 1.0 each
+ * minor version may change what stands here, and CHANGELOG.md says how. */
+#define TSC_VERSION_MAJOR 0
+#define TSC_VERSION_MINOR 1
+#define TSC_VERSION_PATCH 0
+#define TSC_VERSION (TSC_VERSION_MAJOR * 1000000 + TSC_VERSION_MINOR * 1000 + TSC_VERSION_PATCH)
+
+/* The version of the library that is linked, which should be TSC_VERSION. */
+uint32_t tsc_version(void);
+
 /* What a call answers: TSC_OK, or why it was refused. A call that is refused adds nothing to a cache, and writes nothing but to the
  * place (and with TSC_REFUSED and TSC_SHORT what is said there). */
 enum {

@@ -21,6 +21,7 @@ mod tests;
 mod texts;
 #[cfg(test)]
 mod texts_tests;
+mod version;
 
 use std::alloc::Global;
 use tsc_c_calls::{Place, held};

@@ -1,6 +1,7 @@
 //! What is said of bytes, with room for it and without, and what the buffer holds then. `scripts/test-c-library` tests more of it, from C.
 
 use crate::texts::{tsc_check, tsc_replay};
+use crate::version::tsc_version;
 use std::alloc::{AllocError, Global};
 
 const TRACE: &str =
@@ -62,6 +63,11 @@ fn first_wrong(alloc: Global, rows: &[Row]) -> Result<Option<usize>, AllocError>
         }
     }
     Ok(None)
+}
+
+#[test]
+fn tells_its_version(rt: HostRuntime) {
+    assert_eq!(rt; tsc_version(), 1000);
 }
 
 #[test]
