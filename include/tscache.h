@@ -11,17 +11,17 @@
  *     tsc_value read = {20, 0, {0x11}}, latest;
  *     tsc_added added;
  *     if (tsc_open(&place, 4096, 65536, 2, 10000000000, &low, &n)) return 1;
- *     tsc_try_add(&place, n, "a", 1, "c", 1, TSC_EXCLUDE_TO, &read, &now, &added);    // [a, c) was read at 20
- *     tsc_try_get_max(&place, n, "b", 1, NULL, 0, TSC_POINT, &latest);                // latest.wall is 20
+ *     tsc_checked_add(&place, n, "a", 1, "c", 1, TSC_EXCLUDE_TO, &read, &now, &added);    // [a, c) was read at 20
+ *     tsc_checked_get_max(&place, n, "b", 1, NULL, 0, TSC_POINT, &latest);                // latest.wall is 20
  *     tsc_free(&place);
  *
  * When a write may be made: at a time above what a lookup of its span answers, or at that very
  * time where its transaction owns the answer, which sixteen zeros never do. Else the earliest time
  * that will do is the answer's if the transaction owns it, and if not the one after it, which
  * `tsc_next` tells. Each of several spans has to let the write pass, so a store goes from span to
- * span, on to a later time where one asks for that, and never back. The trap: an own answer at 30
- * hides a read of somebody else at 20, so that a write at 25 is never let pass because the answer
- * is its own.
+ * span, on to a later time where one asks for that, and never back: `tsc_earliest_write` and
+ * `tsc_seat_earliest_write` do. The trap: an own answer at 30 hides a read of somebody else at 20,
+ * so that a write at 25 is never let pass because the answer is its own.
  *
  * Each function that is declared here is proved, over whatever numbers and bytes it is given, to return and to do what is said
  * of it, as long as the caller keeps to this:
@@ -30,8 +30,8 @@
  *     reads, writes or frees it. A place may be moved (the old memory is a place no more); it is never copied and used twice.
  *   - Each pointer leads to as much as its type and the length after it say, which nothing else writes until the call returns.
  *     What a call writes (a place, a number, an `out`) overlaps nothing else that it is given; `from` and `to` may be the same
- *     bytes. No pointer is null, and none but those of bytes and marks has a length. Each call has one with `_try_` in its
- *     name, below, that tests for null, and takes null for no bytes.
+ *     bytes. No pointer is null, and none but those of bytes and marks has a length. Each call has one beside it, with
+ *     `checked_` in its name, that tests for null, and takes null for no bytes.
  *   - The calls of one place come one at a time, and each sees what the last one did: one thread, or a lock round each call, or
  *     the start or the end of a thread between them. A place may go from thread to thread in this way. Different places may be
  *     used at once, also where both have seats of one shared cache, which is all that they can have in common. Each call writes to its
@@ -51,9 +51,9 @@
  *     static tsc_place theirs;                                 // the place of another thread
  *     if (tsc_open_shared(&place, 4096, 65536, 2, 10000000000, &low, 2, UINT64_MAX, &n)) return 1;   // seats n + 1 and n + 2
  *     if (tsc_move(&place, n + 2, &theirs, &seat)) return 1;   // the other thread's seat is number `seat` of `theirs`
- *     while (tsc_seat_try_add(&place, n + 1, "a", 1, "c", 1, TSC_EXCLUDE_TO, &read, &now, 64, &at, &added) == TSC_BUSY)
+ *     while (tsc_checked_seat_add(&place, n + 1, "a", 1, "c", 1, TSC_EXCLUDE_TO, &read, &now, 64, &at, &added) == TSC_BUSY)
  *         thrd_yield();
- *     tsc_seat_try_get_max(&theirs, seat, "b", 1, NULL, 0, TSC_POINT, &seen, &latest);            // in the other thread
+ *     tsc_checked_seat_get_max(&theirs, seat, "b", 1, NULL, 0, TSC_POINT, &seen, &latest);            // in the other thread
  *     tsc_seat_close(&theirs, seat);                           // each seat is handed in,
  *     tsc_seat_close(&place, n + 1);
  *     tsc_close_shared(&place, n, &adds);                      // and then there were so many Adds
@@ -100,7 +100,8 @@ enum {
     TSC_FULL = 15,        /* the shared cache has had as many Adds as `limit` says */
     TSC_REFUSED = 16,     /* of tsc_replay and tsc_check: the text says why the bytes are no trace, or no log */
     TSC_SHORT = 17,       /* of the same: the text is longer than `room`, and `*len` says how long */
-    TSC_NULL = 255        /* a pointer is null: told by the calls with `_try_` in their names alone */
+    TSC_NO_TIME = 18,     /* a read of somebody else stands at the last time, so a write may be made at none */
+    TSC_NULL = 255        /* a pointer is null: told by the calls with `checked_` in their names alone */
 };
 
 /* The ends of a span: TSC_POINT, or TSC_ONWARD with or without TSC_EXCLUDE_FROM, or any sum of the first two, 0 too. */
@@ -143,6 +144,12 @@ typedef struct {
     uint32_t ends;
 } tsc_mark;
 
+/* One span of several: its keys are `from_len` bytes of `keys` from place `from_at` on, and `to_len` from `to_at` on. */
+typedef struct {
+    size_t from_at, from_len, to_at, to_len;
+    uint32_t ends;
+} tsc_span;
+
 /* What can be counted of a cache. Each count stays at 2^64 - 1 once it is there. */
 typedef struct {
     uint64_t pages;     /* how many there are */
@@ -159,18 +166,26 @@ uint32_t tsc_open(tsc_place *place, uint32_t page_first, uint32_t page_max, uint
                   const tsc_time *low_water, uint64_t *number);
 
 /* Adds a span that was read, with the time and the owner of the read, at the moment `now`. */
-uint32_t tsc_add(tsc_place *place, uint64_t number, const uint8_t *from, size_t from_len, const uint8_t *to, size_t to_len,
+uint32_t tsc_add(tsc_place *place, uint64_t number, const void *from, size_t from_len, const void *to, size_t to_len,
                  uint32_t ends, const tsc_value *value, const tsc_time *now, tsc_added *out);
 
 /* Adds several marks, one after another at one moment, all of them or none. */
-uint32_t tsc_add_all(tsc_place *place, uint64_t number, const uint8_t *keys, size_t keys_len, const tsc_mark *marks,
+uint32_t tsc_add_all(tsc_place *place, uint64_t number, const void *keys, size_t keys_len, const tsc_mark *marks,
                      size_t marks_len, const tsc_time *now, tsc_added *out);
 
 /* The latest time on a span, with its owner where all reads of that time are one transaction's, or the floor. A span whose first
  * key is greater than the second is empty, and the floor answers. A key may be of any length. It is refused by TSC_CLOSED and TSC_ENDS
  * alone. */
-uint32_t tsc_get_max(tsc_place *place, uint64_t number, const uint8_t *from, size_t from_len, const uint8_t *to, size_t to_len,
+uint32_t tsc_get_max(tsc_place *place, uint64_t number, const void *from, size_t from_len, const void *to, size_t to_len,
                      uint32_t ends, tsc_value *out);
+
+/* The earliest time at which a transaction may write all of some spans, by the rule at the head of this file: from the time of
+ * `write` on, by its owner. The time is clear of each read on one of the spans that was added so far, and no earlier one from that of
+ * `write` on is clear of what lookups of the spans answer. A write may be made at once where it is told its own time. It costs a
+ * lookup for each span, and takes no memory. It is refused by TSC_NO_TIME where there is no such time, by TSC_TIME, TSC_ENDS and
+ * TSC_OUTSIDE, and by TSC_CLOSED. */
+uint32_t tsc_earliest_write(tsc_place *place, uint64_t number, const void *keys, size_t keys_len, const tsc_span *spans,
+                            size_t spans_len, const tsc_value *write, tsc_time *out);
 
 /* Where the floor stands. */
 uint32_t tsc_low_water(tsc_place *place, uint64_t number, tsc_time *out);
@@ -204,9 +219,11 @@ uint32_t tsc_open_shared(tsc_place *place, uint32_t page_first, uint32_t page_ma
  * of that seat counts the Add then. A lookup that begins once an Add has returned counts it the first time; this alone is tested, and not
  * proved.
  *
- * There is no call that has a seat learn what another one has seen, none that tells the reads of a span to the next holder of a lease (that
- * one opens its cache with `low_water` at or above each time at which a read was answered), and none for the earliest time of a write, which
- * lookups and comparisons tell by the rule at the head of this file.
+ * There is no call that has a seat learn what another one has seen, and none that tells the reads of a span to the next holder of a lease
+ * (that one opens its cache with `low_water` at or above each time at which a read was answered).
+ *
+ * `tsc_seat_earliest_write` looks up one span after another, and each lookup may see more Adds than the one before. The time is
+ * clear of each read on a span that the seat had seen when it looked that span up, which is at least all that it had seen before.
  *
  * An Add takes its turn. It tries so many times to begin, where another seat is at it, and looks so many times at each seat that is inside a
  * lookup. Where others are in the way each time it is refused by TSC_BUSY and may be tried again; with 0 tries it always is. Take
@@ -214,13 +231,15 @@ uint32_t tsc_open_shared(tsc_place *place, uint32_t page_first, uint32_t page_ma
  * TSC_FULL comes where there were `limit` Adds. `place_in_history` is where this one stands among all
  * Adds, from 0 on. Lookups wait for nobody, and are refused as those of `tsc_get_max` are. `seen` is
  * how many Adds the seat has seen then, which never goes back. */
-uint32_t tsc_seat_add(tsc_place *place, uint64_t seat, const uint8_t *from, size_t from_len, const uint8_t *to, size_t to_len,
+uint32_t tsc_seat_add(tsc_place *place, uint64_t seat, const void *from, size_t from_len, const void *to, size_t to_len,
                       uint32_t ends, const tsc_value *value, const tsc_time *now, uint32_t tries, uint64_t *place_in_history,
                       tsc_added *out);
-uint32_t tsc_seat_add_all(tsc_place *place, uint64_t seat, const uint8_t *keys, size_t keys_len, const tsc_mark *marks,
+uint32_t tsc_seat_add_all(tsc_place *place, uint64_t seat, const void *keys, size_t keys_len, const tsc_mark *marks,
                           size_t marks_len, const tsc_time *now, uint32_t tries, uint64_t *place_in_history, tsc_added *out);
-uint32_t tsc_seat_get_max(tsc_place *place, uint64_t seat, const uint8_t *from, size_t from_len, const uint8_t *to, size_t to_len,
+uint32_t tsc_seat_get_max(tsc_place *place, uint64_t seat, const void *from, size_t from_len, const void *to, size_t to_len,
                           uint32_t ends, uint64_t *seen, tsc_value *out);
+uint32_t tsc_seat_earliest_write(tsc_place *place, uint64_t seat, const void *keys, size_t keys_len, const tsc_span *spans,
+                                 size_t spans_len, const tsc_value *write, uint64_t *seen, tsc_time *out);
 uint32_t tsc_seat_low_water(tsc_place *place, uint64_t seat, uint64_t *seen, tsc_time *out);
 uint32_t tsc_seat_figures_of(tsc_place *place, uint64_t seat, uint64_t *seen, tsc_figures *out);
 
@@ -241,14 +260,14 @@ uint32_t tsc_close_shared(tsc_place *place, uint64_t number, uint64_t *length);
  * more than 16,777,216 bytes is refused. */
 
 /* Replays a trace on one thread. The text is that of its log. */
-uint32_t tsc_replay(const uint8_t *trace, size_t trace_len, uint8_t *out, size_t room, size_t *len);
+uint32_t tsc_replay(const void *trace, size_t trace_len, void *out, size_t room, size_t *len);
 
 /* Checks a log against its trace. The text is the line of the verdict, with its line feed. */
-uint32_t tsc_check(const uint8_t *trace, size_t trace_len, const uint8_t *log, size_t log_len, uint8_t *out, size_t room, size_t *len);
+uint32_t tsc_check(const void *trace, size_t trace_len, const void *log, size_t log_len, void *out, size_t room, size_t *len);
 
-/* The same calls where a pointer may be null. Then all but tsc_try_free, which does nothing, answer TSC_NULL. */
+/* The same calls where a pointer may be null. Then all but tsc_checked_free, which does nothing, answer TSC_NULL. */
 
-static inline uint32_t tsc_try_open(tsc_place *place, uint32_t page_first, uint32_t page_max, uint32_t min_pages, uint64_t retention,
+static inline uint32_t tsc_checked_open(tsc_place *place, uint32_t page_first, uint32_t page_max, uint32_t min_pages, uint64_t retention,
                                     const tsc_time *low_water, uint64_t *number)
 {
     if (!place || !low_water || !number)
@@ -256,7 +275,7 @@ static inline uint32_t tsc_try_open(tsc_place *place, uint32_t page_first, uint3
     return tsc_open(place, page_first, page_max, min_pages, retention, low_water, number);
 }
 
-static inline uint32_t tsc_try_open_shared(tsc_place *place, uint32_t page_first, uint32_t page_max, uint32_t min_pages,
+static inline uint32_t tsc_checked_open_shared(tsc_place *place, uint32_t page_first, uint32_t page_max, uint32_t min_pages,
                                            uint64_t retention, const tsc_time *low_water, uint32_t seats, uint64_t limit,
                                            uint64_t *number)
 {
@@ -265,38 +284,38 @@ static inline uint32_t tsc_try_open_shared(tsc_place *place, uint32_t page_first
     return tsc_open_shared(place, page_first, page_max, min_pages, retention, low_water, seats, limit, number);
 }
 
-static inline uint32_t tsc_try_move(tsc_place *place, uint64_t number, tsc_place *other, uint64_t *other_number)
+static inline uint32_t tsc_checked_move(tsc_place *place, uint64_t number, tsc_place *other, uint64_t *other_number)
 {
     return place && other && other_number ? tsc_move(place, number, other, other_number) : (uint32_t)TSC_NULL;
 }
 
-static inline uint32_t tsc_try_close(tsc_place *place, uint64_t number)
+static inline uint32_t tsc_checked_close(tsc_place *place, uint64_t number)
 {
     return place ? tsc_close(place, number) : (uint32_t)TSC_NULL;
 }
 
-static inline uint32_t tsc_seat_try_close(tsc_place *place, uint64_t seat)
+static inline uint32_t tsc_checked_seat_close(tsc_place *place, uint64_t seat)
 {
     return place ? tsc_seat_close(place, seat) : (uint32_t)TSC_NULL;
 }
 
-static inline uint32_t tsc_try_close_shared(tsc_place *place, uint64_t number, uint64_t *length)
+static inline uint32_t tsc_checked_close_shared(tsc_place *place, uint64_t number, uint64_t *length)
 {
     return place && length ? tsc_close_shared(place, number, length) : (uint32_t)TSC_NULL;
 }
 
-static inline void tsc_try_free(tsc_place *place)
+static inline void tsc_checked_free(tsc_place *place)
 {
     if (place)
         tsc_free(place);
 }
 
-static inline const uint8_t *tsc_bytes(const void *bytes)
+static inline const void *tsc_bytes(const void *bytes)
 {
-    return bytes ? (const uint8_t *)bytes : (const uint8_t *)"";
+    return bytes ? bytes : "";
 }
 
-static inline uint32_t tsc_try_add(tsc_place *place, uint64_t number, const void *from, size_t from_len, const void *to,
+static inline uint32_t tsc_checked_add(tsc_place *place, uint64_t number, const void *from, size_t from_len, const void *to,
                                    size_t to_len, uint32_t ends, const tsc_value *value, const tsc_time *now, tsc_added *out)
 {
     if (!place || !value || !now || !out || (!from && from_len) || (!to && to_len))
@@ -304,7 +323,7 @@ static inline uint32_t tsc_try_add(tsc_place *place, uint64_t number, const void
     return tsc_add(place, number, tsc_bytes(from), from_len, tsc_bytes(to), to_len, ends, value, now, out);
 }
 
-static inline uint32_t tsc_try_add_all(tsc_place *place, uint64_t number, const void *keys, size_t keys_len,
+static inline uint32_t tsc_checked_add_all(tsc_place *place, uint64_t number, const void *keys, size_t keys_len,
                                        const tsc_mark *marks, size_t marks_len, const tsc_time *now, tsc_added *out)
 {
     static const tsc_mark none = {0, 0, 0, 0, {0, 0, {0}}, 0};
@@ -313,7 +332,7 @@ static inline uint32_t tsc_try_add_all(tsc_place *place, uint64_t number, const 
     return tsc_add_all(place, number, tsc_bytes(keys), keys_len, marks ? marks : &none, marks_len, now, out);
 }
 
-static inline uint32_t tsc_try_get_max(tsc_place *place, uint64_t number, const void *from, size_t from_len, const void *to,
+static inline uint32_t tsc_checked_get_max(tsc_place *place, uint64_t number, const void *from, size_t from_len, const void *to,
                                        size_t to_len, uint32_t ends, tsc_value *out)
 {
     if (!place || !out || (!from && from_len) || (!to && to_len))
@@ -321,17 +340,26 @@ static inline uint32_t tsc_try_get_max(tsc_place *place, uint64_t number, const 
     return tsc_get_max(place, number, tsc_bytes(from), from_len, tsc_bytes(to), to_len, ends, out);
 }
 
-static inline uint32_t tsc_try_low_water(tsc_place *place, uint64_t number, tsc_time *out)
+static inline uint32_t tsc_checked_earliest_write(tsc_place *place, uint64_t number, const void *keys, size_t keys_len,
+                                                  const tsc_span *spans, size_t spans_len, const tsc_value *write, tsc_time *out)
+{
+    static const tsc_span none = {0, 0, 0, 0, 0};
+    if (!place || !write || !out || (!keys && keys_len) || (!spans && spans_len))
+        return TSC_NULL;
+    return tsc_earliest_write(place, number, tsc_bytes(keys), keys_len, spans ? spans : &none, spans_len, write, out);
+}
+
+static inline uint32_t tsc_checked_low_water(tsc_place *place, uint64_t number, tsc_time *out)
 {
     return place && out ? tsc_low_water(place, number, out) : (uint32_t)TSC_NULL;
 }
 
-static inline uint32_t tsc_try_figures_of(tsc_place *place, uint64_t number, tsc_figures *out)
+static inline uint32_t tsc_checked_figures_of(tsc_place *place, uint64_t number, tsc_figures *out)
 {
     return place && out ? tsc_figures_of(place, number, out) : (uint32_t)TSC_NULL;
 }
 
-static inline uint32_t tsc_seat_try_add(tsc_place *place, uint64_t seat, const void *from, size_t from_len, const void *to,
+static inline uint32_t tsc_checked_seat_add(tsc_place *place, uint64_t seat, const void *from, size_t from_len, const void *to,
                                         size_t to_len, uint32_t ends, const tsc_value *value, const tsc_time *now, uint32_t tries,
                                         uint64_t *place_in_history, tsc_added *out)
 {
@@ -340,7 +368,7 @@ static inline uint32_t tsc_seat_try_add(tsc_place *place, uint64_t seat, const v
     return tsc_seat_add(place, seat, tsc_bytes(from), from_len, tsc_bytes(to), to_len, ends, value, now, tries, place_in_history, out);
 }
 
-static inline uint32_t tsc_seat_try_add_all(tsc_place *place, uint64_t seat, const void *keys, size_t keys_len, const tsc_mark *marks,
+static inline uint32_t tsc_checked_seat_add_all(tsc_place *place, uint64_t seat, const void *keys, size_t keys_len, const tsc_mark *marks,
                                             size_t marks_len, const tsc_time *now, uint32_t tries, uint64_t *place_in_history,
                                             tsc_added *out)
 {
@@ -350,7 +378,7 @@ static inline uint32_t tsc_seat_try_add_all(tsc_place *place, uint64_t seat, con
     return tsc_seat_add_all(place, seat, tsc_bytes(keys), keys_len, marks ? marks : &none, marks_len, now, tries, place_in_history, out);
 }
 
-static inline uint32_t tsc_seat_try_get_max(tsc_place *place, uint64_t seat, const void *from, size_t from_len, const void *to,
+static inline uint32_t tsc_checked_seat_get_max(tsc_place *place, uint64_t seat, const void *from, size_t from_len, const void *to,
                                             size_t to_len, uint32_t ends, uint64_t *seen, tsc_value *out)
 {
     if (!place || !seen || !out || (!from && from_len) || (!to && to_len))
@@ -358,31 +386,41 @@ static inline uint32_t tsc_seat_try_get_max(tsc_place *place, uint64_t seat, con
     return tsc_seat_get_max(place, seat, tsc_bytes(from), from_len, tsc_bytes(to), to_len, ends, seen, out);
 }
 
-static inline uint32_t tsc_seat_try_low_water(tsc_place *place, uint64_t seat, uint64_t *seen, tsc_time *out)
+static inline uint32_t tsc_checked_seat_earliest_write(tsc_place *place, uint64_t seat, const void *keys, size_t keys_len,
+                                                       const tsc_span *spans, size_t spans_len, const tsc_value *write,
+                                                       uint64_t *seen, tsc_time *out)
+{
+    static const tsc_span none = {0, 0, 0, 0, 0};
+    if (!place || !write || !seen || !out || (!keys && keys_len) || (!spans && spans_len))
+        return TSC_NULL;
+    return tsc_seat_earliest_write(place, seat, tsc_bytes(keys), keys_len, spans ? spans : &none, spans_len, write, seen, out);
+}
+
+static inline uint32_t tsc_checked_seat_low_water(tsc_place *place, uint64_t seat, uint64_t *seen, tsc_time *out)
 {
     return place && seen && out ? tsc_seat_low_water(place, seat, seen, out) : (uint32_t)TSC_NULL;
 }
 
-static inline uint32_t tsc_seat_try_figures_of(tsc_place *place, uint64_t seat, uint64_t *seen, tsc_figures *out)
+static inline uint32_t tsc_checked_seat_figures_of(tsc_place *place, uint64_t seat, uint64_t *seen, tsc_figures *out)
 {
     return place && seen && out ? tsc_seat_figures_of(place, seat, seen, out) : (uint32_t)TSC_NULL;
 }
 
-static inline uint32_t tsc_try_replay(const void *trace, size_t trace_len, void *out, size_t room, size_t *len)
+static inline uint32_t tsc_checked_replay(const void *trace, size_t trace_len, void *out, size_t room, size_t *len)
 {
     uint8_t none[1];
     if (!len || (!trace && trace_len) || (!out && room))
         return TSC_NULL;
-    return tsc_replay(tsc_bytes(trace), trace_len, out ? (uint8_t *)out : none, room, len);
+    return tsc_replay(tsc_bytes(trace), trace_len, out ? out : none, room, len);
 }
 
-static inline uint32_t tsc_try_check(const void *trace, size_t trace_len, const void *log, size_t log_len, void *out, size_t room,
+static inline uint32_t tsc_checked_check(const void *trace, size_t trace_len, const void *log, size_t log_len, void *out, size_t room,
                                      size_t *len)
 {
     uint8_t none[1];
     if (!len || (!trace && trace_len) || (!log && log_len) || (!out && room))
         return TSC_NULL;
-    return tsc_check(tsc_bytes(trace), trace_len, tsc_bytes(log), log_len, out ? (uint8_t *)out : none, room, len);
+    return tsc_check(tsc_bytes(trace), trace_len, tsc_bytes(log), log_len, out ? out : none, room, len);
 }
 
 /* Times. The smaller wall time comes first, and of two equal ones the smaller count. */
@@ -430,6 +468,7 @@ static inline const char *tsc_text(uint32_t answer)
     case TSC_FULL: return "there are as many Adds as there may be";
     case TSC_REFUSED: return "the bytes are refused, and the text says why";
     case TSC_SHORT: return "the text is longer than the buffer";
+    case TSC_NO_TIME: return "there is no time at which the write may be made";
     case TSC_NULL: return "a pointer is null";
     default: return "no such answer";
     }

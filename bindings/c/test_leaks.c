@@ -37,7 +37,7 @@ static const tsc_value READ = {20, 0, {0x11}};
 static uint32_t add(tsc_place *place, uint64_t n)
 {
     tsc_added a;
-    return tsc_add(place, n, (const uint8_t *)"a", 1, (const uint8_t *)"", 0, TSC_POINT, &READ,
+    return tsc_add(place, n, "a", 1, "", 0, TSC_POINT, &READ,
                    &NOW, &a);
 }
 
@@ -45,7 +45,7 @@ static uint32_t seat_add(tsc_place *place, uint64_t seat)
 {
     tsc_added a;
     uint64_t at;
-    return tsc_seat_add(place, seat, (const uint8_t *)"a", 1, (const uint8_t *)"", 0, TSC_POINT,
+    return tsc_seat_add(place, seat, "a", 1, "", 0, TSC_POINT,
                         &READ, &NOW, 64, &at, &a);
 }
 

@@ -51,17 +51,17 @@ static void of_a_cache(void)
     tsc_added added;
     tsc_value value;
     tsc_mark marks[2] = {{0, 1, 0, 0, {30, 0, {0}}, TSC_POINT}, {1, 1, 0, 0, {31, 0, {0}}, TSC_POINT}};
-    asks("tsc_open", tsc_try_open(&place, 1024, 1024, 2, 10, &LOW, &n), 3, 600);
-    asks("tsc_open of a second one", tsc_try_open(&place, 1024, 1024, 2, 10, &LOW, &second), 1, 84);
-    asks("tsc_add of a first key", tsc_try_add(&place, n, "x", 1, NULL, 0, TSC_POINT, &READ, &NOW, &added), 8, 315);
-    asks("tsc_add of a second key", tsc_try_add(&place, n, "y", 1, NULL, 0, TSC_POINT, &READ, &NOW, &added), 5, 430);
-    asks("tsc_add of a known key", tsc_try_add(&place, n, "x", 1, NULL, 0, TSC_POINT, &LATER, &NOW, &added), 1, 1);
-    asks("tsc_get_max", tsc_try_get_max(&place, n, "x", 1, NULL, 0, TSC_POINT, &value), 0, 0);
-    asks("tsc_add_all of known keys", tsc_try_add_all(&place, n, "xy", 2, marks, 2, &NOW, &added), 7, 890);
-    asks("tsc_move to an empty place", tsc_try_move(&place, n, &other, &moved), 2, 520);
-    asks("tsc_move of a second one", tsc_try_move(&place, second, &other, &moved), 0, 0);
-    tsc_try_free(&place);
-    tsc_try_free(&other);
+    asks("tsc_open", tsc_checked_open(&place, 1024, 1024, 2, 10, &LOW, &n), 4, 720);
+    asks("tsc_open of a second one", tsc_checked_open(&place, 1024, 1024, 2, 10, &LOW, &second), 2, 132);
+    asks("tsc_add of a first key", tsc_checked_add(&place, n, "x", 1, NULL, 0, TSC_POINT, &READ, &NOW, &added), 8, 315);
+    asks("tsc_add of a second key", tsc_checked_add(&place, n, "y", 1, NULL, 0, TSC_POINT, &READ, &NOW, &added), 5, 430);
+    asks("tsc_add of a known key", tsc_checked_add(&place, n, "x", 1, NULL, 0, TSC_POINT, &LATER, &NOW, &added), 1, 1);
+    asks("tsc_get_max", tsc_checked_get_max(&place, n, "x", 1, NULL, 0, TSC_POINT, &value), 0, 0);
+    asks("tsc_add_all of known keys", tsc_checked_add_all(&place, n, "xy", 2, marks, 2, &NOW, &added), 7, 890);
+    asks("tsc_move to an empty place", tsc_checked_move(&place, n, &other, &moved), 2, 590);
+    asks("tsc_move of a second one", tsc_checked_move(&place, second, &other, &moved), 0, 0);
+    tsc_checked_free(&place);
+    tsc_checked_free(&other);
 }
 
 static void of_seats(void)
@@ -70,14 +70,14 @@ static void of_seats(void)
     uint64_t n = 77, moved = 77, at = 77, seen = 77;
     tsc_added added;
     tsc_value value;
-    asks("tsc_open_shared", tsc_try_open_shared(&place, 1024, 1024, 2, 10, &LOW, 2, 9, &n), 19, 4000);
-    asks("tsc_seat_add of a first key", tsc_seat_try_add(&place, n + 1, "x", 1, NULL, 0, TSC_POINT, &READ, &NOW, 1, &at, &added), 9, 316);
-    asks("tsc_seat_add of a second key", tsc_seat_try_add(&place, n + 1, "y", 1, NULL, 0, TSC_POINT, &READ, &NOW, 1, &at, &added), 13, 745);
-    asks("tsc_seat_add of a known key", tsc_seat_try_add(&place, n + 1, "y", 1, NULL, 0, TSC_POINT, &LATER, &NOW, 1, &at, &added), 6, 430);
-    asks("tsc_seat_get_max", tsc_seat_try_get_max(&place, n + 2, "x", 1, NULL, 0, TSC_POINT, &seen, &value), 0, 0);
-    asks("tsc_move of a seat", tsc_try_move(&place, n + 1, &other, &moved), 2, 520);
-    tsc_try_free(&place);
-    tsc_try_free(&other);
+    asks("tsc_open_shared", tsc_checked_open_shared(&place, 1024, 1024, 2, 10, &LOW, 2, 9, &n), 21, 4200);
+    asks("tsc_seat_add of a first key", tsc_checked_seat_add(&place, n + 1, "x", 1, NULL, 0, TSC_POINT, &READ, &NOW, 1, &at, &added), 9, 316);
+    asks("tsc_seat_add of a second key", tsc_checked_seat_add(&place, n + 1, "y", 1, NULL, 0, TSC_POINT, &READ, &NOW, 1, &at, &added), 13, 745);
+    asks("tsc_seat_add of a known key", tsc_checked_seat_add(&place, n + 1, "y", 1, NULL, 0, TSC_POINT, &LATER, &NOW, 1, &at, &added), 6, 430);
+    asks("tsc_seat_get_max", tsc_checked_seat_get_max(&place, n + 2, "x", 1, NULL, 0, TSC_POINT, &seen, &value), 0, 0);
+    asks("tsc_move of a seat", tsc_checked_move(&place, n + 1, &other, &moved), 2, 590);
+    tsc_checked_free(&place);
+    tsc_checked_free(&other);
 }
 
 static void of_texts(void)
@@ -87,8 +87,8 @@ static void of_texts(void)
     const char *log = "0 0 add 0 1 0 0\n0 1 get 1 20.0 none\n";
     char out[200];
     size_t len = 0;
-    asks("tsc_replay", tsc_try_replay(trace, strlen(trace), out, sizeof out, &len), 16, 1475);
-    asks("tsc_check", tsc_try_check(trace, strlen(trace), log, strlen(log), out, sizeof out, &len), 19, 1570);
+    asks("tsc_replay", tsc_checked_replay(trace, strlen(trace), out, sizeof out, &len), 17, 1530);
+    asks("tsc_check", tsc_checked_check(trace, strlen(trace), log, strlen(log), out, sizeof out, &len), 20, 1620);
 }
 
 int main(void)

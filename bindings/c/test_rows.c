@@ -7,7 +7,7 @@
 #include <stdlib.h>
 #include <string.h>
 
-enum { WORDS = 64, LONGEST = 5008, MARKS = 16, CHAIRS = 3 };
+enum { WORDS = 64, LONGEST = 5008, MARKS = 16, SEATS_MOST = 3 };
 
 static int passed, failed;
 
@@ -119,8 +119,8 @@ static const char *name_of(uint32_t answer)
 
 /* What a case is played on: a cache where there are no seats. */
 struct table {
-    tsc_place opened, places[CHAIRS];
-    uint64_t number, numbers[CHAIRS], adds;
+    tsc_place opened, places[SEATS_MOST];
+    uint64_t number, numbers[SEATS_MOST], adds;
     uint32_t seats, turn, tries;
     bool is_right; /* the places of Adds, and what seats have seen */
 };
@@ -226,28 +226,38 @@ static uint32_t figures_of(struct table *t, tsc_figures *out)
     return answer;
 }
 
-/* The rule of tscache.h. */
-
-static bool is_clear_of(const tsc_value *read, tsc_time at, const uint8_t by[16])
+static uint32_t earliest_write(struct table *t, const uint8_t *keys, size_t len,
+                               const tsc_span *spans, size_t count, const tsc_value *write,
+                               tsc_time *out)
 {
-    tsc_time time = {read->wall, read->logical};
-    return tsc_before(time, at) || (!tsc_before(at, time) && memcmp(read->owner, by, 16) == 0);
+    if (t->seats == 0)
+        return tsc_earliest_write(&t->opened, t->number, keys, len, spans, count, write, out);
+    uint32_t i = next_seat(t);
+    uint64_t seen = 0;
+    uint32_t answer = tsc_seat_earliest_write(&t->places[i], t->numbers[i], keys, len, spans,
+                                              count, write, &seen, out);
+    has_seen(t, answer, seen);
+    return answer;
 }
 
-static bool earliest(struct table *t, char *const *spans, int count, tsc_time *at,
-                     const uint8_t by[16])
+/* The earliest time at which a write may be made of spans whose keys lie in one piece. */
+static uint32_t earliest(struct table *t, char *const *words, int count, tsc_value write,
+                         tsc_time *at)
 {
+    static uint8_t keys[2 * MARKS * LONGEST];
+    static const tsc_span none;
+    tsc_span spans[MARKS] = {none};
+    size_t len = 0;
+    if (count > MARKS)
+        wrong_row("too many spans");
     for (int i = 0; i < count; i++) {
-        struct span s = span_of(spans[i]);
-        tsc_value read;
-        t->is_right = get_max(t, &s, &read) == TSC_OK && t->is_right;
-        if (is_clear_of(&read, *at, by))
-            continue;
-        *at = (tsc_time){read.wall, read.logical};
-        if (memcmp(read.owner, by, 16) != 0 && !tsc_next(*at, at))
-            return false;
+        struct span s = span_of(words[i]);
+        spans[i] = (tsc_span){len, s.from_len, len + s.from_len, s.to_len, s.ends};
+        memcpy(keys + len, s.from, s.from_len);
+        memcpy(keys + len + s.from_len, s.to, s.to_len);
+        len += s.from_len + s.to_len;
     }
-    return true;
+    return earliest_write(t, keys, len, spans, (size_t)count, &write, at);
 }
 
 /* Calls. Each writes what it was answered as the rows say it. */
@@ -291,7 +301,7 @@ static void call(struct table *t, const struct line *l, char *told)
     tsc_added a;
     if (strcmp(w[0], "open") == 0) {
         strcpy(told, name_of(open_table(t, w)));
-    } else if (strcmp(w[0], "chairs") == 0) {
+    } else if (strcmp(w[0], "seats") == 0) {
         tsc_place place = {NULL};
         tsc_time low = {5, 0};
         uint64_t n;
@@ -327,17 +337,20 @@ static void call(struct table *t, const struct line *l, char *told)
             sprintf(told, "%" PRIu64 " %" PRIu64 " %" PRIu64 " %" PRIu64, f.pages, f.rotations,
                     f.nodes, f.bytes);
     } else if (strcmp(w[0], "may") == 0) {
-        struct span s = span_of(w[1]);
-        tsc_value read, wanted = value_of(w[2], w[3]);
-        if (get_max(t, &s, &read) == TSC_OK)
-            strcpy(told, is_clear_of(&read, time_of(w[2]), wanted.owner) ? "yes" : "no");
+        tsc_value wanted = value_of(w[2], w[3]);
+        tsc_time at = {0, 0};
+        uint32_t answer = earliest(t, w + 1, 1, wanted, &at);
+        if (answer == TSC_OK)
+            strcpy(told, at.wall == wanted.wall && at.logical == wanted.logical ? "yes" : "no");
+        else if (answer == TSC_NO_TIME)
+            strcpy(told, "no");
     } else if (strcmp(w[0], "earliest") == 0) {
-        tsc_time at = time_of(w[1]);
-        tsc_value wanted = value_of(w[1], w[2]);
-        if (!earliest(t, w + 3, l->calls - 3, &at, wanted.owner))
-            strcpy(told, "none");
-        else
+        tsc_time at = {0, 0};
+        uint32_t answer = earliest(t, w + 3, l->calls - 3, value_of(w[1], w[2]), &at);
+        if (answer == TSC_OK)
             sprintf(told, "%" PRIu64 ".%" PRIu32, at.wall, at.logical);
+        else if (answer == TSC_NO_TIME)
+            strcpy(told, "none");
     } else {
         wrong_row(w[0]);
     }
@@ -379,7 +392,7 @@ static void play(FILE *file, uint32_t seats)
 
 int main(void)
 {
-    static const uint32_t SEATS[] = {0, 1, CHAIRS};
+    static const uint32_t SEATS[] = {0, 1, SEATS_MOST};
     for (size_t i = 0; i < sizeof SEATS / sizeof *SEATS; i++) {
         FILE *file = fopen(ROWS, "r");
         if (!file)

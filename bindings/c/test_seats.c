@@ -36,21 +36,21 @@ static uint32_t open_shared(tsc_place *place, uint32_t seats, uint64_t limit, ui
 static uint32_t add(tsc_place *place, uint64_t seat, const char *key, uint32_t tries, uint64_t *at)
 {
     tsc_added added;
-    return tsc_seat_try_add(place, seat, key, strlen(key), NULL, 0, TSC_POINT, &READ, &NOW, tries, at, &added);
+    return tsc_checked_seat_add(place, seat, key, strlen(key), NULL, 0, TSC_POINT, &READ, &NOW, tries, at, &added);
 }
 
 static bool answers(tsc_place *place, uint64_t seat, const char *key, uint64_t wall, uint64_t seen)
 {
     uint64_t long_ = 99;
     tsc_value v = {0, 0, {0}};
-    return tsc_seat_try_get_max(place, seat, key, strlen(key), NULL, 0, TSC_POINT, &long_, &v) == TSC_OK && v.wall == wall && long_ == seen;
+    return tsc_checked_seat_get_max(place, seat, key, strlen(key), NULL, 0, TSC_POINT, &long_, &v) == TSC_OK && v.wall == wall && long_ == seen;
 }
 
 static bool has(tsc_place *place, uint64_t seat, uint64_t pages, uint64_t rotations, uint64_t seen)
 {
     uint64_t long_ = 99;
     tsc_figures f = {99, 99, 99, 99};
-    return tsc_seat_try_figures_of(place, seat, &long_, &f) == TSC_OK && f.pages == pages && f.rotations == rotations && long_ == seen;
+    return tsc_checked_seat_figures_of(place, seat, &long_, &f) == TSC_OK && f.pages == pages && f.rotations == rotations && long_ == seen;
 }
 
 /* How many keys the pages hold, each counted once for each page, and what they cost. */
@@ -58,7 +58,7 @@ static bool counts(tsc_place *place, uint64_t seat, uint64_t nodes, uint64_t byt
 {
     uint64_t long_ = 99;
     tsc_figures f = {99, 99, 99, 99};
-    return tsc_seat_try_figures_of(place, seat, &long_, &f) == TSC_OK && f.nodes == nodes && f.bytes == bytes;
+    return tsc_checked_seat_figures_of(place, seat, &long_, &f) == TSC_OK && f.nodes == nodes && f.bytes == bytes;
 }
 
 /* What one thread sees of another's seat, one call after another. */
@@ -77,7 +77,7 @@ static void seats(void)
     CHECK(has(&place, 1, 1, 0, 2) && has(&other, moved, 1, 0, 2));
     tsc_mark marks[2] = {{0, 1, 0, 0, {30, 0, {0}}, TSC_POINT}, {1, 1, 0, 0, {31, 0, {0}}, TSC_POINT}};
     tsc_added added = {99, false, true};
-    CHECK(tsc_seat_try_add_all(&place, 1, "xy", 2, marks, 2, &NOW, 1, &at, &added) == TSC_OK && at == 2 && added.kept && !added.rotated && added.evicted == 0);
+    CHECK(tsc_checked_seat_add_all(&place, 1, "xy", 2, marks, 2, &NOW, 1, &at, &added) == TSC_OK && at == 2 && added.kept && !added.rotated && added.evicted == 0);
     CHECK(answers(&other, moved, "x", 30, 3) && answers(&other, moved, "y", 31, 3));
     CHECK(add(&place, 1, "z", 1, &at) == TSC_FULL && at == 2 && add(&other, moved, "z", 1, &at) == TSC_FULL);
     CHECK(answers(&place, 1, "z", 5, 3));
@@ -103,29 +103,29 @@ static void nulls(void)
     tsc_figures f = {7, 7, 7, 7};
     tsc_mark mark = {0, 1, 0, 0, {30, 0, {0}}, TSC_POINT};
     CHECK(open_shared(p, 1, 9, &n) == TSC_OK && n == 0);
-    CHECK(tsc_seat_try_add(NULL, 1, "a", 1, NULL, 0, TSC_POINT, &READ, &NOW, 1, &at, &a) == TSC_NULL && tsc_seat_try_add(p, 1, NULL, 1, NULL, 0, TSC_POINT, &READ, &NOW, 1, &at, &a) == TSC_NULL);
-    CHECK(tsc_seat_try_add(p, 1, "a", 1, NULL, 1, 0, &READ, &NOW, 1, &at, &a) == TSC_NULL && tsc_seat_try_add(p, 1, "a", 1, NULL, 0, TSC_POINT, NULL, &NOW, 1, &at, &a) == TSC_NULL);
-    CHECK(tsc_seat_try_add(p, 1, "a", 1, NULL, 0, TSC_POINT, &READ, NULL, 1, &at, &a) == TSC_NULL && tsc_seat_try_add(p, 1, "a", 1, NULL, 0, TSC_POINT, &READ, &NOW, 1, NULL, &a) == TSC_NULL);
-    CHECK(tsc_seat_try_add(p, 1, "a", 1, NULL, 0, TSC_POINT, &READ, &NOW, 1, &at, NULL) == TSC_NULL);
-    CHECK(tsc_seat_try_add_all(NULL, 1, "a", 1, &mark, 1, &NOW, 1, &at, &a) == TSC_NULL && tsc_seat_try_add_all(p, 1, NULL, 1, &mark, 1, &NOW, 1, &at, &a) == TSC_NULL);
-    CHECK(tsc_seat_try_add_all(p, 1, "a", 1, NULL, 1, &NOW, 1, &at, &a) == TSC_NULL && tsc_seat_try_add_all(p, 1, "a", 1, &mark, 1, NULL, 1, &at, &a) == TSC_NULL);
-    CHECK(tsc_seat_try_add_all(p, 1, "a", 1, &mark, 1, &NOW, 1, NULL, &a) == TSC_NULL && tsc_seat_try_add_all(p, 1, "a", 1, &mark, 1, &NOW, 1, &at, NULL) == TSC_NULL);
-    CHECK(tsc_seat_try_get_max(NULL, 1, "a", 1, NULL, 0, TSC_POINT, &seen, &v) == TSC_NULL && tsc_seat_try_get_max(p, 1, NULL, 1, NULL, 0, TSC_POINT, &seen, &v) == TSC_NULL);
-    CHECK(tsc_seat_try_get_max(p, 1, "a", 1, NULL, 1, 0, &seen, &v) == TSC_NULL && tsc_seat_try_get_max(p, 1, "a", 1, NULL, 0, TSC_POINT, NULL, &v) == TSC_NULL);
-    CHECK(tsc_seat_try_get_max(p, 1, "a", 1, NULL, 0, TSC_POINT, &seen, NULL) == TSC_NULL);
-    CHECK(tsc_seat_try_low_water(NULL, 1, &seen, &floor) == TSC_NULL && tsc_seat_try_low_water(p, 1, NULL, &floor) == TSC_NULL && tsc_seat_try_low_water(p, 1, &seen, NULL) == TSC_NULL);
-    CHECK(tsc_seat_try_figures_of(NULL, 1, &seen, &f) == TSC_NULL && tsc_seat_try_figures_of(p, 1, NULL, &f) == TSC_NULL && tsc_seat_try_figures_of(p, 1, &seen, NULL) == TSC_NULL);
+    CHECK(tsc_checked_seat_add(NULL, 1, "a", 1, NULL, 0, TSC_POINT, &READ, &NOW, 1, &at, &a) == TSC_NULL && tsc_checked_seat_add(p, 1, NULL, 1, NULL, 0, TSC_POINT, &READ, &NOW, 1, &at, &a) == TSC_NULL);
+    CHECK(tsc_checked_seat_add(p, 1, "a", 1, NULL, 1, 0, &READ, &NOW, 1, &at, &a) == TSC_NULL && tsc_checked_seat_add(p, 1, "a", 1, NULL, 0, TSC_POINT, NULL, &NOW, 1, &at, &a) == TSC_NULL);
+    CHECK(tsc_checked_seat_add(p, 1, "a", 1, NULL, 0, TSC_POINT, &READ, NULL, 1, &at, &a) == TSC_NULL && tsc_checked_seat_add(p, 1, "a", 1, NULL, 0, TSC_POINT, &READ, &NOW, 1, NULL, &a) == TSC_NULL);
+    CHECK(tsc_checked_seat_add(p, 1, "a", 1, NULL, 0, TSC_POINT, &READ, &NOW, 1, &at, NULL) == TSC_NULL);
+    CHECK(tsc_checked_seat_add_all(NULL, 1, "a", 1, &mark, 1, &NOW, 1, &at, &a) == TSC_NULL && tsc_checked_seat_add_all(p, 1, NULL, 1, &mark, 1, &NOW, 1, &at, &a) == TSC_NULL);
+    CHECK(tsc_checked_seat_add_all(p, 1, "a", 1, NULL, 1, &NOW, 1, &at, &a) == TSC_NULL && tsc_checked_seat_add_all(p, 1, "a", 1, &mark, 1, NULL, 1, &at, &a) == TSC_NULL);
+    CHECK(tsc_checked_seat_add_all(p, 1, "a", 1, &mark, 1, &NOW, 1, NULL, &a) == TSC_NULL && tsc_checked_seat_add_all(p, 1, "a", 1, &mark, 1, &NOW, 1, &at, NULL) == TSC_NULL);
+    CHECK(tsc_checked_seat_get_max(NULL, 1, "a", 1, NULL, 0, TSC_POINT, &seen, &v) == TSC_NULL && tsc_checked_seat_get_max(p, 1, NULL, 1, NULL, 0, TSC_POINT, &seen, &v) == TSC_NULL);
+    CHECK(tsc_checked_seat_get_max(p, 1, "a", 1, NULL, 1, 0, &seen, &v) == TSC_NULL && tsc_checked_seat_get_max(p, 1, "a", 1, NULL, 0, TSC_POINT, NULL, &v) == TSC_NULL);
+    CHECK(tsc_checked_seat_get_max(p, 1, "a", 1, NULL, 0, TSC_POINT, &seen, NULL) == TSC_NULL);
+    CHECK(tsc_checked_seat_low_water(NULL, 1, &seen, &floor) == TSC_NULL && tsc_checked_seat_low_water(p, 1, NULL, &floor) == TSC_NULL && tsc_checked_seat_low_water(p, 1, &seen, NULL) == TSC_NULL);
+    CHECK(tsc_checked_seat_figures_of(NULL, 1, &seen, &f) == TSC_NULL && tsc_checked_seat_figures_of(p, 1, NULL, &f) == TSC_NULL && tsc_checked_seat_figures_of(p, 1, &seen, NULL) == TSC_NULL);
     tsc_place empty = {NULL};
     uint64_t opened = 77, adds = 77;
-    CHECK(tsc_try_open_shared(NULL, 132, 1024, 2, 10, &LOW, 1, 9, &opened) == TSC_NULL && tsc_try_open_shared(&empty, 132, 1024, 2, 10, NULL, 1, 9, &opened) == TSC_NULL && tsc_try_open_shared(&empty, 132, 1024, 2, 10, &LOW, 1, 9, NULL) == TSC_NULL);
-    CHECK(tsc_seat_try_close(NULL, 1) == TSC_NULL && tsc_try_close_shared(NULL, n, &adds) == TSC_NULL && tsc_try_close_shared(p, n, NULL) == TSC_NULL);
+    CHECK(tsc_checked_open_shared(NULL, 132, 1024, 2, 10, &LOW, 1, 9, &opened) == TSC_NULL && tsc_checked_open_shared(&empty, 132, 1024, 2, 10, NULL, 1, 9, &opened) == TSC_NULL && tsc_checked_open_shared(&empty, 132, 1024, 2, 10, &LOW, 1, 9, NULL) == TSC_NULL);
+    CHECK(tsc_checked_seat_close(NULL, 1) == TSC_NULL && tsc_checked_close_shared(NULL, n, &adds) == TSC_NULL && tsc_checked_close_shared(p, n, NULL) == TSC_NULL);
     CHECK(opened == 77 && adds == 77 && empty.at == NULL);
     CHECK(at == 77 && seen == 77 && a.evicted == 99 && v.wall == 7 && floor.wall == 7 && f.pages == 7 && f.nodes == 7 && f.bytes == 7);
     CHECK(answers(p, 1, "a", 5, 0) && has(p, 1, 1, 0, 0));
-    CHECK(tsc_seat_try_low_water(p, 1, &seen, &floor) == TSC_OK && seen == 0 && floor.wall == 5);
-    CHECK(tsc_seat_try_close(p, 1) == TSC_OK && tsc_seat_try_close(p, 1) == TSC_CLOSED && tsc_try_close_shared(p, n, &adds) == TSC_OK && adds == 0);
-    CHECK(tsc_try_open_shared(p, 132, 1024, 2, 10, &LOW, 1, 9, &opened) == TSC_OK && opened == n + 2 && answers(p, opened + 1, "a", 5, 0));
-    tsc_try_free(p);
+    CHECK(tsc_checked_seat_low_water(p, 1, &seen, &floor) == TSC_OK && seen == 0 && floor.wall == 5);
+    CHECK(tsc_checked_seat_close(p, 1) == TSC_OK && tsc_checked_seat_close(p, 1) == TSC_CLOSED && tsc_checked_close_shared(p, n, &adds) == TSC_OK && adds == 0);
+    CHECK(tsc_checked_open_shared(p, 132, 1024, 2, 10, &LOW, 1, 9, &opened) == TSC_OK && opened == n + 2 && answers(p, opened + 1, "a", 5, 0));
+    tsc_checked_free(p);
     CHECK(place.at == NULL);
 }
 
@@ -159,7 +159,7 @@ static void refusals(void)
 
     /* numbers of another kind */
     CHECK(add(&place, n, "a", 1, &at) == TSC_CLOSED && add(&place, own, "a", 1, &at) == TSC_CLOSED && add(&place, 66, "a", 1, &at) == TSC_CLOSED);
-    CHECK(tsc_get_max(&place, 1, (const uint8_t *)"a", 1, (const uint8_t *)"", 0, TSC_POINT, &v) == TSC_CLOSED && v.wall == 7);
+    CHECK(tsc_get_max(&place, 1, "a", 1, "", 0, TSC_POINT, &v) == TSC_CLOSED && v.wall == 7);
     CHECK(tsc_seat_figures_of(&place, n, &seen, &f) == TSC_CLOSED && tsc_seat_figures_of(&place, own, &seen, &f) == TSC_CLOSED && seen == 77);
     CHECK(tsc_figures_of(&place, n, &f) == TSC_CLOSED && tsc_figures_of(&place, 1, &f) == TSC_CLOSED && f.pages == 7 && f.nodes == 7 && f.bytes == 7);
     CHECK(tsc_close(&place, n) == TSC_CLOSED && tsc_close(&place, 1) == TSC_CLOSED && tsc_seat_close(&place, n) == TSC_CLOSED && tsc_seat_close(&place, own) == TSC_CLOSED);
@@ -170,21 +170,21 @@ static void refusals(void)
     memset(long_key, 'k', sizeof long_key);
     tsc_mark one = {0, 1, 0, 0, {30, 0, {0}}, TSC_POINT};
     CHECK(add(&place, 1, "a", 0, &at) == TSC_BUSY && at == 77 && answers(&place, 1, "a", 5, 0));
-    CHECK(tsc_seat_try_add_all(&place, 1, "a", 1, &one, 1, &NOW, 0, &at, &added) == TSC_BUSY && at == 77 && answers(&place, 1, "a", 5, 0));
-    CHECK(tsc_seat_try_add_all(&place, 1, NULL, 0, NULL, 0, &NOW, 0, &at, &added) == TSC_BUSY && at == 77 && has(&place, 1, 1, 0, 0));
-    CHECK(tsc_seat_try_add(&place, 1, "c", 1, "a", 1, 0, &READ, &NOW, 1, &at, &added) == TSC_INVERTED);
-    CHECK(tsc_seat_try_add(&place, 1, "a", 1, NULL, 0, 6, &READ, &NOW, 1, &at, &added) == TSC_ENDS);
-    CHECK(tsc_seat_try_add(&place, 1, long_key, 4097, NULL, 0, TSC_POINT, &READ, &NOW, 1, &at, &added) == TSC_KEY_TOO_LONG);
-    CHECK(tsc_seat_try_add(&place, 1, long_key, 993, NULL, 0, TSC_POINT, &READ, &NOW, 0, &at, &added) == TSC_TOO_LARGE);
+    CHECK(tsc_checked_seat_add_all(&place, 1, "a", 1, &one, 1, &NOW, 0, &at, &added) == TSC_BUSY && at == 77 && answers(&place, 1, "a", 5, 0));
+    CHECK(tsc_checked_seat_add_all(&place, 1, NULL, 0, NULL, 0, &NOW, 0, &at, &added) == TSC_BUSY && at == 77 && has(&place, 1, 1, 0, 0));
+    CHECK(tsc_checked_seat_add(&place, 1, "c", 1, "a", 1, 0, &READ, &NOW, 1, &at, &added) == TSC_INVERTED);
+    CHECK(tsc_checked_seat_add(&place, 1, "a", 1, NULL, 0, 6, &READ, &NOW, 1, &at, &added) == TSC_ENDS);
+    CHECK(tsc_checked_seat_add(&place, 1, long_key, 4097, NULL, 0, TSC_POINT, &READ, &NOW, 1, &at, &added) == TSC_KEY_TOO_LONG);
+    CHECK(tsc_checked_seat_add(&place, 1, long_key, 993, NULL, 0, TSC_POINT, &READ, &NOW, 0, &at, &added) == TSC_TOO_LARGE);
     tsc_value late = {UINT64_C(1) << 63, 0, {0}};
     tsc_time odd = {0, UINT32_C(1) << 31};
-    CHECK(tsc_seat_try_add(&place, 1, "a", 1, NULL, 0, TSC_POINT, &late, &NOW, 1, &at, &added) == TSC_TIME);
-    CHECK(tsc_seat_try_add(&place, 1, "a", 1, NULL, 0, TSC_POINT, &READ, &odd, 1, &at, &added) == TSC_TIME);
+    CHECK(tsc_checked_seat_add(&place, 1, "a", 1, NULL, 0, TSC_POINT, &late, &NOW, 1, &at, &added) == TSC_TIME);
+    CHECK(tsc_checked_seat_add(&place, 1, "a", 1, NULL, 0, TSC_POINT, &READ, &odd, 1, &at, &added) == TSC_TIME);
     tsc_mark outside = {1, 1, 0, 0, {30, 0, {0}}, TSC_POINT};
-    CHECK(tsc_seat_try_add_all(&place, 1, "x", 1, &outside, 1, &NOW, 1, &at, &added) == TSC_OUTSIDE && at == 77 && added.evicted == 99);
-    CHECK(tsc_seat_try_get_max(&place, 1, "a", 1, NULL, 0, 6, &seen, &v) == TSC_ENDS && seen == 77 && v.wall == 7);
-    CHECK(tsc_seat_try_get_max(&place, 1, "c", 1, "a", 1, 0, &seen, &v) == TSC_OK && seen == 0 && v.wall == 5);
-    CHECK(tsc_seat_try_add_all(&place, 1, NULL, 0, NULL, 0, &NOW, 1, &at, &added) == TSC_OK && at == 0); /* no marks are an entry too */
+    CHECK(tsc_checked_seat_add_all(&place, 1, "x", 1, &outside, 1, &NOW, 1, &at, &added) == TSC_OUTSIDE && at == 77 && added.evicted == 99);
+    CHECK(tsc_checked_seat_get_max(&place, 1, "a", 1, NULL, 0, 6, &seen, &v) == TSC_ENDS && seen == 77 && v.wall == 7);
+    CHECK(tsc_checked_seat_get_max(&place, 1, "c", 1, "a", 1, 0, &seen, &v) == TSC_OK && seen == 0 && v.wall == 5);
+    CHECK(tsc_checked_seat_add_all(&place, 1, NULL, 0, NULL, 0, &NOW, 1, &at, &added) == TSC_OK && at == 0); /* no marks are an entry too */
     CHECK(strcmp(tsc_text(TSC_STILL_OUT), "a seat is still out") == 0 && strcmp(tsc_text(TSC_FULL), "there are as many Adds as there may be") == 0);
 
     /* what was moved is what it was, and each of these goes with its place; seats that are freed with one are handed in */
@@ -261,8 +261,8 @@ static void *work(void *handed)
             /* who may try four thousand million times is never told that others were in the way */
             uint32_t tries = i % 16 ? 16 : UINT32_MAX;
             uint32_t answer = i % 32 < 16
-                ? tsc_seat_try_add(&t->place, t->seat, key, 2, NULL, 0, TSC_POINT, &v, &NOW, tries, &at, &added)
-                : tsc_seat_try_add_all(&t->place, t->seat, key, 2, &mark, 1, &NOW, tries, &at, &added);
+                ? tsc_checked_seat_add(&t->place, t->seat, key, 2, NULL, 0, TSC_POINT, &v, &NOW, tries, &at, &added)
+                : tsc_checked_seat_add_all(&t->place, t->seat, key, 2, &mark, 1, &NOW, tries, &at, &added);
             if (answer == TSC_OK) {
                 /* it is behind all that was seen, at a place of its own, and is seen from now on */
                 t->right = t->right && at >= seen && (t->accepted == 0 || at > last) && takes(t->history, at, (struct entry){k, v});
@@ -281,7 +281,7 @@ static void *work(void *handed)
         } else {
             tsc_value v;
             uint64_t long_;
-            uint32_t answer = tsc_seat_try_get_max(&t->place, t->seat, key, 2, NULL, 0, TSC_POINT, &long_, &v);
+            uint32_t answer = tsc_checked_seat_get_max(&t->place, t->seat, key, 2, NULL, 0, TSC_POINT, &long_, &v);
             t->right = t->right && answer == TSC_OK && long_ >= seen && v.wall >= latest[k];
             seen = long_;
             latest[k] = v.wall;

@@ -59,8 +59,8 @@ struct question {
 static uint32_t ask(struct question q, void *out, size_t room, size_t *len)
 {
     if (q.checks)
-        return tsc_try_check(q.trace.at, q.trace.len, q.log.at, q.log.len, out, room, len);
-    return tsc_try_replay(q.trace.at, q.trace.len, out, room, len);
+        return tsc_checked_check(q.trace.at, q.trace.len, q.log.at, q.log.len, out, room, len);
+    return tsc_checked_replay(q.trace.at, q.trace.len, out, room, len);
 }
 
 /* Whether all of these bytes are as they were filled. */
@@ -217,14 +217,14 @@ static void nulls(void)
     uint8_t out[64];
     size_t len = 99;
     memset(out, 0xa5, sizeof out);
-    CHECK(tsc_try_replay(NULL, 1, out, sizeof out, &len) == TSC_NULL && tsc_try_replay(TRACE, 1, NULL, 1, &len) == TSC_NULL);
-    CHECK(tsc_try_replay(TRACE, 1, out, sizeof out, NULL) == TSC_NULL);
-    CHECK(tsc_try_check(NULL, 1, LOG, 1, out, sizeof out, &len) == TSC_NULL && tsc_try_check(TRACE, 1, NULL, 1, out, sizeof out, &len) == TSC_NULL);
-    CHECK(tsc_try_check(TRACE, 1, LOG, 1, NULL, 1, &len) == TSC_NULL && tsc_try_check(TRACE, 1, LOG, 1, out, sizeof out, NULL) == TSC_NULL);
+    CHECK(tsc_checked_replay(NULL, 1, out, sizeof out, &len) == TSC_NULL && tsc_checked_replay(TRACE, 1, NULL, 1, &len) == TSC_NULL);
+    CHECK(tsc_checked_replay(TRACE, 1, out, sizeof out, NULL) == TSC_NULL);
+    CHECK(tsc_checked_check(NULL, 1, LOG, 1, out, sizeof out, &len) == TSC_NULL && tsc_checked_check(TRACE, 1, NULL, 1, out, sizeof out, &len) == TSC_NULL);
+    CHECK(tsc_checked_check(TRACE, 1, LOG, 1, NULL, 1, &len) == TSC_NULL && tsc_checked_check(TRACE, 1, LOG, 1, out, sizeof out, NULL) == TSC_NULL);
     CHECK(len == 99 && is_filled(out, sizeof out));
-    CHECK(tsc_try_replay(TRACE, sizeof TRACE - 1, NULL, 0, &len) == TSC_SHORT && len == sizeof LOG - 1);
-    CHECK(tsc_try_check(TRACE, sizeof TRACE - 1, LOG, sizeof LOG - 1, NULL, 0, &len) == TSC_SHORT && len == 6);
-    CHECK(tsc_try_replay(NULL, 0, out, sizeof out, &len) == TSC_REFUSED && len == 22);
+    CHECK(tsc_checked_replay(TRACE, sizeof TRACE - 1, NULL, 0, &len) == TSC_SHORT && len == sizeof LOG - 1);
+    CHECK(tsc_checked_check(TRACE, sizeof TRACE - 1, LOG, sizeof LOG - 1, NULL, 0, &len) == TSC_SHORT && len == 6);
+    CHECK(tsc_checked_replay(NULL, 0, out, sizeof out, &len) == TSC_REFUSED && len == 22);
     CHECK(strcmp(tsc_text(TSC_REFUSED), "the bytes are refused, and the text says why") == 0);
     CHECK(strcmp(tsc_text(TSC_SHORT), "the text is longer than the buffer") == 0);
 }

@@ -101,7 +101,7 @@ static uint32_t add_at(struct cache *c, const char *text, uint64_t wall, uint32_
     struct span s = span_of(text);
     tsc_value v = {wall, logical, {0}};
     put_owner(owner, v.owner);
-    return tsc_try_add(&c->place, c->number, s.from, s.from_len, s.to, s.to_len, s.ends, &v, &now, added);
+    return tsc_checked_add(&c->place, c->number, s.from, s.from_len, s.to, s.to_len, s.ends, &v, &now, added);
 }
 
 static bool adds_at(struct cache *c, const char *text, uint64_t wall, char owner, tsc_time now, bool kept, bool rotated, uint64_t evicted)
@@ -140,7 +140,7 @@ static bool answers(struct cache *c, const char *text, uint64_t wall, uint32_t l
 {
     struct span s = span_of(text);
     tsc_value v = {1, 1, {1}};
-    uint32_t answer = tsc_try_get_max(&c->place, c->number, s.from, s.from_len, s.to, s.to_len, s.ends, &v);
+    uint32_t answer = tsc_checked_get_max(&c->place, c->number, s.from, s.from_len, s.to, s.to_len, s.ends, &v);
     return answer == TSC_OK && v.wall == wall && v.logical == logical && owner_name(v.owner) == owner;
 }
 
@@ -197,11 +197,11 @@ static void rows_of_spans(void)
     c = open_cache(132, 132, 2); /* the gap between a and the next key holds no key, and is not empty */
     tsc_value v = {20, 0, {0}};
     put_owner('A', v.owner);
-    CHECK(tsc_try_add(&c.place, c.number, "a", 1, "a", 2, TSC_EXCLUDE_FROM | TSC_EXCLUDE_TO, &v, &AT_20, &a) == TSC_OK && a.kept);
-    CHECK(tsc_try_get_max(&c.place, c.number, "a", 1, "a", 2, TSC_EXCLUDE_FROM | TSC_EXCLUDE_TO, &v) == TSC_OK && v.wall == 20);
-    CHECK(tsc_try_get_max(&c.place, c.number, "a", 1, NULL, 0, TSC_POINT, &v) == TSC_OK && v.wall == 5);
-    CHECK(tsc_try_get_max(&c.place, c.number, "a", 2, NULL, 0, TSC_POINT, &v) == TSC_OK && v.wall == 5);
-    CHECK(tsc_try_get_max(&c.place, c.number, "a", 1, "a", 2, 0, &v) == TSC_OK && v.wall == 20 && owner_name(v.owner) == 'A');
+    CHECK(tsc_checked_add(&c.place, c.number, "a", 1, "a", 2, TSC_EXCLUDE_FROM | TSC_EXCLUDE_TO, &v, &AT_20, &a) == TSC_OK && a.kept);
+    CHECK(tsc_checked_get_max(&c.place, c.number, "a", 1, "a", 2, TSC_EXCLUDE_FROM | TSC_EXCLUDE_TO, &v) == TSC_OK && v.wall == 20);
+    CHECK(tsc_checked_get_max(&c.place, c.number, "a", 1, NULL, 0, TSC_POINT, &v) == TSC_OK && v.wall == 5);
+    CHECK(tsc_checked_get_max(&c.place, c.number, "a", 2, NULL, 0, TSC_POINT, &v) == TSC_OK && v.wall == 5);
+    CHECK(tsc_checked_get_max(&c.place, c.number, "a", 1, "a", 2, 0, &v) == TSC_OK && v.wall == 20 && owner_name(v.owner) == 'A');
     tsc_free(&c.place);
 
     c = open_cache(132, 132, 2); /* equal ends: the key, unless both are excluded */
@@ -299,39 +299,39 @@ static void batches(void)
     put_owner('B', marks[1].value.owner);
     put_owner('B', marks[2].value.owner);
     tsc_added a;
-    CHECK(tsc_try_add_all(&c.place, c.number, keys, 3, marks, 3, &AT_20, &a) == TSC_OK && a.kept && !a.rotated && a.evicted == 0);
+    CHECK(tsc_checked_add_all(&c.place, c.number, keys, 3, marks, 3, &AT_20, &a) == TSC_OK && a.kept && !a.rotated && a.evicted == 0);
     CHECK(answers(&c, "a", 20, 0, '-') && answers(&c, "b", 20, 0, 'B') && answers(&c, "c", 5, 0, '-'));
-    CHECK(tsc_try_add_all(&c.place, c.number, NULL, 0, NULL, 0, &AT_20, &a) == TSC_OK && !a.kept && !a.rotated && a.evicted == 0);
+    CHECK(tsc_checked_add_all(&c.place, c.number, NULL, 0, NULL, 0, &AT_20, &a) == TSC_OK && !a.kept && !a.rotated && a.evicted == 0);
 
     /* all or none: the second mark is refused, so the first is not there */
     marks[0] = (tsc_mark){2, 1, 0, 0, {30, 0, {0}}, TSC_POINT};
     tsc_added before = {7, true, true};
     a = before;
     marks[1].from_at = 4;
-    CHECK(tsc_try_add_all(&c.place, c.number, keys, 3, marks, 2, &AT_20, &a) == TSC_OUTSIDE);
+    CHECK(tsc_checked_add_all(&c.place, c.number, keys, 3, marks, 2, &AT_20, &a) == TSC_OUTSIDE);
     marks[1].from_at = SIZE_MAX;
-    CHECK(tsc_try_add_all(&c.place, c.number, keys, 3, marks, 2, &AT_20, &a) == TSC_OUTSIDE);
+    CHECK(tsc_checked_add_all(&c.place, c.number, keys, 3, marks, 2, &AT_20, &a) == TSC_OUTSIDE);
     marks[1] = (tsc_mark){1, SIZE_MAX, 0, 0, {30, 0, {0}}, TSC_POINT};
-    CHECK(tsc_try_add_all(&c.place, c.number, keys, 3, marks, 2, &AT_20, &a) == TSC_OUTSIDE);
+    CHECK(tsc_checked_add_all(&c.place, c.number, keys, 3, marks, 2, &AT_20, &a) == TSC_OUTSIDE);
     marks[1] = (tsc_mark){1, 1, 3, 1, {30, 0, {0}}, TSC_POINT};
-    CHECK(tsc_try_add_all(&c.place, c.number, keys, 3, marks, 2, &AT_20, &a) == TSC_OUTSIDE);
+    CHECK(tsc_checked_add_all(&c.place, c.number, keys, 3, marks, 2, &AT_20, &a) == TSC_OUTSIDE);
     marks[1] = (tsc_mark){1, 1, 0, 1, {30, 0, {0}}, 0};
-    CHECK(tsc_try_add_all(&c.place, c.number, keys, 3, marks, 2, &AT_20, &a) == TSC_INVERTED);
+    CHECK(tsc_checked_add_all(&c.place, c.number, keys, 3, marks, 2, &AT_20, &a) == TSC_INVERTED);
     marks[1].ends = 6;
-    CHECK(tsc_try_add_all(&c.place, c.number, keys, 3, marks, 2, &AT_20, &a) == TSC_ENDS);
+    CHECK(tsc_checked_add_all(&c.place, c.number, keys, 3, marks, 2, &AT_20, &a) == TSC_ENDS);
     marks[1] = (tsc_mark){1, 1, 0, 0, {30, UINT32_C(1) << 31, {0}}, TSC_POINT};
-    CHECK(tsc_try_add_all(&c.place, c.number, keys, 3, marks, 2, &AT_20, &a) == TSC_TIME);
+    CHECK(tsc_checked_add_all(&c.place, c.number, keys, 3, marks, 2, &AT_20, &a) == TSC_TIME);
     marks[1].value.logical = 0;
-    CHECK(tsc_try_add_all(&c.place, c.number, keys, 3, marks, 2, &(tsc_time){UINT64_MAX, 0}, &a) == TSC_TIME);
+    CHECK(tsc_checked_add_all(&c.place, c.number, keys, 3, marks, 2, &(tsc_time){UINT64_MAX, 0}, &a) == TSC_TIME);
     static uint8_t long_key[5000];
     marks[1].from_at = 3;
     marks[1].from_len = 4097;
-    CHECK(tsc_try_add_all(&c.place, c.number, long_key, 5000, marks, 2, &AT_20, &a) == TSC_KEY_TOO_LONG);
+    CHECK(tsc_checked_add_all(&c.place, c.number, long_key, 5000, marks, 2, &AT_20, &a) == TSC_KEY_TOO_LONG);
     marks[1].from_len = 101;
-    CHECK(tsc_try_add_all(&c.place, c.number, long_key, 5000, marks, 2, &AT_20, &a) == TSC_TOO_LARGE);
-    CHECK(tsc_try_add_all(&c.place, c.number, NULL, 1, marks, 2, &AT_20, &a) == TSC_NULL);
-    CHECK(tsc_try_add_all(&c.place, c.number, keys, 3, NULL, 2, &AT_20, &a) == TSC_NULL);
-    CHECK(tsc_try_add_all(&c.place, c.number + 1, keys, 3, marks, 2, &AT_20, &a) == TSC_CLOSED);
+    CHECK(tsc_checked_add_all(&c.place, c.number, long_key, 5000, marks, 2, &AT_20, &a) == TSC_TOO_LARGE);
+    CHECK(tsc_checked_add_all(&c.place, c.number, NULL, 1, marks, 2, &AT_20, &a) == TSC_NULL);
+    CHECK(tsc_checked_add_all(&c.place, c.number, keys, 3, NULL, 2, &AT_20, &a) == TSC_NULL);
+    CHECK(tsc_checked_add_all(&c.place, c.number + 1, keys, 3, marks, 2, &AT_20, &a) == TSC_CLOSED);
     CHECK(memcmp(&a, &before, sizeof a.evicted) == 0 && a.kept && a.rotated);
     CHECK(answers(&c, "c", 5, 0, '-') && has(&c, 1, 0, 5, 0));
 
@@ -340,7 +340,7 @@ static void batches(void)
     tsc_mark three[3] = {{0, 1, 0, 0, {20, 0, {0}}, TSC_POINT}, {1, 1, 0, 0, {20, 0, {0}}, TSC_POINT}, {2, 1, 0, 0, {40, 0, {0}}, TSC_POINT}};
     for (int i = 0; i < 3; i++)
         put_owner('A', three[i].value.owner);
-    CHECK(tsc_try_add_all(&d.place, d.number, keys, 3, three, 3, &AT_40, &a) == TSC_OK && a.kept && a.rotated && a.evicted == 1);
+    CHECK(tsc_checked_add_all(&d.place, d.number, keys, 3, three, 3, &AT_40, &a) == TSC_OK && a.kept && a.rotated && a.evicted == 1);
     CHECK(has(&d, 1, 1, 20, 0) && answers(&d, "a", 20, 0, '-') && answers(&d, "c", 40, 0, 'A'));
     tsc_free(&d.place);
     tsc_free(&c.place);
@@ -372,16 +372,16 @@ static void limits(void)
     tsc_added a;
     tsc_value v;
     uint64_t at = 77, seen = 77;
-    CHECK(tsc_try_add_all(&c.place, c.number, keys, sizeof keys, marks, MARKS, &AT_20, &a) == TSC_OK && a.kept && !a.rotated);
-    CHECK(tsc_try_get_max(&c.place, c.number, keys + 2, 2, NULL, 0, TSC_POINT, &v) == TSC_OK && v.wall == 101);
+    CHECK(tsc_checked_add_all(&c.place, c.number, keys, sizeof keys, marks, MARKS, &AT_20, &a) == TSC_OK && a.kept && !a.rotated);
+    CHECK(tsc_checked_get_max(&c.place, c.number, keys + 2, 2, NULL, 0, TSC_POINT, &v) == TSC_OK && v.wall == 101);
     CHECK(answers(&c, "[,z)", 100 + MARKS - 1, 0, '-'));
     CHECK(tsc_open_shared(&c.place, UINT32_C(1) << 30, UINT32_C(1) << 30, 64, (UINT64_C(1) << 63) - 1, &low, 1, UINT64_MAX, &n) == TSC_OK);
-    CHECK(tsc_seat_try_add_all(&c.place, n + 1, keys, sizeof keys, marks, MARKS, &AT_20, 1, &at, &a) == TSC_OK && at == 0 && a.kept && !a.rotated);
-    CHECK(tsc_seat_try_get_max(&c.place, n + 1, keys + 2, 2, NULL, 0, TSC_POINT, &seen, &v) == TSC_OK && v.wall == 101 && seen == 1);
+    CHECK(tsc_checked_seat_add_all(&c.place, n + 1, keys, sizeof keys, marks, MARKS, &AT_20, 1, &at, &a) == TSC_OK && at == 0 && a.kept && !a.rotated);
+    CHECK(tsc_checked_seat_get_max(&c.place, n + 1, keys + 2, 2, NULL, 0, TSC_POINT, &seen, &v) == TSC_OK && v.wall == 101 && seen == 1);
     static uint8_t longest_key[4096];
     v = (tsc_value){6000, 0, {0}};
-    CHECK(tsc_try_add(&c.place, c.number, longest_key, 4096, NULL, 0, TSC_POINT, &v, &AT_20, &a) == TSC_OK && a.kept);
-    CHECK(tsc_seat_try_add(&c.place, n + 1, longest_key, 4096, NULL, 0, TSC_POINT, &v, &AT_20, 1, &at, &a) == TSC_OK && at == 1 && a.kept);
+    CHECK(tsc_checked_add(&c.place, c.number, longest_key, 4096, NULL, 0, TSC_POINT, &v, &AT_20, &a) == TSC_OK && a.kept);
+    CHECK(tsc_checked_seat_add(&c.place, n + 1, longest_key, 4096, NULL, 0, TSC_POINT, &v, &AT_20, 1, &at, &a) == TSC_OK && at == 1 && a.kept);
     tsc_free(&c.place);
 }
 
@@ -400,8 +400,8 @@ static void large_page(void)
             for (int byte = 0; byte < 4; byte++)
                 key[byte] = (uint8_t)(i >> (24 - 8 * byte));
             tsc_value read = {20 + i % 1000, 0, {0}};
-            wrong += round == 0 ? tsc_try_add(&c.place, c.number, key, 4, NULL, 0, TSC_POINT, &read, &AT_20, &a) != TSC_OK
-                                : tsc_try_get_max(&c.place, c.number, key, 4, NULL, 0, TSC_POINT, &v) != TSC_OK || v.wall != read.wall;
+            wrong += round == 0 ? tsc_checked_add(&c.place, c.number, key, 4, NULL, 0, TSC_POINT, &read, &AT_20, &a) != TSC_OK
+                                : tsc_checked_get_max(&c.place, c.number, key, 4, NULL, 0, TSC_POINT, &v) != TSC_OK || v.wall != read.wall;
         }
     CHECK(wrong == 0 && has(&c, 1, 0, 5, 0) && answers(&c, "[,z)", 20 + 999, 0, '-'));
     tsc_free(&c.place);
@@ -428,30 +428,30 @@ static void refusals(void)
     static uint8_t long_key[4097];
     tsc_value v = {20, 0, {0}}, out = {1, 2, {3}};
     tsc_added a = {99, true, true};
-    CHECK(tsc_try_add(&c.place, c.number, long_key, 4097, NULL, 0, TSC_ONWARD, &v, &AT_20, &a) == TSC_KEY_TOO_LONG);
-    CHECK(tsc_try_add(&c.place, c.number, "a", 1, long_key, 4097, TSC_EXCLUDE_TO, &v, &AT_20, &a) == TSC_KEY_TOO_LONG);
-    CHECK(tsc_try_add(&c.place, c.number, "c", 1, "a", 1, TSC_EXCLUDE_TO, &v, &AT_20, &a) == TSC_INVERTED);
-    CHECK(tsc_try_add(&c.place, c.number, long_key, 4096, NULL, 0, TSC_POINT, &v, &AT_20, &a) == TSC_TOO_LARGE);
+    CHECK(tsc_checked_add(&c.place, c.number, long_key, 4097, NULL, 0, TSC_ONWARD, &v, &AT_20, &a) == TSC_KEY_TOO_LONG);
+    CHECK(tsc_checked_add(&c.place, c.number, "a", 1, long_key, 4097, TSC_EXCLUDE_TO, &v, &AT_20, &a) == TSC_KEY_TOO_LONG);
+    CHECK(tsc_checked_add(&c.place, c.number, "c", 1, "a", 1, TSC_EXCLUDE_TO, &v, &AT_20, &a) == TSC_INVERTED);
+    CHECK(tsc_checked_add(&c.place, c.number, long_key, 4096, NULL, 0, TSC_POINT, &v, &AT_20, &a) == TSC_TOO_LARGE);
     for (uint32_t ends = 0; ends < 64; ends++) {
         bool known = ends <= 5 || ends == 8;
-        CHECK((tsc_try_get_max(&c.place, c.number, "b", 1, "c", 1, ends, &v) == TSC_ENDS) == !known);
-        CHECK((tsc_try_add(&c.place, c.number, "b", 1, "c", 1, ends, &v, &AT_20, &a) == TSC_ENDS) == !known);
+        CHECK((tsc_checked_get_max(&c.place, c.number, "b", 1, "c", 1, ends, &v) == TSC_ENDS) == !known);
+        CHECK((tsc_checked_add(&c.place, c.number, "b", 1, "c", 1, ends, &v, &AT_20, &a) == TSC_ENDS) == !known);
     }
-    CHECK(tsc_try_get_max(&c.place, c.number, "b", 1, "c", 1, UINT32_MAX, &out) == TSC_ENDS);
+    CHECK(tsc_checked_get_max(&c.place, c.number, "b", 1, "c", 1, UINT32_MAX, &out) == TSC_ENDS);
     v = (tsc_value){UINT64_MAX, 0, {0}};
     a = (tsc_added){99, true, true};
-    CHECK(tsc_try_add(&c.place, c.number, "b", 1, NULL, 0, TSC_POINT, &v, &AT_20, &a) == TSC_TIME);
+    CHECK(tsc_checked_add(&c.place, c.number, "b", 1, NULL, 0, TSC_POINT, &v, &AT_20, &a) == TSC_TIME);
     v = (tsc_value){20, UINT32_MAX, {0}};
-    CHECK(tsc_try_add(&c.place, c.number, "b", 1, NULL, 0, TSC_POINT, &v, &AT_20, &a) == TSC_TIME);
+    CHECK(tsc_checked_add(&c.place, c.number, "b", 1, NULL, 0, TSC_POINT, &v, &AT_20, &a) == TSC_TIME);
     v.logical = 0;
-    CHECK(tsc_try_add(&c.place, c.number, "b", 1, NULL, 0, TSC_POINT, &v, &(tsc_time){UINT64_MAX, 0}, &a) == TSC_TIME);
+    CHECK(tsc_checked_add(&c.place, c.number, "b", 1, NULL, 0, TSC_POINT, &v, &(tsc_time){UINT64_MAX, 0}, &a) == TSC_TIME);
     CHECK(a.evicted == 99 && a.kept && a.rotated && out.wall == 1 && out.logical == 2 && out.owner[0] == 3);
     CHECK(answers(&c, "a", 20, 0, 'A') && has(&c, 1, 0, 5, 0));
-    CHECK(answers(&c, "[,a)", 20, 0, '-') == false && tsc_try_get_max(&c.place, c.number, NULL, 0, NULL, 0, TSC_POINT, &v) == TSC_OK);
+    CHECK(answers(&c, "[,a)", 20, 0, '-') == false && tsc_checked_get_max(&c.place, c.number, NULL, 0, NULL, 0, TSC_POINT, &v) == TSC_OK);
     CHECK(strcmp(tsc_text(TSC_CLOSED), "the number names nothing of this kind") == 0 && strcmp(tsc_text(1000), "no such answer") == 0);
     v = (tsc_value){20, 0, {0}};
-    CHECK(tsc_try_add(&c.place, c.number, "x", 1, long_key, 4097, TSC_POINT, &v, &AT_20, &a) == TSC_OK && a.kept); /* the second key is passed over */
-    CHECK(tsc_try_add(&c.place, c.number, "y", 1, long_key, 4097, TSC_ONWARD, &v, &AT_20, &a) == TSC_OK && a.kept);
+    CHECK(tsc_checked_add(&c.place, c.number, "x", 1, long_key, 4097, TSC_POINT, &v, &AT_20, &a) == TSC_OK && a.kept); /* the second key is passed over */
+    CHECK(tsc_checked_add(&c.place, c.number, "y", 1, long_key, 4097, TSC_ONWARD, &v, &AT_20, &a) == TSC_OK && a.kept);
     tsc_free(&c.place);
 }
 
@@ -462,12 +462,52 @@ static void texts(void)
         "done", "the number names nothing of this kind", "a time is out of range", "there are no such ends of a span", "a key is too long", "the range is inverted",
         "the span is too large for a page", "a key does not lie among the bytes", "page_first is 64 to page_max, and page_max is at most 2^30", "min_pages is 1 to 64",
         "retention is at most 2^63 - 1 nanoseconds", "out of memory", "seats are 1 to 64", "a seat is still out", "others were in the way", "there are as many Adds as there may be",
-        "the bytes are refused, and the text says why", "the text is longer than the buffer", "a pointer is null"};
+        "the bytes are refused, and the text says why", "the text is longer than the buffer", "there is no time at which the write may be made", "a pointer is null"};
     static const uint32_t ANSWERS[] = {
         TSC_OK, TSC_CLOSED, TSC_TIME, TSC_ENDS, TSC_KEY_TOO_LONG, TSC_INVERTED, TSC_TOO_LARGE, TSC_OUTSIDE, TSC_PAGE_SIZE, TSC_MIN_PAGES, TSC_RETENTION, TSC_NO_MEMORY,
-        TSC_SEATS, TSC_STILL_OUT, TSC_BUSY, TSC_FULL, TSC_REFUSED, TSC_SHORT, TSC_NULL};
+        TSC_SEATS, TSC_STILL_OUT, TSC_BUSY, TSC_FULL, TSC_REFUSED, TSC_SHORT, TSC_NO_TIME, TSC_NULL};
     for (size_t i = 0; i < sizeof TEXTS / sizeof *TEXTS; i++)
         CHECK(strcmp(tsc_text(ANSWERS[i]), TEXTS[i]) == 0);
+}
+
+/* When writes may be made, of a cache and of a seat, and why one is refused. */
+static void writes(void)
+{
+    static const tsc_span SPANS[] = {{0, 1, 0, 0, TSC_POINT}, {0, 1, 1, 1, TSC_EXCLUDE_TO}, {1, 1, 0, 0, TSC_POINT}};
+    static const tsc_value READ = {20, 0, {0x11}}, LAST = {INT64_MAX, INT32_MAX, {0x11}};
+    struct cache c = open_cache(132, 132, 2);
+    tsc_time low = {5, 0}, at = {7, 8};
+    uint64_t n = 0, seen = 7, place = 0;
+    tsc_added a;
+    CHECK(tsc_add(&c.place, c.number, "b", 1, "b", 1, TSC_POINT, &READ, &AT_20, &a) == TSC_OK);
+    CHECK(tsc_open_shared(&c.place, 132, 132, 2, 10, &low, 1, 9, &n) == TSC_OK);
+    CHECK(tsc_seat_add(&c.place, n + 1, "b", 1, "b", 1, TSC_POINT, &READ, &AT_20, 64, &place, &a) == TSC_OK);
+    for (uint8_t own = 0; own < 2; own++) {
+        tsc_value write = {15, 3, {own ? 0x11 : 0x22}};
+        tsc_time first = {20, own ? 0 : 1};
+        CHECK(tsc_earliest_write(&c.place, c.number, "bc", 2, SPANS, 3, &write, &at) == TSC_OK && at.wall == first.wall && at.logical == first.logical);
+        at = (tsc_time){7, 8};
+        CHECK(tsc_seat_earliest_write(&c.place, n + 1, "bc", 2, SPANS, 3, &write, &seen, &at) == TSC_OK && at.wall == first.wall && at.logical == first.logical && seen == 1);
+        CHECK(tsc_earliest_write(&c.place, c.number, "bc", 2, SPANS + 2, 1, &write, &at) == TSC_OK && at.wall == 15 && at.logical == 3);
+        CHECK(tsc_checked_earliest_write(&c.place, c.number, NULL, 0, NULL, 0, &write, &at) == TSC_OK && at.wall == 15 && at.logical == 3);
+    }
+    /* refused, and nothing is written */
+    static const tsc_span OUT = {1, 2, 0, 0, TSC_POINT}, BEHIND = {0, 1, 3, 0, TSC_POINT}, ENDS = {0, 1, 0, 0, 6};
+    const tsc_span *const wrong[] = {&OUT, &BEHIND, &ENDS};
+    tsc_value never = {INT64_MAX + UINT64_C(1), 0, {0}}, write = {15, 3, {0x22}};
+    at = (tsc_time){7, 8}, seen = 7;
+    for (int i = 0; i < 3; i++) {
+        uint32_t answer = i < 2 ? TSC_OUTSIDE : TSC_ENDS;
+        CHECK(tsc_earliest_write(&c.place, c.number, "bc", 2, wrong[i], 1, &write, &at) == answer);
+        CHECK(tsc_seat_earliest_write(&c.place, n + 1, "bc", 2, wrong[i], 1, &write, &seen, &at) == answer);
+    }
+    CHECK(tsc_earliest_write(&c.place, c.number, "bc", 2, SPANS, 1, &never, &at) == TSC_TIME);
+    CHECK(tsc_add(&c.place, c.number, "b", 1, "b", 1, TSC_POINT, &LAST, &AT_20, &a) == TSC_OK);
+    CHECK(tsc_seat_add(&c.place, n + 1, "b", 1, "b", 1, TSC_POINT, &LAST, &AT_20, 64, &place, &a) == TSC_OK);
+    CHECK(tsc_earliest_write(&c.place, c.number, "bc", 2, SPANS, 3, &write, &at) == TSC_NO_TIME);
+    CHECK(tsc_seat_earliest_write(&c.place, n + 1, "bc", 2, SPANS, 3, &write, &seen, &at) == TSC_NO_TIME);
+    CHECK(at.wall == 7 && at.logical == 8 && seen == 7);
+    tsc_free(&c.place);
 }
 
 /* Each pointer that may be null, where it has to lead somewhere. */
@@ -481,31 +521,39 @@ static void nulls(void)
     tsc_mark mark = {0, 1, 0, 0, {20, 0, {0}}, TSC_POINT};
     tsc_time floor = {7, 8};
     tsc_figures f = {7, 8, 9, 10};
-    CHECK(tsc_try_add(NULL, n, "b", 1, NULL, 0, TSC_POINT, &v, &AT_20, &a) == TSC_NULL && tsc_try_add(p, n, NULL, 1, NULL, 0, TSC_POINT, &v, &AT_20, &a) == TSC_NULL);
-    CHECK(tsc_try_add(p, n, "b", 1, NULL, 1, 0, &v, &AT_20, &a) == TSC_NULL && tsc_try_add(p, n, "b", 1, NULL, 0, TSC_POINT, NULL, &AT_20, &a) == TSC_NULL);
-    CHECK(tsc_try_add(p, n, "b", 1, NULL, 0, TSC_POINT, &v, NULL, &a) == TSC_NULL && tsc_try_add(p, n, "b", 1, NULL, 0, TSC_POINT, &v, &AT_20, NULL) == TSC_NULL);
-    CHECK(tsc_try_add_all(NULL, n, "b", 1, &mark, 1, &AT_20, &a) == TSC_NULL && tsc_try_add_all(p, n, NULL, 1, &mark, 1, &AT_20, &a) == TSC_NULL);
-    CHECK(tsc_try_add_all(p, n, "b", 1, NULL, 1, &AT_20, &a) == TSC_NULL && tsc_try_add_all(p, n, "b", 1, &mark, 1, NULL, &a) == TSC_NULL);
-    CHECK(tsc_try_add_all(p, n, "b", 1, &mark, 1, &AT_20, NULL) == TSC_NULL);
-    CHECK(tsc_try_get_max(NULL, n, "b", 1, NULL, 0, TSC_POINT, &out) == TSC_NULL && tsc_try_get_max(p, n, NULL, 1, NULL, 0, TSC_POINT, &out) == TSC_NULL);
-    CHECK(tsc_try_get_max(p, n, "b", 1, NULL, 1, 0, &out) == TSC_NULL && tsc_try_get_max(p, n, "b", 1, NULL, 0, TSC_POINT, NULL) == TSC_NULL);
-    CHECK(tsc_try_low_water(NULL, n, &floor) == TSC_NULL && tsc_try_low_water(p, n, NULL) == TSC_NULL);
-    CHECK(tsc_try_figures_of(NULL, n, &f) == TSC_NULL && tsc_try_figures_of(p, n, NULL) == TSC_NULL);
+    CHECK(tsc_checked_add(NULL, n, "b", 1, NULL, 0, TSC_POINT, &v, &AT_20, &a) == TSC_NULL && tsc_checked_add(p, n, NULL, 1, NULL, 0, TSC_POINT, &v, &AT_20, &a) == TSC_NULL);
+    CHECK(tsc_checked_add(p, n, "b", 1, NULL, 1, 0, &v, &AT_20, &a) == TSC_NULL && tsc_checked_add(p, n, "b", 1, NULL, 0, TSC_POINT, NULL, &AT_20, &a) == TSC_NULL);
+    CHECK(tsc_checked_add(p, n, "b", 1, NULL, 0, TSC_POINT, &v, NULL, &a) == TSC_NULL && tsc_checked_add(p, n, "b", 1, NULL, 0, TSC_POINT, &v, &AT_20, NULL) == TSC_NULL);
+    CHECK(tsc_checked_add_all(NULL, n, "b", 1, &mark, 1, &AT_20, &a) == TSC_NULL && tsc_checked_add_all(p, n, NULL, 1, &mark, 1, &AT_20, &a) == TSC_NULL);
+    CHECK(tsc_checked_add_all(p, n, "b", 1, NULL, 1, &AT_20, &a) == TSC_NULL && tsc_checked_add_all(p, n, "b", 1, &mark, 1, NULL, &a) == TSC_NULL);
+    CHECK(tsc_checked_add_all(p, n, "b", 1, &mark, 1, &AT_20, NULL) == TSC_NULL);
+    CHECK(tsc_checked_get_max(NULL, n, "b", 1, NULL, 0, TSC_POINT, &out) == TSC_NULL && tsc_checked_get_max(p, n, NULL, 1, NULL, 0, TSC_POINT, &out) == TSC_NULL);
+    CHECK(tsc_checked_get_max(p, n, "b", 1, NULL, 1, 0, &out) == TSC_NULL && tsc_checked_get_max(p, n, "b", 1, NULL, 0, TSC_POINT, NULL) == TSC_NULL);
+    tsc_span span = {0, 1, 0, 0, TSC_POINT};
+    uint64_t seen = 7;
+    CHECK(tsc_checked_earliest_write(NULL, n, "b", 1, &span, 1, &v, &floor) == TSC_NULL && tsc_checked_earliest_write(p, n, NULL, 1, &span, 1, &v, &floor) == TSC_NULL);
+    CHECK(tsc_checked_earliest_write(p, n, "b", 1, NULL, 1, &v, &floor) == TSC_NULL && tsc_checked_earliest_write(p, n, "b", 1, &span, 1, NULL, &floor) == TSC_NULL);
+    CHECK(tsc_checked_earliest_write(p, n, "b", 1, &span, 1, &v, NULL) == TSC_NULL && tsc_checked_seat_earliest_write(NULL, n, "b", 1, &span, 1, &v, &seen, &floor) == TSC_NULL);
+    CHECK(tsc_checked_seat_earliest_write(p, n, NULL, 1, &span, 1, &v, &seen, &floor) == TSC_NULL && tsc_checked_seat_earliest_write(p, n, "b", 1, NULL, 1, &v, &seen, &floor) == TSC_NULL);
+    CHECK(tsc_checked_seat_earliest_write(p, n, "b", 1, &span, 1, NULL, &seen, &floor) == TSC_NULL && tsc_checked_seat_earliest_write(p, n, "b", 1, &span, 1, &v, NULL, &floor) == TSC_NULL);
+    CHECK(tsc_checked_seat_earliest_write(p, n, "b", 1, &span, 1, &v, &seen, NULL) == TSC_NULL && seen == 7);
+    CHECK(tsc_checked_low_water(NULL, n, &floor) == TSC_NULL && tsc_checked_low_water(p, n, NULL) == TSC_NULL);
+    CHECK(tsc_checked_figures_of(NULL, n, &f) == TSC_NULL && tsc_checked_figures_of(p, n, NULL) == TSC_NULL);
     tsc_place empty = {NULL};
     uint64_t opened = 77;
-    CHECK(tsc_try_open(NULL, 132, 132, 2, 10, &AT_20, &opened) == TSC_NULL && tsc_try_open(&empty, 132, 132, 2, 10, NULL, &opened) == TSC_NULL && tsc_try_open(&empty, 132, 132, 2, 10, &AT_20, NULL) == TSC_NULL);
-    CHECK(tsc_try_move(NULL, n, &empty, &opened) == TSC_NULL && tsc_try_move(p, n, NULL, &opened) == TSC_NULL && tsc_try_move(p, n, &empty, NULL) == TSC_NULL);
-    CHECK(tsc_try_close(NULL, n) == TSC_NULL);
-    tsc_try_free(NULL);
+    CHECK(tsc_checked_open(NULL, 132, 132, 2, 10, &AT_20, &opened) == TSC_NULL && tsc_checked_open(&empty, 132, 132, 2, 10, NULL, &opened) == TSC_NULL && tsc_checked_open(&empty, 132, 132, 2, 10, &AT_20, NULL) == TSC_NULL);
+    CHECK(tsc_checked_move(NULL, n, &empty, &opened) == TSC_NULL && tsc_checked_move(p, n, NULL, &opened) == TSC_NULL && tsc_checked_move(p, n, &empty, NULL) == TSC_NULL);
+    CHECK(tsc_checked_close(NULL, n) == TSC_NULL);
+    tsc_checked_free(NULL);
     CHECK(a.evicted == 99 && a.kept && a.rotated && out.wall == 1 && out.logical == 2 && out.owner[0] == 3 && floor.wall == 7 && f.pages == 7 && f.rotations == 8 && f.nodes == 9 && f.bytes == 10);
     CHECK(opened == 77 && empty.at == NULL);
     CHECK(answers(&c, "b", 5, 0, '-') && has(&c, 1, 0, 5, 0) && counts(&c, 0, 0));
-    CHECK(tsc_try_low_water(p, n, &floor) == TSC_OK && floor.wall == 5 && floor.logical == 0 && tsc_try_figures_of(p, n, &f) == TSC_OK && f.pages == 1 && f.rotations == 0 && f.nodes == 0 && f.bytes == 0);
-    CHECK(tsc_try_open(&empty, 132, 132, 2, 10, &AT_20, &opened) == TSC_OK && opened == 0 && tsc_try_move(p, n, &empty, &opened) == TSC_OK && opened == 1);
-    CHECK(tsc_try_low_water(&empty, 1, &floor) == TSC_OK && floor.wall == 5 && tsc_try_close(&empty, 1) == TSC_OK && tsc_try_close(&empty, 1) == TSC_CLOSED && tsc_try_close(p, n) == TSC_CLOSED);
-    tsc_try_free(&empty);
+    CHECK(tsc_checked_low_water(p, n, &floor) == TSC_OK && floor.wall == 5 && floor.logical == 0 && tsc_checked_figures_of(p, n, &f) == TSC_OK && f.pages == 1 && f.rotations == 0 && f.nodes == 0 && f.bytes == 0);
+    CHECK(tsc_checked_open(&empty, 132, 132, 2, 10, &AT_20, &opened) == TSC_OK && opened == 0 && tsc_checked_move(p, n, &empty, &opened) == TSC_OK && opened == 1);
+    CHECK(tsc_checked_low_water(&empty, 1, &floor) == TSC_OK && floor.wall == 5 && tsc_checked_close(&empty, 1) == TSC_OK && tsc_checked_close(&empty, 1) == TSC_CLOSED && tsc_checked_close(p, n) == TSC_CLOSED);
+    tsc_checked_free(&empty);
     CHECK(empty.at == NULL);
-    tsc_try_free(p);
+    tsc_checked_free(p);
 }
 
 /* Lookups ask for no memory, and take keys of any length. */
@@ -517,21 +565,21 @@ static void lookups(void)
     tsc_time floor;
     tsc_figures f;
     uint64_t n, seen, before = requests;
-    CHECK(tsc_try_get_max(&c.place, 0, "b", 1, NULL, 0, TSC_POINT, &v) == TSC_CLOSED && tsc_low_water(&c.place, 0, &floor) == TSC_CLOSED && tsc_figures_of(&c.place, 0, &f) == TSC_CLOSED);
-    CHECK(tsc_seat_try_get_max(&c.place, 0, "b", 1, NULL, 0, TSC_POINT, &seen, &v) == TSC_CLOSED && tsc_seat_low_water(&c.place, 0, &seen, &floor) == TSC_CLOSED);
+    CHECK(tsc_checked_get_max(&c.place, 0, "b", 1, NULL, 0, TSC_POINT, &v) == TSC_CLOSED && tsc_low_water(&c.place, 0, &floor) == TSC_CLOSED && tsc_figures_of(&c.place, 0, &f) == TSC_CLOSED);
+    CHECK(tsc_checked_seat_get_max(&c.place, 0, "b", 1, NULL, 0, TSC_POINT, &seen, &v) == TSC_CLOSED && tsc_seat_low_water(&c.place, 0, &seen, &floor) == TSC_CLOSED);
     CHECK(tsc_seat_figures_of(&c.place, 0, &seen, &f) == TSC_CLOSED && requests == before && c.place.at == NULL);
 
     c = open_cache(132, 132, 2);
     CHECK(adds(&c, "a", 20, 'A') && tsc_open_shared(&c.place, 132, 132, 2, 10, &(tsc_time){5, 0}, 1, 9, &n) == TSC_OK);
     before = requests;
     for (size_t len = 4096; len <= sizeof low_key; len += sizeof low_key - 4096) {
-        CHECK(tsc_try_get_max(&c.place, c.number, low_key, len, NULL, 0, TSC_POINT, &v) == TSC_OK && v.wall == 5);
-        CHECK(tsc_try_get_max(&c.place, c.number, low_key, len, "b", 1, 0, &v) == TSC_OK && v.wall == 20 && owner_name(v.owner) == 'A');
-        CHECK(tsc_try_get_max(&c.place, c.number, low_key, len, NULL, 0, TSC_ONWARD, &v) == TSC_OK && v.wall == 20);
-        CHECK(tsc_try_get_max(&c.place, c.number, "a", 1, low_key, len, 0, &v) == TSC_OK && v.wall == 5); /* inverted */
-        CHECK(tsc_seat_try_get_max(&c.place, n + 1, low_key, len, "b", 1, 0, &seen, &v) == TSC_OK && v.wall == 5 && seen == 0);
+        CHECK(tsc_checked_get_max(&c.place, c.number, low_key, len, NULL, 0, TSC_POINT, &v) == TSC_OK && v.wall == 5);
+        CHECK(tsc_checked_get_max(&c.place, c.number, low_key, len, "b", 1, 0, &v) == TSC_OK && v.wall == 20 && owner_name(v.owner) == 'A');
+        CHECK(tsc_checked_get_max(&c.place, c.number, low_key, len, NULL, 0, TSC_ONWARD, &v) == TSC_OK && v.wall == 20);
+        CHECK(tsc_checked_get_max(&c.place, c.number, "a", 1, low_key, len, 0, &v) == TSC_OK && v.wall == 5); /* inverted */
+        CHECK(tsc_checked_seat_get_max(&c.place, n + 1, low_key, len, "b", 1, 0, &seen, &v) == TSC_OK && v.wall == 5 && seen == 0);
     }
-    CHECK(tsc_try_get_max(&c.place, c.number, low_key, 4097, NULL, 0, 6, &v) == TSC_ENDS && tsc_seat_try_get_max(&c.place, n + 1, low_key, 4097, NULL, 0, 6, &seen, &v) == TSC_ENDS);
+    CHECK(tsc_checked_get_max(&c.place, c.number, low_key, 4097, NULL, 0, 6, &v) == TSC_ENDS && tsc_checked_seat_get_max(&c.place, n + 1, low_key, 4097, NULL, 0, 6, &seen, &v) == TSC_ENDS);
     CHECK(has(&c, 1, 0, 5, 0) && tsc_seat_low_water(&c.place, n + 1, &seen, &floor) == TSC_OK && tsc_seat_figures_of(&c.place, n + 1, &seen, &f) == TSC_OK);
     CHECK(requests == before);
     tsc_free(&c.place);
@@ -574,23 +622,26 @@ static uint64_t names_something(tsc_place *place, uint64_t number)
 {
     static const tsc_value READ = {30, 0, {0x11}};
     static const tsc_mark MARK = {0, 1, 0, 0, {30, 0, {0x11}}, TSC_POINT};
+    static const tsc_span SPAN = {0, 1, 0, 0, TSC_POINT};
     tsc_place other = {NULL};
     tsc_value v = {7, 7, {7}};
     tsc_added a = {7, false, true};
     tsc_time floor = {7, 7};
     tsc_figures f = {7, 7, 7, 7};
     uint64_t at = 7, seen = 7, moved = 7, adds = 7, wrong = 0;
-    wrong += tsc_try_get_max(place, number, "b", 1, NULL, 0, TSC_POINT, &v) != TSC_CLOSED;
+    wrong += tsc_checked_get_max(place, number, "b", 1, NULL, 0, TSC_POINT, &v) != TSC_CLOSED;
     wrong += tsc_low_water(place, number, &floor) != TSC_CLOSED;
+    wrong += tsc_earliest_write(place, number, "b", 1, &SPAN, 1, &READ, &floor) != TSC_CLOSED;
+    wrong += tsc_seat_earliest_write(place, number, "b", 1, &SPAN, 1, &READ, &seen, &floor) != TSC_CLOSED;
     wrong += tsc_figures_of(place, number, &f) != TSC_CLOSED;
-    wrong += tsc_try_add(place, number, "b", 1, NULL, 0, TSC_POINT, &READ, &AT_20, &a) != TSC_CLOSED;
-    wrong += tsc_try_add_all(place, number, "b", 1, &MARK, 1, &AT_20, &a) != TSC_CLOSED;
+    wrong += tsc_checked_add(place, number, "b", 1, NULL, 0, TSC_POINT, &READ, &AT_20, &a) != TSC_CLOSED;
+    wrong += tsc_checked_add_all(place, number, "b", 1, &MARK, 1, &AT_20, &a) != TSC_CLOSED;
     wrong += tsc_close(place, number) != TSC_CLOSED;
-    wrong += tsc_seat_try_get_max(place, number, "b", 1, NULL, 0, TSC_POINT, &seen, &v) != TSC_CLOSED;
+    wrong += tsc_checked_seat_get_max(place, number, "b", 1, NULL, 0, TSC_POINT, &seen, &v) != TSC_CLOSED;
     wrong += tsc_seat_low_water(place, number, &seen, &floor) != TSC_CLOSED;
     wrong += tsc_seat_figures_of(place, number, &seen, &f) != TSC_CLOSED;
-    wrong += tsc_seat_try_add(place, number, "b", 1, NULL, 0, TSC_POINT, &READ, &AT_20, 1, &at, &a) != TSC_CLOSED;
-    wrong += tsc_seat_try_add_all(place, number, "b", 1, &MARK, 1, &AT_20, 1, &at, &a) != TSC_CLOSED;
+    wrong += tsc_checked_seat_add(place, number, "b", 1, NULL, 0, TSC_POINT, &READ, &AT_20, 1, &at, &a) != TSC_CLOSED;
+    wrong += tsc_checked_seat_add_all(place, number, "b", 1, &MARK, 1, &AT_20, 1, &at, &a) != TSC_CLOSED;
     wrong += tsc_seat_close(place, number) != TSC_CLOSED;
     wrong += tsc_close_shared(place, number, &adds) != TSC_CLOSED;
     wrong += tsc_move(place, number, &other, &moved) != TSC_CLOSED || tsc_close(&other, 0) != TSC_CLOSED;
@@ -612,11 +663,11 @@ static void numbers(void)
     uint64_t first = 77, second = 78, third = 79, shared = 77, last = 77, at = 77, seen = 77, adds = 77;
     CHECK(names_something(&place, 0) == 0 && place.at == NULL);
     CHECK(tsc_close(&place, 0) == TSC_CLOSED && tsc_low_water(&place, 0, &floor) == TSC_CLOSED && tsc_figures_of(&place, 0, &f) == TSC_CLOSED);
-    CHECK(tsc_try_get_max(&place, 0, "b", 1, NULL, 0, TSC_POINT, &v) == TSC_CLOSED);
+    CHECK(tsc_checked_get_max(&place, 0, "b", 1, NULL, 0, TSC_POINT, &v) == TSC_CLOSED);
     CHECK(tsc_open(&place, 132, 132, 2, 10, &low, &first) == TSC_OK && tsc_open(&place, 132, 132, 2, 10, &low, &second) == TSC_OK && first == LIVE_CACHE && second == SECOND_CACHE);
-    CHECK(tsc_try_add(&place, first, "b", 1, NULL, 0, TSC_POINT, &v, &AT_20, &a) == TSC_OK && a.kept);
+    CHECK(tsc_checked_add(&place, first, "b", 1, NULL, 0, TSC_POINT, &v, &AT_20, &a) == TSC_OK && a.kept);
     CHECK(tsc_open_shared(&place, 132, 132, 2, 10, &low, 3, 9, &shared) == TSC_OK && shared == LIVE_SHARED);
-    CHECK(tsc_seat_try_add(&place, LIVE_SEAT, "b", 1, NULL, 0, TSC_POINT, &v, &AT_20, 1, &at, &a) == TSC_OK && at == 0);
+    CHECK(tsc_checked_seat_add(&place, LIVE_SEAT, "b", 1, NULL, 0, TSC_POINT, &v, &AT_20, 1, &at, &a) == TSC_OK && at == 0);
     CHECK(tsc_seat_close(&place, CLOSED_SEAT) == TSC_OK && tsc_move(&place, MOVED_SEAT, &other, &at) == TSC_OK && at == 0);
     CHECK(tsc_open(&place, 132, 132, 2, 10, &low, &at) == TSC_OK && at == CLOSED_CACHE && tsc_close(&place, CLOSED_CACHE) == TSC_OK);
     CHECK(tsc_open(&place, 132, 132, 2, 10, &low, &at) == TSC_OK && at == MOVED_CACHE && tsc_move(&place, MOVED_CACHE, &other, &at) == TSC_OK && at == 1);
@@ -632,27 +683,27 @@ static void numbers(void)
         wrong += names_something(&place, i % 3 ? made_up : STALE[x % (sizeof STALE / sizeof *STALE)]);
     }
     CHECK(wrong == 0);
-    CHECK(tsc_try_get_max(&place, first, "b", 1, NULL, 0, TSC_POINT, &v) == TSC_OK && v.wall == 20);
-    CHECK(tsc_try_get_max(&place, second, "b", 1, NULL, 0, TSC_POINT, &v) == TSC_OK && v.wall == 5);
-    CHECK(tsc_seat_try_get_max(&place, LIVE_SEAT, "b", 1, NULL, 0, TSC_POINT, &seen, &v) == TSC_OK && v.wall == 20 && seen == 1);
-    CHECK(tsc_seat_try_get_max(&other, 0, "b", 1, NULL, 0, TSC_POINT, &seen, &v) == TSC_OK && v.wall == 20 && seen == 1);
+    CHECK(tsc_checked_get_max(&place, first, "b", 1, NULL, 0, TSC_POINT, &v) == TSC_OK && v.wall == 20);
+    CHECK(tsc_checked_get_max(&place, second, "b", 1, NULL, 0, TSC_POINT, &v) == TSC_OK && v.wall == 5);
+    CHECK(tsc_checked_seat_get_max(&place, LIVE_SEAT, "b", 1, NULL, 0, TSC_POINT, &seen, &v) == TSC_OK && v.wall == 20 && seen == 1);
+    CHECK(tsc_checked_seat_get_max(&other, 0, "b", 1, NULL, 0, TSC_POINT, &seen, &v) == TSC_OK && v.wall == 20 && seen == 1);
     CHECK(tsc_close_shared(&place, shared, &adds) == TSC_STILL_OUT && tsc_seat_close(&place, LIVE_SEAT) == TSC_OK && tsc_close(&other, 1) == TSC_OK);
     tsc_free(&other);
     CHECK(tsc_close_shared(&place, shared, &adds) == TSC_OK && adds == 1);
 
     CHECK(tsc_close(&place, first) == TSC_OK && tsc_close(&place, first) == TSC_CLOSED); /* closed twice */
-    CHECK(tsc_try_get_max(&place, first, "b", 1, NULL, 0, TSC_POINT, &v) == TSC_CLOSED);
+    CHECK(tsc_checked_get_max(&place, first, "b", 1, NULL, 0, TSC_POINT, &v) == TSC_CLOSED);
     CHECK(tsc_open(&place, 132, 132, 2, 10, &low, &third) == TSC_OK && third != first && third != second);
     wrong = 0;
     for (int i = 0; i < 1000; i++) /* the stale number stays stale */
         wrong += names_something(&place, first);
     CHECK(wrong == 0);
-    CHECK(tsc_try_get_max(&place, second, "b", 1, NULL, 0, TSC_POINT, &v) == TSC_OK && v.wall == 5);
+    CHECK(tsc_checked_get_max(&place, second, "b", 1, NULL, 0, TSC_POINT, &v) == TSC_OK && v.wall == 5);
 
     tsc_place moved = place; /* a move: the old place is one no more */
     memset(&place, 0, sizeof place);
-    CHECK(tsc_try_get_max(&place, second, "b", 1, NULL, 0, TSC_POINT, &v) == TSC_CLOSED);
-    CHECK(tsc_try_get_max(&moved, second, "b", 1, NULL, 0, TSC_POINT, &v) == TSC_OK);
+    CHECK(tsc_checked_get_max(&place, second, "b", 1, NULL, 0, TSC_POINT, &v) == TSC_CLOSED);
+    CHECK(tsc_checked_get_max(&moved, second, "b", 1, NULL, 0, TSC_POINT, &v) == TSC_OK);
     tsc_free(&moved);
     CHECK(moved.at == NULL && tsc_close(&moved, second) == TSC_CLOSED);
     CHECK(tsc_open(&moved, 132, 132, 2, 10, &low, &first) == TSC_OK && first == 0); /* a freed place begins anew */
@@ -677,7 +728,7 @@ static bool one_run(void)
     for (const char *key = "abcdefgh"; *key; key++) {
         char span[6] = {'[', *key, ',', 'z', ')', 0};
         uint64_t wall = 20 + (uint64_t)(*key - 'a');
-        right = right && tsc_try_get_max(&c.place, c.number, key, 1, "z", 1, TSC_EXCLUDE_TO, &v) == TSC_OK && v.wall == (*key == 'a' ? 5 : wall - 1);
+        right = right && tsc_checked_get_max(&c.place, c.number, key, 1, "z", 1, TSC_EXCLUDE_TO, &v) == TSC_OK && v.wall == (*key == 'a' ? 5 : wall - 1);
         tsc_figures before, after;
         right = right && tsc_figures_of(&c.place, c.number, &before) == TSC_OK;
         if (tried(add_at(&c, span, wall, 0, 'A', AT_20, &a)) == TSC_NO_MEMORY) {
@@ -688,9 +739,9 @@ static bool one_run(void)
         right = right && a.kept && answers(&c, "y", wall, 0, 'A');
     }
     tsc_mark marks[2] = {{0, 1, 0, 0, {50, 0, {0}}, TSC_POINT}, {1, 1, 0, 0, {50, 0, {0}}, TSC_POINT}};
-    if (tried(tsc_try_add_all(&c.place, c.number, "xy", 2, marks, 2, &AT_40, &a)) == TSC_NO_MEMORY) {
+    if (tried(tsc_checked_add_all(&c.place, c.number, "xy", 2, marks, 2, &AT_40, &a)) == TSC_NO_MEMORY) {
         right = right && answers(&c, "[x,y]", 27, 0, 'A');
-        right = right && tsc_try_add_all(&c.place, c.number, "xy", 2, marks, 2, &AT_40, &a) == TSC_OK;
+        right = right && tsc_checked_add_all(&c.place, c.number, "xy", 2, marks, 2, &AT_40, &a) == TSC_OK;
     }
     right = right && answers(&c, "x", 50, 0, '-') && answers(&c, "y", 50, 0, '-') && answers(&c, "b", 20 + 1, 0, 'A');
     uint64_t other;
@@ -720,17 +771,17 @@ static bool one_shared_run(void)
         tsc_place *mine = &places[i % 2], *other = &places[1 - i % 2];
         char key = (char)('a' + i);
         read.wall = 20 + i;
-        if (tried(tsc_seat_try_add(mine, seats[i % 2], &key, 1, "z", 1, TSC_EXCLUDE_TO, &read, &AT_20, 1, &at, &a)) == TSC_NO_MEMORY) {
-            right = right && tsc_seat_try_get_max(mine, seats[i % 2], "y", 1, NULL, 0, TSC_POINT, &seen, &v) == TSC_OK && seen == i && v.wall == (i ? 19 + i : 5);
-            right = right && tsc_seat_try_add(mine, seats[i % 2], &key, 1, "z", 1, TSC_EXCLUDE_TO, &read, &AT_20, 1, &at, &a) == TSC_OK;
+        if (tried(tsc_checked_seat_add(mine, seats[i % 2], &key, 1, "z", 1, TSC_EXCLUDE_TO, &read, &AT_20, 1, &at, &a)) == TSC_NO_MEMORY) {
+            right = right && tsc_checked_seat_get_max(mine, seats[i % 2], "y", 1, NULL, 0, TSC_POINT, &seen, &v) == TSC_OK && seen == i && v.wall == (i ? 19 + i : 5);
+            right = right && tsc_checked_seat_add(mine, seats[i % 2], &key, 1, "z", 1, TSC_EXCLUDE_TO, &read, &AT_20, 1, &at, &a) == TSC_OK;
         }
         right = right && at == i && a.kept;
-        right = right && tsc_seat_try_get_max(other, seats[1 - i % 2], "y", 1, NULL, 0, TSC_POINT, &seen, &v) == TSC_OK;
+        right = right && tsc_checked_seat_get_max(other, seats[1 - i % 2], "y", 1, NULL, 0, TSC_POINT, &seen, &v) == TSC_OK;
         right = right && seen == i + 1 && v.wall == 20 + i;
     }
     tsc_mark marks[2] = {{0, 1, 0, 0, {50, 0, {0}}, TSC_POINT}, {1, 1, 0, 0, {50, 0, {0}}, TSC_POINT}};
-    if (tried(tsc_seat_try_add_all(&places[0], 1, "xy", 2, marks, 2, &AT_40, 1, &at, &a)) == TSC_NO_MEMORY)
-        right = right && tsc_seat_try_add_all(&places[0], 1, "xy", 2, marks, 2, &AT_40, 1, &at, &a) == TSC_OK;
+    if (tried(tsc_checked_seat_add_all(&places[0], 1, "xy", 2, marks, 2, &AT_40, 1, &at, &a)) == TSC_NO_MEMORY)
+        right = right && tsc_checked_seat_add_all(&places[0], 1, "xy", 2, marks, 2, &AT_40, 1, &at, &a) == TSC_OK;
     right = right && at == 8 && tsc_seat_close(&places[0], 1) == TSC_OK && tsc_close_shared(&places[0], 0, &adds) == TSC_STILL_OUT && adds == 77;
     tsc_free(&places[1]);
     right = right && tsc_close_shared(&places[0], 0, &adds) == TSC_OK && adds == 9;
@@ -844,6 +895,7 @@ int main(int argc, char **argv)
     large_page();
     refusals();
     texts();
+    writes();
     nulls();
     lookups();
     times();

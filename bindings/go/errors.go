@@ -44,8 +44,8 @@ const (
 	// ErrFull is of a shared cache that has had as many Adds as it may have.
 	ErrFull Refused = C.TSC_FULL
 	// ErrNoTime is of a write for which there is no time: a read of somebody else is at the last
-	// one. No code of tscache.h says so.
-	ErrNoTime Refused = 1 << 16
+	// one.
+	ErrNoTime Refused = C.TSC_NO_TIME
 )
 
 var reasons = map[Refused]string{

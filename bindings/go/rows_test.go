@@ -253,8 +253,8 @@ func (p *table) ofSeat(op string, rest []string, seat *Seat) (string, error) {
 	return p.ofWrites(seat, op, rest)
 }
 
-// chairs opens a shared cache with so many seats, and closes it.
-func chairs(count uint32) error {
+// seated opens a shared cache with so many seats, and closes it.
+func seated(count uint32) error {
 	shared, seats, err := OpenShared(DefaultConfig(), count, 9)
 	if err != nil {
 		return err
@@ -294,8 +294,8 @@ func playRows(t *testing.T, seats uint32) (rows int) {
 			p.close()
 			p = &table{t: t, tries: 64}
 			err = p.open(words[1:], seats)
-		case "chairs":
-			err = chairs(uint32(number(words[1], 32)))
+		case "seats":
+			err = seated(uint32(number(words[1], 32)))
 		default:
 			told, err = p.call(words)
 		}

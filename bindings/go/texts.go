@@ -2,6 +2,20 @@ package tscache
 
 /*
 #include "tscache.h"
+
+// The bytes go as bytes, so that cgo looks for pointers among them alone, and not in what they lie in.
+
+static uint32_t tsc_go_replay(const uint8_t *trace, size_t trace_len, uint8_t *out, size_t room,
+                              size_t *len)
+{
+    return tsc_replay(trace, trace_len, out, room, len);
+}
+
+static uint32_t tsc_go_check(const uint8_t *trace, size_t trace_len, const uint8_t *log,
+                             size_t log_len, uint8_t *out, size_t room, size_t *len)
+{
+    return tsc_check(trace, trace_len, log, log_len, out, room, len);
+}
 */
 import "C"
 
@@ -15,7 +29,7 @@ func (r TextRefused) Error() string { return "tscache: " + string(r) }
 func Replay(trace []byte) ([]byte, error) {
 	return told(func(out []byte) (uint32, int) {
 		var length C.size_t
-		code := C.tsc_replay(
+		code := C.tsc_go_replay(
 			bytes(trace), C.size_t(len(trace)), bytes(out), C.size_t(len(out)), &length,
 		)
 		return uint32(code), int(length)
@@ -28,7 +42,7 @@ func Replay(trace []byte) ([]byte, error) {
 func Check(trace, log []byte) ([]byte, error) {
 	return told(func(out []byte) (uint32, int) {
 		var length C.size_t
-		code := C.tsc_check(
+		code := C.tsc_go_check(
 			bytes(trace), C.size_t(len(trace)), bytes(log), C.size_t(len(log)), bytes(out),
 			C.size_t(len(out)), &length,
 		)

@@ -96,6 +96,13 @@ static uint32_t tsc_go_get_max(tsc_go_block *b, const uint8_t *from, size_t from
     return tsc_get_max(tsc_go_place(b), b->number, from, from_len, to, to_len, ends, &b->value);
 }
 
+static uint32_t tsc_go_earliest_write(tsc_go_block *b, const uint8_t *keys, size_t keys_len,
+                                      const tsc_span *spans, size_t spans_len)
+{
+    return tsc_earliest_write(tsc_go_place(b), b->number, keys, keys_len, spans, spans_len,
+                              &b->value, &b->time);
+}
+
 static uint32_t tsc_go_low_water(tsc_go_block *b)
 {
     return tsc_low_water(tsc_go_place(b), b->number, &b->time);
@@ -125,6 +132,13 @@ static uint32_t tsc_go_seat_get_max(tsc_go_block *b, const uint8_t *from, size_t
 {
     return tsc_seat_get_max(tsc_go_place(b), b->number, from, from_len, to, to_len, ends, &b->told,
                             &b->value);
+}
+
+static uint32_t tsc_go_seat_earliest_write(tsc_go_block *b, const uint8_t *keys, size_t keys_len,
+                                           const tsc_span *spans, size_t spans_len)
+{
+    return tsc_seat_earliest_write(tsc_go_place(b), b->number, keys, keys_len, spans, spans_len,
+                                   &b->value, &b->told, &b->time);
 }
 
 static uint32_t tsc_go_seat_low_water(tsc_go_block *b)
@@ -243,7 +257,11 @@ const apart = C.TSC_GO_APART
 type owned struct {
 	block *C.tsc_go_block
 	taken uint32
-	_     [apart - unsafe.Sizeof(uintptr(0)) - 8]byte
+	// The keys and the spans of the last question for several spans. They stay, so that the next
+	// question takes no memory.
+	keys  []byte
+	spans []C.tsc_span
+	_     [apart - unsafe.Sizeof(uintptr(0)) - 8 - 2*unsafe.Sizeof([]byte(nil))]byte
 }
 
 const atOnce = "tscache: two goroutines use one Cache, Shared or Seat at once; " +
@@ -365,6 +383,26 @@ func (c *Cache) GetMax(span Span) (Value, error) {
 		C.size_t(len(span.to)), span.ends-1,
 	)
 	out := valueOf(code, &c.block.value)
+	err := c.leave(code)
+	runtime.KeepAlive(c)
+	return out, err
+}
+
+// EarliestWrite is the earliest time, not before at, at which a transaction may write all of these
+// spans. It is clear of each read on one of them that was added so far, also of one that was
+// dropped since. It costs a lookup for each span. It is refused with ErrNoTime where there is
+// none, with ErrTime, and as GetMax is.
+func (c *Cache) EarliestWrite(spans []Span, at Time, by [16]byte) (Time, error) {
+	c.take()
+	if c.block == nil {
+		return Time{}, c.leave(C.TSC_CLOSED)
+	}
+	putValue(&c.block.value, Value{at, by})
+	c.ask(spans)
+	code := C.tsc_go_earliest_write(
+		c.block, bytes(c.keys), C.size_t(len(c.keys)), &c.spans[0], C.size_t(len(spans)),
+	)
+	out := timeOf(code, &c.block.time)
 	err := c.leave(code)
 	runtime.KeepAlive(c)
 	return out, err
@@ -538,6 +576,24 @@ func (s *Seat) GetMax(span Span) (Value, uint64, error) {
 	return out, seen, err
 }
 
+// EarliestWrite is as that of a Cache, by what lookups of the seat answer, one after another. It
+// waits for nobody.
+func (s *Seat) EarliestWrite(spans []Span, at Time, by [16]byte) (Time, error) {
+	s.take()
+	if s.block == nil {
+		return Time{}, s.leave(C.TSC_CLOSED)
+	}
+	putValue(&s.block.value, Value{at, by})
+	s.ask(spans)
+	code := C.tsc_go_seat_earliest_write(
+		s.block, bytes(s.keys), C.size_t(len(s.keys)), &s.spans[0], C.size_t(len(spans)),
+	)
+	out := timeOf(code, &s.block.time)
+	err := s.leave(code)
+	runtime.KeepAlive(s)
+	return out, err
+}
+
 // LowWater is where the floor stands, and how many Adds the seat has seen then.
 func (s *Seat) LowWater() (Time, uint64, error) {
 	s.take()
@@ -587,6 +643,22 @@ func flat(marks []Mark) ([]byte, []C.tsc_mark) {
 		keys = append(append(keys, m.Span.from...), m.Span.to...)
 	}
 	return keys, asked
+}
+
+// ask lays some spans side by side, with their keys in one piece, and one more span behind them,
+// which is nobody's.
+func (o *owned) ask(spans []Span) {
+	o.keys, o.spans = o.keys[:0], o.spans[:0]
+	for _, span := range spans {
+		from := len(o.keys)
+		o.keys = append(append(o.keys, span.from...), span.to...)
+		o.spans = append(o.spans, C.tsc_span{
+			from_at: C.size_t(from), from_len: C.size_t(len(span.from)),
+			to_at: C.size_t(from + len(span.from)), to_len: C.size_t(len(span.to)),
+			ends: span.ends - 1,
+		})
+	}
+	o.spans = append(o.spans, C.tsc_span{})
 }
 
 // nothing is where a key without bytes lies.

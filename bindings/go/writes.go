@@ -27,8 +27,6 @@ func (t Time) Next() (Time, bool) {
 	}
 }
 
-func (t Time) isInRange() bool { return t.Wall <= math.MaxInt64 && t.Logical <= math.MaxInt32 }
-
 // IsClearOf says whether a write of a transaction at some time is clear of a read, or of what a
 // lookup answers: that one is earlier, or it is at the same time and the transaction's own. An own
 // read that is later is not passed over: where it is an answer, an earlier read of somebody else
@@ -54,61 +52,24 @@ func EarliestClearOf(read Value, at Time, by [16]byte) (Time, bool) {
 	}
 }
 
-// mayWrite says whether a write is clear of what a lookup answers.
-func mayWrite(latest func(Span) (Value, error), span Span, at Time, by [16]byte) (bool, error) {
-	if !at.isInRange() {
-		return false, ErrTime
+// mayWrite says whether the earliest time from one on is that one.
+func mayWrite(earliest Time, err error, at Time) (bool, error) {
+	if err == ErrNoTime {
+		return false, nil
 	}
-	read, err := latest(span)
-	return err == nil && IsClearOf(read, at, by), err
-}
-
-// earliestWrite goes from span to span, and to a later time where one of them asks for that.
-func earliestWrite(latest func(Span) (Value, error), spans []Span, at Time, by [16]byte) (
-	Time, error,
-) {
-	if !at.isInRange() {
-		return Time{}, ErrTime
-	}
-	for _, span := range spans {
-		read, err := latest(span)
-		if err != nil {
-			return Time{}, err
-		}
-		next, there := EarliestClearOf(read, at, by)
-		if !there {
-			return Time{}, ErrNoTime
-		}
-		at = next
-	}
-	return at, nil
+	return err == nil && earliest == at, err
 }
 
 // MayWrite says whether a transaction may write a span at some time: whether that is clear of what
 // a lookup of the span answers, and so of each read that was added there, also of one that was
 // dropped since. It is refused with ErrTime, and as GetMax is.
 func (c *Cache) MayWrite(span Span, at Time, by [16]byte) (bool, error) {
-	return mayWrite(c.GetMax, span, at, by)
-}
-
-// EarliestWrite is the earliest time, not before at, at which a transaction may write all of these
-// spans. It costs a lookup for each. It is refused with ErrNoTime where there is none, with
-// ErrTime, and as GetMax is.
-func (c *Cache) EarliestWrite(spans []Span, at Time, by [16]byte) (Time, error) {
-	return earliestWrite(c.GetMax, spans, at, by)
-}
-
-func (s *Seat) latest(span Span) (Value, error) {
-	read, _, err := s.GetMax(span)
-	return read, err
+	earliest, err := c.EarliestWrite([]Span{span}, at, by)
+	return mayWrite(earliest, err, at)
 }
 
 // MayWrite is as that of a Cache, by what a lookup of the seat answers.
 func (s *Seat) MayWrite(span Span, at Time, by [16]byte) (bool, error) {
-	return mayWrite(s.latest, span, at, by)
-}
-
-// EarliestWrite is as that of a Cache, by what lookups of the seat answer. It waits for nobody.
-func (s *Seat) EarliestWrite(spans []Span, at Time, by [16]byte) (Time, error) {
-	return earliestWrite(s.latest, spans, at, by)
+	earliest, err := s.EarliestWrite([]Span{span}, at, by)
+	return mayWrite(earliest, err, at)
 }

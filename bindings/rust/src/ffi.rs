@@ -8,6 +8,9 @@ pub const EXCLUDE_TO: u32 = 2;
 pub const ONWARD: u32 = 4;
 pub const POINT: u32 = 8;
 
+pub const TIME: u32 = 2;
+pub const NO_TIME: u32 = 18;
+
 #[repr(C)]
 #[derive(Debug)]
 pub struct Place {
@@ -35,6 +38,15 @@ pub struct Mark {
     pub to_at: usize,
     pub to_len: usize,
     pub value: Value,
+    pub ends: u32,
+}
+
+#[repr(C)]
+pub struct Span {
+    pub from_at: usize,
+    pub from_len: usize,
+    pub to_at: usize,
+    pub to_len: usize,
     pub ends: u32,
 }
 
@@ -79,6 +91,16 @@ extern "C" {
         to_len: usize,
         ends: u32,
         out: *mut Value,
+    ) -> u32;
+    pub fn tsc_earliest_write(
+        place: *mut Place,
+        number: u64,
+        keys: *const u8,
+        keys_len: usize,
+        spans: *const Span,
+        spans_len: usize,
+        write: *const Value,
+        out: *mut Time,
     ) -> u32;
     pub fn tsc_low_water(place: *mut Place, number: u64, out: *mut Time) -> u32;
     pub fn tsc_figures_of(place: *mut Place, number: u64, out: *mut Figures) -> u32;
@@ -136,6 +158,17 @@ extern "C" {
         ends: u32,
         seen: *mut u64,
         out: *mut Value,
+    ) -> u32;
+    pub fn tsc_seat_earliest_write(
+        place: *mut Place,
+        seat: u64,
+        keys: *const u8,
+        keys_len: usize,
+        spans: *const Span,
+        spans_len: usize,
+        write: *const Value,
+        seen: *mut u64,
+        out: *mut Time,
     ) -> u32;
     pub fn tsc_seat_low_water(place: *mut Place, seat: u64, seen: *mut u64, out: *mut Time) -> u32;
     pub fn tsc_seat_figures_of(

@@ -1,6 +1,5 @@
-//! When a write is clear of reads: the same calls as those of the crate `timestamp_cache`, over
-//! what lookups answer.
-use crate::{Cache, Seat, Span, Time, Value};
+//! When a write is clear of reads: the same calls as those of the crate `timestamp_cache`.
+use crate::{answered, ffi, Cache, Seat, Span, Time, Value};
 
 const MOST_WALL: u64 = i64::MAX as u64;
 const MOST_LOGICAL: u32 = i32::MAX as u32;
@@ -56,16 +55,42 @@ pub fn earliest_clear_of(read: Value, at: Time, by: [u8; 16]) -> Option<Time> {
     }
 }
 
-/// The earliest time, not before `at`, at which a write is clear of what a lookup of each of some
-/// spans answers.
+/// Hands over spans with their keys in one piece, as the library takes them. The key of one that is
+/// a single key is handed over where it lies.
 #[inline]
-fn earliest(
-    spans: &[Span<'_>],
-    at: Time,
-    by: [u8; 16],
-    mut latest: impl FnMut(&Span<'_>) -> Value,
-) -> Option<Time> {
-    spans.iter().try_fold(at, |time, span| earliest_clear_of(latest(span), time, by))
+fn flat(spans: &[Span<'_>], call: impl FnOnce(&[u8], &[ffi::Span]) -> u32) -> u32 {
+    if let [span] = spans {
+        let (from, to, ends) = span.parts();
+        if to.is_empty() {
+            return call(from, &[lying(0, from, to, ends)]);
+        }
+    }
+    let (mut keys, mut asked) = (Vec::new(), Vec::with_capacity(spans.len()));
+    for span in spans {
+        let (from, to, ends) = span.parts();
+        asked.push(lying(keys.len(), from, to, ends));
+        keys.extend_from_slice(from);
+        keys.extend_from_slice(to);
+    }
+    call(&keys, &asked)
+}
+
+/// A span whose first key lies at some place among the keys, and the second behind it.
+#[inline]
+fn lying(from_at: usize, from: &[u8], to: &[u8], ends: u32) -> ffi::Span {
+    let to_at = from_at + from.len();
+    ffi::Span { from_at, from_len: from.len(), to_at, to_len: to.len(), ends }
+}
+
+/// The time that a call wrote. None is told where there is none, or the wanted one is out of range;
+/// it is refused else only where there are no such ends.
+#[inline]
+fn told(code: u32, time: Time) -> Option<Time> {
+    if code == ffi::NO_TIME || code == ffi::TIME {
+        return None;
+    }
+    answered(code);
+    Some(time)
 }
 
 impl Cache {
@@ -74,40 +99,77 @@ impl Cache {
     /// since.
     #[inline]
     pub fn may_write(&mut self, span: &Span<'_>, at: Time, by: [u8; 16]) -> bool {
-        is_clear_of(self.get_max(span), at, by)
+        self.earliest_write(std::slice::from_ref(span), at, by) == Some(at)
     }
 
     /// The earliest time, not before `at`, at which a transaction may write all of these spans;
-    /// `None` where there is none. It costs a lookup for each.
+    /// `None` where there is none, or `at` is out of range. It costs a lookup for each.
     ///
     /// ```
     /// use tscache::{Cache, Config, Error, Span, Time, Value};
     /// let mut cache = Cache::open(&Config::default())?;
     /// let (reader, writer) = ([0x11; 16], [0x22; 16]);
-    /// cache.add(&Span::until(b"a", b"c"), Value { time: Time::new(20, 0), owner: Some(reader) }, Time::new(20, 0))?;
+    /// let read = Value { time: Time::new(20, 0), owner: Some(reader) };
+    /// cache.add(&Span::until(b"a", b"c"), read, Time::new(20, 0))?;
     /// let wanted = Time::new(15, 0);
-    /// assert_eq!(cache.earliest_write(&[Span::Point(b"b"), Span::Point(b"z")], wanted, writer), Some(Time::new(20, 1)));
+    /// let spans = [Span::Point(b"b"), Span::Point(b"z")];
+    /// assert_eq!(cache.earliest_write(&spans, wanted, writer), Some(Time::new(20, 1)));
     /// assert_eq!(cache.earliest_write(&[Span::Point(b"c")], wanted, writer), Some(wanted));
     /// assert!(cache.may_write(&Span::Point(b"b"), Time::new(20, 0), reader));
     /// # Ok::<(), Error>(())
     /// ```
     #[inline]
     pub fn earliest_write(&mut self, spans: &[Span<'_>], at: Time, by: [u8; 16]) -> Option<Time> {
-        earliest(spans, at, by, |span| self.get_max(span))
+        let (write, mut time) = (written(at, by), at);
+        // SAFETY: as of the other calls.
+        let code = flat(spans, |keys, asked| unsafe {
+            ffi::tsc_earliest_write(
+                &mut self.place,
+                self.number,
+                keys.as_ptr(),
+                keys.len(),
+                asked.as_ptr(),
+                asked.len(),
+                &write,
+                &mut time,
+            )
+        });
+        told(code, time)
     }
+}
+
+/// When a write is wanted, and by whom.
+#[inline]
+fn written(at: Time, by: [u8; 16]) -> ffi::Value {
+    ffi::Value { wall: at.wall, logical: at.logical, owner: by }
 }
 
 impl Seat {
     /// As [`Cache::may_write`], by what a lookup of the seat answers.
     #[inline]
     pub fn may_write(&mut self, span: &Span<'_>, at: Time, by: [u8; 16]) -> bool {
-        is_clear_of(self.get_max(span).0, at, by)
+        self.earliest_write(std::slice::from_ref(span), at, by) == Some(at)
     }
 
     /// As [`Cache::earliest_write`], by what lookups of the seat answer. It waits for nobody.
     #[inline]
     pub fn earliest_write(&mut self, spans: &[Span<'_>], at: Time, by: [u8; 16]) -> Option<Time> {
-        earliest(spans, at, by, |span| self.get_max(span).0)
+        let (write, mut time, mut seen) = (written(at, by), at, 0);
+        // SAFETY: as of the other calls.
+        let code = flat(spans, |keys, asked| unsafe {
+            ffi::tsc_seat_earliest_write(
+                &mut self.place,
+                self.number,
+                keys.as_ptr(),
+                keys.len(),
+                asked.as_ptr(),
+                asked.len(),
+                &write,
+                &mut seen,
+                &mut time,
+            )
+        });
+        told(code, time)
     }
 }
 

@@ -302,7 +302,7 @@ fn play(seats: u32) -> usize {
                         Err(why) => told_error(why).into(),
                     }
                 }
-                ["chairs", count] => {
+                ["seats", count] => {
                     match Shared::open(&Config::default(), count.parse().unwrap(), 9) {
                         Ok((opened, all)) => {
                             assert_eq!(all.len().to_string(), count);

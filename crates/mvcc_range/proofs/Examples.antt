@@ -1,4 +1,5 @@
--- Worked examples: what is there as of a time, the serial order, and executions that are not serial.
+-- Worked examples: what is there as of a time, the serial order, and executions that are not
+-- serial.
 use Rattle.std.proofs.Common.{◌≡◌, refl, ℕ, List, [], ◌∷◌, map, Some, None, arith}
 use Rattle.tsc_span.specs.Span.{between, before}
 use Rattle.timestamp_cache.specs.Words.{Time, Owner, KeyBytes, Interval, point}
@@ -28,7 +29,11 @@ letters = between (before a) (before (122 ∷ []))
 
 -- alice wrote at 10, and bob deleted at 20
 abbrev versions : List Version
-versions = (record { at = time 20; by = bob; content = None }) ∷ (record { at = time 10; by = alice; content = Some (1 ∷ []) }) ∷ []
+versions = (record { at = time 20; by = bob; content = None }) ∷ (record {
+  at = time 10;
+  by = alice;
+  content = Some (1 ∷ []);
+}) ∷ []
 
 nothing_before : content_as_of (time 9) versions ≡ None
 nothing_before = refl
@@ -52,20 +57,31 @@ writes k = (record { key = k; content = Some (1 ∷ []) }) ∷ []
 another_key : laid a (time 30) alice (writes m) versions ≡ versions
 another_key = refl
 
-last_write : newest_content (laid a (time 30) alice (record { key = a; content = Some (2 ∷ []) } ∷ writes a) versions) ≡ Some (1 ∷ [])
+last_write : newest_content (laid a (time 30) alice (record {
+  key = a;
+  content = Some (2 ∷ []);
+} ∷ writes a) versions) ≡ Some (1 ∷ [])
 last_write = refl
 
 -- ---- the serial order
 
 abbrev transaction : ℕ → Owner → List Read → List Write → Transaction
-transaction wall by reads written = record { at = time wall; by = by; reads = reads; writes = written }
+transaction wall by reads written = record {
+  at = time wall;
+  by = by;
+  reads = reads;
+  writes = written;
+}
 
 -- It is by time. The last to commit is given first.
-by_time : map (λ (t : Transaction). t.at.wall) (serial_order (transaction 20 bob [] [] ∷ transaction 30 alice [] [] ∷ transaction 10 bob [] [] ∷ [])) ≡ 10 ∷ 20 ∷ 30 ∷ []
+by_time : map (λ (t : Transaction). t.at.wall)
+    (serial_order (transaction 20 bob [] [] ∷ transaction 30 alice [] [] ∷ transaction 10 bob []
+    [] ∷ [])) ≡ 10 ∷ 20 ∷ 30 ∷ []
 by_time = refl
 
 -- At one time it is the order of the commits.
-by_commit : map (λ (t : Transaction). t.by) (serial_order (transaction 20 bob [] [] ∷ transaction 20 alice [] [] ∷ [])) ≡ alice ∷ bob ∷ []
+by_commit : map (λ (t : Transaction). t.by)
+    (serial_order (transaction 20 bob [] [] ∷ transaction 20 alice [] [] ∷ [])) ≡ alice ∷ bob ∷ []
 by_commit = refl
 
 -- ---- what is not serial
@@ -77,17 +93,31 @@ none_some : (b : List ℕ) → None ≡ Some b → ⊥
 none_some b e = cc
 
 -- A lost update: both read that a has nothing, and both write it.
-lost_update : IsSerial empty (serial_order (transaction 21 bob (nothing_in (point a) ∷ []) (writes a) ∷ transaction 20 alice (nothing_in (point a) ∷ []) (writes a) ∷ [])) → ⊥
+lost_update : IsSerial empty (serial_order (transaction 21 bob (nothing_in (point a) ∷ [])
+    (writes a) ∷ transaction 20 alice (nothing_in (point a) ∷ []) (writes a) ∷ [])) → ⊥
 lost_update serial = none_some (1 ∷ []) (serial.1.0.0.rows a refl)
 
 -- A write skew: each reads that no letter has anything, and each writes another one.
-write_skew : IsSerial empty (serial_order (transaction 20 bob (nothing_in letters ∷ []) (writes m) ∷ transaction 20 alice (nothing_in letters ∷ []) (writes a) ∷ [])) → ⊥
+write_skew : IsSerial empty (serial_order (transaction 20 bob (nothing_in letters ∷ [])
+    (writes m) ∷ transaction 20 alice (nothing_in letters ∷ []) (writes a) ∷ [])) → ⊥
 write_skew serial = none_some (1 ∷ []) (serial.1.0.0.rows a refl)
 
 -- A phantom: alice reads at 30 that no letter has anything, and then bob writes m at 20.
-phantom : IsSerial empty (serial_order (transaction 20 bob [] (writes m) ∷ transaction 30 alice (nothing_in letters ∷ []) [] ∷ [])) → ⊥
+phantom : IsSerial empty (serial_order (transaction 20 bob [] (writes m) ∷ transaction 30 alice
+    (nothing_in letters ∷ []) [] ∷ [])) → ⊥
 phantom serial = none_some (1 ∷ []) (serial.1.0.0.rows m refl)
 
 -- Where bob is pushed to 31, it is serial.
-pushed : IsSerial empty (serial_order (transaction 31 bob [] (writes m) ∷ transaction 30 alice (nothing_in letters ∷ []) [] ∷ []))
-pushed = ((record { rows = λ k c. refl; within = λ k d below. absurd (omega (arith, below)); order = tt }, tt), (tt, tt))
+pushed : IsSerial empty (serial_order (transaction 31 bob [] (writes m) ∷ transaction 30 alice
+    (nothing_in letters ∷ []) [] ∷ []))
+pushed = (
+  (
+    record {
+      rows = λ k c. refl;
+      within = λ k d below. absurd (omega (arith, below));
+      order = tt;
+    },
+    tt,
+  ),
+  (tt, tt),
+)

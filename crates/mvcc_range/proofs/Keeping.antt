@@ -1,59 +1,194 @@
 -- What stays so, whatever calls are made of a range, and the laws that follow.
-use Rattle.std.proofs.Common.{◌≡◌, ◌⊎◌, ◌∙◌, ap, sym, refl, subst, inl, inr, List, [], ◌∷◌, ◌++◌, map, Bool, true, false, not, if◌then◌else◌, Some, None}
+use Rattle.std.proofs.Common.{
+  ◌≡◌,
+  ◌⊎◌,
+  ◌∙◌,
+  ap,
+  sym,
+  refl,
+  subst,
+  inl,
+  inr,
+  List,
+  [],
+  ◌∷◌,
+  ◌++◌,
+  map,
+  Bool,
+  true,
+  false,
+  not,
+  if◌then◌else◌,
+  Some,
+  None,
+}
 use Rattle.std.specs.List.{All, AllByRecursion, Contains}
 use Rattle.std.proofs.lemmas.Bool.{cases_Bool, both_ways}
-use Rattle.std.proofs.lemmas.List.Elements.{All-from_recursion, recursion_from_All, All-contains, Contains-push}
-use Rattle.tsc_time.proofs.TimeOrder.{is_before-itself, is_before-opposite}
-use Rattle.tsc_time.proofs.RatchetOrder.{IsAtMost-transitive}
+use Rattle.std.proofs.lemmas.List.Elements.{
+  All-from_recursion,
+  recursion_from_All,
+  All-contains,
+  Contains-push,
+}
+use Rattle.tsc_time.proofs.TimeOrder.{is_before-itself, is_before-opposite, no_earlier-transitive}
+use Rattle.tsc_time.proofs.RatchetOrder.{IsAtMost-itself, IsAtMost-transitive}
 use Rattle.tsc_time.proofs.Members.{IsIn, Contains-from_IsIn}
 use Rattle.tsc_span.specs.Span.{covers, overlaps}
 use Rattle.tsc_span.proofs.Overlaps.{covers_as_it_overlaps}
 use Rattle.tsc_cache.specs.State.{CacheState, step_all}
 use Rattle.tsc_cache.proofs.Histories.{state_of-push, kept_up, rising, clear_below}
 use Rattle.tsc_cache.proofs.StatesSeen.{answers_look}
-use Rattle.timestamp_cache.specs.Words.{Time, is_before, Owner, OwnedTime, owner_of, IsAtMost, KeyBytes, Interval, point, Mark, Settings, CacheView, StandsForState, look, History, Entry, state_of, cache_answer}
+use Rattle.timestamp_cache.specs.Words.{
+  Time,
+  is_before,
+  Owner,
+  OwnedTime,
+  owner_of,
+  IsAtMost,
+  KeyBytes,
+  Interval,
+  point,
+  Mark,
+  Settings,
+  CacheView,
+  StandsForState,
+  look,
+  History,
+  Entry,
+  state_of,
+  cache_answer,
+}
 use Rattle.timestamp_cache.specs.Clear.{IsClearOf}
 use Rattle.uuid.specs.Parts.{is_nil_bytes}
-use Rattle.mvcc_range.specs.Versions.{is_written, Content, Chains, chain_of, Version, Write, Read, after_writes, as_of, laid, newest_time, IsAfter, Matches}
+use Rattle.mvcc_range.specs.Versions.{
+  is_written,
+  Content,
+  Chains,
+  chain_of,
+  Version,
+  Write,
+  Read,
+  after_writes,
+  content_as_of,
+  as_of,
+  laid,
+  newest_time,
+  IsAfter,
+  Matches,
+}
 use Rattle.mvcc_range.specs.Serial.{Transaction, empty, executed_all, IsSerial, serial_order}
-use Rattle.mvcc_range.specs.Steps.{RangeView, mark_of, Answers, MayCommit, Commits, HandsOn, Answered, Execution, opened, answers, commits, hands_on}
+use Rattle.mvcc_range.specs.Steps.{
+  RangeView,
+  mark_of,
+  IsSame,
+  Answers,
+  MayCommit,
+  Commits,
+  HandsOn,
+  Collects,
+  Answered,
+  Execution,
+  opened,
+  answers,
+  commits,
+  stays,
+  hands_on,
+  collects,
+}
 use Rattle.mvcc_range.specs.Laws.{Serializable, HasNotWritten, Repeatable, Unpushed}
-use Rattle.mvcc_range.proofs.Placing.{each, any, of_written, not_written, same_or, found, upto, always, as_of_found, newest_found, found_laid, content_after, all_leave, ordered, each_in_order, content_placed, matches_same, AreUndisturbed, serial_placed, all_laid}
-use Rattle.mvcc_range.proofs.Laying.{AreNewestFirst, later_than_all, laid_newest_first, laid_parts, each_laid}
+use Rattle.mvcc_range.proofs.Placing.{
+  each,
+  any,
+  of_written,
+  not_written,
+  same_or,
+  found,
+  upto,
+  always,
+  as_of_found,
+  newest_found,
+  found_laid,
+  content_after,
+  all_leave,
+  ordered,
+  each_in_order,
+  content_placed,
+  matches_same,
+  AreUndisturbed,
+  serial_placed,
+  all_laid,
+}
+use Rattle.mvcc_range.proofs.Collecting.{
+  AgreesFrom,
+  upto_passes,
+  later_on,
+  agrees_itself,
+  agrees_laid,
+  found_kept,
+  agrees_kept,
+  kept_newest_first,
+  all_from_kept,
+}
+use Rattle.mvcc_range.proofs.Laying.{
+  AreNewestFirst,
+  later_than_all,
+  laid_newest_first,
+  laid_parts,
+  each_laid,
+}
 
 -- To each key of a span that a read covers, a cache answers no less than the read.
 abbrev pub IsGuarded : Interval → CacheView → Time → Owner → Read → Type 0
-IsGuarded span cache at by read = (k : KeyBytes) → covers span k ≡ true → covers read.span k ≡ true → IsAtMost (mark_of at by read).value (cache_answer cache (point k))
+IsGuarded span cache at by read = (k : KeyBytes) → covers span k ≡ true → covers read.span k ≡ true
+    → IsAtMost (mark_of at by read).value (cache_answer cache (point k))
 
 -- The reads of each transaction that committed are guarded at the time at which it committed.
 abbrev pub AreGuarded : Interval → CacheView → List Transaction → Type 0
-AreGuarded span cache committed = AllByRecursion (λ (u : Transaction). AllByRecursion (λ (r : Read). IsGuarded span cache u.at u.by r) u.reads) committed
+AreGuarded span cache committed =
+    AllByRecursion (λ (u : Transaction). AllByRecursion
+    (λ (r : Read). IsGuarded span cache u.at u.by r) u.reads) committed
 
--- A read that was answered is guarded, and is what is there as of its time unless its own transaction wrote then.
+-- A read is what is there as of its time, where the range answers that, and unless its own
+-- transaction wrote then.
+abbrev pub IsStillSo : RangeView → Answered → Type 0
+IsStillSo range a = is_before a.at range.threshold ≡ false → HasNotWritten a.by a.at range.chains
+    → Matches a.read (as_of a.at range.chains)
+
+-- A read that was answered is guarded, and still so.
 abbrev pub IsKept : RangeView → Answered → Type 0
-IsKept range a = IsGuarded range.span range.cache a.at a.by a.read × (HasNotWritten a.by a.at range.chains → Matches a.read (as_of a.at range.chains))
+IsKept range a = IsGuarded range.span range.cache a.at a.by a.read × IsStillSo range a
 
 -- What stays so of a range.
-pub record Keeps (range : RangeView) (answered : List Answered) (committed : List Transaction) : Type 0 where
+pub record Keeps (range : RangeView) (answered : List Answered)
+    (committed : List Transaction) : Type 0 where
   pub settings : Settings
   pub history : History
   pub stands : StandsForState range.cache settings (state_of settings history)
-  pub chains : (k : KeyBytes) → chain_of range.chains k ≡ all_laid committed k
+  pub agrees : (k : KeyBytes) → AgreesFrom range.threshold (chain_of range.chains k)
+      (all_laid committed k)
   pub newest : (k : KeyBytes) → AreNewestFirst (chain_of range.chains k)
+  pub all_newest : (k : KeyBytes) → AreNewestFirst (all_laid committed k)
   pub guarded : AreGuarded range.span range.cache committed
-  pub found : (passes : Time → Bool) (k : KeyBytes) → found passes (all_laid committed k) ≡ content_after passes k None (serial_order committed)
+  pub found : (passes : Time → Bool) (k : KeyBytes) → found passes (all_laid committed k)
+      ≡ content_after passes k None (serial_order committed)
   pub serial : IsSerial empty (serial_order committed)
   pub kept : AllByRecursion (IsKept range) answered
 
 -- To no key of a span the one cache answers less than the other.
 abbrev pub AnswersNoLess : Interval → CacheView → CacheView → Type 0
-AnswersNoLess span old new = (k : KeyBytes) → covers span k ≡ true → IsAtMost (cache_answer old (point k)) (cache_answer new (point k))
+AnswersNoLess span old new = (k : KeyBytes) → covers span k ≡ true
+    → IsAtMost (cache_answer old (point k)) (cache_answer new (point k))
 
-guarded_on : (span : Interval) (old new : CacheView) (committed : List Transaction) → AnswersNoLess span old new → AreGuarded span old committed → AreGuarded span new committed
+guarded_on : (span : Interval) (old new : CacheView) (committed : List Transaction)
+    → AnswersNoLess span old new → AreGuarded span old committed → AreGuarded span new committed
 guarded_on span old new committed less guarded =
-    each (λ (u : Transaction). AllByRecursion (λ (r : Read). IsGuarded span old u.at u.by r) u.reads) (λ (u : Transaction). AllByRecursion (λ (r : Read). IsGuarded span new u.at u.by r) u.reads) committed
-    (λ u all. each (λ (r : Read). IsGuarded span old u.at u.by r) (λ (r : Read). IsGuarded span new u.at u.by r) u.reads
-    (λ r g k s c. IsAtMost-transitive (mark_of u.at u.by r).value (cache_answer old (point k)) (cache_answer new (point k)) (g k s c) (less k s)) all) guarded
+    each (λ (u : Transaction). AllByRecursion (λ (r : Read). IsGuarded span old u.at u.by r)
+    u.reads) (λ (u : Transaction). AllByRecursion (λ (r : Read). IsGuarded span new u.at u.by r)
+    u.reads) committed
+    (λ u all. each (λ (r : Read). IsGuarded span old u.at u.by r)
+    (λ (r : Read). IsGuarded span new u.at u.by r) u.reads
+    (λ r g k s c. IsAtMost-transitive (mark_of u.at u.by r).value (cache_answer old (point k))
+    (cache_answer new (point k)) (g k s c) (less k s)) all) guarded
 
 -- ---- the cache's history
 
@@ -61,36 +196,54 @@ guarded_on span old new committed less guarded =
 abbrev more : History → List Mark → Time → History
 more h ms now = h ++ (record { seat = 0; number = 0; marks = ms; now = now }) ∷ []
 
-stands_more : (new : CacheView) (settings : Settings) (h : History) (ms : List Mark) (now : Time) → StandsForState new settings (step_all settings (state_of settings h) ms now).state → StandsForState new settings (state_of settings (more h ms now))
+stands_more : (new : CacheView) (settings : Settings) (h : History) (ms : List Mark) (now : Time)
+    → StandsForState new settings (step_all settings (state_of settings h) ms now).state
+    → StandsForState new settings (state_of settings (more h ms now))
 stands_more new settings h ms now next =
     let e : Entry = record { seat = 0; number = 0; marks = ms; now = now } in
     subst (StandsForState new settings) (sym (state_of-push settings h e)) next
 
 -- A cache with one entry more answers no less.
-no_less : (span : Interval) (old new : CacheView) (settings : Settings) (h : History) (ms : List Mark) (now : Time) → StandsForState old settings (state_of settings h)
+no_less : (span : Interval) (old new : CacheView) (settings : Settings) (h : History)
+    (ms : List Mark) (now : Time) → StandsForState old settings (state_of settings h)
     → StandsForState new settings (state_of settings (more h ms now)) → AnswersNoLess span old new
 no_less span old new settings h ms now was is k s =
     let e : Entry = record { seat = 0; number = 0; marks = ms; now = now } in
     let before = answers_look old settings (state_of settings h) (point k) was in
     let after = answers_look new settings (state_of settings (more h ms now)) (point k) is in
-    let rises : IsAtMost (look (state_of settings h) (point k)) (look (state_of settings (more h ms now)) (point k)) = rising.answers settings h (more h ms now) (point k) (e ∷ [], refl) in
+    let rises : IsAtMost (look (state_of settings h) (point k))
+    (look (state_of settings (more h ms now)) (point k)) =
+    rising.answers settings h (more h ms now) (point k) (e ∷ [], refl) in
     subst (λ (v : OwnedTime). IsAtMost v (cache_answer new (point k))) (sym before)
     (subst (IsAtMost (look (state_of settings h) (point k))) (sym after) rises)
 
 -- and the reads that were added are guarded
-guards_added : (span : Interval) (new : CacheView) (settings : Settings) (h : History) (at : Time) (by : Owner) (reads all : List Read) (now : Time) → ((r : Read) → IsIn reads r → IsIn all r)
-    → StandsForState new settings (state_of settings (more h (map (mark_of at by) all) now)) → AllByRecursion (λ (r : Read). IsGuarded span new at by r) reads
+guards_added : (span : Interval) (new : CacheView) (settings : Settings) (h : History) (at : Time)
+    (by : Owner) (reads all : List Read) (now : Time) → ((r : Read) → IsIn reads r → IsIn all r)
+    → StandsForState new settings (state_of settings (more h (map (mark_of at by) all) now))
+    → AllByRecursion (λ (r : Read). IsGuarded span new at by r) reads
 guards_added span new settings h at by [] all now among is = tt
 guards_added span new settings h at by (r ∷ reads) all now among is = (
-  λ k s c. let e : Entry = record { seat = 0; number = 0; marks = map (mark_of at by) all; now = now } in
-      let own : Contains (map (mark_of at by) all) (mark_of at by r) = Contains-from_IsIn (map (mark_of at by) all) (mark_of at by r) (mapped all r (among r (inl refl))) in
+  λ k s c. let e : Entry = record {
+    seat = 0;
+    number = 0;
+    marks = map (mark_of at by) all;
+    now = now;
+  } in
+      let own : Contains (map (mark_of at by) all) (mark_of at by r) =
+      Contains-from_IsIn (map (mark_of at by) all) (mark_of at by r)
+      (mapped all r (among r (inl refl))) in
       let over : overlaps r.span (point k) ≡ true = sym (covers_as_it_overlaps r.span k) ∙ c in
-      subst (IsAtMost (mark_of at by r).value) (sym (answers_look new settings (state_of settings (more h (map (mark_of at by) all) now)) (point k) is))
-      (kept_up settings (more h (map (mark_of at by) all) now) e (mark_of at by r) (point k) (Contains-push h e) own over),
+      subst (IsAtMost (mark_of at by r).value)
+      (sym (answers_look new settings (state_of settings (more h (map (mark_of at by) all) now))
+      (point k) is))
+      (kept_up settings (more h (map (mark_of at by) all) now) e (mark_of at by r) (point k)
+      (Contains-push h e) own over),
   guards_added span new settings h at by reads all now (λ q i. among q (inr i)) is,
 )
   where
-    mapped : (qs : List Read) (q : Read) → IsIn qs q → IsIn (map (mark_of at by) qs) (mark_of at by q)
+    mapped : (qs : List Read) (q : Read) → IsIn qs q
+        → IsIn (map (mark_of at by) qs) (mark_of at by q)
     mapped [] q i = absurd i
     mapped (p ∷ qs) q i = elim i [
       | inl same ↦ inl (ap (mark_of at by) same)
@@ -100,42 +253,73 @@ guards_added span new settings h at by (r ∷ reads) all now among is = (
 -- ---- a transaction that may commit
 
 -- It writes no key that a later one wrote,
-apart_writes : (range : RangeView) (committed : List Transaction) (t : Transaction) → ((k : KeyBytes) → chain_of range.chains k ≡ all_laid committed k) → ((k : KeyBytes) → AreNewestFirst (chain_of range.chains k)) → MayCommit range t → (k : KeyBytes)
-    → AllByRecursion (λ (u : Transaction). is_before t.at u.at ≡ true → is_written k t.writes ≡ true → is_written k u.writes ≡ false) committed
-apart_writes range committed t chains newest may k = elim (cases_Bool (is_written k t.writes)) [
-  | inr n ↦ any (λ (u : Transaction). is_before t.at u.at ≡ true → is_written k t.writes ≡ true → is_written k u.writes ≡ false) committed (λ u b w. absurd (both_ways (is_written k t.writes) n w))
-  | inl h ↦ let after : IsAfter (newest_time (chain_of range.chains k)) t.at = of_written (λ (q : KeyBytes). IsAfter (newest_time (chain_of range.chains q)) t.at) t.writes k may.free.after h in
-      let all : AllByRecursion (λ (v : Version). is_before v.at t.at ≡ true) (all_laid committed k) = subst (AllByRecursion (λ (v : Version). is_before v.at t.at ≡ true)) (chains k) (later_than_all t.at (chain_of range.chains k) (newest k) after) in
-      each (λ (u : Transaction). is_written k u.writes ≡ true → is_before u.at t.at ≡ true) (λ (u : Transaction). is_before t.at u.at ≡ true → is_written k t.writes ≡ true → is_written k u.writes ≡ false) committed
+apart_writes : (range : RangeView) (committed : List Transaction) (t : Transaction)
+    → ((k : KeyBytes) → AgreesFrom range.threshold (chain_of range.chains k) (all_laid committed k))
+    → ((k : KeyBytes) → AreNewestFirst (all_laid committed k)) → MayCommit range t → (k : KeyBytes)
+    → AllByRecursion (λ (u : Transaction). is_before t.at u.at ≡ true → is_written k t.writes ≡ true
+    → is_written k u.writes ≡ false) committed
+apart_writes range committed t agrees newest may k = elim (cases_Bool (is_written k t.writes)) [
+  | inr n ↦ any (λ (u : Transaction). is_before t.at u.at ≡ true → is_written k t.writes ≡ true
+      → is_written k u.writes ≡ false) committed
+      (λ u b w. absurd (both_ways (is_written k t.writes) n w))
+  | inl h ↦ let after : IsAfter (newest_time (chain_of range.chains k)) t.at =
+      of_written (λ (q : KeyBytes). IsAfter (newest_time (chain_of range.chains q)) t.at) t.writes k
+      may.free.after h in
+      let all : AllByRecursion (λ (v : Version). is_before v.at t.at ≡ true)
+      (all_laid committed k) = later_than_all t.at (all_laid committed k) (newest k)
+      ((agrees k).after t.at may.in_time after) in
+      each (λ (u : Transaction). is_written k u.writes ≡ true → is_before u.at t.at ≡ true)
+      (λ (u : Transaction). is_before t.at u.at ≡ true → is_written k t.writes ≡ true
+      → is_written k u.writes ≡ false) committed
       (λ u earlier later x. elim (cases_Bool (is_written k u.writes)) [
         | inr n ↦ n
-        | inl w ↦ absurd (both_ways (is_before u.at t.at) (is_before-opposite t.at u.at later) (earlier w))
+        | inl w ↦ absurd (both_ways (is_before u.at t.at) (is_before-opposite t.at u.at later)
+            (earlier w))
       ])
       (each_laid (λ (u : Time) (by : Owner). is_before u t.at ≡ true) k committed all)
 ]
 
 -- what is clear of an answer is clear of a read that is guarded
-clear_of_read : (range : RangeView) (t : Transaction) (at : Time) (by : Owner) (read : Read) (k : KeyBytes) → MayCommit range t → IsGuarded range.span range.cache at by read → covers read.span k ≡ true → is_written k t.writes ≡ true
+clear_of_read : (range : RangeView) (t : Transaction) (at : Time) (by : Owner) (read : Read)
+    (k : KeyBytes) → MayCommit range t → IsGuarded range.span range.cache at by read
+    → covers read.span k ≡ true → is_written k t.writes ≡ true
     → IsClearOf (mark_of at by read).value t.by t.at
 clear_of_read range t at by read k may guard c w =
-    let within : covers range.span k ≡ true = of_written (λ (q : KeyBytes). covers range.span q ≡ true) t.writes k (recursion_from_All (λ (x : Write). covers range.span x.key ≡ true) t.writes may.within) w in
-    clear_below (mark_of at by read).value (cache_answer range.cache (point k)) t.by t.at (guard k within c)
-    (of_written (λ (q : KeyBytes). IsClearOf (cache_answer range.cache (point q)) t.by t.at) t.writes k (recursion_from_All (λ (x : Write). IsClearOf (cache_answer range.cache (point x.key)) t.by t.at) t.writes may.free.clear) w)
+    let within : covers range.span k ≡ true =
+    of_written (λ (q : KeyBytes). covers range.span q ≡ true) t.writes k
+    (recursion_from_All (λ (x : Write). covers range.span x.key ≡ true) t.writes may.within)
+    w in
+    clear_below (mark_of at by read).value (cache_answer range.cache (point k)) t.by t.at
+    (guard k within c)
+    (of_written (λ (q : KeyBytes). IsClearOf (cache_answer range.cache (point q)) t.by t.at)
+    t.writes k
+    (recursion_from_All (λ (x : Write). IsClearOf (cache_answer range.cache (point x.key)) t.by
+    t.at) t.writes may.free.clear) w)
 
 -- and none that a later one read.
-apart_reads : (range : RangeView) (committed : List Transaction) (t : Transaction) → AreGuarded range.span range.cache committed → MayCommit range t
-    → AllByRecursion (λ (u : Transaction). is_before t.at u.at ≡ true → AreUndisturbed t.writes u.reads) committed
+apart_reads : (range : RangeView) (committed : List Transaction) (t : Transaction)
+    → AreGuarded range.span range.cache committed → MayCommit range t
+    → AllByRecursion (λ (u : Transaction). is_before t.at u.at ≡ true
+    → AreUndisturbed t.writes u.reads) committed
 apart_reads range committed t guarded may =
-    each (λ (u : Transaction). AllByRecursion (λ (r : Read). IsGuarded range.span range.cache u.at u.by r) u.reads) (λ (u : Transaction). is_before t.at u.at ≡ true → AreUndisturbed t.writes u.reads) committed
-    (λ u all later. each (λ (r : Read). IsGuarded range.span range.cache u.at u.by r) (λ (r : Read). (k : KeyBytes) → is_written k t.writes ≡ true → covers r.span k ≡ false) u.reads
+    each (λ (u : Transaction). AllByRecursion
+    (λ (r : Read). IsGuarded range.span range.cache u.at u.by r) u.reads)
+    (λ (u : Transaction). is_before t.at u.at ≡ true
+    → AreUndisturbed t.writes u.reads) committed
+    (λ u all later. each (λ (r : Read). IsGuarded range.span range.cache u.at u.by r)
+    (λ (r : Read). (k : KeyBytes) → is_written k t.writes ≡ true
+    → covers r.span k ≡ false) u.reads
     (λ r guard k w. elim (cases_Bool (covers r.span k)) [
       | inr out ↦ out
       | inl c ↦ absurd (not_clear u later (clear_of_read range t u.at u.by r k may guard c w))
     ]) all) guarded
   where
-    not_clear : (u : Transaction) → is_before t.at u.at ≡ true → IsClearOf (record { time = u.at; owner = owner_of u.by }) t.by t.at → ⊥
-    not_clear u later (inl before) = both_ways (is_before u.at t.at) (is_before-opposite t.at u.at later) before
-    not_clear u later (inr same) = both_ways (is_before u.at u.at) (is_before-itself u.at) (subst (λ (x : Time). is_before x u.at ≡ true) (sym same.0) later)
+    not_clear : (u : Transaction) → is_before t.at u.at ≡ true
+        → IsClearOf (record { time = u.at; owner = owner_of u.by }) t.by t.at → ⊥
+    not_clear u later (inl before) =
+        both_ways (is_before u.at t.at) (is_before-opposite t.at u.at later) before
+    not_clear u later (inr same) = both_ways (is_before u.at u.at) (is_before-itself u.at)
+        (subst (λ (x : Time). is_before x u.at ≡ true) (sym same.0) later)
 
 -- whoever owns a read that a UUID names
 same_owner : (by own : Owner) → owner_of by ≡ Some own → by ≡ own
@@ -146,135 +330,321 @@ same_owner by own e = by_nil (is_nil_bytes by) e
     by_nil false f = let same : Some by ≡ Some own = f in cc
 
 -- What it lays down doesn't change a guarded read, unless that is its own at that time.
-kept_on : (old new : RangeView) (t : Transaction) (now : Time) (a : Answered) → AnswersNoLess old.span old.cache new.cache → Commits old new t now → IsKept old a → IsKept new a
+kept_on : (old new : RangeView) (t : Transaction) (now : Time) (a : Answered)
+    → AnswersNoLess old.span old.cache new.cache → Commits old new t now → IsKept old a
+    → IsKept new a
 kept_on old new t now a less c is = (
-  λ k s x. let within : covers old.span k ≡ true = subst (λ (i : Interval). covers i k ≡ true) c.does.span s in
-      IsAtMost-transitive (mark_of a.at a.by a.read).value (cache_answer old.cache (point k)) (cache_answer new.cache (point k)) (is.0 k within x) (less k within),
-  λ none. matches_same a.read (as_of a.at old.chains) (as_of a.at new.chains) (λ k x. sym (same k x (parts none k).1)) (is.1 (λ k. (parts none k).0)),
+  λ k s x. let within : covers old.span k ≡ true =
+      subst (λ (i : Interval). covers i k ≡ true) c.does.span s in
+      IsAtMost-transitive (mark_of a.at a.by a.read).value (cache_answer old.cache (point k))
+      (cache_answer new.cache (point k)) (is.0 k within x) (less k within),
+  λ on none. matches_same a.read (as_of a.at old.chains) (as_of a.at new.chains)
+      (λ k x. sym (same k x (parts none k).1))
+      (is.1 (subst (λ (x : Time). is_before a.at x ≡ false) c.does.threshold on)
+      (λ k. (parts none k).0)),
 )
   where
     Strange : Time → Owner → Type 0
     Strange u by = u ≡ a.at → by ≡ a.by → ⊥
 
-    parts : HasNotWritten a.by a.at new.chains → (k : KeyBytes) → AllByRecursion (λ (v : Version). v.at ≡ a.at → v.by ≡ a.by → ⊥) (chain_of old.chains k) × (is_written k t.writes ≡ true → t.at ≡ a.at → t.by ≡ a.by → ⊥)
-    parts none k = laid_parts (λ (u : Time) (by : Owner). u ≡ a.at → by ≡ a.by → ⊥) k t.at t.by t.writes (chain_of old.chains k)
-        (subst (AllByRecursion (λ (v : Version). v.at ≡ a.at → v.by ≡ a.by → ⊥)) (c.does.chains k) (none k))
+    parts : HasNotWritten a.by a.at new.chains → (k : KeyBytes)
+        → AllByRecursion (λ (v : Version). v.at ≡ a.at → v.by ≡ a.by → ⊥) (chain_of old.chains k)
+        × (is_written k t.writes ≡ true → t.at ≡ a.at → t.by ≡ a.by → ⊥)
+    parts none k = laid_parts (λ (u : Time) (by : Owner). u ≡ a.at → by ≡ a.by
+        → ⊥) k t.at t.by t.writes (chain_of old.chains k)
+        (subst (AllByRecursion (λ (v : Version). v.at ≡ a.at → v.by ≡ a.by → ⊥)) (c.does.chains k)
+        (none k))
 
-    later : (k : KeyBytes) → covers a.read.span k ≡ true → (is_written k t.writes ≡ true → t.at ≡ a.at → t.by ≡ a.by → ⊥) → is_written k t.writes ≡ true → is_before a.at t.at ≡ true
+    later : (k : KeyBytes) → covers a.read.span k ≡ true → (is_written k t.writes ≡ true
+        → t.at ≡ a.at → t.by ≡ a.by → ⊥) → is_written k t.writes ≡ true → is_before a.at t.at ≡ true
     later k x none w = elim (clear_of_read old t a.at a.by a.read k c.may is.0 x w) [
       | inl before ↦ before
       | inr own ↦ absurd (none w (sym own.0) (sym (same_owner a.by t.by own.1)))
     ]
 
-    same : (k : KeyBytes) → covers a.read.span k ≡ true → (is_written k t.writes ≡ true → t.at ≡ a.at → t.by ≡ a.by → ⊥) → as_of a.at new.chains k ≡ as_of a.at old.chains k
+    same : (k : KeyBytes) → covers a.read.span k ≡ true → (is_written k t.writes ≡ true
+        → t.at ≡ a.at → t.by ≡ a.by → ⊥) → as_of a.at new.chains k ≡ as_of a.at old.chains k
     same k x none =
-        as_of_found a.at (chain_of new.chains k) ∙ (ap (λ (vs : List Version). found (upto a.at) vs) (c.does.chains k)
-        ∙ (found_laid (upto a.at) k t.at t.by t.writes (chain_of old.chains k) ∙ (unchanged ∙ sym (as_of_found a.at (chain_of old.chains k)))))
+        as_of_found a.at (chain_of new.chains k)
+        ∙ (ap (λ (vs : List Version). found (upto a.at) vs) (c.does.chains k)
+        ∙ (found_laid (upto a.at) k t.at t.by t.writes (chain_of old.chains k)
+        ∙ (unchanged ∙ sym (as_of_found a.at (chain_of old.chains k)))))
       where
-        unchanged : (if upto a.at t.at then after_writes k (found (upto a.at) (chain_of old.chains k)) t.writes else found (upto a.at) (chain_of old.chains k)) ≡ found (upto a.at) (chain_of old.chains k)
+        unchanged : (if upto a.at t.at then
+            after_writes k (found (upto a.at) (chain_of old.chains k)) t.writes else
+            found (upto a.at) (chain_of old.chains k)) ≡ found (upto a.at) (chain_of old.chains k)
         unchanged = elim (cases_Bool (is_written k t.writes)) [
-          | inl w ↦ ap (λ (b : Bool). if not b then after_writes k (found (upto a.at) (chain_of old.chains k)) t.writes else found (upto a.at) (chain_of old.chains k)) (later k x none w)
-          | inr n ↦ same_or (upto a.at t.at) (after_writes k (found (upto a.at) (chain_of old.chains k)) t.writes) (found (upto a.at) (chain_of old.chains k)) (not_written k (found (upto a.at) (chain_of old.chains k)) t.writes n)
+          | inl w ↦ ap (λ (b : Bool). if not b then
+              after_writes k (found (upto a.at) (chain_of old.chains k)) t.writes else
+              found (upto a.at) (chain_of old.chains k)) (later k x none w)
+          | inr n ↦
+              same_or (upto a.at t.at)
+              (after_writes k (found (upto a.at) (chain_of old.chains k)) t.writes)
+              (found (upto a.at) (chain_of old.chains k))
+              (not_written k (found (upto a.at) (chain_of old.chains k)) t.writes n)
         ]
 
 -- ---- call by call
 
-keeps_commits : (old new : RangeView) (answered : List Answered) (committed : List Transaction) (t : Transaction) (now : Time) → Keeps old answered committed → Commits old new t now → Keeps new answered (t ∷ committed)
+keeps_commits : (old new : RangeView) (answered : List Answered) (committed : List Transaction)
+    (t : Transaction) (now : Time) → Keeps old answered committed → Commits old new t now
+    → Keeps new answered (t ∷ committed)
 keeps_commits old new answered committed t now k c =
     let settings : Settings = k.settings in
     let h : History = k.history in
     let ms : List Mark = map (mark_of t.at t.by) t.reads in
-    let stands : StandsForState new.cache settings (state_of settings (more h ms now)) = stands_more new.cache settings h ms now (c.does.remembered settings (state_of settings h) k.stands) in
-    let less : AnswersNoLess old.span old.cache new.cache = no_less old.span old.cache new.cache settings h ms now k.stands stands in
+    let stands : StandsForState new.cache settings (state_of settings (more h ms now)) =
+    stands_more new.cache settings h ms now (c.does.remembered settings
+    (state_of settings h) k.stands) in
+    let less : AnswersNoLess old.span old.cache new.cache =
+    no_less old.span old.cache new.cache settings h ms now k.stands stands in
     record {
       settings = settings;
       history = more h ms now;
       stands = stands;
-      chains = λ key. c.does.chains key ∙ ap (λ (vs : List Version). laid key t.at t.by t.writes vs) (k.chains key);
-      newest = λ key. subst AreNewestFirst (sym (c.does.chains key)) (laid_newest_first key t.at t.by t.writes (chain_of old.chains key)
-          (λ w. of_written (λ (q : KeyBytes). IsAfter (newest_time (chain_of old.chains q)) t.at) t.writes key c.may.free.after w) (k.newest key));
+      agrees = λ key. subst (λ (x : Time). AgreesFrom x (chain_of new.chains key)
+          (laid key t.at t.by t.writes (all_laid committed key))) (sym c.does.threshold)
+          (subst (λ (vs : List Version). AgreesFrom old.threshold vs (laid key t.at t.by t.writes
+          (all_laid committed key))) (sym (c.does.chains key))
+          (agrees_laid old.threshold key t.at t.by t.writes (chain_of old.chains key)
+          (all_laid committed key) (k.agrees key)));
+      newest = λ key. subst AreNewestFirst (sym (c.does.chains key))
+          (laid_newest_first key t.at t.by t.writes (chain_of old.chains key)
+          (λ w. of_written (λ (q : KeyBytes). IsAfter (newest_time (chain_of old.chains q)) t.at)
+          t.writes key c.may.free.after w) (k.newest key));
+      all_newest = λ key. laid_newest_first key t.at t.by t.writes (all_laid committed key)
+          (λ w. (k.agrees key).after t.at c.may.in_time
+          (of_written (λ (q : KeyBytes). IsAfter (newest_time (chain_of old.chains q)) t.at)
+          t.writes key c.may.free.after w)) (k.all_newest key);
       guarded = (
         guards_added new.span new.cache settings h t.at t.by t.reads t.reads now (λ r i. i) stands,
-        subst (λ (s : Interval). AreGuarded s new.cache committed) (sym c.does.span) (guarded_on old.span old.cache new.cache committed less k.guarded),
+        subst (λ (s : Interval). AreGuarded s new.cache committed) (sym c.does.span)
+            (guarded_on old.span old.cache new.cache committed less k.guarded),
       );
       found = λ passes key. found_laid passes key t.at t.by t.writes (all_laid committed key)
-          ∙ (ap (λ (x : Content). if passes t.at then after_writes key x t.writes else x) (k.found passes key)
+          ∙ (ap (λ (x : Content). if passes t.at then after_writes key x t.writes else
+          x) (k.found passes key)
           ∙ sym (content_placed passes key t (serial_order committed) None (ordered committed)
-          (each_in_order (λ (u : Transaction). is_before t.at u.at ≡ true → is_written key t.writes ≡ true → is_written key u.writes ≡ false) committed (apart_writes old committed t k.chains k.newest c.may key))));
+          (each_in_order (λ (u : Transaction). is_before t.at u.at ≡ true → is_written key t.writes
+          ≡ true → is_written key u.writes ≡ false) committed
+          (apart_writes old committed t k.agrees k.all_newest c.may key))));
       serial = serial_placed t (serial_order committed) empty (ordered committed)
-          (each_in_order (λ (u : Transaction). is_before t.at u.at ≡ true → AreUndisturbed t.writes u.reads) committed (apart_reads old committed t k.guarded c.may))
-          (each (λ (r : Read). Matches r (as_of t.at old.chains)) (λ (r : Read). Matches r (λ key. content_after (upto t.at) key None (serial_order committed))) t.reads
-          (λ r m. matches_same r (as_of t.at old.chains) (λ key. content_after (upto t.at) key None (serial_order committed))
-          (λ key x. as_of_found t.at (chain_of old.chains key) ∙ (ap (λ (vs : List Version). found (upto t.at) vs) (k.chains key) ∙ k.found (upto t.at) key)) m)
-          (recursion_from_All (λ (r : Read). Matches r (as_of t.at old.chains)) t.reads c.may.refreshed)) k.serial;
-      kept = each (IsKept old) (IsKept new) answered (λ a is. kept_on old new t now a less c is) k.kept;
+          (each_in_order (λ (u : Transaction). is_before t.at u.at ≡ true
+          → AreUndisturbed t.writes u.reads) committed
+          (apart_reads old committed t k.guarded c.may))
+          (each (λ (r : Read). Matches r (as_of t.at old.chains))
+          (λ (r : Read). Matches r (λ key. content_after (upto t.at) key None
+          (serial_order committed))) t.reads
+          (λ r m. matches_same r (as_of t.at old.chains) (λ key. content_after (upto t.at) key None
+          (serial_order committed))
+          (λ key x. as_of_found t.at (chain_of old.chains key)
+          ∙ ((k.agrees key).found (upto t.at) (upto_passes t.at old.threshold c.may.in_time)
+          ∙ k.found (upto t.at) key)) m)
+          (recursion_from_All (λ (r : Read). Matches r (as_of t.at old.chains)) t.reads
+          c.may.refreshed)) k.serial;
+      kept = each (IsKept old) (IsKept new) answered (λ a is. kept_on old new t now a less c is)
+          k.kept;
     }
 
+-- The versions of each key are as before.
+abbrev pub AreSameChains : Chains → Chains → Type 0
+AreSameChains old new = (k : KeyBytes) → chain_of new k ≡ chain_of old k
+
+same_chains : (old new : Chains) → new ≡ old → AreSameChains old new
+same_chains old new same k = ap (λ (chains : Chains). chain_of chains k) same
+
 -- a read stays so where the versions stay and no answer is less
-kept_there : (old new : RangeView) (a : Answered) → AnswersNoLess old.span old.cache new.cache → new.span ≡ old.span → new.chains ≡ old.chains → IsKept old a → IsKept new a
-kept_there old new a less span same is = (
-  λ k s x. let within : covers old.span k ≡ true = subst (λ (i : Interval). covers i k ≡ true) span s in
-      IsAtMost-transitive (mark_of a.at a.by a.read).value (cache_answer old.cache (point k)) (cache_answer new.cache (point k)) (is.0 k within x) (less k within),
-  subst (λ (chains : Chains). HasNotWritten a.by a.at chains → Matches a.read (as_of a.at chains)) (sym same) is.1,
+kept_there : (old new : RangeView) (a : Answered) → AnswersNoLess old.span old.cache new.cache
+    → new.span ≡ old.span → new.threshold ≡ old.threshold
+    → AreSameChains old.chains new.chains → IsKept old a → IsKept new a
+kept_there old new a less span threshold same is = (
+  λ k s x. let within : covers old.span k ≡ true =
+      subst (λ (i : Interval). covers i k ≡ true) span s in
+      IsAtMost-transitive (mark_of a.at a.by a.read).value (cache_answer old.cache (point k))
+      (cache_answer new.cache (point k)) (is.0 k within x) (less k within),
+  λ on none. matches_same a.read (as_of a.at old.chains) (as_of a.at new.chains)
+      (λ k x. ap (content_as_of a.at) (sym (same k)))
+      (is.1 (subst (λ (x : Time). is_before a.at x ≡ false) threshold on)
+      (λ k. subst (AllByRecursion (λ (v : Version). v.at ≡ a.at → v.by ≡ a.by → ⊥)) (same k)
+      (none k))),
 )
 
-keeps_answers : (old new : RangeView) (answered : List Answered) (committed : List Transaction) (by : Owner) (at now : Time) (read : Read)
-    → Keeps old answered committed → Answers old new by at now read → Keeps new ((record { by = by; at = at; read = read }) ∷ answered) committed
+-- and what a key keeps still agrees
+agrees_there : (old new : RangeView) (committed : List Transaction) → new.threshold ≡ old.threshold
+    → AreSameChains old.chains new.chains
+    → ((k : KeyBytes) → AgreesFrom old.threshold (chain_of old.chains k) (all_laid committed k))
+    → (k : KeyBytes) → AgreesFrom new.threshold (chain_of new.chains k) (all_laid committed k)
+agrees_there old new committed threshold same agrees k =
+    subst (λ (x : Time). AgreesFrom x (chain_of new.chains k) (all_laid committed k))
+    (sym threshold)
+    (subst (λ (vs : List Version). AgreesFrom old.threshold vs (all_laid committed k))
+    (sym (same k)) (agrees k))
+
+keeps_answers : (old new : RangeView) (answered : List Answered) (committed : List Transaction)
+    (by : Owner) (at now : Time) (read : Read)
+    → Keeps old answered committed → Answers old new by at now read
+    → Keeps new ((record { by = by; at = at; read = read }) ∷ answered) committed
 keeps_answers old new answered committed by at now read k a =
     let settings : Settings = k.settings in
     let h : History = k.history in
     let ms : List Mark = mark_of at by read ∷ [] in
-    let stands : StandsForState new.cache settings (state_of settings (more h ms now)) = stands_more new.cache settings h ms now (a.remembered settings (state_of settings h) k.stands) in
-    let less : AnswersNoLess old.span old.cache new.cache = no_less old.span old.cache new.cache settings h ms now k.stands stands in
+    let stands : StandsForState new.cache settings (state_of settings (more h ms now)) =
+    stands_more new.cache settings h ms now
+    (a.remembered settings (state_of settings h) k.stands) in
+    let less : AnswersNoLess old.span old.cache new.cache =
+    no_less old.span old.cache new.cache settings h ms now k.stands stands in
     record {
       settings = settings;
       history = more h ms now;
       stands = stands;
-      chains = λ key. ap (λ (chains : Chains). chain_of chains key) a.chains ∙ k.chains key;
-      newest = λ key. subst (λ (chains : Chains). AreNewestFirst (chain_of chains key)) (sym a.chains) (k.newest key);
-      guarded = subst (λ (s : Interval). AreGuarded s new.cache committed) (sym a.span) (guarded_on old.span old.cache new.cache committed less k.guarded);
+      agrees = agrees_there old new committed a.threshold
+          (same_chains old.chains new.chains a.chains) k.agrees;
+      newest = λ key. subst (λ (chains : Chains). AreNewestFirst (chain_of chains key))
+          (sym a.chains) (k.newest key);
+      all_newest = k.all_newest;
+      guarded = subst (λ (s : Interval). AreGuarded s new.cache committed) (sym a.span)
+          (guarded_on old.span old.cache new.cache committed less k.guarded);
       found = k.found;
       serial = k.serial;
       kept = (
         (
-          (guards_added new.span new.cache settings h at by (read ∷ []) (read ∷ []) now (λ r i. i) stands).0,
-          λ none. subst (λ (chains : Chains). Matches read (as_of at chains)) (sym a.chains) a.matches,
+          (guards_added new.span new.cache settings h at by (read ∷ []) (read ∷ []) now
+              (λ r i. i) stands).0,
+          λ on none. subst (λ (chains : Chains). Matches read (as_of at chains))
+              (sym a.chains) a.matches,
         ),
-        each (IsKept old) (IsKept new) answered (λ r is. kept_there old new r less a.span a.chains is) k.kept,
+        each (IsKept old) (IsKept new) answered
+            (λ r is. kept_there old new r less a.span a.threshold
+            (same_chains old.chains new.chains a.chains) is) k.kept,
       );
     }
 
-keeps_handing_on : (old new : RangeView) (answered : List Answered) (committed : List Transaction) → Keeps old answered committed → HandsOn old new → Keeps new answered committed
+-- a call that was refused
+keeps_same : (old new : RangeView) (answered : List Answered) (committed : List Transaction)
+    → Keeps old answered committed → IsSame old new → Keeps new answered committed
+keeps_same old new answered committed k same =
+    let less : AnswersNoLess old.span old.cache new.cache =
+    λ key s. subst (λ (v : CacheView). IsAtMost (cache_answer old.cache (point key))
+    (cache_answer v (point key))) (sym same.cache)
+    (IsAtMost-itself (cache_answer old.cache (point key))) in
+    record {
+      settings = k.settings;
+      history = k.history;
+      stands = subst (λ (v : CacheView). StandsForState v k.settings
+          (state_of k.settings k.history)) (sym same.cache) k.stands;
+      agrees = agrees_there old new committed same.threshold same.chains k.agrees;
+      newest = λ key. subst AreNewestFirst (sym (same.chains key)) (k.newest key);
+      all_newest = k.all_newest;
+      guarded = subst (λ (s : Interval). AreGuarded s new.cache committed) (sym same.span)
+          (guarded_on old.span old.cache new.cache committed less k.guarded);
+      found = k.found;
+      serial = k.serial;
+      kept = each (IsKept old) (IsKept new) answered
+          (λ a is. kept_there old new a less same.span same.threshold same.chains is) k.kept;
+    }
+
+keeps_handing_on : (old new : RangeView) (answered : List Answered) (committed : List Transaction)
+    → Keeps old answered committed → HandsOn old new → Keeps new answered committed
 keeps_handing_on old new answered committed k hands =
-    let less : AnswersNoLess old.span old.cache new.cache = λ key s. subst (λ (v : OwnedTime). IsAtMost v (cache_answer new.cache (point key)))
-    (sym (answers_look old.cache k.settings (state_of k.settings k.history) (point key) k.stands)) (hands.takes_over.no_less k.settings (state_of k.settings k.history) key s k.stands) in
+    let less : AnswersNoLess old.span old.cache new.cache =
+    λ key s. subst (λ (v : OwnedTime). IsAtMost v (cache_answer new.cache (point key)))
+    (sym (answers_look old.cache k.settings (state_of k.settings k.history) (point key) k.stands))
+    (hands.takes_over.no_less k.settings (state_of k.settings k.history) key s k.stands) in
     record {
       settings = hands.takes_over.settings;
       history = hands.takes_over.history;
       stands = hands.takes_over.cache;
-      chains = λ key. ap (λ (chains : Chains). chain_of chains key) hands.chains ∙ k.chains key;
-      newest = λ key. subst (λ (chains : Chains). AreNewestFirst (chain_of chains key)) (sym hands.chains) (k.newest key);
-      guarded = subst (λ (s : Interval). AreGuarded s new.cache committed) (sym hands.span) (guarded_on old.span old.cache new.cache committed less k.guarded);
+      agrees = agrees_there old new committed hands.threshold
+          (same_chains old.chains new.chains hands.chains) k.agrees;
+      newest = λ key. subst (λ (chains : Chains). AreNewestFirst (chain_of chains key))
+          (sym hands.chains) (k.newest key);
+      all_newest = k.all_newest;
+      guarded = subst (λ (s : Interval). AreGuarded s new.cache committed) (sym hands.span)
+          (guarded_on old.span old.cache new.cache committed less k.guarded);
       found = k.found;
       serial = k.serial;
-      kept = each (IsKept old) (IsKept new) answered (λ r is. kept_there old new r less hands.span hands.chains is) k.kept;
+      kept = each (IsKept old) (IsKept new) answered
+          (λ r is. kept_there old new r less hands.span hands.threshold
+          (same_chains old.chains new.chains hands.chains) is) k.kept;
     }
 
-pub keeps : (range : RangeView) (answered : List Answered) (committed : List Transaction) → Execution range answered committed → Keeps range answered committed
+-- the threshold sinks nowhere
+grows : (old new : RangeView) (before : Time) → Collects old new before
+    → is_before new.threshold old.threshold ≡ false
+grows old new before c = subst (λ (x : Time). is_before x old.threshold ≡ false) (sym c.threshold)
+    (later_on old.threshold before)
+
+-- A read stays so where old versions are dropped, as long as the range answers it.
+kept_collected : (old new : RangeView) (before : Time) (a : Answered)
+    → ((k : KeyBytes) → AreNewestFirst (chain_of old.chains k)) → Collects old new before
+    → IsKept old a → IsKept new a
+kept_collected old new before a newest c is = (
+  λ k s x. subst (λ (v : CacheView). IsAtMost (mark_of a.at a.by a.read).value
+      (cache_answer v (point k))) (sym c.cache)
+      (is.0 k (subst (λ (i : Interval). covers i k ≡ true) c.span s) x),
+  λ on none. matches_same a.read (as_of a.at old.chains) (as_of a.at new.chains)
+      (λ k x. sym (same on k))
+      (is.1 (no_earlier-transitive old.threshold new.threshold a.at (grows old new before c) on)
+      (λ k. all_from_kept new.threshold (chain_of old.chains k) a.at a.by on (newest k)
+      (subst (AllByRecursion (λ (v : Version). v.at ≡ a.at → v.by ≡ a.by → ⊥)) (c.chains k)
+      (none k)))),
+)
+  where
+    same : is_before a.at new.threshold ≡ false → (k : KeyBytes) → as_of a.at new.chains k
+        ≡ as_of a.at old.chains k
+    same on k = as_of_found a.at (chain_of new.chains k)
+        ∙ (ap (λ (vs : List Version). found (upto a.at) vs) (c.chains k)
+        ∙ (found_kept (upto a.at) new.threshold (chain_of old.chains k)
+        (upto_passes a.at new.threshold on) ∙ sym (as_of_found a.at (chain_of old.chains k))))
+
+keeps_collecting : (old new : RangeView) (answered : List Answered) (committed : List Transaction)
+    (before : Time) → Keeps old answered committed → Collects old new before
+    → Keeps new answered committed
+keeps_collecting old new answered committed before k c = record {
+  settings = k.settings;
+  history = k.history;
+  stands = subst (λ (v : CacheView). StandsForState v k.settings (state_of k.settings k.history))
+      (sym c.cache) k.stands;
+  agrees = λ key. subst (λ (vs : List Version). AgreesFrom new.threshold vs
+      (all_laid committed key)) (sym (c.chains key))
+      (agrees_kept old.threshold new.threshold (chain_of old.chains key) (all_laid committed key)
+      (grows old new before c) (k.agrees key));
+  newest = λ key. subst AreNewestFirst (sym (c.chains key)) (kept_newest_first new.threshold
+      (chain_of old.chains key) (k.newest key));
+  all_newest = k.all_newest;
+  guarded = subst (λ (s : Interval). AreGuarded s new.cache committed) (sym c.span)
+      (subst (λ (v : CacheView). AreGuarded old.span v committed) (sym c.cache) k.guarded);
+  found = k.found;
+  serial = k.serial;
+  kept = each (IsKept old) (IsKept new) answered
+      (λ a is. kept_collected old new before a k.newest c is) k.kept;
+}
+
+pub keeps : (range : RangeView) (answered : List Answered) (committed : List Transaction)
+    → Execution range answered committed → Keeps range answered committed
 keeps range answered committed (opened r is) = record {
   settings = is.settings;
   history = [];
   stands = is.cache;
-  chains = λ k. ap (λ (chains : Chains). chain_of chains k) is.chains;
+  agrees = λ k. subst (λ (chains : Chains). AgreesFrom r.threshold (chain_of chains k) [])
+      (sym is.chains) (agrees_itself r.threshold []);
   newest = λ k. subst (λ (chains : Chains). AreNewestFirst (chain_of chains k)) (sym is.chains) tt;
+  all_newest = λ k. tt;
   guarded = tt;
   found = λ passes k. refl;
   serial = tt;
   kept = tt;
 }
-keeps range answered committed (answers old new before c by at now read run a) = keeps_answers old new before c by at now read (keeps old before c run) a
-keeps range answered committed (commits old new a c t now run does) = keeps_commits old new a c t now (keeps old a c run) does
-keeps range answered committed (hands_on old new a c run hands) = keeps_handing_on old new a c (keeps old a c run) hands
+keeps range answered committed (answers old new before c by at now read run a) =
+    keeps_answers old new before c by at now read (keeps old before c run) a
+keeps range answered committed (commits old new a c t now run does) =
+    keeps_commits old new a c t now (keeps old a c run) does
+keeps range answered committed (stays old new a c run same) =
+    keeps_same old new a c (keeps old a c run) same
+keeps range answered committed (hands_on old new a c run hands) =
+    keeps_handing_on old new a c (keeps old a c run) hands
+keeps range answered committed (collects old new a c before run does) =
+    keeps_collecting old new a c before (keeps old a c run) does
 
 -- ---- the laws
 
@@ -284,21 +654,27 @@ serializable range answered committed run =
     let k = keeps range answered committed run in
     record {
       serial = k.serial;
-      final = λ key. newest_found (chain_of range.chains key) ∙ (ap (λ (vs : List Version). found always vs) (k.chains key) ∙ (k.found always key ∙ sym (all_leave empty (serial_order committed) key)));
+      final = λ key. newest_found (chain_of range.chains key)
+          ∙ ((k.agrees key).found always (λ u h. refl)
+          ∙ (k.found always key ∙ sym (all_leave empty (serial_order committed) key)));
     }
 
 -- each read stays so,
 pub repeatable : Repeatable
 repeatable range answered committed run =
-    each (IsKept range) (λ (a : Answered). HasNotWritten a.by a.at range.chains → Matches a.read (as_of a.at range.chains)) answered (λ a is. is.1) (keeps range answered committed run).kept
+    each (IsKept range) (IsStillSo range) answered (λ a is. is.1)
+    (keeps range answered committed run).kept
 
 -- and a transaction whose reads were all answered, and that isn't pushed, may commit.
 pub unpushed : Unpushed
-unpushed range answered committed t run among none within free = record {
+unpushed range answered committed t run among none on within free = record {
+  in_time = on;
   within = within;
   refreshed = All-from_recursion (λ (r : Read). Matches r (as_of t.at range.chains)) t.reads
-      (each (λ (r : Read). Contains answered (record { by = t.by; at = t.at; read = r })) (λ (r : Read). Matches r (as_of t.at range.chains)) t.reads
-      (λ r own. All-contains (λ (x : Answered). HasNotWritten x.by x.at range.chains → Matches x.read (as_of x.at range.chains)) answered (record { by = t.by; at = t.at; read = r })
-      (All-from_recursion (λ (x : Answered). HasNotWritten x.by x.at range.chains → Matches x.read (as_of x.at range.chains)) answered (repeatable range answered committed run)) own none) among);
+      (each (λ (r : Read). Contains answered (record { by = t.by; at = t.at; read = r }))
+      (λ (r : Read). Matches r (as_of t.at range.chains)) t.reads
+      (λ r own. All-contains (IsStillSo range) answered (record { by = t.by; at = t.at; read = r })
+      (All-from_recursion (IsStillSo range) answered (repeatable range answered committed run)) own
+      on none) among);
   free = free;
 }

@@ -1,27 +1,45 @@
 -- What the calls on a range answer.
-use Rattle.std.specs.Prelude.{◌≡◌, ◌∷◌, [], ◌++◌, None}
-use Rattle.timestamp_cache.specs.Words.{Time, Interval}
+use Rattle.std.specs.Prelude.{◌≡◌, ◌↔◌, ℕ, List, ◌∷◌, [], ◌++◌, None, false}
+use Rattle.timestamp_cache.specs.Words.{Time, Interval, Settings, CacheView}
 use Rattle.timestamp_cache.specs.Earliest.{IsEarliest, TellsEarliest}
+use Rattle.timestamp_cache.specs.HandOver.{Summary, Summarizes, marks_told}
+use Rattle.tsc_cache.specs.Batch.{all_fit}
 use Rattle.mvcc_range.specs.declared.range.Outcome.{Outcome}
 use Rattle.mvcc_range.specs.declared.range.Outcome.TheVariants.{Committed, Restart}
 use Rattle.mvcc_range.specs.declared.range.Reason.TheVariants.{Changed, NoTime}
-use Rattle.mvcc_range.specs.Versions.{Read}
-use Rattle.mvcc_range.specs.Serial.{Transaction}
+use Rattle.mvcc_range.specs.Versions.{Read, Row, as_of, Matches}
+use Rattle.mvcc_range.specs.Serial.{Transaction, executed, moved}
 use Rattle.mvcc_range.specs.Steps.{RangeView, Answers, IsFree, MayCommit, Commits}
 
 -- A transaction reads a span: that is answered as of its time, and is the last of its reads then.
-pub record Reads (old new : RangeView) (before after : Transaction) (span : Interval) (now : Time) : Type 0 where
+pub record Reads (old new : RangeView) (before after : Transaction) (span : Interval)
+    (now : Time) : Type 0 where
   pub read : Read
   pub of : read.span ≡ span
   pub answers : Answers old new before.by before.at now read
   pub has : after ≡ record before { reads = before.reads ++ read ∷ [] }
 
--- a transaction at another time
-abbrev pub moved : Transaction → Time → Transaction
-moved t at = record t { at = at }
+-- The rows of a span that a transaction sees: what is there as of its time, and after its own
+-- writes.
+abbrev pub SeesOwn : RangeView → Transaction → Interval → List Row → Type 0
+SeesOwn range t span rows = Matches (record { span = span; rows = rows })
+    (executed (as_of t.at range.chains) t)
 
--- A transaction is to commit at the earliest time, from the one on at which it reads, that is free for its writes. It commits then, or where it may not, nothing changes.
+-- What a cache is to take over of a span was summarized, in so many marks at the most, and that it
+-- is too large is told exactly where some mark fits no page of a cache of these settings.
+pub record TellsTooLarge (cache : CacheView) (span : Interval) (config : Settings) (most : ℕ)
+    (told : Type 0) : Type 0 where
+  pub summary : Summary
+  pub summarizes : Summarizes cache span most summary
+  pub exact : told ↔ (all_fit config (marks_told summary) ≡ false)
+
+-- A transaction is to commit at the earliest time, from the one on at which it reads, that is free
+-- for its writes. It commits then, or where it may not, nothing changes.
 abbrev pub Ends : RangeView → RangeView → Transaction → Time → Outcome → Type 0
-Ends old new t now (Committed at) = IsEarliest (IsFree old.cache old.chains t.by t.writes) t.at at × Commits old new (moved t at) now
-Ends old new t now (Restart (Changed at)) = IsEarliest (IsFree old.cache old.chains t.by t.writes) t.at at × (MayCommit old (moved t at) → ⊥) × (new ≡ old)
-Ends old new t now (Restart NoTime) = TellsEarliest (IsFree old.cache old.chains t.by t.writes) t.at None × (new ≡ old)
+Ends old new t now (Committed at) = IsEarliest (IsFree old.cache old.chains t.by t.writes) t.at at
+    × Commits old new (moved t at) now
+Ends old new t now (Restart (Changed at)) =
+    IsEarliest (IsFree old.cache old.chains t.by t.writes) t.at at × (MayCommit old (moved t at)
+    → ⊥) × (new ≡ old)
+Ends old new t now (Restart NoTime) =
+    TellsEarliest (IsFree old.cache old.chains t.by t.writes) t.at None × (new ≡ old)

@@ -6,3 +6,4 @@ pub mod Calls
 pub mod Laws
 pub mod Maps
 pub mod RowsIn
+pub mod OwnRows

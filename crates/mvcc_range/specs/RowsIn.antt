@@ -1,5 +1,18 @@
 -- The rows of a span in a list of chains, one key after another.
-use Rattle.std.specs.Prelude.{ℕ, List, [], ◌∷◌, ◌++◌, Bool, true, false, Option, Some, None, if◌then◌else◌}
+use Rattle.std.specs.Prelude.{
+  ℕ,
+  List,
+  [],
+  ◌∷◌,
+  ◌++◌,
+  Bool,
+  true,
+  false,
+  Option,
+  Some,
+  None,
+  if◌then◌else◌,
+}
 use Rattle.tsc_span.specs.Span.{Interval, nothing, between, after, is_below, covers}
 use Rattle.timestamp_cache.specs.Words.{Time, KeyBytes}
 use Rattle.mvcc_range.specs.Versions.{Content, Version, Row, content_as_of}

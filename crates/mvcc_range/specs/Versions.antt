@@ -1,5 +1,21 @@
 -- The versions of keys, and what a transaction reads and writes.
-use Rattle.std.specs.Prelude.{◌≡◌, ℕ, List, [], ◌∷◌, Bool, true, false, ◌&&◌, not, Option, Some, None, if◌then◌else◌, unwrap_or}
+use Rattle.std.specs.Prelude.{
+  ◌≡◌,
+  ℕ,
+  List,
+  [],
+  ◌∷◌,
+  Bool,
+  true,
+  false,
+  ◌&&◌,
+  not,
+  Option,
+  Some,
+  None,
+  if◌then◌else◌,
+  unwrap_or,
+}
 use Rattle.std.specs.List.{All, AllByRecursion}
 use Rattle.std.specs.Ordering.{is_lt}
 use Rattle.std.specs.Str.{bytes_eq}
@@ -22,7 +38,8 @@ pub record Version : Type 0 where
   pub by : Owner
   pub content : Content
 
--- keys with their versions, the newest first: a key's first entry counts, and a key without one has no versions
+-- keys with their versions, the newest first: a key's first entry counts, and a key without one has
+-- no versions
 abbrev pub Chains : Type 0
 Chains = List (KeyBytes × List Version)
 
@@ -73,9 +90,12 @@ row_of k (r ∷ rs) = if bytes_eq r.key k then Some r.value else row_of k rs
 -- Rows are in the order of their keys, each key once.
 abbrev pub AreInKeyOrder : List Row → Type 0
 AreInKeyOrder [] = Unit {0}
-AreInKeyOrder (r ∷ rs) = AllByRecursion (λ q. is_lt (key_cmp r.key q.key) ≡ true) rs × AreInKeyOrder rs
+AreInKeyOrder (r ∷ rs) = AllByRecursion (λ q. is_lt (key_cmp r.key q.key) ≡ true) rs
+    × AreInKeyOrder rs
 
--- A read matches some contents: of each key of its span it says just what that key has, it has rows of no other key, and they are in order. So it is determined by the contents of its span, and a key that appears there later is a phantom.
+-- A read matches some contents: of each key of its span it says just what that key has, it has rows
+-- of no other key, and they are in order. So it is determined by the contents of its span, and a
+-- key that appears there later is a phantom.
 pub record Matches (read : Read) (there : Contents) : Type 0 where
   pub rows : (k : KeyBytes) → covers read.span k ≡ true → row_of k read.rows ≡ there k
   pub within : All (λ r. covers read.span r.key ≡ true) read.rows
@@ -96,7 +116,11 @@ after_writes k now (w ∷ ws) = after_writes k (if bytes_eq w.key k then w.conte
 -- the versions of a key after a transaction's writes at a time, one after another
 abbrev pub laid : KeyBytes → Time → Owner → List Write → List Version → List Version
 laid k at by [] vs = vs
-laid k at by (w ∷ ws) vs = laid k at by ws (if bytes_eq w.key k then record { at = at; by = by; content = w.content } ∷ vs else vs)
+laid k at by (w ∷ ws) vs = laid k at by ws (if bytes_eq w.key k then record {
+  at = at;
+  by = by;
+  content = w.content;
+} ∷ vs else vs)
 
 -- when a key was last written
 abbrev pub newest_time : List Version → Option Time
@@ -107,6 +131,20 @@ newest_time (v ∷ vs) = Some v.at
 abbrev pub IsAfter : Option Time → Time → Type 0
 IsAfter None t = Unit {0}
 IsAfter (Some last) t = is_before last t ≡ true
+
+-- ---- old versions
+
+-- a version that stays, unless it is a deletion
+abbrev pub unless_deletion : Version → Content → List Version
+unless_deletion v None = []
+unless_deletion v (Some b) = v ∷ []
+
+-- The versions of a key that are of use from a time on: those that are no earlier, and the newest
+-- of the others unless that is a deletion.
+abbrev pub kept_from : Time → List Version → List Version
+kept_from from [] = []
+kept_from from (v ∷ vs) = if is_before v.at from then unless_deletion v v.content else
+    v ∷ kept_from from vs
 
 -- ---- parts of the key space
 

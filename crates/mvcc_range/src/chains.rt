@@ -1,11 +1,38 @@
 //! The versions of each key, the newest first, in a map by key.
-ghost use Rattle.std.specs.Prelude.{◌≡◌, ◌+◌, ◌<◌, ◌∷◌, [], ◌++◌, ℕ, Some, None, option_map, length, IfOk, OnOk, if◌then◌else◌};
+ghost use Rattle.std.specs.Prelude.{
+  ◌≡◌,
+  ◌+◌,
+  ◌<◌,
+  ◌≤◌,
+  ◌==◌,
+  ◌∷◌,
+  [],
+  ◌++◌,
+  ℕ,
+  Some,
+  None,
+  option_map,
+  length,
+  take,
+  not,
+  IfOk,
+  OnOk,
+  if◌then◌else◌,
+};
 ghost use Rattle.std.specs.Str.{bytes_eq};
 ghost use Rattle.std.specs.BTreeMap.{get};
 ghost use Rattle.tsc_span.specs.Span.{key_cmp};
 ghost use Rattle.timestamp_cache.specs.Words.{KeyBytes, is_before};
 ghost use Rattle.timestamp_cache.specs.Earliest.{TellsEarliest};
-ghost use Rattle.mvcc_range.specs.Versions.{content_as_of, newest_time, IsAfter, laid, chain_of};
+ghost use Rattle.mvcc_range.specs.Versions.{
+  content_as_of,
+  newest_time,
+  IsAfter,
+  laid,
+  chain_of,
+  kept_from,
+  unless_deletion,
+};
 ghost use Rattle.mvcc_range.specs.Steps.{IsAfterWrites};
 ghost use Rattle.mvcc_range.specs.Maps.{HasRoom, HaveRoom, nodes_of};
 
@@ -78,7 +105,8 @@ fn time_after_write(
     write: &Write,
     from: Timestamp,
 ) -> Option<Timestamp>
-    ensures { TellsEarliest (IsAfter (newest_time (chain_of chains.now.entries write.now.key))) from result }
+    ensures { TellsEarliest (IsAfter (newest_time (chain_of chains.now.entries write.now.key))) from
+        result }
 {
     time_after_one(newest_time(chains, &write.key), from)
 }
@@ -127,7 +155,11 @@ fn node_of(
     at: Timestamp,
     by: Uuid,
 ) -> Result<LinkedList<Version>, NoMemory>
-    ensures { IfOk result (λ node. node ≡ record { at = at; by = by; content = write.now.content } ∷ []) }
+    ensures { IfOk result (λ node. node ≡ record {
+      at = at;
+      by = by;
+      content = write.now.content;
+    } ∷ []) }
 {
     let content = copy_of(&write.content)?;
     let mut node = LinkedList::new(alloc);
@@ -137,7 +169,8 @@ fn node_of(
 
 /// A copy of what a key has.
 fn copy_of(content: &Option<Vec<u8>>) -> Result<Option<Vec<u8>>, NoMemory>
-    ensures { IfOk result (λ copy. option_map (λ b. b.items) copy ≡ option_map (λ b. b.items) content.now) }
+    ensures { IfOk result (λ copy. option_map (λ b. b.items) copy
+        ≡ option_map (λ b. b.items) content.now) }
 {
     match content {
         Some(bytes) => Ok(Some(bytes.clone()?)),
@@ -145,7 +178,8 @@ fn copy_of(content: &Option<Vec<u8>>) -> Result<Option<Vec<u8>>, NoMemory>
     }
 }
 
-/// Makes a chain, where there is none, for each key that is written, so that [`link_all`] needs no memory. No key gets a version.
+/// Makes a chain, where there is none, for each key that is written, so that [`link_all`] needs no
+/// memory. No key gets a version.
 pub(crate) fn make_room(
     alloc: Global,
     chains: &mut BTreeMap<Key, LinkedList<Version>>,
@@ -231,7 +265,8 @@ pub(crate) fn link_all(
 )
     requires nodes { nodes ≡ nodes_of at by writes.now }
     requires room { HaveRoom (length writes.now) chains.old writes.now }
-    ensures { (k : KeyBytes) → chain_of chains.new.entries k ≡ laid k at by writes.now (chain_of chains.old.entries k) }
+    ensures { (k : KeyBytes) → chain_of chains.new.entries k ≡ laid k at by writes.now
+        (chain_of chains.old.entries k) }
 {
     let mut rest = nodes;
     for write in writes {
@@ -249,7 +284,9 @@ fn link_write(
 )
     requires one { length node ≡ 1 }
     requires room { HasRoom 1 chains.old write.now.key }
-    ensures chains { (k : KeyBytes) → chain_of chains.new.entries k ≡ (if bytes_eq write.now.key k then node ++ chain_of chains.old.entries k else chain_of chains.old.entries k) }
+    ensures chains { (k : KeyBytes) → chain_of chains.new.entries k
+        ≡ (if bytes_eq write.now.key k then node ++ chain_of chains.old.entries k else
+        chain_of chains.old.entries k) }
     ensures room { (k : KeyBytes) (n : ℕ) → HasRoom (n + 1) chains.old k → HasRoom n chains.new k }
 {
     link(chains, &write.key, node);
@@ -259,12 +296,64 @@ fn link_write(
 fn link(chains: &mut BTreeMap<Key, LinkedList<Version>>, key: &Key, mut node: LinkedList<Version>)
     requires one { length node ≡ 1 }
     requires room { HasRoom 1 chains.old key.now }
-    ensures chains { (k : KeyBytes) → chain_of chains.new.entries k ≡ (if bytes_eq key.now k then node ++ chain_of chains.old.entries k else chain_of chains.old.entries k) }
+    ensures chains { (k : KeyBytes) → chain_of chains.new.entries k ≡ (if bytes_eq key.now k then
+        node ++ chain_of chains.old.entries k else chain_of chains.old.entries k) }
     ensures room { (k : KeyBytes) (n : ℕ) → HasRoom (n + 1) chains.old k → HasRoom n chains.new k }
 {
     if let Some(chain) = chains.get_mut(key) {
         // The older ones follow it.
         let _joined = node.append(chain);
         *chain = node;
+    }
+}
+
+/// Drops the versions of each key that are of no use from a time on, and the keys that have none
+/// left.
+pub(crate) fn collect(chains: &mut BTreeMap<Key, LinkedList<Version>>, from: Timestamp)
+    ensures { (k : KeyBytes) → chain_of chains.new.entries k ≡ kept_from from
+        (chain_of chains.old.entries k) }
+{
+    chains.retain(|_, chain| trim(chain, from));
+}
+
+/// Drops the versions of a key that are of no use from a time on, and answers whether any is left.
+fn trim(chain: &mut LinkedList<Version>, from: Timestamp) -> bool
+    ensures kept { chain.new ≡ kept_from from chain.old }
+    ensures left { result ≡ not (length chain.new == 0) }
+{
+    let count = count_kept(chain, from);
+    let _dropped = chain.split_off(count);
+    !chain.is_empty()
+}
+
+/// How many versions of a key are of use from a time on.
+fn count_kept(chain: &LinkedList<Version>, from: Timestamp) -> usize
+    ensures within { result ≤ length chain.now }
+    ensures kept { take result chain.now ≡ kept_from from chain.now }
+{
+    let mut count = 0;
+    for version in chain {
+        if is_earlier(version, from) {
+            return count + count_unless_deletion(version);
+        }
+        count += 1;
+    }
+    count
+}
+
+/// Whether a version is earlier than a time.
+fn is_earlier(version: &Version, time: Timestamp) -> bool
+    ensures { result ≡ is_before version.now.at time }
+{
+    version.at < time
+}
+
+/// 1, or 0 for a deletion.
+fn count_unless_deletion(version: &Version) -> usize
+    ensures { result ≡ length (unless_deletion version.now version.now.content) }
+{
+    match version.content {
+        Some(_) => 1,
+        None => 0,
     }
 }

@@ -7,6 +7,9 @@ pub enum RangeError {
     /// A span that is read, or a key that is written, lies outside of the range's span.
     #[error("outside of the range")]
     OutOfRange,
+    /// The transaction's time is before the threshold, where versions may have been dropped.
+    #[error("before the time up to which old versions were dropped")]
+    TooEarly,
     /// A span costs more than the largest page of the cache may have.
     #[error("the span is too large for a page")]
     TooLarge,

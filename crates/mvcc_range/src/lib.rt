@@ -1,13 +1,16 @@
-//! One range of a multi-version store under a lease, whose transactions are serializable in the order of their times.
+//! One range of a multi-version store under a lease, whose transactions are serializable in the
+//! order of their times.
 //!
-//! A [`Transaction`] reads spans of keys as of its time, and then commits its writes: at that time, or where it is pushed, at a later
-//! one at which all that it read is still so. The [`Range`] keeps the versions of each key, and remembers reads in a timestamp
-//! cache, so that no write comes to a time at which it would change what was read.
+//! A [`Transaction`] reads spans of keys as of its time, and then commits its writes: at that time,
+//! or where it is pushed, at a later one at which all that it read is still so. The [`Range`] keeps
+//! the versions of each key, and remembers reads in a timestamp cache, so that no write comes to a
+//! time at which it would change what was read.
 #![tactic(auto)]
 
 mod chains;
 mod error;
 pub mod laws;
+mod own_writes;
 mod range;
 mod rows;
 #[cfg(test)]

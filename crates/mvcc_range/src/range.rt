@@ -1,21 +1,54 @@
 //! A range, and the calls on it.
-ghost use Rattle.std.specs.Prelude.{◌≡◌, ◌↔◌, ◌≤◌, ◌+◌, ◌∷◌, [], ◌++◌, ◌&&◌, not, map, true, false, IsTrue, IfOk, IsErrOf, OnOk, OnErr, vec_len, vec_capacity};
+ghost use Rattle.std.specs.Prelude.{
+  ◌≡◌,
+  ◌↔◌,
+  ◌⊎◌,
+  ◌≤◌,
+  ◌+◌,
+  ◌∷◌,
+  [],
+  ◌++◌,
+  ◌&&◌,
+  not,
+  map,
+  true,
+  false,
+  IsTrue,
+  IfOk,
+  IsErrOf,
+  OnOk,
+  OnErr,
+  vec_len,
+  vec_capacity,
+};
 ghost use Rattle.std.specs.List.{All};
 ghost use Rattle.tsc_span.specs.Span.{point};
 ghost use Rattle.tsc_cache.specs.Settings.{fits};
 ghost use Rattle.tsc_cache.specs.Batch.{all_fit};
 ghost use Rattle.tsc_cache.specs.CacheView.{StandsAfter, StandsAfterAll};
-ghost use Rattle.timestamp_cache.specs.Words.{KeyBytes};
+ghost use Rattle.timestamp_cache.specs.Words.{KeyBytes, is_before};
 ghost use Rattle.timestamp_cache.specs.Earliest.{TellsEarliest};
 ghost use Rattle.mvcc_range.specs.Versions.{chain_of, as_of, laid, Matches, is_within, are_within};
-ghost use Rattle.mvcc_range.specs.Steps.{mark_of, reads_fit, IsOpened, IsSame, Answers, IsFree, HandsOn, LaysDown, TakesOver};
+ghost use Rattle.mvcc_range.specs.Steps.{
+  mark_of,
+  reads_fit,
+  IsOpened,
+  IsSame,
+  Answers,
+  IsFree,
+  HandsOn,
+  Collects,
+  LaysDown,
+  TakesOver,
+};
 ghost use Rattle.mvcc_range.specs.Maps.{nodes_of};
-ghost use Rattle.mvcc_range.specs.Calls.{Reads, Ends};
+ghost use Rattle.mvcc_range.specs.Calls.{Reads, SeesOwn, TellsTooLarge, Ends};
 
-use crate::chains::{link_all, make_room, nodes_of, time_after};
+use crate::chains::{collect, link_all, make_room, nodes_of, time_after};
+use crate::own_writes::rows_after;
 use crate::rows::{is_still_so, rows_as_of};
 use crate::versions::Version;
-use crate::{RangeError, Read, Transaction, Write};
+use crate::{RangeError, Read, Row, Transaction, Write};
 use std::alloc::Global;
 use std::collections::{BTreeMap, LinkedList};
 use std::marker::Model;
@@ -30,6 +63,7 @@ pub struct Range {
     alloc: Global,
     span: Span,
     cache: Cache,
+    threshold: Timestamp,
     chains: BTreeMap<Key, LinkedList<Version>>,
 }
 
@@ -38,7 +72,12 @@ impl Model for Range {
 
     ghost Value = { RangeView };
 
-    ghost view = { λ r. record { span = r.span; cache = r.cache; chains = r.chains.entries } };
+    ghost view = { λ r. record {
+      span = r.span;
+      cache = r.cache;
+      threshold = r.threshold;
+      chains = r.chains.entries;
+    } };
 }
 
 /// What becomes of a transaction that is to commit.
@@ -69,30 +108,41 @@ impl Range {
             alloc,
             span,
             cache: Cache::new(alloc, config)?,
+            threshold: Timestamp::ZERO,
             chains: BTreeMap::new(alloc),
         })
     }
 
-    /// Answers a read of a transaction, which has it then as the last of its reads.
+    /// Answers a read of a transaction as of its time, and remembers that. The answer is the rows
+    /// of the span with the transaction's own writes put over them; without these, the rows are the
+    /// last of its reads.
     pub fn read(
         &mut self,
         transaction: &mut Transaction,
         span: &Span,
         now: Timestamp,
-    ) -> Result<(), RangeError>
-        ensures ok { OnOk result (Reads self.old self.new transaction.old transaction.new span.now now) }
+    ) -> Result<Vec<Row>, RangeError>
+        ensures ok { OnOk result (Reads self.old self.new transaction.old transaction.new span.now
+            now) }
+        ensures own { IfOk result (λ rows. SeesOwn self.old transaction.old span.now rows.items) }
         ensures err { OnErr result ((self.new ≡ self.old) × (transaction.new ≡ transaction.old)) }
-        ensures out_of_range { IsErrOf result RangeError.OutOfRange ↔ (is_within span.now self.old.span ≡ false) }
-        ensures too_large { IsErrOf result RangeError.TooLarge ↔ ((is_within span.now self.old.span && not (fits self.old.cache.settings span.now)) ≡ true) }
+        ensures out_of_range { IsErrOf result RangeError.OutOfRange
+            ↔ (is_within span.now self.old.span ≡ false) }
+        ensures too_early { IsErrOf result RangeError.TooEarly ↔ ((is_within span.now self.old.span
+            && is_before transaction.old.at self.old.threshold) ≡ true) }
+        ensures too_large { IsErrOf result RangeError.TooLarge ↔ ((is_within span.now self.old.span
+            && not (is_before transaction.old.at self.old.threshold)
+            && not (fits self.old.cache.settings span.now)) ≡ true) }
     {
-        self.check_read(span)?;
+        self.check_read(span, transaction.at)?;
         let read = self.look(span, transaction.at)?;
+        let rows = rows_after(self.alloc, &read, &transaction.writes)?;
         self.answer(transaction, read, now)?;
-        Ok(())
+        Ok(rows)
     }
 
-    /// Commits a transaction at the earliest time, from the one on at which it reads, that is free for its writes. Where what it read isn't so any
-    /// more as of then, it has to restart.
+    /// Commits a transaction at the earliest time, from the one on at which it reads, that is free
+    /// for its writes. If what it read isn't so any more as of then, it has to restart.
     pub fn commit(
         &mut self,
         transaction: &Transaction,
@@ -100,8 +150,15 @@ impl Range {
     ) -> Result<Outcome, RangeError>
         ensures ok { IfOk result (λ outcome. Ends self.old self.new transaction.now now outcome) }
         ensures err { OnErr result (IsSame self.old self.new) }
-        ensures out_of_range { IsErrOf result RangeError.OutOfRange ↔ (are_within transaction.now.writes self.old.span ≡ false) }
-        ensures too_large { IsErrOf result RangeError.TooLarge ↔ ((are_within transaction.now.writes self.old.span && not (reads_fit self.old.cache.settings transaction.now.reads)) ≡ true) }
+        ensures out_of_range { IsErrOf result RangeError.OutOfRange
+            ↔ (are_within transaction.now.writes self.old.span ≡ false) }
+        ensures too_early { IsErrOf result RangeError.TooEarly
+            ↔ ((are_within transaction.now.writes self.old.span
+            && is_before transaction.now.at self.old.threshold) ≡ true) }
+        ensures too_large { IsErrOf result RangeError.TooLarge
+            ↔ ((are_within transaction.now.writes self.old.span
+            && not (is_before transaction.now.at self.old.threshold)
+            && not (reads_fit self.old.cache.settings transaction.now.reads)) ≡ true) }
     {
         self.check_commit(transaction)?;
         let Some(at) = self.free_time(transaction)? else {
@@ -115,24 +172,56 @@ impl Range {
         Ok(Outcome::Committed(at))
     }
 
-    /// Hands the range on to a new lease: a new cache takes over what a summary of the old one tells of the range's span, in at most so many marks.
+    /// Hands the range on to a new lease: a new cache takes over what a summary of the old one
+    /// tells of the range's span, in at most so many marks.
     pub fn hand_on(&mut self, config: Config, most: usize, now: Timestamp) -> Result<(), CacheFault>
         ensures ok { OnOk result (HandsOn self.old self.new) }
         ensures err { OnErr result (self.new ≡ self.old) }
+        ensures too_large { IsErrOf result CacheFault.NoMemory
+            ⊎ TellsTooLarge self.old.cache self.old.span config most
+            (IsErrOf result CacheFault.TooLarge) }
     {
         self.cache = taken_over(self.alloc, &self.cache, &self.span, config, most, now)?;
         Ok(())
     }
 
-    /// Whether a span may be read.
-    fn check_read(&self, span: &Span) -> Result<(), RangeError>
-        ensures ok { OnOk result ((is_within span.now self.now.span ≡ true) × (fits self.now.cache.settings span.now ≡ true)) }
-        ensures out_of_range { IsErrOf result RangeError.OutOfRange ↔ (is_within span.now self.now.span ≡ false) }
-        ensures too_large { IsErrOf result RangeError.TooLarge ↔ ((is_within span.now self.now.span && not (fits self.now.cache.settings span.now)) ≡ true) }
+    /// Drops the versions that no read at a time, or later, can see. From then on reads and commits
+    /// before that time are refused. It costs a step for each version, and takes no memory.
+    pub fn collect_garbage(&mut self, before: Timestamp)
+        ensures { Collects self.old self.new before }
+    {
+        if self.threshold < before {
+            self.threshold = before;
+        }
+        collect(&mut self.chains, self.threshold);
+    }
+
+    /// The time before which reads and commits are refused.
+    pub fn threshold(&self) -> Timestamp
+        ensures { result ≡ self.now.threshold }
+    {
+        self.threshold
+    }
+
+    /// Whether a span may be read as of a time.
+    fn check_read(&self, span: &Span, at: Timestamp) -> Result<(), RangeError>
+        ensures ok { OnOk result ((is_within span.now self.now.span ≡ true)
+            × (is_before at self.now.threshold ≡ false)
+            × (fits self.now.cache.settings span.now ≡ true)) }
+        ensures out_of_range { IsErrOf result RangeError.OutOfRange
+            ↔ (is_within span.now self.now.span ≡ false) }
+        ensures too_early { IsErrOf result RangeError.TooEarly ↔ ((is_within span.now self.now.span
+            && is_before at self.now.threshold) ≡ true) }
+        ensures too_large { IsErrOf result RangeError.TooLarge ↔ ((is_within span.now self.now.span
+            && not (is_before at self.now.threshold)
+            && not (fits self.now.cache.settings span.now)) ≡ true) }
         ensures memory { IsErrOf result RangeError.NoMemory → ⊥ }
     {
         if !is_within(span, &self.span) {
             return Err(RangeError::OutOfRange);
+        }
+        if at < self.threshold {
+            return Err(RangeError::TooEarly);
         }
         if !self.cache.fits(span) {
             return Err(RangeError::TooLarge);
@@ -140,14 +229,28 @@ impl Range {
         Ok(())
     }
 
-    /// Whether a transaction's writes are the range's, and its reads can be remembered.
+    /// Whether a transaction's writes are the range's, its time is not too early, and its reads can
+    /// be remembered.
     fn check_commit(&self, transaction: &Transaction) -> Result<(), RangeError>
-        ensures ok { OnOk result ((are_within transaction.now.writes self.now.span ≡ true) × (reads_fit self.now.cache.settings transaction.now.reads ≡ true)) }
-        ensures out_of_range { IsErrOf result RangeError.OutOfRange ↔ (are_within transaction.now.writes self.now.span ≡ false) }
-        ensures too_large { IsErrOf result RangeError.TooLarge ↔ ((are_within transaction.now.writes self.now.span && not (reads_fit self.now.cache.settings transaction.now.reads)) ≡ true) }
+        ensures ok { OnOk result ((are_within transaction.now.writes self.now.span ≡ true)
+            × (is_before transaction.now.at self.now.threshold ≡ false)
+            × (reads_fit self.now.cache.settings transaction.now.reads ≡ true)) }
+        ensures out_of_range { IsErrOf result RangeError.OutOfRange
+            ↔ (are_within transaction.now.writes self.now.span ≡ false) }
+        ensures too_early { IsErrOf result RangeError.TooEarly
+            ↔ ((are_within transaction.now.writes self.now.span
+            && is_before transaction.now.at self.now.threshold) ≡ true) }
+        ensures too_large { IsErrOf result RangeError.TooLarge
+            ↔ ((are_within transaction.now.writes self.now.span
+            && not (is_before transaction.now.at self.now.threshold)
+            && not (reads_fit self.now.cache.settings transaction.now.reads)) ≡ true) }
+        ensures memory { IsErrOf result RangeError.NoMemory → ⊥ }
     {
         if !are_within(&transaction.writes, &self.span) {
             return Err(RangeError::OutOfRange);
+        }
+        if transaction.at < self.threshold {
+            return Err(RangeError::TooEarly);
         }
         if !reads_fit(&self.cache, &transaction.reads) {
             return Err(RangeError::TooLarge);
@@ -157,7 +260,8 @@ impl Range {
 
     /// What a span has as of a time.
     fn look(&self, span: &Span, at: Timestamp) -> Result<Read, NoMemory>
-        ensures { IfOk result (λ read. (read.span ≡ span.now) × Matches read (as_of at self.now.chains)) }
+        ensures { IfOk result (λ read. (read.span ≡ span.now)
+            × Matches read (as_of at self.now.chains)) }
     {
         Ok(Read {
             span: span.try_copy()?,
@@ -173,9 +277,12 @@ impl Range {
         now: Timestamp,
     ) -> Result<(), NoMemory>
         requires matches { Matches read (as_of transaction.old.at self.old.chains) }
+        requires in_time { is_before transaction.old.at self.old.threshold ≡ false }
         requires fits { fits self.old.cache.settings read.span ≡ true }
-        ensures ok { OnOk result (Answers self.old self.new transaction.old.by transaction.old.at now read) }
-        ensures has { OnOk result (transaction.new ≡ record transaction.old { reads = transaction.old.reads ++ read ∷ [] }) }
+        ensures ok { OnOk result (Answers self.old self.new transaction.old.by transaction.old.at
+            now read) }
+        ensures has { OnOk result (transaction.new
+            ≡ record transaction.old { reads = transaction.old.reads ++ read ∷ [] }) }
         ensures err { OnErr result ((self.new ≡ self.old) × (transaction.new ≡ transaction.old)) }
     {
         let value = Value::of(transaction.at, transaction.by);
@@ -185,9 +292,13 @@ impl Range {
         Ok(())
     }
 
-    /// The earliest time, from the one on at which a transaction reads, that is free for its writes.
+    /// The earliest time, from the one on at which a transaction reads, that is free for its
+    /// writes.
     fn free_time(&self, transaction: &Transaction) -> Result<Option<Timestamp>, NoMemory>
-        ensures { IfOk result (λ at. TellsEarliest (IsFree self.now.cache self.now.chains transaction.now.by transaction.now.writes) transaction.now.at at) }
+        ensures { IfOk result
+            (λ at. TellsEarliest
+            (IsFree self.now.cache self.now.chains transaction.now.by transaction.now.writes)
+            transaction.now.at at) }
     {
         let by = transaction.by;
         let from = transaction.at;
@@ -203,7 +314,8 @@ impl Range {
 
     /// Whether some reads are still what is there as of a time.
     fn are_still_so(&self, reads: &[Read], at: Timestamp) -> Result<bool, NoMemory>
-        ensures { IfOk result (λ so. IsTrue so ↔ All (λ r. Matches r (as_of at self.now.chains)) reads.now) }
+        ensures { IfOk result (λ so. IsTrue so ↔ All (λ r. Matches r (as_of at self.now.chains))
+            reads.now) }
     {
         are_still_so(self.alloc, &self.chains, reads, at)
     }
@@ -216,7 +328,8 @@ impl Range {
         now: Timestamp,
     ) -> Result<(), NoMemory>
         requires { reads_fit self.old.cache.settings transaction.now.reads ≡ true }
-        ensures ok { OnOk result (LaysDown self.old self.new (record transaction.now { at = at }) now) }
+        ensures ok { OnOk result (LaysDown self.old self.new (record transaction.now { at = at })
+            now) }
         ensures err { OnErr result (IsSame self.old self.new) }
     {
         let by = transaction.by;
@@ -250,9 +363,11 @@ fn lay_down(
     requires fit { all_fit cache.old.settings marks.now ≡ true }
     requires nodes { nodes ≡ nodes_of stamp.0 stamp.1 writes.now }
     ensures done { OnOk result (StandsAfterAll cache.old cache.new marks.now now
-        × ((k : KeyBytes) → chain_of chains.new.entries k ≡ laid k stamp.0 stamp.1 writes.now (chain_of chains.old.entries k))) }
+        × ((k : KeyBytes) → chain_of chains.new.entries k ≡ laid k stamp.0 stamp.1 writes.now
+        (chain_of chains.old.entries k))) }
     ensures cache { OnErr result (cache.new ≡ cache.old) }
-    ensures chains { OnErr result ((k : KeyBytes) → chain_of chains.new.entries k ≡ chain_of chains.old.entries k) }
+    ensures chains { OnErr result ((k : KeyBytes) → chain_of chains.new.entries k
+        ≡ chain_of chains.old.entries k) }
 {
     make_room(alloc, chains, writes)?;
     add_all(cache, marks, now)?;
@@ -269,7 +384,8 @@ fn free_time(
     from: Timestamp,
     by: Uuid,
 ) -> Result<Option<Timestamp>, NoMemory>
-    ensures { IfOk result (λ at. TellsEarliest (IsFree cache.now chains.now.entries by writes.now) from at) }
+    ensures { IfOk result (λ at. TellsEarliest (IsFree cache.now chains.now.entries by writes.now)
+        from at) }
 {
     match time_after(chains, writes, from) {
         Some(after) => {
@@ -287,7 +403,8 @@ fn are_still_so(
     reads: &[Read],
     at: Timestamp,
 ) -> Result<bool, NoMemory>
-    ensures { IfOk result (λ so. IsTrue so ↔ All (λ r. Matches r (as_of at chains.now.entries)) reads.now) }
+    ensures { IfOk result (λ so. IsTrue so ↔ All (λ r. Matches r (as_of at chains.now.entries))
+        reads.now) }
 {
     for read in reads {
         let so = is_still_so(alloc, chains, read, at)?;
@@ -298,7 +415,8 @@ fn are_still_so(
     Ok(true)
 }
 
-/// A new cache that takes over what a summary of another one tells of a span, in at most so many marks.
+/// A new cache that takes over what a summary of another one tells of a span, in at most so many
+/// marks.
 fn taken_over(
     alloc: Global,
     cache: &Cache,
@@ -307,7 +425,9 @@ fn taken_over(
     most: usize,
     now: Timestamp,
 ) -> Result<Cache, CacheFault>
-    ensures { IfOk result (λ next. TakesOver span.now cache.now next) }
+    ensures ok { IfOk result (λ next. TakesOver span.now cache.now next) }
+    ensures too_large { IsErrOf result CacheFault.NoMemory
+        ⊎ TellsTooLarge cache.now span.now config most (IsErrOf result CacheFault.TooLarge) }
 {
     let told = summary(alloc, cache, span, most)?;
     let mut next = Cache::new(alloc, config)?;
@@ -353,7 +473,10 @@ fn reads_fit(cache: &Cache, reads: &[Read]) -> bool
 /// Adds a read that fits.
 fn add(cache: &mut Cache, span: &Span, value: Value, now: Timestamp) -> Result<(), NoMemory>
     requires { fits cache.old.settings span.now ≡ true }
-    ensures stands { OnOk result (StandsAfter cache.old cache.new (record { span = span.now; value = value }) now) }
+    ensures stands { OnOk result (StandsAfter cache.old cache.new (record {
+      span = span.now;
+      value = value;
+    }) now) }
     ensures unchanged { OnErr result (cache.new ≡ cache.old) }
 {
     match cache.add(span, value, now) {

@@ -11,14 +11,16 @@ use std::alloc::Global;
 use std::collections::{BTreeMap, LinkedList};
 use timestamp_cache::{Cut, Key, NoMemory, Span, Timestamp};
 
-/// The rows of a span as of a time. It searches for the span's first key, and goes from there over the keys of the span.
+/// The rows of a span as of a time. It searches for the span's first key, and goes from there over
+/// the keys of the span.
 pub(crate) fn rows_as_of(
     alloc: Global,
     chains: &BTreeMap<Key, LinkedList<Version>>,
     span: &Span,
     at: Timestamp,
 ) -> Result<Vec<Row>, NoMemory>
-    ensures { IfOk result (λ rows. Matches (record { span = span.now; rows = rows.items }) (as_of at chains.now.entries)) }
+    ensures { IfOk result (λ rows. Matches (record { span = span.now; rows = rows.items })
+        (as_of at chains.now.entries)) }
 {
     match span.end_keys().0 {
         Some(first) => rows_from(alloc, chains, span, first, at),
@@ -35,7 +37,8 @@ fn rows_from(
     at: Timestamp,
 ) -> Result<Vec<Row>, NoMemory>
     requires { slice_get (end_keys span.now) 0 ≡ Some first.now }
-    ensures { IfOk result (λ rows. Matches (record { span = span.now; rows = rows.items }) (as_of at chains.now.entries)) }
+    ensures { IfOk result (λ rows. Matches (record { span = span.now; rows = rows.items })
+        (as_of at chains.now.entries)) }
 {
     let mut rows = Vec::new(alloc);
     for (key, chain) in chains.range(first..) {
@@ -65,7 +68,10 @@ fn add_row(
     key: &Key,
     chain: &LinkedList<Version>,
 ) -> Result<(), NoMemory>
-    ensures { OnOk result (rows.new.items ≡ rows.old.items ++ row_in span.now at (key.now, chain.now)) }
+    ensures { OnOk result (rows.new.items ≡ rows.old.items ++ row_in span.now at (
+      key.now,
+      chain.now,
+    )) }
 {
     if !is_in(key, span) {
         return Ok(());
@@ -77,7 +83,7 @@ fn add_row(
 }
 
 /// Whether a key lies in a span.
-fn is_in(key: &Key, span: &Span) -> bool
+pub(crate) fn is_in(key: &Key, span: &Span) -> bool
     ensures { result ≡ covers span.now key.now }
 {
     span.covers(key.bytes())
@@ -85,14 +91,21 @@ fn is_in(key: &Key, span: &Span) -> bool
 
 /// Adds a row.
 fn push_row(rows: &mut Vec<Row>, key: &Key, value: &Vec<u8>) -> Result<(), NoMemory>
-    ensures { OnOk result (rows.new.items ≡ rows.old.items ++ row_for key.now (Some value.now.items)) }
+    ensures { OnOk result (rows.new.items ≡ rows.old.items
+        ++ row_for key.now (Some value.now.items)) }
 {
-    let row = Row {
+    rows.push(row_of(key, value)?)?;
+    Ok(())
+}
+
+/// The row of a key that has this value.
+pub(crate) fn row_of(key: &Key, value: &Vec<u8>) -> Result<Row, NoMemory>
+    ensures { IfOk result (λ row. row ≡ record { key = key.now; value = value.now.items }) }
+{
+    Ok(Row {
         key: key.try_copy()?,
         value: value.clone()?,
-    };
-    rows.push(row)?;
-    Ok(())
+    })
 }
 
 /// Whether a read is still what is there as of a time.

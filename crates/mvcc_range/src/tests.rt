@@ -1,22 +1,33 @@
 //! What transactions read and when they commit, row by row.
-use crate::{Outcome, Range, RangeError, Reason, Transaction, Write};
+use crate::{Outcome, Range, RangeError, Reason, Row, Transaction, Write};
 use anyhow::{Context, Result};
 use std::alloc::Global;
-use timestamp_cache::{Config, Key, Span, Timestamp, Uuid};
+use timestamp_cache::{CacheFault, Config, Key, Span, Timestamp, Uuid};
 
 /// A step of a scenario. Transactions are numbered in the order in which they begin.
 #[derive(Clone, Copy)]
 enum Step {
     /// A transaction of this id begins, at a time.
     Begin(u8, u64),
-    /// A transaction reads from one key up to another, or one key where the other is empty: the rows, as `a=1 b=2`.
+    /// A transaction begins at the last time of all.
+    BeginLast(u8),
+    /// A transaction reads from one key up to another, or one key where the other is empty. The
+    /// rows are as `a=1 b=2`.
     Read(usize, &'static str, &'static str, &'static str),
+    /// A read is refused.
+    ReadRefused(usize, &'static str, &'static str, RangeError),
     /// A transaction writes a key, or deletes it where the value is empty.
     Put(usize, &'static str, &'static str),
     /// A transaction commits.
     Commit(usize, End),
+    /// A commit is refused.
+    CommitRefused(usize, RangeError),
     /// The range is handed on, in at most so many marks.
     HandOn(usize),
+    /// It is handed on to a cache of the smallest pages, or that is refused.
+    Shrink(bool),
+    /// Versions that no read from a time on can see are dropped.
+    Collect(u64),
 }
 
 /// What becomes of a commit: a wall time, and a logical count.
@@ -28,10 +39,17 @@ enum End {
 }
 
 use End::{At, Changed, NoTime};
-use Step::{Begin, Commit, HandOn, Put, Read};
+use RangeError::{OutOfRange, TooEarly, TooLarge};
+use Step::{
+    Begin, BeginLast, Collect, Commit, CommitRefused, HandOn, Put, Read, ReadRefused, Shrink,
+};
 
-/// The last wall time of all.
-const LAST: u64 = u64::MAX;
+/// A key that no page of the smallest size takes.
+const LONG: &str = concat!(
+    "mmmmmmmmmmmmmmmmmmmmmmmmmmmmmmmmmmmmmmmmmmmmmmmmmmmmmmmm",
+    "mmmmmmmmmmmmmmmmmmmmmmmmmmmmmmmmmmmmmmmmmmmmmmmmmmmmmmmm",
+    "mmmmmmmmmmmmmmmmmmmm",
+);
 
 /// The first transaction, which writes a, b and c at 10.
 const FILL: [Step; 5] = [
@@ -42,7 +60,7 @@ const FILL: [Step; 5] = [
     Commit(0, At(10, 0)),
 ];
 
-const SCENARIOS: [(&str, &[Step]); 12] = [
+const SCENARIOS: [(&str, &[Step]); 18] = [
     (
         "rows are in order, as of a time",
         &[
@@ -207,6 +225,106 @@ const SCENARIOS: [(&str, &[Step]); 12] = [
             Commit(3, At(30, 1)),
         ],
     ),
+    (
+        "a transaction sees its own writes",
+        &[
+            Begin(1, 20),
+            Put(1, "b", "own"),
+            Put(1, "c", ""),
+            Put(1, "bb", "more"),
+            Put(1, "zz", "beside"),
+            Read(1, "a", "z", "a=1 b=own bb=more"),
+            Read(1, "b", "bb", "b=own"),
+            Put(1, "b", ""),
+            Put(1, "a", "first"),
+            Put(1, "a", "second"),
+            Read(1, "a", "z", "a=second bb=more"),
+            Begin(2, 21),
+            Read(2, "a", "z", "a=1 b=2 c=3"),
+            CommitRefused(1, OutOfRange),
+        ],
+    ),
+    (
+        "its own writes are not what it has to find again",
+        &[
+            Begin(1, 20),
+            Put(1, "b", "own"),
+            Read(1, "a", "z", "a=1 b=own c=3"),
+            Begin(2, 30),
+            Read(2, "b", "", "b=2"),
+            Commit(1, At(30, 1)),
+            Begin(3, 40),
+            Read(3, "a", "z", "a=1 b=own c=3"),
+        ],
+    ),
+    (
+        "old versions go, and nobody reads or commits where they were",
+        &[
+            Begin(1, 20),
+            Put(1, "b", "new"),
+            Put(1, "c", ""),
+            Commit(1, At(20, 0)),
+            Begin(2, 30),
+            Put(2, "b", "newer"),
+            Commit(2, At(30, 0)),
+            Begin(3, 24),
+            Read(3, "a", "z", "a=1 b=new"),
+            Collect(25),
+            Collect(22),
+            ReadRefused(3, "a", "z", TooEarly),
+            CommitRefused(3, TooEarly),
+            Begin(4, 25),
+            Read(4, "a", "z", "a=1 b=new"),
+            Put(4, "a", "late"),
+            Commit(4, At(25, 0)),
+            Begin(5, 30),
+            Read(5, "a", "z", "a=late b=newer"),
+            Collect(100),
+            Begin(6, 100),
+            Read(6, "a", "z", "a=late b=newer"),
+        ],
+    ),
+    (
+        "no time is free behind the last one",
+        &[
+            BeginLast(1),
+            Put(1, "b", "last"),
+            Begin(2, 40),
+            Put(2, "b", "new"),
+            Commit(1, At(i64::MAX as u64, i32::MAX as u32)),
+            Commit(2, NoTime),
+            Begin(3, 50),
+            Read(3, "b", "", "b=2"),
+            BeginLast(4),
+            Read(4, "b", "", "b=last"),
+        ],
+    ),
+    (
+        "what is outside is refused",
+        &[
+            Begin(1, 20),
+            ReadRefused(1, "a", "zz", OutOfRange),
+            ReadRefused(1, "A", "", OutOfRange),
+            Read(1, "a", "z", "a=1 b=2 c=3"),
+            Put(1, "z", "beside"),
+            CommitRefused(1, OutOfRange),
+        ],
+    ),
+    (
+        "what no page takes is refused",
+        &[
+            Begin(1, 20),
+            Read(1, LONG, "", ""),
+            Shrink(false),
+            HandOn(0),
+            Shrink(true),
+            ReadRefused(1, LONG, "", TooLarge),
+            Put(1, "b", "new"),
+            CommitRefused(1, TooLarge),
+            Begin(2, 20),
+            Read(2, "a", "z", "a=1 b=2 c=3"),
+        ],
+    ),
 ];
 
 fn time(wall: u64) -> Result<Timestamp> {
@@ -241,18 +359,13 @@ fn put(alloc: Global, transaction: &mut Transaction, name: &str, value: &str) ->
     Ok(())
 }
 
-fn read(
-    alloc: Global,
-    range: &mut Range,
-    transaction: &mut Transaction,
-    from: &str,
-    to: &str,
-) -> Result<String> {
-    let span = Span::of(key(alloc, from)?, key(alloc, to)?)?;
-    range.read(transaction, &span, time(100)?)?;
+fn smallest() -> Result<Config> {
+    Ok(Config::new(132, 132, 2, 1000, time(5)?)?)
+}
+
+fn text_of(alloc: Global, rows: &[Row]) -> Result<String> {
     let mut text = String::new(alloc);
-    let read = transaction.reads().last().context("nothing read")?;
-    for row in &read.rows {
+    for row in rows {
         if !text.is_empty() {
             text.push(' ')?;
         }
@@ -261,6 +374,23 @@ fn read(
         text.push_str(std::str::from_utf8(row.value.as_slice())?)?;
     }
     Ok(text)
+}
+
+/// Whether a read answers these rows, or is refused so.
+fn reads(
+    alloc: Global,
+    range: &mut Range,
+    transaction: &mut Transaction,
+    span: (&str, &str),
+    wanted: Result<&str, RangeError>,
+) -> Result<bool> {
+    let span = Span::of(key(alloc, span.0)?, key(alloc, span.1)?)?;
+    let count = transaction.reads().len();
+    match (range.read(transaction, &span, time(100)?), wanted) {
+        (Ok(rows), Ok(text)) => Ok(text_of(alloc, &rows)?.as_str() == text),
+        (Err(error), Err(wanted)) => Ok(error == wanted && transaction.reads().len() == count),
+        (_, _) => Ok(false),
+    }
 }
 
 fn end_of(outcome: Outcome) -> End {
@@ -277,10 +407,24 @@ fn restart(reason: Reason) -> End {
     }
 }
 
-fn commit(range: &mut Range, transaction: &Transaction) -> Result<End> {
-    match range.commit(transaction, time(100)?) {
-        Ok(outcome) => Ok(end_of(outcome)),
-        Err(error) => Err(error.into()),
+/// Whether a commit ends so, or is refused so.
+fn commits(
+    range: &mut Range,
+    transaction: &Transaction,
+    wanted: Result<End, RangeError>,
+) -> Result<bool> {
+    match (range.commit(transaction, time(100)?), wanted) {
+        (Ok(outcome), Ok(end)) => Ok(end_of(outcome) == end),
+        (Err(error), Err(wanted)) => Ok(error == wanted),
+        (_, _) => Ok(false),
+    }
+}
+
+/// Whether the range is handed on to a cache of the smallest pages, or that is refused.
+fn shrinks(range: &mut Range, wanted: bool) -> Result<bool> {
+    match range.hand_on(smallest()?, 100, time(100)?) {
+        Ok(()) => Ok(wanted),
+        Err(fault) => Ok(fault == CacheFault::TooLarge && !wanted),
     }
 }
 
@@ -296,9 +440,18 @@ fn takes(
             transactions.push(begin(alloc, name, wall)?)?;
             Ok(true)
         }
+        BeginLast(name) => {
+            let id = Uuid::from_bytes([name; 16]);
+            transactions.push(Transaction::new(alloc, Timestamp::MAX, id))?;
+            Ok(true)
+        }
         Read(number, from, to, rows) => {
             let transaction = transactions.get_mut(number).context("not begun")?;
-            Ok(read(alloc, range, transaction, from, to)?.as_str() == rows)
+            reads(alloc, range, transaction, (from, to), Ok(rows))
+        }
+        ReadRefused(number, from, to, error) => {
+            let transaction = transactions.get_mut(number).context("not begun")?;
+            reads(alloc, range, transaction, (from, to), Err(error))
         }
         Put(number, name, value) => {
             let transaction = transactions.get_mut(number).context("not begun")?;
@@ -307,10 +460,19 @@ fn takes(
         }
         Commit(number, end) => {
             let transaction = transactions.get(number).context("not begun")?;
-            Ok(commit(range, transaction)? == end)
+            commits(range, transaction, Ok(end))
+        }
+        CommitRefused(number, error) => {
+            let transaction = transactions.get(number).context("not begun")?;
+            commits(range, transaction, Err(error))
         }
         HandOn(most) => {
             range.hand_on(config()?, most, time(100)?)?;
+            Ok(true)
+        }
+        Shrink(wanted) => shrinks(range, wanted),
+        Collect(before) => {
+            range.collect_garbage(time(before)?);
             Ok(true)
         }
     }

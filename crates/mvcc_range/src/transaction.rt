@@ -1,11 +1,13 @@
 ghost use Rattle.std.specs.Prelude.{◌≡◌, [], ◌∷◌, ◌++◌, OnOk, OnErr};
+ghost use Rattle.mvcc_range.specs.Serial.{moved};
 
 use crate::{Read, Write};
 use std::alloc::Global;
 use std::marker::Model;
 use timestamp_cache::{NoMemory, Timestamp, Uuid};
 
-/// A transaction that has not committed: the time at which it reads, what it read, and what it is going to write.
+/// A transaction that has not committed: the time at which it reads, what it read, and what it is
+/// going to write.
 #[derive(Debug, Drop)]
 pub struct Transaction {
     pub(crate) at: Timestamp,
@@ -19,7 +21,12 @@ impl Model for Transaction {
 
     ghost Value = { Transaction };
 
-    ghost view = { λ t. record { at = t.at; by = t.by; reads = t.reads.items; writes = t.writes.items } };
+    ghost view = { λ t. record {
+      at = t.at;
+      by = t.by;
+      reads = t.reads.items;
+      writes = t.writes.items;
+    } };
 }
 
 impl Transaction {
@@ -65,10 +72,31 @@ impl Transaction {
 
     /// Writes a key once it commits. Of several writes of a key the last one counts.
     pub fn write(&mut self, write: Write) -> Result<(), NoMemory>
-        ensures ok { OnOk result (self.new ≡ record self.old { writes = self.old.writes ++ write ∷ [] }) }
+        ensures ok { OnOk result (self.new ≡ record self.old {
+          writes = self.old.writes
+              ++ write ∷ [];
+        }) }
         ensures err { OnErr result (self.new ≡ self.old) }
     {
         self.writes.push(write)?;
         Ok(())
+    }
+
+    /// The same at another time, as once it has committed then.
+    pub fn moved_to(self, at: Timestamp) -> Transaction
+        ensures { result ≡ moved self at }
+    {
+        let Transaction {
+            at: _,
+            by,
+            reads,
+            writes,
+        } = self;
+        Transaction {
+            at,
+            by,
+            reads,
+            writes,
+        }
     }
 }

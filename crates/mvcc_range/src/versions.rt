@@ -15,7 +15,11 @@ impl Model for Version {
 
     ghost Value = { Version };
 
-    ghost view = { λ v. record { at = v.at; by = v.by; content = option_map (λ b. b.items) v.content } };
+    ghost view = { λ v. record {
+      at = v.at;
+      by = v.by;
+      content = option_map (λ b. b.items) v.content;
+    } };
 }
 
 /// A write of a key: its bytes, or nothing for a deletion.
@@ -49,7 +53,8 @@ impl Model for Row {
     ghost view = { λ r. record { key = r.key; value = r.value.items } };
 }
 
-/// A span that was read, and the rows that were answered, in the order of their keys. The transaction's own writes are not in them.
+/// A span that was read, and the rows that were answered, in the order of their keys. The
+/// transaction's own writes are not in them.
 #[derive(Debug, Drop)]
 pub struct Read {
     pub span: Span,

@@ -11,6 +11,7 @@ mod player;
 mod random;
 mod refused;
 mod rows;
+mod summaries;
 mod texts;
 mod work;
 mod writes;

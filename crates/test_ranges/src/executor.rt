@@ -11,6 +11,8 @@ pub type Contents = [Option<u32>; KEYS];
 pub struct SpanRead {
     pub from: usize,
     pub to: usize,
+    /// How many of its own writes its transaction had made before.
+    pub own: usize,
     pub contents: Contents,
 }
 
@@ -31,6 +33,17 @@ pub struct Committed {
     pub writes: Vec<KeyWrite>,
 }
 
+/// What the keys have after writes.
+fn after(contents: &Contents, writes: &[KeyWrite], count: usize) -> Contents {
+    let mut next = *contents;
+    for write in writes.iter().take(count) {
+        if write.key < KEYS {
+            next[write.key] = write.content;
+        }
+    }
+    next
+}
+
 /// Whether a read is what the keys have.
 fn is_so(contents: &Contents, read: &SpanRead) -> bool {
     for (key, (now, then)) in contents.iter().zip(read.contents.iter()).enumerate() {
@@ -44,15 +57,11 @@ fn is_so(contents: &Contents, read: &SpanRead) -> bool {
 /// Executes a transaction, and says whether each of its reads was what the keys have then.
 fn execute(contents: &mut Contents, transaction: &Committed) -> bool {
     for read in &transaction.reads {
-        if !is_so(contents, read) {
+        if !is_so(&after(contents, &transaction.writes, read.own), read) {
             return false;
         }
     }
-    for write in &transaction.writes {
-        if write.key < KEYS {
-            contents[write.key] = write.content;
-        }
-    }
+    *contents = after(contents, &transaction.writes, transaction.writes.len());
     true
 }
 
@@ -76,7 +85,8 @@ fn execute_at(done: &[Committed], place: usize, contents: &mut Contents) -> bool
     false
 }
 
-/// Whether transactions are serializable in the order of their times, and leave just what the keys have in the end.
+/// Whether transactions are serializable in the order of their times, and leave just what the keys
+/// have in the end.
 pub fn is_serial(done: &[Committed], end: &Contents) -> bool {
     let mut contents: Contents = [None; KEYS];
     for place in 0..done.len() {

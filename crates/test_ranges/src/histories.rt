@@ -17,17 +17,21 @@ pub trait Store: Drop {
     /// A transaction begins, and has the next number.
     fn begin(&mut self, name: Name) -> Result<(), Fail>;
 
-    /// It reads the keys from one up to another.
-    fn read(&mut self, number: usize, from: usize, to: usize) -> Result<Contents, Fail>;
+    /// It reads the keys from one up to another, and sees its own writes. None where its time is
+    /// too early.
+    fn read(&mut self, number: usize, from: usize, to: usize) -> Result<Option<Contents>, Fail>;
 
     /// It writes a key.
     fn write(&mut self, number: usize, write: KeyWrite) -> Result<(), Fail>;
 
-    /// It commits, or has to restart.
+    /// It commits, or has to restart, as where its time is too early.
     fn commit(&mut self, number: usize) -> Result<Option<u64>, Fail>;
 
     /// The store is handed on, in at most so many marks.
     fn hand_on(&mut self, most: usize) -> Result<(), Fail>;
+
+    /// What no read from a time on can see is dropped.
+    fn collect(&mut self, before: u64) -> Result<(), Fail>;
 
     /// What the keys have in the end.
     fn latest(&mut self) -> Result<Contents, Fail>;
@@ -67,6 +71,7 @@ struct History {
     open: Vec<Open>,
     done: Vec<Committed>,
     restarts: u32,
+    refused: u32,
 }
 
 /// How a history ended.
@@ -75,6 +80,7 @@ pub struct Verdict {
     pub serial: bool,
     pub committed: usize,
     pub restarts: u32,
+    pub refused: u32,
 }
 
 impl History {
@@ -120,8 +126,17 @@ impl History {
         }
         let from = sequence.below(KEYS as u32) as usize;
         let to = from + 1 + sequence.below((KEYS - from % KEYS) as u32) as usize;
-        let contents = store.read(number, from, to)?;
-        open.reads.push(SpanRead { from, to, contents })?;
+        let Some(contents) = store.read(number, from, to)? else {
+            self.refused = self.refused.saturating_add(1);
+            return Ok(());
+        };
+        let own = open.writes.len();
+        open.reads.push(SpanRead {
+            from,
+            to,
+            own,
+            contents,
+        })?;
         Ok(())
     }
 
@@ -169,10 +184,11 @@ impl History {
     }
 
     fn hand_on<S: Store>(&mut self, store: &mut S, sequence: &mut Sequence) -> Result<(), Fail> {
-        if sequence.below(3) == 0 {
-            store.hand_on(sequence.below(4) as usize)?;
+        match sequence.below(6) {
+            0 | 1 => store.hand_on(sequence.below(4) as usize),
+            2 => store.collect(u64::from(sequence.below(10)) + 8),
+            _ => Ok(()),
         }
-        Ok(())
     }
 }
 
@@ -187,6 +203,7 @@ pub fn play<S: Store>(
         open: Vec::new(alloc),
         done: Vec::new(alloc),
         restarts: 0,
+        refused: 0,
     };
     let count = 2 + sequence.below(7);
     for _ in 0..count {
@@ -203,5 +220,6 @@ pub fn play<S: Store>(
         serial: is_serial(&history.done, &end),
         committed: history.done.len(),
         restarts: history.restarts,
+        refused: history.refused,
     })
 }

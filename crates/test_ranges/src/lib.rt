@@ -1,7 +1,7 @@
 //! Random histories of transactions, each executed once more by brute force in the serial order.
 //!
-//! The executor shares no code with the range. It finds no violation in what [`mvcc_range::Range`] answers, and finds some
-//! in the answers of each plain store that leaves a step out.
+//! The executor shares no code with the range. It finds no violation in what [`mvcc_range::Range`]
+//! answers, and finds some in the answers of each plain store that leaves a step out.
 #![tactic(auto)]
 
 #[cfg(test)]

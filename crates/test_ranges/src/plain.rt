@@ -13,6 +13,8 @@ pub struct Steps {
     pub remembers: bool,
     /// It puts no write at or below a version.
     pub minds_versions: bool,
+    /// A transaction sees its own writes.
+    pub sees_own: bool,
 }
 
 #[derive(Clone, Copy)]
@@ -115,6 +117,17 @@ fn above(read: &Remembered, at: u64, id: u8) -> u64 {
     }
 }
 
+/// What a transaction sees of some contents after its own writes.
+fn seen(contents: Contents, writes: &[KeyWrite], own: bool) -> Contents {
+    let mut seen = contents;
+    for write in writes {
+        if own && write.key < KEYS {
+            seen[write.key] = write.content;
+        }
+    }
+    seen
+}
+
 /// Whether reads are what the keys have.
 fn are_so(reads: &[SpanRead], contents: &Contents) -> bool {
     for read in reads {
@@ -137,18 +150,22 @@ impl Store for Plain {
         Ok(())
     }
 
-    fn read(&mut self, number: usize, from: usize, to: usize) -> Result<Contents, Fail> {
+    fn read(&mut self, number: usize, from: usize, to: usize) -> Result<Option<Contents>, Fail> {
         let name = self.begun.get(number).ok_or("not begun")?.name;
         let time = name.time.saturating_mul(WALL);
         let contents = self.contents(time);
-        let read = SpanRead { from, to, contents };
         let id = name.id;
         if self.steps.remembers {
             self.remembered.push(Remembered { from, to, time, id })?;
         }
         let begun = self.begun.get_mut(number).ok_or("not begun")?;
-        begun.reads.push(read)?;
-        Ok(contents)
+        begun.reads.push(SpanRead {
+            from,
+            to,
+            own: 0,
+            contents,
+        })?;
+        Ok(Some(seen(contents, &begun.writes, self.steps.sees_own)))
     }
 
     fn write(&mut self, number: usize, write: KeyWrite) -> Result<(), Fail> {
@@ -180,6 +197,10 @@ impl Store for Plain {
     }
 
     fn hand_on(&mut self, _most: usize) -> Result<(), Fail> {
+        Ok(())
+    }
+
+    fn collect(&mut self, _before: u64) -> Result<(), Fail> {
         Ok(())
     }
 

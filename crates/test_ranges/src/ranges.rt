@@ -2,7 +2,7 @@
 use crate::executor::{Contents, KEYS, KeyWrite};
 use crate::histories::{Name, Store};
 use crate::plain::WALL;
-use mvcc_range::{Outcome, Range, Row, Transaction, Write};
+use mvcc_range::{Outcome, Range, RangeError, Row, Transaction, Write};
 use std::alloc::Global;
 use std::test::Fail;
 use timestamp_cache::{Config, Key, Span, Timestamp, Uuid};
@@ -70,12 +70,14 @@ impl Store for Ranged {
         Ok(())
     }
 
-    fn read(&mut self, number: usize, from: usize, to: usize) -> Result<Contents, Fail> {
+    fn read(&mut self, number: usize, from: usize, to: usize) -> Result<Option<Contents>, Fail> {
         let span = Span::of(key(self.alloc, from)?, key(self.alloc, to)?)?;
         let begun = self.begun.get_mut(number).ok_or("not begun")?;
-        self.range.read(begun, &span, time(30)?)?;
-        let read = begun.reads().last().ok_or("not read")?;
-        Ok(contents_of(&read.rows))
+        match self.range.read(begun, &span, time(30)?) {
+            Ok(rows) => Ok(Some(contents_of(&rows))),
+            Err(RangeError::TooEarly) => Ok(None),
+            Err(error) => Err(error.into()),
+        }
     }
 
     fn write(&mut self, number: usize, write: KeyWrite) -> Result<(), Fail> {
@@ -93,6 +95,7 @@ impl Store for Ranged {
         let begun = self.begun.get(number).ok_or("not begun")?;
         match self.range.commit(begun, time(30)?) {
             Ok(outcome) => Ok(time_of(outcome)),
+            Err(RangeError::TooEarly) => Ok(None),
             Err(error) => Err(error.into()),
         }
     }
@@ -102,10 +105,16 @@ impl Store for Ranged {
         Ok(())
     }
 
+    fn collect(&mut self, before: u64) -> Result<(), Fail> {
+        self.range.collect_garbage(time(before)?);
+        Ok(())
+    }
+
     fn latest(&mut self) -> Result<Contents, Fail> {
         let number = self.begun.len();
         self.begin(Name { id: 7, time: 1000 })?;
-        self.read(number, 0, KEYS)
+        let contents = self.read(number, 0, KEYS)?;
+        Ok(contents.ok_or("refused")?)
     }
 }
 

@@ -10,12 +10,14 @@ struct Total {
     violations: u32,
     committed: usize,
     restarts: u32,
+    refused: u32,
 }
 
 const NONE: Total = Total {
     violations: 0,
     committed: 0,
     restarts: 0,
+    refused: 0,
 };
 
 fn plus(total: Total, verdict: Verdict) -> Total {
@@ -23,6 +25,7 @@ fn plus(total: Total, verdict: Verdict) -> Total {
         violations: total.violations.saturating_add(u32::from(!verdict.serial)),
         committed: total.committed.saturating_add(verdict.committed),
         restarts: total.restarts.saturating_add(verdict.restarts),
+        refused: total.refused.saturating_add(verdict.refused),
     }
 }
 
@@ -46,24 +49,27 @@ fn of_plain(alloc: Global, steps: Steps, histories: u32) -> Result<Total, Fail> 
     Ok(total)
 }
 
-/// A range has no violation in 10,000 histories, in which most transactions commit and many restart.
+/// A range has no violation in 10,000 histories, in which most transactions commit and many
+/// restart.
 #[test]
 fn ranges_are_serializable(rt: HostRuntime) -> Result<(), Fail> {
     let total = of_ranges(rt.alloc(), 10_000)?;
     assert_eq!(rt; total.violations, 0);
     assert!(rt; total.committed > 20_000);
     assert!(rt; total.restarts > 1_000);
+    assert!(rt; total.refused > 1_000);
     Ok(())
 }
 
 /// What a plain store leaves out, and whether the executor finds a violation then.
-const ROWS: [(&str, Steps, bool); 4] = [
+const ROWS: [(&str, Steps, bool); 5] = [
     (
         "all steps",
         Steps {
             refreshes: true,
             remembers: true,
             minds_versions: true,
+            sees_own: true,
         },
         false,
     ),
@@ -73,6 +79,7 @@ const ROWS: [(&str, Steps, bool); 4] = [
             refreshes: false,
             remembers: true,
             minds_versions: true,
+            sees_own: true,
         },
         true,
     ),
@@ -82,6 +89,7 @@ const ROWS: [(&str, Steps, bool); 4] = [
             refreshes: true,
             remembers: false,
             minds_versions: true,
+            sees_own: true,
         },
         true,
     ),
@@ -91,6 +99,17 @@ const ROWS: [(&str, Steps, bool); 4] = [
             refreshes: true,
             remembers: true,
             minds_versions: false,
+            sees_own: true,
+        },
+        true,
+    ),
+    (
+        "no own write is seen",
+        Steps {
+            refreshes: true,
+            remembers: true,
+            minds_versions: true,
+            sees_own: false,
         },
         true,
     ),

@@ -11,3 +11,7 @@ pub mod Walking
 pub mod Going
 pub mod TakingOver
 pub mod HandOverExamples
+pub mod SummaryParts
+pub mod SummaryFields
+pub mod SummaryMarks
+pub mod SummaryFrame

@@ -2,5 +2,8 @@ pub mod Clear
 pub mod Earliest
 pub mod HandOver
 pub mod Stretches
+pub mod SummaryBytes
+pub mod SummaryReading
+pub mod SummaryLaws
 pub mod Laws
 pub mod Words

@@ -185,7 +185,7 @@ fn stretch<'a>(from: Cut<'a>, to: Cut<'a>) -> SpanRef<'a>
 }
 
 /// The same span, with keys of its own.
-fn owned(alloc: Global, from: Cut<'_>, to: Cut<'_>) -> Result<Span, NoMemory>
+pub(crate) fn owned(alloc: Global, from: Cut<'_>, to: Cut<'_>) -> Result<Span, NoMemory>
     requires { is_below (cut_of from) (cut_of to) ≡ true }
     ensures { IfOk result (λ span. span ≡ between (cut_of from.entry) (cut_of to.entry)) }
 {
@@ -198,7 +198,7 @@ fn owned(alloc: Global, from: Cut<'_>, to: Cut<'_>) -> Result<Span, NoMemory>
 }
 
 /// A key of these bytes, which are those of a key.
-fn own_key(alloc: Global, bytes: &[u8]) -> Result<Key, NoMemory>
+pub(crate) fn own_key(alloc: Global, bytes: &[u8]) -> Result<Key, NoMemory>
     ensures { IfOk result (λ key. key ≡ bytes.now) }
 {
     match Key::new(alloc, bytes) {

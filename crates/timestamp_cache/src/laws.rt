@@ -3,6 +3,7 @@
 //!
 //! No program needs to call these functions: their contracts are the laws.
 ghost use Rattle.timestamp_cache.specs.Laws.{AnswersAreLookedUp, ReadsAreCarried, PushedByReadsAlone, ClearIsAtMost, ReadsAreHandedOn};
+ghost use Rattle.timestamp_cache.specs.SummaryLaws.{SummariesAreReadBack};
 
 pub use tsc_cache::laws::{
     beginnings, can_all_be_added, can_be_added, evicts_the_expired, floor_behind, kept_up,
@@ -39,4 +40,9 @@ pub fn clear_is_at_most()
 /// after more Adds, is clear of each read there that was added to the first. So the new holder of a lease writes below no read that was answered under the old one.
 pub fn reads_are_handed_on()
     ensures { ReadsAreHandedOn }
+{}
+
+/// Each summary is read back from its bytes as it is, and no beginning of the bytes is read.
+pub fn summaries_are_read_back()
+    ensures { SummariesAreReadBack }
 {}

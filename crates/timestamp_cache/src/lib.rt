@@ -27,11 +27,15 @@ mod clear;
 mod hand_over;
 pub mod laws;
 mod next;
+mod summary_fault;
+mod summary_reading;
+mod summary_writing;
 mod writes;
 
 pub use clear::{earliest_clear_of, is_clear_of};
 pub use hand_over::{ReadSummary, apply, summary};
 pub use next::next_time;
+pub use summary_fault::SummaryFault;
 pub use tsc_cache::{
     Added, Cache, CacheFault, Config, ConfigFault, Figures, LEAST_MIN_PAGES, LONGEST_RETENTION,
     MOST_MIN_PAGES, Mark, TimestampCache,

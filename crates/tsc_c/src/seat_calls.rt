@@ -1,23 +1,25 @@
-//! The calls for caches that threads share.
+//! The calls for caches that threads share, and for their seats.
 
-ghost use Rattle.std.specs.Prelude.{◌≡◌, ◌≢◌, Ok as Made, None};
-ghost use Rattle.tsc_cache.specs.Settings.{Settings, settings_of};
-ghost use Rattle.tsc_c_table.specs.Codes.{code_of};
-ghost use Rattle.tsc_c_table.specs.Asked.{time_of, value_of, added_of};
-ghost use Rattle.tsc_c_table.specs.Table.{entries_of, seat_at, shared_at, Keeps};
-ghost use Rattle.tsc_c_table.specs.SeatCalls.{OpensShared, IsNoSeat, SeatLooks, RefusesSeatLookup, SeatStandsAt, SeatCounts, SeatAddsTo, SeatAddsAllTo, Spares, Moves, RefusesMove, ClosesShared, RefusesCloseShared};
-ghost use Rattle.tsc_c_table.specs.declared.refusal.Refusal.{Refusal as Why};
-ghost use Rattle.tsc_c_calls.specs.Timed.{RefusesOpenShared, RefusesTimedSeatAdd, RefusesTimedSeatAddAll};
+ghost use Rattle.std.specs.Prelude.{◌≡◌, ◌≢◌, IfOk, IfErr, OnErr, None};
+ghost use Rattle.tsc_ffi_store.specs.Codes.{code_of, Tells};
+ghost use Rattle.tsc_ffi_store.specs.Decode.{time_of, value_of, added_of, span_asked, add_asked, batch_asked, config_asked, asked_config};
+ghost use Rattle.tsc_ffi_store.specs.SeatCalls.{AnswersOpenShared, AnswersSeatLookup, AnswersSeatLowWater, AnswersSeatFigures, AnswersSeatAdd, AnswersSeatAddAll, IsNoSeat, Moves, RefusesMove, ClosesShared, RefusesCloseShared};
+ghost use Rattle.tsc_ffi_store.specs.Store.{slots_of, seat_at, shared_at, Keeps, DoesToSeat};
+ghost use Rattle.tsc_ffi_store.specs.declared.refusal.Refusal.{Refusal as Why};
 
+use crate::store_ptr::{StorePtr, store_in};
 use std::alloc::Global;
-use tsc_c_calls::{Place, halls};
-use tsc_c_table::{OK, TscAdded, TscFigures, TscMark, TscTime, TscValue, asked};
+use tsc_ffi_store::{
+    AddArgs, BatchArgs, ConfigArgs, OK, Refusal, SpanArgs, Store, TscAdded, TscFigures, TscMark,
+    TscTime, TscValue, code, may_open_shared,
+};
 
-/// Opens a cache that threads share, and writes its number. Its seats have the numbers behind that, in their order.
+/// Opens a cache that threads share, and writes its handle. Its seats have the handles behind that,
+/// in their order.
 #[unsafe(no_mangle)]
 pub extern "C" fn tsc_open_shared(
     alloc: Global,
-    place: &mut Place,
+    store: &mut StorePtr,
     page_first: u32,
     page_max: u32,
     min_pages: u32,
@@ -25,56 +27,74 @@ pub extern "C" fn tsc_open_shared(
     low_water: &TscTime,
     seats: u32,
     limit: u64,
-    number: &mut u64,
+    handle: &mut u64,
 ) -> u32
-    ensures opened { result ≡ OK → (settings : Settings) × (settings_of page_first page_max min_pages retention (time_of low_water.now) ≡ Made settings)
-        × OpensShared (entries_of place.old.table) (entries_of place.new.table) number.new settings seats limit }
-    ensures unchanged { result ≢ OK → (entries_of place.new.table ≡ entries_of place.old.table) × (number.new ≡ number.old) }
-    ensures refused { result ≢ OK → (why : Why) × (result ≡ code_of why) × RefusesOpenShared why page_first page_max min_pages retention (time_of low_water.now) seats }
+    ensures answers { Tells
+        (AnswersOpenShared (config_asked page_first page_max min_pages retention low_water.now)
+        seats limit handle.new (slots_of store.old.owned) (slots_of store.new.owned))
+        (handle.new ≡ handle.old) result }
 {
-    match halls::open_shared(
-        alloc, place, page_first, page_max, min_pages, retention, low_water, seats, limit,
-    ) {
-        Ok(made) => {
-            *number = made;
-            OK
-        }
-        Err(why) => why.code(),
-    }
+    let args = ConfigArgs {
+        page_first,
+        page_max,
+        min_pages,
+        retention,
+        low_water,
+    };
+    code(open_shared(alloc, store, &args, seats, limit, handle))
 }
 
-/// Adds a span with its value, at a moment, at a seat. It waits for nobody: it tries so many times to come to its turn.
+/// Opens a shared cache in the store that is owned, or in a new one.
+fn open_shared(
+    alloc: Global,
+    store: &mut StorePtr,
+    args: &ConfigArgs<'_>,
+    seats: u32,
+    limit: u64,
+    handle: &mut u64,
+) -> Result<(), Refusal>
+    ensures answers { AnswersOpenShared (asked_config args.now) seats limit handle.new
+        (slots_of store.old.owned) (slots_of store.new.owned) result }
+    ensures kept { OnErr result (handle.new ≡ handle.old) }
+{
+    may_open_shared(args, seats)?;
+    let mut held = store_in(alloc, store)?;
+    let did = held.open_shared(alloc, args, seats, limit, handle);
+    store.lay(held);
+    did
+}
+
+/// Adds a span with its value, at a moment, at a seat. It waits for nobody: it tries so many times
+/// to come to its turn.
 #[unsafe(no_mangle)]
 pub extern "C" fn tsc_seat_add(
     alloc: Global,
-    place: &mut Place,
-    number: u64,
+    store: &mut StorePtr,
+    handle: u64,
     from: &[u8],
     to: &[u8],
     ends: u32,
     value: &TscValue,
-    now: &TscTime,
+    moment: &TscTime,
     tries: u32,
-    place_in_history: &mut u64,
+    place: &mut u64,
     out: &mut TscAdded,
 ) -> u32
-    ensures added { result ≡ OK → SeatAddsTo (seat_at (entries_of place.old.table) number) (seat_at (entries_of place.new.table) number) from.now to.now ends
-        (value_of value.now) (time_of now.now) place_in_history.new (added_of out.new) }
-    ensures others { Keeps (entries_of place.old.table) (entries_of place.new.table) number }
-    ensures spared { result ≢ OK → Spares (seat_at (entries_of place.old.table) number) (seat_at (entries_of place.new.table) number) }
-    ensures no_seat { result ≢ OK → seat_at (entries_of place.old.table) number ≡ None → entries_of place.new.table ≡ entries_of place.old.table }
-    ensures tried { result ≡ OK → tries ≢ 0 }
-    ensures kept { result ≢ OK → (place_in_history.new ≡ place_in_history.old) × (out.new ≡ out.old) }
-    ensures refused { result ≢ OK → (why : Why) × (result ≡ code_of why) × RefusesTimedSeatAdd why (seat_at (entries_of place.old.table) number)
-        (seat_at (entries_of place.new.table) number) from.now to.now ends (value_of value.now).time (time_of now.now) tries }
+    ensures answers { Tells
+        (DoesToSeat
+        (AnswersSeatAdd (add_asked (span_asked from.now to.now ends) value.now moment.now) tries
+        place.new (added_of out.new)) (slots_of store.old.owned) (slots_of store.new.owned) handle)
+        ((place.new ≡ place.old) × (out.new ≡ out.old)) result }
 {
-    match halls::seat_add(alloc, place, number, from, to, ends, value, now, tries) {
-        Ok(did) => {
-            *place_in_history = did.place;
-            *out = asked::words_of_added(did.added);
-            OK
-        }
-        Err(why) => why.code(),
+    let span = SpanArgs { from, to, ends };
+    let args = AddArgs {
+        span,
+        value,
+        moment,
+    };
+    match store.store_mut() {
+        Some(held) => code(held.seat_add(alloc, handle, &args, tries, place, out)),
+        None => Refusal::Closed.code(),
     }
 }
 
@@ -82,132 +102,154 @@ pub extern "C" fn tsc_seat_add(
 #[unsafe(no_mangle)]
 pub extern "C" fn tsc_seat_add_all(
     alloc: Global,
-    place: &mut Place,
-    number: u64,
+    store: &mut StorePtr,
+    handle: u64,
     keys: &[u8],
     marks: &[TscMark],
-    now: &TscTime,
+    moment: &TscTime,
     tries: u32,
-    place_in_history: &mut u64,
+    place: &mut u64,
     out: &mut TscAdded,
 ) -> u32
-    ensures added { result ≡ OK → SeatAddsAllTo (seat_at (entries_of place.old.table) number) (seat_at (entries_of place.new.table) number) keys.now marks.now
-        (time_of now.now) place_in_history.new (added_of out.new) }
-    ensures others { Keeps (entries_of place.old.table) (entries_of place.new.table) number }
-    ensures spared { result ≢ OK → Spares (seat_at (entries_of place.old.table) number) (seat_at (entries_of place.new.table) number) }
-    ensures no_seat { result ≢ OK → seat_at (entries_of place.old.table) number ≡ None → entries_of place.new.table ≡ entries_of place.old.table }
-    ensures tried { result ≡ OK → tries ≢ 0 }
-    ensures kept { result ≢ OK → (place_in_history.new ≡ place_in_history.old) × (out.new ≡ out.old) }
-    ensures refused { result ≢ OK → (why : Why) × (result ≡ code_of why) × RefusesTimedSeatAddAll why (seat_at (entries_of place.old.table) number)
-        (seat_at (entries_of place.new.table) number) keys.now marks.now (time_of now.now) tries }
+    ensures answers { Tells
+        (DoesToSeat
+        (AnswersSeatAddAll (batch_asked keys.now marks.now moment.now) tries place.new
+        (added_of out.new)) (slots_of store.old.owned) (slots_of store.new.owned) handle)
+        ((place.new ≡ place.old) × (out.new ≡ out.old)) result }
 {
-    match halls::seat_add_all(alloc, place, number, keys, marks, now, tries) {
-        Ok(did) => {
-            *place_in_history = did.place;
-            *out = asked::words_of_added(did.added);
-            OK
-        }
-        Err(why) => why.code(),
+    let args = BatchArgs {
+        keys,
+        marks,
+        moment,
+    };
+    match store.store_mut() {
+        Some(held) => code(held.seat_add_all(alloc, handle, &args, tries, place, out)),
+        None => Refusal::Closed.code(),
     }
 }
 
 /// The latest time on a span, at a seat, and how many Adds the seat has seen then.
 #[unsafe(no_mangle)]
 pub extern "C" fn tsc_seat_get_max(
-    place: &mut Place,
-    number: u64,
+    store: &mut StorePtr,
+    handle: u64,
     from: &[u8],
     to: &[u8],
     ends: u32,
     seen: &mut u64,
     out: &mut TscValue,
 ) -> u32
-    ensures looked { result ≡ OK → SeatLooks (seat_at (entries_of place.old.table) number) (seat_at (entries_of place.new.table) number) from.now to.now ends
-        seen.new (value_of out.new) }
-    ensures others { Keeps (entries_of place.old.table) (entries_of place.new.table) number }
-    ensures unchanged { result ≢ OK → (entries_of place.new.table ≡ entries_of place.old.table) × (seen.new ≡ seen.old) × (out.new ≡ out.old) }
-    ensures refused { result ≢ OK → (why : Why) × (result ≡ code_of why) × RefusesSeatLookup why (seat_at (entries_of place.old.table) number) ends }
+    ensures answers { Tells
+        (DoesToSeat
+        (AnswersSeatLookup (span_asked from.now to.now ends) seen.new (value_of out.new))
+        (slots_of store.old.owned) (slots_of store.new.owned) handle)
+        ((seen.new ≡ seen.old) × (out.new ≡ out.old)) result }
 {
-    match halls::seat_get_max(place, number, from, to, ends) {
-        Ok(answer) => {
-            *seen = answer.front;
-            *out = asked::words_of(answer.value);
-            OK
-        }
-        Err(why) => why.code(),
+    let span = SpanArgs { from, to, ends };
+    match store.store_mut() {
+        Some(held) => code(held.seat_get_max(handle, &span, seen, out)),
+        None => Refusal::Closed.code(),
     }
 }
 
-/// Where the floor stands, at a seat, and how many Adds the seat has seen then.
+/// Where the floor of the cache of a seat stands, and how many Adds the seat has seen then.
 #[unsafe(no_mangle)]
 pub extern "C" fn tsc_seat_low_water(
-    place: &mut Place,
-    number: u64,
+    store: &mut StorePtr,
+    handle: u64,
     seen: &mut u64,
     out: &mut TscTime,
 ) -> u32
-    ensures floor { result ≡ OK → SeatStandsAt (seat_at (entries_of place.old.table) number) (seat_at (entries_of place.new.table) number) seen.new (time_of out.new) }
-    ensures others { Keeps (entries_of place.old.table) (entries_of place.new.table) number }
-    ensures unchanged { result ≢ OK → (entries_of place.new.table ≡ entries_of place.old.table) × (seen.new ≡ seen.old) × (out.new ≡ out.old) }
-    ensures refused { result ≢ OK → (why : Why) × (result ≡ code_of why) × IsNoSeat why (seat_at (entries_of place.old.table) number) }
+    ensures answers { Tells
+        (DoesToSeat (AnswersSeatLowWater seen.new (time_of out.new)) (slots_of store.old.owned)
+        (slots_of store.new.owned) handle) ((seen.new ≡ seen.old) × (out.new ≡ out.old)) result }
 {
-    match halls::seat_low_water(place, number) {
-        Ok(answer) => {
-            *seen = answer.front;
-            *out = asked::words_of_time(answer.time);
-            OK
-        }
-        Err(why) => why.code(),
+    match store.store_mut() {
+        Some(held) => code(held.seat_low_water(handle, seen, out)),
+        None => Refusal::Closed.code(),
     }
 }
 
-/// What can be counted of the cache at a seat, and how many Adds the seat has seen then.
+/// What can be counted of the cache of a seat, and how many Adds the seat has seen then.
 #[unsafe(no_mangle)]
 pub extern "C" fn tsc_seat_figures_of(
-    place: &mut Place,
-    number: u64,
+    store: &mut StorePtr,
+    handle: u64,
     seen: &mut u64,
     out: &mut TscFigures,
 ) -> u32
-    ensures figures { result ≡ OK → SeatCounts (seat_at (entries_of place.old.table) number) (seat_at (entries_of place.new.table) number) seen.new out.new }
-    ensures others { Keeps (entries_of place.old.table) (entries_of place.new.table) number }
-    ensures unchanged { result ≢ OK → (entries_of place.new.table ≡ entries_of place.old.table) × (seen.new ≡ seen.old) × (out.new ≡ out.old) }
-    ensures refused { result ≢ OK → (why : Why) × (result ≡ code_of why) × IsNoSeat why (seat_at (entries_of place.old.table) number) }
+    ensures answers { Tells
+        (DoesToSeat (AnswersSeatFigures seen.new out.new) (slots_of store.old.owned)
+        (slots_of store.new.owned) handle) ((seen.new ≡ seen.old) × (out.new ≡ out.old)) result }
 {
-    match halls::seat_figures(place, number) {
-        Ok(answer) => {
-            *seen = answer.front;
-            *out = asked::words_of_figures(answer.figures);
-            OK
-        }
-        Err(why) => why.code(),
+    match store.store_mut() {
+        Some(held) => code(held.seat_figures(handle, seen, out)),
+        None => Refusal::Closed.code(),
     }
 }
 
-/// Hands in the seat of a number, which then names none for good.
+/// Hands in the seat of a handle, which then names none for good.
 #[unsafe(no_mangle)]
-pub extern "C" fn tsc_seat_close(place: &mut Place, number: u64) -> u32
-    ensures closed { seat_at (entries_of place.new.table) number ≡ None }
-    ensures others { Keeps (entries_of place.old.table) (entries_of place.new.table) number }
-    ensures done { result ≡ OK → seat_at (entries_of place.old.table) number ≢ None }
-    ensures unchanged { result ≢ OK → entries_of place.new.table ≡ entries_of place.old.table }
-    ensures refused { result ≢ OK → (why : Why) × (result ≡ code_of why) × IsNoSeat why (seat_at (entries_of place.old.table) number) }
+pub extern "C" fn tsc_seat_close(store: &mut StorePtr, handle: u64) -> u32
+    ensures closed { seat_at (slots_of store.new.owned) handle ≡ None }
+    ensures others { Keeps (slots_of store.old.owned) (slots_of store.new.owned) handle }
+    ensures done { result ≡ OK → seat_at (slots_of store.old.owned) handle ≢ None }
+    ensures unchanged { result ≢ OK → slots_of store.new.owned ≡ slots_of store.old.owned }
+    ensures refused { result ≢ OK → (why : Why) × (result ≡ code_of why)
+        × IsNoSeat why (seat_at (slots_of store.old.owned) handle) }
 {
-    match halls::close_seat(place, number) {
+    match store.store_mut() {
+        Some(held) => close_seat(held, handle),
+        None => Refusal::Closed.code(),
+    }
+}
+
+/// The same, in the store that is owned.
+fn close_seat(held: &mut Store, handle: u64) -> u32
+    ensures closed { seat_at held.new.slots.items handle ≡ None }
+    ensures others { Keeps held.old.slots.items held.new.slots.items handle }
+    ensures done { result ≡ OK → seat_at held.old.slots.items handle ≢ None }
+    ensures unchanged { result ≢ OK → held.new.slots.items ≡ held.old.slots.items }
+    ensures refused { result ≢ OK → (why : Why) × (result ≡ code_of why)
+        × IsNoSeat why (seat_at held.old.slots.items handle) }
+{
+    match held.close_seat(handle) {
         Ok(()) => OK,
         Err(why) => why.code(),
     }
 }
 
-/// Closes the shared cache of a number where all its seats were handed in, and writes how many Adds its history has.
+/// Closes the shared cache of a handle if all its seats were handed in, and writes how many Adds
+/// its history has.
 #[unsafe(no_mangle)]
-pub extern "C" fn tsc_close_shared(place: &mut Place, number: u64, length: &mut u64) -> u32
-    ensures closed { result ≡ OK → ClosesShared (shared_at (entries_of place.old.table) number) (shared_at (entries_of place.new.table) number) length.new }
-    ensures others { Keeps (entries_of place.old.table) (entries_of place.new.table) number }
-    ensures unchanged { result ≢ OK → (entries_of place.new.table ≡ entries_of place.old.table) × (length.new ≡ length.old) }
-    ensures refused { result ≢ OK → (why : Why) × (result ≡ code_of why) × RefusesCloseShared why (shared_at (entries_of place.old.table) number) }
+pub extern "C" fn tsc_close_shared(store: &mut StorePtr, handle: u64, length: &mut u64) -> u32
+    ensures closed { result ≡ OK
+        → ClosesShared (shared_at (slots_of store.old.owned) handle)
+        (shared_at (slots_of store.new.owned) handle) length.new }
+    ensures others { Keeps (slots_of store.old.owned) (slots_of store.new.owned) handle }
+    ensures unchanged { result ≢ OK → (slots_of store.new.owned ≡ slots_of store.old.owned)
+        × (length.new ≡ length.old) }
+    ensures refused { result ≢ OK → (why : Why) × (result ≡ code_of why)
+        × RefusesCloseShared why (shared_at (slots_of store.old.owned) handle) }
 {
-    match halls::close_shared(place, number) {
+    match store.store_mut() {
+        Some(held) => close_shared(held, handle, length),
+        None => Refusal::Closed.code(),
+    }
+}
+
+/// The same, in the store that is owned.
+fn close_shared(held: &mut Store, handle: u64, length: &mut u64) -> u32
+    ensures closed { result ≡ OK
+        → ClosesShared (shared_at held.old.slots.items handle)
+        (shared_at held.new.slots.items handle) length.new }
+    ensures others { Keeps held.old.slots.items held.new.slots.items handle }
+    ensures unchanged { result ≢ OK → (held.new.slots.items ≡ held.old.slots.items)
+        × (length.new ≡ length.old) }
+    ensures refused { result ≢ OK → (why : Why) × (result ≡ code_of why)
+        × RefusesCloseShared why (shared_at held.old.slots.items handle) }
+{
+    match held.close_shared(handle) {
         Ok(adds) => {
             *length = adds;
             OK
@@ -216,24 +258,69 @@ pub extern "C" fn tsc_close_shared(place: &mut Place, number: u64, length: &mut 
     }
 }
 
-/// What a number names goes to another place, where it gets the next number, which is written.
+/// What a handle names goes to another store, where it gets the next handle, which is written.
 #[unsafe(no_mangle)]
 pub extern "C" fn tsc_move(
     alloc: Global,
-    place: &mut Place,
-    number: u64,
-    other: &mut Place,
-    other_number: &mut u64,
+    store: &mut StorePtr,
+    handle: u64,
+    other: &mut StorePtr,
+    other_handle: &mut u64,
 ) -> u32
-    ensures moved { result ≡ OK → Moves (entries_of place.old.table) (entries_of other.old.table) (entries_of place.new.table) (entries_of other.new.table) number other_number.new }
-    ensures unchanged { result ≢ OK → (entries_of place.new.table ≡ entries_of place.old.table) × (entries_of other.new.table ≡ entries_of other.old.table) × (other_number.new ≡ other_number.old) }
-    ensures refused { result ≢ OK → (why : Why) × (result ≡ code_of why) × RefusesMove why (entries_of place.old.table) number }
+    ensures moved { result ≡ OK
+        → Moves (slots_of store.old.owned) (slots_of other.old.owned) (slots_of store.new.owned)
+        (slots_of other.new.owned) handle other_handle.new }
+    ensures unchanged { result ≢ OK → (slots_of store.new.owned ≡ slots_of store.old.owned)
+        × (slots_of other.new.owned ≡ slots_of other.old.owned)
+        × (other_handle.new ≡ other_handle.old) }
+    ensures refused { result ≢ OK → (why : Why) × (result ≡ code_of why)
+        × RefusesMove why (slots_of store.old.owned) handle }
 {
-    match halls::move_to(alloc, place, number, other) {
+    match move_to(alloc, store, handle, other) {
         Ok(made) => {
-            *other_number = made;
+            *other_handle = made;
             OK
         }
         Err(why) => why.code(),
     }
+}
+
+/// The same, and what the new handle is.
+fn move_to(
+    alloc: Global,
+    store: &mut StorePtr,
+    handle: u64,
+    other: &mut StorePtr,
+) -> Result<u64, Refusal>
+    ensures moved { IfOk result
+        (λ m. Moves (slots_of store.old.owned) (slots_of other.old.owned) (slots_of store.new.owned)
+        (slots_of other.new.owned) handle m) }
+    ensures unchanged { OnErr result (slots_of store.new.owned ≡ slots_of store.old.owned) }
+    ensures other_unchanged { OnErr result (slots_of other.new.owned ≡ slots_of other.old.owned) }
+    ensures refused { IfErr result (λ why. RefusesMove why (slots_of store.old.owned) handle) }
+{
+    match store.store_mut() {
+        Some(held) => move_from(alloc, held, handle, other),
+        None => Err(Refusal::Closed),
+    }
+}
+
+/// What a handle names in a store goes to another one.
+fn move_from(
+    alloc: Global,
+    held: &mut Store,
+    handle: u64,
+    other: &mut StorePtr,
+) -> Result<u64, Refusal>
+    ensures moved { IfOk result
+        (λ m. Moves held.old.slots.items (slots_of other.old.owned) held.new.slots.items
+        (slots_of other.new.owned) handle m) }
+    ensures unchanged { OnErr result (held.new.slots.items ≡ held.old.slots.items) }
+    ensures other_unchanged { OnErr result (slots_of other.new.owned ≡ slots_of other.old.owned) }
+    ensures refused { IfErr result (λ why. RefusesMove why held.old.slots.items handle) }
+{
+    let mut to = store_in(alloc, other)?;
+    let moved = held.move_to(handle, &mut to);
+    other.lay(to);
+    moved
 }

@@ -1,15 +1,17 @@
-//! Each call once, with ample memory, and what it answers. `scripts/test-c-library` tests far more of them, from C.
+//! Each call once, with ample memory, and what it answers. `scripts/test-c-library` tests far more
+//! of them, from C.
 
+use crate::cache_calls::{
+    tsc_add, tsc_add_all, tsc_close, tsc_figures_of, tsc_free, tsc_get_max, tsc_low_water, tsc_open,
+};
 use crate::seat_calls::{
     tsc_close_shared, tsc_move, tsc_open_shared, tsc_seat_add, tsc_seat_add_all, tsc_seat_close,
     tsc_seat_figures_of, tsc_seat_get_max, tsc_seat_low_water,
 };
-use crate::{
-    tsc_add, tsc_add_all, tsc_close, tsc_figures_of, tsc_free, tsc_get_max, tsc_low_water, tsc_open,
-};
+use crate::store_ptr::StorePtr;
+use crate::write_calls::{tsc_earliest_write, tsc_seat_earliest_write};
 use std::alloc::Global;
-use tsc_c_calls::Place;
-use tsc_c_table::{TscAdded, TscFigures, TscMark, TscTime, TscValue};
+use tsc_ffi_store::{TscAdded, TscFigures, TscMark, TscSpan, TscTime, TscValue};
 
 const LOW: TscTime = TscTime {
     wall: 5,
@@ -27,7 +29,7 @@ const READ: TscValue = TscValue {
     owner: [0x11; 16],
 };
 
-/// A call, with the numbers, the tries and the key that it takes.
+/// A call, with the handles, the tries and the key that it takes.
 enum Call {
     Open,
     Add(u64),
@@ -42,24 +44,26 @@ enum Call {
     SeatAdd(u64, u32),
     SeatAddAll(u64),
     SeatGetMax(u64, &'static [u8]),
+    Earliest(u64),
+    SeatEarliest(u64),
     SeatLowWater(u64),
     SeatFigures(u64),
     SeatClose(u64),
     CloseShared(u64),
 }
 
-/// The code, and what the call tells in the order in which it tells it, with zeros behind. A call that is refused tells the nines, or the
-/// value, that stood there.
+/// The code, and what the call tells in the order in which it tells it, with zeros behind. A call
+/// that is refused tells the nines, or the value, that stood there.
 type Told = (u32, u64, u64, u64, u64, u64);
 
-/// Whether the call is made in the second place, the call, and what is told.
+/// Whether the call is made in the second store, the call, and what is told.
 type Row = (bool, Call, Told);
 
-/// The number of the cache.
-fn open(alloc: Global, place: &mut Place) -> Told {
-    let mut number = 9;
-    let code = tsc_open(alloc, place, 132, 1024, 2, 10, &LOW, &mut number);
-    (code, number, 0, 0, 0, 0)
+/// The handle of the cache.
+fn open(alloc: Global, store: &mut StorePtr) -> Told {
+    let mut handle = 9;
+    let code = tsc_open(alloc, store, 132, 1024, 2, 10, &LOW, &mut handle);
+    (code, handle, 0, 0, 0, 0)
 }
 
 fn nothing_done() -> TscAdded {
@@ -80,17 +84,18 @@ const MARKS: [TscMark; 1] = [TscMark {
     ends: 8,
 }];
 
-/// Whether an Add of the keys from `a` to before `c` was kept, whether pages rotated, and how many were dropped.
-fn add(alloc: Global, place: &mut Place, number: u64) -> Told {
+/// Whether an Add of the keys from `a` to before `c` was kept, whether pages rotated, and how many
+/// were dropped.
+fn add(alloc: Global, store: &mut StorePtr, handle: u64) -> Told {
     let mut added = nothing_done();
-    let code = tsc_add(alloc, place, number, b"a", b"c", 2, &READ, &NOW, &mut added);
+    let code = tsc_add(alloc, store, handle, b"a", b"c", 2, &READ, &NOW, &mut added);
     told_of(code, 0, &added)
 }
 
 /// The same of `d` alone, as one mark of several.
-fn add_all(alloc: Global, place: &mut Place, number: u64) -> Told {
+fn add_all(alloc: Global, store: &mut StorePtr, handle: u64) -> Told {
     let mut added = nothing_done();
-    let code = tsc_add_all(alloc, place, number, b"xd", &MARKS, &NOW, &mut added);
+    let code = tsc_add_all(alloc, store, handle, b"xd", &MARKS, &NOW, &mut added);
     told_of(code, 0, &added)
 }
 
@@ -106,10 +111,54 @@ fn told_of(code: u32, at: u64, added: &TscAdded) -> Told {
     )
 }
 
+/// The keys from `a` to before `c`, and `d` alone.
+const SPANS: [TscSpan; 2] = [
+    TscSpan {
+        from_at: 0,
+        from_len: 1,
+        to_at: 1,
+        to_len: 1,
+        ends: 2,
+    },
+    TscSpan {
+        from_at: 2,
+        from_len: 1,
+        to_at: 0,
+        to_len: 0,
+        ends: 8,
+    },
+];
+
+/// A write by somebody else than the reader.
+const WRITE: TscValue = TscValue {
+    wall: 6,
+    logical: 7,
+    owner: [0x22; 16],
+};
+
+/// The earliest time of a write.
+fn earliest(store: &mut StorePtr, handle: u64) -> Told {
+    let mut time = NINES;
+    let code = tsc_earliest_write(store, handle, b"acd", &SPANS, &WRITE, &mut time);
+    (code, time.wall, u64::from(time.logical), 0, 0, 0)
+}
+
+/// The same at a seat, and how many Adds that has seen.
+fn seat_earliest(store: &mut StorePtr, handle: u64) -> Told {
+    let (mut seen, mut time) = (9, NINES);
+    let code = tsc_seat_earliest_write(store, handle, b"acd", &SPANS, &WRITE, &mut seen, &mut time);
+    (code, time.wall, u64::from(time.logical), seen, 0, 0)
+}
+
+const NINES: TscTime = TscTime {
+    wall: 9,
+    logical: 9,
+};
+
 /// The time, and the first byte of the owner.
-fn get_max(place: &mut Place, number: u64, key: &[u8]) -> Told {
+fn get_max(store: &mut StorePtr, handle: u64, key: &[u8]) -> Told {
     let mut found = READ;
-    let code = tsc_get_max(place, number, key, b"", 8, &mut found);
+    let code = tsc_get_max(store, handle, key, b"", 8, &mut found);
     told_value(code, 0, &found)
 }
 
@@ -126,9 +175,9 @@ fn told_value(code: u32, seen: u64, found: &TscValue) -> Told {
 }
 
 /// Where the floor stands.
-fn low_water(place: &mut Place, number: u64) -> Told {
+fn low_water(store: &mut StorePtr, handle: u64) -> Told {
     let mut floor = NOW;
-    let code = tsc_low_water(place, number, &mut floor);
+    let code = tsc_low_water(store, handle, &mut floor);
     (code, floor.wall, u64::from(floor.logical), 0, 0, 0)
 }
 
@@ -142,60 +191,60 @@ fn nothing_counted() -> TscFigures {
 }
 
 /// The pages, the rotations, the nodes and the bytes.
-fn figures(place: &mut Place, number: u64) -> Told {
+fn figures(store: &mut StorePtr, handle: u64) -> Told {
     let mut told = nothing_counted();
-    let code = tsc_figures_of(place, number, &mut told);
+    let code = tsc_figures_of(store, handle, &mut told);
     (code, told.pages, told.rotations, told.nodes, told.bytes, 0)
 }
 
-/// The number of a shared cache of so many seats, whose history may have two Adds.
-fn open_shared(alloc: Global, place: &mut Place, seats: u32) -> Told {
-    let mut number = 9;
-    let code = tsc_open_shared(alloc, place, 132, 1024, 2, 10, &LOW, seats, 2, &mut number);
-    (code, number, 0, 0, 0, 0)
+/// The handle of a shared cache of so many seats, whose history may have two Adds.
+fn open_shared(alloc: Global, store: &mut StorePtr, seats: u32) -> Told {
+    let mut handle = 9;
+    let code = tsc_open_shared(alloc, store, 132, 1024, 2, 10, &LOW, seats, 2, &mut handle);
+    (code, handle, 0, 0, 0, 0)
 }
 
 /// What an Add at a seat of the keys from `a` to before `c` did, and its place in the history.
-fn seat_add(alloc: Global, place: &mut Place, seat: u64, tries: u32) -> Told {
+fn seat_add(alloc: Global, store: &mut StorePtr, seat: u64, tries: u32) -> Told {
     let mut at = 9;
     let mut added = nothing_done();
     let code = tsc_seat_add(
-        alloc, place, seat, b"a", b"c", 2, &READ, &NOW, tries, &mut at, &mut added,
+        alloc, store, seat, b"a", b"c", 2, &READ, &NOW, tries, &mut at, &mut added,
     );
     told_of(code, at, &added)
 }
 
 /// The same of `d` alone, as one mark of several.
-fn seat_add_all(alloc: Global, place: &mut Place, seat: u64) -> Told {
+fn seat_add_all(alloc: Global, store: &mut StorePtr, seat: u64) -> Told {
     let mut at = 9;
     let mut added = nothing_done();
     let code = tsc_seat_add_all(
-        alloc, place, seat, b"xd", &MARKS, &NOW, 1, &mut at, &mut added,
+        alloc, store, seat, b"xd", &MARKS, &NOW, 1, &mut at, &mut added,
     );
     told_of(code, at, &added)
 }
 
 /// The time, the first byte of the owner, and how many Adds the seat has seen then.
-fn seat_get_max(place: &mut Place, seat: u64, key: &[u8]) -> Told {
+fn seat_get_max(store: &mut StorePtr, seat: u64, key: &[u8]) -> Told {
     let mut seen = 9;
     let mut found = READ;
-    let code = tsc_seat_get_max(place, seat, key, b"", 8, &mut seen, &mut found);
+    let code = tsc_seat_get_max(store, seat, key, b"", 8, &mut seen, &mut found);
     told_value(code, seen, &found)
 }
 
 /// Where the floor stands, and how many Adds the seat has seen then.
-fn seat_low_water(place: &mut Place, seat: u64) -> Told {
+fn seat_low_water(store: &mut StorePtr, seat: u64) -> Told {
     let mut seen = 9;
     let mut floor = NOW;
-    let code = tsc_seat_low_water(place, seat, &mut seen, &mut floor);
+    let code = tsc_seat_low_water(store, seat, &mut seen, &mut floor);
     (code, floor.wall, u64::from(floor.logical), seen, 0, 0)
 }
 
 /// The pages, the rotations, the nodes and the bytes, and how many Adds the seat has seen then.
-fn seat_figures(place: &mut Place, seat: u64) -> Told {
+fn seat_figures(store: &mut StorePtr, seat: u64) -> Told {
     let mut seen = 9;
     let mut told = nothing_counted();
-    let code = tsc_seat_figures_of(place, seat, &mut seen, &mut told);
+    let code = tsc_seat_figures_of(store, seat, &mut seen, &mut told);
     (
         code,
         told.pages,
@@ -207,51 +256,53 @@ fn seat_figures(place: &mut Place, seat: u64) -> Told {
 }
 
 /// How many Adds there were.
-fn close_shared(place: &mut Place, number: u64) -> Told {
+fn close_shared(store: &mut StorePtr, handle: u64) -> Told {
     let mut length = 9;
-    let code = tsc_close_shared(place, number, &mut length);
+    let code = tsc_close_shared(store, handle, &mut length);
     (code, length, 0, 0, 0, 0)
 }
 
-/// The number in the other place.
-fn moved(alloc: Global, place: &mut Place, number: u64, other: &mut Place) -> Told {
+/// The handle in the other store.
+fn moved(alloc: Global, store: &mut StorePtr, handle: u64, other: &mut StorePtr) -> Told {
     let mut there = 9;
-    let code = tsc_move(alloc, place, number, other, &mut there);
+    let code = tsc_move(alloc, store, handle, other, &mut there);
     (code, there, 0, 0, 0, 0)
 }
 
-fn freed(alloc: Global, place: &mut Place) -> Told {
-    tsc_free(alloc, place);
+fn freed(alloc: Global, store: &mut StorePtr) -> Told {
+    tsc_free(alloc, store);
     (0, 0, 0, 0, 0, 0)
 }
 
-/// Makes a call in a place, beside another place.
-fn make(alloc: Global, place: &mut Place, other: &mut Place, call: &Call) -> Told {
+/// Makes a call in a store, beside another store.
+fn make(alloc: Global, store: &mut StorePtr, other: &mut StorePtr, call: &Call) -> Told {
     match call {
-        Call::Open => open(alloc, place),
-        Call::Add(number) => add(alloc, place, *number),
-        Call::AddAll(number) => add_all(alloc, place, *number),
-        Call::GetMax(number, key) => get_max(place, *number, key),
-        Call::LowWater(number) => low_water(place, *number),
-        Call::Figures(number) => figures(place, *number),
-        Call::Close(number) => (tsc_close(place, *number), 0, 0, 0, 0, 0),
-        Call::Free => freed(alloc, place),
-        Call::OpenShared(seats) => open_shared(alloc, place, *seats),
-        Call::Move(number) => moved(alloc, place, *number, other),
-        Call::SeatAdd(seat, tries) => seat_add(alloc, place, *seat, *tries),
-        Call::SeatAddAll(seat) => seat_add_all(alloc, place, *seat),
-        Call::SeatGetMax(seat, key) => seat_get_max(place, *seat, key),
-        Call::SeatLowWater(seat) => seat_low_water(place, *seat),
-        Call::SeatFigures(seat) => seat_figures(place, *seat),
-        Call::SeatClose(seat) => (tsc_seat_close(place, *seat), 0, 0, 0, 0, 0),
-        Call::CloseShared(number) => close_shared(place, *number),
+        Call::Open => open(alloc, store),
+        Call::Add(handle) => add(alloc, store, *handle),
+        Call::AddAll(handle) => add_all(alloc, store, *handle),
+        Call::GetMax(handle, key) => get_max(store, *handle, key),
+        Call::Earliest(handle) => earliest(store, *handle),
+        Call::LowWater(handle) => low_water(store, *handle),
+        Call::Figures(handle) => figures(store, *handle),
+        Call::Close(handle) => (tsc_close(store, *handle), 0, 0, 0, 0, 0),
+        Call::Free => freed(alloc, store),
+        Call::OpenShared(seats) => open_shared(alloc, store, *seats),
+        Call::Move(handle) => moved(alloc, store, *handle, other),
+        Call::SeatAdd(seat, tries) => seat_add(alloc, store, *seat, *tries),
+        Call::SeatAddAll(seat) => seat_add_all(alloc, store, *seat),
+        Call::SeatGetMax(seat, key) => seat_get_max(store, *seat, key),
+        Call::SeatEarliest(seat) => seat_earliest(store, *seat),
+        Call::SeatLowWater(seat) => seat_low_water(store, *seat),
+        Call::SeatFigures(seat) => seat_figures(store, *seat),
+        Call::SeatClose(seat) => (tsc_seat_close(store, *seat), 0, 0, 0, 0, 0),
+        Call::CloseShared(handle) => close_shared(store, *handle),
     }
 }
 
-/// The number of the first call, from 0, that tells something else.
+/// The handle of the first call, from 0, that tells something else.
 fn first_wrong(alloc: Global, rows: &[Row]) -> Option<usize> {
-    let mut first = Place::empty();
-    let mut second = Place::empty();
+    let mut first = StorePtr::empty();
+    let mut second = StorePtr::empty();
     for (i, (is_second, call, wanted)) in rows.iter().enumerate() {
         let told = if *is_second {
             make(alloc, &mut second, &mut first, call)
@@ -265,7 +316,7 @@ fn first_wrong(alloc: Global, rows: &[Row]) -> Option<usize> {
     None
 }
 
-static CALLS: [Row; 17] = [
+static CALLS: [Row; 20] = [
     (false, Call::Open, (0, 0, 0, 0, 0, 0)),
     (false, Call::Open, (0, 1, 0, 0, 0, 0)),
     (false, Call::Add(1), (0, 1, 0, 0, 0, 0)),
@@ -274,6 +325,9 @@ static CALLS: [Row; 17] = [
     (false, Call::GetMax(1, b"c"), (0, 5, 0, 0, 0, 0)),
     (false, Call::GetMax(1, b"d"), (0, 20, 1, 0x11, 0, 0)),
     (false, Call::GetMax(0, b"d"), (0, 5, 0, 0, 0, 0)),
+    (false, Call::Earliest(1), (0, 20, 2, 0, 0, 0)),
+    (false, Call::Earliest(0), (0, 6, 7, 0, 0, 0)),
+    (false, Call::Earliest(2), (1, 9, 9, 0, 0, 0)),
     (false, Call::LowWater(1), (0, 5, 0, 0, 0, 0)),
     (false, Call::Figures(0), (0, 1, 0, 0, 0, 0)),
     (false, Call::Figures(1), (0, 1, 0, 3, 99, 0)),
@@ -290,7 +344,7 @@ fn each_call_answers(rt: HostRuntime) {
     assert_eq!(rt; first_wrong(rt.alloc(), &CALLS), None);
 }
 
-static SHARED_CALLS: [Row; 21] = [
+static SHARED_CALLS: [Row; 23] = [
     (false, Call::OpenShared(65), (12, 9, 0, 0, 0, 0)),
     (false, Call::OpenShared(2), (0, 0, 0, 0, 0, 0)),
     (false, Call::Move(2), (0, 0, 0, 0, 0, 0)),
@@ -301,6 +355,8 @@ static SHARED_CALLS: [Row; 21] = [
     (true, Call::SeatAddAll(0), (0, 1, 0, 0, 1, 0)),
     (false, Call::SeatAdd(1, 1), (15, 0, 1, 9, 9, 0)),
     (false, Call::SeatGetMax(1, b"d"), (0, 20, 1, 0x11, 2, 0)),
+    (false, Call::SeatEarliest(1), (0, 20, 2, 2, 0, 0)),
+    (false, Call::SeatEarliest(0), (1, 9, 9, 9, 0, 0)),
     (false, Call::SeatLowWater(1), (0, 5, 0, 2, 0, 0)),
     (false, Call::SeatFigures(1), (0, 1, 0, 3, 99, 2)),
     (false, Call::SeatFigures(0), (1, 9, 9, 9, 9, 9)),

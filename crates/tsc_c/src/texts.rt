@@ -1,26 +1,30 @@
 //! The calls from bytes to texts: replays of traces, and checks of logs.
 
 ghost use Rattle.std.specs.Prelude.{◌≡◌, ◌≢◌};
-ghost use Rattle.tsc_c_texts.specs.Texts.{SaysOfReplay, SaysOfCheck};
-ghost use Rattle.tsc_c_texts.specs.declared.outcome.Outcome.{Outcome as Said};
-ghost use Rattle.tsc_c_table.specs.Codes.{code_of};
-ghost use Rattle.tsc_c_calls.specs.Texts.{text_of, told_of, Puts};
-ghost use Rattle.tsc_c_table.specs.declared.refusal.Refusal.TheVariants.{NoMemory};
+ghost use Rattle.tsc_check.specs.Bytes.{SaysOfReplay, SaysOfCheck};
+ghost use Rattle.tsc_check.specs.declared.bytes.Outcome.{Outcome as Said};
+ghost use Rattle.tsc_ffi_store.specs.Codes.{code_of};
+ghost use Rattle.tsc_ffi_store.specs.Puts.{Puts};
+ghost use Rattle.tsc_c.specs.Texts.{text_of, told_of};
+ghost use Rattle.tsc_ffi_store.specs.declared.refusal.Refusal.TheVariants.{NoMemory};
 
+use crate::buffer::tell;
 use std::alloc::Global;
-use tsc_c_calls::tell;
-use tsc_c_texts::{check_bytes, replay_bytes};
+use tsc_check::{check_bytes, replay_bytes};
 
-/// Replays a trace on one thread, and puts the text of its log into a buffer, or why the bytes are no trace.
+/// Replays a trace on one thread, and puts the text of its log into a buffer, or why the bytes are
+/// no trace.
 #[unsafe(no_mangle)]
 pub extern "C" fn tsc_replay(alloc: Global, trace: &[u8], out: &mut [u8], len: &mut usize) -> u32
-    ensures said { result ≢ code_of NoMemory → (said : Said) × SaysOfReplay trace.now said × Puts (told_of said) (text_of said) result out.old out.new len.new }
+    ensures said { result ≢ code_of NoMemory → (said : Said) × SaysOfReplay trace.now said
+        × Puts (told_of said) (text_of said) result out.old out.new len.new }
     ensures unchanged { result ≡ code_of NoMemory → (out.new ≡ out.old) × (len.new ≡ len.old) }
 {
     tell(replay_bytes(alloc, trace), out, len)
 }
 
-/// Checks a log against its trace, and puts the line of the verdict into a buffer, or why the bytes are no trace, or no log.
+/// Checks a log against its trace, and puts the line of the verdict into a buffer, or why the bytes
+/// are no trace, or no log.
 #[unsafe(no_mangle)]
 pub extern "C" fn tsc_check(
     alloc: Global,
@@ -29,7 +33,8 @@ pub extern "C" fn tsc_check(
     out: &mut [u8],
     len: &mut usize,
 ) -> u32
-    ensures said { result ≢ code_of NoMemory → (said : Said) × SaysOfCheck trace.now log.now said × Puts (told_of said) (text_of said) result out.old out.new len.new }
+    ensures said { result ≢ code_of NoMemory → (said : Said) × SaysOfCheck trace.now log.now said
+        × Puts (told_of said) (text_of said) result out.old out.new len.new }
     ensures unchanged { result ≡ code_of NoMemory → (out.new ≡ out.old) × (len.new ≡ len.old) }
 {
     tell(check_bytes(alloc, trace, log), out, len)

@@ -9,6 +9,7 @@ pub mod KeptMarks
 pub mod Beginnings
 pub mod Histories
 pub mod StatesSeen
+pub mod WithoutRotation
 pub mod Batches
 pub mod Droppings
 pub mod Crossing
@@ -21,3 +22,4 @@ pub mod BatchExamples
 pub mod KeysTold
 pub mod CountsTold
 pub mod CountExamples
+pub mod FullChunks

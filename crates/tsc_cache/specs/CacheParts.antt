@@ -1,8 +1,8 @@
 -- What can be seen of the parts of a cache.
-use Rattle.std.specs.Prelude.{List, ◌∷◌, map}
+use Rattle.std.specs.Prelude.{List, ◌∷◌}
 use Rattle.std.specs.Arc.{arc_value}
 use Rattle.tsc_page_base.specs.PageView.{PageView}
-use Rattle.tsc_cache.specs.declared.pages.Pages.{Pages}
+use Rattle.tsc_cache.specs.declared.older.Pages.{Pages}
 use Rattle.tsc_cache.specs.declared.plain_pages.PlainPages.{PlainPages}
 
 -- what can be seen of the newest page
@@ -11,7 +11,7 @@ front_of p = arc_value p.front
 
 -- and of the others
 abbrev pub older_of : Pages → List PageView
-older_of p = map (λ a. arc_value a) p.older.items
+older_of p = p.older
 
 -- and of all, from newest to oldest
 abbrev pub pages_of : Pages → List PageView

@@ -1,5 +1,5 @@
 -- What can be seen of a cache, which state it stands for, and what an Add makes of it.
-use Rattle.std.specs.Prelude.{◌≡◌, ℕ, List, [], ◌∷◌, ◌++◌, map, length, Bool, true, false}
+use Rattle.std.specs.Prelude.{◌≡◌, ℕ, List, [], ◌∷◌, ◌++◌, map, length, Bool, true, false, ◌&&◌, not, Option, Some, None}
 use Rattle.tsc_time.specs.Time.{Time, zero_time, later}
 use Rattle.tsc_time.specs.OwnedTime.{OwnedTime}
 use Rattle.tsc_time.specs.Joint.{joint_above}
@@ -106,6 +106,15 @@ pub record Adds (old new : CacheView) (m : Mark) (now : Time) (added : Added) : 
       → MarksFront old.pages new.pages m × (new.floor ≡ old.floor) × (new.rotations ≡ old.rotations) × (added ≡ kept_without_rotation)
   pub rotated : is_kept old.floor m ≡ true → front_has_room_for old.pages m.span ≡ false
       → RotatesWith old new m now added.evicted × (added ≡ kept_after_rotation added.evicted)
+
+-- whether an Add of a mark would rotate the pages: it is kept, and the front page has no room for it
+abbrev pub would_rotate : CacheView → Mark → Bool
+would_rotate v m = is_kept v.floor m && not (front_has_room_for v.pages m.span)
+
+-- What an Add that never rotates makes of all that can be seen of a cache: where the pages would rotate nothing changes, and else what any Add makes, whatever the moment.
+abbrev pub AddsWithoutRotation : CacheView → CacheView → Mark → Option Added → Type 0
+AddsWithoutRotation old new m None = (would_rotate old m ≡ true) × (new ≡ old)
+AddsWithoutRotation old new m (Some added) = (would_rotate old m ≡ false) × ((now : Time) → Adds old new m now added)
 
 -- the latest time that some pages answer to a span
 abbrev pub latest_answer : Interval → List PageView → Time

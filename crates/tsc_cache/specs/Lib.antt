@@ -10,5 +10,6 @@ pub mod Stacks
 pub mod CacheParts
 pub mod Laws
 pub mod Keys
+pub mod Chunks
 pub mod Counts
 pub use Rattle.tsc_span.specs.Span

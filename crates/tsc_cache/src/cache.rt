@@ -1,4 +1,4 @@
-ghost use Rattle.std.specs.Prelude.{◌≡◌, ◌↔◌, ◌<◌, ◌+◌, ◌^◌, ◌&&◌, not, option_map, length, true, false, IsOk, IfOk, IfErr, IsErrOf, OnOk, OnErr};
+ghost use Rattle.std.specs.Prelude.{◌≡◌, ◌↔◌, ◌<◌, ◌+◌, ◌^◌, option_map, length, true, false, IsOk, IfOk, IfErr, IfSome, IsErrOf, OnOk, OnErr};
 ghost use Rattle.tsc_time.specs.Time.{Time};
 ghost use Rattle.tsc_span.specs.LookupSpan.{span_for_lookup};
 ghost use Rattle.tsc_span.specs.Cuts.{cut_of};
@@ -7,14 +7,14 @@ ghost use Rattle.tsc_cache.specs.Settings.{Settings, fits};
 ghost use Rattle.tsc_cache.specs.State.{CacheState, step, look, is_kept};
 ghost use Rattle.tsc_cache.specs.Lookup.{LooksIntoPages};
 ghost use Rattle.tsc_cache.specs.Keys.{keys_on, keys_seen};
-ghost use Rattle.tsc_cache.specs.CacheView.{StandsForState, StandsAfter, StandsAfterAll, TellsAdded, TellsAddedAll, Adds, front_has_room_for, cache_answer, LooksIntoViews};
+ghost use Rattle.tsc_cache.specs.CacheView.{StandsForState, StandsAfter, StandsAfterAll, TellsAdded, TellsAddedAll, Adds, AddsWithoutRotation, would_rotate, cache_answer, LooksIntoViews};
 ghost use Rattle.tsc_cache.specs.Counts.{figures_of, figures_seen};
 ghost use Rattle.tsc_cache.specs.Batch.{all_fit, is_any_kept, AddsAll, AddsSome, LeavesSome};
 
 use crate::config::counted_on;
 use crate::mark::is_any_kept;
+use crate::older::Pages;
 use crate::page_stack::PageStack;
-use crate::pages::Pages;
 use crate::rotate::Rotate;
 use crate::{Added, CacheFault, Config, Figures, Mark, TimestampCache};
 use std::alloc::Global;
@@ -110,11 +110,8 @@ impl Rotate for Cache {
         value: Value,
         now: Timestamp,
     ) -> Result<Added, NoMemory> {
-        if !self.keeps(span, value) {
-            return Ok(Added::nothing());
-        }
-        if self.pages.mark_front(span, value)? {
-            return Ok(Added::without_rotation());
+        if let Some(added) = self.add_without_rotation(span, value)? {
+            return Ok(added);
         }
         self.rotate(span, value, now)
     }
@@ -144,10 +141,36 @@ impl Cache {
         self.config.fits(span)
     }
 
+    /// Adds a span with its value where that needs no rotation of the pages, at whatever moment. The answer is `None` just where
+    /// [`would_rotate`](Cache::would_rotate) says so of them, as it does of a span that is too large, and the cache stays as it is then.
+    /// It stays so too where memory is refused.
+    ///
+    /// It searches the front page once, whether there is room or not. An Add that is not kept takes no memory.
+    pub fn add_without_rotation(
+        &mut self,
+        span: &Span,
+        value: Value,
+    ) -> Result<Option<Added>, NoMemory>
+        ensures seen { IfOk result (AddsWithoutRotation self.old self.new (record { span = span.now; value = value })) }
+        ensures stands { IfOk result (λ made. IfSome made (λ added. (now : Time) → StandsAfter self.old self.new (record { span = span.now; value = value }) now)) }
+        ensures added { IfOk result (λ made. IfSome made (λ added. (now : Time) → TellsAdded self.old (record { span = span.now; value = value }) now added)) }
+        ensures unchanged { OnErr result (self.new ≡ self.old) }
+        ensures memory { is_kept self.old.floor (record { span = span.now; value = value }) ≡ false → IsOk result }
+    {
+        if !self.keeps(span, value) {
+            return Ok(Some(Added::nothing()));
+        }
+        if self.pages.mark_front(span, value)? {
+            return Ok(Some(Added::without_rotation()));
+        }
+        Ok(None)
+    }
+
     /// The cache after an Add, beside this one, which stays as it is. The two share the pages that
     /// the Add leaves as they are.
     ///
-    /// It costs a step for each page, and a copy of the front page where the Add goes there.
+    /// It costs a step for each of the newest pages, 256 at the most, and a copy of the front page where the Add goes
+    /// there. A rotation that drops pages of many costs as many steps again, and one for each 256 pages.
     pub fn next(
         &self,
         span: &Span,
@@ -195,7 +218,8 @@ impl Cache {
     /// The cache after all of these marks, one after another at the moment `now`, beside this one, which stays as it
     /// is. The two share the pages that the marks leave as they are.
     ///
-    /// It costs a step for each page, a copy of the list at the top of the front page, and for each mark an Add in place. Before it, each list on
+    /// It costs a step for each of the newest pages, 256 at the most, a copy of the list at the top of the front page, and for each mark an
+    /// Add in place. Before it, each list on
     /// the way to a mark's leaf and that leaf are copied where this cache shares them, which is once for all marks. A mark for which a leaf is cut, or
     /// whose span reaches over several leaves that are shared, copies the list at the top once more.
     pub fn next_all(&self, marks: &[Mark], now: Timestamp) -> Result<(Cache, Added), CacheFault>
@@ -269,7 +293,7 @@ impl Cache {
     /// Whether an Add of this span and value would rotate the pages, at whatever moment. It costs a search for each end key
     /// where the front page is nearly full.
     pub fn would_rotate(&self, span: &Span, value: Value) -> bool
-        ensures value { result ≡ (is_kept self.now.floor (record { span = span.now; value = value }) && not (front_has_room_for self.now.pages span.now)) }
+        ensures value { result ≡ would_rotate self.now (record { span = span.now; value = value }) }
         ensures stands { (settings : Settings) (s : CacheState) (now : Time) → StandsForState self.now settings s
             → result ≡ (step settings s (record { span = span.now; value = value }) now).added.rotated }
     {

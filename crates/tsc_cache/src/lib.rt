@@ -24,6 +24,7 @@ mod figures;
 mod history;
 pub mod laws;
 mod mark;
+mod older;
 mod page_stack;
 mod pages;
 mod plain;

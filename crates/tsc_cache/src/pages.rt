@@ -10,23 +10,14 @@ ghost use Rattle.tsc_cache.specs.CacheParts.{front_of, older_of, pages_of};
 ghost use Rattle.tsc_cache.specs.Keys.{keys_seen, lesser};
 ghost use Rattle.tsc_cache.specs.Counts.{figures_with};
 
+use crate::older::{OlderPages, Pages};
 use crate::page_stack::PageStack;
 use crate::{Config, Figures};
 use std::alloc::Global;
-use std::collections::VecDeque;
-use std::mem;
 use std::sync::Arc;
 use tsc_page::{IntervalPage, Page};
 use tsc_span::{Cut, Key, Span, SpanRef};
 use tsc_time::{NoMemory, Timestamp, Value, ratchet};
-
-/// The pages of a cache. A page that other caches hold too is never changed.
-#[derive(Debug, Drop)]
-pub(crate) struct Pages {
-    front: Arc<Page>,
-    /// From the newest to the oldest.
-    older: VecDeque<Arc<Page>>,
-}
 
 impl PageStack<Page> for Pages {
     ghost newest = { front_of };
@@ -34,7 +25,7 @@ impl PageStack<Page> for Pages {
     ghost others = { older_of };
 
     fn alloc(&self) -> Global {
-        *self.older.allocator()
+        self.older.alloc()
     }
 
     fn len(&self) -> usize {
@@ -47,9 +38,8 @@ impl PageStack<Page> for Pages {
 
     fn push_front(&mut self, front: Page) -> Result<(), NoMemory> {
         let front = Arc::new(self.alloc(), front)?;
-        self.older.reserve(1)?;
-        let former = mem::replace(&mut self.front, front);
-        self.older.push_front(former).ok();
+        self.older.push_front(Arc::try_clone(&self.front)?)?;
+        self.front = front;
         Ok(())
     }
 
@@ -63,14 +53,14 @@ impl PageStack<Page> for Pages {
     }
 
     fn evict(&mut self, config: &Config, floor: Timestamp, now: Timestamp) -> (Timestamp, u64) {
+        let before = self.older.len();
         let mut floor = floor;
-        let mut evicted = 0;
         while let Some(top) = self.expired_top(config, now) {
             self.older.pop_back();
             floor = floor.max(top);
-            evicted += 1;
         }
-        (floor, evicted)
+        self.older.trim();
+        (floor, (before - self.older.len()) as u64)
     }
 }
 
@@ -81,7 +71,7 @@ impl Pages {
     {
         Ok(Pages {
             front: Arc::new(alloc, front)?,
-            older: VecDeque::new(alloc),
+            older: OlderPages::new(alloc)?,
         })
     }
 
@@ -89,13 +79,9 @@ impl Pages {
     pub(crate) fn share(&self) -> Result<Pages, NoMemory>
         ensures { IfOk result (λ same. pages_of same ≡ pages_of self.now) }
     {
-        let mut older = VecDeque::with_capacity(self.alloc(), self.older.len())?;
-        for page in &self.older {
-            older.push_back(Arc::try_clone(page)?)?;
-        }
         Ok(Pages {
             front: Arc::try_clone(&self.front)?,
-            older,
+            older: self.older.share()?,
         })
     }
 
@@ -135,7 +121,8 @@ impl Pages {
     {
         let mut best = self.front.lookup_in(span);
         let mut looked = 1;
-        for page in &self.older {
+        for at in 0..self.older.len() {
+            let page = self.older.get(at);
             if is_passed(page, best) {
                 return (best, looked);
             }
@@ -150,7 +137,8 @@ impl Pages {
         ensures { IsLeastAbove (cut_of cut.entry) (keys_seen (pages_of self.now)) (option_map (λ k. k.now) result) }
     {
         let mut least = self.front.key_above(cut);
-        for page in &self.older {
+        for at in 0..self.older.len() {
+            let page = self.older.get(at);
             least = lesser(least, page.key_above(cut));
         }
         least
@@ -161,7 +149,8 @@ impl Pages {
         ensures { result ≡ figures_with floor rotations (pages_of self.now) }
     {
         let mut figures = Figures::of_pages(self.len() as u64, floor, rotations).with(&self.front);
-        for page in &self.older {
+        for at in 0..self.older.len() {
+            let page = self.older.get(at);
             figures = figures.with(page);
         }
         figures

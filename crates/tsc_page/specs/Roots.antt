@@ -1,8 +1,9 @@
 -- What the root of a page's tree and the tree stand for, and when they are as they have to be.
-use Rattle.std.specs.Prelude.{◌≡◌, List, length, map, ℕ, ◌≤◌}
+use Rattle.std.specs.Prelude.{◌≡◌, List, ◌++◌, length, map, ℕ, ◌≤◌, true, Option, option_to_list}
 use Rattle.std.specs.List.{All}
+use Rattle.tsc_span.specs.Span.{KeyBytes, Cut, between, is_below, end_keys}
 use Rattle.tsc_page_base.specs.Nodes.{Node, IsSorted, nodes_cost}
-use Rattle.tsc_page_tree.specs.Leaves.{nodes_of}
+use Rattle.tsc_page_tree.specs.Leaves.{nodes_of, LiesAt}
 use Rattle.tsc_page_tree.specs.Pending.{sizes_of, AreSizesOf}
 use Rattle.tsc_page_tree.specs.Trees.{leaf_nodes, leaf_sizes, IsWholeLeaf, fork_nodes, fork_sizes, IsWholeFork, AreFewParts}
 use Rattle.tsc_page_tree.specs.declared.leaf.Leaf.{Leaf}
@@ -77,3 +78,10 @@ pub record IsCounted (t : Tree) : Type 0 where
   pub sizes : AreSizesOf (tree_sizes t) (tree_nodes t)
   pub count : t.count ≡ length (tree_nodes t)
   pub bytes : t.bytes ≡ nodes_cost (tree_nodes t)
+
+-- Two cuts, and the keys at them for which the span between these needs nodes.
+pub record AreEnds (lower upper : Option KeyBytes) (from to : Cut) : Type 0 where
+  pub order : is_below from to ≡ true
+  pub first : LiesAt lower from
+  pub second : LiesAt upper to
+  pub keys : option_to_list lower ++ option_to_list upper ≡ end_keys (between from to)

@@ -10,9 +10,10 @@ ghost use Rattle.tsc_page_base.specs.KeysAbove.{first_above};
 ghost use Rattle.tsc_page_base.specs.Nodes.{node_keys, answer_of, raise_nodes};
 ghost use Rattle.tsc_page_tree.specs.Leaves.{AreParts, nodes_of};
 ghost use Rattle.tsc_page_tree.specs.Pending.{sizes_of, TellsSize, IsAddTold};
+ghost use Rattle.tsc_page_tree.specs.KeyAdds.{IsKeyAddTold};
 ghost use Rattle.tsc_page_tree.specs.Trees.{fork_nodes, fork_sizes, IsWholeFork};
 
-use tsc_page_base::{Grown, NumberedCut};
+use tsc_page_base::{Grown, KeyAddition, NumberedCut};
 use tsc_page_tree::fork::Fork;
 use tsc_page_tree::parts::Part;
 use tsc_page_tree::{Addition, parts};
@@ -90,4 +91,19 @@ pub(crate) fn add_within<P: Part>(
     ensures len { length forks.new ≡ length forks.old }
 {
     parts::add_within(forks, add, room)
+}
+
+/// Adds at a single key in place, as [`Part::add_key`] tells.
+#[inline]
+pub(crate) fn add_key<P: Part>(
+    forks: &mut [Fork<P>],
+    add: &KeyAddition<'_>,
+    room: u32,
+) -> Result<Option<Grown>, NoMemory>
+    requires parts { AreParts (fork_nodes P.nodes) (IsWholeFork P.nodes P.sizes P.IsWhole) forks.old }
+    ensures told { IsKeyAddTold (nodes_of (map (fork_nodes P.nodes) forks.old)) (nodes_of (map (fork_nodes P.nodes) forks.new)) (sizes_of (map (fork_sizes P.sizes) forks.old)) (sizes_of (map (fork_sizes P.sizes) forks.new)) add.now room result }
+    ensures whole { All (IsWholeFork P.nodes P.sizes P.IsWhole) forks.new }
+    ensures len { length forks.new ≡ length forks.old }
+{
+    parts::add_key(forks, add, room)
 }

@@ -75,7 +75,8 @@ impl IntervalPage for Page {
     /// one, and a step for each node within the span in the leaves in which it starts and stops, and for each part between
     /// these. Each list on the way and the leaf are copied first where a copy of the page shares them, and so is a leaf's list of
     /// keys that gets a new one. Where none does, a span whose end keys the page holds already takes no memory. What is
-    /// pending on the way is ratcheted into the parts below it. Any other Add copies the list at the top and the way to each
+    /// pending on the way is ratcheted into the parts below it, but for a single key, which needs one search on each level and leaves
+    /// it pending. Any other Add copies the list at the top and the way to each
     /// leaf that it changes; a leaf that comes to have 65 nodes is cut into its first 32 and its last 33, and so is a fork of
     /// 65 parts. Where there may be no room for both end keys, each is searched for once more.
     fn add(&mut self, span: &Span, value: Value) -> Result<(), NoMemory> {

@@ -10,12 +10,13 @@ ghost use Rattle.tsc_page_base.specs.Nodes.{IsSorted, node_in_gap, node_keys, an
 ghost use Rattle.tsc_page_tree.specs.Leaves.{HasNode, nodes_of};
 ghost use Rattle.tsc_page_tree.specs.Pending.{TellsSize, IsAddTold};
 ghost use Rattle.tsc_page_tree.specs.Copies.{IsSameAs};
+ghost use Rattle.tsc_page_tree.specs.KeyAdds.{IsKeyAddTold};
 ghost use Rattle.tsc_page_tree.specs.Trees.{leaf_nodes, leaf_sizes, IsWholeLeaf, level_nodes, IsWholeLevel, AreFewParts};
-ghost use Rattle.tsc_page.specs.Roots.{root_nodes, root_sizes, IsWholeRoot};
+ghost use Rattle.tsc_page.specs.Roots.{root_nodes, root_sizes, IsWholeRoot, AreEnds};
 
 use crate::forks;
 use std::alloc::Global;
-use tsc_page_base::{Grown, Nodes, NumberedCut};
+use tsc_page_base::{Grown, KeyAddition, Nodes, NumberedCut};
 use tsc_page_tree::fork::{self, Fork, Level};
 use tsc_page_tree::{Addition, Leaf, parts};
 use tsc_span::{Cut, Key};
@@ -159,12 +160,64 @@ impl Root {
         }
     }
 
-    /// Adds in place, as [`parts::Part::add_within`] tells.
-    pub(crate) fn add_within(
+    /// Adds in place between two cuts, at which the keys lie: at a single key as [`parts::Part::add_key`] tells, and else as
+    /// [`parts::Part::add_within`].
+    pub(crate) fn add(
         &mut self,
-        add: &Addition<'_>,
+        first: Option<&Key>,
+        second: Option<&Key>,
+        from: Cut<'_>,
+        to: Cut<'_>,
+        value: Value,
         room: u32,
     ) -> Result<Option<Grown>, NoMemory>
+        requires whole { IsWholeRoot self.old }
+        requires sorted { IsSorted (root_nodes self.old) }
+        requires ends { AreEnds (option_map (λ k. k.now) first) (option_map (λ k. k.now) second) (cut_of from) (cut_of to) }
+        ensures told { IsAddTold (root_nodes self.old) (root_nodes self.new) (root_sizes self.old) (root_sizes self.new) (record {
+          first = option_map (λ k. k.now) first.entry;
+          second = option_map (λ k. k.now) second.entry;
+          from = cut_of from.entry;
+          to = cut_of to.entry;
+          value = value;
+        }) room result }
+        ensures whole { IsWholeRoot self.new }
+    {
+        match (first, second, from, to) {
+            (Some(key), None, Cut::Before(_), Cut::After(_)) => {
+                self.add_key(&KeyAddition::new(key, value), room)
+            }
+            _ => {
+                let (from, to) = (&NumberedCut::new(from), &NumberedCut::new(to));
+                let add = Addition {
+                    first,
+                    second,
+                    from,
+                    to,
+                    value,
+                };
+                self.add_within(&add, room)
+            }
+        }
+    }
+
+    /// Adds at a single key in place, as [`parts::Part::add_key`] tells.
+    fn add_key(&mut self, add: &KeyAddition<'_>, room: u32) -> Result<Option<Grown>, NoMemory>
+        requires whole { IsWholeRoot self.old }
+        requires sorted { IsSorted (root_nodes self.old) }
+        ensures told { IsKeyAddTold (root_nodes self.old) (root_nodes self.new) (root_sizes self.old) (root_sizes self.new) add.now room result }
+        ensures whole { IsWholeRoot self.new }
+    {
+        match self {
+            Root::One(parts) => parts::add_key(parts, add, room),
+            Root::Two(parts) => forks::add_key(parts, add, room),
+            Root::Three(parts) => forks::add_key(parts, add, room),
+            Root::Four(parts) => forks::add_key(parts, add, room),
+        }
+    }
+
+    /// Adds in place, as [`parts::Part::add_within`] tells.
+    fn add_within(&mut self, add: &Addition<'_>, room: u32) -> Result<Option<Grown>, NoMemory>
         requires whole { IsWholeRoot self.old }
         requires sorted { IsSorted (root_nodes self.old) }
         ensures told { IsAddTold (root_nodes self.old) (root_nodes self.new) (root_sizes self.old) (root_sizes self.new) add.now room result }

@@ -9,13 +9,12 @@ ghost use Rattle.tsc_page_base.specs.KeysAbove.{first_above};
 ghost use Rattle.tsc_time.specs.Time.{zero_time};
 ghost use Rattle.tsc_time.specs.OwnedTime.{unowned};
 ghost use Rattle.tsc_page_base.specs.Nodes.{IsSplitAt, IsSorted, GrowsBy, node_in_gap, node_keys, answer_of};
-ghost use Rattle.tsc_page_tree.specs.Leaves.{LiesAt, AddsTo};
-ghost use Rattle.tsc_page.specs.Roots.{root_nodes, IsWholeRoot, tree_nodes, tree_sizes, IsCounted};
+ghost use Rattle.tsc_page_tree.specs.Leaves.{AddsTo};
+ghost use Rattle.tsc_page.specs.Roots.{root_nodes, IsWholeRoot, tree_nodes, tree_sizes, IsCounted, AreEnds};
 
 use crate::root::Root;
 use std::alloc::Global;
 use tsc_page_base::{Grown, NumberedCut};
-use tsc_page_tree::Addition;
 use tsc_span::{Cut, Key};
 use tsc_time::{NoMemory, Value};
 
@@ -148,10 +147,7 @@ impl Tree {
         requires counted { IsCounted self.old }
         requires within { self.old.bytes ≤ most }
         requires small { most ≤ most_size }
-        requires order { is_below (cut_of from) (cut_of to) ≡ true }
-        requires first { LiesAt (option_map (λ k. k.now) first) (cut_of from) }
-        requires second { LiesAt (option_map (λ k. k.now) second) (cut_of to) }
-        requires keys { option_to_list (option_map (λ k. k.now) first) ++ option_to_list (option_map (λ k. k.now) second) ≡ end_keys (between (cut_of from) (cut_of to)) }
+        requires ends { AreEnds (option_map (λ k. k.now) first) (option_map (λ k. k.now) second) (cut_of from) (cut_of to) }
         ensures added { IfOk result (λ done. done ≡ true → AddsTo (tree_nodes self.old) (tree_nodes self.new) (between (cut_of from.entry) (cut_of to.entry)) value) }
         ensures within { IfOk result (λ done. done ≡ true → self.new.bytes ≤ most) }
         ensures full { IfOk result (λ done. done ≡ false → most < cost_distinct (node_keys (tree_nodes self.old) ++ end_keys (between (cut_of from.entry) (cut_of to.entry)))) }
@@ -159,8 +155,7 @@ impl Tree {
         ensures counted { IsCounted self.new }
         ensures unchanged { OnErr result ((tree_nodes self.new ≡ tree_nodes self.old) × (tree_sizes self.new ≡ tree_sizes self.old) × (self.new.bytes ≡ self.old.bytes)) }
     {
-        let (low, high) = (NumberedCut::new(from), NumberedCut::new(to));
-        if self.add_in_place(first, second, &low, &high, value, most)? {
+        if self.add_in_place(first, second, from, to, value, most)? {
             return Ok(true);
         }
         match self.added(first, second, from, to, value, most)? {
@@ -205,38 +200,28 @@ impl Tree {
         Ok(Some(Tree { root, count, bytes }))
     }
 
-    /// The same in place, as [`parts::add_within`](tsc_page_tree::parts::add_within) tells, where there is room. Says whether it did.
+    /// The same in place, as [`Root::add`] tells, where there is room. Says whether it did.
     fn add_in_place(
         &mut self,
         first: Option<&Key>,
         second: Option<&Key>,
-        from: &NumberedCut<'_>,
-        to: &NumberedCut<'_>,
+        from: Cut<'_>,
+        to: Cut<'_>,
         value: Value,
         most: u32,
     ) -> Result<bool, NoMemory>
         requires counted { IsCounted self.old }
         requires within { self.old.bytes ≤ most }
         requires small { most ≤ most_size }
-        requires order { is_below from.now to.now ≡ true }
-        requires first { LiesAt (option_map (λ k. k.now) first) from.now }
-        requires second { LiesAt (option_map (λ k. k.now) second) to.now }
-        requires keys { option_to_list (option_map (λ k. k.now) first) ++ option_to_list (option_map (λ k. k.now) second) ≡ end_keys (between from.now to.now) }
-        ensures added { IfOk result (λ done. done ≡ true → AddsTo (tree_nodes self.old) (tree_nodes self.new) (between from.now to.now) value) }
+        requires ends { AreEnds (option_map (λ k. k.now) first) (option_map (λ k. k.now) second) (cut_of from) (cut_of to) }
+        ensures added { IfOk result (λ done. done ≡ true → AddsTo (tree_nodes self.old) (tree_nodes self.new) (between (cut_of from.entry) (cut_of to.entry)) value) }
         ensures within { IfOk result (λ done. done ≡ true → self.new.bytes ≤ most) }
         ensures left { IfOk result (λ done. done ≡ false → (tree_nodes self.new ≡ tree_nodes self.old) × (tree_sizes self.new ≡ tree_sizes self.old) × (self.new.count ≡ self.old.count) × (self.new.bytes ≡ self.old.bytes)) }
         ensures counted { IsCounted self.new }
         ensures unchanged { OnErr result ((tree_nodes self.new ≡ tree_nodes self.old) × (tree_sizes self.new ≡ tree_sizes self.old) × (self.new.bytes ≡ self.old.bytes)) }
     {
         let room = most - self.bytes;
-        let add = Addition {
-            first,
-            second,
-            from,
-            to,
-            value,
-        };
-        match self.root.add_within(&add, room)? {
+        match self.root.add(first, second, from, to, value, room)? {
             Some(more) => {
                 self.count += more.nodes;
                 self.bytes += more.bytes;

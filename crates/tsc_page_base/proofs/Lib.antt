@@ -20,4 +20,5 @@ pub mod PlainMarks
 pub mod Tops
 pub mod Costs
 pub mod ToldPlaces
+pub mod KeyAdds
 pub mod KeysAbove

@@ -61,7 +61,7 @@ greater_from k m ns i j up sorted fits at = elim (before_or_past j i) [
 ]
 
 -- a new node stands where its key was told
-stands_new : (ns : List Node) (k : KeyBytes) (f : ℕ × KeyBytes) → IsNewKey ns (Some k) (Some f) → StandsAt (with_new ns (Some f)) k f.0
+pub stands_new : (ns : List Node) (k : KeyBytes) (f : ℕ × KeyBytes) → IsNewKey ns (Some k) (Some f) → StandsAt (with_new ns (Some f)) k f.0
 stands_new ns k f new = subst (λ (q : KeyBytes). StandsAt (with_new ns (Some f)) q f.0) new.0 (stands_inserted ns f.0 (node_in_gap f.1 (gap_value (unowned zero_time) ns f.0)) new.2)
 
 -- a place within a list can be moved by one

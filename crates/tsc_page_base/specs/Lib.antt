@@ -4,6 +4,7 @@ pub mod PageView
 pub mod Nodes
 pub mod Numbers
 pub mod Words
+pub mod KeyAdds
 pub mod KeysAbove
 pub use Rattle.tsc_time.specs.Time
 pub use Rattle.tsc_time.specs.Joint

@@ -14,12 +14,14 @@
 //! A [`PlainPage`] is the same thing as the list of what was added: slow, and easy to believe.
 #![tactic(auto)]
 
+mod addition;
 mod interval_page;
 pub mod laws;
 mod nodes;
 mod number;
 mod plain;
 
+pub use addition::{KeyAddition, SearchKey};
 pub use interval_page::IntervalPage;
 pub use nodes::{Grown, Nodes};
 pub use number::{KeyNumber, NumberedCut, NumberedKey};

@@ -4,13 +4,15 @@ ghost use Rattle.std.specs.Arc.{arc_value};
 ghost use Rattle.tsc_time.specs.Time.{zero_time};
 ghost use Rattle.tsc_time.specs.OwnedTime.{unowned};
 ghost use Rattle.tsc_time.specs.Joint.{joint};
-ghost use Rattle.tsc_span.specs.Span.{is_below, between};
+ghost use Rattle.tsc_span.specs.Span.{is_below, between, point};
 ghost use Rattle.tsc_span.specs.Cuts.{cut_of};
 ghost use Rattle.tsc_page_base.specs.Numbers.{IsCutNumber};
 ghost use Rattle.tsc_page_base.specs.PageView.{is_new_among};
+ghost use Rattle.tsc_page_base.specs.KeyAdds.{IsKeyTold};
 ghost use Rattle.tsc_page_base.specs.KeysAbove.{first_above};
-ghost use Rattle.tsc_page_base.specs.Nodes.{paired, IsSorted, FitsAt, IsFoundAt, IsPlaceOf, IsPlaceTold, BothStandWhereTold, HasKeysBelow, StandsAt, LiesFrom, index_of, key_above, first_gap, IsNewKey, FitsIn, with_new, IsInOrder, HasNodes, MakesNodes, AddsNodes, GrowsBy, new_count, found_cost, new_cost, HoldsKeysOn, HoldsGapsOn, node_keys, answer_of, raise_nodes, node_in_gap, gap_value, next_cut, node_stretches};
+ghost use Rattle.tsc_page_base.specs.Nodes.{paired, IsSorted, FitsAt, FallsAt, IsFoundAt, IsPlaceOf, IsPlaceTold, BothStandWhereTold, HasKeysBelow, StandsAt, LiesFrom, index_of, key_above, first_gap, IsNewKey, FitsIn, with_new, IsInOrder, HasNodes, MakesNodes, AddsNodes, GrowsBy, new_count, found_cost, new_cost, HoldsKeysOn, HoldsGapsOn, node_keys, answer_of, raise_nodes, node_in_gap, gap_value, next_cut, node_stretches};
 
+use crate::addition::KeyAddition;
 use crate::number::{KeyNumber, NumberedBytes, NumberedCut, NumberedKey};
 use std::alloc::{AllocError, Global};
 use std::cmp::Ordering;
@@ -286,6 +288,47 @@ impl Nodes {
         reserve(keys, values, &new)?;
         add(keys, values, new, from, to, value);
         Ok(Some(made))
+    }
+
+    /// Adds a value at a key, and tells what came in. Where the key lies below the first node, or is new and what comes in would
+    /// be more than `room`, or others hold the list of keys too, nothing changes, and `None` says so; nor where memory is
+    /// refused. It costs a search, and for a new key its copy and a move of what stands above it.
+    pub fn add_key(&mut self, add: &KeyAddition<'_>, room: Grown) -> Result<Option<Grown>, NoMemory>
+        requires sorted { IsSorted self.old }
+        ensures told { IsKeyTold self.old self.new add.now room result }
+    {
+        match self.lists().find(add.search().bytes()) {
+            Ok(place) => {
+                self.values[place].value.raise(&add.value());
+                Ok(Some(Grown { nodes: 0, bytes: 0 }))
+            }
+            Err(place) => self.insert_key(place, add, room),
+        }
+    }
+
+    /// The same for a new key, by the place for it.
+    fn insert_key(
+        &mut self,
+        place: usize,
+        add: &KeyAddition<'_>,
+        room: Grown,
+    ) -> Result<Option<Grown>, NoMemory>
+        requires sorted { IsSorted self.old }
+        requires falls { FallsAt self.old add.now.key place }
+        ensures told { IsKeyTold self.old self.new add.now room result }
+    {
+        let more = Grown {
+            nodes: 1,
+            bytes: add.cost(),
+        };
+        if place == 0 || room.nodes < more.nodes || room.bytes < more.bytes {
+            return Ok(None);
+        }
+        let Some(keys) = Arc::get_mut(&mut self.keys) else {
+            return Ok(None)
+        };
+        insert(keys, &mut self.values, place, add)?;
+        Ok(Some(more))
     }
 
     /// Takes off the nodes behind the first 32. It takes the memory of two lists for them, and that of a copy of the list of
@@ -601,6 +644,29 @@ fn add(
     split(keys, values, new.second);
     split(keys, values, new.first);
     raise_values(keys.as_slice(), values, from, to, new.near, value);
+}
+
+/// Makes a node of a new key at a place, and ratchets the value into it. Where memory is refused nothing changes.
+fn insert(
+    keys: &mut Vec<NumberedKey>,
+    values: &mut Vec<Values>,
+    place: usize,
+    add: &KeyAddition<'_>,
+) -> Result<(), NoMemory>
+    requires same { length keys.old.items ≡ length values.old.items }
+    requires sorted { IsSorted (paired keys.old.items values.old.items) }
+    requires falls { FallsAt (paired keys.old.items values.old.items) add.now.key place }
+    ensures same { length keys.new.items ≡ length values.new.items }
+    ensures added { OnOk result (paired keys.new.items values.new.items ≡ raise_nodes (point add.now.key) add.now.value
+        (with_new (paired keys.old.items values.old.items) (Some (place, add.now.key)))) }
+    ensures unchanged { OnErr result (paired keys.new.items values.new.items ≡ paired keys.old.items values.old.items) }
+{
+    keys.reserve(1)?;
+    values.reserve(1)?;
+    let copy = add.copy_key(*keys.allocator())?;
+    split(keys, values, Some((place, copy)));
+    values[place].value.raise(&add.value());
+    Ok(())
 }
 
 /// A place, and where a node came in before it the next one.

@@ -95,8 +95,20 @@ impl NumberedKey {
     pub(crate) fn copy_of(alloc: Global, key: &Key) -> Result<NumberedKey, NoMemory>
         ensures { IfOk result (λ copy. copy ≡ key.now) }
     {
+        NumberedKey::copy_with(alloc, key, number_of(key.bytes()))
+    }
+
+    /// A copy of a key, whose number is known.
+    pub(crate) fn copy_with(
+        alloc: Global,
+        key: &Key,
+        number: KeyNumber,
+    ) -> Result<NumberedKey, NoMemory>
+        requires { IsNumberOf number key.now }
+        ensures { IfOk result (λ copy. copy ≡ key.now) }
+    {
         Ok(NumberedKey {
-            number: number_of(key.bytes()),
+            number,
             key: Arc::new(alloc, key.try_copy()?)?,
         })
     }
@@ -169,6 +181,13 @@ impl<'a> NumberedBytes<'a> {
             number: number_of(bytes),
             bytes,
         }
+    }
+
+    /// Their number.
+    pub(crate) fn number(&self) -> KeyNumber
+        ensures { IsNumberOf result self.now }
+    {
+        self.number
     }
 
     /// How a key stands to these bytes.

@@ -27,7 +27,7 @@ use Rattle.tsc_page_tree.proofs.Joins.{sorted_left, sorted_right, raises_left, r
 use Rattle.tsc_page_tree.proofs.LeafLists.{lowest_below}
 use Rattle.tsc_page_tree.proofs.LeafKeys.{wholly_below, is_in-append, shift, shift_bound, insert_left, insert_right, gap_value_left, gap_value_right, fits_left, fits_right}
 
-same_some : (k m : KeyBytes) → Some k ≡ Some m → k ≡ m
+pub same_some : (k m : KeyBytes) → Some k ≡ Some m → k ≡ m
 same_some k m e = cc
 
 -- nodes that begin no higher than after a key begin no higher than before it
@@ -122,7 +122,7 @@ new_right xs ys (Some k) (Some f) some low new = elim (low k refl) [
     )
 
 -- nodes with a key that is not below them begin where they did
-start_with : (ys : List Node) (o : Option KeyBytes) (g : Option (ℕ × KeyBytes)) → ((k : KeyBytes) → o ≡ Some k → Le (start_of ys) (before k)) → 1 ≤ length ys → IsNewKey ys o g → start_of (with_new ys g) ≡ start_of ys
+pub start_with : (ys : List Node) (o : Option KeyBytes) (g : Option (ℕ × KeyBytes)) → ((k : KeyBytes) → o ≡ Some k → Le (start_of ys) (before k)) → 1 ≤ length ys → IsNewKey ys o g → start_of (with_new ys g) ≡ start_of ys
 start_with ys None None low some new = refl
 start_with ys None (Some f) low some new = absurd new
 start_with ys (Some k) None low some new = refl

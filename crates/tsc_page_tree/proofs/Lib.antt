@@ -17,4 +17,5 @@ pub mod PartAcross
 pub mod TreeAcross
 pub mod OverParts
 pub mod Wholes
+pub mod KeyAdds
 pub mod KeysAbove

@@ -3,6 +3,7 @@ pub mod Pending
 pub mod Copies
 pub mod Across
 pub mod Trees
+pub mod KeyAdds
 pub use Rattle.tsc_time.specs.Time
 pub use Rattle.tsc_time.specs.Joint
 pub use Rattle.tsc_span.specs.Span

@@ -11,7 +11,7 @@ use crate::summary::Summary;
 use crate::{across, parts};
 use std::alloc::{AllocError, Global};
 use std::sync::Arc;
-use tsc_page_base::{Grown, KeyNumber, NumberedCut};
+use tsc_page_base::{Grown, KeyAddition, KeyNumber, NumberedCut};
 use tsc_span::{Cut, Key};
 use tsc_time::{NoMemory, Value};
 
@@ -167,6 +167,14 @@ impl<P: Part> Part for Fork<P> {
         let reached = parts::first_starts_below(parts, add.to);
         self.summary
             .heed(&made, parts::start_number(parts), reached, add.value);
+        made
+    }
+
+    fn add_key(&mut self, add: &KeyAddition<'_>, room: u32) -> Result<Option<Grown>, NoMemory> {
+        let parts = Arc::make_mut(&mut self.parts)?;
+        let made = parts::add_key(parts, add, room);
+        let start = self.summary.start;
+        self.summary.heed(&made, start, true, add.value());
         made
     }
 

@@ -11,7 +11,7 @@ use crate::parts::Part;
 use crate::summary::Summary;
 use std::alloc::{AllocError, Global};
 use std::sync::Arc;
-use tsc_page_base::{Grown, KeyNumber, Nodes, NumberedCut};
+use tsc_page_base::{Grown, KeyAddition, KeyNumber, Nodes, NumberedCut};
 use tsc_span::{Cut, Key};
 use tsc_time::{NoMemory, Value};
 
@@ -136,6 +136,18 @@ impl Part for Leaf {
         let reached = nodes.starts_below(add.to);
         self.summary
             .heed(&made, nodes.start_number(), reached, add.value);
+        made
+    }
+
+    fn add_key(&mut self, add: &KeyAddition<'_>, room: u32) -> Result<Option<Grown>, NoMemory> {
+        let nodes = Arc::make_mut(&mut self.nodes)?;
+        let room = Grown {
+            nodes: LEAF_NODES - nodes.len(),
+            bytes: room,
+        };
+        let made = nodes.add_key(add, room);
+        let start = self.summary.start;
+        self.summary.heed(&made, start, true, add.value());
         made
     }
 

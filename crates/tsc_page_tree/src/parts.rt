@@ -11,11 +11,12 @@ ghost use Rattle.tsc_page_tree.specs.Leaves.{AreParts, HasNode, IsLeafAt, IsNotA
 ghost use Rattle.tsc_page_tree.specs.Pending.{everything, all_joint, sizes_of, AreSizesOf, TellsSize, IsAddTold};
 ghost use Rattle.tsc_page_tree.specs.Copies.{IsSameAs};
 ghost use Rattle.tsc_page_tree.specs.Across.{IsAcrossTold};
+ghost use Rattle.tsc_page_tree.specs.KeyAdds.{IsKeyAddTold};
 
 use crate::across;
 use crate::addition::Addition;
 use std::alloc::Global;
-use tsc_page_base::{Grown, KeyNumber, NumberedCut};
+use tsc_page_base::{Grown, KeyAddition, KeyNumber, NumberedCut};
 use tsc_span::{Cut, Key};
 use tsc_time::{NoMemory, Timestamp, Value, ratchet};
 
@@ -107,6 +108,15 @@ pub trait Part: Clone + Drop {
         requires whole { IsWhole self.old }
         requires sorted { IsSorted (nodes self.old) }
         ensures told { IsAddTold (nodes self.old) (nodes self.new) (sizes self.old) (sizes self.new) add.now room result }
+        ensures whole { IsWhole self.new };
+
+    /// Adds at a single key in place, and tells what came in: where the key doesn't lie below the part, and a leaf that gets a
+    /// node of it need not be cut, has a list of keys of its own, and costs no more than `room` with it. Else nothing changes, nor
+    /// where memory is refused. What is pending on the way stays so. What others hold on the way down is copied first.
+    fn add_key(&mut self, add: &KeyAddition<'_>, room: u32) -> Result<Option<Grown>, NoMemory>
+        requires whole { IsWhole self.old }
+        requires sorted { IsSorted (nodes self.old) }
+        ensures told { IsKeyAddTold (nodes self.old) (nodes self.new) (sizes self.old) (sizes self.new) add.now room result }
         ensures whole { IsWhole self.new };
 
     /// Ratchets a value in place into what lies above the lower cut in one part, and below the upper one in a part behind it,
@@ -471,6 +481,24 @@ pub fn add_within<P: Part>(
     } else {
         parts[place].add_within(add, room)
     }
+}
+
+/// Adds at a single key in place, to the part in which it falls.
+pub fn add_key<P: Part>(
+    parts: &mut [P],
+    add: &KeyAddition<'_>,
+    room: u32,
+) -> Result<Option<Grown>, NoMemory>
+    requires parts { AreParts P.nodes P.IsWhole parts.old }
+    ensures told { IsKeyAddTold (nodes_of (map P.nodes parts.old)) (nodes_of (map P.nodes parts.new)) (sizes_of (map P.sizes parts.old)) (sizes_of (map P.sizes parts.new)) add.now room result }
+    ensures whole { All P.IsWhole parts.new }
+    ensures len { length parts.new ≡ length parts.old }
+{
+    let place = part_at(parts, add.search().at());
+    if place >= parts.len() {
+        return Ok(None);
+    }
+    parts[place].add_key(add, room)
 }
 
 /// Whether what doesn't go on beyond a part stops right where the next one begins.

@@ -1,5 +1,5 @@
 -- What an Add needs to fit before it is made, which hidden cache takes it in place, what becomes of a copy of it, and when it is given up. (For private contracts.)
-use Rattle.std.specs.Prelude.{◌≡◌, ℕ, ◌+◌, ◌^◌, ◌<◌, ◌≤◌, ◌++◌, ◌∷◌, [], Bool, true, false, not, ◌&&◌, ◌==◌, List, Option, Some, None, IsSome, Result, Ok, Err}
+use Rattle.std.specs.Prelude.{◌≡◌, ℕ, ◌+◌, ◌^◌, ◌<◌, ◌≤◌, ◌++◌, ◌∷◌, [], take, Bool, true, false, ◌==◌, List, Option, Some, None, IsSome, IfSome, Result, Ok, Err}
 use Rattle.std.specs.Arc.{arc_value}
 use Rattle.std.specs.declared.sync.Arc.{Arc}
 use Rattle.std.specs.declared.alloc.Global.{Global}
@@ -7,10 +7,10 @@ use Rattle.tsc_time.specs.Time.{Time}
 use Rattle.tsc_time.specs.declared.memory.NoMemory.{NoMemory}
 use Rattle.tsc_page_base.specs.Page.{Mark}
 use Rattle.tsc_cache.specs.declared.added.Added.{Added}
-use Rattle.tsc_cache.specs.Batch.{all_fit}
-use Rattle.tsc_cache.specs.State.{is_kept, step_all}
+use Rattle.tsc_cache.specs.Batch.{all_fit, AddsAll}
+use Rattle.tsc_cache.specs.State.{step_all}
 use Rattle.tsc_cache.specs.History.{History, state_of}
-use Rattle.tsc_cache.specs.CacheView.{CacheView, front_has_room_for}
+use Rattle.tsc_cache.specs.CacheView.{CacheView, StandsForState}
 use Rattle.tsc_shared_desk.specs.declared.board.Marks.{Marks}
 use Rattle.tsc_shared_desk.specs.declared.board.Marks.TheVariants.{One, Many}
 use Rattle.tsc_shared_desk.specs.declared.board.Pending.{Pending}
@@ -18,7 +18,7 @@ use Rattle.tsc_shared_desk.specs.declared.board.Held.{Held}
 use Rattle.tsc_shared_desk.specs.declared.board.Slot.TheVariants.{Empty}
 use Rattle.tsc_shared_desk.specs.declared.board.Terms.{Terms}
 use Rattle.tsc_shared_desk.specs.declared.board.View.{View}
-use Rattle.tsc_shared_desk.specs.Desk.{marks_in, entry_of, IsAfter}
+use Rattle.tsc_shared_desk.specs.Desk.{marks_in, entry_of, IsAfter, Lags}
 use Rattle.tsc_shared_desk.specs.DeskSteps.{At, number_of, seen_of, count_of}
 use Rattle.tsc_shared_desk.specs.AtDesk.{HasCleared, HasDesk, HasFilled}
 use Rattle.tsc_shared_desk.specs.Waiting.{HasEnd}
@@ -51,14 +51,42 @@ pub record AllFit (held : Held) (add : Pending) : Type 0 where
   pub shown : all_fit (arc_value held.shown).settings (marks_in add.marks) ≡ true
   pub spare : HandleFits held.spare held.lag add
 
--- Whether an Add of one mark would not rotate a cache. Of several marks that isn't asked before they are added.
-abbrev pub keeps_front : CacheView → Marks → Bool
-keeps_front shown (One m) = not (is_kept shown.floor m && not (front_has_room_for shown.pages m.span))
-keeps_front shown (Many ms) = true
+-- A cache that lagged stands for all that was added so far, and for this Add behind it.
+abbrev pub StandsAfterAdd : Option Pending → CacheView → CacheView → Pending → Type 0
+StandsAfterAdd lag old new add =
+    (terms : Terms) (h : History) → Lags terms h lag old
+    → StandsForState new terms.config
+    (step_all terms.config (state_of terms.config h) (marks_in add.marks) add.moment).state
 
--- Whether the Add that the hidden cache has not had yet brought no new page, since it has rotated as often as the cache that is shown, and this one, where it has one mark, would bring none.
-abbrev pub keeps_pages : CacheView → CacheView → Pending → Bool
-keeps_pages shown spare add = (spare.rotations == shown.rotations) && keeps_front shown add.marks
+-- and this is what that Add did
+abbrev pub TellsAdd : Option Pending → CacheView → Pending → Added → Type 0
+TellsAdd lag old add added =
+    (terms : Terms) (h : History) → Lags terms h lag old
+    → added ≡ (step_all terms.config (state_of terms.config h) (marks_in add.marks) add.moment).added
+
+-- a cache stands for what it stood for, and what it lacks then is said
+abbrev pub StillLags : Option Pending → Option Pending → CacheView → CacheView → Type 0
+StillLags late later old new =
+    (terms : Terms) (h : History) → Lags terms h late old → Lags terms h later new
+
+-- Whether the Add that the hidden cache has not had yet brought no new page, since it has rotated as often as the cache that is shown.
+abbrev pub keeps_pages : CacheView → CacheView → Bool
+keeps_pages shown spare = spare.rotations == shown.rotations
+
+-- A cache has had some marks of an Add, from the first on: none, a part of them, or all.
+abbrev pub HasHadSome : CacheView → CacheView → List Mark → Time → Type 0
+HasHadSome old new ms now = (count : ℕ) × (added : Added) × AddsAll old new (take count ms) now added
+
+-- it has had some marks of the Add that it lacked, where there is one, and nothing else
+abbrev pub CatchesUp : Option Pending → CacheView → CacheView → Type 0
+CatchesUp None old new = new ≡ old
+CatchesUp (Some late) old new = HasHadSome old new (marks_in late.marks) late.moment
+
+-- the hidden cache, where there is one, is there still, and no more has become of it
+abbrev pub HandleCatchesUp : Option Pending → Option (Arc CacheView Global) → Option (Arc CacheView Global) → Type 0
+HandleCatchesUp lag None new = new ≡ None
+HandleCatchesUp lag (Some old) None = ⊥
+HandleCatchesUp lag (Some old) (Some new) = CatchesUp lag (arc_value old) (arc_value new)
 
 -- What holds of what an Add in place answered, where it was made
 abbrev pub IfMade : InPlace → (Added → Type 0) → Type 0
@@ -66,17 +94,31 @@ IfMade (Made added) P = P added
 IfMade Untouched P = Unit {0}
 IfMade Spoiled P = Unit {0}
 
--- the hidden cache is as it was
+-- nothing of the Add is in the hidden cache
 abbrev pub IsUntouched : InPlace → Type 0
 IsUntouched (Made added) = ⊥
 IsUntouched Untouched = Unit {0}
 IsUntouched Spoiled = ⊥
 
--- What is no longer needed after an Add, where there was a hidden cache: that, as it was, where it shows before that a new page comes in or came in; and what it became where a new page came in with several marks.
+-- Where an Add was not made in the hidden cache, no more became of that than by what it lacked: unless several marks spoiled it.
+abbrev pub HasNoPart : Option Pending → Marks → InPlace → CacheView → CacheView → Type 0
+HasNoPart lag marks (Made added) old new = Unit {0}
+HasNoPart lag marks Untouched old new = CatchesUp lag old new
+HasNoPart lag (One m) Spoiled old new = CatchesUp lag old new
+HasNoPart lag (Many ms) Spoiled old new = Unit {0}
+
+-- Of an Add of one mark nothing is in the cache that is no longer needed, where there is one.
+abbrev pub RetiresWithout : Option Pending → Marks → CacheView → Option (Arc CacheView Global) → Type 0
+RetiresWithout lag (One m) spare retired = IfSome retired (λ handle. CatchesUp lag spare (arc_value handle))
+RetiresWithout lag (Many ms) spare retired = Unit {0}
+
+-- What is no longer needed after an Add, where there was a hidden cache: that, as it was, where the Add that it lacked brought a new page; and what became of it where this one brings one. An Add of one mark is not in it.
 abbrev pub HandsOut : Held → Pending → Added → Option (Arc CacheView Global) → Type 0
 HandsOut held add added retired =
     (spare : Arc CacheView Global) → held.spare ≡ Some spare
-    → (keeps_pages (arc_value held.shown) (arc_value spare) add ≡ false → retired ≡ Some spare) × (added.rotated ≡ true → IsSome retired)
+    → (keeps_pages (arc_value held.shown) (arc_value spare) ≡ false → retired ≡ Some spare)
+    × (added.rotated ≡ true → IsSome retired)
+    × RetiresWithout held.lag add.marks (arc_value spare) retired
 
 -- A copy of some marks, with the moment at which they are added.
 abbrev pub IsCopyOf : List Mark → Time → Pending → Type 0

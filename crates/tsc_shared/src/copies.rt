@@ -1,6 +1,7 @@
 //! Copies of what is to be added: both sides have it in turn, and the caller keeps its own.
-ghost use Rattle.std.specs.Prelude.{◌∷◌, [], IfOk};
+ghost use Rattle.std.specs.Prelude.{IfOk};
 ghost use Rattle.tsc_shared.specs.Adding.{IsCopyOf};
+ghost use Rattle.tsc_shared.specs.Answers.{one_mark};
 
 use std::alloc::Global;
 use tsc_cache::Mark;
@@ -10,7 +11,7 @@ use tsc_time::{NoMemory, Timestamp, Value};
 
 /// A copy of a mark, to be added at this moment.
 pub(crate) fn copy_of_one(span: &Span, value: Value, now: Timestamp) -> Result<Pending, NoMemory>
-    ensures { IfOk result (IsCopyOf (record { span = span.now; value = value } ∷ []) now) }
+    ensures { IfOk result (IsCopyOf (one_mark span.now value) now) }
 {
     let span = span.try_copy()?;
     Ok(Pending {

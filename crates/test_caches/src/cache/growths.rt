@@ -84,6 +84,41 @@ const NEXT_ON_LARGE: Row = (
     ],
 );
 
+/// Pages of which each has one key.
+const SMALL: Limits = (64, 64, 64, 1000);
+
+const BATCH_ON_2: Row = (
+    "a batch of known keys on 2 pages",
+    &[
+        (Begin, b"#\x00\x02", AT_20, NOBODY),
+        (Stand(2, 1, FLOOR), NONE, FLOOR, NOBODY),
+        (
+            Add(AT_20, KEPT),
+            b"\x00\x00\x00\x01|\x00\x00\x00\x01",
+            AT_30,
+            NOBODY,
+        ),
+        (Look, b"\x00\x00\x00\x01", AT_30, NOBODY),
+        (Stand(2, 1, FLOOR), NONE, FLOOR, NOBODY),
+    ],
+);
+
+const BATCH_ON_1000: Row = (
+    "a batch of known keys on 1,000 pages",
+    &[
+        (Begin, b"#\x03\xe8", AT_20, NOBODY),
+        (Stand(1000, 999, FLOOR), NONE, FLOOR, NOBODY),
+        (
+            Add(AT_20, KEPT),
+            b"\x00\x00\x03\xe7|\x00\x00\x03\xe7",
+            AT_30,
+            NOBODY,
+        ),
+        (Look, b"\x00\x00\x03\xe7", AT_30, NOBODY),
+        (Stand(1000, 999, FLOOR), NONE, FLOOR, NOBODY),
+    ],
+);
+
 const HANDED_ON: Row = (
     "what was read is told, and added to another cache",
     &[
@@ -112,6 +147,10 @@ static IN_PLACE: [Table; 1] = [(LIMITS, &[Call::Add], NONE, &[MANY_PAGES])];
 static IN_PLACE_OF_MANY: [Table; 1] = [(LARGE, &[Call::Add], NONE, &[KNOWN_ON_LARGE])];
 
 static NEXT_OF_MANY: [Table; 1] = [(LARGE, &[Call::Next], NONE, &[NEXT_ON_LARGE])];
+
+static BATCH_OF_2: [Table; 1] = [(SMALL, &[Call::NextAll], NONE, &[BATCH_ON_2])];
+
+static BATCH_OF_1000: [Table; 1] = [(SMALL, &[Call::NextAll], NONE, &[BATCH_ON_1000])];
 
 static HANDING_ON: [Table; 1] = [(LIMITS, &[Call::Add], NONE, &[HANDED_ON])];
 
@@ -143,6 +182,16 @@ fn known_keys_of_a_large_page(rt: HostRuntime) -> Result<(), Fail> {
 #[test]
 fn next_on_a_large_page(rt: HostRuntime) -> Result<(), Fail> {
     play(&rt, rt.alloc(), &NEXT_OF_MANY)
+}
+
+#[test]
+fn a_batch_on_2_pages(rt: HostRuntime) -> Result<(), Fail> {
+    play(&rt, rt.alloc(), &BATCH_OF_2)
+}
+
+#[test]
+fn a_batch_on_1000_pages(rt: HostRuntime) -> Result<(), Fail> {
+    play(&rt, rt.alloc(), &BATCH_OF_1000)
 }
 
 #[test]

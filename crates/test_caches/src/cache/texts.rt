@@ -1,5 +1,6 @@
 //! The text of each fault, word for word.
 use std::test::Fail;
+use timestamp_cache::SummaryFault;
 use tsc_cache::{CacheFault, ConfigFault};
 
 static CONFIG_FAULTS: [(ConfigFault, &str); 3] = [
@@ -19,12 +20,23 @@ static CACHE_FAULTS: [(CacheFault, &str); 2] = [
     (CacheFault::NoMemory, "out of memory"),
 ];
 
+static SUMMARY_FAULTS: [(SummaryFault, &str); 5] = [
+    (SummaryFault::Version, "the summary is of another version"),
+    (SummaryFault::Length, "the summary has another length"),
+    (SummaryFault::Checksum, "the summary was changed"),
+    (SummaryFault::Form, "the bytes are no summary"),
+    (SummaryFault::NoMemory, "out of memory"),
+];
+
 #[test]
 fn texts_of_faults(rt: HostRuntime) -> Result<(), Fail> {
     for (fault, text) in &CONFIG_FAULTS {
         assert_eq!(rt; format!(in rt.alloc(); "{fault}")?.as_str(), *text);
     }
     for (fault, text) in &CACHE_FAULTS {
+        assert_eq!(rt; format!(in rt.alloc(); "{fault}")?.as_str(), *text);
+    }
+    for (fault, text) in &SUMMARY_FAULTS {
         assert_eq!(rt; format!(in rt.alloc(); "{fault}")?.as_str(), *text);
     }
     Ok(())

@@ -1,6 +1,6 @@
 //! Replays and checks from bytes to bytes: what is said of a trace and its log, and of bytes that are neither.
 use std::alloc::Global;
-use tsc_c_texts::{Outcome, check_bytes, replay_bytes};
+use tsc_check::{Outcome, check_bytes, replay_bytes};
 use tsc_time::NoMemory;
 
 const TRACE: &str =

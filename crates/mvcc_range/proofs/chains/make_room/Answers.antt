@@ -1,4 +1,4 @@
-use Rattle.std.proofs.Common.{◌≡◌, ◌∙◌, ◌+◌, sym, subst, take, length, List}
+use Rattle.std.proofs.Common.{◌∙◌, sym, subst, take, length, List}
 use Rattle.mvcc_range.specs.Versions.{Write}
 use Rattle.mvcc_range.specs.Maps.{HaveRoom}
 use Rattle.mvcc_range.proofs.Times.{more}
@@ -14,6 +14,9 @@ loop-write-preserved c =
     let new = c.make_room_for.new.chains in
     record {
       same = λ k. c.in_ok-make_room_for.ensures.same k ∙ c.loop-write.invariant.same k;
-      room = subst (λ (xs : List Write). HaveRoom n new xs) (sym (more ws i w c.loop-write-test.true (sym c.write-item.is)))
-          (more_room n new (take i ws) w (have_room n n c.loop-write.chains new (take i ws) c.in_ok-make_room_for.ensures.keeps c.loop-write.invariant.room) c.in_ok-make_room_for.ensures.room);
+      room = subst (λ (xs : List Write). HaveRoom n new xs)
+          (sym (more ws i w c.loop-write-test.true (sym c.write-item.is)))
+          (more_room n new (take i ws) w (have_room n n c.loop-write.chains new
+          (take i ws) c.in_ok-make_room_for.ensures.keeps c.loop-write.invariant.room)
+          c.in_ok-make_room_for.ensures.room);
     }

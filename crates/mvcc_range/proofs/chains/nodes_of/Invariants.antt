@@ -3,4 +3,5 @@ use Rattle.mvcc_range.specs.Maps.{nodes_of}
 use Rattle.mvcc_range.proofs.chains.nodes_of.Given as goal
 
 abbrev pub invariant-loop-write : goal.invariant-loop-write
-invariant-loop-write l = l.nodes ++ nodes_of l.at l.by (drop l.write-index l.writes) ≡ nodes_of l.at l.by l.writes
+invariant-loop-write l = l.nodes ++ nodes_of l.at l.by (drop l.write-index l.writes)
+    ≡ nodes_of l.at l.by l.writes

@@ -7,11 +7,16 @@ loop-write-init c = none_yet c.args.chains.now.entries c.args.writes.now c.args.
 
 pub loop-write-preserved : goal.loop-write-preserved
 loop-write-preserved c =
-    one_more_key c.args.chains.now.entries c.args.writes.now c.loop-write.write-index c.write-item.result c.args.from c.loop-write.at c.in-Some.next c.loop-write-test.true (sym c.write-item.is) c.loop-write.invariant c.in-Some.ensures
+    one_more_key c.args.chains.now.entries c.args.writes.now c.loop-write.write-index
+    c.write-item.result c.args.from c.loop-write.at c.in-Some.next c.loop-write-test.true
+    (sym c.write-item.is) c.loop-write.invariant c.in-Some.ensures
 
 pub returns-in-None : goal.returns-in-None
 returns-in-None c =
-    no_more_keys c.args.chains.now.entries c.args.writes.now c.loop-write.write-index c.write-item.result c.args.from c.loop-write.at c.loop-write-test.true (sym c.write-item.is) c.loop-write.invariant c.in-None.ensures
+    no_more_keys c.args.chains.now.entries c.args.writes.now c.loop-write.write-index
+    c.write-item.result c.args.from c.loop-write.at c.loop-write-test.true
+    (sym c.write-item.is) c.loop-write.invariant c.in-None.ensures
 
 pub returns : goal.returns
-returns c = all_keys c.args.chains.now.entries c.args.writes.now c.loop-write.write-index c.args.from c.loop-write.at c.loop-write-test.false c.loop-write.invariant
+returns c = all_keys c.args.chains.now.entries c.args.writes.now c.loop-write.write-index
+    c.args.from c.loop-write.at c.loop-write-test.false c.loop-write.invariant

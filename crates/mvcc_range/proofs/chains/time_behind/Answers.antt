@@ -6,4 +6,5 @@ pub returns-then-lt : goal.returns-then-lt
 returns-then-lt c = already_after c.args.last c.args.from (search rules) (search rules)
 
 pub returns-else-lt : goal.returns-else-lt
-returns-else-lt c = after_next c.args.last c.args.from c.next_time.result (search rules) c.next_time.ensures
+returns-else-lt c = after_next c.args.last c.args.from c.next_time.result
+    (search rules) c.next_time.ensures

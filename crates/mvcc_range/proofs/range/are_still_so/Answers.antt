@@ -12,17 +12,24 @@ loop-read-preserved c =
     let i = c.loop-read.read-index in
     let r = c.read-item.result in
     let P : Read → Type 0 = λ (q : Read). Matches q (as_of c.args.at c.args.chains.now.entries) in
-    All-same P (take (i + 1) c.args.reads.now) _ (more c.args.reads.now i r c.loop-read-test.true (sym c.read-item.is)) (All-push P (take i c.args.reads.now) r c.loop-read.invariant (c.in_ok-so.ensures.0 c.if-not-so.false))
+    All-same P (take (i + 1) c.args.reads.now) _ (more c.args.reads.now i r c.loop-read-test.true
+    (sym c.read-item.is)) (All-push P (take i c.args.reads.now) r c.loop-read.invariant
+    (c.in_ok-so.ensures.0 c.if-not-so.false))
 
 pub returns-then-not-so : goal.returns-then-not-so
 returns-then-not-so c =
     let P : Read → Type 0 = λ (q : Read). Matches q (as_of c.args.at c.args.chains.now.entries) in
     let r = c.read-item.result in (
       λ yes. absurd (let never : false ≡ true = yes in cc),
-      λ all. absurd (both_ways c.in_ok-so.so c.if-not-so.true (c.in_ok-so.ensures.1 (subst P (sym c.read-item.is) (all c.loop-read.read-index r c.loop-read-test.true)))),
+      λ all. absurd (both_ways c.in_ok-so.so c.if-not-so.true
+          (c.in_ok-so.ensures.1 (subst P (sym c.read-item.is)
+          (all c.loop-read.read-index r c.loop-read-test.true)))),
     )
 
 pub returns : goal.returns
 returns c =
-    let P : Read → Type 0 = λ (q : Read). Matches q (as_of c.args.at c.args.chains.now.entries) in
-    (λ yes. subst (All P) (take_all c.loop-read.read-index c.args.reads.now c.loop-read-test.false) c.loop-read.invariant, λ all. refl)
+    let P : Read → Type 0 = λ (q : Read). Matches q (as_of c.args.at c.args.chains.now.entries) in (
+      λ yes. subst (All P) (take_all c.loop-read.read-index c.args.reads.now c.loop-read-test.false)
+          c.loop-read.invariant,
+      λ all. refl,
+    )

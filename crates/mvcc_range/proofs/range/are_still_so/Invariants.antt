@@ -5,4 +5,5 @@ use Rattle.mvcc_range.proofs.range.are_still_so.Given as goal
 
 -- So many are.
 abbrev pub invariant-loop-read : goal.invariant-loop-read
-invariant-loop-read l = All (λ r. Matches r (as_of l.at l.chains.entries)) (take l.read-index l.reads)
+invariant-loop-read l = All (λ r. Matches r (as_of l.at l.chains.entries))
+    (take l.read-index l.reads)

@@ -3,4 +3,5 @@ use Rattle.mvcc_range.specs.Versions.{are_within}
 use Rattle.mvcc_range.proofs.range.are_within.Given as goal
 
 abbrev pub invariant-loop-write : goal.invariant-loop-write
-invariant-loop-write l = are_within (drop l.write-index l.writes) l.outer ≡ are_within l.writes l.outer
+invariant-loop-write l = are_within (drop l.write-index l.writes) l.outer
+    ≡ are_within l.writes l.outer

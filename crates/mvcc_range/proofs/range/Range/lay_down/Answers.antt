@@ -2,7 +2,7 @@ use Rattle.std.proofs.Common.{◌≡◌, ◌∙◌, ap, sym, subst, map, List}
 use Rattle.std.proofs.lemmas.Result.{on_ok_weaker}
 use Rattle.tsc_cache.specs.Batch.{all_fit}
 use Rattle.tsc_cache.specs.CacheView.{StandsAfterAll}
-use Rattle.timestamp_cache.specs.Words.{Mark, CacheView}
+use Rattle.timestamp_cache.specs.Words.{Mark}
 use Rattle.mvcc_range.specs.Versions.{Write, Read, laid, chain_of}
 use Rattle.mvcc_range.specs.Serial.{Transaction}
 use Rattle.mvcc_range.specs.Steps.{RangeView, mark_of, reads_fit}
@@ -13,22 +13,35 @@ pub lay_down-requires-clause-fit : goal.lay_down-requires-clause-fit
 lay_down-requires-clause-fit c =
     let at = c.args.at in
     let t = c.args.transaction.now in
-    let marks : c.deref-3.result.now ≡ map (mark_of at t.by) t.reads = c.deref-3.ensures.value ∙ (c.in_ok-marks.ensures ∙ (ap (λ (rs : List Read). map (mark_of at c.transaction.inside.by) rs) c.deref.ensures.value
+    let marks : c.deref-3.result.now ≡ map (mark_of at t.by) t.reads = c.deref-3.ensures.value
+    ∙ (c.in_ok-marks.ensures
+    ∙ (ap (λ (rs : List Read). map (mark_of at c.transaction.inside.by) rs)
+    c.deref.ensures.value
     ∙ ap (λ (x : Transaction). map (mark_of at x.by) x.reads) c.transaction.view_is)) in
     ap (λ (ms : List Mark). all_fit c.self.inside.cache.settings ms) marks
-    ∙ (sym (fits_marks c.self.inside.cache.settings at t.by t.reads) ∙ (ap (λ (r : RangeView). reads_fit r.cache.settings t.reads) c.self.view_is ∙ c.requires))
+    ∙ (sym (fits_marks c.self.inside.cache.settings at t.by t.reads)
+    ∙ (ap (λ (r : RangeView). reads_fit r.cache.settings t.reads) c.self.view_is ∙ c.requires))
 
 pub returns-clause-ok : goal.returns-clause-ok
 returns-clause-ok c =
     let at = c.args.at in
     let t = c.args.transaction.now in
-    let marks : c.deref-3.result.now ≡ map (mark_of at t.by) t.reads = c.deref-3.ensures.value ∙ (c.in_ok-marks.ensures ∙ (ap (λ (rs : List Read). map (mark_of at c.transaction.inside.by) rs) c.deref.ensures.value
+    let marks : c.deref-3.result.now ≡ map (mark_of at t.by) t.reads = c.deref-3.ensures.value
+    ∙ (c.in_ok-marks.ensures
+    ∙ (ap (λ (rs : List Read). map (mark_of at c.transaction.inside.by) rs)
+    c.deref.ensures.value
     ∙ ap (λ (x : Transaction). map (mark_of at x.by) x.reads) c.transaction.view_is)) in
     on_ok_weaker c.lay_down.result (λ done. record {
       span = ap (λ (r : RangeView). r.span) c.self.view_is;
-      remembered = subst (λ (r : RangeView). StandsAfterAll r.cache c.lay_down.new.cache (map (mark_of at t.by) t.reads) c.args.now) c.self.view_is
-          (subst (λ (ms : List Mark). StandsAfterAll c.self.inside.cache c.lay_down.new.cache ms c.args.now) marks done.0);
-      chains = λ k. done.1 k ∙ (ap (λ (ws : List Write). laid k at c.transaction.inside.by ws (chain_of c.self.inside.chains.entries k)) c.as_slice-writes.ensures.value
-          ∙ (ap (λ (x : Transaction). laid k at x.by x.writes (chain_of c.self.inside.chains.entries k)) c.transaction.view_is
+      threshold = ap (λ (r : RangeView). r.threshold) c.self.view_is;
+      remembered = subst (λ (r : RangeView). StandsAfterAll r.cache c.lay_down.new.cache
+          (map (mark_of at t.by) t.reads) c.args.now) c.self.view_is
+          (subst (λ (ms : List Mark). StandsAfterAll c.self.inside.cache c.lay_down.new.cache ms
+          c.args.now) marks done.0);
+      chains = λ k. done.1 k
+          ∙ (ap (λ (ws : List Write). laid k at c.transaction.inside.by ws
+          (chain_of c.self.inside.chains.entries k)) c.as_slice-writes.ensures.value
+          ∙ (ap (λ (x : Transaction). laid k at x.by x.writes
+          (chain_of c.self.inside.chains.entries k)) c.transaction.view_is
           ∙ ap (λ (r : RangeView). laid k at t.by t.writes (chain_of r.chains k)) c.self.view_is));
     }) c.lay_down.ensures.done

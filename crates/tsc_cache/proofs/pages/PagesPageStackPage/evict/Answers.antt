@@ -1,31 +1,30 @@
 -- One page more is dropped.
-use Rattle.std.proofs.Common.{rules, subst, arith}
-use Rattle.std.proofs.lemmas.List.{length-map}
-use Rattle.std.specs.Arc.{arc_value}
+use Rattle.std.proofs.Common.{◌≡◌, ◌∙◌, sym, ap, subst, ◌+◌, ◌-◌, ◌∷◌, ◌++◌, [], List, take, length, arith}
+use Rattle.std.proofs.lemmas.List.{length_push}
+use Rattle.std.proofs.Math.Seq.{take-append_seam}
+use Rattle.tsc_page_base.specs.PageView.{PageView}
 use Rattle.tsc_cache.specs.CacheParts.{older_of}
 use Rattle.tsc_cache.specs.Stacks.{IsExpiredTop}
-use Rattle.tsc_cache.proofs.Droppings.{dropping-more, popped_one, some_found, dropped_count}
+use Rattle.tsc_cache.proofs.Droppings.{Dropping, dropping-more, dropped_count}
 use Rattle.tsc_cache.proofs.pages.PagesPageStackPage.evict.Goals as goal
 
-pub overflow_add-evicted : goal.overflow_add-evicted
-overflow_add-evicted c =
-    let before = dropped_count c.args.config.now c.args.floor c.args.now (older_of c.args.self.now) (older_of c.loop-top.self) c.loop-top.floor c.loop-top.evicted c.loop-top.invariant.1 in
-    let found = subst (IsExpiredTop c.args.config.now c.args.now (older_of c.loop-top.self)) c.in-Some.is c.expired_top.ensures in
-    let some = some_found (λ a. arc_value a) c.loop-top.self.older.items found.0 found.1 found.2 in
-    let left = length-map c.loop-top.self.older.items (λ a. arc_value a) in
-    let had = length-map c.args.self.now.older.items (λ a. arc_value a) in
-    let fits = c.args.self.now.older.small in
-    let long = c.args.self.now.older.ok.0 in
-    omega arith
+-- all but the last of a list
+but_last : (ps newer : List PageView) (p : PageView) → ps ≡ newer ++ p ∷ [] → ps ≡ take (length ps - 1) ps ++ p ∷ []
+but_last ps newer p is =
+    let long = ap length is ∙ length_push newer p in
+    let all : take (length ps - 1) ps ≡ newer = ap (λ n. take n ps) (omega arith) ∙ ap (take (length newer)) is ∙ take-append_seam newer (p ∷ []) in
+    is ∙ ap (λ qs. qs ++ p ∷ []) (sym all)
 
 pub loop-top-preserved : goal.loop-top-preserved
 loop-top-preserved c =
-    let found = subst (IsExpiredTop c.args.config.now c.args.now (older_of c.loop-top.self)) c.in-Some.is c.expired_top.ensures in
-    let some = some_found (λ a. arc_value a) c.loop-top.self.older.items found.0 found.1 found.2 in
-    let popped = popped_one (λ a. arc_value a) c.loop-top.self.older.items c.pop_back.new.self.items c.pop_back.result (c.pop_back.ensures.variant.1 (omega arith)) c.pop_back.ensures.items in (
+    let all = older_of c.args.self.now in
+    let ps = older_of c.loop-top.self in
+    let found = subst (IsExpiredTop c.args.config.now c.args.now ps) c.in-Some.is c.expired_top.ensures in
+    let left = but_last ps found.0 found.1 found.2 ∙ ap (λ qs. qs ++ found.1 ∷ []) (sym c.pop_back.ensures.left) in
+    let had = dropped_count c.args.config.now c.args.floor c.args.now all ps c.loop-top.floor (length all - length ps) c.loop-top.invariant.1 in
+    let one = ap length left ∙ length_push c.pop_back.new.self found.1 in
+    let more : (length all - length ps) + 1 ≡ length all - length c.pop_back.new.self = omega arith in (
       c.loop-top.invariant.0,
-      dropping-more c.args.config.now c.args.floor c.args.now (older_of c.args.self.now) (older_of c.loop-top.self) _ (arc_value popped.0) c.loop-top.floor c.in-Some.top c.max-floor.result c.loop-top.evicted c.loop-top.invariant.1 c.max-floor.ensures popped.1 found,
+      subst (Dropping c.args.config.now c.args.floor c.args.now all c.pop_back.new.self c.max-floor.result) more
+          (dropping-more c.args.config.now c.args.floor c.args.now all ps c.pop_back.new.self found.1 c.loop-top.floor c.in-Some.top c.max-floor.result (length all - length ps) c.loop-top.invariant.1 c.max-floor.ensures left found),
     )
-
-pub returns-clause-dropped : goal.returns-clause-dropped
-returns-clause-dropped c = search rules

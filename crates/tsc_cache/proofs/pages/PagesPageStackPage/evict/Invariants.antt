@@ -1,12 +1,12 @@
 -- What was dropped so far.
-use Rattle.std.specs.VecDeque.{deque_len}
 use Rattle.tsc_cache.specs.CacheParts.{older_of}
 use Rattle.tsc_cache.proofs.Droppings.{Dropping}
-use Rattle.std.proofs.Common.{◌≡◌}
+use Rattle.std.proofs.Common.{◌≡◌, ◌-◌, length}
 use Rattle.tsc_cache.proofs.pages.PagesPageStackPage.evict.Given as goal
 
 abbrev pub invariant-loop-top : goal.invariant-loop-top
-invariant-loop-top l = (l.self.front ≡ l.initial.self.front) × Dropping l.config l.initial.floor l.now (older_of l.initial.self) (older_of l.self) l.floor l.evicted
+invariant-loop-top l = (l.self.front ≡ l.initial.self.front) × Dropping l.config l.initial.floor l.now (older_of l.initial.self) (older_of l.self) l.floor
+    (length (older_of l.initial.self) - length (older_of l.self))
 
 abbrev pub decreases-loop-top : goal.decreases-loop-top
-decreases-loop-top l = deque_len l.self.older
+decreases-loop-top l = length (older_of l.self)

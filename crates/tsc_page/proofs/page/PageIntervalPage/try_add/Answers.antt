@@ -22,20 +22,17 @@ use Rattle.tsc_page.proofs.page.PageIntervalPage.try_add.Goals as goal
 same_view : (size : ℕ) (t : Time) (ns ms : List Node) (ss zs : List ℕ) → ns ≡ ms → ss ≡ zs → page_of size t ns ss ≡ page_of size t ms zs
 same_view size t ns ms ss zs nodes sizes = ap (λ (os : List Node). page_of size t os ss) nodes ∙ ap (page_of size t ms) sizes
 
-pub try_add-requires-clause-keys : goal.try_add-requires-clause-keys
-try_add-requires-clause-keys c = c.end_keys.ensures.keys ∙ ap end_keys (sym c.in-Some.ensures.value)
-
-pub try_add-requires-clause-first : goal.try_add-requires-clause-first
-try_add-requires-clause-first c =
+pub try_add-requires-clause-ends : goal.try_add-requires-clause-ends
+try_add-requires-clause-ends c =
     let f : Cut = cut_of c.in-Some.from in
     let t : Cut = cut_of c.in-Some.to in
-    subst (λ (o : Option KeyBytes). LiesAt o f) (sym (c.end_keys.ensures.start ∙ ap (λ (s : Interval). slice_get (end_keys s) 0) (sym c.in-Some.ensures.value))) (ends_lie f t c.in-Some.ensures.order).0
-
-pub try_add-requires-clause-second : goal.try_add-requires-clause-second
-try_add-requires-clause-second c =
-    let f : Cut = cut_of c.in-Some.from in
-    let t : Cut = cut_of c.in-Some.to in
-    subst (λ (o : Option KeyBytes). LiesAt o t) (sym (c.end_keys.ensures.end ∙ ap (λ (s : Interval). slice_get (end_keys s) 1) (sym c.in-Some.ensures.value))) (ends_lie f t c.in-Some.ensures.order).1
+    let lie = ends_lie f t c.in-Some.ensures.order in
+    record {
+      order = c.in-Some.ensures.order;
+      first = subst (λ (o : Option KeyBytes). LiesAt o f) (sym (c.end_keys.ensures.start ∙ ap (λ (s : Interval). slice_get (end_keys s) 0) (sym c.in-Some.ensures.value))) lie.0;
+      second = subst (λ (o : Option KeyBytes). LiesAt o t) (sym (c.end_keys.ensures.end ∙ ap (λ (s : Interval). slice_get (end_keys s) 1) (sym c.in-Some.ensures.value))) lie.1;
+      keys = c.end_keys.ensures.keys ∙ ap end_keys (sym c.in-Some.ensures.value);
+    }
 
 pub invariant_of-self : goal.invariant_of-self
 invariant_of-self c =

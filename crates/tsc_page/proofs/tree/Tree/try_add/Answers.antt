@@ -1,7 +1,7 @@
 -- Where the Add was not made in place nothing has changed.
-use Rattle.std.proofs.Common.{◌<◌, ◌++◌, sym, subst, List, arith}
+use Rattle.std.proofs.Common.{◌<◌, ◌++◌, subst, List, arith}
 use Rattle.std.specs.Option.{IfSome}
-use Rattle.tsc_span.specs.Span.{Cut, between, end_keys}
+use Rattle.tsc_span.specs.Span.{between, end_keys}
 use Rattle.tsc_span.specs.Cuts.{cut_of}
 use Rattle.tsc_page_base.specs.Page.{cost_distinct}
 use Rattle.tsc_page_base.specs.Nodes.{Node, node_keys}
@@ -10,13 +10,6 @@ use Rattle.tsc_page.specs.Roots.{tree_nodes}
 use Rattle.tsc_page.specs.declared.tree.Tree.{Tree}
 use Rattle.tsc_page.proofs.Refusals.{on_refusal}
 use Rattle.tsc_page.proofs.tree.Tree.try_add.Goals as goal
-
-pub returns-then-branch-clause-added : goal.returns-then-branch-clause-added
-returns-then-branch-clause-added c e =
-    let old : List Node = tree_nodes c.args.self.now in
-    let new : List Node = tree_nodes c.add_in_place.new.self in
-    subst (λ (f : Cut). AddsTo old new (between f (cut_of c.args.to)) c.args.value) c.new-low.ensures
-    (subst (λ (t : Cut). AddsTo old new (between c.new-low.result t) c.args.value) c.new-high.ensures (c.in_ok-add_in_place.ensures.added c.if-branch.true))
 
 pub added-requires-clause-within : goal.added-requires-clause-within
 added-requires-clause-within c = let left = c.in_ok-add_in_place.ensures.left c.if-branch.false in omega (arith, left.3, c.requires.within)

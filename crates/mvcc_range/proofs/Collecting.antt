@@ -1,0 +1,343 @@
+-- Old versions that are dropped: what is kept of a key says the same from a time on.
+use Rattle.std.proofs.Common.{
+  ◌≡◌,
+  ◌⊎◌,
+  ◌∙◌,
+  ap,
+  sym,
+  refl,
+  subst,
+  inl,
+  inr,
+  ℕ,
+  zero,
+  suc,
+  ◌+◌,
+  ◌≤◌,
+  take,
+  length,
+  List,
+  [],
+  ◌∷◌,
+  ◌++◌,
+  append-nil,
+  append_assoc,
+  add-one,
+  Bool,
+  true,
+  false,
+  not,
+  ◌==◌,
+  if◌then◌else◌,
+  Some,
+  None,
+  arith,
+}
+use Rattle.std.specs.Prelude.{cond, unwrap_or}
+use Rattle.std.specs.List.{AllByRecursion}
+use Rattle.std.specs.Map.{keys_of}
+use Rattle.std.specs.Map.Calls.{RetainsPairs}
+use Rattle.std.specs.Ordering.{is_eq}
+use Rattle.std.specs.Str.{bytes_eq}
+use Rattle.std.proofs.lemmas.Bool.{cases_Bool, both_ways}
+use Rattle.std.proofs.lemmas.Bool.Decides.{nat_tests}
+use Rattle.std.proofs.lemmas.Slice.Eq.{bytes_eq-Decides}
+use Rattle.std.proofs.lemmas.Map.Keys.{sorted_tail}
+use Rattle.tsc_time.specs.Time.{later}
+use Rattle.tsc_time.proofs.TimeOrder.{
+  is_before-itself,
+  is_before-opposite,
+  is_before-transitive,
+  no_earlier-transitive,
+  later-tells,
+}
+use Rattle.tsc_span.specs.Span.{key_cmp}
+use Rattle.timestamp_cache.specs.Words.{Time, is_before, Owner, KeyBytes}
+use Rattle.mvcc_range.specs.Versions.{
+  Content,
+  Version,
+  Write,
+  Chains,
+  chain_of,
+  after_writes,
+  laid,
+  kept_from,
+  unless_deletion,
+  newest_time,
+  IsAfter,
+}
+use Rattle.mvcc_range.proofs.Placing.{each, found, found_laid, upto}
+use Rattle.mvcc_range.proofs.Laying.{AreNewestFirst}
+use Rattle.mvcc_range.proofs.RowsAsOf.{lower, above_other, is_at-same, AreSorted, above_first}
+
+-- ---- times
+
+-- a test that each time before the threshold passes
+abbrev pub PassesBefore : Time → (Time → Bool) → Type 0
+PassesBefore threshold passes = (u : Time) → is_before u threshold ≡ true → passes u ≡ true
+
+pub upto_passes : (at threshold : Time) → is_before at threshold ≡ false
+    → PassesBefore threshold (upto at)
+upto_passes at threshold on u early = elim (cases_Bool (is_before at u)) [
+  | inr n ↦ ap not n
+  | inl h ↦
+      absurd (both_ways (is_before at threshold) on (is_before-transitive at u threshold h early))
+]
+
+pub later_on : (a b : Time) → is_before (later a b) a ≡ false
+later_on a b = elim (later-tells a b) [
+  | inl h ↦ subst (λ (x : Time). is_before x a ≡ false) (sym h.1) (is_before-opposite a b h.0)
+  | inr h ↦ subst (λ (x : Time). is_before x a ≡ false) (sym h.1) (is_before-itself a)
+]
+
+-- what is before a time is before a later one
+before_later : (u a b : Time) → is_before b a ≡ false → is_before u a ≡ true → is_before u b ≡ true
+before_later u a b on h = elim (cases_Bool (is_before u b)) [
+  | inl e ↦ e
+  | inr n ↦ absurd (both_ways (is_before u a) (no_earlier-transitive a b u on n) h)
+]
+
+-- ---- what is kept of a key
+
+-- From a time on some versions say the same as all that were laid down.
+pub record AgreesFrom (threshold : Time) (kept all : List Version) : Type 0 where
+  pub found : (passes : Time → Bool) → PassesBefore threshold passes
+      → found passes kept ≡ found passes all
+  pub after : (t : Time) → is_before t threshold ≡ false → IsAfter (newest_time kept) t
+      → IsAfter (newest_time all) t
+
+pub agrees_itself : (threshold : Time) (vs : List Version) → AgreesFrom threshold vs vs
+agrees_itself threshold vs = record { found = λ passes h. refl; after = λ t on h. h }
+
+laid_after : (k : KeyBytes) (at : Time) (by : Owner) (ws : List Write) (kept all : List Version)
+    (t : Time) → (IsAfter (newest_time kept) t → IsAfter (newest_time all) t)
+    → IsAfter (newest_time (laid k at by ws kept)) t → IsAfter (newest_time (laid k at by ws all)) t
+laid_after k at by [] kept all t f h = f h
+laid_after k at by (w ∷ ws) kept all t f h = elim (cases_Bool (bytes_eq w.key k)) [
+  | inl own ↦ rw own (laid_after k at by ws (one ∷ kept) (one ∷ all) t (λ x. x) (there true own))
+  | inr other ↦ rw other (laid_after k at by ws kept all t f (there false other))
+]
+  where
+    one : Version
+    one = record { at = at; by = by; content = w.content }
+
+    there : (b : Bool) → bytes_eq w.key k ≡ b
+        → IsAfter (newest_time (laid k at by ws (if b then one ∷ kept else kept))) t
+    there b is =
+        subst (λ (x : Bool). IsAfter (newest_time (laid k at by ws (if x then one ∷ kept else
+        kept))) t) is h
+
+pub agrees_laid : (threshold : Time) (k : KeyBytes) (at : Time) (by : Owner) (ws : List Write)
+    (kept all : List Version) → AgreesFrom threshold kept all
+    → AgreesFrom threshold (laid k at by ws kept) (laid k at by ws all)
+agrees_laid threshold k at by ws kept all a = record {
+  found = λ passes h. found_laid passes k at by ws kept
+      ∙ (ap (λ (x : Content). if passes at then after_writes k x ws else x) (a.found passes h)
+      ∙ sym (found_laid passes k at by ws all));
+  after = λ t on. laid_after k at by ws kept all t (a.after t on);
+}
+
+pub found_kept : (passes : Time → Bool) (from : Time) (vs : List Version) → PassesBefore from passes
+    → found passes (kept_from from vs) ≡ found passes vs
+found_kept passes from [] h = refl
+found_kept passes from (v ∷ vs) h = elim (cases_Bool (is_before v.at from)) [
+  | inr n ↦ rw n (ap (λ (c : Content). if passes v.at then v.content else
+      c) (found_kept passes from vs h))
+  | inl early ↦ rw early (oldest v.content (h v.at early) refl)
+]
+  where
+    oldest : (c : Content) → passes v.at ≡ true → v.content ≡ c → found passes (unless_deletion v c)
+        ≡ found passes (v ∷ vs)
+    oldest None p e = rw p (sym e)
+    oldest (Some b) p e = rw p refl
+
+after_kept : (from : Time) (vs : List Version) (t : Time) → is_before t from ≡ false
+    → IsAfter (newest_time (kept_from from vs)) t → IsAfter (newest_time vs) t
+after_kept from [] t on h = h
+after_kept from (v ∷ vs) t on h = elim (cases_Bool (is_before v.at from)) [
+  | inr n ↦ subst (λ (b : Bool). IsAfter (newest_time (if b then unless_deletion v v.content else
+      v ∷ kept_from from vs)) t) n h
+  | inl early ↦ before_later v.at from t on early
+]
+
+pub agrees_kept : (threshold from : Time) (kept all : List Version) → is_before from threshold
+    ≡ false → AgreesFrom threshold kept all → AgreesFrom from (kept_from from kept) all
+agrees_kept threshold from kept all on a = record {
+  found = λ passes h. found_kept passes from kept h
+      ∙ a.found passes (λ u early. h u (before_later u threshold from on early));
+  after = λ t x h. a.after t (no_earlier-transitive threshold from t on x)
+      (after_kept from kept t x h);
+}
+
+all_kept : (P : Version → Type 0) (from : Time) (vs : List Version) → AllByRecursion P vs
+    → AllByRecursion P (kept_from from vs)
+all_kept P from [] all = tt
+all_kept P from (v ∷ vs) all = elim (cases_Bool (is_before v.at from)) [
+  | inr n ↦ rw n (all.0, all_kept P from vs all.1)
+  | inl early ↦ rw early (oldest v.content)
+]
+  where
+    oldest : (c : Content) → AllByRecursion P (unless_deletion v c)
+    oldest None = tt
+    oldest (Some b) = (all.0, tt)
+
+pub kept_newest_first : (from : Time) (vs : List Version) → AreNewestFirst vs
+    → AreNewestFirst (kept_from from vs)
+kept_newest_first from [] order = tt
+kept_newest_first from (v ∷ vs) order = elim (cases_Bool (is_before v.at from)) [
+  | inr n ↦ rw n (
+    all_kept (λ (u : Version). is_before v.at u.at ≡ false) from vs order.0,
+    kept_newest_first from vs order.1,
+  )
+  | inl early ↦ rw early (oldest v.content)
+]
+  where
+    oldest : (c : Content) → AreNewestFirst (unless_deletion v c)
+    oldest None = tt
+    oldest (Some b) = (tt, tt)
+
+-- What is not among those that are kept is not among all, from the time on.
+pub all_from_kept : (from : Time) (vs : List Version) (at : Time) (by : Owner)
+    → is_before at from ≡ false → AreNewestFirst vs
+    → AllByRecursion (λ (v : Version). v.at ≡ at → v.by ≡ by → ⊥) (kept_from from vs)
+    → AllByRecursion (λ (v : Version). v.at ≡ at → v.by ≡ by → ⊥) vs
+all_from_kept from [] at by on order all = tt
+all_from_kept from (v ∷ vs) at by on order all = elim (cases_Bool (is_before v.at from)) [
+  | inr n ↦ let parts = subst (λ (b : Bool). AllByRecursion (λ (u : Version). u.at ≡ at → u.by ≡ by
+      → ⊥) (if b then unless_deletion v v.content else v ∷ kept_from from vs)) n all in
+      (parts.0, all_from_kept from vs at by on order.1 parts.1)
+  | inl early ↦ (
+    other v early,
+    each (λ (u : Version). is_before v.at u.at ≡ false) (λ (u : Version). u.at ≡ at → u.by ≡ by
+        → ⊥) vs
+        (λ u none. other u (elim (cases_Bool (is_before u.at from)) [
+          | inl e ↦ e
+          | inr n ↦
+              absurd (both_ways (is_before v.at from) (no_earlier-transitive from u.at v.at n none)
+              early)
+        ])) order.0,
+  )
+]
+  where
+    other : (u : Version) → is_before u.at from ≡ true → u.at ≡ at → u.by ≡ by → ⊥
+    other u e same own =
+        both_ways (is_before at from) on (subst (λ (x : Time). is_before x from ≡ true) same e)
+
+-- ---- how many are kept
+
+pub take_next : (count : ℕ) (vs rest : List Version) (v : Version) → take count vs ++ v ∷ rest ≡ vs
+    → take (suc count) vs ≡ take count vs ++ v ∷ []
+take_next zero vs rest v is = ap (λ (xs : List Version). take 1 xs) (sym is)
+take_next (suc n) [] rest v is = absurd (let never : v ∷ rest ≡ [] = is in cc)
+take_next (suc n) (x ∷ vs) rest v is = let tail : take n vs ++ v ∷ rest ≡ vs = cc in
+    ap (λ (xs : List Version). x ∷ xs) (take_next n vs rest v tail)
+
+-- one version more is kept, where it is not earlier
+pub counted_on : (vs rest next : List Version) (v : Version) (count : ℕ) (from : Time)
+    → rest ≡ v ∷ next → is_before v.at from ≡ false
+    → count + length rest ≡ length vs → take count vs ++ rest ≡ vs → take count vs
+    ++ kept_from from rest ≡ kept_from from vs
+    → (count + 1 + length next ≡ length vs) × (take (count + 1) vs ++ next ≡ vs)
+    × (take (count + 1) vs ++ kept_from from next ≡ kept_from from vs)
+counted_on vs rest next v count from e late counted parts kept =
+    let whole : take count vs ++ v ∷ next ≡ vs = subst (λ (xs : List Version). take count vs
+    ++ xs ≡ vs) e parts in
+    let step : take (count + 1) vs ≡ take count vs ++ v ∷ [] =
+    rw add-one (take_next count vs next v whole) in
+    let first : kept_from from rest ≡ v ∷ kept_from from next = ap (kept_from from) e
+    ∙ not_earlier from v next late in (
+      (let long : length rest ≡ suc (length next) = ap (λ (xs : List Version). length xs) e in
+          omega arith),
+      ap (λ (xs : List Version). xs ++ next) step ∙ (append_assoc (take count vs) (v ∷ []) next
+          ∙ whole),
+      ap (λ (xs : List Version). xs ++ kept_from from next) step
+          ∙ (append_assoc (take count vs) (v ∷ []) (kept_from from next)
+          ∙ (ap (λ (xs : List Version). take count vs ++ xs) (sym first) ∙ kept)),
+    )
+  where
+    not_earlier : (from : Time) (v : Version) (next : List Version) → is_before v.at from ≡ false
+        → kept_from from (v ∷ next) ≡ v ∷ kept_from from next
+    not_earlier from v next late = rw late refl
+
+-- the newest of the earlier ones is the last, unless it is a deletion
+pub kept_last : (vs rest next : List Version) (v : Version) (count : ℕ) (from : Time)
+    → rest ≡ v ∷ next → is_before v.at from ≡ true
+    → take count vs ++ rest ≡ vs → take count vs ++ kept_from from rest ≡ kept_from from vs
+    → take (count + length (unless_deletion v v.content)) vs ≡ kept_from from vs
+kept_last vs rest next v count from e early parts kept =
+    let whole : take count vs ++ v ∷ next ≡ vs = subst (λ (xs : List Version). take count vs
+    ++ xs ≡ vs) e parts in
+    let first : kept_from from rest ≡ unless_deletion v v.content = ap (kept_from from) e
+    ∙ earlier from v next early in
+    oldest whole v.content ∙ (ap (λ (xs : List Version). take count vs ++ xs) (sym first) ∙ kept)
+  where
+    earlier : (from : Time) (v : Version) (next : List Version) → is_before v.at from ≡ true
+        → kept_from from (v ∷ next) ≡ unless_deletion v v.content
+    earlier from v next early = rw early refl
+
+    oldest : take count vs ++ v ∷ next ≡ vs → (c : Content)
+        → take (count + length (unless_deletion v c)) vs ≡ take count vs ++ unless_deletion v c
+    oldest whole None = let same : count + 0 ≡ count = omega arith in ap (λ (n : ℕ). take n vs) same
+        ∙ sym (append-nil (take count vs))
+    oldest whole (Some b) = rw add-one (take_next count vs next v whole)
+
+-- ---- key by key
+
+none_above : (k : KeyBytes) (es : Chains) → AllByRecursion (λ (q : KeyBytes). lower k q ≡ true)
+    (keys_of es) → chain_of es k ≡ []
+none_above k [] all = refl
+none_above k (e ∷ es) all = let test : is_eq (key_cmp k e.0) ≡ false = is_at-same k e.0
+    ∙ above_other k e.0 all.0 in rw test (none_above k es all.1)
+
+first_chain : (k : KeyBytes) (e : KeyBytes × List Version) (es : Chains)
+    → is_eq (key_cmp k e.0) ≡ true → chain_of (e ∷ es) k ≡ e.1
+first_chain k e es test = rw test refl
+
+other_chain : (k : KeyBytes) (e : KeyBytes × List Version) (es : Chains)
+    → is_eq (key_cmp k e.0) ≡ false → chain_of (e ∷ es) k ≡ chain_of es k
+other_chain k e es test = rw test refl
+
+no_length : (n : ℕ) → false ≡ not (n == 0) → n ≡ 0
+no_length n h = grind (arith, nat_tests)
+
+nothing : (vs : List Version) → false ≡ not (length vs == 0) → vs ≡ []
+nothing [] h = refl
+nothing (v ∷ vs) h = absurd (let never : suc (length vs) ≡ 0 = no_length (suc (length vs)) h in
+    omega arith)
+
+-- Each key has what is kept of its versions, where a map's test keeps that, and drops the keys that
+-- have none left.
+pub retained : {F : Type 0} (T : F → KeyBytes → List Version → Bool → List Version → F
+    → Type 0) (from : Time) (f : F)
+    → ((k : KeyBytes) (vs : List Version) (b : Bool) (w : List Version) (g : F) → T f k vs b w g
+    → (b ≡ not (length w == 0)) × (w ≡ kept_from from vs) × (g ≡ f))
+    → (es left : Chains) → AreSorted es → RetainsPairs T f es left → (k : KeyBytes)
+    → chain_of left k ≡ kept_from from (chain_of es k)
+retained T from f call [] left sorted is k = ap (λ (xs : Chains). chain_of xs k) is
+retained {F} T from f call (e ∷ es) left sorted (b, w, g, rest, called, more, is) k =
+    let c = call e.0 e.1 b w g called in
+    let so_far = retained T from f call es rest (sorted_tail key_cmp e.0 (keys_of es) sorted)
+    (subst (λ (h : F). RetainsPairs T h es rest) c.2 more) k in
+    elim (cases_Bool (is_eq (key_cmp k e.0))) [
+      | inl test ↦ own b test c.0 c.1 is so_far
+          ∙ sym (ap (kept_from from) (first_chain k e es test))
+      | inr test ↦ other b test is ∙ (so_far ∙ sym (ap (kept_from from) (other_chain k e es test)))
+    ]
+  where
+    own : (b : Bool) → is_eq (key_cmp k e.0) ≡ true → b ≡ not (length w == 0)
+        → w ≡ kept_from from e.1 → left ≡ cond b ((e.0, w) ∷ rest) rest
+        → chain_of rest k ≡ kept_from from (chain_of es k) → chain_of left k ≡ kept_from from e.1
+    own true test some kept is so_far = ap (λ (xs : Chains). chain_of xs k) is
+        ∙ (first_chain k (e.0, w) rest test ∙ kept)
+    own false test none kept is so_far =
+        let same : e.0 ≡ k = (bytes_eq-Decides e.0 k).0 (sym (is_at-same k e.0) ∙ test) in
+        let gone : chain_of es k ≡ [] =
+        none_above k es (subst (λ (q : KeyBytes). AllByRecursion (λ (p : KeyBytes). lower q p
+        ≡ true) (keys_of es)) same (above_first e es sorted)) in
+        ap (λ (xs : Chains). chain_of xs k) is
+        ∙ (so_far ∙ (ap (kept_from from) gone ∙ (sym (nothing w none) ∙ kept)))
+
+    other : (b : Bool) → is_eq (key_cmp k e.0) ≡ false → left ≡ cond b ((e.0, w) ∷ rest) rest
+        → chain_of left k ≡ chain_of rest k
+    other true test is = ap (λ (xs : Chains). chain_of xs k) is ∙ other_chain k (e.0, w) rest test
+    other false test is = ap (λ (xs : Chains). chain_of xs k) is

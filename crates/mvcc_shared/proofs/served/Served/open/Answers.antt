@@ -1,0 +1,11 @@
+use Rattle.std.proofs.Common.{sym, subst, List}
+use Rattle.mvcc_range.specs.Serial.{Transaction}
+use Rattle.mvcc_shared.specs.Served.{WasServed}
+use Rattle.mvcc_shared.proofs.Serving.{served, was_opened}
+use Rattle.mvcc_shared.proofs.served.Served.open.Goals as goal
+
+pub invariant_of-result : goal.invariant_of-result
+invariant_of-result c =
+    let range = c.in_ok-open.field-0 in
+    subst (λ (log : List Transaction). WasServed (served range log)) (sym c.new.ensures.items)
+    (was_opened range c.in_ok-open.ensures.opened)

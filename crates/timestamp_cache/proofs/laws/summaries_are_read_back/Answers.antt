@@ -1,0 +1,5 @@
+use Rattle.timestamp_cache.proofs.SummaryFrame.{read_back, cut_refused}
+use Rattle.timestamp_cache.proofs.laws.summaries_are_read_back.Goals as goal
+
+pub returns : goal.returns
+returns c = record { whole = read_back; cut = cut_refused }

@@ -1,0 +1,4 @@
+mod BoxedStore
+mod Held
+mod PtrValues
+mod StoreGoes

@@ -1,0 +1,28 @@
+-- The number tells what the store did, or that there is none.
+use Rattle.std.proofs.Common.{rules}
+use Rattle.std.specs.Prelude.{Err, Some}
+use Rattle.tsc_ffi_store.specs.declared.refusal.Refusal.TheVariants as refusal
+use Rattle.tsc_ffi_store.specs.SeatCalls.{AnswersSeatFigures}
+use Rattle.tsc_ffi_store.specs.Store.{DoesToSeat}
+use Rattle.tsc_c.proofs.Held.{in_store, no_seat}
+use Rattle.tsc_c.proofs.seat_calls.tsc_seat_figures_of.Goals as goal
+
+pub returns-in-Some : goal.returns-in-Some
+returns-in-Some c = record {
+  answers = record {
+    did = c.seat_figures.result;
+    code_is = c.code.ensures;
+    answers = in_store (λ o n. DoesToSeat (AnswersSeatFigures c.seat_figures.new.seen c.seat_figures.new.out) o n c.args.handle c.seat_figures.result) c.args.store.now.owned (Some c.seat_figures.new.self) c.in-Some.held.now c.seat_figures.new.self (search rules) (search rules) c.seat_figures.ensures.answers;
+    kept = c.seat_figures.ensures.kept;
+  };
+}
+
+pub returns-in-None : goal.returns-in-None
+returns-in-None c = record {
+  answers = record {
+    did = Err refusal.Closed;
+    code_is = search rules;
+    answers = no_seat (AnswersSeatFigures c.args.seen.now c.args.out.now) c.args.store.now.owned c.args.store.now.owned c.args.handle (search rules) (search rules);
+    kept = search rules;
+  };
+}

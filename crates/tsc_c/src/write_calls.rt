@@ -1,0 +1,55 @@
+//! The calls of writes: from when on they may be made.
+
+ghost use Rattle.std.specs.Prelude.{◌≡◌};
+ghost use Rattle.tsc_ffi_store.specs.Codes.{Tells};
+ghost use Rattle.tsc_ffi_store.specs.Decode.{time_of};
+ghost use Rattle.tsc_ffi_store.specs.Store.{slots_of, AnswersOfCache, DoesToSeat};
+ghost use Rattle.tsc_ffi_store.specs.Writes.{write_asked, AnswersWrite, AnswersSeatWrite};
+
+use crate::store_ptr::StorePtr;
+use tsc_ffi_store::{Refusal, TscSpan, TscTime, TscValue, WriteArgs, code};
+
+/// The earliest time, from that of a write on, at which its transaction may write some spans.
+#[unsafe(no_mangle)]
+pub extern "C" fn tsc_earliest_write(
+    store: &mut StorePtr,
+    handle: u64,
+    keys: &[u8],
+    spans: &[TscSpan],
+    write: &TscValue,
+    out: &mut TscTime,
+) -> u32
+    ensures answers { Tells (AnswersOfCache
+        (AnswersWrite (write_asked keys.now spans.now write.now) (time_of out.new))
+        (slots_of store.old.owned) handle) (out.new ≡ out.old) result }
+    ensures unchanged { store.new.owned ≡ store.old.owned }
+{
+    let args = WriteArgs { keys, spans, write };
+    match store.store_mut() {
+        Some(held) => code(held.earliest_write(handle, &args, out)),
+        None => Refusal::Closed.code(),
+    }
+}
+
+/// The same, by what a seat answers, and how many Adds the seat has seen then.
+#[unsafe(no_mangle)]
+pub extern "C" fn tsc_seat_earliest_write(
+    store: &mut StorePtr,
+    handle: u64,
+    keys: &[u8],
+    spans: &[TscSpan],
+    write: &TscValue,
+    seen: &mut u64,
+    out: &mut TscTime,
+) -> u32
+    ensures answers { Tells (DoesToSeat
+        (AnswersSeatWrite (write_asked keys.now spans.now write.now) seen.new (time_of out.new))
+        (slots_of store.old.owned) (slots_of store.new.owned) handle)
+        ((seen.new ≡ seen.old) × (out.new ≡ out.old)) result }
+{
+    let args = WriteArgs { keys, spans, write };
+    match store.store_mut() {
+        Some(held) => code(held.seat_earliest_write(handle, &args, seen, out)),
+        None => Refusal::Closed.code(),
+    }
+}

@@ -1,4 +1,0 @@
-mod BoxedTable
-mod Chains
-mod PlaceValues
-mod TableGoes

@@ -1,9 +1,0 @@
--- The span is that of the two keys in their order.
-use Rattle.std.proofs.Common.{rules}
-use Rattle.tsc_c_calls.proofs.halls.seat_add_value.Goals as goal
-
-pub returns-in-Some-clause-added : goal.returns-in-Some-clause-added
-returns-in-Some-clause-added c = search rules
-
-pub returns-in-Some-clause-refused : goal.returns-in-Some-clause-refused
-returns-in-Some-clause-refused c = search rules

@@ -1,3 +1,0 @@
-mod Chairs
-pub mod Crossing
-mod Homing

@@ -1,3 +1,0 @@
-pub mod Homes
-pub mod HomeSteps
-pub mod Seating

@@ -1,6 +1,0 @@
-mod AtNumber
-mod LeftAlone
-mod MarksMade
-mod NewSeats
-mod NextNumber
-mod Trying

@@ -1,6 +1,0 @@
-pub mod Codes
-pub mod Asked
-pub mod Marks
-pub mod Calls
-pub mod Table
-pub mod SeatCalls

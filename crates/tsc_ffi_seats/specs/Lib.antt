@@ -1,0 +1,3 @@
+pub mod ReturnSlots
+pub mod ReturnSteps
+pub mod Seating

@@ -1,0 +1,181 @@
+//! The slots in which the seats of a cache are returned.
+//!
+//! They are a table with a word and a slot for each seat of the cache. Each seat has a *slot token*, which alone may take
+//! the slot of that number. A return has three steps: the token takes the slot, lays the seat there, and gives the slot
+//! back as the word becomes 1. The keeper reads the words one after another, and counts the seats that are returned.
+ghost use Rattle.std.specs.Prelude.{◌≡◌, [], ◌<◌, ◌≤◌, ◌+◌, length, All, IfOk, true};
+ghost use Rattle.std.specs.Vec.{vec_len, vec_capacity};
+ghost use Rattle.tsc_ffi_seats.specs.ReturnSlots.{first_known, dealing, keeping, token, spent};
+ghost use Rattle.tsc_ffi_seats.specs.ReturnSteps.{others, first};
+ghost use Rattle.tsc_ffi_seats.specs.Seating.{IsSized};
+
+use atomic_table::{Play, Seat as TableSeat, Shared, Split, Table, TableRule};
+use std::alloc::Global;
+use tsc_shared::{Seat, SharedCache};
+use tsc_time::NoMemory;
+
+/// What a token knows: which slots it alone may take, whether it has taken them, and how many seats from 0 on are returned.
+/// No value of it is made.
+pub struct Known {
+    pub from: u32,
+    pub to: u32,
+    pub taken: bool,
+    pub returned: u32,
+}
+
+/// The slot of each word that is 1 has a seat. No two tokens may take one slot.
+pub struct ReturnRule;
+
+impl TableRule<Option<Seat>, Known, SharedCache> for ReturnRule {
+    ghost use Rattle.tsc_ffi_seats.specs.ReturnSlots.{IsKept, first_known};
+
+    ghost holds = { IsKept };
+
+    ghost first = { first_known };
+}
+
+/// The slots for the seats of one cache.
+pub type ReturnSlots = Table<Option<Seat>, Known, SharedCache, ReturnRule, Global>;
+
+/// The slots as threads share them.
+pub type SharedSlots = Shared<Option<Seat>, Known, SharedCache, ReturnRule>;
+
+/// What its holder knows of the slots, and may take of them.
+pub type SlotToken = TableSeat<Option<Seat>, Known>;
+
+/// The first of the slots gets a token of its own.
+struct DealToken;
+
+impl Split<Known> for DealToken {
+    ghost use Rattle.tsc_ffi_seats.specs.ReturnSteps.{others, first};
+
+    ghost left = { others };
+
+    ghost right = { first };
+}
+
+/// A token takes its slot.
+struct TakeSlot;
+
+impl Play<Option<Seat>, Known> for TakeSlot {
+    ghost use Rattle.tsc_ffi_seats.specs.ReturnSteps.{takes_slot};
+
+    ghost then = { takes_slot };
+}
+
+/// A seat is returned.
+struct ReturnSeat;
+
+impl Play<Option<Seat>, Known> for ReturnSeat {
+    ghost use Rattle.tsc_ffi_seats.specs.ReturnSteps.{returns_seat};
+
+    ghost then = { returns_seat };
+}
+
+/// The keeper sees whether the next seat is returned.
+struct SeeReturned;
+
+impl Play<Option<Seat>, Known> for SeeReturned {
+    ghost use Rattle.tsc_ffi_seats.specs.ReturnSteps.{sees_returned};
+
+    ghost then = { sees_returned };
+}
+
+/// Slots for the seats of a cache, none of which is returned, and the token from which all others are dealt.
+pub(crate) fn new_return_slots(
+    alloc: Global,
+    cache: &SharedCache,
+    seats: u32,
+) -> Result<(ReturnSlots, SlotToken), NoMemory>
+    requires seats { seats ≡ cache.now.seats }
+    ensures slots { IfOk result (λ made. IsSized made.0.shared.table_id seats × (made.0.shared.key ≡ cache.now)) }
+    ensures dealer { IfOk result (λ made. (made.1.table_id ≡ made.0.shared.table_id) × (made.1.me ≡ (dealing 0 seats 0, []))) }
+{
+    let words = vec![in alloc; 0; seats as usize]?;
+    match Table::vacant(alloc, words.as_slice(), seats as usize, cache) {
+        Ok(made) => Ok(made),
+        Err(_refused) => Err(NoMemory),
+    }
+}
+
+/// The next token.
+pub(crate) fn next_token(slots: &SharedSlots, dealer: &mut SlotToken) -> SlotToken
+    requires table { dealer.old.table_id ≡ slots.now.table_id }
+    requires words { 0 < slots.now.table_id.words }
+    requires dealer { dealer.old.me ≡ (dealing dealer.old.me.0.from dealer.old.me.0.to 0, []) }
+    requires some { dealer.old.me.0.from < dealer.old.me.0.to }
+    ensures table { dealer.new.table_id ≡ dealer.old.table_id }
+    ensures others { dealer.new.me ≡ (dealing (dealer.old.me.0.from + 1) dealer.old.me.0.to 0, []) }
+    ensures its_table { result.table_id ≡ dealer.old.table_id }
+    ensures token { result.me ≡ (token dealer.old.me.0.from, []) }
+{
+    slots.split_seat::<DealToken>(dealer)
+}
+
+/// Returns a seat, by its token.
+pub(crate) fn return_seat(slots: &SharedSlots, mut at: SlotToken, seat: Seat)
+    requires table { at.table_id ≡ slots.now.table_id }
+    requires token { at.me ≡ (token seat.number, []) }
+    requires cache { seat.cache ≡ slots.now.key }
+    requires sized { IsSized slots.now.table_id slots.now.key.seats }
+    requires low { seat.number < slots.now.key.seats }
+{
+    let number = seat.number() as usize;
+    slots.load::<TakeSlot>(&mut at, number);
+    slots.exchange(&mut at, number, Some(seat));
+    slots.store::<ReturnSeat>(&mut at, number, 1);
+}
+
+/// Whether all seats are returned. It counts on from those that were known to be.
+pub(crate) fn are_all_returned(
+    slots: &SharedSlots,
+    keeper: &mut SlotToken,
+    seats: u32,
+    returned: &mut u32,
+) -> bool
+    requires table { keeper.old.table_id ≡ slots.now.table_id }
+    requires sized { IsSized slots.now.table_id seats }
+    requires known { keeper.old.me ≡ (keeping seats returned.old, []) }
+    requires some { returned.old ≤ seats }
+    ensures table { keeper.new.table_id ≡ keeper.old.table_id }
+    ensures known { keeper.new.me ≡ (keeping seats returned.new, []) }
+    ensures some { returned.new ≤ seats }
+    ensures all { result ≡ true → returned.new ≡ seats }
+{
+    while *returned < seats {
+        if slots.load::<SeeReturned>(keeper, *returned as usize) != 1 {
+            return false;
+        }
+        *returned += 1;
+    }
+    true
+}
+
+/// The seats, all of which are returned, in a list that has room for them.
+pub(crate) fn collect_seats(
+    slots: ReturnSlots,
+    keeper: SlotToken,
+    seats: u32,
+    mut room: Vec<Seat>,
+) -> Vec<Seat>
+    requires table { keeper.table_id ≡ slots.shared.table_id }
+    requires sized { IsSized slots.shared.table_id seats }
+    requires seats { seats ≡ slots.shared.key.seats }
+    requires known { keeper.me ≡ (keeping seats seats, []) }
+    requires empty { room.items ≡ [] }
+    requires room { seats ≤ vec_capacity room }
+    ensures cache { All (λ seat. seat.cache ≡ slots.shared.key) result.items }
+    ensures all { length result.items ≡ seats }
+{
+    let mut closed = slots.close_with(keeper);
+    for slot in 0..seats as usize {
+        let Some(seat) = closed.take(slot) else {
+            unreachable!()
+        };
+        let Ok(()) = room.push(seat) else {
+            unreachable!()
+        };
+    }
+    closed.free();
+    room
+}

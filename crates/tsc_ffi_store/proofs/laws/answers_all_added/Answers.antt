@@ -1,0 +1,5 @@
+use Rattle.tsc_ffi_store.proofs.Chains.{answers_all_added}
+use Rattle.tsc_ffi_store.proofs.laws.answers_all_added.Goals as goal
+
+pub returns : goal.returns
+returns c = answers_all_added

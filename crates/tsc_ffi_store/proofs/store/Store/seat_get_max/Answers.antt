@@ -1,0 +1,16 @@
+-- What is done at the seat of the handle, the store does.
+use Rattle.std.proofs.Common.{inl, inr, rules}
+use Rattle.tsc_ffi_store.proofs.AtHandle.{when_some}
+use Rattle.tsc_ffi_store.proofs.store.Store.seat_get_max.Goals as goal
+
+pub returns-in-Some-clause-answers : goal.returns-in-Some-clause-answers
+returns-in-Some-clause-answers c = inr (record {
+  seat = c.in-Some.seat.now;
+  after = c.look_at.new.seat;
+  holds = search rules;
+  leaves = when_some c.seat_mut.result c.in-Some.seat c.in-Some.is (c.seat_mut.follows.holds c.look_at.new.seat);
+  works = record { looked = c.look_at.ensures.looked; refused = c.look_at.ensures.refused; unchanged = c.look_at.ensures.unchanged };
+})
+
+pub returns-in-None-clause-answers : goal.returns-in-None-clause-answers
+returns-in-None-clause-answers c = inl (record { none = search rules; closed = search rules }, search rules)

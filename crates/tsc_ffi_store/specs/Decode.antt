@@ -1,0 +1,176 @@
+-- What the arguments of a call from C ask for, and why they are refused.
+use Rattle.std.specs.Prelude.{◌≡◌, ◌⊎◌, ◌<◌, ◌==◌, ℕ, List, length, Bool, true, false, Option, Some, None, Result, Err, if◌then◌else◌}
+use Rattle.tsc_time.specs.Time.{Time, is_in_range}
+use Rattle.tsc_time.specs.OwnedTime.{OwnedTime, owner_of}
+use Rattle.tsc_span.specs.declared.span.Ends.{Ends}
+use Rattle.tsc_span.specs.Span.{KeyBytes, Interval, longest_key, point, range, range_for_lookup, onward}
+use Rattle.tsc_cache.specs.declared.added.Added.{Added}
+use Rattle.tsc_cache.specs.declared.config.ConfigFault.{ConfigFault}
+use Rattle.tsc_cache.specs.declared.config.ConfigFault.TheVariants as fault
+use Rattle.tsc_cache.specs.declared.figures.Figures.{Figures}
+use Rattle.tsc_cache.specs.Settings.{Settings, settings_of}
+use Rattle.tsc_ffi_store.specs.declared.ctypes.TscTime.{TscTime}
+use Rattle.tsc_ffi_store.specs.declared.ctypes.TscValue.{TscValue}
+use Rattle.tsc_ffi_store.specs.declared.ctypes.TscAdded.{TscAdded}
+use Rattle.tsc_ffi_store.specs.declared.ctypes.TscFigures.{TscFigures}
+use Rattle.tsc_ffi_store.specs.declared.ctypes.TscMark.{TscMark}
+use Rattle.tsc_ffi_store.specs.declared.ctypes.SpanArgs.{SpanArgs}
+use Rattle.tsc_ffi_store.specs.declared.ctypes.AddArgs.{AddArgs}
+use Rattle.tsc_ffi_store.specs.declared.ctypes.BatchArgs.{BatchArgs}
+use Rattle.tsc_ffi_store.specs.declared.ctypes.ConfigArgs.{ConfigArgs}
+use Rattle.tsc_ffi_store.specs.declared.decode.Form.{Form}
+use Rattle.tsc_ffi_store.specs.declared.decode.Form.TheVariants.{Point, Range, Onward}
+use Rattle.tsc_ffi_store.specs.declared.refusal.Refusal.{Refusal}
+use Rattle.tsc_ffi_store.specs.declared.refusal.Refusal.TheVariants as refusal
+
+-- the time of some words
+abbrev pub time_of : TscTime → Time
+time_of words = record { wall = words.wall; logical = words.logical }
+
+-- the value of some words: sixteen zero bytes name no owner
+abbrev pub value_of : TscValue → OwnedTime
+value_of words = record { time = record { wall = words.wall; logical = words.logical }; owner = owner_of words.owner }
+
+-- what an Add did, by the words that tell it
+abbrev pub added_of : TscAdded → Added
+added_of words = record { kept = words.kept; rotated = words.rotated; evicted = words.evicted }
+
+-- the words that tell figures: all but the floor
+abbrev pub figures_told : Figures → TscFigures
+figures_told figures = record { pages = figures.pages; rotations = figures.rotations; nodes = figures.nodes; bytes = figures.bytes }
+
+-- What a call says of a span: two keys, and a number for its ends.
+pub record AskedSpan : Type 0 where
+  pub from : KeyBytes
+  pub to : KeyBytes
+  pub ends : ℕ
+
+abbrev pub span_asked : KeyBytes → KeyBytes → ℕ → AskedSpan
+span_asked from to ends = record { from = from; to = to; ends = ends }
+
+abbrev pub asked_span : SpanArgs → AskedSpan
+asked_span args = span_asked args.from.now args.to.now args.ends
+
+-- What a call says of an Add of one span.
+pub record AskedAdd : Type 0 where
+  pub span : AskedSpan
+  pub value : OwnedTime
+  pub moment : Time
+
+abbrev pub add_asked : AskedSpan → TscValue → TscTime → AskedAdd
+add_asked span value moment = record { span = span; value = value_of value; moment = time_of moment }
+
+abbrev pub asked_add : AddArgs → AskedAdd
+asked_add args = add_asked (asked_span args.span) args.value.now args.moment.now
+
+-- What a call says of an Add of several marks.
+pub record AskedBatch : Type 0 where
+  pub keys : List ℕ
+  pub marks : List TscMark
+  pub moment : Time
+
+abbrev pub batch_asked : List ℕ → List TscMark → TscTime → AskedBatch
+batch_asked keys marks moment = record { keys = keys; marks = marks; moment = time_of moment }
+
+abbrev pub asked_batch : BatchArgs → AskedBatch
+asked_batch args = batch_asked args.keys.now args.marks.now args.moment.now
+
+-- What a call says of a configuration.
+pub record AskedConfig : Type 0 where
+  pub page_first : ℕ
+  pub page_max : ℕ
+  pub min_pages : ℕ
+  pub retention : ℕ
+  pub low_water : Time
+
+abbrev pub config_asked : ℕ → ℕ → ℕ → ℕ → TscTime → AskedConfig
+config_asked page_first page_max min_pages retention low_water =
+    record { page_first = page_first; page_max = page_max; min_pages = min_pages; retention = retention; low_water = time_of low_water }
+
+abbrev pub asked_config : ConfigArgs → AskedConfig
+asked_config args = config_asked args.page_first args.page_max args.min_pages args.retention args.low_water.now
+
+-- the settings that a call names
+abbrev pub settings_asked : AskedConfig → Result Settings ConfigFault
+settings_asked asked = settings_of asked.page_first asked.page_max asked.min_pages asked.retention asked.low_water
+
+-- a range, and which of its ends are excluded
+abbrev pub ranged : Bool → Bool → Form
+ranged from to = Range (record { exclude_from = from; exclude_to = to })
+
+-- What a number says of the ends of a span: one excludes the first key, two the second, four means that there is no end, and eight the first key alone.
+abbrev pub form_of : ℕ → Option Form
+form_of ends =
+    if ends == 0 then Some (ranged false false)
+    else if ends == 1 then Some (ranged true false)
+    else if ends == 2 then Some (ranged false true)
+    else if ends == 3 then Some (ranged true true)
+    else if ends == 4 then Some (Onward false)
+    else if ends == 5 then Some (Onward true)
+    else if ends == 8 then Some Point
+    else None
+
+-- The span to be added that two keys name in a form. The second key is passed over where the form has none.
+abbrev pub formed_to_add : KeyBytes → KeyBytes → Option Form → Option Interval
+formed_to_add from to None = None
+formed_to_add from to (Some Point) = Some (point from)
+formed_to_add from to (Some (Range ends)) = range from to ends.exclude_from ends.exclude_to
+formed_to_add from to (Some (Onward excluded)) = Some (onward from excluded)
+
+-- the same of a span to be looked up, in which an inverted range is the empty span
+abbrev pub formed_to_look_up : KeyBytes → KeyBytes → Option Form → Option Interval
+formed_to_look_up from to None = None
+formed_to_look_up from to (Some Point) = Some (point from)
+formed_to_look_up from to (Some (Range ends)) = Some (range_for_lookup from to ends.exclude_from ends.exclude_to)
+formed_to_look_up from to (Some (Onward excluded)) = Some (onward from excluded)
+
+-- the span to be added that a call names
+abbrev pub add_span : AskedSpan → Option Interval
+add_span asked = formed_to_add asked.from asked.to (form_of asked.ends)
+
+-- and the span to be looked up
+abbrev pub lookup_span : AskedSpan → Option Interval
+lookup_span asked = formed_to_look_up asked.from asked.to (form_of asked.ends)
+
+-- Why a time was refused.
+abbrev pub RefusesTime : Refusal → Time → Type 0
+RefusesTime why t = (why ≡ refusal.Time) × (is_in_range t ≡ false)
+
+-- Why ends were refused. A lookup asks no more of its keys and their ends.
+abbrev pub RefusesEnds : Refusal → ℕ → Type 0
+RefusesEnds why ends = (why ≡ refusal.Ends) × (form_of ends ≡ None)
+
+-- Why a key was refused.
+abbrev pub RefusesKey : Refusal → KeyBytes → Type 0
+RefusesKey why key = ((why ≡ refusal.KeyTooLong) × (longest_key < length key)) ⊎ (why ≡ refusal.NoMemory)
+
+-- Why two keys were refused.
+abbrev pub RefusesKeys : Refusal → KeyBytes → KeyBytes → Type 0
+RefusesKeys why from to = RefusesKey why from ⊎ RefusesKey why to
+
+-- Why two keys were refused for a range.
+abbrev pub RefusesRange : Refusal → KeyBytes → KeyBytes → Ends → Type 0
+RefusesRange why from to ends = RefusesKeys why from to ⊎ ((why ≡ refusal.Inverted) × (range from to ends.exclude_from ends.exclude_to ≡ None))
+
+-- Why a second key was refused, which only a range has.
+abbrev pub RefusesSecondKey : Refusal → KeyBytes → ℕ → Type 0
+RefusesSecondKey why to ends = (excluded : Ends) × (form_of ends ≡ Some (Range excluded)) × RefusesKey why to
+
+-- Why a call names no span to be added.
+abbrev pub RefusesAddSpan : Refusal → AskedSpan → Type 0
+RefusesAddSpan why asked =
+    RefusesEnds why asked.ends ⊎ RefusesKey why asked.from ⊎ RefusesSecondKey why asked.to asked.ends ⊎ ((why ≡ refusal.Inverted) × (add_span asked ≡ None))
+
+-- Why settings were refused.
+abbrev pub RefusesSettings : Refusal → ConfigFault → Type 0
+RefusesSettings why f = ((why ≡ refusal.PageSize) × (f ≡ fault.PageSize)) ⊎ ((why ≡ refusal.MinPages) × (f ≡ fault.MinPages)) ⊎ ((why ≡ refusal.Retention) × (f ≡ fault.Retention))
+
+-- Settings of these numbers were refused.
+pub record RefusesNumbers (why : Refusal) (page_first page_max min_pages retention : ℕ) (low_water : Time) : Type 0 where
+  pub fault : ConfigFault
+  pub refused : settings_of page_first page_max min_pages retention low_water ≡ Err fault
+  pub told : RefusesSettings why fault
+
+-- Why a configuration was refused.
+abbrev pub RefusesConfig : Refusal → AskedConfig → Type 0
+RefusesConfig why asked = RefusesTime why asked.low_water ⊎ RefusesNumbers why asked.page_first asked.page_max asked.min_pages asked.retention asked.low_water

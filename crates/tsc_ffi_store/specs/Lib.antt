@@ -1,0 +1,11 @@
+pub mod CacheCalls
+pub mod Chain
+pub mod Codes
+pub mod Decode
+pub mod Lending
+pub mod Marks
+pub mod Puts
+pub mod SeatCalls
+pub mod Store
+pub mod Writes
+pub mod WriteSteps

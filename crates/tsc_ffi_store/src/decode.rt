@@ -1,0 +1,243 @@
+//! What the arguments of a call ask for: its times, its owner, its span and its configuration.
+
+ghost use Rattle.std.specs.Prelude.{◌≡◌, IfOk, IfErr, Ok as Made, Some};
+ghost use Rattle.tsc_span.specs.Span.{range};
+ghost use Rattle.tsc_cache.specs.Settings.{settings_of};
+ghost use Rattle.tsc_cache.specs.declared.config.ConfigFault.{ConfigFault as Fault};
+ghost use Rattle.tsc_ffi_store.specs.Decode.{time_of, value_of, added_of, figures_told, form_of, asked_span, add_span, lookup_span, asked_config, settings_asked, RefusesTime, RefusesEnds, RefusesKey, RefusesRange, RefusesAddSpan, RefusesSettings, RefusesNumbers, RefusesConfig};
+
+use crate::ctypes::{ConfigArgs, SpanArgs, TscAdded, TscFigures, TscTime, TscValue};
+use crate::refusal::Refusal;
+use std::alloc::Global;
+use tsc_cache::{Added, Config, ConfigFault, Figures};
+use tsc_span::{Ends, Key, Span, SpanFault, SpanRef};
+use tsc_time::{Timestamp, Value};
+use uuid::Uuid;
+
+/// The number of the form that has the first key alone.
+pub(crate) const POINT: u32 = 8;
+
+/// Which keys a span has.
+#[derive(Clone, Copy)]
+pub enum Form {
+    /// The first key alone.
+    Point,
+    /// From the first key to the second.
+    Range(Ends),
+    /// From the first key on, which may be excluded, without an end.
+    Onward(bool),
+}
+
+/// The time of these words.
+pub fn time(words: &TscTime) -> Result<Timestamp, Refusal>
+    ensures value { IfOk result (λ time. time ≡ time_of words.now) }
+    ensures refused { IfErr result (λ refusal. RefusesTime refusal (time_of words.now)) }
+{
+    time_of_parts(words.wall, words.logical)
+}
+
+/// The time of a wall time and a logical count.
+fn time_of_parts(wall: u64, logical: u32) -> Result<Timestamp, Refusal>
+    ensures value { IfOk result (λ time. time ≡ record { wall = wall; logical = logical }) }
+    ensures refused { IfErr result (λ refusal. RefusesTime refusal (record { wall = wall; logical = logical })) }
+{
+    match Timestamp::new(wall, logical) {
+        Some(time) => Ok(time),
+        None => Err(Refusal::Time),
+    }
+}
+
+/// The value of these words.
+pub fn value(words: &TscValue) -> Result<Value, Refusal>
+    ensures value { IfOk result (λ value. value ≡ value_of words.now) }
+    ensures refused { IfErr result (λ refusal. RefusesTime refusal (value_of words.now).time) }
+{
+    let time = time_of_parts(words.wall, words.logical)?;
+    Ok(Value::of(time, Uuid::from_bytes(words.owner)))
+}
+
+/// The time of a value's words.
+pub(crate) fn value_time(words: &TscValue) -> Result<Timestamp, Refusal>
+    ensures value { IfOk result (λ time. time ≡ (value_of words.now).time) }
+    ensures refused { IfErr result (λ refusal. RefusesTime refusal (value_of words.now).time) }
+{
+    time_of_parts(words.wall, words.logical)
+}
+
+/// The words of a time.
+pub fn words_of_time(time: Timestamp) -> TscTime
+    ensures { time ≡ time_of result }
+{
+    TscTime {
+        wall: time.wall(),
+        logical: time.logical(),
+    }
+}
+
+/// The words of a value.
+pub fn words_of(value: Value) -> TscValue
+    ensures { value ≡ value_of result }
+{
+    TscValue {
+        wall: value.time().wall(),
+        logical: value.time().logical(),
+        owner: owner_of(value),
+    }
+}
+
+/// The words of figures, which leave the floor out.
+pub fn words_of_figures(figures: Figures) -> TscFigures
+    ensures { result ≡ figures_told figures }
+{
+    TscFigures {
+        pages: figures.pages,
+        rotations: figures.rotations,
+        nodes: figures.nodes,
+        bytes: figures.bytes,
+    }
+}
+
+/// The words of what an Add did.
+pub fn words_of_added(added: Added) -> TscAdded
+    ensures { added ≡ added_of result }
+{
+    TscAdded {
+        evicted: added.evicted,
+        kept: added.kept,
+        rotated: added.rotated,
+    }
+}
+
+/// The owner's bytes, and zeros where nobody owns the value. They are copied by halves, as a lookup leaves them: to read at once what was just
+/// written as two words, a processor waits until both are in its cache.
+fn owner_of(value: Value) -> [u8; 16]
+    ensures { value ≡ value_of (record { wall = value.time.wall; logical = value.time.logical; owner = result }) }
+{
+    match value.owner() {
+        Some(owner) => by_halves(owner.into_bytes()),
+        None => [0; 16],
+    }
+}
+
+/// These bytes, copied in two halves.
+fn by_halves(bytes: [u8; 16]) -> [u8; 16]
+    ensures { result ≡ bytes }
+{
+    let mut copy = [0; 16];
+    copy[..8].copy_from_slice(&bytes[..8]);
+    copy[8..].copy_from_slice(&bytes[8..]);
+    copy
+}
+
+/// The form that a number means.
+fn form_meant_by(ends: u32) -> Result<Form, Refusal>
+    ensures value { IfOk result (λ form. form_of ends ≡ Some form) }
+    ensures refused { IfErr result (λ refusal. RefusesEnds refusal ends) }
+{
+    let (exclude_from, exclude_to) = match ends {
+        0 => (false, false),
+        1 => (true, false),
+        2 => (false, true),
+        3 => (true, true),
+        4 => return Ok(Form::Onward(false)),
+        5 => return Ok(Form::Onward(true)),
+        POINT => return Ok(Form::Point),
+        _ => return Err(Refusal::Ends),
+    };
+    Ok(Form::Range(Ends {
+        exclude_from,
+        exclude_to,
+    }))
+}
+
+/// The key of these bytes.
+pub(crate) fn key(alloc: Global, bytes: &[u8]) -> Result<Key, Refusal>
+    ensures value { IfOk result (λ key. key ≡ bytes.now) }
+    ensures refused { IfErr result (λ refusal. RefusesKey refusal bytes.now) }
+{
+    match Key::new(alloc, bytes) {
+        Ok(key) => Ok(key),
+        Err(SpanFault::KeyTooLong) => Err(Refusal::KeyTooLong),
+        Err(_) => Err(Refusal::NoMemory),
+    }
+}
+
+/// The span to be added that a call names.
+pub(crate) fn added_span(alloc: Global, args: &SpanArgs<'_>) -> Result<Span, Refusal>
+    ensures value { IfOk result (λ span. add_span (asked_span args.now) ≡ Some span) }
+    ensures refused { IfErr result (λ refusal. RefusesAddSpan refusal (asked_span args.now)) }
+{
+    match form_meant_by(args.ends)? {
+        Form::Point => Ok(Span::point(key(alloc, args.from)?)),
+        Form::Range(ends) => added_range(alloc, args.from, args.to, ends),
+        Form::Onward(excluded) => Ok(Span::onward(key(alloc, args.from)?, excluded)),
+    }
+}
+
+/// The range between two keys that is to be added. An inverted one is refused.
+fn added_range(alloc: Global, from: &[u8], to: &[u8], ends: Ends) -> Result<Span, Refusal>
+    ensures value { IfOk result (λ span. range from.now to.now ends.exclude_from ends.exclude_to ≡ Some span) }
+    ensures refused { IfErr result (λ refusal. RefusesRange refusal from.now to.now ends) }
+{
+    let from = key(alloc, from)?;
+    let to = key(alloc, to)?;
+    match Span::range(from, to, ends) {
+        Ok(span) => Ok(span),
+        Err(_) => Err(Refusal::Inverted),
+    }
+}
+
+/// The span to be looked up that a call names. It is over the keys where they lie, which may be of any length.
+pub(crate) fn looked_up_span<'a>(args: &SpanArgs<'a>) -> Result<SpanRef<'a>, Refusal>
+    ensures value { IfOk result (λ span. lookup_span (asked_span args.now) ≡ Some span) }
+    ensures refused { IfErr result (λ refusal. RefusesEnds refusal args.now.ends) }
+{
+    match form_meant_by(args.ends)? {
+        Form::Point => Ok(SpanRef::point(args.from)),
+        Form::Range(ends) => Ok(SpanRef::for_lookup(args.from, args.to, ends)),
+        Form::Onward(excluded) => Ok(SpanRef::onward(args.from, excluded)),
+    }
+}
+
+/// The configuration that a call names.
+pub(crate) fn config(args: &ConfigArgs<'_>) -> Result<Config, Refusal>
+    ensures value { IfOk result (λ config. settings_asked (asked_config args.now) ≡ Made config) }
+    ensures refused { IfErr result (λ why. RefusesConfig why (asked_config args.now)) }
+{
+    let low_water = time(args.low_water)?;
+    config_of(
+        args.page_first,
+        args.page_max,
+        args.min_pages,
+        args.retention,
+        low_water,
+    )
+}
+
+/// The configuration of these numbers.
+fn config_of(
+    page_first: u32,
+    page_max: u32,
+    min_pages: u32,
+    retention: u64,
+    low_water: Timestamp,
+) -> Result<Config, Refusal>
+    ensures value { IfOk result (λ config. settings_of page_first page_max min_pages retention low_water ≡ Made config) }
+    ensures refused { IfErr result (λ why. RefusesNumbers why page_first page_max min_pages retention low_water) }
+{
+    match Config::new(page_first, page_max, min_pages, retention, low_water) {
+        Ok(config) => Ok(config),
+        Err(fault) => Err(of_config(fault)),
+    }
+}
+
+/// Why a configuration was refused.
+fn of_config(fault: ConfigFault) -> Refusal
+    ensures { RefusesSettings result fault }
+{
+    match fault {
+        ConfigFault::PageSize => Refusal::PageSize,
+        ConfigFault::MinPages => Refusal::MinPages,
+        ConfigFault::Retention => Refusal::Retention,
+    }
+}

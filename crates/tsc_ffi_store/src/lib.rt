@@ -1,0 +1,27 @@
+//! The store behind a pointer of a program in C: caches, shared caches and their seats, by handles.
+//!
+//! [`Store`] has a method for each request. It takes what C hands over, as C lays it out ([`SpanArgs`] and its like), and
+//! either does all that is asked, or says by a [`Refusal`] why it did nothing.
+#![tactic(auto)]
+
+mod buffer;
+mod cache_calls;
+mod ctypes;
+mod decode;
+pub mod laws;
+mod marks;
+mod refusal;
+mod seat_calls;
+mod store;
+mod writes;
+
+pub use buffer::{REFUSED, put};
+pub use cache_calls::may_open;
+pub use ctypes::{
+    AddArgs, BatchArgs, ConfigArgs, SpanArgs, TscAdded, TscFigures, TscMark, TscSpan, TscTime,
+    TscValue, WriteArgs,
+};
+pub use decode::Form;
+pub use refusal::{OK, Refusal, code};
+pub use seat_calls::may_open_shared;
+pub use store::{Slot, Store};

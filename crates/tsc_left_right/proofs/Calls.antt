@@ -1,0 +1,116 @@
+-- The steps in the shape that the calls ask for.
+use Rattle.std.proofs.Common.{◌≡◌, ◌∙◌, refl, sym, ap, subst, ℕ, ◌+◌, ◌%◌, ◌^◌, [], ◌∷◌}
+use Rattle.std.specs.Prelude.{None, ◌==◌}
+use prog.Atomic.{either}
+use Rattle.atomic_table.specs.Table.{Step, Allows, rest}
+use Rattle.atomic_table.specs.Seated.{TableId}
+use Rattle.tsc_left_right.specs.declared.table.Setup.{Setup}
+use Rattle.tsc_left_right.specs.declared.table.Slot.{Slot}
+use Rattle.tsc_left_right.specs.declared.table.Knowledge.{Knowledge}
+use Rattle.tsc_left_right.specs.Rule.{LeftRightRule, at_rest, active_side, epoch_word, side_slot}
+use Rattle.tsc_left_right.specs.Steps.{At, state_in, with_state, number_of, seen_of, count_of}
+use Rattle.tsc_left_right.specs.Steps.{staged, acquires, pins, reads_head, unpins, SeesAll}
+use Rattle.tsc_left_right.specs.Participating.{Participant, IsOf, IsSized, IsAtRest, KeepsOne}
+use Rattle.tsc_left_right.specs.Participating.{IsFree, IsPinned}
+use Rattle.tsc_left_right.proofs.Hands.{Hand}
+use Rattle.tsc_left_right.proofs.Acquiring.{acquire_allowed}
+use Rattle.tsc_left_right.proofs.Pinning.{pin_allowed, read_head_allowed, unpin_allowed}
+
+-- what a participant knows and has in hand, written out
+pub whole : (me : At) (hand : Hand) → KeepsOne me.0 → me.1 ≡ hand
+    → me ≡ (with_state me.0 (state_in me.0), hand)
+whole me hand one is = λ i. (one i, is i)
+
+-- the slot that is first in hand
+pub first_in : (slots others : Hand) (i j : ℕ) (x : Slot) → slots ≡ (j, x) ∷ others → i ≡ j
+    → (y : Slot) × (slots ≡ (i, y) ∷ rest slots)
+first_in slots others i j x is same = (x, is ∙ (λ k. (sym same k, x) ∷ rest (sym is k)))
+
+pub acquire_at : (key : Setup) (slots : ℕ) (st : Step Slot) (id number : ℕ) (me : At) → IsFree me
+    → number ≡ number_of me.0
+    → Allows (LeftRightRule key) slots id me 0 (λ n. either (n == 0) (number + 1) n)
+    (acquires st me)
+acquire_at key slots st id number me free is =
+    subst (λ (n : ℕ). Allows (LeftRightRule key) slots id me 0 (λ m. either (m == 0) (n + 1) m)
+    (acquires st me)) (sym is)
+    (subst (λ (m : At). Allows (LeftRightRule key) slots id m 0 (λ n. either (n == 0)
+    (number_of me.0 + 1) n) (acquires st m)) (sym (whole me [] free.one free.hand))
+    (acquire_allowed key slots st id me.0.setup (state_in me.0) free.holds))
+
+pub pin_at : (key : Setup) (slots : ℕ) (st : Step Slot) (id number word : ℕ) (me : At) → IsAtRest me
+    → number ≡ number_of me.0 → word ≡ epoch_word number
+    → Allows (LeftRightRule key) slots id me word (λ n. (n + 1) % 2 ^ 64) (pins st me)
+pin_at key slots st id number word me rested is at =
+    subst (λ (n : ℕ). Allows (LeftRightRule key) slots id me n (λ n. (n + 1) % 2 ^ 64) (pins st me))
+    (sym (at ∙ ap epoch_word is))
+    (subst (λ (m : At). Allows (LeftRightRule key) slots id m (epoch_word (number_of me.0))
+    (λ n. (n + 1) % 2 ^ 64) (pins st m)) (sym rested)
+    (pin_allowed key slots st id me.0.setup (at_rest (number_of me.0) (seen_of me.0)
+    (count_of me.0)) [] refl))
+
+-- a seat at rest that was pinned
+pub pinned_then : (me me' : At) → IsAtRest me → me' ≡ (
+  with_state me.0 (staged (state_in me.0) 1),
+  me.1,
+) → me' ≡ (with_state me.0 (staged (state_in me.0) 1), [])
+pinned_then me me' rested is = is ∙ (λ i. (
+  with_state me.0 (staged (state_in me.0) 1),
+  (rested i).1,
+))
+
+pub asks_nothing : (me : At) → IsAtRest me → (state_in me.0).request ≡ None
+asks_nothing me rested = ap (λ (m : At). (state_in m.0).request) rested
+
+pub read_head_at : (key : Setup) (slots : ℕ) (st : Step Slot) (id : ℕ) (v : Knowledge) (me : At)
+    → me ≡ (with_state v (staged (state_in v) 1), []) → (state_in v).request ≡ None
+    → Allows (LeftRightRule key) slots id me 16 (λ n. n) (reads_head st me)
+read_head_at key slots st id v me is none = subst (λ (m : At). Allows (LeftRightRule key) slots id m
+    16 (λ n. n) (reads_head st m)) (sym is) (read_head_allowed key slots st id v.setup
+    (staged (state_in v) 1) [] refl none)
+
+-- what it has seen then, by what it knew before it was pinned
+pub seen_at : (st : Step Slot) (found number : ℕ) (v : Knowledge) (me me' : At)
+    → me ≡ (with_state v (staged (state_in v) 1), []) → number ≡ number_of v
+    → reads_head st me found me'
+    → (x : Slot) × (flips : ℕ) × (found % 2 ≡ active_side flips)
+    × (me'.1 ≡ (side_slot number (found % 2), x) ∷ []) × SeesAll v me'.0 flips x
+seen_at st found number v me me' is same looked =
+    let l : reads_head st (with_state v (staged (state_in v) 1), []) found me' =
+    subst (λ (m : At). reads_head st m found me') is looked in
+    let s = l.2 in (
+      l.0,
+      found,
+      refl,
+      l.1 ∙ ap (λ (n : ℕ). (side_slot n (found % 2), l.0) ∷ []) (sym same),
+      record {
+        history = s.history;
+        after = s.after;
+        begins = s.begins;
+        legal = s.legal;
+        own =
+            s.own;
+        limit = s.limit;
+        shows = s.shows;
+      },
+    )
+
+pub unpin_at : (key : Setup) (slots : ℕ) (st : Step Slot) (id number word : ℕ) (me : At) (side : ℕ)
+    (x : Slot) → IsPinned me side x → number ≡ number_of me.0 → word ≡ epoch_word number
+    → Allows (LeftRightRule key) slots id me word (λ n. (n + 1) % 2 ^ 64) (unpins st me)
+unpin_at key slots st id number word me side x pinned is at =
+    subst (λ (n : ℕ). Allows (LeftRightRule key) slots id me n (λ n. (n + 1) % 2 ^ 64)
+    (unpins st me)) (sym (at ∙ ap epoch_word is))
+    (subst (λ (m : At). Allows (LeftRightRule key) slots id m (epoch_word (number_of me.0))
+    (λ n. (n + 1) % 2 ^ 64) (unpins st m))
+    (sym (whole me ((side_slot (number_of me.0) side, x) ∷ []) pinned.one pinned.hand))
+    (unpin_allowed key slots st id me.0.setup (state_in me.0) [] side x pinned.stage pinned.small
+    pinned.shows))
+
+-- one that takes part still does
+pub still_of : (p q : Participant) (id : TableId) → IsOf p id → q.table_id ≡ p.table_id
+    → q.me.0.setup ≡ p.me.0.setup → IsOf q id
+still_of p q id of table setup = record {
+  table = table ∙ of.table;
+  sized =
+      subst (λ (x : Setup). IsSized id x.seats) (sym setup) of.sized;
+}

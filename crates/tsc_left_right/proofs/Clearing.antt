@@ -1,0 +1,213 @@
+-- The writer clears a seat.
+use Rattle.std.proofs.Common.{◌≡◌, ◌≢◌, ◌∙◌, refl, sym, ap, subst, Bool, true, false, ℕ, suc, ◌+◌}
+use Rattle.std.proofs.Common.{◌%◌, ◌<◌, List, [], ◌∷◌, length, set, arith, slice_index, length-set}
+use Rattle.std.specs.Prelude.{Option, Some, None, ◌==◌}
+use Rattle.std.proofs.lemmas.Bool.Decides.{nat_tests}
+use mathlib.Core.Logic.{dite}
+use native.Mathlib.Decide.{ℕ_discrete}
+use mathlib.Core.Option as maybe
+use lib.ListN.{get_elem?}
+use lib.Seq.{set-get_or}
+use Rattle.atomic_table.proofs.Lists.{set_else}
+use Rattle.atomic_table.specs.Table.{Step, Act, takes as act_takes, keeps as act_keeps, Allows}
+use Rattle.atomic_table.specs.Table.{Valid, stepped, carried_after}
+use Rattle.tsc_left_right.proofs.Requests.{some_same}
+use Rattle.tsc_left_right.specs.declared.table.Setup.{Setup}
+use Rattle.tsc_left_right.specs.declared.table.Slot.{Slot}
+use Rattle.tsc_left_right.specs.declared.table.SeatState.{SeatState}
+use Rattle.tsc_left_right.specs.declared.table.Knowledge.{Knowledge}
+use Rattle.tsc_left_right.specs.Rule.{keeping, SharedState, LeftRightRule, SeatFits, head_word}
+use Rattle.tsc_left_right.specs.Rule.{served_word, epoch_word, request_word, side_slot}
+use Rattle.tsc_left_right.specs.Rule.{request_slot, active_side, standby_side}
+use Rattle.tsc_left_right.specs.Steps.{clearing, has_left, clears}
+use Rattle.tsc_left_right.proofs.Hands.{Homes, Hand}
+use Rattle.tsc_left_right.proofs.Moves.{Board, not_holding, knows_all, moved_kept, of_one}
+use Rattle.tsc_left_right.proofs.Moves.{same_number, none_is_no, false_is_no}
+
+-- A seat whose epoch is odd, and is still the one that was watched, has not left.
+not_left : (watched : Option ℕ) (e : ℕ) → e % 2 ≡ 1 → ((w : ℕ) → watched ≡ Some w → e ≡ w)
+    → has_left watched e ≡ true → ⊥
+not_left None e odd still left = omega (
+  arith,
+  odd,
+  (let g : e % 2 ≡ 0 = grind (arith, nat_tests) in
+      g),
+)
+not_left (Some w) e odd still left =
+    let even : (e % 2 == 0) ≡ false = grind (arith, nat_tests) in
+    let same : (w == e) ≡ true = same_number w e (sym (still w refl)) in
+    let none : has_left (Some w) e ≡ false = rw (even, same) refl in
+    false_is_no (sym none ∙ left)
+
+module _ (setup : Setup) (slots : ℕ) (st : Step Slot) (id : ℕ) (t : Setup) (p : SeatState)
+    (hand : Hand) where
+  abbrev holder : Knowledge
+  holder = keeping t (p ∷ [])
+
+  abbrev Clears : Board → ℕ → Type 0
+  Clears s n = (w : Knowledge) × (a : Act Slot) × Valid s.homes hand a × LeftRightRule setup
+      (stepped s (epoch_word p.cleared) n id hand w a) × clears st (holder, hand) n (
+        w,
+        carried_after hand a,
+      )
+
+  pub clear_allowed : p.holds ≡ true → p.cleared < t.seats → p.stage ≡ 0
+      → Allows (LeftRightRule setup) slots id (holder, hand) (epoch_word p.cleared) (λ n. n)
+      (clears st (holder, hand))
+  clear_allowed holds pinned out s k deep at small =
+      let all = knows_all setup s k id t p holds at in
+      let g : SharedState = k.g in
+      let hidden : ℕ = standby_side g.flips in
+      let i : ℕ = epoch_word p.cleared in
+      let e : ℕ = slice_index s.words i in
+      let j : ℕ = side_slot p.cleared (standby_side p.flips) in
+      let words : List ℕ = set s.words i e in
+      let same : (q : ℕ) → slice_index words q ≡ slice_index s.words q =
+      λ q. ap (λ (ws : List ℕ). slice_index ws q) (set-get_or s.words i 0) in
+      let within : p.cleared < setup.seats = omega (
+        arith,
+        pinned,
+        ap (λ (x : Setup). x.seats) all.same,
+      ) in
+      let plan = all.cleared in
+      let flips_is = all.flips in
+      let taken = all.taken in
+      let here = k.seats p.cleared within in
+      let moved : (c : ℕ) (wt : Option ℕ) (homes : Homes) → length homes ≡ length s.homes
+      → ((r : ℕ) → get_elem? homes (request_slot r) ≡ get_elem? s.homes (request_slot r))
+      → ((r : ℕ) → r < setup.seats → SeatFits setup (record {
+        history = g.history;
+        flips = g.flips;
+        word = g.word;
+        stage_of = g.stage_of;
+        toggle_of = g.toggle_of;
+        request_of = g.request_of;
+        cleared = c;
+        watched = wt;
+        collected = g.collected;
+        served = g.served;
+      }) words homes r)
+      → LeftRightRule setup (record {
+        words = words;
+        homes = homes;
+        views =
+            set s.views id (keeping t (clearing p c wt ∷ []));
+      })
+      = λ c wt homes as_deep slots_same seats. moved_kept setup s k id holder
+      (keeping t (clearing p c wt ∷ [])) (record {
+        history = g.history;
+        flips = g.flips;
+        word =
+            g.word;
+        stage_of = g.stage_of;
+        toggle_of = g.toggle_of;
+        request_of = g.request_of;
+        cleared = c;
+        watched = wt;
+        collected = g.collected;
+        served = g.served;
+      }) words homes
+      (record {
+        at = at;
+        legal = k.legal;
+        limit = k.limit;
+        few = k.few;
+        wide = length-set s.words i e ∙ k.wide;
+        deep = as_deep ∙ k.deep;
+        word_is = same 0 ∙ k.word_is;
+        head_is = same head_word ∙ k.head_is;
+        seats = seats;
+        requests = λ r low. let ok = k.requests r low in record {
+          toggle = same (request_word r)
+              ∙ ok.toggle;
+          small = ok.small;
+          says = rw (slots_same r, same served_word) ok.says;
+        };
+        collected = k.collected;
+        fits = of_one t (clearing p c wt) all.same (record {
+          begins = all.mine.begins;
+          own = all.mine.own;
+          own_seen = all.mine.own_seen;
+          at_stage = all.mine.at_stage;
+          at_toggle = all.mine.at_toggle;
+          at_request = all.mine.at_request;
+          at_fetched = all.mine.at_fetched;
+          sees = all.mine.sees;
+          holding = λ _. (all.all, all.taken, refl, refl, all.collected, all.served, all.flips);
+        });
+        others = λ other u apart z. let was = k.views other u z in record {
+          settled = was.settled;
+          states = λ n x d. let f = was.states n x d in record {
+            begins = f.begins;
+            own = f.own;
+            own_seen = f.own_seen;
+            at_stage = f.at_stage;
+            at_toggle = f.at_toggle;
+            at_request = f.at_request;
+            at_fetched = f.at_fetched;
+            sees = f.sees;
+            holding = λ y. absurd (not_holding u n x (all.nobody other u apart z) d y);
+          };
+          front = was.front;
+        };
+        each = λ _. refl;
+        one = omega (arith, k.one);
+        idle = λ z. absurd (omega (arith, z, taken));
+        free = λ z. absurd (omega (arith, z, taken));
+      }) in
+      let left : has_left p.watched e ≡ true → Clears s e = λ gone.
+      let gone_from : g.stage_of p.cleared ≢ hidden + 2 = λ z. not_left p.watched e
+      (here.pinned (omega (arith, z))) (λ w is. here.late w plan (sym all.watched ∙ is) z)
+      gone in
+      let x = here.standby (omega (arith, plan)) gone_from in
+      let homes : Homes = set s.homes j maybe.none in (
+        keeping t (clearing p (suc p.cleared) None ∷ []),
+        act_takes j x.0,
+        ap (λ (c : ℕ). get_elem? s.homes (side_slot p.cleared c)) (omega (arith, flips_is)) ∙ x.1,
+        moved (suc p.cleared) None homes (length-set s.homes j maybe.none) (λ r. set_else s.homes j
+            (request_slot r) maybe.none (λ z. omega (arith, z))) (λ r low. let ok = k.seats r low in
+            record {
+              unpinned = λ z. ap (λ (b : ℕ). b % 2) (same (epoch_word r)) ∙ ok.unpinned z;
+              pinned = λ z. ap (λ (b : ℕ). b % 2) (same (epoch_word r)) ∙ ok.pinned z;
+              active = λ n. let y = ok.active n in (
+                y.0,
+                set_else s.homes j (side_slot r (active_side g.flips)) maybe.none
+                    (λ z. omega (arith, z, flips_is)) ∙ y.1,
+                y.2,
+              );
+              standby = λ c n. let y = ok.standby (omega (arith, c, plan)) n in (
+                y.0,
+                set_else s.homes j (side_slot r hidden) maybe.none (λ z. omega (
+                  arith,
+                  z,
+                  flips_is,
+                  c,
+                )) ∙ y.1,
+              );
+              left = λ c. dite (ℕ_discrete r p.cleared)
+                  (λ z. subst (λ (q : ℕ). g.stage_of q ≢ hidden + 2) (sym z) gone_from)
+                  (λ z. ok.left (omega (arith, c, z, plan)));
+              late = λ w _ z. absurd (none_is_no w z);
+            }),
+        ((λ _. (x.0, refl)), (λ f. absurd (false_is_no (sym f ∙ gone)))),
+      ) in
+      let stays : has_left p.watched e ≡ false → Clears s e = λ still. (
+        keeping t (clearing p p.cleared (Some e) ∷ []),
+        act_keeps,
+        tt,
+        moved p.cleared (Some e) s.homes refl (λ _. refl) (λ r low. let ok = k.seats r low in
+            record {
+              unpinned = λ z. ap (λ (b : ℕ). b % 2) (same (epoch_word r)) ∙ ok.unpinned z;
+              pinned = λ z. ap (λ (b : ℕ). b % 2) (same (epoch_word r)) ∙ ok.pinned z;
+              active = ok.active;
+              standby = λ c n. ok.standby (omega (arith, c, plan)) n;
+              left = λ c. ok.left (omega (arith, c, plan));
+              late = λ w is z _. same (epoch_word r)
+                  ∙ ap (λ (c : ℕ). slice_index s.words (epoch_word c)) is ∙ some_same e w z;
+            }),
+        ((λ f. absurd (false_is_no (sym still ∙ f))), (λ _. refl)),
+      ) in by_test (has_left p.watched e) refl left stays
+    where
+      by_test : {P : Type 0} (b : Bool) {c : Bool} → c ≡ b → (c ≡ true → P) → (c ≡ false → P) → P
+      by_test {P} true {c} is yes_ no_ = yes_ is
+      by_test {P} false {c} is yes_ no_ = no_ is

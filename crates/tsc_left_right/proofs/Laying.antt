@@ -1,0 +1,154 @@
+-- What lies in the slots at the opening.
+use Rattle.std.proofs.Common.{◌≡◌, ◌∙◌, refl, sym, ap, subst, ℕ, zero, suc, ◌+◌, ◌*◌, ◌≤◌, List, []}
+use Rattle.std.proofs.Common.{◌∷◌, ◌++◌, length, replicate, append_assoc, arith}
+use Rattle.std.specs.Arc.{arc_value}
+use mathlib.Core.Logic.{dite}
+use native.Mathlib.Decide.{ℕ_discrete}
+use mathlib.Core.Option as maybe
+use lib.ListN.{get_elem?}
+use Rattle.std.proofs.lemmas.List.{length-append, replicate-append-replicate}
+use Rattle.atomic_table.proofs.Lists.{at_longer}
+use Rattle.atomic_table.specs.Table.{opening}
+use Rattle.tsc_cache.specs.CacheView.{CacheView}
+use Rattle.tsc_left_right.specs.declared.table.Setup.{Setup}
+use Rattle.tsc_left_right.specs.declared.table.Slot.{Slot}
+use Rattle.tsc_left_right.specs.declared.table.Slot.TheVariants.{Empty, Writer, Handle, Request}
+use Rattle.tsc_left_right.specs.declared.table.Slot.TheVariants.{Answer}
+use Rattle.tsc_left_right.specs.Rule.{LaidState, LeftRightRule, IsState, Shows, first_knowledge}
+use Rattle.tsc_left_right.specs.Rule.{side_slot, request_slot}
+use Rattle.tsc_left_right.specs.Steps.{IsHandleOn}
+use Rattle.tsc_left_right.specs.Opening.{IsLaidOut, IsFirst, line_of}
+use Rattle.tsc_left_right.proofs.Openings.{opening_kept}
+
+-- What is laid stands behind all that was there.
+at_next : (xs rest : List Slot) (x : Slot) (i : ℕ) → length xs ≡ i → get_elem? (xs ++ x ∷ rest) i
+    ≡ maybe.some x
+at_next [] rest x zero long = refl
+at_next [] rest x (suc i) long = absurd (omega arith)
+at_next (y ∷ ys) rest x zero long = absurd (omega arith)
+at_next (y ∷ ys) rest x (suc i) long = at_next ys rest x i (omega arith)
+
+-- an empty slot more on the line
+pub line_more : (before xs ys : List Slot) (x : Slot) (n : ℕ) → xs ≡ before ++ x ∷ replicate n Empty
+    → ys ≡ xs ++ Empty ∷ [] → ys ≡ before ++ x ∷ replicate (n + 1) Empty
+line_more before xs ys x n is more =
+    more ∙ ap (λ (l : List Slot). l ++ Empty ∷ []) is ∙ append_assoc before (x ∷ replicate n Empty)
+    (Empty ∷ []) ∙ ap (λ (l : List Slot). before ++ x ∷ l)
+    (replicate-append-replicate n 1 Empty)
+
+-- a full line
+pub line_full : (before xs : List Slot) (x : Slot) (n : ℕ) → xs ≡ before ++ x ∷ replicate n Empty
+    → n ≡ 7 → xs ≡ before ++ line_of x
+line_full before xs x n is full = is ∙ ap (λ (k : ℕ). before ++ x ∷ replicate k Empty) full
+
+-- What is found in a list of slots is found in a longer one.
+later : (xs ys more : List Slot) → ys ≡ xs ++ more → (i : ℕ) (x : Slot) → get_elem? xs i
+    ≡ maybe.some x → get_elem? ys i ≡ maybe.some x
+later xs ys more is i x e = subst (λ (l : List Slot). get_elem? l i ≡ maybe.some x) (sym is)
+    (at_longer xs more i x e)
+
+-- The slot of a line is behind all that was there.
+at_line : (xs ys : List Slot) (x : Slot) (i : ℕ) → ys ≡ xs ++ line_of x → length xs ≡ i
+    → get_elem? ys i ≡ maybe.some x
+at_line xs ys x i is long = subst (λ (l : List Slot). get_elem? l i ≡ maybe.some x) (sym is)
+    (at_next xs (replicate 7 Empty) x i long)
+
+line_length : (xs ys : List Slot) (x : Slot) (n : ℕ) → ys ≡ xs ++ line_of x → length xs ≡ n
+    → length ys ≡ n + 8
+line_length xs ys x n is long = omega (arith, ap length is, length-append xs (line_of x), long)
+
+-- a seat more: a handle on side 0, nothing on side 1, and no request
+pub laid_more : (state : LaidState) (n : ℕ) (xs ys zs us : List Slot) (x : Slot)
+    → IsLaidOut state n xs → ys ≡ xs ++ line_of x → zs ≡ ys ++ line_of Empty
+    → us ≡ zs ++ line_of Empty
+    → IsHandleOn (arc_value state.value.active) 0 x → IsLaidOut state (n + 1) us
+laid_more state n xs ys zs us x laid one two three on =
+    let deep = laid.deep in
+    let long_y : length ys ≡ 24 * n + 16 =
+    omega (arith, line_length xs ys x (24 * n + 8) one deep) in
+    let long_z : length zs ≡ 24 * n + 24 = omega (
+      arith,
+      line_length ys zs Empty (24 * n + 16) two
+          long_y,
+    ) in
+    let long_u : length us ≡ 24 * n + 32 = omega (
+      arith,
+      line_length zs us Empty (24 * n + 24) three
+          long_z,
+    ) in
+    let from_z = later zs us (line_of Empty) three in
+    let from_y : (i : ℕ) (b : Slot) → get_elem? ys i ≡ maybe.some b → get_elem? us i
+    ≡ maybe.some b = λ i b e. from_z i b (later ys zs (line_of Empty) two i b e) in
+    let from_x : (i : ℕ) (b : Slot) → get_elem? xs i ≡ maybe.some b → get_elem? us i
+    ≡ maybe.some b = λ i b e. from_y i b (later xs ys (line_of x) one i b e) in
+    record {
+      deep = omega (arith, long_u);
+      writer = from_x 0 (Writer state) laid.writer;
+      active = λ seat low. dite (ℕ_discrete seat n)
+          (λ is. (
+            x,
+            from_y (side_slot seat 0) x (at_line xs ys x (side_slot seat 0) one
+                (omega (arith, deep, is))),
+            on,
+          ))
+          (λ isnt. let s = laid.active seat (omega (arith, low, isnt)) in
+          (s.0, from_x (side_slot seat 0) s.0 s.1, s.2));
+      standby = λ seat low. dite (ℕ_discrete seat n)
+          (λ is. from_z (side_slot seat 1) Empty (at_line ys zs Empty (side_slot seat 1) two
+          (omega (arith, long_y, is))))
+          (λ isnt. from_x (side_slot seat 1) Empty (laid.standby seat (omega (arith, low, isnt))));
+      requests = λ seat low. dite (ℕ_discrete seat n)
+          (λ is. at_line zs us Empty (request_slot seat) three (omega (arith, long_z, is)))
+          (λ isnt. from_x (request_slot seat) Empty
+          (laid.requests seat (omega (arith, low, isnt))));
+    }
+
+-- no seat yet
+pub laid_none : (state : LaidState) (xs : List Slot) → xs ≡ line_of (Writer state)
+    → IsLaidOut state 0 xs
+laid_none state xs is = subst (IsLaidOut state 0) (sym is) (record {
+  deep = refl;
+  writer = refl;
+  active = λ seat low. absurd (omega (arith, low));
+  standby = λ seat low.
+      absurd (omega (arith, low));
+  requests = λ seat low. absurd (omega (arith, low));
+})
+
+-- all seats
+pub laid_all : (state : LaidState) (n m : ℕ) (xs : List Slot) → n ≤ m → m ≤ n → IsLaidOut state n xs
+    → IsLaidOut state m xs
+laid_all state n m xs le ge laid = subst (λ (k : ℕ). IsLaidOut state k xs) (let g : n ≡ m =
+    omega (arith, le, ge) in g) laid
+
+-- A handle on an empty cache shows the empty history.
+shows_first : (setup : Setup) (cache : CacheView) (x : Slot) → IsState setup [] cache
+    → IsHandleOn cache 0 x → Shows setup [] x
+shows_first setup cache Empty stands on = absurd on
+shows_first setup cache (Writer state) stands on = absurd on
+shows_first setup cache (Handle handle) stands on = (
+  subst (IsState setup []) (sym on.0) stands,
+  on.1,
+)
+shows_first setup cache (Request add) stands on = absurd on
+shows_first setup cache (Answer reply) stands on = absurd on
+
+-- the rule at the opening
+pub opens : (setup : Setup) (state : LaidState) (words : List ℕ) (slots : List Slot)
+    → words ≡ replicate (32 * setup.seats + 64) 0 → IsFirst setup state.value
+    → IsLaidOut state setup.seats slots → LeftRightRule setup
+    (opening words slots (first_knowledge setup))
+opens setup state words slots blank first laid = subst (λ (ws : List ℕ). LeftRightRule setup
+    (opening ws slots (first_knowledge setup))) (sym blank)
+    (opening_kept setup state slots first.is_after first.served (record {
+      deep = laid.deep;
+      writer = laid.writer;
+      active = λ r low. let x = laid.active r low in (
+        x.0,
+        x.1,
+        shows_first setup (arc_value state.value.active) x.0 first.is_after.stands
+            x.2,
+      );
+      standby = λ r low. (Empty, laid.standby r low);
+      requests = λ r low. (Empty, laid.requests r low);
+    }))

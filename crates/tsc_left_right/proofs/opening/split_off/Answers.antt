@@ -1,0 +1,11 @@
+use Rattle.std.proofs.Common.{arith}
+use Rattle.tsc_left_right.proofs.FrontCalls.{split_at}
+use Rattle.tsc_left_right.proofs.opening.split_off.Goals as goal
+
+pub split_seat-requires : goal.split_seat-requires
+split_seat-requires c = (
+  c.requires.of.table,
+  omega (arith, c.requires.of.sized.words),
+  split_at c.args.shared.now.key c.args.all.now.id c.args.all.now.me.0 c.requires.states
+      c.requires.some,
+)

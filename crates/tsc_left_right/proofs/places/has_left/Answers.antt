@@ -1,0 +1,5 @@
+use Rattle.std.proofs.Common.{rules}
+use Rattle.tsc_left_right.proofs.places.has_left.Goals as goal
+
+pub returns-else-epoch-eq0 : goal.returns-else-epoch-eq0
+returns-else-epoch-eq0 c = search rules

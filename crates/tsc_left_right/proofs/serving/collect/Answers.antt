@@ -1,0 +1,30 @@
+use Rattle.std.proofs.Common.{◌∙◌, ◌∷◌, arith, refl}
+use mathlib.Core.Option as maybe
+use Rattle.atomic_table.specs.Table.{step, rest}
+use Rattle.tsc_left_right.specs.Steps.{state_in}
+use Rattle.tsc_left_right.proofs.RequestCalls.{collect_at, collects_then, collected_then, bit_found}
+use Rattle.tsc_left_right.proofs.serving.collect.Goals as goal
+
+pub load-toggle-requires : goal.load-toggle-requires
+load-toggle-requires c = (
+  c.requires.of.table,
+  omega (arith, c.requires.of.sized.words, c.request_word.ensures.value, c.requires.may.low),
+  collect_at c.args.shared.now.key c.args.shared.now.table_id.slots
+      (step c.args.shared.now.table_id.slots c.request_word.result 0 0 maybe.none)
+      c.args.who.now.id c.args.seat c.request_word.result c.args.who.now.me
+      c.requires.may.writer c.requires.may.low c.requires.may.new c.request_word.ensures.value refl,
+)
+
+pub returns-clause-collected : goal.returns-clause-collected
+returns-clause-collected c =
+    let st = step c.args.shared.now.table_id.slots c.request_word.result 0 0 maybe.none in
+    collected_then c.load-toggle.result c.args.seat c.request_slot.result c.args.who.now.me
+    c.load-toggle.new.seat.me c.exchange.new.seat.me c.in-Request.add
+    (collects_then st c.load-toggle.result c.args.seat c.request_word.result
+    c.args.who.now.me c.load-toggle.new.seat.me refl c.request_word.ensures.value
+    c.load-toggle.ensures.2)
+    (λ same. c.if-served-seat.false (bit_found c.args.served c.args.seat
+    (state_in c.args.who.now.me.0).served c.load-toggle.result c.requires.may.told same))
+    c.request_slot.ensures.value (c.exchange.ensures.2
+    ∙ (λ i. (c.request_slot.result, c.in-Request.is i) ∷ rest c.load-toggle.new.seat.me.1))
+    c.exchange.ensures.3

@@ -1,0 +1,10 @@
+use Rattle.std.proofs.Common.{◌≡◌}
+use Rattle.std.specs.Arc.{arc_value}
+use Rattle.tsc_left_right.proofs.InstallCalls.{Installs}
+use Rattle.tsc_left_right.proofs.writing.install_handles.Given as goal
+
+abbrev pub invariant-loop-seat : goal.invariant-loop-seat
+invariant-loop-seat l =
+    (l.who.table_id ≡ l.fn.who.table_id)
+    × Installs l.fn.who.me.0 l.who.me (arc_value l.fn.active) l.fn.adds l.seat
+    l.fn.cleared.0 l.all

@@ -1,0 +1,200 @@
+-- A participant, and what it has in hand: what the functions that read and write ask for, and
+-- leave.
+use Rattle.std.specs.Prelude.{◌≡◌, ◌<◌, ◌≤◌, ℕ, ◌+◌, ◌*◌, length, List, [], ◌∷◌, ◌++◌, true, false}
+use Rattle.std.specs.Prelude.{Option, Some, None}
+use mathlib.Core.Option as maybe
+use lib.ListN.{get_elem?}
+use Rattle.std.specs.Arc.{arc_value}
+use Rattle.atomic_table.specs.Seated.{TableId}
+use Rattle.atomic_table.specs.declared.shared.Seat.{Seat as TableSeat}
+use Rattle.tsc_cache.specs.Settings.{Settings}
+use Rattle.tsc_cache.specs.State.{CacheState}
+use Rattle.tsc_cache.specs.CacheView.{CacheView, StandsForState}
+use Rattle.tsc_cache.specs.History.{History, own_count, BeginsWith, IsLegal}
+use Rattle.tsc_left_right.specs.declared.table.UnappliedAdd.{UnappliedAdd}
+use Rattle.tsc_left_right.specs.declared.table.WriterState.{WriterState}
+use Rattle.tsc_left_right.specs.declared.table.SeatState.{SeatState}
+use Rattle.tsc_left_right.specs.declared.table.Collected.{Collected}
+use Rattle.tsc_left_right.specs.declared.table.Slot.{Slot}
+use Rattle.tsc_left_right.specs.declared.table.Slot.TheVariants.{Empty, Writer, Handle, Request}
+use Rattle.tsc_left_right.specs.declared.table.Slot.TheVariants.{Answer}
+use Rattle.tsc_left_right.specs.declared.table.Knowledge.{Knowledge}
+use Rattle.tsc_left_right.specs.declared.table.Setup.{Setup}
+use Rattle.tsc_left_right.specs.Rule.{keeping, side_slot, request_slot, standby_side, IsState}
+use Rattle.tsc_left_right.specs.Rule.{Shows, CanBe, IsAfter}
+use Rattle.tsc_left_right.specs.Steps.{first_state, Acquires, flipped, released, staged}
+use Rattle.tsc_left_right.specs.Steps.{At, state_in, with_state, seated, number_of, seen_of}
+use Rattle.tsc_left_right.specs.Steps.{count_of, clearing, Filled, Anything, IsHandleOn, front_of}
+use Rattle.tsc_left_right.specs.Steps.{own_of, published}
+
+abbrev pub Participant : Type 0
+Participant = TableSeat Slot Knowledge
+
+-- a table for so many seats
+pub record IsSized (table : TableId) (seats : ℕ) : Type 0 where
+  pub words : table.words ≡ 32 * seats + 64
+  pub slots : table.slots ≡ 24 * seats + 8
+
+-- one that takes part in this table, which has words and slots for all seats
+pub record IsOf (p : Participant) (id : TableId) : Type 0 where
+  pub table : p.table_id ≡ id
+  pub sized : IsSized id p.me.0.setup.seats
+
+-- the number of the seat, which is one of the table's
+abbrev pub IsNumber : Knowledge → ℕ → Type 0
+IsNumber v number = (number ≡ number_of v) × (number < v.setup.seats)
+
+-- the participant of a seat between two calls
+abbrev pub IsAtRest : At → Type 0
+IsAtRest me = me ≡ (seated me.0.setup (number_of me.0) (seen_of me.0) (count_of me.0), [])
+
+-- a participant that keeps the state of one seat
+abbrev pub KeepsOne : Knowledge → Type 0
+KeepsOne v = v ≡ with_state v (state_in v)
+
+-- a participant that keeps states, and no front
+abbrev pub KeepsStates : Knowledge → Type 0
+KeepsStates v = v ≡ keeping v.setup v.states
+
+-- a participant that keeps the first of the states in v
+abbrev pub IsFirstOf : Knowledge → At → Type 0
+IsFirstOf v me = me ≡ (keeping v.setup (first_state v.states ∷ []), [])
+
+-- a front
+abbrev pub IsFront : At → Type 0
+IsFront me = me ≡ (front_of me.0.setup me.0.front, [])
+
+-- a seat that may acquire the writer lock: it has nothing in hand, and may have asked for an Add
+pub record IsFree (me : At) : Type 0 where
+  pub one : KeepsOne me.0
+  pub hand : me.1 ≡ []
+  pub holds : (state_in me.0).holds ≡ false
+  pub unpinned : (state_in me.0).stage ≡ 0
+
+-- the slots of collected requests, each empty
+abbrev pub slots_of : List Collected → List (ℕ × Slot)
+slots_of [] = []
+slots_of (x ∷ xs) = (request_slot x.seat, Empty) ∷ slots_of xs
+
+-- what a writer has in hand: those, its own slot, which is empty, and then others
+abbrev pub hand_of : List Collected → List (ℕ × Slot) → List (ℕ × Slot)
+hand_of collected others = slots_of collected ++ (0, Empty) ∷ others
+
+-- what a seat knows once it is unpinned
+abbrev pub unpinned_in : Knowledge → Knowledge
+unpinned_in v = with_state v (staged (state_in v) 0)
+
+-- what a writer knows once it has published, and once it has released the lock
+abbrev pub published_in : Knowledge → Option UnappliedAdd → Knowledge
+published_in v own = with_state v (flipped (state_in v) own)
+
+abbrev pub released_in : Knowledge → Knowledge
+released_in v = with_state v (released (state_in v))
+
+-- the writer, as it is in v, when so many seats are cleared and the next one was watched
+abbrev pub cleared_in : Knowledge → ℕ → Option ℕ → Knowledge
+cleared_in v cleared watched = with_state v (clearing (state_in v) cleared watched)
+
+-- The writer, as it is in v, has cleared so many seats, and may have watched the next one. In hand
+-- are the slots of what it has collected, its own, and those of the seats that it has cleared.
+pub record IsWriting (v : Knowledge) (me : At) (cleared : ℕ) (watched : Option ℕ) : Type 0 where
+  pub slots : List (ℕ × Slot)
+  pub is : me ≡ (cleared_in v cleared watched, hand_of (state_in v).collected slots)
+  pub filled : Filled Anything (standby_side (state_in v).flips) 0 slots cleared
+  pub holds : (state_in v).holds ≡ true
+  pub unpinned : (state_in v).stage ≡ 0
+
+-- it has the writer lock
+abbrev pub HasLock : At → Type 0
+HasLock me = (cleared : ℕ) × (watched : Option ℕ) × IsWriting me.0 me cleared watched
+
+-- It has cleared so many seats, and each of their slots has a handle on a cache after so many Adds.
+pub record HasInstalled (v : Knowledge) (me : At) (cache : CacheView) (adds cleared : ℕ)
+    : Type 0 where
+  pub slots : List (ℕ × Slot)
+  pub is : me ≡ (cleared_in v cleared None, hand_of (state_in v).collected slots)
+  pub filled : Filled (IsHandleOn cache adds) (standby_side (state_in v).flips) 0 slots cleared
+  pub holds : (state_in v).holds ≡ true
+  pub unpinned : (state_in v).stage ≡ 0
+
+-- A seat of v has acquired the lock, and its slot, which is empty, is in its hand.
+abbrev pub HasAcquired : Knowledge → At → WriterState → Type 0
+HasAcquired v me state = Acquires v me.0 state × (me.1 ≡ (0, Empty) ∷ [])
+
+-- a seat of this table, and the side of the standby copy
+abbrev pub IsNext : Knowledge → ℕ → ℕ → Type 0
+IsNext v seat standby = (seat < v.setup.seats) × (standby ≡ standby_side (state_in v).flips)
+
+-- the number of seats, and the side of the standby copy
+abbrev pub AreSides : Knowledge → ℕ → ℕ → Type 0
+AreSides v seats standby = (seats ≡ v.setup.seats) × (standby ≡ standby_side (state_in v).flips)
+
+-- A writer that has no request in hand may release the lock, with a state that is as it knows.
+pub record MayRelease (me : At) (state : WriterState) : Type 0 where
+  pub lock : HasLock me
+  pub none : (state_in me.0).collected ≡ []
+  pub is_after : IsAfter me.0.setup (state_in me.0).history (state_in me.0).flips state
+  pub served : state.served ≡ (state_in me.0).served
+
+-- The writer makes an Add of its own only where it asks for nothing.
+abbrev pub MayOwn : Setup → SeatState → Option UnappliedAdd → Type 0
+MayOwn setup p None = Unit {0}
+MayOwn setup p (Some add) = CanBe setup add × (p.request ≡ None)
+
+-- What the writer has prepared can be published: its own Add, if there is one, and then all that it
+-- has collected. It is one Add at least, and the limit allows all.
+pub record IsReady (v : Knowledge) (state : WriterState) : Type 0 where
+  pub own : MayOwn v.setup (state_in v) (own_of state)
+  pub unmade : (i : ℕ) (x : Collected) → get_elem? (state_in v).collected i ≡ maybe.some x
+      → x.before ≡ None
+  pub more : length (state_in v).history < length (published (state_in v) (own_of state))
+  pub limit : length (published (state_in v) (own_of state)) ≤ v.setup.limit
+  pub is_after : IsAfter v.setup (published (state_in v) (own_of state))
+      ((state_in v).flips + 1) state
+
+-- a slot has a handle that meets P
+abbrev pub HasHandle : Slot → (CacheView → ℕ → Type 0) → Type 0
+HasHandle Empty P = ⊥
+HasHandle (Writer state) P = ⊥
+HasHandle (Handle handle) P = P (arc_value handle.cache) handle.length
+HasHandle (Request add) P = ⊥
+HasHandle (Answer reply) P = ⊥
+
+abbrev pub IsHandle : Slot → Type 0
+IsHandle x = HasHandle x (λ cache length. Unit {0})
+
+-- something holds of each state that a cache stands for
+abbrev pub InEachState : CacheView → (CacheState → Type 0) → Type 0
+InEachState cache P = (settings : Settings) (s : CacheState) → StandsForState cache settings s → P s
+
+-- A seat that has its slot of this side in hand, and what lies there.
+pub record IsPinned (me : At) (side : ℕ) (x : Slot) : Type 0 where
+  pub one : KeepsOne me.0
+  pub small : side < 2
+  pub stage : (state_in me.0).stage ≡ side + 2
+  pub hand : me.1 ≡ (side_slot (number_of me.0) side, x) ∷ []
+  pub shows : Shows me.0.setup (seen_of me.0) x
+
+-- A seat that is at rest again has read a cache, which stands for the state of the whole history,
+-- so long.
+pub record HasLooked (v : Knowledge) (me : At) (found : ℕ) (cache : CacheView) : Type 0 where
+  pub history : History
+  pub after : me ≡ (seated v.setup (number_of v) history (count_of v), [])
+  pub begins : BeginsWith history (seen_of v)
+  pub legal : IsLegal v.setup.config v.setup.seats history
+  pub own : own_count (number_of v) history ≡ count_of v
+  pub limit : length history ≤ v.setup.limit
+  pub stands : IsState v.setup history cache
+  pub long : found ≡ length history
+
+-- A seat at rest has seen the whole history, so long, which begins with what it and another had
+-- seen.
+pub record SeesNewest (me me' : At) (other : History) (found : ℕ) : Type 0 where
+  pub history : History
+  pub after : me' ≡ (seated me.0.setup (number_of me.0) history (count_of me.0), [])
+  pub begins : BeginsWith history (seen_of me.0)
+  pub begins_other : BeginsWith history other
+  pub legal : IsLegal me.0.setup.config me.0.setup.seats history
+  pub own : own_count (number_of me.0) history ≡ count_of me.0
+  pub limit : length history ≤ me.0.setup.limit
+  pub long : found ≡ length history

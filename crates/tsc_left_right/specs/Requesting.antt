@@ -1,0 +1,130 @@
+-- What a seat asks the writer for: what the functions of requests ask for, and leave.
+use Rattle.std.specs.Prelude.{◌≡◌, ◌≢◌, ℕ, List, ◌∷◌, true, false, Option, Some, None}
+use Rattle.atomic_table.specs.Table.{rest}
+use Rattle.tsc_cache.specs.History.{History}
+use Rattle.tsc_left_right.specs.declared.table.UnappliedAdd.{UnappliedAdd}
+use Rattle.tsc_left_right.specs.declared.table.Collected.{Collected}
+use Rattle.tsc_left_right.specs.declared.table.Setup.{Setup}
+use Rattle.tsc_left_right.specs.declared.table.Slot.{Slot}
+use Rattle.tsc_left_right.specs.declared.table.Slot.TheVariants.{Empty}
+use Rattle.tsc_left_right.specs.declared.requesting.Heard.{Heard}
+use Rattle.tsc_left_right.specs.declared.requesting.Heard.TheVariants.{Waiting, Made, SentBack}
+use Rattle.std.specs.Int.{bit_at}
+use Rattle.std.specs.Prelude.{◌-◌, ◌<◌}
+use Rattle.tsc_left_right.specs.declared.table.Knowledge.{Knowledge}
+use Rattle.std.specs.Prelude.{Bool}
+use Rattle.tsc_left_right.specs.RequestSteps.{fetching, posting}
+use Rattle.tsc_left_right.specs.RequestSteps.{withdrawn}
+use Rattle.tsc_left_right.specs.Rule.{request_slot, times, HasRequest, HasAnswer, CanBe}
+use Rattle.tsc_left_right.specs.Steps.{At, state_in, with_state, number_of}
+use Rattle.tsc_left_right.specs.RequestSteps.{serving, put_back_by}
+use Rattle.tsc_left_right.specs.RequestSteps.{turned_bit, asks_none, HearsMade}
+use Rattle.tsc_left_right.specs.Participating.{KeepsOne}
+
+-- what a seat knows when its request slot is in its hand or at home, and when it has posted an Add
+abbrev pub fetched_in : Knowledge → Bool → ℕ → Knowledge
+fetched_in v fetched toggle = with_state v (fetching (state_in v) fetched toggle)
+
+abbrev pub posted_in : Knowledge → UnappliedAdd → ℕ → Knowledge
+posted_in v add toggle = with_state v (posting (state_in v) (Some add) toggle)
+
+-- A seat asks for nothing, and its request slot is at home.
+pub record MayFetch (me : At) : Type 0 where
+  pub one : KeepsOne me.0
+  pub request : (state_in me.0).request ≡ None
+  pub fetched : (state_in me.0).fetched ≡ false
+
+-- A seat asks for nothing, and has its request slot in hand before anything else.
+pub record HasFetched (me : At) : Type 0 where
+  pub one : KeepsOne me.0
+  pub request : (state_in me.0).request ≡ None
+  pub fetched : (state_in me.0).fetched ≡ true
+  pub slot : Slot
+  pub hand : me.1 ≡ (request_slot (number_of me.0), slot) ∷ rest me.1
+
+-- It may post an Add that can be made, by its toggle.
+pub record MayPost (me : At) (toggle : ℕ) (add : UnappliedAdd) : Type 0 where
+  pub fetched : HasFetched me
+  pub toggle_is : toggle ≡ (state_in me.0).toggle
+  pub small : toggle < 2
+  pub can : CanBe me.0.setup add
+
+-- A seat has posted this Add.
+pub record HasPosted (me : At) (add : UnappliedAdd) : Type 0 where
+  pub one : KeepsOne me.0
+  pub request : (state_in me.0).request ≡ Some add
+
+-- A seat that holds the writer lock.
+pub record IsWriter (me : At) : Type 0 where
+  pub one : KeepsOne me.0
+  pub holds : (state_in me.0).holds ≡ true
+
+-- A writer has posted an Add that it has neither collected nor been answered.
+pub record MayWithdraw (me : At) (toggle : ℕ) : Type 0 where
+  pub writer : IsWriter me
+  pub posted : (add : UnappliedAdd) × ((state_in me.0).request ≡ Some add)
+  pub new : times (number_of me.0) (state_in me.0).collected ≡ 0
+  pub differs : bit_at (state_in me.0).served (number_of me.0) ≢ (state_in me.0).toggle
+  pub toggle_is : toggle ≡ (state_in me.0).toggle
+  pub small : toggle < 2
+
+-- It has taken back its Add, asks for nothing, and has its request slot in hand, which is empty.
+pub record IsWithdrawn (me me' : At) (toggle now : ℕ) (add : UnappliedAdd) : Type 0 where
+  pub now_is : now ≡ 1 - toggle
+  pub is : (state_in me.0).request ≡ Some add
+  pub after : me' ≡ (
+    with_state me.0 (withdrawn (state_in me.0) now),
+    (request_slot (number_of me.0), Empty) ∷ me.1,
+  )
+
+-- What a seat has heard of its request, and is then.
+abbrev pub HasHeard : At → At → Heard → Type 0
+HasHeard me me' Waiting = me' ≡ me
+HasHeard me me' (Made reply) =
+    (add : UnappliedAdd) × ((state_in me.0).request ≡ Some add) × HearsMade me.0 me'.0 add reply
+    × (me'.1 ≡ (request_slot (number_of me.0), Empty) ∷ me.1)
+HasHeard me me' (SentBack add) = ((state_in me.0).request ≡ Some add.value)
+    × (me' ≡ (
+      with_state me.0 (asks_none (state_in me.0)),
+      (request_slot (number_of me.0), Empty) ∷ me.1,
+    ))
+
+-- A writer may collect what a seat asks for, whose request it has not collected.
+pub record MayCollect (me : At) (seat served : ℕ) : Type 0 where
+  pub writer : IsWriter me
+  pub low : seat < me.0.setup.seats
+  pub small : seat < 64
+  pub new : times seat (state_in me.0).collected ≡ 0
+  pub told : served ≡ (state_in me.0).served
+
+-- The writer has collected an Add of a seat, whose slot is empty and first in hand.
+pub record IsCollected (me me' : At) (seat : ℕ) (add : UnappliedAdd) : Type 0 where
+  pub can : CanBe me.0.setup add
+  pub after : me' ≡ (
+    with_state me.0 (serving (state_in me.0)
+        (record { seat = seat; add = add; before = None } ∷ (state_in me.0).collected)
+        (state_in me.0).served),
+    (request_slot seat, Empty) ∷ me.1,
+  )
+
+-- what goes into a request slot: the request as it was, or a reply
+abbrev pub LaidFor : Setup → UnappliedAdd → Option History → Slot → Type 0
+LaidFor setup add None x = HasRequest add x
+LaidFor setup add (Some before) x = HasAnswer setup before add x
+
+-- The last request that the writer has collected is that of a seat, whose slot is first in hand,
+-- and this may go into it.
+pub record MayPutBack (me : At) (number : ℕ) (x : Slot) : Type 0 where
+  pub writer : IsWriter me
+  pub first : Collected
+  pub others : List Collected
+  pub is : (state_in me.0).collected ≡ first ∷ others
+  pub seat : first.seat ≡ number
+  pub old : Slot
+  pub hand : me.1 ≡ (request_slot number, old) ∷ rest me.1
+  pub laid : LaidFor me.0.setup first.add first.before x
+
+-- That slot is at home, and the seat's bit is turned in what is to be told.
+pub record IsPutBack (me me' : At) (seat served : ℕ) : Type 0 where
+  pub told : served ≡ turned_bit (state_in me.0).served seat
+  pub after : me' ≡ (with_state me.0 (put_back_by (state_in me.0) seat), rest me.1)

@@ -1,0 +1,384 @@
+-- The rule of the protocol: what holds between any two steps of any threads.
+use Rattle.std.specs.Prelude.{◌≡◌, ◌≢◌, ℕ, suc, ◌+◌, ◌*◌, ◌%◌, ◌<◌, ◌≤◌, ◌==◌, nat_lt, List, []}
+use Rattle.std.specs.Prelude.{◌∷◌, ◌++◌, length, slice_index, Bool, true, false, Option, Some, None}
+use Rattle.std.specs.Prelude.{Box, if◌then◌else◌}
+use Rattle.std.specs.List.{sum_by}
+use Rattle.std.specs.Int.{bit_at}
+use Rattle.std.specs.Arc.{arc_value}
+use Rattle.std.specs.declared.sync.Arc.{Arc}
+use Rattle.std.specs.declared.alloc.Global.{Global}
+use mathlib.Core.Option as maybe
+use lib.ListN.{get_elem?}
+use Rattle.atomic_table.specs.Table.{State}
+use Rattle.tsc_page_base.specs.Page.{Mark}
+use Rattle.tsc_cache.specs.CacheView.{CacheView, StandsForState}
+use Rattle.tsc_cache.specs.State.{step_all}
+use Rattle.tsc_cache.specs.declared.history.Entry.{Entry}
+use Rattle.tsc_cache.specs.History.{History, own_count, state_of, BeginsWith, IsLegal}
+use Rattle.tsc_cache.specs.History.{CanAllBeAdded}
+use Rattle.tsc_left_right.specs.declared.table.Setup.{Setup}
+use Rattle.tsc_left_right.specs.declared.table.MarkList.{MarkList}
+use Rattle.tsc_left_right.specs.declared.table.MarkList.TheVariants.{One, Many}
+use Rattle.tsc_left_right.specs.declared.table.UnappliedAdd.{UnappliedAdd}
+use Rattle.tsc_left_right.specs.declared.table.WriterState.{WriterState}
+use Rattle.tsc_left_right.specs.declared.table.Slot.{Slot}
+use Rattle.tsc_left_right.specs.declared.table.Slot.TheVariants.{Empty, Writer, Handle, Request}
+use Rattle.tsc_left_right.specs.declared.table.Slot.TheVariants.{Answer}
+use Rattle.tsc_left_right.specs.declared.table.Reply.{Reply}
+use Rattle.tsc_left_right.specs.declared.table.Collected.{Collected}
+use Rattle.tsc_left_right.specs.declared.table.SeatState.{SeatState}
+use Rattle.tsc_left_right.specs.declared.table.Knowledge.{Knowledge}
+
+-- a seat between two calls, which has seen this much, in which so many Adds are its own
+abbrev pub at_rest : ℕ → History → ℕ → SeatState
+at_rest number seen count = record {
+  number = number;
+  seen = seen;
+  count = count;
+  holds = false;
+  stage = 0;
+  cleared = 0;
+  watched = None;
+  toggle = 0;
+  request = None;
+  fetched = false;
+  history = [];
+  flips = 0;
+  collected = [];
+  served = 0;
+}
+
+-- the states of so many seats that have seen nothing, from a number on
+abbrev pub fresh_states : ℕ → ℕ → List SeatState
+fresh_states number ℕ.zero = []
+fresh_states number (suc others) = at_rest number [] 0 ∷ fresh_states (suc number) others
+
+-- a participant that keeps the states of some seats, and no front
+abbrev pub keeping : Setup → List SeatState → Knowledge
+keeping setup states = record { live = true; setup = setup; states = states; front = [] }
+
+-- the first participant keeps the states of all seats
+abbrev pub first_knowledge : Setup → Knowledge
+first_knowledge setup = keeping setup (fresh_states 0 setup.seats)
+
+-- 1 for yes, and 0 for no
+abbrev pub one_if : Bool → ℕ
+one_if b = if b then 1 else 0
+
+-- How many of a participant's states are those of a seat.
+abbrev pub states_of : ℕ → Knowledge → ℕ
+states_of number v = sum_by (λ (p : SeatState). one_if (p.number == number)) v.states
+
+-- how many of them hold the writer lock
+abbrev pub holders : Knowledge → ℕ
+holders v = sum_by (λ (p : SeatState). one_if p.holds) v.states
+
+-- The words HEAD and SERVED, and the words with the epoch and with the request of a seat.
+abbrev pub head_word : ℕ
+head_word = 16
+
+abbrev pub served_word : ℕ
+served_word = 32
+
+abbrev pub epoch_word : ℕ → ℕ
+epoch_word seat = 32 * seat + 48
+
+abbrev pub request_word : ℕ → ℕ
+request_word seat = 32 * seat + 64
+
+-- the slot of a seat on a side, and that of its request
+abbrev pub side_slot : ℕ → ℕ → ℕ
+side_slot seat side = 24 * seat + 8 * side + 8
+
+abbrev pub request_slot : ℕ → ℕ
+request_slot seat = 24 * seat + 24
+
+-- the side of the active copy after so many flips, and that of the standby copy
+abbrev pub active_side : ℕ → ℕ
+active_side flips = flips % 2
+
+abbrev pub standby_side : ℕ → ℕ
+standby_side flips = (flips + 1) % 2
+
+-- a cache stands for the state of a history
+abbrev pub IsState : Setup → History → CacheView → Type 0
+IsState setup h cache = StandsForState cache setup.config (state_of setup.config h)
+
+-- a slot has a handle on such a cache, and says how long the history is
+abbrev pub Shows : Setup → History → Slot → Type 0
+Shows setup h Empty = ⊥
+Shows setup h (Writer state) = ⊥
+Shows setup h (Handle handle) = IsState setup h (arc_value handle.cache)
+    × (handle.length ≡ length h)
+Shows setup h (Request add) = ⊥
+Shows setup h (Answer reply) = ⊥
+
+-- What is asked for a seat.
+--
+-- Idle: nothing, and its request slot is at home. Fetched: nothing, and the slot is in its own
+-- hand. Posted: an Add that nobody has collected. Taken: an Add that the writer has collected.
+-- Made: an Add that was made after this history, whose slot the writer has. Answered: such an Add,
+-- whose slot has the reply. SentBack: an Add that the writer has collected and not made.
+pub data RequestState : Type 0 where
+  Idle : RequestState
+  Fetched : RequestState
+  Posted : UnappliedAdd → RequestState
+  Taken : UnappliedAdd → RequestState
+  Made : History → UnappliedAdd → RequestState
+  Answered : History → UnappliedAdd → RequestState
+  SentBack : UnappliedAdd → RequestState
+
+-- 1 where the Add is in the history, and its seat has not counted it
+abbrev pub made_of : RequestState → ℕ
+made_of Idle = 0
+made_of Fetched = 0
+made_of (Posted p) = 0
+made_of (Taken p) = 0
+made_of (Made b p) = 1
+made_of (Answered b p) = 1
+made_of (SentBack p) = 0
+
+-- 1 where the writer has the request slot
+abbrev pub in_hand : RequestState → ℕ
+in_hand Idle = 0
+in_hand Fetched = 0
+in_hand (Posted p) = 0
+in_hand (Taken p) = 1
+in_hand (Made b p) = 1
+in_hand (Answered b p) = 0
+in_hand (SentBack p) = 0
+
+-- the Add that is asked for
+abbrev pub add_of : RequestState → Option UnappliedAdd
+add_of Idle = None
+add_of Fetched = None
+add_of (Posted p) = Some p
+add_of (Taken p) = Some p
+add_of (Made b p) = Some p
+add_of (Answered b p) = Some p
+add_of (SentBack p) = Some p
+
+-- whether the seat has its request slot in hand
+abbrev pub fetched_of : RequestState → Bool
+fetched_of Idle = false
+fetched_of Fetched = true
+fetched_of (Posted p) = false
+fetched_of (Taken p) = false
+fetched_of (Made b p) = false
+fetched_of (Answered b p) = false
+fetched_of (SentBack p) = false
+
+-- the toggle of a seat, as far as its state says it: between two calls it says none
+abbrev pub toggle_seen : ℕ → RequestState → ℕ
+toggle_seen n Idle = 0
+toggle_seen n Fetched = n
+toggle_seen n (Posted p) = n
+toggle_seen n (Taken p) = n
+toggle_seen n (Made b p) = n
+toggle_seen n (Answered b p) = n
+toggle_seen n (SentBack p) = n
+
+-- What stands behind the words and slots: the history, how many flips there were, the word of the
+-- lock, and of each seat its stage, its toggle and what is asked for it. And of the writer: how
+-- many seats it has cleared, the epoch at which it watched the next one, whose request slots it
+-- has, and which bits SERVED is to have.
+pub record SharedState : Type 0 where
+  pub history : History
+  pub flips : ℕ
+  pub word : ℕ
+  pub stage_of : ℕ → ℕ
+  pub toggle_of : ℕ → ℕ
+  pub request_of : ℕ → RequestState
+  pub cleared : ℕ
+  pub watched : Option ℕ
+  pub collected : List Collected
+  pub served : ℕ
+
+-- What the writer knows is all there is.
+abbrev pub WriterFits : SharedState → SeatState → Type 0
+WriterFits g p =
+    (p.history ≡ g.history) × (g.word ≡ suc p.number) × (p.cleared ≡ g.cleared)
+    × (p.watched ≡ g.watched) × (p.collected ≡ g.collected) × (p.served ≡ g.served)
+    × (p.flips ≡ g.flips)
+
+-- What a seat's state says fits. The seat has seen a beginning of the history, which has all its
+-- Adds but one that was made for it and whose reply it has not read. Who has a handle on the active
+-- copy in hand has seen all.
+pub record StateFits (g : SharedState) (p : SeatState) : Type 0 where
+  pub begins : BeginsWith g.history p.seen
+  pub own : own_count p.number g.history ≡ p.count + made_of (g.request_of p.number)
+  pub own_seen : own_count p.number p.seen ≡ p.count
+  pub at_stage : g.stage_of p.number ≡ p.stage
+  pub at_toggle : toggle_seen (g.toggle_of p.number) (g.request_of p.number) ≡ p.toggle
+  pub at_request : add_of (g.request_of p.number) ≡ p.request
+  pub at_fetched : fetched_of (g.request_of p.number) ≡ p.fetched
+  pub sees : p.stage ≡ active_side g.flips + 2 → p.seen ≡ g.history
+  pub holding : p.holds ≡ true → WriterFits g p
+
+-- What a participant knows fits.
+pub record KnowledgeFits (setup : Setup) (g : SharedState) (v : Knowledge) : Type 0 where
+  pub settled : v.live ≡ true → v.setup ≡ setup
+  pub states : (at : ℕ) (p : SeatState) → get_elem? v.states at ≡ maybe.some p → StateFits g p
+  pub front : BeginsWith g.history v.front
+
+-- A slot is at home, and what it has meets P.
+abbrev pub IsHome : List (maybe.Option Slot) → ℕ → (Slot → Type 0) → Type 0
+IsHome homes i P = (x : Slot) × (get_elem? homes i ≡ maybe.some (maybe.some x)) × P x
+
+-- A seat's epoch is even where the seat is unpinned, and odd where it is pinned. Its slot on the
+-- active side is at home and shows the history, unless the seat has it in hand. Its slot on the
+-- standby side is at home, unless the seat has it, or the writer, who has cleared the seat. Where
+-- the seat has it and the writer has watched the seat, its epoch is still the one that was watched.
+pub record SeatFits (setup : Setup) (g : SharedState) (words : List ℕ)
+    (homes : List (maybe.Option Slot)) (seat : ℕ) : Type 0 where
+  pub unpinned : g.stage_of seat ≡ 0 → slice_index words (epoch_word seat) % 2 ≡ 0
+  pub pinned : 0 < g.stage_of seat → slice_index words (epoch_word seat) % 2 ≡ 1
+  pub active : g.stage_of seat ≢ active_side g.flips + 2
+      → IsHome homes (side_slot seat (active_side g.flips)) (Shows setup g.history)
+  pub standby : g.cleared ≤ seat → g.stage_of seat ≢ standby_side g.flips + 2
+      → (x : Slot)
+      × (get_elem? homes (side_slot seat (standby_side g.flips)) ≡ maybe.some (maybe.some x))
+  pub left : seat < g.cleared → g.stage_of seat ≢ standby_side g.flips + 2
+  pub late : (e : ℕ) → seat ≡ g.cleared → g.watched ≡ Some e
+      → g.stage_of seat ≡ standby_side g.flips + 2 → slice_index words (epoch_word seat) ≡ e
+
+-- the marks of an Add as a list
+abbrev pub marks_in : MarkList → List Mark
+marks_in (One m) = m ∷ []
+marks_in (Many ms) = ms.items
+
+-- the entry of an Add of a seat
+abbrev pub entry_of : ℕ → ℕ → UnappliedAdd → Entry
+entry_of number count p =
+    record { seat = number; number = count; marks = marks_in p.marks; now = p.moment }
+
+-- An Add of a seat was made after a history, and it is the seat's last.
+pub record IsMadeAt (h : History) (seat : ℕ) (before : History) (p : UnappliedAdd) : Type 0 where
+  pub begins : BeginsWith h (before ++ entry_of seat (own_count seat before) p ∷ [])
+  pub own : own_count seat h ≡ suc (own_count seat before)
+
+-- a slot has an Add
+abbrev pub HasRequest : UnappliedAdd → Slot → Type 0
+HasRequest p Empty = ⊥
+HasRequest p (Writer state) = ⊥
+HasRequest p (Handle handle) = ⊥
+HasRequest p (Request add) = add.value ≡ p
+HasRequest p (Answer reply) = ⊥
+
+-- A reply says where an Add stands, and what the Add made, which is no rotation.
+pub record IsReply (setup : Setup) (before : History) (p : UnappliedAdd) (reply : Reply)
+    : Type 0 where
+  pub place : reply.place ≡ length before
+  pub added : (step_all setup.config (state_of setup.config before) (marks_in p.marks)
+      p.moment).added
+      ≡ record { kept = reply.kept; rotated = false; evicted = 0 }
+
+-- a slot has such a reply
+abbrev pub HasAnswer : Setup → History → UnappliedAdd → Slot → Type 0
+HasAnswer setup before p Empty = ⊥
+HasAnswer setup before p (Writer state) = ⊥
+HasAnswer setup before p (Handle handle) = ⊥
+HasAnswer setup before p (Request add) = ⊥
+HasAnswer setup before p (Answer reply) = IsReply setup before p reply
+
+-- an Add that a caller can make
+abbrev pub CanBe : Setup → UnappliedAdd → Type 0
+CanBe setup p = CanAllBeAdded setup.config (marks_in p.marks) p.moment
+
+-- What is asked for a seat fits its request slot, its toggle, its bit of SERVED (told), and the bit
+-- that SERVED is to have (plan).
+abbrev pub IsRequested : Setup → History → maybe.Option (maybe.Option Slot) → ℕ → ℕ → ℕ → ℕ
+    → RequestState → Type 0
+IsRequested setup h home toggle told plan seat Idle =
+    ((x : Slot) × (home ≡ maybe.some (maybe.some x))) × (told ≡ toggle) × (plan ≡ toggle)
+IsRequested setup h home toggle told plan seat Fetched = (told ≡ toggle) × (plan ≡ toggle)
+IsRequested setup h home toggle told plan seat (Posted p) =
+    ((x : Slot) × (home ≡ maybe.some (maybe.some x)) × HasRequest p x)
+    × CanBe setup p × (told ≢ toggle) × (plan ≢ toggle)
+IsRequested setup h home toggle told plan seat (Taken p) =
+    CanBe setup p × (told ≢ toggle) × (plan ≢ toggle)
+IsRequested setup h home toggle told plan seat (Made b p) =
+    IsMadeAt h seat b p × (told ≢ toggle) × (plan ≢ toggle)
+IsRequested setup h home toggle told plan seat (Answered b p) =
+    ((x : Slot) × (home ≡ maybe.some (maybe.some x)) × HasAnswer setup b p x)
+    × IsMadeAt h seat b p × (plan ≡ toggle)
+IsRequested setup h home toggle told plan seat (SentBack p) =
+    ((x : Slot) × (home ≡ maybe.some (maybe.some x)) × HasRequest p x) × (plan ≡ toggle)
+
+-- A seat's request word is its toggle, and what is asked for it fits.
+pub record RequestFits (setup : Setup) (g : SharedState) (words : List ℕ)
+    (homes : List (maybe.Option Slot)) (seat : ℕ) : Type 0 where
+  pub toggle : slice_index words (request_word seat) ≡ g.toggle_of seat
+  pub small : g.toggle_of seat < 2
+  pub says : IsRequested setup g.history (get_elem? homes (request_slot seat)) (g.toggle_of seat)
+      (bit_at (slice_index words served_word) seat) (bit_at g.served seat) seat (g.request_of seat)
+
+-- how often a seat is among those whose request slots the writer has
+abbrev pub times : ℕ → List Collected → ℕ
+times seat xs = sum_by (λ (x : Collected). one_if (x.seat == seat)) xs
+
+-- what is asked for such a seat
+abbrev pub collected_as : UnappliedAdd → Option History → RequestState
+collected_as add None = Taken add
+collected_as add (Some before) = Made before add
+
+-- The writer has the request slots of these seats, each once, and of no others.
+pub record CollectedFits (seats : ℕ) (request_of : ℕ → RequestState) (collected : List Collected)
+    : Type 0 where
+  pub listed : (at : ℕ) (x : Collected) → get_elem? collected at ≡ maybe.some x
+      → (x.seat < seats) × (request_of x.seat ≡ collected_as x.add x.before)
+  pub each : (seat : ℕ) → times seat collected ≡ in_hand (request_of seat)
+
+-- entries are those of some Adds, whoever made them
+abbrev pub AreOf : History → List UnappliedAdd → Type 0
+AreOf [] [] = Unit {0}
+AreOf [] (p ∷ ps) = ⊥
+AreOf (e ∷ es) [] = ⊥
+AreOf (e ∷ es) (p ∷ ps) = (e.marks ≡ marks_in p.marks) × (e.now ≡ p.moment) × AreOf es ps
+
+-- a cache stands for the state of a history without its last entries, which are those of some Adds
+abbrev pub Lags : Setup → History → List UnappliedAdd → CacheView → Type 0
+Lags setup h ps cache =
+    (before es : History) × (h ≡ before ++ es) × AreOf es ps × IsState setup before cache
+
+-- and so does the cache of a handle, where there is one
+abbrev pub HandleLags : Setup → History → List UnappliedAdd → Option (Arc CacheView Global) → Type 0
+HandleLags setup h lagging None = Unit {0}
+HandleLags setup h lagging (Some handle) = Lags setup h lagging (arc_value handle)
+
+-- what the writer's slot has
+abbrev pub LaidState : Type 0
+LaidState = Box WriterState Global
+
+-- What the writer works with is after a history, and after so many flips: the active copy stands
+-- for the history's state, and the standby copy may lag.
+pub record IsAfter (setup : Setup) (h : History) (flips : ℕ) (state : WriterState) : Type 0 where
+  pub stands : IsState setup h (arc_value state.active)
+  pub behind : HandleLags setup h state.lagging.items state.standby
+  pub length : state.length ≡ length h
+  pub flips_is : state.flips ≡ flips
+
+-- There is one history, legal and within the limit, and HEAD is the number of flips, of which each
+-- made the history longer. What each participant knows fits, and each seat has one state. Where the
+-- lock is free, nobody holds it, nothing is cleared or collected, and the writer's slot has what is
+-- after that history; else one seat holds the lock.
+pub record LeftRightRule (setup : Setup) (s : State Slot Knowledge) : Type 0 where
+  pub g : SharedState
+  pub legal : IsLegal setup.config setup.seats g.history
+  pub limit : length g.history ≤ setup.limit
+  pub few : g.flips ≤ length g.history
+  pub wide : length s.words ≡ 32 * setup.seats + 64
+  pub deep : length s.homes ≡ 24 * setup.seats + 8
+  pub word_is : slice_index s.words 0 ≡ g.word
+  pub head_is : slice_index s.words head_word ≡ g.flips
+  pub seats : (seat : ℕ) → seat < setup.seats → SeatFits setup g s.words s.homes seat
+  pub requests : (seat : ℕ) → seat < setup.seats → RequestFits setup g s.words s.homes seat
+  pub collected : CollectedFits setup.seats g.request_of g.collected
+  pub views : (id : ℕ) (v : Knowledge) → get_elem? s.views id ≡ maybe.some v
+      → KnowledgeFits setup g v
+  pub each : (number : ℕ) → sum_by (states_of number) s.views ≡ one_if (nat_lt number setup.seats)
+  pub one : sum_by holders s.views ≡ one_if (nat_lt 0 g.word)
+  pub idle : g.word ≡ 0 → (g.cleared ≡ 0) × (g.collected ≡ [])
+  pub free : g.word ≡ 0 → (state : LaidState)
+      × (get_elem? s.homes 0 ≡ maybe.some (maybe.some (Writer state)))
+      × IsAfter setup g.history g.flips state.value × (state.value.served ≡ g.served)

@@ -1,0 +1,293 @@
+-- What each step says to the one who takes it.
+use Rattle.std.specs.Prelude.{◌≡◌, ◌≢◌, ℕ, suc, ◌+◌, ◌%◌, ◌≤◌, ◌==◌, ◌||◌, not}
+use Rattle.std.specs.Prelude.{nat_le, List, [], ◌∷◌, ◌++◌, length, Bool, true, false}
+use Rattle.std.specs.Prelude.{Option, Some, None, if◌then◌else◌}
+use Rattle.std.specs.Arc.{arc_value}
+use Rattle.atomic_table.specs.Table.{Me, Step, rest}
+use Rattle.tsc_time.specs.Time.{zero_time}
+use Rattle.tsc_cache.specs.CacheView.{CacheView}
+use Rattle.tsc_cache.specs.declared.history.Entry.{Entry}
+use Rattle.tsc_cache.specs.History.{History, own_count, BeginsWith, IsLegal}
+use Rattle.tsc_left_right.specs.declared.table.Setup.{Setup}
+use Rattle.tsc_left_right.specs.declared.table.UnappliedAdd.{UnappliedAdd}
+use Rattle.tsc_left_right.specs.declared.table.WriterState.{WriterState}
+use Rattle.tsc_left_right.specs.declared.table.SeatState.{SeatState}
+use Rattle.tsc_left_right.specs.declared.table.Collected.{Collected}
+use Rattle.tsc_left_right.specs.declared.table.Knowledge.{Knowledge}
+use Rattle.tsc_left_right.specs.declared.table.Slot.{Slot}
+use Rattle.tsc_left_right.specs.declared.table.Slot.TheVariants.{Empty, Writer, Handle, Request}
+use Rattle.tsc_left_right.specs.declared.table.Slot.TheVariants.{Answer}
+use Rattle.tsc_left_right.specs.Rule.{at_rest, keeping, entry_of, side_slot}
+use Rattle.tsc_left_right.specs.Rule.{active_side, standby_side, Shows}
+use Rattle.tsc_left_right.specs.Rule.{LaidState, IsAfter}
+
+-- what a participant knows, and what it has in hand
+abbrev pub At : Type 0
+At = Me Slot Knowledge
+
+-- the first of some states, and the others
+abbrev pub first_state : List SeatState → SeatState
+first_state [] = at_rest 0 [] 0
+first_state (p ∷ ps) = p
+
+abbrev pub other_states : List SeatState → List SeatState
+other_states [] = []
+other_states (p ∷ ps) = ps
+
+-- the state that a participant keeps, and a participant that keeps another one
+abbrev pub state_in : Knowledge → SeatState
+state_in v = first_state v.states
+
+abbrev pub with_state : Knowledge → SeatState → Knowledge
+with_state v p = keeping v.setup (p ∷ [])
+
+-- the number of the seat, what it has seen, and how many Adds of its own
+abbrev pub number_of : Knowledge → ℕ
+number_of v = (state_in v).number
+
+abbrev pub seen_of : Knowledge → History
+seen_of v = (state_in v).seen
+
+abbrev pub count_of : Knowledge → ℕ
+count_of v = (state_in v).count
+
+-- the participant of a seat between two calls
+abbrev pub seated : Setup → ℕ → History → ℕ → Knowledge
+seated setup number seen count = keeping setup (at_rest number seen count ∷ [])
+
+-- a participant that keeps no state: a front of this history
+abbrev pub front_of : Setup → History → Knowledge
+front_of setup seen = record { live = true; setup = setup; states = []; front = seen }
+
+-- a participant that was joined to another
+abbrev pub spent : Knowledge
+spent = record {
+  live = false;
+  setup = record {
+    config = record {
+      page_first = 0;
+      page_max = 0;
+      min_pages = 0;
+      retention = 0;
+      low_water = zero_time;
+    };
+    seats = 0;
+    limit = 0;
+  };
+  states = [];
+  front = [];
+}
+
+-- the longer of two histories
+abbrev pub longer : History → History → History
+longer a b = if nat_le (length a) (length b) then b else a
+
+-- the slots of a side, of the seats from one on up to below another, each with what meets P
+abbrev pub Filled : (Slot → Type 0) → ℕ → ℕ → List (ℕ × Slot) → ℕ → Type 0
+Filled P side from [] to = from ≡ to
+Filled P side from (x ∷ xs) to = (x.0 ≡ side_slot from side) × P x.1
+    × Filled P side (suc from) xs to
+
+abbrev pub Anything : Slot → Type 0
+Anything x = Unit {0}
+
+-- a handle on this cache, which is after so many Adds
+abbrev pub IsHandleOn : CacheView → ℕ → Slot → Type 0
+IsHandleOn cache adds Empty = ⊥
+IsHandleOn cache adds (Writer state) = ⊥
+IsHandleOn cache adds (Handle handle) = (arc_value handle.cache ≡ cache) × (handle.length ≡ adds)
+IsHandleOn cache adds (Request add) = ⊥
+IsHandleOn cache adds (Answer reply) = ⊥
+
+-- A seat that asks for nothing sees the whole history when it acquires the lock.
+abbrev pub seen_then : Option UnappliedAdd → History → History → History
+seen_then None seen h = h
+seen_then (Some add) seen h = seen
+
+abbrev pub acquired : SeatState → History → ℕ → ℕ → SeatState
+acquired p h flips served = record p {
+  holds = true;
+  seen = seen_then p.request p.seen h;
+  history = h;
+  flips = flips;
+  collected = [];
+  served = served;
+  cleared = 0;
+  watched = None;
+}
+
+-- The seat of v holds the lock, and knows all: the history, and the state that lies there.
+pub record Acquires (v w : Knowledge) (state : WriterState) : Type 0 where
+  pub history : History
+  pub flips : ℕ
+  pub after : w ≡ with_state v (acquired (state_in v) history flips state.served)
+  pub begins : BeginsWith history (state_in v).seen
+  pub legal : IsLegal v.setup.config v.setup.seats history
+  pub own : own_count (state_in v).number (seen_then (state_in v).request (state_in v).seen history)
+      ≡ (state_in v).count
+  pub limit : length history ≤ v.setup.limit
+  pub few : flips ≤ length history
+  pub is_after : IsAfter v.setup history flips state
+
+-- The lock is acquired where it was free, with what lies there. Else nothing changes.
+abbrev pub acquires : Step Slot → At → ℕ → At → Type 0
+acquires st me found me' =
+    (found ≡ 0 → (state : LaidState) × Acquires me.0 me'.0 state.value
+    × (me'.1 ≡ (0, Writer state) ∷ []))
+    × (found ≢ 0 → me' ≡ me)
+
+-- The lock is released, and nothing is in hand.
+abbrev pub released : SeatState → SeatState
+released p = record p {
+  holds = false;
+  history = [];
+  flips = 0;
+  collected = [];
+  served = 0;
+  cleared = 0;
+  watched = None;
+}
+
+abbrev pub releases : Step Slot → At → ℕ → At → Type 0
+releases st me stored me' = me' ≡ (with_state me.0 (released (state_in me.0)), [])
+
+-- the writer, when so many seats are cleared, and the next one was watched
+abbrev pub clearing : SeatState → ℕ → Option ℕ → SeatState
+clearing p cleared watched = record p { cleared = cleared; watched = watched }
+
+-- an epoch that shows that the seat does not have its slot of the standby side
+abbrev pub has_left : Option ℕ → ℕ → Bool
+has_left None e = e % 2 == 0
+has_left (Some w) e = (e % 2 == 0) || not (w == e)
+
+-- The next seat is cleared where it has left: its slot of the standby side is in hand. Else it is
+-- watched.
+abbrev pub clears : Step Slot → At → ℕ → At → Type 0
+clears st me e me' = let p = state_in me.0 in
+    (has_left p.watched e ≡ true → (x : Slot)
+    × (me' ≡ (
+      with_state me.0 (clearing p (suc p.cleared) None),
+      (side_slot p.cleared (standby_side p.flips), x) ∷ me.1,
+    )))
+    × (has_left p.watched e ≡ false → me' ≡ (with_state me.0 (clearing p p.cleared (Some e)), me.1))
+
+-- the next entry of a seat
+abbrev pub next_of : History → Collected → Entry
+next_of h x = entry_of x.seat (own_count x.seat h) x.add
+
+-- a history with the Adds of some requests, of which the last was collected first
+abbrev pub grown : History → List Collected → History
+grown h [] = h
+grown h (x ∷ xs) = grown h xs ++ next_of (grown h xs) x ∷ []
+
+-- those requests, each with what stands before its Add
+abbrev pub all_made : History → List Collected → List Collected
+all_made h [] = []
+all_made h (x ∷ xs) = record { seat = x.seat; add = x.add; before = Some (grown h xs) }
+    ∷ all_made h xs
+
+-- a history with the writer's own Add, where it makes one
+abbrev pub with_own : SeatState → Option UnappliedAdd → History
+with_own p None = p.history
+with_own p (Some add) = p.history ++ entry_of p.number p.count add ∷ []
+
+-- what the writer has seen then, and its count
+abbrev pub seen_own : SeatState → Option UnappliedAdd → History
+seen_own p None = p.seen
+seen_own p (Some add) = p.history ++ entry_of p.number p.count add ∷ []
+
+abbrev pub count_own : SeatState → Option UnappliedAdd → ℕ
+count_own p None = p.count
+count_own p (Some add) = p.count + 1
+
+-- the history once the writer has published
+abbrev pub published : SeatState → Option UnappliedAdd → History
+published p own = grown (with_own p own) p.collected
+
+-- the writer then
+abbrev pub flipped : SeatState → Option UnappliedAdd → SeatState
+flipped p own = record p {
+  seen = seen_own p own;
+  count = count_own p own;
+  history = published p own;
+  flips = p.flips + 1;
+  cleared = 0;
+  watched = None;
+  collected = all_made (with_own p own) p.collected;
+}
+
+-- the writer's own Add, where its state says that it makes one
+abbrev pub first_of : List UnappliedAdd → Option UnappliedAdd
+first_of [] = None
+first_of (p ∷ ps) = Some p
+
+abbrev pub own_of : WriterState → Option UnappliedAdd
+own_of state = if state.own then first_of state.lagging.items else None
+
+-- as what is in hand says it
+abbrev pub own_in : List (ℕ × Slot) → Option UnappliedAdd
+own_in [] = None
+own_in ((k, Empty) ∷ xs) = own_in xs
+own_in ((k, Writer state) ∷ xs) = own_of state.value
+own_in ((k, Handle handle) ∷ xs) = own_in xs
+own_in ((k, Request add) ∷ xs) = own_in xs
+own_in ((k, Answer reply) ∷ xs) = own_in xs
+
+-- what is in hand behind the handles
+abbrev pub behind_handles : List (ℕ × Slot) → List (ℕ × Slot)
+behind_handles [] = []
+behind_handles ((k, Empty) ∷ xs) = (k, Empty) ∷ xs
+behind_handles ((k, Writer state) ∷ xs) = (k, Writer state) ∷ xs
+behind_handles ((k, Handle handle) ∷ xs) = behind_handles xs
+behind_handles ((k, Request add) ∷ xs) = (k, Request add) ∷ xs
+behind_handles ((k, Answer reply) ∷ xs) = (k, Answer reply) ∷ xs
+
+-- The own Add and all that was collected are in the history from now on, and on the active copy.
+-- The handles are at home; the writer's slot and those of the requests stay in hand.
+abbrev pub publishes : Step Slot → At → ℕ → At → Type 0
+publishes st me stored me' =
+    me' ≡ (with_state me.0 (flipped (state_in me.0) (own_in me.1)), behind_handles me.1)
+
+-- a seat at a stage
+abbrev pub staged : SeatState → ℕ → SeatState
+staged p stage = record p { stage = stage }
+
+-- The seat is pinned.
+abbrev pub pins : Step Slot → At → ℕ → At → Type 0
+pins st me e me' = me' ≡ (with_state me.0 (staged (state_in me.0) 1), me.1)
+
+-- A seat has all of the history in sight after so many flips, and what lies there shows it.
+pub record SeesAll (v w : Knowledge) (found : ℕ) (x : Slot) : Type 0 where
+  pub history : History
+  pub after : w ≡ with_state v
+      (record (state_in v) { seen = history; stage = active_side found + 2 })
+  pub begins : BeginsWith history (state_in v).seen
+  pub legal : IsLegal v.setup.config v.setup.seats history
+  pub own : own_count (state_in v).number history ≡ (state_in v).count
+  pub limit : length history ≤ v.setup.limit
+  pub shows : Shows v.setup history x
+
+-- The seat has its slot of the active side, and has seen all.
+abbrev pub reads_head : Step Slot → At → ℕ → At → Type 0
+reads_head st me found me' = (x : Slot)
+    × (me'.1 ≡ (side_slot (state_in me.0).number (active_side found), x) ∷ me.1)
+    × SeesAll me.0 me'.0 found x
+
+-- The seat is unpinned, and its slot is at home.
+abbrev pub unpins : Step Slot → At → ℕ → At → Type 0
+unpins st me e me' = me' ≡ (with_state me.0 (staged (state_in me.0) 0), rest me.1)
+
+-- A seat that asks for nothing has seen the longer of what it and another had seen.
+pub record CatchesUp (me me' : At) (other : History) : Type 0 where
+  pub history : History
+  pub is_longer : history ≡ longer (state_in me.0).seen other
+  pub after : me' ≡ (with_state me.0 (record (state_in me.0) { seen = history }), [])
+  pub begins : BeginsWith history (state_in me.0).seen
+  pub begins_other : BeginsWith history other
+  pub legal : IsLegal me.0.setup.config me.0.setup.seats history
+  pub own : own_count (state_in me.0).number history ≡ (state_in me.0).count
+  pub limit : length history ≤ me.0.setup.limit
+
+-- A seat catches up with the front that it has taken in.
+abbrev pub catches_up : Step Slot → At → ℕ → At → Type 0
+catches_up st me found me' = CatchesUp me me' me.0.front

@@ -1,0 +1,109 @@
+//! Making the table, and those who take part in it.
+ghost use Rattle.std.specs.Prelude.{◌≡◌, [], ◌+◌, ◌*◌, ◌++◌, ◌<◌, IfOk, OnOk, length};
+ghost use Rattle.std.specs.Prelude.{replicate};
+ghost use Rattle.std.specs.Arc.{arc_value};
+ghost use Rattle.tsc_left_right.specs.Rule.{IsState, IsAfter, first_knowledge, keeping};
+ghost use Rattle.tsc_left_right.specs.Steps.{other_states};
+ghost use Rattle.tsc_left_right.specs.Opening.{IsLaidOut, IsFirst, line_of};
+ghost use Rattle.tsc_left_right.specs.Participating.{IsOf, IsSized, KeepsStates, IsFirstOf};
+
+use crate::steps::SplitOff;
+use crate::table::{Participant, ReadHandle, Replicas, Setup, SharedReplicas, Slot, WriterState};
+use atomic_table::Table;
+use std::alloc::Global;
+use std::sync::Arc;
+use tsc_cache::{Cache, TimestampCache};
+use tsc_time::NoMemory;
+
+/// The words: that of the writer lock, HEAD, SERVED, and two of each seat, each with a line of
+/// sixteen.
+fn blank_words(alloc: Global, seats: u32) -> Result<Vec<u64>, NoMemory>
+    ensures { IfOk result (λ words. words.items ≡ replicate (32 * seats + 64) 0) }
+{
+    Ok(vec![in alloc; 0; 32 * seats as usize + 64]?)
+}
+
+/// Lays one more, and seven empty slots behind it: what is laid next lies 128 bytes above.
+fn lay(slots: &mut Vec<Slot>, slot: Slot) -> Result<(), NoMemory>
+    ensures { OnOk result (slots.new.items ≡ slots.old.items ++ line_of slot) }
+{
+    slots.push(slot)?;
+    for _beside in 0..7_usize {
+        slots.push(Slot::Empty)?;
+    }
+    Ok(())
+}
+
+/// What lies in the slots at the opening: the writer's state, and a handle on the active copy for
+/// each of so many seats.
+fn first_slots(alloc: Global, state: Box<WriterState>, seats: u32) -> Result<Vec<Slot>, NoMemory>
+    ensures { IfOk result (λ slots. IsLaidOut state seats slots.items) }
+{
+    let active = Arc::try_clone(&state.active)?;
+    let mut slots = Vec::with_capacity(alloc, 24 * seats as usize + 8)?;
+    lay(&mut slots, Slot::Writer(state))?;
+    for seat in 0..seats {
+        let cache = Arc::try_clone(&active)?;
+        lay(&mut slots, Slot::Handle(ReadHandle { cache, length: 0 }))?;
+        lay(&mut slots, Slot::Empty)?;
+        lay(&mut slots, Slot::Empty)?;
+    }
+    Ok(slots)
+}
+
+/// An empty cache, and a handle on it.
+fn empty_cache(alloc: Global, setup: &Setup) -> Result<Arc<Cache>, NoMemory>
+    ensures { IfOk result (λ cache. IsState setup.now [] (arc_value cache)) }
+{
+    let cache = Cache::new(alloc, setup.config)?;
+    Ok(Arc::new(alloc, cache)?)
+}
+
+/// What the writer works with at the opening: two empty copies.
+fn new_state(alloc: Global, setup: &Setup) -> Result<Box<WriterState>, NoMemory>
+    ensures { IfOk result (λ state. IsFirst setup.now state.value) }
+{
+    let active = empty_cache(alloc, setup)?;
+    let standby = empty_cache(alloc, setup)?;
+    let state = WriterState {
+        active,
+        standby: Some(standby),
+        lagging: Vec::new(alloc),
+        length: 0,
+        flips: 0,
+        served: 0,
+        own: false,
+    };
+    Ok(Box::new(alloc, state)?)
+}
+
+/// A table with two empty copies, and its first participant, which keeps the states of all seats.
+pub fn new_replicas(alloc: Global, setup: &Setup) -> Result<(Replicas, Participant), NoMemory>
+    ensures replicas { IfOk result (λ made. IsSized made.0.shared.table_id setup.now.seats
+        × (made.0.shared.key ≡ setup.now)) }
+    ensures all { IfOk result (λ made. (made.1.table_id ≡ made.0.shared.table_id)
+        × (made.1.me ≡ (first_knowledge setup.now, []))) }
+{
+    let words = blank_words(alloc, setup.seats)?;
+    let state = new_state(alloc, setup)?;
+    let slots = first_slots(alloc, state, setup.seats)?;
+    match Table::new(alloc, words.as_slice(), slots, setup) {
+        Ok(made) => Ok(made),
+        Err(_refused) => Err(NoMemory),
+    }
+}
+
+/// The first of the states that a participant keeps goes to a participant of its own.
+pub fn split_off(shared: &SharedReplicas, all: &mut Participant) -> Participant
+    requires of { IsOf all.old shared.now.table_id }
+    requires states { KeepsStates all.old.me.0 }
+    requires some { 0 < length all.old.me.0.states }
+    ensures table { all.new.table_id ≡ all.old.table_id }
+    ensures others { all.new.me ≡ (
+      keeping all.old.me.0.setup (other_states all.old.me.0.states),
+      all.old.me.1,
+    ) }
+    ensures first { IsFirstOf all.old.me.0 result.me × (result.table_id ≡ all.old.table_id) }
+{
+    shared.split_seat::<SplitOff>(all)
+}

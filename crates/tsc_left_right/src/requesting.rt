@@ -1,0 +1,117 @@
+//! What a seat does that asks the writer for an Add: it posts a request, and hears what became of it.
+//!
+//! SERVED has 64 bits, so only the first 64 seats can ask.
+ghost use Rattle.std.specs.Prelude.{◌≡◌, ◌∷◌, ◌<◌, ◌-◌, true, false};
+ghost use Rattle.atomic_table.specs.Table.{rest};
+ghost use Rattle.tsc_left_right.specs.declared.table.Slot.{Slot};
+ghost use Rattle.tsc_left_right.specs.declared.table.UnappliedAdd.{UnappliedAdd};
+ghost use Rattle.tsc_left_right.specs.Rule.{request_slot};
+ghost use Rattle.tsc_left_right.specs.Steps.{state_in, number_of};
+ghost use Rattle.tsc_left_right.specs.Participating.{IsOf, IsNumber};
+ghost use Rattle.tsc_left_right.specs.Requesting.{MayFetch, HasFetched, MayPost, HasPosted};
+ghost use Rattle.tsc_left_right.specs.Requesting.{MayWithdraw, IsWithdrawn, HasHeard};
+ghost use Rattle.tsc_left_right.specs.Requesting.{fetched_in, posted_in};
+
+use crate::places::{SERVED, request_slot, request_word};
+use crate::steps::{Fetch, Hear, Post, Rest, Withdraw};
+use crate::table::{Participant, Reply, SharedReplicas, Slot, UnappliedAdd};
+
+/// What became of a request.
+#[derive(Drop)]
+pub enum Heard {
+    /// Nothing yet.
+    Waiting,
+    /// The Add was made.
+    Made(Reply),
+    /// It was not made, and is the seat's again.
+    SentBack(Box<UnappliedAdd>),
+}
+
+/// The seat takes its request slot. The result is its toggle.
+pub fn fetch(shared: &SharedReplicas, who: &mut Participant, number: u32) -> u64
+    requires of { IsOf who.old shared.now.table_id }
+    requires may { MayFetch who.old.me }
+    requires number { IsNumber who.old.me.0 number }
+    ensures table { who.new.table_id ≡ who.old.table_id }
+    ensures small { result < 2 }
+    ensures fetched { (x : Slot) × (who.new.me ≡ (
+      fetched_in who.old.me.0 true result,
+      (request_slot number, x) ∷ who.old.me.1,
+    )) }
+{
+    shared.load::<Fetch>(who, request_word(number))
+}
+
+/// The seat lays its request slot back, and asks for nothing.
+pub fn rest(shared: &SharedReplicas, who: &mut Participant, number: u32)
+    requires of { IsOf who.old shared.now.table_id }
+    requires fetched { HasFetched who.old.me }
+    requires number { IsNumber who.old.me.0 number }
+    ensures table { who.new.table_id ≡ who.old.table_id }
+    ensures rests { who.new.me ≡ (fetched_in who.old.me.0 false 0, rest who.old.me.1) }
+{
+    shared.load::<Rest>(who, request_word(number));
+}
+
+/// The seat asks for this Add, and its request slot is at home. The result is its toggle from then
+/// on.
+pub fn post(
+    shared: &SharedReplicas,
+    who: &mut Participant,
+    number: u32,
+    toggle: u64,
+    add: Box<UnappliedAdd>,
+) -> u64
+    requires of { IsOf who.old shared.now.table_id }
+    requires may { MayPost who.old.me toggle add.value }
+    requires number { IsNumber who.old.me.0 number }
+    ensures table { who.new.table_id ≡ who.old.table_id }
+    ensures toggle { result ≡ 1 - toggle }
+    ensures posted { who.new.me ≡ (posted_in who.old.me.0 add.value result, rest who.old.me.1) }
+{
+    shared.exchange(who, request_slot(number), Slot::Request(add));
+    shared.store::<Post>(who, request_word(number), 1 - toggle);
+    1 - toggle
+}
+
+/// The writer takes its own request back, which it has not collected. The result has its new
+/// toggle.
+pub fn withdraw(
+    shared: &SharedReplicas,
+    who: &mut Participant,
+    number: u32,
+    toggle: u64,
+) -> (u64, Box<UnappliedAdd>)
+    requires of { IsOf who.old shared.now.table_id }
+    requires may { MayWithdraw who.old.me toggle }
+    requires number { IsNumber who.old.me.0 number }
+    ensures table { who.new.table_id ≡ who.old.table_id }
+    ensures withdrawn { IsWithdrawn who.old.me who.new.me toggle result.0 result.1.value }
+{
+    shared.store::<Withdraw>(who, request_word(number), 1 - toggle);
+    let Slot::Request(add) = shared.exchange(who, request_slot(number), Slot::Empty) else {
+        unreachable!()
+    };
+    (1 - toggle, add)
+}
+
+/// Looks once whether the seat's request was answered. If so its request slot is in its hand again,
+/// and is empty.
+pub fn hear(shared: &SharedReplicas, who: &mut Participant, number: u32, toggle: u64) -> Heard
+    requires of { IsOf who.old shared.now.table_id }
+    requires posted { (add : UnappliedAdd) × HasPosted who.old.me add }
+    requires number { (number ≡ number_of who.old.me.0) × (number < 64) }
+    requires toggle { toggle ≡ (state_in who.old.me.0).toggle }
+    ensures table { who.new.table_id ≡ who.old.table_id }
+    ensures heard { HasHeard who.old.me who.new.me result }
+{
+    let served = shared.load::<Hear>(who, SERVED);
+    if served >> number & 1 != toggle {
+        return Heard::Waiting;
+    }
+    match shared.exchange(who, request_slot(number), Slot::Empty) {
+        Slot::Answer(reply) => Heard::Made(reply),
+        Slot::Request(add) => Heard::SentBack(add),
+        _ => unreachable!(),
+    }
+}

@@ -1,0 +1,146 @@
+//! The table that the threads share, and what each of them knows of it.
+use atomic_table::{Seat as TableSeat, Shared, Table, TableRule};
+use std::alloc::Global;
+use std::collections::LinkedList;
+use std::sync::Arc;
+use tsc_cache::{Cache, Config, Entry, Mark};
+use tsc_time::Timestamp;
+
+/// What was settled when a cache was opened.
+#[derive(Clone, Copy)]
+pub struct Setup {
+    /// How the cache is set up.
+    pub config: Config,
+    /// How many seats there are.
+    pub seats: u32,
+    /// How many Adds there may be.
+    pub limit: u64,
+}
+
+/// The marks of an Add: one, which takes no memory beside its own, or a list of them.
+#[derive(Drop)]
+pub enum MarkList {
+    One(Mark),
+    Many(Vec<Mark>),
+}
+
+/// An Add that the standby copy has not had yet, or that a seat asks the writer for.
+#[derive(Drop)]
+pub struct UnappliedAdd {
+    pub marks: MarkList,
+    pub moment: Timestamp,
+}
+
+/// What the writer works with.
+#[derive(Drop)]
+pub struct WriterState {
+    /// The copy that lookups read, which is after all Adds.
+    pub active: Arc<Cache>,
+    /// The other copy, if it is there: it is after all Adds but those of `lagging`.
+    pub standby: Option<Arc<Cache>>,
+    pub lagging: Vec<UnappliedAdd>,
+    /// How many Adds there were.
+    pub length: u64,
+    /// How many flips there were: HEAD.
+    pub flips: u64,
+    /// The bits that SERVED is to have.
+    pub served: u64,
+    /// Whether the first of `lagging` is the writer's own Add.
+    pub own: bool,
+}
+
+/// What the writer answers a seat whose Add it has made.
+#[derive(Clone, Copy)]
+pub struct Reply {
+    /// How many Adds stand before it.
+    pub place: u64,
+    /// Whether the Add was kept on its page.
+    pub kept: bool,
+}
+
+/// A handle on a copy, which is after so many Adds.
+#[derive(Drop)]
+pub struct ReadHandle {
+    pub cache: Arc<Cache>,
+    pub length: u64,
+}
+
+/// What a slot has: the writer's state, a handle on a copy, a request, a reply, or nothing.
+#[derive(Drop)]
+pub enum Slot {
+    Empty,
+    Writer(Box<WriterState>),
+    Handle(ReadHandle),
+    Request(Box<UnappliedAdd>),
+    Answer(Reply),
+}
+
+/// A request that the writer has collected, and what stands before its Add once that is made. No
+/// value of it is made.
+pub struct Collected {
+    pub seat: u32,
+    pub add: UnappliedAdd,
+    pub before: Option<LinkedList<Entry>>,
+}
+
+/// What is known of a seat. No value of it is made.
+pub struct SeatState {
+    pub number: u32,
+    /// What the seat has seen, and how many of its own Adds are there.
+    pub seen: LinkedList<Entry>,
+    pub count: u64,
+    /// Whether it holds the writer lock.
+    pub holds: bool,
+    /// 0 unpinned, 1 pinned, and 2 more than a side while it has its slot of that side in hand.
+    pub stage: u64,
+    /// Its request word, what it asks for, and whether its request slot is in its hand.
+    pub toggle: u64,
+    pub request: Option<UnappliedAdd>,
+    pub fetched: bool,
+    /// Of the writer: how many seats it has cleared, and the epoch at which it watched the next
+    /// one.
+    pub cleared: u64,
+    pub watched: Option<u64>,
+    /// Of the writer: the whole history, the number of flips, which requests it has collected, and
+    /// which bits SERVED is to have.
+    pub history: LinkedList<Entry>,
+    pub flips: u64,
+    pub collected: LinkedList<Collected>,
+    pub served: u64,
+}
+
+/// What a participant knows: the states of the seats that it keeps, and the history that its front
+/// says. No value of it is made.
+pub struct Knowledge {
+    /// No longer once it was joined to another.
+    pub live: bool,
+    pub setup: Setup,
+    pub states: LinkedList<SeatState>,
+    pub front: LinkedList<Entry>,
+}
+
+/// One seat at a time writes, and all that any seat has seen is a beginning of one history.
+pub struct LeftRight;
+
+impl TableRule<Slot, Knowledge, Setup> for LeftRight {
+    ghost use Rattle.tsc_left_right.specs.Rule.{LeftRightRule, first_knowledge};
+
+    ghost holds = { LeftRightRule };
+
+    ghost first = { first_knowledge };
+}
+
+/// Both copies, with the words and slots by which seats reach them.
+///
+/// Word 0 is 0 where the writer lock is free, and else one more than the number of the seat that
+/// holds it. Word 16 is HEAD, and word 32 SERVED. Word 32 * s + 48 is the epoch of seat s, and word
+/// 32 * s + 64 its request word. Slot 0 is the writer's, slot 24 * s + 8 * k + 8 that of seat s on
+/// side k, and slot 24 * s + 24 that of its request. Sixteen words are 128 bytes, and so are fewer
+/// than eight slots: no two of these share a line.
+pub type Replicas = Table<Slot, Knowledge, Setup, LeftRight, Global>;
+
+/// The same as threads share them.
+pub type SharedReplicas = Shared<Slot, Knowledge, Setup, LeftRight>;
+
+/// One that takes part: a seat of the table.
+pub type Participant = TableSeat<Slot, Knowledge>;

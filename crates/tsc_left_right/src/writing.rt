@@ -1,0 +1,199 @@
+//! What a writer does: it acquires the writer lock, waits until each reader has left the standby
+//! copy, installs handles on that copy, publishes, and releases the lock.
+//!
+//! How often it tries stands in `waiting.rt`, and what it does for other seats in `serving.rt`.
+ghost use Rattle.std.specs.Prelude.{◌≡◌, [], ◌+◌, length, None, Some, IfSome};
+ghost use Rattle.std.specs.Prelude.{IfNone, true, false};
+ghost use Rattle.std.specs.Arc.{arc_value};
+ghost use Rattle.tsc_left_right.specs.Rule.{standby_side};
+ghost use Rattle.tsc_left_right.specs.Steps.{state_in, own_of, number_of};
+ghost use Rattle.tsc_left_right.specs.Waiting.{HasEnd};
+ghost use Rattle.tsc_left_right.specs.Writing.{LaidAs, rotated};
+ghost use Rattle.tsc_left_right.specs.Participating.{IsOf, IsFree, IsNext, AreSides, IsWriting};
+ghost use Rattle.tsc_left_right.specs.Participating.{HasAcquired, HasLock, HasInstalled, IsReady};
+ghost use Rattle.tsc_left_right.specs.Participating.{MayRelease};
+ghost use Rattle.tsc_left_right.specs.Participating.{hand_of, published_in, released_in};
+
+use crate::places::{HEAD, SERVED, epoch_word, has_left, side_slot};
+use crate::steps::{Acquire, Clear, Publish, Release, Serve};
+use crate::table::{Participant, ReadHandle, SharedReplicas, Slot, WriterState};
+use crate::waiting::WaitPolicy;
+use std::sync::Arc;
+use tsc_cache::Cache;
+
+/// Tries once to acquire the writer lock: `None` if somebody holds it.
+pub(crate) fn acquire(
+    shared: &SharedReplicas,
+    who: &mut Participant,
+    number: u32,
+) -> Option<Box<WriterState>>
+    requires of { IsOf who.old shared.now.table_id }
+    requires free { IsFree who.old.me × (number ≡ number_of who.old.me.0) }
+    ensures table { who.new.table_id ≡ who.old.table_id }
+    ensures acquired { IfSome result (λ state. HasAcquired who.old.me.0 who.new.me state.value) }
+    ensures busy { IfNone result (who.new.me ≡ who.old.me) }
+{
+    if shared.compare_exchange::<Acquire>(who, 0, 0, u64::from(number) + 1) != 0 {
+        return None;
+    }
+    let Slot::Writer(state) = shared.exchange(who, 0, Slot::Empty) else {
+        unreachable!()
+    };
+    Some(state)
+}
+
+/// Looks once whether the next seat, watched at this epoch before, has left the standby side. If so
+/// its slot there is taken, and is empty then. Else the result is the epoch at which it is watched.
+pub(crate) fn clear(
+    shared: &SharedReplicas,
+    who: &mut Participant,
+    seat: u32,
+    standby: u64,
+    watched: Option<u64>,
+) -> Option<u64>
+    requires of { IsOf who.old shared.now.table_id }
+    requires next { IsNext who.old.me.0 seat standby }
+    requires watched { IsWriting who.old.me.0 who.old.me seat watched }
+    ensures table { who.new.table_id ≡ who.old.table_id }
+    ensures cleared { IfNone result (IsWriting who.old.me.0 who.new.me (seat + 1) None) }
+    ensures pinned { IfSome result (λ epoch. IsWriting who.old.me.0 who.new.me seat (Some epoch)) }
+{
+    let epoch = shared.load::<Clear>(who, epoch_word(seat));
+    if !has_left(watched, epoch) {
+        return Some(epoch);
+    }
+    shared.exchange(who, side_slot(seat, standby), Slot::Empty);
+    who.turn();
+    None
+}
+
+/// Takes the slots of all seats on the standby side. The result says whether each seat left that
+/// side before the policy gave up.
+pub fn wait_for_readers<P: WaitPolicy>(
+    policy: &P,
+    shared: &SharedReplicas,
+    who: &mut Participant,
+    seats: u32,
+    standby: u64,
+) -> bool
+    requires of { IsOf who.old shared.now.table_id }
+    requires sides { AreSides who.old.me.0 seats standby }
+    requires cleared { IsWriting who.old.me.0 who.old.me 0 None }
+    ensures table { who.new.table_id ≡ who.old.table_id }
+    ensures cleared { result ≡ true → IsWriting who.old.me.0 who.new.me seats None }
+    ensures pinned { result ≡ false → HasLock who.new.me × HasEnd (P.tries policy.now) }
+{
+    for seat in 0..seats {
+        if !policy.clear(shared, who, seat, standby) {
+            return false;
+        }
+    }
+    true
+}
+
+/// The first so many slots in hand go behind the others.
+fn turn_past(who: &mut Participant, count: usize)
+    ensures table { who.new.table_id ≡ who.old.table_id }
+    ensures turned { who.new.me ≡ (who.old.me.0, rotated count who.old.me.1) }
+{
+    for _slot in 0..count {
+        who.turn();
+    }
+}
+
+/// Whether there is memory for one more handle on this cache, which is after so many Adds, and that
+/// handle.
+fn handle_on(active: &Arc<Cache>, length: u64) -> (bool, Slot)
+    ensures { LaidAs result.0 (arc_value active.now) length result.1 }
+{
+    match Arc::try_clone(active) {
+        Ok(cache) => (true, Slot::Handle(ReadHandle { cache, length })),
+        Err(_full) => (false, Slot::Empty),
+    }
+}
+
+/// Lays a handle on this cache, which is after so many Adds, into each slot that was cleared. The
+/// result says whether there was memory for all of them.
+///
+/// `cleared` has the number of seats and the standby side, and `requests` the number of collected
+/// requests.
+pub fn install_handles(
+    shared: &SharedReplicas,
+    who: &mut Participant,
+    active: &Arc<Cache>,
+    adds: u64,
+    cleared: (u32, u64),
+    requests: usize,
+) -> bool
+    requires of { IsOf who.old shared.now.table_id }
+    requires cleared { IsWriting who.old.me.0 who.old.me cleared.0 None }
+    requires counts { (cleared.1 ≡ standby_side (state_in who.old.me.0).flips)
+        × (requests ≡ length (state_in who.old.me.0).collected) }
+    ensures table { who.new.table_id ≡ who.old.table_id }
+    ensures cleared { IsWriting who.old.me.0 who.new.me cleared.0 None }
+    ensures installed { result ≡ true → HasInstalled who.old.me.0 who.new.me (arc_value active.now)
+        adds cleared.0 }
+{
+    turn_past(who, requests);
+    who.turn();
+    let mut all = true;
+    let (seats, standby) = cleared;
+    for seat in 0..seats {
+        let (laid, handle) = handle_on(active, adds);
+        shared.exchange(who, side_slot(seat, standby), handle);
+        who.turn();
+        all &= laid;
+    }
+    all
+}
+
+/// Makes the writer's own Add, if there is one, and then all that it has collected, in the order in
+/// which it has collected them. From then on lookups read the copy on which the handles are.
+pub fn publish(
+    shared: &SharedReplicas,
+    who: &mut Participant,
+    state: Box<WriterState>,
+    requests: usize,
+) -> Box<WriterState>
+    requires of { IsOf who.old shared.now.table_id }
+    requires installed { HasInstalled who.old.me.0 who.old.me (arc_value state.value.active)
+        state.value.length who.old.me.0.setup.seats }
+    requires requests { requests ≡ length (state_in who.old.me.0).collected }
+    requires ready { IsReady who.old.me.0 state.value }
+    ensures table { who.new.table_id ≡ who.old.table_id }
+    ensures published { (result ≡ state)
+        × (who.new.me ≡ (
+          published_in who.old.me.0 (own_of state.value),
+          hand_of (state_in who.old.me.0).collected [],
+        )) }
+{
+    let flips = state.flips;
+    turn_past(who, requests);
+    shared.exchange(who, 0, Slot::Writer(state));
+    who.turn();
+    shared.store::<Publish>(who, HEAD, flips);
+    turn_past(who, requests);
+    let Slot::Writer(state) = shared.exchange(who, 0, Slot::Empty) else {
+        unreachable!()
+    };
+    who.turn();
+    state
+}
+
+/// Tells all seats whose requests were answered or sent back, and releases the writer lock. The
+/// result is how many Adds there are.
+pub fn release(shared: &SharedReplicas, who: &mut Participant, state: Box<WriterState>) -> u64
+    requires of { IsOf who.old shared.now.table_id }
+    requires may { MayRelease who.old.me state.value }
+    ensures table { who.new.table_id ≡ who.old.table_id }
+    ensures released { who.new.me ≡ (released_in who.old.me.0, []) }
+    ensures length { result ≡ length (state_in who.old.me.0).history }
+{
+    let length = state.length;
+    let served = state.served;
+    shared.exchange(who, 0, Slot::Writer(state));
+    shared.store::<Serve>(who, SERVED, served);
+    who.turn();
+    shared.store::<Release>(who, 0, 0);
+    length
+}

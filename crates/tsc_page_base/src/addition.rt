@@ -1,0 +1,113 @@
+//! A value that is added at a single key, and the key for which a page is searched then.
+ghost use Rattle.std.specs.Prelude.{◌≡◌, ◌≤◌, IfOk};
+ghost use Rattle.tsc_span.specs.Span.{before, key_cost};
+
+use crate::number::{NumberedBytes, NumberedCut, NumberedKey};
+use std::alloc::Global;
+use std::marker::Model;
+use tsc_span::{Cut, Key};
+use tsc_time::{NoMemory, Value};
+
+/// A key for which nodes are searched, with its number and the place right before it.
+#[derive(Drop)]
+pub struct SearchKey<'a> {
+    bytes: NumberedBytes<'a>,
+    at: NumberedCut<'a>,
+}
+
+impl<'a> Model for SearchKey<'a> {
+    ghost use Rattle.std.specs.Prelude.{◌≡◌};
+    ghost use Rattle.tsc_span.specs.Span.{KeyBytes, before};
+
+    ghost Value = { KeyBytes };
+
+    ghost view = { λ k. k.bytes };
+
+    ghost invariant = { λ k. k.at ≡ before k.bytes };
+}
+
+impl<'a> SearchKey<'a> {
+    /// The key of these bytes, of which the first are read.
+    pub fn new(bytes: &'a [u8]) -> SearchKey<'a>
+        ensures { result ≡ bytes.now }
+    {
+        SearchKey {
+            bytes: NumberedBytes::new(bytes),
+            at: NumberedCut::new(Cut::Before(bytes)),
+        }
+    }
+
+    /// Its bytes with their number.
+    pub(crate) fn bytes(&self) -> &NumberedBytes<'a>
+        ensures { result.now ≡ self.now }
+    {
+        &self.bytes
+    }
+
+    /// The place right before it.
+    pub fn at(&self) -> &NumberedCut<'a>
+        ensures { result.now ≡ before self.now }
+    {
+        &self.at
+    }
+}
+
+/// What is added: a value at a single key.
+#[derive(Drop)]
+pub struct KeyAddition<'a> {
+    key: &'a Key,
+    search: SearchKey<'a>,
+    value: Value,
+}
+
+impl<'a> Model for KeyAddition<'a> {
+    ghost use Rattle.std.specs.Prelude.{◌≡◌};
+    ghost use Rattle.tsc_page_base.specs.KeyAdds.{KeyAddend};
+
+    ghost Value = { KeyAddend };
+
+    ghost view = { λ a. record { key = a.key.now; value = a.value } };
+
+    ghost invariant = { λ a. a.search ≡ a.key.now };
+}
+
+impl<'a> KeyAddition<'a> {
+    pub fn new(key: &'a Key, value: Value) -> KeyAddition<'a>
+        ensures { result ≡ record { key = key.now; value = value } }
+    {
+        KeyAddition {
+            key,
+            search: SearchKey::new(key.bytes()),
+            value,
+        }
+    }
+
+    /// The key, as it is searched for.
+    pub fn search(&self) -> &SearchKey<'a>
+        ensures { result.now ≡ self.now.key }
+    {
+        &self.search
+    }
+
+    /// The value.
+    pub fn value(&self) -> Value
+        ensures { result ≡ self.now.value }
+    {
+        self.value
+    }
+
+    /// What the key costs on a page.
+    pub(crate) fn cost(&self) -> u32
+        ensures value { result ≡ key_cost self.now.key }
+        ensures most { result ≤ 4128 }
+    {
+        self.key.cost()
+    }
+
+    /// A copy of the key, with its number.
+    pub(crate) fn copy_key(&self, alloc: Global) -> Result<NumberedKey, NoMemory>
+        ensures { IfOk result (λ copy. copy ≡ self.now.key) }
+    {
+        NumberedKey::copy_with(alloc, self.key, self.search.bytes.number())
+    }
+}
