@@ -7,12 +7,11 @@ ghost use Rattle.std.specs.Prelude.{◌≤◌};
 
 use crate::figure::{Figure, Least};
 use crate::keys::{APART, STRIDE};
-use crate::subject::Subject;
 use crate::turns::Board;
 use std::alloc::Global;
 use std::time::Instant;
 use tsc_cache::{Cache, Config, TimestampCache};
-use tsc_span::{Key, Span, SpanRef};
+use tsc_span::{KeyRef, SpanRef};
 use tsc_time::{Timestamp, Value};
 use uuid::Uuid;
 
@@ -54,7 +53,6 @@ fn filled(alloc: Global, nodes: u32, owner: Uuid) -> Option<Cache> {
     for place in 0..u64::from(nodes) {
         is_full = is_full
             && add_key(
-                alloc,
                 &mut cache,
                 &key_of(place),
                 FIRST_WALL,
@@ -106,25 +104,21 @@ fn add(rt: &HostRuntime, cache: &mut Cache, keys: &[u8], wall: u64, owner: Uuid)
     let now = Timestamp::new(wall, 0)?;
     let start = Instant::now(rt).ok()?;
     for key in keys.chunks_exact(key_len(keys)) {
-        if !add_key(rt.alloc(), cache, key, wall, owner, now) {
+        if !add_key(cache, key, wall, owner, now) {
             return None;
         }
     }
     Figure::since(rt, start, PLACES as u64)
 }
 
-/// Adds a key, of which a span is made by a copy, at a wall time. Tells whether that was done.
-fn add_key(
-    alloc: Global,
-    cache: &mut Cache,
-    key: &[u8],
-    wall: u64,
-    owner: Uuid,
-    now: Timestamp,
-) -> bool {
+/// Adds a key by its bytes at a wall time. Tells whether that was done.
+fn add_key(cache: &mut Cache, key: &[u8], wall: u64, owner: Uuid, now: Timestamp) -> bool {
     let time = Timestamp::new(wall, 0).unwrap_or(Timestamp::MAX);
-    match Key::new(alloc, key) {
-        Ok(key) => cache.make_add(&Span::point(key), Value::of(time, owner), now),
+    let Ok(key) = KeyRef::new(key) else {
+        return false;
+    };
+    match cache.add_key(&key, Value::of(time, owner), now) {
+        Ok(added) => added.kept,
         Err(_) => false,
     }
 }

@@ -10,6 +10,7 @@ pub mod Beginnings
 pub mod Histories
 pub mod StatesSeen
 pub mod WithoutRotation
+pub mod MarkedFront
 pub mod Batches
 pub mod Droppings
 pub mod Crossing

@@ -1,5 +1,6 @@
 ghost use Rattle.std.specs.Prelude.{◌≡◌, ◌↔◌, ◌<◌, ◌+◌, ◌^◌, option_map, length, true, false, IsOk, IfOk, IfErr, IfSome, IsErrOf, OnOk, OnErr};
 ghost use Rattle.tsc_time.specs.Time.{Time};
+ghost use Rattle.tsc_span.specs.Span.{point};
 ghost use Rattle.tsc_span.specs.LookupSpan.{span_for_lookup};
 ghost use Rattle.tsc_span.specs.Cuts.{cut_of};
 ghost use Rattle.tsc_page_base.specs.KeysAbove.{IsLeastAbove};
@@ -20,7 +21,7 @@ use crate::{Added, CacheFault, Config, Figures, Mark, TimestampCache};
 use std::alloc::Global;
 use std::marker::Model;
 use tsc_page::{IntervalPage, Page};
-use tsc_span::{Cut, Ends, Key, Span, SpanRef};
+use tsc_span::{Cut, Ends, Key, KeyRef, Span, SpanRef};
 use tsc_time::{NoMemory, Timestamp, Value, ratchet};
 
 /// The timestamp cache: which spans were read, when at the latest, and by whom.
@@ -110,8 +111,11 @@ impl Rotate for Cache {
         value: Value,
         now: Timestamp,
     ) -> Result<Added, NoMemory> {
-        if let Some(added) = self.add_without_rotation(span, value)? {
-            return Ok(added);
+        if !self.keeps(span, value) {
+            return Ok(Added::nothing());
+        }
+        if self.pages.mark_front(span, value)? {
+            return Ok(Added::without_rotation());
         }
         self.rotate(span, value, now)
     }
@@ -139,6 +143,60 @@ impl Cache {
         ensures { result ≡ fits self.now.settings span.now }
     {
         self.config.fits(span)
+    }
+
+    /// As [`add`](TimestampCache::add), of a single key whose bytes lie elsewhere.
+    ///
+    /// A key that the front page holds is never copied, and takes no memory where no other cache shares the way to it. A new one is
+    /// copied once, and where a leaf is cut, or the pages rotate, once more.
+    pub fn add_key(
+        &mut self,
+        key: &KeyRef<'_>,
+        value: Value,
+        now: Timestamp,
+    ) -> Result<Added, CacheFault>
+        ensures stands { OnOk result (StandsAfter self.old self.new (record { span = point key.now; value = value }) now) }
+        ensures added { IfOk result (TellsAdded self.old (record { span = point key.now; value = value }) now) }
+        ensures seen { IfOk result (λ added. Adds self.old self.new (record { span = point key.now; value = value }) now added) }
+        ensures too_large { IsErrOf result CacheFault.TooLarge ↔ (fits self.old.settings (point key.now) ≡ false) }
+        ensures unchanged { OnErr result (self.new ≡ self.old) }
+        ensures memory { fits self.old.settings (point key.now) ≡ true → is_kept self.old.floor (record { span = point key.now; value = value }) ≡ false → IsOk result }
+    {
+        if !self.config.fits_key(key) {
+            return Err(CacheFault::TooLarge);
+        }
+        Ok(self.add_fitting_key(key, value, now)?)
+    }
+
+    /// Adds at a key that fits.
+    fn add_fitting_key(
+        &mut self,
+        key: &KeyRef<'_>,
+        value: Value,
+        now: Timestamp,
+    ) -> Result<Added, NoMemory>
+        requires fits { fits self.old.settings (point key.now) ≡ true }
+        ensures stands { OnOk result (StandsAfter self.old self.new (record { span = point key.now; value = value }) now) }
+        ensures added { IfOk result (TellsAdded self.old (record { span = point key.now; value = value }) now) }
+        ensures seen { IfOk result (λ added. Adds self.old self.new (record { span = point key.now; value = value }) now added) }
+        ensures unchanged { OnErr result (self.new ≡ self.old) }
+        ensures memory { is_kept self.old.floor (record { span = point key.now; value = value }) ≡ false → IsOk result }
+    {
+        if !self.keeps_key(key, value) {
+            return Ok(Added::nothing());
+        }
+        if self.pages.mark_key(key, value)? {
+            return Ok(Added::without_rotation());
+        }
+        let span = Span::point(key.to_key(self.pages.alloc())?);
+        self.add_fitting(&span, value, now)
+    }
+
+    /// Whether an Add at a key is kept.
+    fn keeps_key(&self, _key: &KeyRef<'_>, value: Value) -> bool
+        ensures { result ≡ is_kept self.now.floor (record { span = point _key.now; value = value }) }
+    {
+        self.floor < value.time()
     }
 
     /// Adds a span with its value where that needs no rotation of the pages, at whatever moment. The answer is `None` just where

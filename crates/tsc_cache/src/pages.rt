@@ -1,6 +1,6 @@
 ghost use Rattle.std.specs.Prelude.{◌≡◌, ◌∷◌, [], true, false, option_map, IfOk, OnErr};
 ghost use Rattle.tsc_time.specs.Time.{is_before};
-ghost use Rattle.tsc_span.specs.Span.{is_empty_span};
+ghost use Rattle.tsc_span.specs.Span.{is_empty_span, point};
 ghost use Rattle.tsc_span.specs.Cuts.{cut_of};
 ghost use Rattle.tsc_page_base.specs.KeysAbove.{IsLeastAbove};
 ghost use Rattle.tsc_page_base.specs.PageView.{has_room_for};
@@ -16,7 +16,7 @@ use crate::{Config, Figures};
 use std::alloc::Global;
 use std::sync::Arc;
 use tsc_page::{IntervalPage, Page};
-use tsc_span::{Cut, Key, Span, SpanRef};
+use tsc_span::{Cut, Key, KeyRef, Span, SpanRef};
 use tsc_time::{NoMemory, Timestamp, Value, ratchet};
 
 impl PageStack<Page> for Pages {
@@ -110,6 +110,19 @@ impl Pages {
                 self.front = Arc::new(self.alloc(), front)?;
                 Ok(true)
             }
+        }
+    }
+
+    /// Adds a value at a single key to the front page, in place, and says whether that was done. Else nothing changes.
+    pub(crate) fn mark_key(&mut self, key: &KeyRef<'_>, value: Value) -> Result<bool, NoMemory>
+        ensures room { IfOk result (λ done. done ≡ true → has_room_for (front_of self.old) (point key.now) ≡ true) }
+        ensures marked { IfOk result (λ done. done ≡ true → MarksFront (pages_of self.old) (pages_of self.new) (record { span = point key.now; value = value })) }
+        ensures left { IfOk result (λ done. done ≡ false → pages_of self.new ≡ pages_of self.old) }
+        ensures unchanged { OnErr result (pages_of self.new ≡ pages_of self.old) }
+    {
+        match Arc::get_mut(&mut self.front) {
+            Some(front) => front.add_key(key, value),
+            None => Ok(false),
         }
     }
 

@@ -2,3 +2,4 @@ pub mod TreeLists
 pub mod Refusals
 pub mod Costs
 pub mod KeysAbove
+pub mod KeyEnds

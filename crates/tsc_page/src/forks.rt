@@ -3,7 +3,7 @@
 
 ghost use Rattle.std.specs.Prelude.{◌≡◌, map, length, true, not, option_map, OnOk};
 ghost use Rattle.std.specs.List.{All};
-ghost use Rattle.tsc_span.specs.Span.{is_below, between};
+ghost use Rattle.tsc_span.specs.Span.{is_below, between, point};
 ghost use Rattle.tsc_span.specs.Cuts.{cut_of};
 ghost use Rattle.tsc_page_base.specs.PageView.{is_in};
 ghost use Rattle.tsc_page_base.specs.KeysAbove.{first_above};
@@ -13,7 +13,7 @@ ghost use Rattle.tsc_page_tree.specs.Pending.{sizes_of, TellsSize, IsAddTold};
 ghost use Rattle.tsc_page_tree.specs.KeyAdds.{IsKeyAddTold};
 ghost use Rattle.tsc_page_tree.specs.Trees.{fork_nodes, fork_sizes, IsWholeFork};
 
-use tsc_page_base::{Grown, KeyAddition, NumberedCut};
+use tsc_page_base::{Grown, KeyAddition, NumberedCut, SearchKey};
 use tsc_page_tree::fork::Fork;
 use tsc_page_tree::parts::Part;
 use tsc_page_tree::{Addition, parts};
@@ -58,6 +58,15 @@ pub(crate) fn joint_between<P: Part>(
     ensures { result ≡ answer_of (nodes_of (map (fork_nodes P.nodes) forks.now)) (between from.now to.now) }
 {
     parts::joint_between(forks, from, to)
+}
+
+/// The joint value of what overlaps a key.
+#[inline]
+pub(crate) fn value_at<P: Part>(forks: &[Fork<P>], key: &SearchKey<'_>) -> Value
+    requires parts { AreParts (fork_nodes P.nodes) (IsWholeFork P.nodes P.sizes P.IsWhole) forks.now }
+    ensures { result ≡ answer_of (nodes_of (map (fork_nodes P.nodes) forks.now)) (point key.now) }
+{
+    parts::value_at(forks, key)
 }
 
 /// Ratchets a value into the keys and gaps between two cuts, and changes nothing that others hold. Where memory is refused

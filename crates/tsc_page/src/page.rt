@@ -1,7 +1,7 @@
-ghost use Rattle.std.specs.Prelude.{sum, slice_get, is_some, option_map, ◌≡◌, ◌≤◌, true, false, IfOk, IfSome};
+ghost use Rattle.std.specs.Prelude.{sum, slice_get, is_some, option_map, ◌≡◌, ◌≤◌, true, false, IfOk, IfSome, OnErr};
 ghost use Rattle.tsc_time.specs.Joint.{joint_above};
 ghost use Rattle.tsc_time.specs.Time.{zero_time, is_before, later};
-ghost use Rattle.tsc_span.specs.Span.{is_empty_span, end_keys};
+ghost use Rattle.tsc_span.specs.Span.{is_empty_span, end_keys, point};
 ghost use Rattle.tsc_span.specs.Cuts.{cut_of};
 ghost use Rattle.tsc_page_base.specs.Limits.{least_size, most_size};
 ghost use Rattle.tsc_page_base.specs.Page.{PageMarks, top, values_on, marked_keys, count_distinct, has_room};
@@ -11,8 +11,8 @@ ghost use Rattle.tsc_page_base.specs.PageView.{AreLeafSizes, StandsFor, StandsWi
 use crate::tree::Tree;
 use std::alloc::Global;
 use std::marker::Model;
-use tsc_page_base::IntervalPage;
-use tsc_span::{Cut, Key, Span, SpanRef};
+use tsc_page_base::{IntervalPage, KeyAddition};
+use tsc_span::{Cut, Key, KeyRef, Span, SpanRef};
 use tsc_time::{NoMemory, Timestamp, Value};
 
 /// One page of the cache: what was added to it, as sorted nodes.
@@ -155,12 +155,37 @@ impl Page {
         }))
     }
 
+    /// Adds a value at a single key in place, where its way in the tree allows that and there is room, and says whether it did. Else
+    /// the page stays as it is, and where memory is refused.
+    ///
+    /// It costs one search on each level. A key that the page holds is neither copied nor takes memory, unless a copy of the page
+    /// shares the way to it; a new one is copied once.
+    pub fn add_key(&mut self, key: &KeyRef<'_>, value: Value) -> Result<bool, NoMemory>
+        ensures room { IfOk result (λ done. done ≡ true → has_room_for self.old (point key.now) ≡ true) }
+        ensures stands { IfOk result (λ done. done ≡ true → StandsWith self.old self.new (record { span = point key.now; value = value })) }
+        ensures size { self.new.size ≡ self.old.size }
+        ensures top { IfOk result (λ done. done ≡ true → self.new.top ≡ later self.old.top value.time) }
+        ensures keys { IfOk result (λ done. done ≡ true → HasKeysWith self.old self.new (point key.now)) }
+        ensures answers { IfOk result (λ done. done ≡ true → AnswersWith self.old self.new (point key.now) value) }
+        ensures left { IfOk result (λ done. done ≡ false → self.new ≡ self.old) }
+        ensures unchanged { OnErr result (self.new ≡ self.old) }
+    {
+        if !self.tree.add_key(&KeyAddition::new(key, value), self.size)? {
+            return Ok(false);
+        }
+        self.top = self.top.max(value.time());
+        Ok(true)
+    }
+
     /// As [`lookup`](Page::lookup), over keys that lie elsewhere.
     pub fn lookup_in(&self, span: &SpanRef<'_>) -> Value
         ensures value { result ≡ answer self.now span.now }
         ensures below_top { is_before self.now.top result.time ≡ false }
         ensures stands { (p : PageMarks) → StandsFor self.now p → result ≡ joint_above zero_time (values_on span.now p.marks) }
     {
+        if let Some(key) = span.key() {
+            return self.tree.value_at(key);
+        }
         match span.cuts() {
             Some((from, to)) => self.tree.joint_between(from, to),
             None => Value::unowned(Timestamp::ZERO),

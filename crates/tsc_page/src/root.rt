@@ -1,6 +1,6 @@
 ghost use Rattle.std.specs.Prelude.{◌≡◌, ◌≤◌, [], ◌∷◌, length, map, true, not, option_map, IfOk, OnOk};
 ghost use Rattle.std.specs.List.{All};
-ghost use Rattle.tsc_span.specs.Span.{is_below, between};
+ghost use Rattle.tsc_span.specs.Span.{is_below, between, point};
 ghost use Rattle.tsc_span.specs.Cuts.{cut_of};
 ghost use Rattle.tsc_time.specs.Time.{zero_time};
 ghost use Rattle.tsc_time.specs.OwnedTime.{unowned};
@@ -16,7 +16,7 @@ ghost use Rattle.tsc_page.specs.Roots.{root_nodes, root_sizes, IsWholeRoot, AreE
 
 use crate::forks;
 use std::alloc::Global;
-use tsc_page_base::{Grown, KeyAddition, Nodes, NumberedCut};
+use tsc_page_base::{Grown, KeyAddition, Nodes, NumberedCut, SearchKey};
 use tsc_page_tree::fork::{self, Fork, Level};
 use tsc_page_tree::{Addition, Leaf, parts};
 use tsc_span::{Cut, Key};
@@ -94,6 +94,20 @@ impl Root {
             Root::Two(parts) => forks::joint_between(parts, from, to),
             Root::Three(parts) => forks::joint_between(parts, from, to),
             Root::Four(parts) => forks::joint_between(parts, from, to),
+        }
+    }
+
+    /// The joint value of what overlaps a key.
+    pub(crate) fn value_at(&self, key: &SearchKey<'_>) -> Value
+        requires whole { IsWholeRoot self.now }
+        requires sorted { IsSorted (root_nodes self.now) }
+        ensures { result ≡ answer_of (root_nodes self.now) (point key.now) }
+    {
+        match self {
+            Root::One(parts) => parts::value_at(parts, key),
+            Root::Two(parts) => forks::value_at(parts, key),
+            Root::Three(parts) => forks::value_at(parts, key),
+            Root::Four(parts) => forks::value_at(parts, key),
         }
     }
 
@@ -185,7 +199,8 @@ impl Root {
     {
         match (first, second, from, to) {
             (Some(key), None, Cut::Before(_), Cut::After(_)) => {
-                self.add_key(&KeyAddition::new(key, value), room)
+                let key = key.borrowed();
+                self.add_key(&KeyAddition::new(&key, value), room)
             }
             _ => {
                 let (from, to) = (&NumberedCut::new(from), &NumberedCut::new(to));
@@ -203,6 +218,26 @@ impl Root {
 
     /// Adds at a single key in place, as [`parts::Part::add_key`] tells.
     fn add_key(&mut self, add: &KeyAddition<'_>, room: u32) -> Result<Option<Grown>, NoMemory>
+        requires whole { IsWholeRoot self.old }
+        requires sorted { IsSorted (root_nodes self.old) }
+        ensures told { IsKeyAddTold (root_nodes self.old) (root_nodes self.new) (root_sizes self.old) (root_sizes self.new) add.now room result }
+        ensures whole { IsWholeRoot self.new }
+    {
+        match self {
+            Root::One(parts) => parts::add_key(parts, add, room),
+            Root::Two(parts) => forks::add_key(parts, add, room),
+            Root::Three(parts) => forks::add_key(parts, add, room),
+            Root::Four(parts) => forks::add_key(parts, add, room),
+        }
+    }
+
+    /// The same for a key whose bytes lie elsewhere. Its body stands here once more, so that either is compiled into the one call that it
+    /// has, which takes a tenth off an Add of a known key.
+    pub(crate) fn add_borrowed_key(
+        &mut self,
+        add: &KeyAddition<'_>,
+        room: u32,
+    ) -> Result<Option<Grown>, NoMemory>
         requires whole { IsWholeRoot self.old }
         requires sorted { IsSorted (root_nodes self.old) }
         ensures told { IsKeyAddTold (root_nodes self.old) (root_nodes self.new) (root_sizes self.old) (root_sizes self.new) add.now room result }

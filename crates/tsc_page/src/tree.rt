@@ -1,6 +1,6 @@
 ghost use Rattle.std.specs.Prelude.{◌≡◌, None, ◌<◌, ◌≤◌, ◌+◌, [], ◌∷◌, ◌++◌, slice_get, map, true, false, nat_le, IfOk, IfSome, OnOk, OnErr, option_map, option_to_list, if◌then◌else◌};
 ghost use Rattle.std.specs.List.{All};
-ghost use Rattle.tsc_span.specs.Span.{is_below, after, between, end_keys, key_cost};
+ghost use Rattle.tsc_span.specs.Span.{is_below, after, between, point, end_keys, key_cost};
 ghost use Rattle.tsc_span.specs.Cuts.{cut_of};
 ghost use Rattle.tsc_page_base.specs.Limits.{most_size};
 ghost use Rattle.tsc_page_base.specs.Page.{cost_distinct};
@@ -14,7 +14,7 @@ ghost use Rattle.tsc_page.specs.Roots.{root_nodes, IsWholeRoot, tree_nodes, tree
 
 use crate::root::Root;
 use std::alloc::Global;
-use tsc_page_base::{Grown, NumberedCut};
+use tsc_page_base::{Grown, KeyAddition, NumberedCut, SearchKey};
 use tsc_span::{Cut, Key};
 use tsc_time::{NoMemory, Value};
 
@@ -108,6 +108,14 @@ impl Tree {
     {
         let (from, to) = (NumberedCut::new(from), NumberedCut::new(to));
         self.root.joint_between(&from, &to)
+    }
+
+    /// The joint value of what overlaps a key.
+    pub(crate) fn value_at(&self, key: &[u8]) -> Value
+        requires counted { IsCounted self.now }
+        ensures { result ≡ answer_of (tree_nodes self.now) (point key.now) }
+    {
+        self.root.value_at(&SearchKey::new(key))
     }
 
     /// The least key above a cut.
@@ -225,6 +233,29 @@ impl Tree {
             Some(more) => {
                 self.count += more.nodes;
                 self.bytes += more.bytes;
+                Ok(true)
+            }
+            None => Ok(false),
+        }
+    }
+
+    /// Adds at a single key in place, as [`Root::add_borrowed_key`] tells, where there is room. Says whether it did; else nothing changes,
+    /// nor where memory is refused.
+    pub(crate) fn add_key(&mut self, add: &KeyAddition<'_>, most: u32) -> Result<bool, NoMemory>
+        requires counted { IsCounted self.old }
+        requires within { self.old.bytes ≤ most }
+        requires small { most ≤ most_size }
+        ensures added { IfOk result (λ done. done ≡ true → AddsTo (tree_nodes self.old) (tree_nodes self.new) (point add.now.key) add.now.value) }
+        ensures within { IfOk result (λ done. done ≡ true → self.new.bytes ≤ most) }
+        ensures left { IfOk result (λ done. done ≡ false → (tree_nodes self.new ≡ tree_nodes self.old) × (tree_sizes self.new ≡ tree_sizes self.old) × (self.new.count ≡ self.old.count) × (self.new.bytes ≡ self.old.bytes)) }
+        ensures counted { IsCounted self.new }
+        ensures unchanged { OnErr result ((tree_nodes self.new ≡ tree_nodes self.old) × (tree_sizes self.new ≡ tree_sizes self.old) × (self.new.bytes ≡ self.old.bytes)) }
+    {
+        let room = most - self.bytes;
+        match self.root.add_borrowed_key(add, room)? {
+            Some(grown) => {
+                self.count += grown.nodes;
+                self.bytes += grown.bytes;
                 Ok(true)
             }
             None => Ok(false),

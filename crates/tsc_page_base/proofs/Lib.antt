@@ -21,4 +21,5 @@ pub mod Tops
 pub mod Costs
 pub mod ToldPlaces
 pub mod KeyAdds
+pub mod KeyLookups
 pub mod KeysAbove

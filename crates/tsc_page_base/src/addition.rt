@@ -1,11 +1,11 @@
 //! A value that is added at a single key, and the key for which a page is searched then.
 ghost use Rattle.std.specs.Prelude.{◌≡◌, ◌≤◌, IfOk};
-ghost use Rattle.tsc_span.specs.Span.{before, key_cost};
+ghost use Rattle.tsc_span.specs.Span.{before, after, key_cost};
 
 use crate::number::{NumberedBytes, NumberedCut, NumberedKey};
 use std::alloc::Global;
 use std::marker::Model;
-use tsc_span::{Cut, Key};
+use tsc_span::{Cut, KeyRef};
 use tsc_time::{NoMemory, Value};
 
 /// A key for which nodes are searched, with its number and the place right before it.
@@ -50,12 +50,19 @@ impl<'a> SearchKey<'a> {
     {
         &self.at
     }
+
+    /// The place right after it.
+    pub fn past(&self) -> NumberedCut<'a>
+        ensures { result ≡ after self.now }
+    {
+        self.bytes.past()
+    }
 }
 
 /// What is added: a value at a single key.
 #[derive(Drop)]
 pub struct KeyAddition<'a> {
-    key: &'a Key,
+    key: &'a KeyRef<'a>,
     search: SearchKey<'a>,
     value: Value,
 }
@@ -72,7 +79,7 @@ impl<'a> Model for KeyAddition<'a> {
 }
 
 impl<'a> KeyAddition<'a> {
-    pub fn new(key: &'a Key, value: Value) -> KeyAddition<'a>
+    pub fn new(key: &'a KeyRef<'a>, value: Value) -> KeyAddition<'a>
         ensures { result ≡ record { key = key.now; value = value } }
     {
         KeyAddition {

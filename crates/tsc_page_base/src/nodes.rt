@@ -12,7 +12,7 @@ ghost use Rattle.tsc_page_base.specs.KeyAdds.{IsKeyTold};
 ghost use Rattle.tsc_page_base.specs.KeysAbove.{first_above};
 ghost use Rattle.tsc_page_base.specs.Nodes.{paired, IsSorted, FitsAt, FallsAt, IsFoundAt, IsPlaceOf, IsPlaceTold, BothStandWhereTold, HasKeysBelow, StandsAt, LiesFrom, index_of, key_above, first_gap, IsNewKey, FitsIn, with_new, IsInOrder, HasNodes, MakesNodes, AddsNodes, GrowsBy, new_count, found_cost, new_cost, HoldsKeysOn, HoldsGapsOn, node_keys, answer_of, raise_nodes, node_in_gap, gap_value, next_cut, node_stretches};
 
-use crate::addition::KeyAddition;
+use crate::addition::{KeyAddition, SearchKey};
 use crate::number::{KeyNumber, NumberedBytes, NumberedCut, NumberedKey};
 use std::alloc::{AllocError, Global};
 use std::cmp::Ordering;
@@ -168,6 +168,25 @@ impl Nodes {
             best.raise(&self.values[place].gap);
         }
         best
+    }
+
+    /// The value of a key, or of the gap in which it falls. It costs a search.
+    pub fn value_at(&self, key: &SearchKey<'_>) -> Value
+        requires sorted { IsSorted self.now }
+        ensures { result ≡ answer_of self.now (point key.now) }
+    {
+        let mut best = Value::unowned(Timestamp::ZERO);
+        match self.lists().find(key.bytes()) {
+            Ok(place) => {
+                best.raise(&self.values[place].value);
+                best
+            }
+            Err(0) => best,
+            Err(place) => {
+                best.raise(&self.values[place - 1].gap);
+                best
+            }
+        }
     }
 
     /// Ratchets a value into the keys and gaps between two cuts. It costs what `joint_between` does, and takes no memory.

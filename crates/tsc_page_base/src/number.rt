@@ -1,6 +1,6 @@
 ghost use Rattle.std.specs.Prelude.{◌≡◌, ◌≤◌, ◌+◌, ◌-◌, ◌^◌, length, drop, IfOk};
 ghost use Rattle.std.specs.Ordering.{nat_cmp};
-ghost use Rattle.tsc_span.specs.Span.{key_cmp, key_cost, before, last, is_below};
+ghost use Rattle.tsc_span.specs.Span.{key_cmp, key_cost, before, after, last, is_below};
 ghost use Rattle.tsc_span.specs.Cuts.{cut_of};
 ghost use Rattle.tsc_page_base.specs.Numbers.{spelled, IsNumberOf, IsKeyAt, AreTied, TellsBelow, TellsAbove};
 
@@ -8,7 +8,7 @@ use std::alloc::{AllocError, Global};
 use std::cmp::Ordering;
 use std::marker::Model;
 use std::sync::Arc;
-use tsc_span::{Cut, Key};
+use tsc_span::{Cut, Key, KeyRef};
 use tsc_time::NoMemory;
 
 /// How many bytes of a key make its number.
@@ -95,13 +95,13 @@ impl NumberedKey {
     pub(crate) fn copy_of(alloc: Global, key: &Key) -> Result<NumberedKey, NoMemory>
         ensures { IfOk result (λ copy. copy ≡ key.now) }
     {
-        NumberedKey::copy_with(alloc, key, number_of(key.bytes()))
+        NumberedKey::copy_with(alloc, &key.borrowed(), number_of(key.bytes()))
     }
 
     /// A copy of a key, whose number is known.
     pub(crate) fn copy_with(
         alloc: Global,
-        key: &Key,
+        key: &KeyRef<'_>,
         number: KeyNumber,
     ) -> Result<NumberedKey, NoMemory>
         requires { IsNumberOf number key.now }
@@ -109,7 +109,7 @@ impl NumberedKey {
     {
         Ok(NumberedKey {
             number,
-            key: Arc::new(alloc, key.try_copy()?)?,
+            key: Arc::new(alloc, key.to_key(alloc)?)?,
         })
     }
 
@@ -188,6 +188,16 @@ impl<'a> NumberedBytes<'a> {
         ensures { IsNumberOf result self.now }
     {
         self.number
+    }
+
+    /// The place right after the key of these bytes.
+    pub(crate) fn past(&self) -> NumberedCut<'a>
+        ensures { result ≡ after self.now }
+    {
+        NumberedCut {
+            number: self.number,
+            cut: Cut::After(self.bytes),
+        }
     }
 
     /// How a key stands to these bytes.

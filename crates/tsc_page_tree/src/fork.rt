@@ -11,7 +11,7 @@ use crate::summary::Summary;
 use crate::{across, parts};
 use std::alloc::{AllocError, Global};
 use std::sync::Arc;
-use tsc_page_base::{Grown, KeyAddition, KeyNumber, NumberedCut};
+use tsc_page_base::{Grown, KeyAddition, KeyNumber, NumberedCut, SearchKey};
 use tsc_span::{Cut, Key};
 use tsc_time::{NoMemory, Value};
 
@@ -122,6 +122,14 @@ impl<P: Part> Part for Fork<P> {
     fn joint_between(&self, from: &NumberedCut<'_>, to: &NumberedCut<'_>) -> Value {
         let below = parts::joint_between(&self.parts, from, to);
         self.summary.seen(below, self.starts_below(to))
+    }
+
+    fn value_at(&self, key: &SearchKey<'_>) -> Value {
+        let below = parts::value_at(&self.parts, key);
+        match self.summary.pending {
+            None => below,
+            Some(_) => self.summary.seen(below, self.starts_below(&key.past())),
+        }
     }
 
     fn is_new(&self, key: &Key) -> bool {

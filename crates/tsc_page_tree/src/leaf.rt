@@ -11,7 +11,7 @@ use crate::parts::Part;
 use crate::summary::Summary;
 use std::alloc::{AllocError, Global};
 use std::sync::Arc;
-use tsc_page_base::{Grown, KeyAddition, KeyNumber, Nodes, NumberedCut};
+use tsc_page_base::{Grown, KeyAddition, KeyNumber, Nodes, NumberedCut, SearchKey};
 use tsc_span::{Cut, Key};
 use tsc_time::{NoMemory, Value};
 
@@ -84,6 +84,14 @@ impl Part for Leaf {
     fn joint_between(&self, from: &NumberedCut<'_>, to: &NumberedCut<'_>) -> Value {
         let below = self.nodes.joint_between(from, to);
         self.summary.seen(below, self.starts_below(to))
+    }
+
+    fn value_at(&self, key: &SearchKey<'_>) -> Value {
+        let below = self.nodes.value_at(key);
+        match self.summary.pending {
+            None => below,
+            Some(_) => self.summary.seen(below, self.starts_below(&key.past())),
+        }
     }
 
     fn is_new(&self, key: &Key) -> bool {

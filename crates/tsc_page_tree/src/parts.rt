@@ -1,7 +1,7 @@
 ghost use Rattle.std.specs.Prelude.{◌≡◌, ℕ, List, ◌≤◌, ◌<◌, ◌+◌, ◌++◌, ◌∷◌, [], ◌||◌, suc, map, length, drop, slice_index_or, option_map, option_to_list, OnOk, IfOk, IfSome, not, true, false};
 ghost use Rattle.std.specs.List.{All};
 ghost use Rattle.tsc_time.specs.Joint.{joint};
-ghost use Rattle.tsc_span.specs.Span.{before, last, is_below, between};
+ghost use Rattle.tsc_span.specs.Span.{before, last, is_below, between, point};
 ghost use Rattle.tsc_span.specs.Cuts.{cut_of};
 ghost use Rattle.tsc_page_base.specs.Numbers.{IsCutNumber};
 ghost use Rattle.tsc_page_base.specs.PageView.{is_in};
@@ -16,7 +16,7 @@ ghost use Rattle.tsc_page_tree.specs.KeyAdds.{IsKeyAddTold};
 use crate::across;
 use crate::addition::Addition;
 use std::alloc::Global;
-use tsc_page_base::{Grown, KeyAddition, KeyNumber, NumberedCut};
+use tsc_page_base::{Grown, KeyAddition, KeyNumber, NumberedCut, SearchKey};
 use tsc_span::{Cut, Key};
 use tsc_time::{NoMemory, Timestamp, Value, ratchet};
 
@@ -57,6 +57,12 @@ pub trait Part: Clone + Drop {
         requires sorted { IsSorted (nodes self.now) }
         requires order { is_below from.now to.now ≡ true }
         ensures { result ≡ answer_of (nodes self.now) (between from.now to.now) };
+
+    /// The joint value of what overlaps a key.
+    fn value_at(&self, key: &SearchKey<'_>) -> Value
+        requires whole { IsWhole self.now }
+        requires sorted { IsSorted (nodes self.now) }
+        ensures { result ≡ answer_of (nodes self.now) (point key.now) };
 
     /// Whether this is a key that has no node.
     fn is_new(&self, key: &Key) -> bool
@@ -301,6 +307,17 @@ fn leaves_out<P: Part>(part: &P, from: &NumberedCut<'_>, to: &NumberedCut<'_>) -
     ensures { result ≡ (is_below to.now last || is_below (start_of (P.nodes part.now)) from.now) }
 {
     to.is_below_last() || part.starts_below(from)
+}
+
+/// The joint value of what overlaps a key in parts, which is that of the part in which it falls.
+pub fn value_at<P: Part>(parts: &[P], key: &SearchKey<'_>) -> Value
+    requires parts { AreParts P.nodes P.IsWhole parts.now }
+    ensures { result ≡ answer_of (nodes_of (map P.nodes parts.now)) (point key.now) }
+{
+    match parts.get(part_at(parts, key.at())) {
+        Some(part) => part.value_at(key),
+        None => Value::unowned(Timestamp::ZERO),
+    }
 }
 
 /// Whether this is a key that has no node in parts.

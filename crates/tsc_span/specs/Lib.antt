@@ -7,4 +7,5 @@ pub mod Cuts
 pub mod Same
 pub mod Sameness
 pub mod Shape
+pub mod Form
 pub mod Laws

@@ -1,10 +1,10 @@
-ghost use Rattle.std.specs.Prelude.{◌≡◌, ◌<◌, ◌≤◌, ◌↔◌, ◌⊎◌, length, IfOk, IfErr, IsErrOf, Some, refl};
+ghost use Rattle.std.specs.Prelude.{◌≡◌, ◌<◌, ◌≤◌, ◌↔◌, ◌⊎◌, length, IfOk, IfErr, IsErrOf, Some, refl, true};
 ghost use Rattle.std.specs.List.{All};
 ghost use Rattle.std.specs.Str.{bytes_eq};
 ghost use Rattle.std.specs.Cmp.{partial_equiv_from_equiv};
 ghost use Rattle.std.specs.Cmp.Lexicographic.{nat_list_eq_equiv, nat_list_cmp_total, texts_ties, texts_po};
 ghost use Rattle.tsc_span.specs.Limits.{longest_key};
-ghost use Rattle.tsc_span.specs.Span.{key_cmp, key_cost};
+ghost use Rattle.tsc_span.specs.Span.{key_cmp, key_cost, fits_key};
 ghost use Rattle.tsc_span.specs.MadeKey.{made_key};
 
 use crate::SpanFault;
@@ -17,7 +17,7 @@ use tsc_time::NoMemory;
 pub const LONGEST_KEY: usize = 4096;
 
 /// What a node of a page costs beside the bytes of its key.
-const NODE_COST: u32 = 32;
+pub(crate) const NODE_COST: u32 = 32;
 
 /// A key: a text of bytes, 4096 of them at the most. The empty key comes first.
 ///
@@ -52,6 +52,16 @@ impl Key {
         }
         let bytes = Vec::from_slice(alloc, bytes).map_err(|_| SpanFault::NoMemory)?;
         Ok(Key { bytes })
+    }
+
+    /// A copy of bytes of which there are few enough.
+    pub(crate) fn copy_of(alloc: Global, bytes: &[u8]) -> Result<Key, NoMemory>
+        requires { fits_key bytes.now ≡ true }
+        ensures { IfOk result (λ key. key ≡ bytes.now) }
+    {
+        Ok(Key {
+            bytes: Vec::from_slice(alloc, bytes)?,
+        })
     }
 
     /// The bytes of the key.

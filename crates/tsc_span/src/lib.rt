@@ -3,14 +3,16 @@
 //! A [`Key`] is a text of bytes. A [`Cut`] is a place right before or right after a key, or above all
 //! keys, and a [`Span`] lies between two cuts or is empty. They restate the bounds of CockroachDB's
 //! `pkg/kv/kvserver/tscache`: `intervalSkl.AddRange` takes two keys with flags that exclude either, and
-//! no second key means no end. A [`SpanRef`] is the same over bytes that lie elsewhere, for lookups.
+//! no second key means no end. A [`SpanRef`] is the same over bytes that lie elsewhere, for lookups,
+//! and a [`KeyRef`] is such a key, for Adds.
 //!
-//! Only [`Key::new`] and the two `try_copy` take memory.
+//! Only [`Key::new`], [`KeyRef::to_key`] and the two `try_copy` take memory.
 #![tactic(auto)]
 
 mod cut;
 mod fault;
 mod key;
+mod key_ref;
 pub mod laws;
 mod span;
 mod span_ref;
@@ -18,5 +20,6 @@ mod span_ref;
 pub use cut::Cut;
 pub use fault::SpanFault;
 pub use key::{Key, LONGEST_KEY};
+pub use key_ref::KeyRef;
 pub use span::{Ends, Span};
 pub use span_ref::SpanRef;

@@ -7,7 +7,7 @@ ghost use Rattle.tsc_span.specs.Cuts.{cut_of, interval_of_cuts};
 ghost use Rattle.tsc_span.specs.Same.{is_same_span};
 ghost use Rattle.tsc_span.specs.Sameness.{is_same_span-equivalence};
 
-use crate::{Cut, Key, SpanFault};
+use crate::{Cut, Key, SpanFault, SpanRef};
 use std::cmp::Ordering;
 use std::marker::Model;
 use tsc_time::NoMemory;
@@ -143,6 +143,16 @@ impl Span {
                 Some((start, end))
             }
             Shape::Onward(from, exclude_from) => Some((start_cut(from, *exclude_from), Cut::Last)),
+        }
+    }
+
+    /// The same span over the keys that this one has.
+    pub fn borrowed(&self) -> SpanRef<'_>
+        ensures { result ≡ self.now }
+    {
+        match &self.shape {
+            Shape::Point(key) => SpanRef::point(key.bytes()),
+            _ => SpanRef::of_cuts(self.cuts()),
         }
     }
 

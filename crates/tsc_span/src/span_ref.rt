@@ -3,7 +3,7 @@ ghost use Rattle.tsc_span.specs.Span.{point, range_for_lookup, onward, start_cut
 ghost use Rattle.tsc_span.specs.LookupSpan.{span_for_lookup};
 ghost use Rattle.tsc_span.specs.Cuts.{cut_of, interval_of_cuts};
 
-use crate::{Cut, Ends, Span};
+use crate::{Cut, Ends};
 use std::cmp::Ordering;
 use std::marker::Model;
 
@@ -13,19 +13,26 @@ use std::marker::Model;
 /// keys, and a span beside it overlaps what lies there.
 #[derive(Debug, Drop)]
 pub struct SpanRef<'a> {
-    cuts: Option<(Cut<'a>, Cut<'a>)>,
+    form: Form<'a>,
+}
+
+/// A single key is a form of its own, so whoever looks it up needs no cuts.
+#[derive(Clone, Copy, Debug)]
+enum Form<'a> {
+    Nothing,
+    Point(&'a [u8]),
+    Between(Cut<'a>, Cut<'a>),
 }
 
 impl<'a> Model for SpanRef<'a> {
-    ghost use Rattle.std.specs.Prelude.{◌≡◌, IfSome, true};
-    ghost use Rattle.tsc_span.specs.Span.{Interval, is_below};
-    ghost use Rattle.tsc_span.specs.Cuts.{cut_of, interval_of_cuts};
+    ghost use Rattle.tsc_span.specs.Span.{Interval};
+    ghost use Rattle.tsc_span.specs.Form.{interval_of, IsForm};
 
     ghost Value = { Interval };
 
-    ghost view = { λ s. interval_of_cuts s.cuts };
+    ghost view = { λ s. interval_of s.form };
 
-    ghost invariant = { λ s. IfSome s.cuts (λ cuts. is_below (cut_of cuts.0) (cut_of cuts.1) ≡ true) };
+    ghost invariant = { λ s. IsForm s.form };
 }
 
 impl<'a> SpanRef<'a> {
@@ -34,24 +41,28 @@ impl<'a> SpanRef<'a> {
         ensures { result ≡ point key.now }
     {
         SpanRef {
-            cuts: Some((Cut::Before(key), Cut::After(key))),
+            form: Form::Point(key),
         }
     }
 
-    /// The keys from one to another, where an inverted range is the empty span, as in [`Span::for_lookup`]. It compares the two
+    /// The keys from one to another, where an inverted range is the empty span, as in [`Span::for_lookup`](crate::Span::for_lookup). It compares the two
     /// keys.
     pub fn for_lookup(from: &'a [u8], to: &'a [u8], ends: Ends) -> SpanRef<'a>
         ensures { result ≡ range_for_lookup from.now to.now ends.exclude_from ends.exclude_to }
     {
         match from.cmp(to) {
-            Ordering::Greater => SpanRef { cuts: None },
-            Ordering::Equal if ends.exclude_from && ends.exclude_to => SpanRef { cuts: None },
+            Ordering::Greater => SpanRef {
+                form: Form::Nothing,
+            },
+            Ordering::Equal if ends.exclude_from && ends.exclude_to => SpanRef {
+                form: Form::Nothing,
+            },
             Ordering::Equal => SpanRef::point(from),
             Ordering::Less => SpanRef {
-                cuts: Some((
+                form: Form::Between(
                     start_cut(from, ends.exclude_from),
                     end_cut(to, ends.exclude_to),
-                )),
+                ),
             },
         }
     }
@@ -61,7 +72,7 @@ impl<'a> SpanRef<'a> {
         ensures { result ≡ onward from.now exclude_from }
     {
         SpanRef {
-            cuts: Some((start_cut(from, exclude_from), Cut::Last)),
+            form: Form::Between(start_cut(from, exclude_from), Cut::Last),
         }
     }
 
@@ -76,21 +87,38 @@ impl<'a> SpanRef<'a> {
         }
     }
 
+    /// The span between two cuts, or the empty one.
+    pub(crate) fn of_cuts(cuts: Option<(Cut<'a>, Cut<'a>)>) -> SpanRef<'a>
+        requires { IfSome cuts (λ cuts. is_below (cut_of cuts.0) (cut_of cuts.1) ≡ true) }
+        ensures { result ≡ interval_of_cuts cuts.entry }
+    {
+        let form = match cuts {
+            Some((from, to)) => Form::Between(from, to),
+            None => Form::Nothing,
+        };
+        SpanRef { form }
+    }
+
     /// Where the span starts and where it stops, or `None` for the empty span.
     pub fn cuts(&self) -> Option<(Cut<'a>, Cut<'a>)>
         ensures value { interval_of_cuts result ≡ self.now }
         ensures order { IfSome result (λ cuts. is_below (cut_of cuts.0) (cut_of cuts.1) ≡ true) }
     {
-        self.cuts
+        match self.form {
+            Form::Nothing => None,
+            Form::Point(key) => Some((Cut::Before(key), Cut::After(key))),
+            Form::Between(from, to) => Some((from, to)),
+        }
     }
-}
 
-impl Span {
-    /// The same span over the keys that this one has.
-    pub fn borrowed(&self) -> SpanRef<'_>
-        ensures { result ≡ self.now }
+    /// The key of a span that was made as a [single one](SpanRef::point).
+    pub fn key(&self) -> Option<&'a [u8]>
+        ensures { IfSome result (λ key. self.now ≡ point key.now) }
     {
-        SpanRef { cuts: self.cuts() }
+        match self.form {
+            Form::Point(key) => Some(key),
+            _ => None,
+        }
     }
 }
 

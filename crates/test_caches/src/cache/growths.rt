@@ -74,6 +74,16 @@ const KNOWN_ON_LARGE: Row = (
     ],
 );
 
+const NEW_ON_LARGE: Row = (
+    "a new key on a large page, in place",
+    &[
+        (Begin, b"#\x14\x00", AT_20, NOBODY),
+        (Add(AT_20, KEPT), b"\x00\x00\x02\x01\x05", AT_30, NOBODY),
+        (Look, b"\x00\x00\x02\x01\x05", AT_30, NOBODY),
+        (Stand(1, 0, FLOOR), NONE, FLOOR, NOBODY),
+    ],
+);
+
 const NEXT_ON_LARGE: Row = (
     "a known key on a large page",
     &[
@@ -146,6 +156,12 @@ static IN_PLACE: [Table; 1] = [(LIMITS, &[Call::Add], NONE, &[MANY_PAGES])];
 
 static IN_PLACE_OF_MANY: [Table; 1] = [(LARGE, &[Call::Add], NONE, &[KNOWN_ON_LARGE])];
 
+static BY_BYTES_OF_MANY: [Table; 1] = [(LARGE, &[Call::AddKey], NONE, &[KNOWN_ON_LARGE])];
+
+static NEW_OF_MANY: [Table; 1] = [(LARGE, &[Call::Add], NONE, &[NEW_ON_LARGE])];
+
+static NEW_BY_BYTES: [Table; 1] = [(LARGE, &[Call::AddKey], NONE, &[NEW_ON_LARGE])];
+
 static NEXT_OF_MANY: [Table; 1] = [(LARGE, &[Call::Next], NONE, &[NEXT_ON_LARGE])];
 
 static BATCH_OF_2: [Table; 1] = [(SMALL, &[Call::NextAll], NONE, &[BATCH_ON_2])];
@@ -177,6 +193,21 @@ fn an_add_in_place_on_17_pages(rt: HostRuntime) -> Result<(), Fail> {
 #[test]
 fn known_keys_of_a_large_page(rt: HostRuntime) -> Result<(), Fail> {
     play(&rt, rt.alloc(), &IN_PLACE_OF_MANY)
+}
+
+#[test]
+fn known_keys_by_bytes(rt: HostRuntime) -> Result<(), Fail> {
+    play(&rt, rt.alloc(), &BY_BYTES_OF_MANY)
+}
+
+#[test]
+fn a_new_key_of_a_large_page(rt: HostRuntime) -> Result<(), Fail> {
+    play(&rt, rt.alloc(), &NEW_OF_MANY)
+}
+
+#[test]
+fn a_new_key_by_bytes(rt: HostRuntime) -> Result<(), Fail> {
+    play(&rt, rt.alloc(), &NEW_BY_BYTES)
 }
 
 #[test]

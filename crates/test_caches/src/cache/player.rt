@@ -11,8 +11,8 @@ use std::mem;
 use std::process::Abort;
 use std::test::Fail;
 use timestamp_cache::{
-    Added, Cache, CacheFault, Config, Cut, Key, Mark, NoMemory, ReadSummary, Span, Timestamp,
-    TimestampCache, Uuid, Value, apply, earliest_write, may_write, next_time, summary,
+    Added, Cache, CacheFault, Config, Cut, Key, KeyRef, Mark, NoMemory, ReadSummary, Span,
+    Timestamp, TimestampCache, Uuid, Value, apply, earliest_write, may_write, next_time, summary,
 };
 use tsc_cache::PlainCache;
 
@@ -152,6 +152,17 @@ fn parts(time: Option<Timestamp>) -> Option<Time> {
     }
 }
 
+/// Adds a mark, by the bytes of its key where it has a single one.
+fn add_by_bytes(cache: &mut Cache, mark: &Mark, now: Timestamp) -> Result<Added, CacheFault> {
+    match mark.span.borrowed().key() {
+        Some(bytes) => match KeyRef::new(bytes) {
+            Ok(key) => cache.add_key(&key, mark.value, now),
+            Err(_) => Err(CacheFault::TooLarge),
+        },
+        None => cache.add(&mark.span, mark.value, now),
+    }
+}
+
 impl Player {
     /// A player of new caches.
     pub fn new(alloc: Global, call: Call, limits: Limits) -> Result<Player, Fail> {
@@ -213,7 +224,15 @@ impl Player {
         if self.is_plain() {
             self.plain.add(span, value, now)
         } else {
-            self.cache.add(span, value, now)
+            self.call_in_place(mark, now)
+        }
+    }
+
+    /// Adds a mark in place.
+    fn call_in_place(&mut self, mark: &Mark, now: Timestamp) -> Result<Added, CacheFault> {
+        match self.call {
+            Call::AddKey => add_by_bytes(&mut self.cache, mark, now),
+            _ => self.cache.add(&mark.span, mark.value, now),
         }
     }
 
@@ -235,7 +254,9 @@ impl Player {
     /// Adds marks by the call.
     fn call(&mut self, marks: &[Mark], now: Timestamp) -> Result<Added, CacheFault> {
         match (self.call, marks.first()) {
-            (Call::Add | Call::Next | Call::PlainAdd, Some(mark)) => self.call_one(mark, now),
+            (Call::Add | Call::AddKey | Call::Next | Call::PlainAdd, Some(mark)) => {
+                self.call_one(mark, now)
+            }
             _ => self.call_all(marks, now),
         }
     }
@@ -460,7 +481,7 @@ impl Player {
     fn read_known(&mut self, marks: &[Mark]) -> bool {
         let mut all = true;
         for mark in marks {
-            all &= match self.cache.add(&mark.span, mark.value, mark.value.time()) {
+            all &= match self.call_in_place(mark, mark.value.time()) {
                 Ok(added) => added.kept && !added.rotated,
                 Err(_) => false,
             };

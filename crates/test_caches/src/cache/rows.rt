@@ -69,6 +69,8 @@ pub type Row = (&'static str, &'static [Step]);
 #[derive(Clone, Copy)]
 pub enum Call {
     Add,
+    /// Single keys by their bytes, and all else as `Add`.
+    AddKey,
     Next,
     PlainAdd,
     AddAll,
@@ -86,6 +88,7 @@ pub type Table = (Limits, &'static [Call], Text, &'static [Row]);
 /// All calls.
 pub const ALL: &[Call] = &[
     Call::Add,
+    Call::AddKey,
     Call::Next,
     Call::PlainAdd,
     Call::AddAll,
@@ -95,7 +98,7 @@ pub const ALL: &[Call] = &[
 ];
 
 /// Those that add a mark.
-pub const SINGLE: &[Call] = &[Call::Add, Call::Next, Call::PlainAdd];
+pub const SINGLE: &[Call] = &[Call::Add, Call::AddKey, Call::Next, Call::PlainAdd];
 
 /// Those that add several marks.
 pub const TOGETHER: &[Call] = &[

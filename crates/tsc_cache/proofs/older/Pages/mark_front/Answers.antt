@@ -1,6 +1,6 @@
 -- The front page with one more mark takes its place.
-use Rattle.std.proofs.Common.{◌≡◌, refl, sym, subst, cond, Bool, true, ◌||◌, ◌∷◌, []}
-use Rattle.std.specs.Prelude.{Result, Ok, Err, IfOk, Option, Some, None, IfSome}
+use Rattle.std.proofs.Common.{◌≡◌, refl, sym, subst, cond, true, ◌||◌, ◌∷◌, []}
+use Rattle.std.specs.Prelude.{IfOk, Option, Some, None, IfSome}
 use Rattle.std.specs.Arc.{arc_value}
 use Rattle.tsc_time.specs.Time.{later}
 use Rattle.tsc_time.specs.Joint.{joint}
@@ -9,6 +9,7 @@ use Rattle.tsc_page_base.specs.Page.{Mark}
 use Rattle.tsc_page_base.specs.PageView.{PageView, is_in, answer}
 use Rattle.tsc_cache.specs.CacheView.{IsMarked}
 use Rattle.tsc_cache.specs.CacheParts.{front_of}
+use Rattle.tsc_cache.proofs.MarkedFront.{marked_by, beside}
 use Rattle.tsc_cache.proofs.older.Pages.mark_front.Goals as goal
 
 -- what a page tells of one that has one mark more
@@ -36,20 +37,6 @@ returns-in_ok-self-in-None-clause-marked c e =
           (subst (λ (v : PageView). IsMarked old v m) (sym c.in_ok-self-in-None.ensures.ok) marked),
       refl,
     )
-
--- what a page tells of an Add that it had room for
-marked_by : {E : Type 0} (r : Result Bool E) (old new : PageView) (m : Mark) → new.size ≡ old.size
-    → IfOk r (λ done. done ≡ true → new.top ≡ later old.top m.value.time)
-    → IfOk r (λ done. done ≡ true → (k : KeyBytes) → is_in k new.keys ≡ (is_in k old.keys || is_in k (end_keys m.span)))
-    → IfOk r (λ done. done ≡ true → (s : Interval) → answer new s ≡ cond (overlaps m.span s) (joint (answer old s) (m.value ∷ [])) (answer old s))
-    → IfOk r (λ done. done ≡ true → IsMarked old new m)
-marked_by (Ok done) old new m size top keys answers = λ e. record { size = size; top = top e; keys = keys e; answers = answers e }
-marked_by (Err e) old new m size top keys answers = tt
-
--- and with the pages behind it, which stay
-beside : {E : Type 0} (r : Result Bool E) (P Q : Type 0) → Q → IfOk r (λ done. done ≡ true → P) → IfOk r (λ done. done ≡ true → P × Q)
-beside (Ok done) P Q q p = λ e. (p e, q)
-beside (Err e) P Q q p = tt
 
 pub returns-in-Some-clause-marked : goal.returns-in-Some-clause-marked
 returns-in-Some-clause-marked c =
