@@ -19,7 +19,10 @@ pub struct Plan {
     pub each: u32,
     /// How many of all are accepted.
     pub limit: u64,
+    /// By which call every other seat adds, from the first one on.
     pub by: By,
+    /// And by which the others.
+    pub other: By,
     pub what: What,
 }
 
@@ -41,8 +44,13 @@ fn wall_of(round: u32) -> u64 {
 }
 
 impl Plan {
+    /// By which call a seat adds.
+    pub fn by_of(&self, number: u32) -> By {
+        if number % 2 == 0 { self.by } else { self.other }
+    }
+
     /// The Add of a seat in a round. `None` where memory is refused.
-    fn adding(&self, alloc: Global, number: u32, round: u32) -> Option<Adding> {
+    pub fn adding(&self, alloc: Global, number: u32, round: u32) -> Option<Adding> {
         let letter = (u64::from(number) * u64::from(self.each) + u64::from(round)) % 26;
         let key = b'a' + letter as u8;
         match self.what {
@@ -79,7 +87,7 @@ impl Plan {
 
 impl<C: Of> Meeting<'_, C> {
     /// Whether a place is there, and was told to no other Add. It is told to that of a seat in a round now.
-    fn is_new(&self, place: u64, number: u32, round: u32) -> bool {
+    pub fn is_new(&self, place: u64, number: u32, round: u32) -> bool {
         let made = (u64::from(number) * NUMBER + u64::from(round)).saturating_add(1);
         match self.places.get(place as usize) {
             Some(told) => told.fetch_add(made, Ordering::SeqCst) == 0,
@@ -96,7 +104,7 @@ impl<C: Of> Meeting<'_, C> {
         (plan, adding): (&Plan, &Adding),
         round: u32,
     ) {
-        let told = self.add(rt, home, guest, adding, plan.by);
+        let told = self.add(rt, home, guest, adding, plan.by_of(guest.number()));
         let (is_right, least) = match told {
             Told::Place(place, _, front) => (self.is_new(place, guest.number(), round), front),
             Told::Full(front) => (front == plan.limit, front),
@@ -123,17 +131,31 @@ impl<C: Of> Meeting<'_, C> {
         round.saturating_add(1) < plan.each
     }
 
-    /// Whether a cache that isn't shared takes all Adds in the order of their places, each of which was told.
+    /// Whether a place was told to an Add, and not the one before it.
+    pub fn has_gap(&self) -> bool {
+        let mut is_told = true;
+        for told in self.places.iter() {
+            let was_told = is_told;
+            is_told = told.load(Ordering::SeqCst) != 0;
+            if is_told && !was_told {
+                return true;
+            }
+        }
+        false
+    }
+
+    /// Whether a cache that isn't shared takes all Adds in the order of their places.
     fn are_taken(&self, alloc: Global, plan: &Plan, alone: &mut Cache) -> bool {
         for told in self.places.iter() {
-            if !plan.is_taken(alloc, alone, told.load(Ordering::SeqCst)) {
+            let told = told.load(Ordering::SeqCst);
+            if told != 0 && !plan.is_taken(alloc, alone, told) {
                 return false;
             }
         }
         true
     }
 
-    /// Such a cache. `None` where memory is refused, or a place was not told.
+    /// Such a cache. `None` where memory is refused.
     pub fn alone(&self, alloc: Global, plan: &Plan) -> Option<Cache> {
         let config = config_of(PAGES).ok()?;
         let mut alone = Cache::new(alloc, config).ok()?;
@@ -176,6 +198,7 @@ static ALL: Row = Row {
                 each: 50,
                 limit: 400,
                 by: By::Gate,
+                other: By::Gate,
                 what: What::One,
             })),
             Told::Long(400),
@@ -197,6 +220,7 @@ static ALL_BUT_ONE: Row = Row {
                 each: 50,
                 limit: 399,
                 by: By::Gate,
+                other: By::Gate,
                 what: What::One,
             })),
             Told::Long(399),
@@ -219,6 +243,7 @@ static IN_ORDER: [Row; 2] = [
                     each: 2,
                     limit: 4,
                     by: By::Plain,
+                    other: By::Plain,
                     what: What::Keys,
                 })),
                 Told::Long(0),
@@ -239,6 +264,7 @@ static IN_ORDER: [Row; 2] = [
                     each: 200,
                     limit: 800,
                     by: By::Plain,
+                    other: By::Plain,
                     what: What::Times,
                 })),
                 Told::Long(0),

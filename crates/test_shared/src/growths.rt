@@ -1,6 +1,6 @@
 //! How many growths an Add to a shared cache asks for, before and after its pages rotate. Each test but
 //! that of a large page makes one Add again where it is refused memory. Where an Add in place on the
-//! hidden side is refused, that side is made anew from the one that is shown, so the cache makes some
+//! standby copy is refused, that copy is made anew from the active one, so the cache makes some
 //! growths good by itself, and `scripts/refuse-each-growth` counts for how many a whole test asks.
 use super::marks::Entry::{One, Several};
 use super::party::By::{Gate, Plain};
@@ -10,7 +10,7 @@ use super::steps::Act::{Add, Again, Figures, Fill, Get, Often};
 use super::steps::{KEPT, PAGES, ROTATED, Row, play};
 use std::test::Fail;
 
-/// The page is full, and both sides have all of it.
+/// The page is full, and both copies have all of it.
 static ROTATING: Row = Row {
     pages: PAGES,
     seats: 2,
@@ -67,7 +67,7 @@ static ROTATING_AGAIN: Row = Row {
     ],
 };
 
-/// A batch of two keys that both sides have.
+/// A batch of two keys that both copies have.
 static KNOWN_KEYS: Row = Row {
     pages: PAGES,
     seats: 2,
@@ -113,7 +113,7 @@ static KNOWN_KEYS: Row = Row {
     ],
 };
 
-/// More than 4,096 keys on one page, and then one of them 40 times, where both sides have it. Each
+/// More than 4,096 keys on one page, and then one of them 40 times, where both copies have it. Each
 /// of these Adds takes a copy of its key and no other memory: no growth of theirs is made good.
 /// `scripts/refuse-each-growth last tests` counts them.
 static LARGE: Row = Row {

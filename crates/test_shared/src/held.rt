@@ -1,4 +1,4 @@
-//! An Add that is held up where it holds the desk and nobody can see it, until lookups on other threads have answered, and Adds there
+//! An Add that is held up where it has the writer lock and nobody can see it, until lookups on other threads have answered, and Adds there
 //! were given up.
 use super::marks::Entry;
 use super::marks::Entry::{One, Several};
@@ -225,6 +225,6 @@ fn a_lookup_answers_while_a_rotating_add_is_held_up(rt: HostRuntime) -> Result<(
 }
 
 #[test]
-fn all_lookups_answer_while_the_desk_is_held(rt: HostRuntime) -> Result<(), Fail> {
+fn all_lookups_answer_while_the_lock_is_held(rt: HostRuntime) -> Result<(), Fail> {
     play(&rt, rt.alloc(), &MANY)
 }

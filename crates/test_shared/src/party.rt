@@ -78,7 +78,7 @@ pub enum Told {
 pub enum Why {
     TooLarge,
     NoMemory,
-    /// The desk was held at each try.
+    /// The writer lock was held at each try.
     Busy,
     /// A seat was inside a lookup each time.
     Inside,

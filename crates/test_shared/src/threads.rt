@@ -20,6 +20,8 @@ pub enum Scene {
     Held(Plan),
     /// Adds up to a limit, and lookups.
     Crowd(crowd::Plan),
+    /// Adds of which each is made again where it is refused memory.
+    Again(crowd::Plan),
     /// Lookups that begin after Adds have returned.
     Returned,
     /// Fronts that go from each seat to the next.
@@ -50,7 +52,7 @@ impl Scene {
     fn has_many(&self) -> bool {
         match self {
             Scene::Ring => true,
-            Scene::Crowd(plan) => matches!(plan.what, What::Times),
+            Scene::Crowd(plan) | Scene::Again(plan) => !matches!(plan.what, What::One),
             _ => false,
         }
     }
@@ -78,7 +80,7 @@ impl<C: Of> Meeting<'_, C> {
     fn of(alloc: Global, scene: &Scene, seats: u64) -> Option<Meeting<'_, C>> {
         let (lookers, places, channels) = match scene {
             Scene::Held(_) => (seats.saturating_sub(1), 0, 0),
-            Scene::Crowd(plan) => (0, plan.limit, 0),
+            Scene::Crowd(plan) | Scene::Again(plan) => (0, plan.limit, 0),
             Scene::Ring => (0, 0, seats),
             _ => (0, 0, 0),
         };
@@ -101,7 +103,8 @@ impl<C: Of> Meeting<'_, C> {
         let told = Told::Long(self.gate.told());
         match self.scene {
             Scene::Held(_) if !self.gate.has_met() => (Told::Not(Why::NoThread), None),
-            Scene::Crowd(plan) => match self.alone(alloc, plan) {
+            _ if self.has_gap() => (Told::Not(Why::Changed), None),
+            Scene::Crowd(plan) | Scene::Again(plan) => match self.alone(alloc, plan) {
                 Some(alone) => (told, Some(alone)),
                 None => (Told::Not(Why::NoMemory), None),
             },
@@ -121,6 +124,7 @@ impl<C: Of> Meeting<'_, C> {
         match self.scene {
             Scene::Held(plan) => self.hold(rt, home, guest, plan, round),
             Scene::Crowd(plan) => self.crowd(rt, alloc, home, guest, plan, round),
+            Scene::Again(plan) => self.make_again(rt, alloc, home, guest, plan, round),
             Scene::Returned => self.follow(rt, alloc, home, guest, round),
             Scene::Ring => self.send_on(rt, alloc, home, guest, round),
             Scene::Both => self.both(rt, alloc, home, guest, round),
@@ -160,7 +164,7 @@ fn leaves(told: Told, are_many: bool, more: u64, before: u64, seen: u64) -> bool
         }
         Told::Full(front) => more == 0 && front == seen,
         Told::Not(Why::Busy) => more == 0 && seen == before,
-        Told::Not(Why::Inside) => more == 0 && seen >= before,
+        Told::Not(Why::Inside | Why::NoMemory) => more == 0 && seen >= before,
         _ => false,
     }
 }

@@ -1,5 +1,5 @@
-//! Adds that are given up after so many tries: by themselves, and beside others that add and look. `held.rt` tries them while the desk
-//! is held.
+//! Adds that are given up after so many tries: by themselves, and beside others that add and look. `held.rt` tries them while the writer
+//! lock is held.
 use super::batches::LARGE;
 use super::marks::Entry::{One, Several};
 use super::party::By::Tries;
@@ -94,7 +94,8 @@ impl<C: Of> Meeting<'_, C> {
             1 | 2 => self.add(rt, home, guest, &self.adding, Tries(round % 4)),
             _ => home.get_key(guest, "a"),
         };
-        check(rt, !matches!(told, Told::Full(_)), told);
+        let is_right = !matches!(told, Told::Full(_) | Told::Not(Why::NoMemory));
+        check(rt, is_right, told);
         round.saturating_add(1) < ROUNDS
     }
 }

@@ -3,7 +3,7 @@ use denote.Param.Send.{IsSend, IsSync, sendable, view_send}
 use denote.Param.SendFields.{declared_send, declared_sync, as_row_send, as_row_sync}
 use Rattle.std.proofs.Crossing.{crosses}
 use Rattle.atomic_table.proofs.Sent.{seat_keyless}
-use Rattle.tsc_shared_desk.proofs.Crossing.{table_sends, table_syncs}
+use Rattle.tsc_left_right.proofs.Crossing.{table_sends, table_syncs}
 use Rattle.tsc_shared.proofs.Crossing.{seat_sends, shared_cache_sends, shared_cache_syncs}
 use Rattle.tsc_ffi_seats.specs.contracts.owner.SharedHandle.{the_row as shared}
 use Rattle.tsc_ffi_seats.specs.contracts.owner.Owner.{the_row as owner}

@@ -1,7 +1,7 @@
 -- A seat fetches its request slot, states a request, and lays the slot back.
 use Rattle.std.proofs.Common.{◌≡◌, ◌≢◌, ◌∙◌, refl, sym, ap, subst, true, false, ℕ, ◌+◌, ◌<◌, List}
 use Rattle.std.proofs.Common.{[], ◌∷◌, set, arith, slice_index, length-set, get_or-set_other}
-use Rattle.std.proofs.Common.{get_or-set_same}
+use Rattle.std.proofs.Common.{get_or-set_same, append-nil}
 use Rattle.std.specs.Prelude.{Option, Some, None}
 use Rattle.std.specs.Int.{bit_at}
 use mathlib.Core.Option as maybe
@@ -9,7 +9,7 @@ use lib.ListN.{get_elem?}
 use lib.Seq.{set-get_or}
 use Rattle.atomic_table.proofs.Lists.{set_here, set_else}
 use Rattle.atomic_table.specs.Table.{Step, takes as act_takes, gives as act_gives, Allows}
-use Rattle.tsc_cache.specs.History.{History}
+use Rattle.tsc_cache.specs.History.{History, own_count, BeginsWith}
 use Rattle.tsc_left_right.specs.declared.table.Setup.{Setup}
 use Rattle.tsc_left_right.specs.declared.table.UnappliedAdd.{UnappliedAdd}
 use Rattle.tsc_left_right.specs.declared.table.Slot.{Slot}
@@ -329,6 +329,12 @@ module _ (setup : Setup) (slots : ℕ) (st : Step Slot) (id : ℕ) (t : Setup) (
       get_or-set_other s.words i q toggle 0 apart in
       let served : slice_index words served_word ≡ slice_index s.words served_word =
       same served_word (λ z. omega (arith, z)) in
+      let own_all : own_count n p.history ≡ p.count = omega (
+        arith,
+        ap (own_count n) all.all,
+        mine.own,
+        x.4,
+      ) in
       let here_toggle = put_here k.g.toggle_of n toggle in
       let here = put_here k.g.request_of n Fetched in
       let told_now : bit_at (slice_index s.words served_word) n ≡ toggle =
@@ -372,18 +378,18 @@ module _ (setup : Setup) (slots : ℕ) (st : Step Slot) (id : ℕ) (t : Setup) (
           number_same = refl;
           holds_same = refl;
           fits = record {
-            begins = mine.begins;
+            begins = subst (BeginsWith k.g.history) (sym all.all) ([], sym (append-nil k.g.history));
             own = omega (arith, mine.own, x.4, ap made_of here);
-            own_seen = mine.own_seen;
+            own_seen = own_all;
             at_stage = mine.at_stage;
             at_toggle = (λ c. toggle_seen (here_toggle c) (here c));
             at_request = ap add_of here;
             at_fetched = ap fetched_of here;
-            sees = mine.sees;
+            sees = λ _. all.all;
             holding = mine.holding;
           };
         }),
-        (x.0, subst (λ (o : Option UnappliedAdd). HasAdd o x.0) (sym request) x.2, refl),
+        (x.0, subst (λ (o : Option UnappliedAdd). HasAdd o x.0) (sym request) x.2, refl, own_all),
       )
     where
       one_or_other : (a b c : ℕ) → a < 2 → b < 2 → a ≢ b → c + b ≡ 1 → a ≡ c

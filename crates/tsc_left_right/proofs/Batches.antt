@@ -9,7 +9,7 @@ use Rattle.tsc_left_right.specs.declared.table.Setup.{Setup}
 use Rattle.tsc_left_right.specs.declared.table.UnappliedAdd.{UnappliedAdd}
 use Rattle.tsc_left_right.specs.declared.table.Collected.{Collected}
 use Rattle.tsc_left_right.specs.declared.table.SeatState.{SeatState}
-use Rattle.tsc_left_right.specs.Rule.{AreOf, Lags, IsState, entry_of, marks_in}
+use Rattle.tsc_left_right.specs.Rule.{AreOf, Lags, IsState, entry_of, marks_in, with_first}
 use Rattle.tsc_left_right.specs.Steps.{next_of, grown, with_own}
 
 -- the entries of a batch after a history
@@ -42,13 +42,9 @@ entries_of h (x ∷ xs) = are_more (entries h xs) (adds_of xs) (next_of (grown h
     (entries_of h xs) refl refl
 
 -- The copy that was active lags by all of them, and by the writer's own Add before them.
-abbrev pub with_own_adds : Option UnappliedAdd → List UnappliedAdd → List UnappliedAdd
-with_own_adds None ps = ps
-with_own_adds (Some p) ps = p ∷ ps
-
 pub lags_by : (t : Setup) (p : SeatState) (own : Option UnappliedAdd) (xs : List Collected)
     (cache : CacheView) → IsState t p.history cache → Lags t (grown (with_own p own) xs)
-    (with_own_adds own (adds_of xs)) cache
+    (with_first own (adds_of xs)) cache
 lags_by t p None xs cache stands = (
   p.history,
   entries p.history xs,

@@ -6,4 +6,3 @@ pub mod Requesting
 pub mod Writing
 pub mod Opening
 pub mod Closing
-pub mod Waiting

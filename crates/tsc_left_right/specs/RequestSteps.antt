@@ -50,21 +50,23 @@ abbrev pub posts : Step Slot → At → ℕ → At → Type 0
 posts st me found me' =
     me' ≡ (with_state me.0 (posting (state_in me.0) (request_in me.1) st.first), rest me.1)
 
--- the seat asks for nothing, and has its request slot in hand
+-- the writer asks for nothing, has its request slot in hand, and has seen all
 abbrev pub withdrawn : SeatState → ℕ → SeatState
-withdrawn p toggle = record p { request = None; fetched = true; toggle = toggle }
+withdrawn p toggle =
+    record p { request = None; fetched = true; toggle = toggle; seen = p.history }
 
 abbrev pub HasAdd : Option UnappliedAdd → Slot → Type 0
 HasAdd None x = ⊥
 HasAdd (Some add) x = HasRequest add x
 
--- The seat takes back its request, which nobody has collected.
+-- The writer takes back its request, which nobody has collected, and has counted all its Adds.
 abbrev pub withdraws : Step Slot → At → ℕ → At → Type 0
 withdraws st me found me' = (x : Slot) × HasAdd (state_in me.0).request x
     × (me' ≡ (
       with_state me.0 (withdrawn (state_in me.0) st.first),
       (request_slot (state_in me.0).number, x) ∷ me.1,
     ))
+    × (own_count (state_in me.0).number (state_in me.0).history ≡ (state_in me.0).count)
 
 -- the writer, with these requests collected, and these bits to be told
 abbrev pub serving : SeatState → List Collected → ℕ → SeatState

@@ -1,7 +1,7 @@
 -- What a seat asks the writer for: what the functions of requests ask for, and leave.
 use Rattle.std.specs.Prelude.{◌≡◌, ◌≢◌, ℕ, List, ◌∷◌, true, false, Option, Some, None}
 use Rattle.atomic_table.specs.Table.{rest}
-use Rattle.tsc_cache.specs.History.{History}
+use Rattle.tsc_cache.specs.History.{History, own_count}
 use Rattle.tsc_left_right.specs.declared.table.UnappliedAdd.{UnappliedAdd}
 use Rattle.tsc_left_right.specs.declared.table.Collected.{Collected}
 use Rattle.tsc_left_right.specs.declared.table.Setup.{Setup}
@@ -68,7 +68,8 @@ pub record MayWithdraw (me : At) (toggle : ℕ) : Type 0 where
   pub toggle_is : toggle ≡ (state_in me.0).toggle
   pub small : toggle < 2
 
--- It has taken back its Add, asks for nothing, and has its request slot in hand, which is empty.
+-- It has taken back its Add, asks for nothing, and has its request slot in hand, which is empty. It
+-- has seen all, and counts each of its Adds.
 pub record IsWithdrawn (me me' : At) (toggle now : ℕ) (add : UnappliedAdd) : Type 0 where
   pub now_is : now ≡ 1 - toggle
   pub is : (state_in me.0).request ≡ Some add
@@ -76,6 +77,7 @@ pub record IsWithdrawn (me me' : At) (toggle now : ℕ) (add : UnappliedAdd) : T
     with_state me.0 (withdrawn (state_in me.0) now),
     (request_slot (number_of me.0), Empty) ∷ me.1,
   )
+  pub own : own_count (number_of me.0) (state_in me.0).history ≡ (state_in me.0).count
 
 -- What a seat has heard of its request, and is then.
 abbrev pub HasHeard : At → At → Heard → Type 0

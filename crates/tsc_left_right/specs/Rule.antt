@@ -20,6 +20,8 @@ use Rattle.tsc_left_right.specs.declared.table.Setup.{Setup}
 use Rattle.tsc_left_right.specs.declared.table.MarkList.{MarkList}
 use Rattle.tsc_left_right.specs.declared.table.MarkList.TheVariants.{One, Many}
 use Rattle.tsc_left_right.specs.declared.table.UnappliedAdd.{UnappliedAdd}
+use Rattle.tsc_left_right.specs.declared.table.MadeAdd.{MadeAdd}
+use Rattle.tsc_left_right.specs.declared.table.Lagging.{Lagging}
 use Rattle.tsc_left_right.specs.declared.table.WriterState.{WriterState}
 use Rattle.tsc_left_right.specs.declared.table.Slot.{Slot}
 use Rattle.tsc_left_right.specs.declared.table.Slot.TheVariants.{Empty, Writer, Handle, Request}
@@ -341,6 +343,18 @@ abbrev pub Lags : Setup → History → List UnappliedAdd → CacheView → Type
 Lags setup h ps cache =
     (before es : History) × (h ≡ before ++ es) × AreOf es ps × IsState setup before cache
 
+-- what the standby copy has not had yet, from the first on
+abbrev pub adds_in : List MadeAdd → List UnappliedAdd
+adds_in [] = []
+adds_in (m ∷ ms) = m.add.value ∷ adds_in ms
+
+abbrev pub with_first : Option UnappliedAdd → List UnappliedAdd → List UnappliedAdd
+with_first None ps = ps
+with_first (Some p) ps = p ∷ ps
+
+abbrev pub late_adds : Lagging → List UnappliedAdd
+late_adds lagging = with_first lagging.own (adds_in lagging.others.items)
+
 -- and so does the cache of a handle, where there is one
 abbrev pub HandleLags : Setup → History → List UnappliedAdd → Option (Arc CacheView Global) → Type 0
 HandleLags setup h lagging None = Unit {0}
@@ -354,7 +368,7 @@ LaidState = Box WriterState Global
 -- for the history's state, and the standby copy may lag.
 pub record IsAfter (setup : Setup) (h : History) (flips : ℕ) (state : WriterState) : Type 0 where
   pub stands : IsState setup h (arc_value state.active)
-  pub behind : HandleLags setup h state.lagging.items state.standby
+  pub behind : HandleLags setup h (late_adds state.lagging) state.standby
   pub length : state.length ≡ length h
   pub flips_is : state.flips ≡ flips
 

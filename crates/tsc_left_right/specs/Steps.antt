@@ -217,12 +217,8 @@ flipped p own = record p {
 }
 
 -- the writer's own Add, where its state says that it makes one
-abbrev pub first_of : List UnappliedAdd → Option UnappliedAdd
-first_of [] = None
-first_of (p ∷ ps) = Some p
-
 abbrev pub own_of : WriterState → Option UnappliedAdd
-own_of state = if state.own then first_of state.lagging.items else None
+own_of state = state.lagging.own
 
 -- as what is in hand says it
 abbrev pub own_in : List (ℕ × Slot) → Option UnappliedAdd

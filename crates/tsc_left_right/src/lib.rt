@@ -1,5 +1,5 @@
 //! A cache that threads share: two copies, readers that wait for nobody, and a writer that makes
-//! the Adds of others. It is for `tsc_shared`, whose seats keep what these functions ask for.
+//! the Adds of others. It is for `tsc_combining`, which keeps what these functions ask for.
 //!
 //! It is *left-right* (Ramalhete and Correia): readers read the active copy, a writer changes the
 //! standby copy, and one store of HEAD swaps the two.
@@ -29,9 +29,8 @@
 //! - [`new_replicas`] makes the table, and [`split_off`] gives each seat its [`Participant`].
 //!   [`merge`] brings these together again, and [`close`] gives what lies there in the end.
 //! - [`read_max`], [`read_floor`] and [`read_figures`] read the active copy.
-//! - [`WaitPolicy::acquire`] acquires the writer lock. [`wait_for_readers`] waits until each reader
-//!   has left the standby copy. Both wait for ever ([`Blocking`]) or for so many tries
-//!   ([`Bounded`]).
+//! - [`acquire`] tries to acquire the writer lock. [`clear`] looks whether the next reader has left
+//!   the standby copy.
 //! - The writer then changes the standby copy. [`install_handles`] lays handles on it, [`publish`]
 //!   swaps the copies, and [`release`] releases the lock.
 //! - [`fetch`], [`post`], [`hear`] and [`rest`] ask for an Add, and [`withdraw`] takes a request
@@ -53,7 +52,6 @@ mod requesting;
 mod serving;
 mod steps;
 mod table;
-mod waiting;
 mod writing;
 
 pub use closing::{close, merge};
@@ -63,8 +61,7 @@ pub use reading::{read_figures, read_floor, read_max};
 pub use requesting::{Heard, fetch, hear, post, rest, withdraw};
 pub use serving::{answer, collect, send_back};
 pub use table::{
-    Collected, Knowledge, LeftRight, MarkList, Participant, ReadHandle, Replicas, Reply, SeatState,
-    Setup, SharedReplicas, Slot, UnappliedAdd, WriterState,
+    Collected, Knowledge, Lagging, LeftRight, MadeAdd, MarkList, Participant, ReadHandle, Replicas,
+    Reply, SeatState, Setup, SharedReplicas, Slot, UnappliedAdd, WriterState,
 };
-pub use waiting::{Blocking, Bounded, WaitPolicy};
-pub use writing::{install_handles, publish, release, wait_for_readers};
+pub use writing::{acquire, clear, install_handles, publish, release};

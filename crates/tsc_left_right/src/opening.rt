@@ -8,7 +8,9 @@ ghost use Rattle.tsc_left_right.specs.Opening.{IsLaidOut, IsFirst, line_of};
 ghost use Rattle.tsc_left_right.specs.Participating.{IsOf, IsSized, KeepsStates, IsFirstOf};
 
 use crate::steps::SplitOff;
-use crate::table::{Participant, ReadHandle, Replicas, Setup, SharedReplicas, Slot, WriterState};
+use crate::table::{
+    Lagging, Participant, ReadHandle, Replicas, Setup, SharedReplicas, Slot, WriterState,
+};
 use atomic_table::Table;
 use std::alloc::Global;
 use std::sync::Arc;
@@ -65,14 +67,14 @@ fn new_state(alloc: Global, setup: &Setup) -> Result<Box<WriterState>, NoMemory>
 {
     let active = empty_cache(alloc, setup)?;
     let standby = empty_cache(alloc, setup)?;
+    let others = Vec::with_capacity(alloc, setup.seats as usize)?;
     let state = WriterState {
         active,
         standby: Some(standby),
-        lagging: Vec::new(alloc),
+        lagging: Lagging { own: None, others },
         length: 0,
         flips: 0,
         served: 0,
-        own: false,
     };
     Ok(Box::new(alloc, state)?)
 }

@@ -74,8 +74,8 @@ pub fn post(
     1 - toggle
 }
 
-/// The writer takes its own request back, which it has not collected. The result has its new
-/// toggle.
+/// The writer takes its own request back, which it has not collected, and has seen all then. The
+/// result has its new toggle.
 pub fn withdraw(
     shared: &SharedReplicas,
     who: &mut Participant,

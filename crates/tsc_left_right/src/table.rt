@@ -31,6 +31,23 @@ pub struct UnappliedAdd {
     pub moment: Timestamp,
 }
 
+/// An Add that the writer has made for another seat, and whether it was kept on its page.
+#[derive(Drop)]
+pub struct MadeAdd {
+    pub seat: u32,
+    pub kept: bool,
+    pub add: Box<UnappliedAdd>,
+}
+
+/// The Adds of the last batch, which the standby copy has not had yet.
+#[derive(Drop)]
+pub struct Lagging {
+    /// The writer's own, which comes first.
+    pub own: Option<UnappliedAdd>,
+    /// Those that it made for other seats. There is room for one of each seat.
+    pub others: Vec<MadeAdd>,
+}
+
 /// What the writer works with.
 #[derive(Drop)]
 pub struct WriterState {
@@ -38,15 +55,13 @@ pub struct WriterState {
     pub active: Arc<Cache>,
     /// The other copy, if it is there: it is after all Adds but those of `lagging`.
     pub standby: Option<Arc<Cache>>,
-    pub lagging: Vec<UnappliedAdd>,
+    pub lagging: Lagging,
     /// How many Adds there were.
     pub length: u64,
     /// How many flips there were: HEAD.
     pub flips: u64,
     /// The bits that SERVED is to have.
     pub served: u64,
-    /// Whether the first of `lagging` is the writer's own Add.
-    pub own: bool,
 }
 
 /// What the writer answers a seat whose Add it has made.

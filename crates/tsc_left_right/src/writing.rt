@@ -1,28 +1,26 @@
 //! What a writer does: it acquires the writer lock, waits until each reader has left the standby
 //! copy, installs handles on that copy, publishes, and releases the lock.
 //!
-//! How often it tries stands in `waiting.rt`, and what it does for other seats in `serving.rt`.
+//! What it does for other seats stands in `serving.rt`.
 ghost use Rattle.std.specs.Prelude.{◌≡◌, [], ◌+◌, length, None, Some, IfSome};
-ghost use Rattle.std.specs.Prelude.{IfNone, true, false};
+ghost use Rattle.std.specs.Prelude.{IfNone, true};
 ghost use Rattle.std.specs.Arc.{arc_value};
 ghost use Rattle.tsc_left_right.specs.Rule.{standby_side};
 ghost use Rattle.tsc_left_right.specs.Steps.{state_in, own_of, number_of};
-ghost use Rattle.tsc_left_right.specs.Waiting.{HasEnd};
 ghost use Rattle.tsc_left_right.specs.Writing.{LaidAs, rotated};
-ghost use Rattle.tsc_left_right.specs.Participating.{IsOf, IsFree, IsNext, AreSides, IsWriting};
-ghost use Rattle.tsc_left_right.specs.Participating.{HasAcquired, HasLock, HasInstalled, IsReady};
+ghost use Rattle.tsc_left_right.specs.Participating.{IsOf, IsFree, IsNext, IsWriting};
+ghost use Rattle.tsc_left_right.specs.Participating.{HasAcquired, HasInstalled, IsReady};
 ghost use Rattle.tsc_left_right.specs.Participating.{MayRelease};
 ghost use Rattle.tsc_left_right.specs.Participating.{hand_of, published_in, released_in};
 
 use crate::places::{HEAD, SERVED, epoch_word, has_left, side_slot};
 use crate::steps::{Acquire, Clear, Publish, Release, Serve};
 use crate::table::{Participant, ReadHandle, SharedReplicas, Slot, WriterState};
-use crate::waiting::WaitPolicy;
 use std::sync::Arc;
 use tsc_cache::Cache;
 
 /// Tries once to acquire the writer lock: `None` if somebody holds it.
-pub(crate) fn acquire(
+pub fn acquire(
     shared: &SharedReplicas,
     who: &mut Participant,
     number: u32,
@@ -44,7 +42,7 @@ pub(crate) fn acquire(
 
 /// Looks once whether the next seat, watched at this epoch before, has left the standby side. If so
 /// its slot there is taken, and is empty then. Else the result is the epoch at which it is watched.
-pub(crate) fn clear(
+pub fn clear(
     shared: &SharedReplicas,
     who: &mut Participant,
     seat: u32,
@@ -65,30 +63,6 @@ pub(crate) fn clear(
     shared.exchange(who, side_slot(seat, standby), Slot::Empty);
     who.turn();
     None
-}
-
-/// Takes the slots of all seats on the standby side. The result says whether each seat left that
-/// side before the policy gave up.
-pub fn wait_for_readers<P: WaitPolicy>(
-    policy: &P,
-    shared: &SharedReplicas,
-    who: &mut Participant,
-    seats: u32,
-    standby: u64,
-) -> bool
-    requires of { IsOf who.old shared.now.table_id }
-    requires sides { AreSides who.old.me.0 seats standby }
-    requires cleared { IsWriting who.old.me.0 who.old.me 0 None }
-    ensures table { who.new.table_id ≡ who.old.table_id }
-    ensures cleared { result ≡ true → IsWriting who.old.me.0 who.new.me seats None }
-    ensures pinned { result ≡ false → HasLock who.new.me × HasEnd (P.tries policy.now) }
-{
-    for seat in 0..seats {
-        if !policy.clear(shared, who, seat, standby) {
-            return false;
-        }
-    }
-    true
 }
 
 /// The first so many slots in hand go behind the others.

@@ -4,7 +4,7 @@ use Rattle.std.specs.Prelude.{cond, Ok, Err, IfOk, IfErr}
 use Rattle.std.proofs.lemmas.List.{length-map}
 use Rattle.std.proofs.lemmas.List.Sums.{sum_by-cons, sum_by_push}
 use Rattle.std.proofs.lemmas.List.Elements.{All-append, All-cons, All-nil, All-contains, Contains-append_left, Contains-push}
-use Rattle.tsc_shared_desk.proofs.Prefixes.{begins_length}
+use Rattle.tsc_left_right.proofs.Prefixes.{begins_length}
 use Rattle.tsc_cache.specs.History.{BeginsWith}
 use Rattle.tsc_trace_json.specs.Calls.{adds, call_fits}
 use Rattle.tsc_trace_json.specs.Traces.{EachFits}

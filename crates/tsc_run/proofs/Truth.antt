@@ -22,7 +22,7 @@ use Rattle.tsc_shared.specs.Answers.{GoesOn, Accepts, Closes, entry_by}
 use Rattle.tsc_shared.specs.declared.answers.Receipt.{Receipt}
 use Rattle.tsc_shared.specs.declared.answers.Closed.{Closed}
 use Rattle.tsc_cache.proofs.Beginnings.{begins_itself, begins_on}
-use Rattle.tsc_shared_desk.proofs.Prefixes.{begins_length, own_append, own_of_one, own_of_other}
+use Rattle.tsc_left_right.proofs.Prefixes.{begins_length, own_append, own_of_one, own_of_other}
 use Rattle.tsc_run.specs.Runs.{Says, Runs, RunsAll}
 
 -- ---- each line

@@ -9,7 +9,7 @@ use Rattle.std.proofs.lemmas.List.Sums.{sum_by-cons}
 use Rattle.tsc_cache.specs.declared.history.Entry.{Entry}
 use Rattle.tsc_cache.specs.Settings.{Settings}
 use Rattle.tsc_cache.specs.History.{History, own_count, BeginsWith, IsLegal}
-use Rattle.tsc_shared_desk.specs.Desk.{one_if}
+use Rattle.tsc_left_right.specs.Rule.{one_if}
 use Rattle.tsc_shared.specs.Seats.{SeatView}
 
 same_test : (a b : ℕ) → one_if (a == b) ≡ one_if (b == a)

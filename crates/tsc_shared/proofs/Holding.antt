@@ -1,71 +1,69 @@
--- What the holder of the desk knows of what it has in hand, and of its seat once it gave the desk back.
-use Rattle.std.proofs.Common.{◌≡◌, ◌∙◌, refl, sym, ap, subst, true, false, true≢false, ℕ, ◌<◌, [], ◌∷◌, length}
-use Rattle.std.specs.Prelude.{Bool, Option, None, Some, Err, Result, is_some, IsNone}
+-- What a seat is told of its Add, by what became of it.
+use Rattle.std.proofs.Common.{refl, ◌≡◌, ◌∙◌, sym, ap, subst, true, false, true≢false, ℕ, length, arith}
+use Rattle.std.specs.Prelude.{Bool, Option, Ok, Err, Result}
 use Rattle.atomic_table.specs.Seated.{TableId}
-use Rattle.tsc_cache.specs.History.{History}
-use Rattle.tsc_shared_desk.specs.declared.board.Terms.{Terms}
-use Rattle.tsc_shared_desk.specs.declared.board.Held.{Held}
-use Rattle.tsc_shared_desk.specs.declared.board.Slot.{Slot}
-use Rattle.tsc_shared_desk.specs.declared.board.View.{View}
-use Rattle.tsc_shared_desk.specs.Desk.{IsAfter}
-use Rattle.tsc_shared_desk.specs.DeskSteps.{At, Holds, clearing, number_of, seen_of, count_of}
-use Rattle.tsc_shared_desk.specs.AtDesk.{DeskSeat, IsSized, IsSeatAt, IsClearing, HasCleared}
+use Rattle.tsc_time.specs.declared.memory.NoMemory.{NoMemory}
+use Rattle.tsc_left_right.specs.declared.table.Knowledge.{Knowledge}
+use Rattle.tsc_left_right.specs.declared.table.UnappliedAdd.{UnappliedAdd}
+use Rattle.tsc_left_right.specs.Rule.{marks_in}
+use Rattle.tsc_left_right.specs.Steps.{At, seen_of}
+use Rattle.tsc_left_right.specs.Participating.{Participant, IsSized, IsOf}
+use Rattle.tsc_combining.specs.Writing.{IsAdded, IsNotAdded}
+use Rattle.tsc_combining.specs.declared.writing.NotAdded.{NotAdded}
+use Rattle.tsc_combining.specs.declared.writing.NotAdded.TheVariants.{HistoryFull, SeatInside}
+use Rattle.tsc_combining.specs.declared.writing.NotAdded.TheVariants as not_added
 use Rattle.tsc_shared.specs.declared.answers.AddFault.TheVariants.{TooLarge}
 use Rattle.tsc_shared.specs.declared.answers.Receipt.{Receipt}
 use Rattle.tsc_shared.specs.declared.answers.TryAddFault.{TryAddFault}
 use Rattle.tsc_shared.specs.declared.answers.TryAddFault.TheVariants.{Refused}
-use Rattle.tsc_shared.specs.Seats.{SeatView}
-use Rattle.tsc_shared.specs.Keeping.{seat_view}
-use Rattle.tsc_shared.specs.Answers.{Refuses}
-use Rattle.tsc_shared.proofs.SeatSteps.{Rested}
+use Rattle.tsc_shared.specs.Adding.{AcceptsCopy, GivesUp, fault_for}
+use Rattle.tsc_shared.specs.Answers.{Accepts, TryRefusedFor}
+use Rattle.tsc_shared.specs.Seats.{SharedView, SeatView, FrontView, IsSeat}
+use Rattle.tsc_shared.specs.Keeping.{cache_of, seat_view}
+use Rattle.tsc_shared.proofs.SeatSteps.{rests_unadded, accepted}
 
--- what lies on the desk is after the same history while seats are cleared
-pub after_cleared : (v : View) (me : At) (desk : Slot) (n : ℕ) (watched : Option ℕ) (held : Held) → IsClearing v me desk n watched → IsAfter v.terms (seen_of v) held → IsAfter me.0.terms (seen_of me.0) held
-after_cleared v me desk n watched held h after = subst (λ (m : At). IsAfter m.0.terms (seen_of m.0) held) (sym h.is) after
+-- a seat takes part in the table of its cache
+pub of_table : (p : Participant) (table : TableId) → p.table_id ≡ table → IsSized p.table_id p.me.0.setup.seats → IsOf p table
+of_table p table is sized = record { table = is; sized = subst (λ (x : TableId). IsSized x p.me.0.setup.seats) is sized }
 
--- the slots of the holder, by its own view
-pub cleared_self : (v : View) (me : At) (desk : Slot) (n : ℕ) → HasCleared v me desk n → HasCleared me.0 me desk n
-cleared_self v me desk n h = subst (λ (m : At). HasCleared m.0 m desk n) (sym h.is) (record { slots = h.slots; is = refl; filled = h.filled })
+-- what was copied was accepted
+pub accepts_made : (old new : Participant) (copied : Result UnappliedAdd NoMemory) (add : UnappliedAdd) (receipt : Receipt) (s s' : SeatView) → seat_view old ≡ s → s' ≡ seat_view new → IsSeat (seat_view old)
+    → new.table_id ≡ old.table_id → copied ≡ Ok add → IsAdded old.me.0 new.me add receipt.place receipt.added
+    → receipt.front ≡ record { cache = cache_of new; seen = seen_of new.me.0 } → AcceptsCopy copied s s' receipt
+accepts_made old new copied add receipt s s' is is' seat table copy a front =
+    subst (λ (x : Result UnappliedAdd NoMemory). AcceptsCopy x s s' receipt) (sym copy)
+    (subst (λ (x : SeatView). Accepts x s' (marks_in add.marks) add.moment receipt) is
+    (subst (λ (x : SeatView). Accepts (seat_view old) x (marks_in add.marks) add.moment receipt) (sym is') (accepted old new add receipt seat table a front)))
 
--- none is cleared where the desk was just taken
-pub none_cleared : (v : View) (me : At) (desk : Slot) (held : Held) → Holds v me.0 held → me.1 ≡ (0, desk) ∷ [] → HasCleared me.0 me desk 0
-none_cleared v me desk held h slot = record {
-  slots = [];
-  is = (λ i. (h.after i, slot i)) ∙ (λ i. let w = sym h.after i in (clearing w.terms (number_of w) (seen_of w) (count_of w) 0 None, (0, desk) ∷ []));
-  filled = refl;
-}
+-- Why none was made is why it is refused.
+refused_for : (old new : Participant) (tries : Option ℕ) (seen : ℕ) (why : NotAdded) → new.table_id ≡ old.table_id → IsSeat (seat_view old) → (n : IsNotAdded tries old.me.0 new.me seen why)
+    → TryRefusedFor (seat_view old) (seat_view new) (fault_for why (record { cache = cache_of old; seen = seen_of new.me.0 }))
+refused_for old new tries seen HistoryFull table seat n =
+    let r = rests_unadded old new tries seen HistoryFull seat table n in
+    record { front = refl; limit = omega (arith, ap length r.seen, n.limit, n.why_is) }
+refused_for old new tries seen not_added.NoMemory table seat n =
+    let r = rests_unadded old new tries seen not_added.NoMemory seat table n in omega (arith, ap length r.seen, n.why_is)
+refused_for old new tries seen SeatInside table seat n =
+    let r = rests_unadded old new tries seen SeatInside seat table n in omega (arith, ap length r.seen, n.why_is.0)
 
--- the terms are those of the seat that took the desk
-pub cleared_terms : (u v : View) (held : Held) (me : At) (desk : Slot) (n : ℕ) (watched : Option ℕ) → Holds u v held → IsClearing v me desk n watched → me.0.terms ≡ u.terms
-cleared_terms u v held me desk n watched h cleared = ap (λ (m : At). m.0.terms) cleared.is ∙ ap (λ (w : View). w.terms) h.after
+pub why_refused : (old new : Participant) (tries : Option ℕ) (seen : ℕ) (why : NotAdded) (fault : TryAddFault) (s s' : SeatView) → seat_view old ≡ s → s' ≡ seat_view new → new.table_id ≡ old.table_id → IsSeat (seat_view old)
+    → IsNotAdded tries old.me.0 new.me seen why → fault ≡ fault_for why (record { cache = cache_of new; seen = seen_of new.me.0 }) → TryRefusedFor s s' fault
+why_refused old new tries seen why fault s s' is is' table seat n told =
+    let r = rests_unadded old new tries seen why seat table n in
+    let same : fault ≡ fault_for why (record { cache = cache_of old; seen = seen_of new.me.0 })
+    = told ∙ ap (λ (x : SharedView). fault_for why (record { cache = x; seen = seen_of new.me.0 })) r.cache in
+    subst (λ (x : SeatView). TryRefusedFor x s' fault) is
+    (subst (λ (x : SeatView). TryRefusedFor (seat_view old) x fault) (sym is')
+    (subst (λ (x : TryAddFault). TryRefusedFor (seat_view old) (seat_view new) x) (sym same) (refused_for old new tries seen why table seat n)))
 
--- there is still room for an Add
-pub cleared_room : (u v : View) (held : Held) (me : At) (desk : Slot) (n : ℕ) (watched : Option ℕ) → (h : Holds u v held) → IsClearing v me desk n watched → length h.history < u.terms.limit → length (seen_of me.0) < me.0.terms.limit
-cleared_room u v held me desk n watched h cleared room =
-    subst (λ (m : At). length (seen_of m.0) < m.0.terms.limit) (sym cleared.is) (subst (λ (w : View). length (seen_of w) < w.terms.limit) (sym h.after) room)
+-- It is given up only where the tries have an end.
+gives_up_for : (tries : Option ℕ) (v : Knowledge) (me : At) (seen : ℕ) (why : NotAdded) (front : FrontView) → IsNotAdded tries v me seen why → GivesUp tries (fault_for why front)
+gives_up_for tries v me seen HistoryFull front n = tt
+gives_up_for tries v me seen not_added.NoMemory front n = tt
+gives_up_for tries v me seen SeatInside front n = n.why_is.1
 
--- it is still a seat of this desk
-pub still_of_desk : (old new : DeskSeat) (desk : TableId) → new.table_id ≡ old.table_id → old.table_id ≡ desk → new.me.0.terms ≡ old.me.0.terms → IsSized old.table_id old.me.0.terms.seats → IsSeatAt new desk
-still_of_desk old new desk table of_desk terms sized = record {
-  table = table ∙ of_desk;
-  sized = subst (λ (t : Terms). IsSized desk t.seats) (sym terms) (subst (λ (x : TableId). IsSized x old.me.0.terms.seats) of_desk sized);
-}
-
--- and so it is once it gave the desk back
-pub rested_of_desk : (old new : DeskSeat) (desk : TableId) (history : History) (count : ℕ) → Rested old new history count → new.table_id ≡ desk → IsSized old.table_id old.me.0.terms.seats → IsSeatAt new desk
-rested_of_desk old new desk history count r of_desk sized = record { table = of_desk; sized = subst (λ (x : TableId). IsSized x new.me.0.terms.seats) of_desk (r.resized sized) }
-
--- a seat that gave the desk back without an Add counts as many as before
-pub rested_refuses : (old new : DeskSeat) (history : History) (s : SeatView) → Rested old new history (count_of old.me.0) → seat_view old ≡ s → Refuses s (seat_view new)
-rested_refuses old new history s r is = record { count = r.counted ∙ ap (λ (x : SeatView). x.count) is }
-
--- and has seen fewer than there may be, where there was room
-pub rested_below : (old new : DeskSeat) (history : History) (count : ℕ) (s : SeatView) → Rested old new history count → seat_view old ≡ s → length history < old.me.0.terms.limit → length (seen_of new.me.0) < s.cache.limit
-rested_below old new history count s r is room = subst (λ (x : SeatView). length (seen_of new.me.0) < x.cache.limit) is (subst (λ (h : History). length h < old.me.0.terms.limit) (sym r.seen) room)
-
--- something that is there is not missing
-pub not_missing : {A : Type 0} (P : Type 0) (x : Option A) (a : A) → x ≡ Some a → IsNone x → P
-not_missing P x a is none = absurd (true≢false (sym (ap is_some is) ∙ none))
+pub gives_up : (v : Knowledge) (me : At) (tries : Option ℕ) (seen : ℕ) (why : NotAdded) (front : FrontView) (fault : TryAddFault) → IsNotAdded tries v me seen why → fault ≡ fault_for why front → GivesUp tries fault
+gives_up v me tries seen why front fault n told = subst (GivesUp tries) (sym told) (gives_up_for tries v me seen why front n)
 
 -- whether an Add was refused for its size
 abbrev pub is_too_large : Result Receipt TryAddFault → Bool
@@ -74,3 +72,11 @@ is_too_large other = false
 
 pub not_too_large : (x : Result Receipt TryAddFault) → is_too_large x ≡ false → x ≡ Err (Refused TooLarge) → ⊥
 not_too_large x other is = true≢false (sym (ap is_too_large is) ∙ other)
+
+fits_for : (why : NotAdded) (front : FrontView) → is_too_large (Err (fault_for why front)) ≡ false
+fits_for HistoryFull front = refl
+fits_for not_added.NoMemory front = refl
+fits_for SeatInside front = refl
+
+pub fault_fits : (why : NotAdded) (front : FrontView) (fault : TryAddFault) → fault ≡ fault_for why front → ◌≡◌ {A = Result Receipt TryAddFault} (Err fault) (Err (Refused TooLarge)) → ⊥
+fault_fits why front fault told = not_too_large (Err fault) (ap (λ (x : TryAddFault). is_too_large (Err x)) told ∙ fits_for why front)

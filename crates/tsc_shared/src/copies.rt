@@ -5,17 +5,21 @@ ghost use Rattle.tsc_shared.specs.Answers.{one_mark};
 
 use std::alloc::Global;
 use tsc_cache::Mark;
-use tsc_shared_desk::{Marks, Pending};
+use tsc_left_right::{MarkList, UnappliedAdd};
 use tsc_span::Span;
 use tsc_time::{NoMemory, Timestamp, Value};
 
 /// A copy of a mark, to be added at this moment.
-pub(crate) fn copy_of_one(span: &Span, value: Value, now: Timestamp) -> Result<Pending, NoMemory>
+pub(crate) fn copy_of_one(
+    span: &Span,
+    value: Value,
+    now: Timestamp,
+) -> Result<UnappliedAdd, NoMemory>
     ensures { IfOk result (IsCopyOf (one_mark span.now value) now) }
 {
     let span = span.try_copy()?;
-    Ok(Pending {
-        marks: Marks::One(Mark { span, value }),
+    Ok(UnappliedAdd {
+        marks: MarkList::One(Mark { span, value }),
         moment: now,
     })
 }
@@ -25,7 +29,7 @@ pub(crate) fn copy_of_all(
     alloc: Global,
     marks: &[Mark],
     now: Timestamp,
-) -> Result<Pending, NoMemory>
+) -> Result<UnappliedAdd, NoMemory>
     ensures { IfOk result (IsCopyOf marks.now now) }
 {
     let mut copies = Vec::with_capacity(alloc, marks.len())?;
@@ -35,8 +39,8 @@ pub(crate) fn copy_of_all(
             value: mark.value,
         })?;
     }
-    Ok(Pending {
-        marks: Marks::Many(copies),
+    Ok(UnappliedAdd {
+        marks: MarkList::Many(copies),
         moment: now,
     })
 }

@@ -1,4 +1,4 @@
-use Rattle.std.proofs.Common.{◌∙◌, sym, ap, arith, ◌∷◌}
+use Rattle.std.proofs.Common.{◌∙◌, sym, ap, arith, ◌∷◌, rules}
 use mathlib.Core.Option as maybe
 use Rattle.atomic_table.specs.Table.{step, rest}
 use Rattle.tsc_left_right.proofs.RequestCalls.{put_back_at}
@@ -24,3 +24,6 @@ load-requires c = (
       c.requires.may
       c.request_slot.ensures.value c.exchange.ensures.3,
 )
+
+pub returns-clause-back : goal.returns-clause-back
+returns-clause-back c = search rules

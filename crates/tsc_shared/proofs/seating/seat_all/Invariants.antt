@@ -6,5 +6,5 @@ use Rattle.tsc_shared.proofs.seating.seat_all.Given as goal
 
 abbrev pub invariant-loop-number : goal.invariant-loop-number
 invariant-loop-number l =
-    (l.all.table_id ≡ l.fn.all.table_id) × (l.all.me ≡ left_over l.fn.terms l.number l.fn.terms.seats)
-    × (l.seats.items ++ new_seats (shared_view l.fn.desk.table_id l.fn.terms) l.number (l.fn.terms.seats - l.number) ≡ new_seats (shared_view l.fn.desk.table_id l.fn.terms) 0 l.fn.terms.seats)
+    (l.all.table_id ≡ l.fn.all.table_id) × (l.all.me ≡ left_over l.fn.setup l.number l.fn.setup.seats)
+    × (l.seats.items ++ new_seats (shared_view l.fn.shared.table_id l.fn.setup) l.number (l.fn.setup.seats - l.number) ≡ new_seats (shared_view l.fn.shared.table_id l.fn.setup) 0 l.fn.setup.seats)

@@ -8,8 +8,8 @@ use Rattle.tsc_shared.proofs.shared.SharedCache.add_mark.Goals as goal
 
 pub add_copy-requires-clause-made : goal.add_copy-requires-clause-made
 add_copy-requires-clause-made g c =
-    let fit : fits c.self.inside.terms.config c.args.span.now ≡ true = subst (λ (cache : SharedView). fits cache.config c.args.span.now ≡ true) (sym c.self.view_is) (sym c.fits.ensures ∙ c.if-not-fits.false) in
-    copy_added c.self.inside.terms.config _ (one_mark c.args.span.now c.args.value) c.args.now _ (ap (λ (cache : SharedView). cache.config) (sym c.self.view_is)) c.copy_of_one-copied.ensures (c.can_be_added.ensures fit)
+    let fit : fits c.self.inside.setup.config c.args.span.now ≡ true = subst (λ (cache : SharedView). fits cache.config c.args.span.now ≡ true) (sym c.self.view_is) (sym c.fits.ensures ∙ c.if-not-fits.false) in
+    copy_added c.self.inside.setup.config _ (one_mark c.args.span.now c.args.value) c.args.now _ (ap (λ (cache : SharedView). cache.config) (sym c.self.view_is)) c.copy_of_one-copied.ensures (c.can_be_added.ensures fit)
 
 pub returns-clause-answers : goal.returns-clause-answers
 returns-clause-answers g c = record {

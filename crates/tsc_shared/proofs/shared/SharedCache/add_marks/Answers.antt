@@ -7,8 +7,8 @@ use Rattle.tsc_shared.proofs.shared.SharedCache.add_marks.Goals as goal
 
 pub add_copy-requires-clause-made : goal.add_copy-requires-clause-made
 add_copy-requires-clause-made g c =
-    let fit : all_fit c.self.inside.terms.config c.args.marks.now ≡ true = subst (λ (cache : SharedView). all_fit cache.config c.args.marks.now ≡ true) (sym c.self.view_is) (sym c.fits_all.ensures ∙ c.if-not-fits_all.false) in
-    copy_added c.self.inside.terms.config _ c.args.marks.now c.args.now _ (ap (λ (cache : SharedView). cache.config) (sym c.self.view_is)) c.copy_of_all-copied.ensures (c.can_all_be_added.ensures fit)
+    let fit : all_fit c.self.inside.setup.config c.args.marks.now ≡ true = subst (λ (cache : SharedView). all_fit cache.config c.args.marks.now ≡ true) (sym c.self.view_is) (sym c.fits_all.ensures ∙ c.if-not-fits_all.false) in
+    copy_added c.self.inside.setup.config _ c.args.marks.now c.args.now _ (ap (λ (cache : SharedView). cache.config) (sym c.self.view_is)) c.copy_of_all-copied.ensures (c.can_all_be_added.ensures fit)
 
 pub returns-clause-answers : goal.returns-clause-answers
 returns-clause-answers g c = record {

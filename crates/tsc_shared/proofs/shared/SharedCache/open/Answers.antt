@@ -1,8 +1,8 @@
 use Rattle.std.proofs.Common.{rules}
 use Rattle.tsc_shared.proofs.shared.SharedCache.open.Goals as goal
 
-pub returns-in_err-desk-clause-refused : goal.returns-in_err-desk-clause-refused
-returns-in_err-desk-clause-refused c = search rules
+pub returns-in_err-replicas-clause-refused : goal.returns-in_err-replicas-clause-refused
+returns-in_err-replicas-clause-refused c = search rules
 
 pub returns-in_err-seats-clause-refused : goal.returns-in_err-seats-clause-refused
 returns-in_err-seats-clause-refused c = search rules

@@ -1,0 +1,5 @@
+pub mod AddingUp
+pub mod InPlace
+pub mod Making
+pub mod Turns
+pub mod Outcomes

@@ -1,0 +1,4 @@
+use Rattle.tsc_combining.proofs.waiting.BoundedWaitPolicy.clear.Goals as goal
+
+pub returns-clause-pinned : goal.returns-clause-pinned
+returns-clause-pinned c = λ _. ((c.args.seat, c.loop.watched, c.loop.invariant.6), tt)

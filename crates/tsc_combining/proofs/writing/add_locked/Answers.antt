@@ -1,0 +1,26 @@
+use Rattle.std.proofs.Common.{refl, ap, subst, ◌<◌}
+use Rattle.tsc_combining.proofs.Outcomes.{can_make_ready, is_added_alone, is_not_added}
+use Rattle.tsc_combining.proofs.writing.add_locked.Goals as goal
+
+pub finish-requires-clause-ready : goal.finish-requires-clause-ready
+finish-requires-clause-ready g c =
+    can_make_ready c.args.copied c.args.who.now.me.0 c.prepare_copy.new.who.me c.in-Ok.field-0
+    c.in-Ok.ensures.made
+
+pub returns-in-Ok-clause-outcome : goal.returns-in-Ok-clause-outcome
+returns-in-Ok-clause-outcome g c =
+    is_added_alone c.args.who.now.me c.prepare_copy.new.who.me c.finish.new.who.me
+    c.args.state.value c.args.setup.now c.args.copied c.in-Ok.field-0 c.deref.result.now.length
+    c.requires.writer c.requires.setup c.requires.make c.in-Ok.ensures.made c.finish.ensures.done
+    (ap (λ s. s.length) c.deref.ensures)
+    (refl, subst (λ n. n < c.args.who.now.me.0.setup.seats) c.requires.number.0 c.requires.number.1)
+
+pub release-seen-requires-clause-may : goal.release-seen-requires-clause-may
+release-seen-requires-clause-may g c = c.in-Err.ensures.left.leave.release
+
+pub returns-in-Err-clause-outcome : goal.returns-in-Err-clause-outcome
+returns-in-Err-clause-outcome g c =
+    is_not_added (g.P.WaitPolicy.tries c.args.policy.now) c.args.who.now.me
+    c.prepare_copy.new.who.me c.release-seen.new.who.me c.args.state.value c.in-Err.field-0
+    c.release-seen.result c.requires.writer c.in-Err.ensures.left c.release-seen.ensures.released
+    c.release-seen.ensures.length

@@ -1,0 +1,74 @@
+use Rattle.std.proofs.Common.{sym, ap, subst, arith, IfOk, None}
+use Rattle.tsc_left_right.specs.Rule.{CanBe}
+use Rattle.tsc_combining.specs.Writing.{HoldsState, MayMake}
+use Rattle.tsc_combining.proofs.Outcomes.{leaves_at, new_writes, holds_state, may_make}
+use Rattle.tsc_combining.proofs.writing.prepare_copy.Goals as goal
+
+pub returns-then-deref-setup-clause-left : goal.returns-then-deref-setup-clause-left
+returns-then-deref-setup-clause-left g c =
+    let me = c.args.who.now.me in
+    let state = c.args.state.value in record {
+      leave = leaves_at me me 0 None state c.requires.writer
+          (new_writes me state c.requires.writer);
+      why = omega (
+        arith,
+        c.if-deref-setup.true,
+        ap (λ s. s.length) c.deref.ensures,
+        c.requires.writer.is_after.length,
+        ap (λ t. t.limit) c.requires.setup,
+      );
+    }
+
+pub returns-in_default-clause-left : goal.returns-in_default-clause-left
+returns-in_default-clause-left g c =
+    let me = c.args.who.now.me in
+    let state = c.args.state.value in record {
+      leave = leaves_at me me 0 None state c.requires.writer
+          (new_writes me state c.requires.writer);
+      why = omega (
+        arith,
+        c.if-deref-setup.false,
+        ap (λ s. s.length) c.deref.ensures,
+        c.requires.writer.is_after.length,
+        ap (λ t. t.limit) c.requires.setup,
+      );
+    }
+
+pub returns-then-not-wait_for_readers-clause-left :
+    goal.returns-then-not-wait_for_readers-clause-left
+returns-then-not-wait_for_readers-clause-left g c =
+    let me = c.args.who.now.me in
+    let state = c.args.state.value in
+    let p = c.wait_for_readers.ensures.pinned c.if-not-wait_for_readers.true in record {
+      leave = leaves_at me c.wait_for_readers.new.who.me p.0.0 p.0.1 state c.requires.writer p.0.2;
+      why = (
+        omega (
+          arith,
+          c.if-deref-setup.false,
+          ap (λ s. s.length) c.deref.ensures,
+          c.requires.writer.is_after.length,
+          ap (λ t. t.limit) c.requires.setup,
+        ),
+        p.1,
+      );
+    }
+
+pub prepare-requires-clause-state : goal.prepare-requires-clause-state
+prepare-requires-clause-state g c =
+    let me = c.args.who.now.me in
+    subst (HoldsState c.wait_for_readers.new.who.me c.args.setup.now.seats)
+    (sym c.deref_mut.ensures.value)
+    (holds_state me c.wait_for_readers.new.who.me c.args.setup.now.seats c.args.state.value
+    c.requires.writer (c.wait_for_readers.ensures.cleared c.if-not-wait_for_readers.false))
+
+pub prepare-requires-clause-make : goal.prepare-requires-clause-make
+prepare-requires-clause-make g c =
+    let me = c.args.who.now.me in
+    let state = c.args.state.value in
+    let setup = c.args.setup.now in
+    subst (λ s. MayMake c.wait_for_readers.new.who.me s c.in-Ok.add)
+    (sym c.deref_mut.ensures.value)
+    (may_make me c.wait_for_readers.new.who.me setup state c.in-Ok.add setup.seats
+    c.requires.writer (c.wait_for_readers.ensures.cleared c.if-not-wait_for_readers.false)
+    c.requires.setup (subst (λ r. IfOk r (CanBe setup)) c.in-Ok.is c.requires.make)
+    (omega (arith, c.if-deref-setup.false, ap (λ s. s.length) c.deref.ensures)))

@@ -1,0 +1,5 @@
+pub mod Waiting
+pub mod Asking
+pub mod Adding
+pub mod Serving
+pub mod Writing

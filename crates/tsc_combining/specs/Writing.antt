@@ -1,0 +1,176 @@
+-- How a seat's Add is made. (For private contracts.)
+use Rattle.std.specs.Prelude.{◌≡◌, ℕ, ◌+◌, ◌<◌, ◌≤◌, List, [], ◌∷◌, ◌++◌, length, Bool, true, false}
+use Rattle.std.specs.Prelude.{Option, Some, None, Result, Ok, Err}
+use Rattle.std.specs.Arc.{arc_value}
+use Rattle.std.specs.declared.sync.Arc.{Arc}
+use Rattle.std.specs.declared.alloc.Global.{Global}
+use Rattle.tsc_time.specs.declared.memory.NoMemory.{NoMemory}
+use Rattle.tsc_cache.specs.declared.added.Added.{Added}
+use Rattle.tsc_cache.specs.State.{step_all}
+use Rattle.tsc_cache.specs.CacheView.{CacheView}
+use Rattle.tsc_cache.specs.History.{History, own_count, state_of, BeginsWith, IsLegal}
+use Rattle.tsc_left_right.specs.declared.table.UnappliedAdd.{UnappliedAdd}
+use Rattle.tsc_left_right.specs.declared.table.WriterState.{WriterState}
+use Rattle.tsc_left_right.specs.declared.table.Collected.{Collected}
+use Rattle.tsc_left_right.specs.declared.table.Knowledge.{Knowledge}
+use Rattle.tsc_left_right.specs.declared.table.Slot.TheVariants.{Empty}
+use Rattle.tsc_left_right.specs.Rule.{at_rest, entry_of, marks_in, CanBe, IsAfter}
+use Rattle.tsc_left_right.specs.Steps.{At, state_in, with_state, seated, number_of, seen_of}
+use Rattle.tsc_left_right.specs.Steps.{count_of, acquired, own_of, with_own, grown, all_made}
+use Rattle.tsc_combining.specs.Waiting.{HasEnd}
+use Rattle.tsc_left_right.specs.Participating.{IsWriting, HasInstalled, IsReady, MayRelease}
+use Rattle.tsc_left_right.specs.Participating.{released_in}
+use Rattle.tsc_combining.specs.Asking.{resting}
+use Rattle.tsc_combining.specs.declared.writing.Prepared.{Prepared}
+use Rattle.tsc_combining.specs.declared.writing.Aborted.{Aborted}
+use Rattle.tsc_combining.specs.declared.writing.NotAdded.{NotAdded}
+use Rattle.tsc_combining.specs.declared.writing.NotAdded.TheVariants as not_added
+use Rattle.tsc_combining.specs.declared.writing.Outcome.{Outcome}
+use Rattle.tsc_combining.specs.declared.writing.Outcome.TheVariants.{Busy, Made, Refused}
+use Rattle.tsc_combining.specs.Adding.{AllFit}
+use Rattle.tsc_combining.specs.Serving.{AreMade}
+
+-- A writer that has just acquired the lock: it has seen all, and nothing is cleared or collected.
+-- What it works with is in its hand.
+pub record IsNewWriter (me : At) (state : WriterState) : Type 0 where
+  pub flips : ℕ
+  pub is : me ≡ (
+    with_state me.0
+        (acquired (at_rest (number_of me.0) (seen_of me.0) (count_of me.0)) (seen_of me.0) flips
+        state.served),
+    (0, Empty) ∷ [],
+  )
+  pub legal : IsLegal me.0.setup.config me.0.setup.seats (seen_of me.0)
+  pub own : own_count (number_of me.0) (seen_of me.0) ≡ count_of me.0
+  pub limit : length (seen_of me.0) ≤ me.0.setup.limit
+  pub few : flips ≤ length (seen_of me.0)
+  pub is_after : IsAfter me.0.setup (seen_of me.0) flips state
+
+-- The same writer when it has cleared so many seats.
+pub record HoldsState (me : At) (cleared : ℕ) (state : WriterState) : Type 0 where
+  pub writing : IsWriting me.0 me cleared None
+  pub none : (state_in me.0).collected ≡ []
+  pub asks_none : (state_in me.0).request ≡ None
+  pub seen : (state_in me.0).history ≡ seen_of me.0
+  pub legal : IsLegal me.0.setup.config me.0.setup.seats (seen_of me.0)
+  pub few : (state_in me.0).flips ≤ length (seen_of me.0)
+  pub is_after : IsAfter me.0.setup (seen_of me.0) (state_in me.0).flips state
+  pub served : state.served ≡ (state_in me.0).served
+
+-- It can make this Add, for which there is room.
+pub record MayMake (me : At) (state : WriterState) (add : UnappliedAdd) : Type 0 where
+  pub can : CanBe me.0.setup add
+  pub fits : AllFit state add
+  pub room : state.length < me.0.setup.limit
+
+-- The copies are swapped.
+pub record IsSwapped (old : WriterState) (next : Arc CacheView Global) (add : UnappliedAdd)
+    (count : ℕ) (new : WriterState) : Type 0 where
+  pub active : new.active ≡ next
+  pub standby : new.standby ≡ Some old.active
+  pub own : new.lagging.own ≡ Some add
+  pub others_same : new.lagging.others ≡ old.lagging.others
+  pub length : new.length ≡ old.length + 1 + count
+  pub flips : new.flips ≡ old.flips + 1
+  pub served : new.served ≡ old.served
+
+-- All is prepared that is to be published.
+pub record IsReadyToFinish (me : At) (state : WriterState) : Type 0 where
+  pub installed : HasInstalled me.0 me (arc_value state.active) state.length me.0.setup.seats
+  pub ready : IsReady me.0 state
+  pub made : AreMade me.0.setup (with_own (state_in me.0) (own_of state))
+      (state_in me.0).collected state.lagging.others.items
+  pub served : state.served ≡ (state_in me.0).served
+
+-- The writer has published, and what it has made for others is not answered yet.
+pub record HasPublished (me : At) (state : WriterState) : Type 0 where
+  pub history : History
+  pub xs : List Collected
+  pub writing : IsWriting me.0 me 0 None
+  pub collected : (state_in me.0).collected ≡ all_made history xs
+  pub all : (state_in me.0).history ≡ grown history xs
+  pub is_after : IsAfter me.0.setup (state_in me.0).history (state_in me.0).flips state
+  pub made : AreMade me.0.setup history xs state.lagging.others.items
+  pub served : state.served ≡ (state_in me.0).served
+
+-- The writer of v has its Add prepared, and what it makes for others.
+pub record IsPrepared (v : Knowledge) (me : At) (add : UnappliedAdd) (state : WriterState)
+    (added : Added) : Type 0 where
+  pub ready : IsReadyToFinish me state
+  pub own : state.lagging.own ≡ Some add
+  pub same : released_in me.0 ≡ released_in v
+  pub seen : (state_in me.0).history ≡ seen_of v
+  pub below : length (seen_of v) < v.setup.limit
+  pub added_is : added ≡ (step_all v.setup.config (state_of v.setup.config (seen_of v))
+      (marks_in add.marks) add.moment).added
+
+-- That Add is the one that was copied.
+abbrev pub CanMake : Result UnappliedAdd NoMemory → Knowledge → At → Prepared → Type 0
+CanMake (Ok add) v me made = IsPrepared v me add made.state.value made.added
+CanMake (Err refused) v me made = ⊥
+
+-- The writer of v makes no Add, and may release the lock.
+pub record MayLeave (v : Knowledge) (me : At) (state : WriterState) : Type 0 where
+  pub release : MayRelease me state
+  pub same : released_in me.0 ≡ released_in v
+  pub seen : (state_in me.0).history ≡ seen_of v
+
+-- Why it does not make its Add: the history is full; or there was room, and memory was refused, or
+-- the tries came to their end.
+abbrev pub IsHindered : Option ℕ → ℕ → ℕ → NotAdded → Type 0
+IsHindered tries length limit not_added.HistoryFull = limit ≤ length
+IsHindered tries length limit not_added.NoMemory = length < limit
+IsHindered tries length limit not_added.SeatInside = (length < limit) × HasEnd tries
+
+-- It makes none for one of these reasons.
+pub record IsAborted (tries : Option ℕ) (v : Knowledge) (me : At) (left : Aborted) : Type 0 where
+  pub leave : MayLeave v me left.state.value
+  pub why : IsHindered tries (length (seen_of v)) v.setup.limit left.why
+
+-- An Add of the seat of v was made at this place, after a history that begins with all that it had
+-- seen. The seat is at rest.
+pub record IsAdded (v : Knowledge) (me : At) (add : UnappliedAdd) (place : ℕ) (added : Added)
+    : Type 0 where
+  pub before : History
+  pub after : me ≡ (
+    seated v.setup (number_of v)
+        (before ++ entry_of (number_of v) (count_of v) add ∷ []) (count_of v + 1),
+    [],
+  )
+  pub begins : BeginsWith before (seen_of v)
+  pub legal : IsLegal v.setup.config v.setup.seats
+      (before ++ entry_of (number_of v) (count_of v) add ∷ [])
+  pub own : own_count (number_of v) before ≡ count_of v
+  pub below : length before < v.setup.limit
+  pub place_is : place ≡ length before
+  pub added_is : added ≡ (step_all v.setup.config (state_of v.setup.config before)
+      (marks_in add.marks) add.moment).added
+
+-- None was made. The seat is at rest, and has seen all.
+pub record IsNotAdded (tries : Option ℕ) (v : Knowledge) (me : At) (seen : ℕ) (why : NotAdded)
+    : Type 0 where
+  pub history : History
+  pub after : me ≡ (seated v.setup (number_of v) history (count_of v), [])
+  pub begins : BeginsWith history (seen_of v)
+  pub legal : IsLegal v.setup.config v.setup.seats history
+  pub own : own_count (number_of v) history ≡ count_of v
+  pub limit : length history ≤ v.setup.limit
+  pub long : seen ≡ length history
+  pub why_is : IsHindered tries (length history) v.setup.limit why
+
+-- What became of a seat's Add, by a copy of it.
+abbrev pub IsOutcome : Option ℕ → Result UnappliedAdd NoMemory → Knowledge → At → Outcome → Type 0
+IsOutcome tries copied v me Busy = (me ≡ (resting v, [])) × HasEnd tries
+IsOutcome tries copied v me (Made place added by_other) =
+    (add : UnappliedAdd) × (copied ≡ Ok add) × IsAdded v me add place added
+IsOutcome tries copied v me (Refused seen why) = IsNotAdded tries v me seen why
+
+abbrev pub is_added : Outcome → Bool
+is_added Busy = false
+is_added (Made place added by_other) = true
+is_added (Refused seen why) = false
+
+abbrev pub IsBusy : Outcome → Type 0
+IsBusy Busy = Unit {0}
+IsBusy (Made place added by_other) = ⊥
+IsBusy (Refused seen why) = ⊥

@@ -1,0 +1,251 @@
+//! How a writer waits: until it is so, or for so many tries.
+ghost use Rattle.std.specs.Prelude.{◌≡◌, ◌+◌, ℕ, Option, Some, None, IfSome, IfNone, IsNone, true};
+ghost use Rattle.std.specs.Prelude.{false, ◌<◌};
+ghost use Rattle.tsc_left_right.specs.Steps.{number_of};
+ghost use Rattle.tsc_left_right.specs.Rule.{CanBe};
+ghost use Rattle.tsc_combining.specs.Waiting.{HasEnd, StillWrites};
+ghost use Rattle.tsc_combining.specs.Asking.{HasTurn, IsBusy, IsTurn};
+ghost use Rattle.tsc_left_right.specs.Participating.{IsAtRest, IsNumber};
+ghost use Rattle.tsc_left_right.specs.Participating.{IsOf, IsFree, IsNext, AreSides, IsWriting};
+ghost use Rattle.tsc_left_right.specs.Participating.{HasAcquired};
+
+use crate::asking::{Asked, Turn, wait_for_answer};
+use crossbeam_utils::Backoff;
+use std::alloc::Global;
+use std::sync::Wait;
+use tsc_left_right::{
+    Participant, SharedReplicas, UnappliedAdd, WriterState, acquire, clear, fetch, post,
+};
+
+/// How often one tries to acquire the writer lock, and then looks whether a seat has left the
+/// standby side.
+pub trait WaitPolicy {
+    /// So often, or without an end.
+    ghost tries: { Self → Option ℕ };
+
+    /// Acquires the writer lock, once it is free: `None` if it was held at each try.
+    fn acquire(
+        &self,
+        shared: &SharedReplicas,
+        who: &mut Participant,
+        number: u32,
+    ) -> Option<Box<WriterState>>
+        requires of { IsOf who.old shared.now.table_id }
+        requires free { IsFree who.old.me × (number ≡ number_of who.old.me.0) }
+        ensures table { who.new.table_id ≡ who.old.table_id }
+        ensures acquired { IfSome result (λ state. HasAcquired who.old.me.0 who.new.me
+            state.value) }
+        ensures busy { IfNone result ((who.new.me ≡ who.old.me) × HasEnd (tries self.now)) }
+        ensures no_try { tries self.now ≡ Some 0 → IsNone result };
+
+    /// Acquires the writer lock with this Add, or has it made by the seat that has the lock. An
+    /// eager seat asks that seat at once, and waits for it a little. Any other seat tries the lock
+    /// first.
+    fn ask(
+        &self,
+        alloc: Global,
+        shared: &SharedReplicas,
+        who: &mut Participant,
+        number: u32,
+        add: UnappliedAdd,
+        eager: bool,
+    ) -> Turn
+        requires of { IsOf who.old shared.now.table_id }
+        requires rest { IsAtRest who.old.me }
+        requires number { IsNumber who.old.me.0 number × (number < 64) }
+        requires can { CanBe who.old.me.0.setup add }
+        ensures table { who.new.table_id ≡ who.old.table_id }
+        ensures turn { HasTurn add (tries self.now) who.old.me who.new.me result }
+        ensures no_try { tries self.now ≡ Some 0 → IsBusy result };
+
+    /// Takes the slot of the next seat on the standby side, once that seat has left it. It tells
+    /// whether the seat left it.
+    fn clear(&self, shared: &SharedReplicas, who: &mut Participant, seat: u32, standby: u64) -> bool
+        requires of { IsOf who.old shared.now.table_id }
+        requires next { IsNext who.old.me.0 seat standby }
+        requires cleared { IsWriting who.old.me.0 who.old.me seat None }
+        ensures table { who.new.table_id ≡ who.old.table_id }
+        ensures cleared { result ≡ true → IsWriting who.old.me.0 who.new.me (seat + 1) None }
+        ensures pinned { result ≡ false → StillWrites who.old.me.0 who.new.me
+            × HasEnd (tries self.now) };
+}
+
+/// The turn of a seat that has tried to acquire the lock for this Add.
+fn acquired(state: Option<Box<WriterState>>, add: UnappliedAdd) -> Turn
+    ensures { IsTurn state add result }
+{
+    match state {
+        Some(state) => Turn::Acquired(state, add),
+        None => Turn::Busy,
+    }
+}
+
+/// Tries once to acquire the lock, unless the seat is eager to ask.
+fn acquire_first(
+    shared: &SharedReplicas,
+    who: &mut Participant,
+    number: u32,
+    eager: bool,
+) -> Option<Box<WriterState>>
+    requires of { IsOf who.old shared.now.table_id }
+    requires free { IsFree who.old.me × (number ≡ number_of who.old.me.0) }
+    ensures table { who.new.table_id ≡ who.old.table_id }
+    ensures acquired { IfSome result (λ state. HasAcquired who.old.me.0 who.new.me state.value) }
+    ensures busy { IfNone result (who.new.me ≡ who.old.me) }
+{
+    if eager {
+        None
+    } else {
+        acquire(shared, who, number)
+    }
+}
+
+/// Until it is so.
+#[derive(Drop)]
+pub struct Blocking<'r, R>(pub &'r R);
+
+impl<'r, R: Wait> WaitPolicy for Blocking<'r, R> {
+    ghost tries = { λ _. None };
+
+    fn acquire(
+        &self,
+        shared: &SharedReplicas,
+        who: &mut Participant,
+        number: u32,
+    ) -> Option<Box<WriterState>> {
+        let backoff = Backoff::new();
+        for _ in self.0.forever() {
+            if let Some(state) = acquire(shared, who, number) {
+                return Some(state);
+            }
+            backoff.snooze();
+        }
+        unreachable!()
+    }
+
+    fn ask(
+        &self,
+        alloc: Global,
+        shared: &SharedReplicas,
+        who: &mut Participant,
+        number: u32,
+        add: UnappliedAdd,
+        eager: bool,
+    ) -> Turn {
+        if let Some(state) = acquire_first(shared, who, number, eager) {
+            return Turn::Acquired(state, add);
+        }
+        let add = match Box::new(alloc, add) {
+            Ok(add) => add,
+            Err(refused) => return acquired(self.acquire(shared, who, number), refused.value),
+        };
+        let toggle = fetch(shared, who, number);
+        let toggle = post(shared, who, number, toggle, add);
+        match wait_for_answer(self.0, shared, who, number, toggle, eager) {
+            Asked::Made(reply) => Turn::Made(reply),
+            Asked::SentBack(add) => {
+                acquired(self.acquire(shared, who, number), Box::into_inner(add))
+            }
+            Asked::Acquired(state, add) => Turn::Acquired(state, Box::into_inner(add)),
+        }
+    }
+
+    fn clear(
+        &self,
+        shared: &SharedReplicas,
+        who: &mut Participant,
+        seat: u32,
+        standby: u64,
+    ) -> bool {
+        let backoff = Backoff::new();
+        let mut watched = None;
+        for _ in self.0.forever() {
+            let Some(epoch) = clear(shared, who, seat, standby, watched) else {
+                return true;
+            };
+            watched = Some(epoch);
+            backoff.snooze();
+        }
+        unreachable!()
+    }
+}
+
+/// So many times, without a rest but for a few idle steps.
+#[derive(Clone, Copy)]
+pub struct Bounded(pub u32);
+
+impl WaitPolicy for Bounded {
+    ghost tries = { λ t. Some t.0 };
+
+    fn acquire(
+        &self,
+        shared: &SharedReplicas,
+        who: &mut Participant,
+        number: u32,
+    ) -> Option<Box<WriterState>> {
+        let backoff = Backoff::new();
+        for _ in 0..self.0 {
+            if let Some(state) = acquire(shared, who, number) {
+                return Some(state);
+            }
+            backoff.spin();
+        }
+        None
+    }
+
+    fn ask(
+        &self,
+        _alloc: Global,
+        shared: &SharedReplicas,
+        who: &mut Participant,
+        number: u32,
+        add: UnappliedAdd,
+        _eager: bool,
+    ) -> Turn {
+        acquired(self.acquire(shared, who, number), add)
+    }
+
+    fn clear(
+        &self,
+        shared: &SharedReplicas,
+        who: &mut Participant,
+        seat: u32,
+        standby: u64,
+    ) -> bool {
+        let backoff = Backoff::new();
+        let mut watched = None;
+        for _ in 0..self.0 {
+            let Some(epoch) = clear(shared, who, seat, standby, watched) else {
+                return true;
+            };
+            watched = Some(epoch);
+            backoff.spin();
+        }
+        false
+    }
+}
+
+/// Takes the slots of all seats on the standby side. The result says whether each seat left that
+/// side before the policy gave up.
+pub fn wait_for_readers<P: WaitPolicy>(
+    policy: &P,
+    shared: &SharedReplicas,
+    who: &mut Participant,
+    seats: u32,
+    standby: u64,
+) -> bool
+    requires of { IsOf who.old shared.now.table_id }
+    requires sides { AreSides who.old.me.0 seats standby }
+    requires cleared { IsWriting who.old.me.0 who.old.me 0 None }
+    ensures table { who.new.table_id ≡ who.old.table_id }
+    ensures cleared { result ≡ true → IsWriting who.old.me.0 who.new.me seats None }
+    ensures pinned { result ≡ false → StillWrites who.old.me.0 who.new.me
+        × HasEnd (P.tries policy.now) }
+{
+    for seat in 0..seats {
+        if !policy.clear(shared, who, seat, standby) {
+            return false;
+        }
+    }
+    true
+}

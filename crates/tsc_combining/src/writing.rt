@@ -1,0 +1,413 @@
+//! How a seat's Add is made: by the seat itself, once it has the writer lock, or by another.
+ghost use Rattle.std.specs.Prelude.{◌≡◌, ◌+◌, ◌^◌, ◌<◌, [], length, false, None, Some, IfOk};
+ghost use Rattle.std.specs.Prelude.{IfErr, OnErr, Ok};
+ghost use Rattle.tsc_left_right.specs.Rule.{CanBe};
+ghost use Rattle.tsc_left_right.specs.Steps.{state_in, own_of};
+ghost use Rattle.tsc_left_right.specs.Participating.{IsOf, IsAtRest, IsNumber, published_in};
+ghost use Rattle.tsc_left_right.specs.Participating.{released_in, MayRelease};
+ghost use Rattle.tsc_combining.specs.Adding.{AllFit, IsCaughtUp};
+ghost use Rattle.tsc_combining.specs.Writing.{IsBusy, IsNewWriter, HoldsState, MayMake, CanMake};
+ghost use Rattle.tsc_combining.specs.Writing.{IsPrepared, MayLeave};
+ghost use Rattle.tsc_combining.specs.Writing.{IsAborted, IsReadyToFinish, HasPublished, IsSwapped};
+ghost use Rattle.tsc_combining.specs.Writing.{IsOutcome, is_added};
+
+use crate::adding::take_next;
+use crate::asking::Turn;
+use crate::gate::{Gate, Notice};
+use crate::serving::{answer_all, send_all_back, serve_all};
+use crate::waiting::{WaitPolicy, wait_for_readers};
+use std::alloc::Global;
+use std::mem;
+use std::sync::Arc;
+use tsc_cache::{Added, Cache};
+use tsc_left_right::{
+    Participant, Setup, SharedReplicas, UnappliedAdd, WriterState, install_handles, publish,
+    release,
+};
+use tsc_time::NoMemory;
+
+/// What the writer works with once its Add is prepared, what the Add made, and what is to be
+/// dropped once the lock is released.
+#[derive(Drop)]
+struct Prepared {
+    state: Box<WriterState>,
+    added: Added,
+    retired: Option<Arc<Cache>>,
+}
+
+/// Why the writer does not make its Add.
+#[derive(Clone, Copy)]
+pub enum NotAdded {
+    /// There are as many Adds as there may be.
+    HistoryFull,
+    /// A growth was refused.
+    NoMemory,
+    /// A seat was inside a lookup each time that it was looked at.
+    SeatInside,
+}
+
+/// What the writer works with if it makes no Add, what is to be dropped once the lock is released,
+/// and why it makes none.
+#[derive(Drop)]
+struct Aborted {
+    state: Box<WriterState>,
+    retired: Option<Arc<Cache>>,
+    why: NotAdded,
+}
+
+/// What became of an Add.
+#[derive(Drop)]
+pub enum Outcome {
+    /// The lock was held at each try.
+    Busy,
+    /// It was made at this place, by the seat itself or by another.
+    Made {
+        place: u64,
+        added: Added,
+        by_other: bool,
+    },
+    /// It was not made, and the seat has seen so many Adds.
+    Refused {
+        seen: u64,
+        why: NotAdded,
+    },
+}
+
+/// This copy, which has had the writer's own Add and those of others, is to be active, and the one
+/// that was active until then lags by them.
+fn swap(state: &mut WriterState, next: Arc<Cache>, own: UnappliedAdd, others: u64)
+    requires { (state.old.length + 1 + others < 2 ^ 64) × (state.old.flips + 1 < 2 ^ 64) }
+    ensures { IsSwapped state.old next own others state.new }
+{
+    state.standby = Some(mem::replace(&mut state.active, next));
+    state.lagging.own = Some(own);
+    state.length += 1 + others;
+    state.flips += 1;
+}
+
+/// What an Add made, and what is to be dropped once the lock is released.
+#[derive(Drop)]
+struct Ready {
+    added: Added,
+    retired: Option<Arc<Cache>>,
+}
+
+/// Prepares an Add that is to be published, and those that others ask for beside it. All readers
+/// have handles on their copy then. If memory is refused, what the writer works with stands for the
+/// same as before.
+fn prepare(
+    alloc: Global,
+    shared: &SharedReplicas,
+    who: &mut Participant,
+    state: &mut WriterState,
+    add: UnappliedAdd,
+    setup: &Setup,
+) -> Result<Ready, Option<Arc<Cache>>>
+    requires of { IsOf who.old shared.now.table_id }
+    requires setup { setup.now ≡ who.old.me.0.setup }
+    requires state { HoldsState who.old.me setup.now.seats state.old }
+    requires make { MayMake who.old.me state.old add }
+    ensures table { who.new.table_id ≡ who.old.table_id }
+    ensures made { IfOk result (λ made.
+        IsPrepared who.old.me.0 who.new.me add state.new made.added) }
+    ensures left { OnErr result (MayLeave who.old.me.0 who.new.me state.new) }
+{
+    let mut next = match take_next(alloc, state, &add) {
+        Ok(next) => next,
+        Err(retired) => return Err(retired),
+    };
+    let room = setup.limit - state.length - 1;
+    let standby = (state.flips + 1) % 2;
+    let others = &mut state.lagging.others;
+    let served = serve_all(
+        shared,
+        who,
+        &mut next.cache,
+        others,
+        setup.seats,
+        state.served,
+        room,
+    );
+    let made = others.len();
+    let adds = state.length + 1 + made as u64;
+    if !install_handles(shared, who, &next.cache, adds, (setup.seats, standby), made) {
+        state.served = send_all_back(shared, who, &mut state.lagging.others, served);
+        return Err(next.retired);
+    }
+    state.served = served;
+    swap(state, next.cache, add, made as u64);
+    Ok(Ready {
+        added: next.added,
+        retired: next.retired,
+    })
+}
+
+/// Prepares an Add by a copy of it, which may have been refused: that is said only if the history
+/// is not full. All readers leave the standby copy first, unless the policy gives up.
+fn prepare_copy<P: WaitPolicy>(
+    alloc: Global,
+    policy: &P,
+    shared: &SharedReplicas,
+    who: &mut Participant,
+    mut state: Box<WriterState>,
+    copied: Result<UnappliedAdd, NoMemory>,
+    setup: &Setup,
+) -> Result<Prepared, Aborted>
+    requires of { IsOf who.old shared.now.table_id }
+    requires setup { setup.now ≡ who.old.me.0.setup }
+    requires writer { IsNewWriter who.old.me state.value }
+    requires make { IfOk copied (CanBe setup.now) }
+    ensures table { who.new.table_id ≡ who.old.table_id }
+    ensures made { IfOk result (CanMake copied who.old.me.0 who.new.me) }
+    ensures left { IfErr result (IsAborted (P.tries policy.now) who.old.me.0 who.new.me) }
+{
+    if state.length >= setup.limit {
+        return Err(Aborted {
+            state,
+            retired: None,
+            why: NotAdded::HistoryFull,
+        });
+    }
+    let Ok(add) = copied else {
+        return Err(Aborted {
+            state,
+            retired: None,
+            why: NotAdded::NoMemory,
+        });
+    };
+    let standby = (state.flips + 1) % 2;
+    if !wait_for_readers(policy, shared, who, setup.seats, standby) {
+        return Err(Aborted {
+            state,
+            retired: None,
+            why: NotAdded::SeatInside,
+        });
+    }
+    match prepare(alloc, shared, who, &mut state, add, setup) {
+        Ok(Ready { added, retired }) => Ok(Prepared {
+            state,
+            added,
+            retired,
+        }),
+        Err(retired) => Err(Aborted {
+            state,
+            retired,
+            why: NotAdded::NoMemory,
+        }),
+    }
+}
+
+/// Answers all whose Adds were published.
+fn answer_others(shared: &SharedReplicas, who: &mut Participant, state: &mut WriterState)
+    requires of { IsOf who.old shared.now.table_id }
+    requires published { HasPublished who.old.me state.old }
+    ensures table { who.new.table_id ≡ who.old.table_id }
+    ensures release { MayRelease who.new.me state.new }
+    ensures same { released_in who.new.me.0 ≡ released_in who.old.me.0 }
+{
+    let others = state.lagging.others.as_slice();
+    state.served = answer_all(shared, who, others, state.served, state.length);
+}
+
+/// Publishes what is prepared, answers all whose Adds were made, and releases the lock.
+fn finish(shared: &SharedReplicas, who: &mut Participant, state: Box<WriterState>)
+    requires of { IsOf who.old shared.now.table_id }
+    requires ready { IsReadyToFinish who.old.me state.value }
+    ensures table { who.new.table_id ≡ who.old.table_id }
+    ensures done { who.new.me ≡ (released_in (published_in who.old.me.0 (own_of state.value)), []) }
+{
+    let made = state.lagging.others.len();
+    let mut state = publish(shared, who, state, made);
+    answer_others(shared, who, &mut state);
+    release(shared, who, state);
+}
+
+/// Makes an Add of the seat that has just acquired the lock, and releases it.
+fn add_locked<P: WaitPolicy, G: Gate>(
+    alloc: Global,
+    policy: &P,
+    shared: &SharedReplicas,
+    who: &mut Participant,
+    number: u32,
+    state: Box<WriterState>,
+    copied: Result<UnappliedAdd, NoMemory>,
+    notice: &mut Notice<'_, G>,
+    setup: &Setup,
+) -> Outcome
+    requires of { IsOf who.old shared.now.table_id }
+    requires setup { setup.now ≡ who.old.me.0.setup }
+    requires writer { IsNewWriter who.old.me state.value }
+    requires number { IsNumber who.old.me.0 number }
+    requires make { IfOk copied (CanBe setup.now) }
+    requires untold { notice.old.told ≡ false }
+    ensures table { who.new.table_id ≡ who.old.table_id }
+    ensures outcome { IsOutcome (P.tries policy.now) copied who.old.me.0 who.new.me result }
+    ensures told { notice.new.told ≡ is_added result }
+    ensures answers { IsBusy result → ⊥ }
+{
+    let place = state.length;
+    match prepare_copy(alloc, policy, shared, who, state, copied, setup) {
+        Ok(
+            Prepared {
+                state,
+                added,
+                retired,
+            },
+        ) => {
+            notice.give(number);
+            finish(shared, who, state);
+            drop(retired);
+            Outcome::Made {
+                place,
+                added,
+                by_other: false,
+            }
+        }
+        Err(
+            Aborted {
+                state,
+                retired,
+                why,
+            },
+        ) => {
+            let seen = release(shared, who, state);
+            drop(retired);
+            Outcome::Refused { seen, why }
+        }
+    }
+}
+
+/// Acquires the lock and makes an Add by a copy of it, which may have been refused.
+fn add_alone<P: WaitPolicy, G: Gate>(
+    alloc: Global,
+    policy: &P,
+    shared: &SharedReplicas,
+    who: &mut Participant,
+    number: u32,
+    copied: Result<UnappliedAdd, NoMemory>,
+    notice: &mut Notice<'_, G>,
+    setup: &Setup,
+) -> Outcome
+    requires of { IsOf who.old shared.now.table_id }
+    requires setup { setup.now ≡ who.old.me.0.setup }
+    requires rest { IsAtRest who.old.me × IsNumber who.old.me.0 number }
+    requires make { IfOk copied (CanBe setup.now) }
+    requires untold { notice.old.told ≡ false }
+    ensures table { who.new.table_id ≡ who.old.table_id }
+    ensures outcome { IsOutcome (P.tries policy.now) copied who.old.me.0 who.new.me result }
+    ensures told { notice.new.told ≡ is_added result }
+    ensures no_tries { P.tries policy.now ≡ Some 0 → IsBusy result }
+{
+    match policy.acquire(shared, who, number) {
+        Some(state) => {
+            add_locked(
+                alloc, policy, shared, who, number, state, copied, notice, setup,
+            )
+        }
+        None => Outcome::Busy,
+    }
+}
+
+/// Acquires the lock and makes an Add, or has it made by the seat that has the lock.
+fn add_asking<P: WaitPolicy, G: Gate>(
+    alloc: Global,
+    policy: &P,
+    shared: &SharedReplicas,
+    who: &mut Participant,
+    number: u32,
+    add: UnappliedAdd,
+    is_eager: bool,
+    notice: &mut Notice<'_, G>,
+    setup: &Setup,
+) -> Outcome
+    requires of { IsOf who.old shared.now.table_id }
+    requires setup { setup.now ≡ who.old.me.0.setup }
+    requires rest { IsAtRest who.old.me × IsNumber who.old.me.0 number × (number < 64) }
+    requires make { CanBe setup.now add }
+    requires untold { notice.old.told ≡ false }
+    ensures table { who.new.table_id ≡ who.old.table_id }
+    ensures outcome { IsOutcome (P.tries policy.now) (Ok add) who.old.me.0 who.new.me result }
+    ensures told { notice.new.told ≡ is_added result }
+    ensures no_tries { P.tries policy.now ≡ Some 0 → IsBusy result }
+{
+    match policy.ask(alloc, shared, who, number, add, is_eager) {
+        Turn::Busy => Outcome::Busy,
+        Turn::Acquired(state, add) => {
+            add_locked(
+                alloc,
+                policy,
+                shared,
+                who,
+                number,
+                state,
+                Ok(add),
+                notice,
+                setup,
+            )
+        }
+        Turn::Made(reply) => {
+            notice.give(number);
+            let added = Added {
+                kept: reply.kept,
+                rotated: false,
+                evicted: 0,
+            };
+            Outcome::Made {
+                place: reply.place,
+                added,
+                by_other: true,
+            }
+        }
+    }
+}
+
+/// Whether a seat may have its Add made by another, and whether it asks for that at once.
+#[derive(Clone, Copy)]
+pub struct Asks {
+    pub may_ask: bool,
+    pub is_eager: bool,
+}
+
+/// How many seats can ask at the most.
+const MOST_ASKING: u32 = 64;
+
+/// Makes an Add by a copy of it, which may have been refused: by itself, or by another if it may
+/// ask.
+pub fn add_by<P: WaitPolicy, G: Gate>(
+    alloc: Global,
+    policy: &P,
+    shared: &SharedReplicas,
+    who: &mut Participant,
+    number: u32,
+    copied: Result<UnappliedAdd, NoMemory>,
+    asks: Asks,
+    notice: &mut Notice<'_, G>,
+    setup: &Setup,
+) -> Outcome
+    requires of { IsOf who.old shared.now.table_id }
+    requires setup { setup.now ≡ who.old.me.0.setup }
+    requires rest { IsAtRest who.old.me × IsNumber who.old.me.0 number }
+    requires make { IfOk copied (CanBe setup.now) }
+    requires untold { notice.old.told ≡ false }
+    ensures table { who.new.table_id ≡ who.old.table_id }
+    ensures outcome { IsOutcome (P.tries policy.now) copied who.old.me.0 who.new.me result }
+    ensures told { notice.new.told ≡ is_added result }
+    ensures no_tries { P.tries policy.now ≡ Some 0 → IsBusy result }
+{
+    match copied {
+        Ok(add) if asks.may_ask && number < MOST_ASKING => {
+            add_asking(
+                alloc,
+                policy,
+                shared,
+                who,
+                number,
+                add,
+                asks.is_eager,
+                notice,
+                setup,
+            )
+        }
+        copied => add_alone(alloc, policy, shared, who, number, copied, notice, setup),
+    }
+}

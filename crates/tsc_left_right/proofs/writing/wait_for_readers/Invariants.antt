@@ -1,8 +1,0 @@
-use Rattle.std.proofs.Common.{◌≡◌}
-use Rattle.std.specs.Prelude.{None}
-use Rattle.tsc_left_right.specs.Participating.{IsWriting}
-use Rattle.tsc_left_right.proofs.writing.wait_for_readers.Given as goal
-
-abbrev pub invariant-loop-seat : goal.invariant-loop-seat
-invariant-loop-seat g l = (l.who.table_id ≡ l.fn.who.table_id)
-    × IsWriting l.fn.who.me.0 l.who.me l.seat None

@@ -1,6 +1,0 @@
-use Rattle.std.proofs.Common.{◌≡◌, ◌++◌, ◌∷◌, replicate}
-use Rattle.tsc_shared_desk.specs.declared.board.Slot.TheVariants.{Empty}
-use Rattle.tsc_shared_desk.proofs.opening.lay.Given as goal
-
-abbrev pub invariant-loop-beside : goal.invariant-loop-beside
-invariant-loop-beside l = l.slots.items ≡ l.fn.slots.items ++ l.fn.slot ∷ replicate l._beside Empty

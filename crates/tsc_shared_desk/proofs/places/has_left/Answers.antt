@@ -1,5 +1,0 @@
-use Rattle.std.proofs.Common.{rules}
-use Rattle.tsc_shared_desk.proofs.places.has_left.Goals as goal
-
-pub returns-else-epoch-eq0 : goal.returns-else-epoch-eq0
-returns-else-epoch-eq0 c = search rules
