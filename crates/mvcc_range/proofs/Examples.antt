@@ -3,7 +3,7 @@
 use Rattle.std.proofs.Common.{◌≡◌, refl, ℕ, List, [], ◌∷◌, map, Some, None, arith}
 use Rattle.tsc_span.specs.Span.{between, before}
 use Rattle.timestamp_cache.specs.Words.{Time, Owner, KeyBytes, Interval, point}
-use Rattle.mvcc_range.specs.Versions.{Version, Write, Read, content_as_of, newest_content, laid}
+use Rattle.mvcc_versions.specs.Versions.{Version, Write, Read, content_as_of, newest_content, laid}
 use Rattle.mvcc_range.specs.Serial.{Transaction, empty, IsSerial, serial_order}
 
 abbrev time : ℕ → Time

@@ -1,32 +1,8 @@
 -- A new cache that takes over what a summary of another one tells of a span.
-use Rattle.std.proofs.Common.{
-  ◌≡◌,
-  ◌⊎◌,
-  ◌∙◌,
-  refl,
-  sym,
-  subst,
-  inl,
-  inr,
-  ap,
-  ℕ,
-  List,
-  [],
-  ◌∷◌,
-  Bool,
-  true,
-  false,
-  not,
-  ◌&&◌,
-}
+use Rattle.std.proofs.Common.{◌≡◌, refl, sym, subst, ℕ, [], ◌∷◌}
 use Rattle.std.specs.Prelude.{◌↔◌, Result, Ok, Err, IsErrOf}
-use Rattle.std.proofs.lemmas.Bool.{cases_Bool, both_ways}
-use Rattle.std.proofs.lemmas.List.Elements.{Contains-push}
 use Rattle.tsc_time.proofs.RatchetOrder.{IsAtMost-transitive}
-use Rattle.tsc_span.specs.Span.{before, after, is_below, nothing, between, covers}
-use Rattle.tsc_span.proofs.CutOrder.{sides_in_order}
 use Rattle.tsc_cache.specs.State.{opening, step_all}
-use Rattle.tsc_cache.proofs.FloorJoints.{above_each}
 use Rattle.tsc_cache.proofs.StatesSeen.{answers_look}
 use Rattle.timestamp_cache.specs.Words.{
   Time,
@@ -46,36 +22,12 @@ use Rattle.timestamp_cache.specs.HandOver.{
   Summary,
   summary_answer,
   IsWithin,
-  TellsOf,
   marks_told,
   Summarizes,
   TakesOver as Learns,
 }
+use Rattle.timestamp_cache.proofs.Rising.{summaries_tell_no_less}
 use Rattle.mvcc_range.specs.Steps.{TakesOver}
-
--- a key of a span lies within it
-key_within : (span : Interval) (k : KeyBytes) → covers span k ≡ true → IsWithin (point k) span
-key_within nothing k c = absurd (let never : false ≡ true = c in cc)
-key_within (between from to) k c = (
-  sides_in_order k,
-  low (is_below (before k) from) (is_below to (after k)) c,
-  high (is_below (before k) from) (is_below to (after k)) c,
-)
-  where
-    low : (a b : Bool) → (not a && not b) ≡ true → a ≡ false
-    low true b h = absurd (let never : false ≡ true = h in cc)
-    low false b h = refl
-
-    high : (a b : Bool) → (not a && not b) ≡ true → b ≡ false
-    high true b h = absurd (let never : false ≡ true = h in cc)
-    high false true h = absurd (let never : false ≡ true = h in cc)
-    high false false h = refl
-
--- A summary tells no less than a state answers.
-told_above : (s : CacheState) (told : Summary) (inner : Interval) → TellsOf s told
-    → IsWithin inner told.span → IsAtMost (look s inner) (summary_answer told inner)
-told_above s told inner tells w = subst (IsAtMost (look s inner)) (sym (tells inner w))
-    (above_each told.floor (look s inner ∷ []) (look s inner) (Contains-push [] (look s inner)))
 
 pub taken : (old made new : CacheView) (span : Interval) (config : Settings) (most : ℕ)
     (told : Summary) (now : Time) → Summarizes old span most told
@@ -93,10 +45,10 @@ taken old made new span config most told now sums opened stands learns =
       history = e ∷ [];
       cache = is;
       no_less = λ others s k c was. let within : IsWithin (point k) told.span =
-          subst (IsWithin (point k)) (sym sums.span) (key_within span k c) in
+          subst (IsWithin (point k)) (sym sums.span) (summaries_tell_no_less.keys span k c) in
           subst (IsAtMost (look s (point k))) (sym (answers_look new config next (point k) is))
           (IsAtMost-transitive (look s (point k)) (summary_answer told (point k))
-          (look next (point k)) (told_above s told (point k) (sums.answers others s was) within)
+          (look next (point k)) (summaries_tell_no_less.no_less s told (point k) (sums.answers others s was) within)
           ((learns config (opening config) opened).learned (point k) within));
     }
 

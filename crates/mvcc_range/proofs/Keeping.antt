@@ -28,15 +28,15 @@ use Rattle.std.proofs.lemmas.List.Elements.{
   All-from_recursion,
   recursion_from_All,
   All-contains,
-  Contains-push,
 }
 use Rattle.tsc_time.proofs.TimeOrder.{is_before-itself, is_before-opposite, no_earlier-transitive}
 use Rattle.tsc_time.proofs.RatchetOrder.{IsAtMost-itself, IsAtMost-transitive}
 use Rattle.tsc_time.proofs.Members.{IsIn, Contains-from_IsIn}
-use Rattle.tsc_span.specs.Span.{covers, overlaps}
+use Rattle.tsc_span.specs.Span.{covers}
 use Rattle.tsc_span.proofs.Overlaps.{covers_as_it_overlaps}
-use Rattle.tsc_cache.specs.State.{CacheState, step_all}
-use Rattle.tsc_cache.proofs.Histories.{state_of-push, kept_up, rising, clear_below}
+use Rattle.tsc_cache.proofs.Histories.{clear_below}
+use Rattle.tsc_cache.specs.CacheView.{StandsAfterAll}
+use Rattle.timestamp_cache.proofs.Rising.{answers_rise, stands_longer}
 use Rattle.tsc_cache.proofs.StatesSeen.{answers_look}
 use Rattle.timestamp_cache.specs.Words.{
   Time,
@@ -60,7 +60,7 @@ use Rattle.timestamp_cache.specs.Words.{
 }
 use Rattle.timestamp_cache.specs.Clear.{IsClearOf}
 use Rattle.uuid.specs.Parts.{is_nil_bytes}
-use Rattle.mvcc_range.specs.Versions.{
+use Rattle.mvcc_versions.specs.Versions.{
   is_written,
   Content,
   Chains,
@@ -96,8 +96,8 @@ use Rattle.mvcc_range.specs.Steps.{
   collects,
 }
 use Rattle.mvcc_range.specs.Laws.{Serializable, HasNotWritten, Repeatable, Unpushed}
+use Rattle.mvcc_versions.proofs.Lists.{each}
 use Rattle.mvcc_range.proofs.Placing.{
-  each,
   any,
   of_written,
   not_written,
@@ -196,50 +196,26 @@ guarded_on span old new committed less guarded =
 abbrev more : History → List Mark → Time → History
 more h ms now = h ++ (record { seat = 0; number = 0; marks = ms; now = now }) ∷ []
 
-stands_more : (new : CacheView) (settings : Settings) (h : History) (ms : List Mark) (now : Time)
-    → StandsForState new settings (step_all settings (state_of settings h) ms now).state
-    → StandsForState new settings (state_of settings (more h ms now))
-stands_more new settings h ms now next =
-    let e : Entry = record { seat = 0; number = 0; marks = ms; now = now } in
-    subst (StandsForState new settings) (sym (state_of-push settings h e)) next
-
--- A cache with one entry more answers no less.
+-- A cache to which more is added answers no less.
 no_less : (span : Interval) (old new : CacheView) (settings : Settings) (h : History)
     (ms : List Mark) (now : Time) → StandsForState old settings (state_of settings h)
-    → StandsForState new settings (state_of settings (more h ms now)) → AnswersNoLess span old new
-no_less span old new settings h ms now was is k s =
-    let e : Entry = record { seat = 0; number = 0; marks = ms; now = now } in
-    let before = answers_look old settings (state_of settings h) (point k) was in
-    let after = answers_look new settings (state_of settings (more h ms now)) (point k) is in
-    let rises : IsAtMost (look (state_of settings h) (point k))
-    (look (state_of settings (more h ms now)) (point k)) =
-    rising.answers settings h (more h ms now) (point k) (e ∷ [], refl) in
-    subst (λ (v : OwnedTime). IsAtMost v (cache_answer new (point k))) (sym before)
-    (subst (IsAtMost (look (state_of settings h) (point k))) (sym after) rises)
+    → StandsAfterAll old new ms now → AnswersNoLess span old new
+no_less span old new settings h ms now was adds k s =
+    answers_rise.no_less old new settings h ms now (point k) was adds
 
 -- and the reads that were added are guarded
-guards_added : (span : Interval) (new : CacheView) (settings : Settings) (h : History) (at : Time)
-    (by : Owner) (reads all : List Read) (now : Time) → ((r : Read) → IsIn reads r → IsIn all r)
-    → StandsForState new settings (state_of settings (more h (map (mark_of at by) all) now))
+guards_added : (span : Interval) (old new : CacheView) (settings : Settings) (h : History)
+    (at : Time) (by : Owner) (reads all : List Read) (now : Time)
+    → ((r : Read) → IsIn reads r → IsIn all r) → StandsForState old settings (state_of settings h)
+    → StandsAfterAll old new (map (mark_of at by) all) now
     → AllByRecursion (λ (r : Read). IsGuarded span new at by r) reads
-guards_added span new settings h at by [] all now among is = tt
-guards_added span new settings h at by (r ∷ reads) all now among is = (
-  λ k s c. let e : Entry = record {
-    seat = 0;
-    number = 0;
-    marks = map (mark_of at by) all;
-    now = now;
-  } in
-      let own : Contains (map (mark_of at by) all) (mark_of at by r) =
-      Contains-from_IsIn (map (mark_of at by) all) (mark_of at by r)
-      (mapped all r (among r (inl refl))) in
-      let over : overlaps r.span (point k) ≡ true = sym (covers_as_it_overlaps r.span k) ∙ c in
-      subst (IsAtMost (mark_of at by r).value)
-      (sym (answers_look new settings (state_of settings (more h (map (mark_of at by) all) now))
-      (point k) is))
-      (kept_up settings (more h (map (mark_of at by) all) now) e (mark_of at by r) (point k)
-      (Contains-push h e) own over),
-  guards_added span new settings h at by reads all now (λ q i. among q (inr i)) is,
+guards_added span old new settings h at by [] all now among was adds = tt
+guards_added span old new settings h at by (r ∷ reads) all now among was adds = (
+  λ k s c. answers_rise.kept old new settings h (map (mark_of at by) all) now (mark_of at by r)
+      (point k) was adds
+      (Contains-from_IsIn (map (mark_of at by) all) (mark_of at by r)
+      (mapped all r (among r (inl refl)))) (sym (covers_as_it_overlaps r.span k) ∙ c),
+  guards_added span old new settings h at by reads all now (λ q i. among q (inr i)) was adds,
 )
   where
     mapped : (qs : List Read) (q : Read) → IsIn qs q
@@ -393,15 +369,12 @@ keeps_commits old new answered committed t now k c =
     let settings : Settings = k.settings in
     let h : History = k.history in
     let ms : List Mark = map (mark_of t.at t.by) t.reads in
-    let stands : StandsForState new.cache settings (state_of settings (more h ms now)) =
-    stands_more new.cache settings h ms now (c.does.remembered settings
-    (state_of settings h) k.stands) in
     let less : AnswersNoLess old.span old.cache new.cache =
-    no_less old.span old.cache new.cache settings h ms now k.stands stands in
+    no_less old.span old.cache new.cache settings h ms now k.stands c.does.remembered in
     record {
       settings = settings;
       history = more h ms now;
-      stands = stands;
+      stands = stands_longer old.cache new.cache settings h ms now k.stands c.does.remembered;
       agrees = λ key. subst (λ (x : Time). AgreesFrom x (chain_of new.chains key)
           (laid key t.at t.by t.writes (all_laid committed key))) (sym c.does.threshold)
           (subst (λ (vs : List Version). AgreesFrom old.threshold vs (laid key t.at t.by t.writes
@@ -417,7 +390,8 @@ keeps_commits old new answered committed t now k c =
           (of_written (λ (q : KeyBytes). IsAfter (newest_time (chain_of old.chains q)) t.at)
           t.writes key c.may.free.after w)) (k.all_newest key);
       guarded = (
-        guards_added new.span new.cache settings h t.at t.by t.reads t.reads now (λ r i. i) stands,
+        guards_added new.span old.cache new.cache settings h t.at t.by t.reads t.reads now
+            (λ r i. i) k.stands c.does.remembered,
         subst (λ (s : Interval). AreGuarded s new.cache committed) (sym c.does.span)
             (guarded_on old.span old.cache new.cache committed less k.guarded),
       );
@@ -488,15 +462,14 @@ keeps_answers old new answered committed by at now read k a =
     let settings : Settings = k.settings in
     let h : History = k.history in
     let ms : List Mark = mark_of at by read ∷ [] in
-    let stands : StandsForState new.cache settings (state_of settings (more h ms now)) =
-    stands_more new.cache settings h ms now
-    (a.remembered settings (state_of settings h) k.stands) in
+    let adds : StandsAfterAll old.cache new.cache ms now =
+    λ others s was. a.remembered others s was in
     let less : AnswersNoLess old.span old.cache new.cache =
-    no_less old.span old.cache new.cache settings h ms now k.stands stands in
+    no_less old.span old.cache new.cache settings h ms now k.stands adds in
     record {
       settings = settings;
       history = more h ms now;
-      stands = stands;
+      stands = stands_longer old.cache new.cache settings h ms now k.stands adds;
       agrees = agrees_there old new committed a.threshold
           (same_chains old.chains new.chains a.chains) k.agrees;
       newest = λ key. subst (λ (chains : Chains). AreNewestFirst (chain_of chains key))
@@ -508,8 +481,8 @@ keeps_answers old new answered committed by at now read k a =
       serial = k.serial;
       kept = (
         (
-          (guards_added new.span new.cache settings h at by (read ∷ []) (read ∷ []) now
-              (λ r i. i) stands).0,
+          (guards_added new.span old.cache new.cache settings h at by (read ∷ []) (read ∷ []) now
+              (λ r i. i) k.stands adds).0,
           λ on none. subst (λ (chains : Chains). Matches read (as_of at chains))
               (sym a.chains) a.matches,
         ),

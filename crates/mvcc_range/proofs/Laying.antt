@@ -24,9 +24,10 @@ use Rattle.std.specs.Str.{bytes_eq}
 use Rattle.std.proofs.lemmas.Bool.{cases_Bool, both_ways}
 use Rattle.tsc_time.proofs.TimeOrder.{is_before-itself, is_before-opposite, no_earlier-transitive}
 use Rattle.timestamp_cache.specs.Words.{Time, is_before, Owner, KeyBytes}
-use Rattle.mvcc_range.specs.Versions.{is_written, Version, Write, laid, newest_time, IsAfter}
+use Rattle.mvcc_versions.specs.Versions.{is_written, Version, Write, laid, newest_time, IsAfter}
 use Rattle.mvcc_range.specs.Serial.{Transaction}
-use Rattle.mvcc_range.proofs.Placing.{each, all_laid}
+use Rattle.mvcc_versions.proofs.Lists.{each}
+use Rattle.mvcc_range.proofs.Placing.{all_laid}
 
 -- No version stands behind one that is earlier.
 abbrev pub AreNewestFirst : List Version → Type 0

@@ -28,7 +28,7 @@ use Rattle.std.proofs.lemmas.Slice.Eq.{bytes_eq-Decides}
 use Rattle.tsc_span.specs.Span.{covers}
 use Rattle.tsc_time.proofs.TimeOrder.{is_before-itself, is_before-opposite, no_earlier-transitive}
 use Rattle.timestamp_cache.specs.Words.{Time, is_before, Owner, KeyBytes}
-use Rattle.mvcc_range.specs.Versions.{
+use Rattle.mvcc_versions.specs.Versions.{
   is_written,
   Content,
   Contents,
@@ -41,6 +41,7 @@ use Rattle.mvcc_range.specs.Versions.{
   laid,
   Matches,
 }
+use Rattle.mvcc_versions.proofs.Lists.{each}
 use Rattle.mvcc_range.specs.Serial.{
   Transaction,
   empty,
@@ -52,11 +53,6 @@ use Rattle.mvcc_range.specs.Serial.{
 }
 
 -- ---- lists
-
-pub each : {A : Type 0} (P Q : A → Type 0) (xs : List A) → ((x : A) → P x → Q x)
-    → AllByRecursion P xs → AllByRecursion Q xs
-each P Q [] f all = tt
-each P Q (x ∷ xs) f all = (f x all.0, each P Q xs f all.1)
 
 -- and from two facts of each
 pub each_two : {A : Type 0} (O P Q : A → Type 0) (xs : List A) → ((x : A) → O x → P x → Q x)

@@ -7,7 +7,7 @@ use Rattle.tsc_cache.specs.Batch.{all_fit}
 use Rattle.mvcc_range.specs.declared.range.Outcome.{Outcome}
 use Rattle.mvcc_range.specs.declared.range.Outcome.TheVariants.{Committed, Restart}
 use Rattle.mvcc_range.specs.declared.range.Reason.TheVariants.{Changed, NoTime}
-use Rattle.mvcc_range.specs.Versions.{Read, Row, as_of, Matches}
+use Rattle.mvcc_versions.specs.Versions.{Read, Row, as_of, Matches}
 use Rattle.mvcc_range.specs.Serial.{Transaction, executed, moved}
 use Rattle.mvcc_range.specs.Steps.{RangeView, Answers, IsFree, MayCommit, Commits}
 

@@ -3,7 +3,7 @@ use Rattle.std.specs.Prelude.{◌≡◌, List, true, false}
 use Rattle.std.specs.List.{All, AllByRecursion, Contains}
 use Rattle.tsc_span.specs.Span.{covers}
 use Rattle.timestamp_cache.specs.Words.{Time, is_before, Owner, KeyBytes}
-use Rattle.mvcc_range.specs.Versions.{Chains, chain_of, latest, as_of, Matches}
+use Rattle.mvcc_versions.specs.Versions.{Chains, chain_of, latest, as_of, Matches}
 use Rattle.mvcc_range.specs.Serial.{Transaction, empty, executed_all, IsSerial, serial_order}
 use Rattle.mvcc_range.specs.Steps.{RangeView, Answered, Execution, IsFree, MayCommit}
 

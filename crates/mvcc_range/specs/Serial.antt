@@ -2,7 +2,7 @@
 use Rattle.std.specs.Prelude.{List, [], ◌∷◌, None, if◌then◌else◌}
 use Rattle.std.specs.List.{AllByRecursion}
 use Rattle.timestamp_cache.specs.Words.{Time, is_before, Owner, KeyBytes}
-use Rattle.mvcc_range.specs.Versions.{Contents, Write, Read, after_writes, Matches}
+use Rattle.mvcc_versions.specs.Versions.{Contents, Write, Read, after_writes, Matches}
 
 -- a transaction: its time, at which it reads or commits, who it is, what it read, and what it
 -- writes

@@ -27,7 +27,7 @@ use Rattle.timestamp_cache.specs.Words.{
   cache_answer,
 }
 use Rattle.timestamp_cache.specs.Clear.{IsClearOf}
-use Rattle.mvcc_range.specs.Versions.{
+use Rattle.mvcc_versions.specs.Versions.{
   Write,
   Read,
   Chains,
@@ -86,6 +86,12 @@ pub record Answers (old new : RangeView) (by : Owner) (at now : Time) (read : Re
 abbrev pub IsAfterWrites : Chains → List Write → Time → Type 0
 IsAfterWrites chains writes t =
     AllByRecursion (λ w. IsAfter (newest_time (chain_of chains w.key)) t) writes
+
+-- A time is free of a key that is written: it is later than the key's last write, and clear of each
+-- read of it that the cache remembers.
+abbrev pub IsFreeOf : CacheView → Chains → Owner → Write → Time → Type 0
+IsFreeOf cache chains by w t = IsAfter (newest_time (chain_of chains w.key)) t
+    × IsClearOf (cache_answer cache (point w.key)) by t
 
 -- A time is free for a transaction's writes: it is later than the last write of each of their keys,
 -- and clear of each read of them that the cache remembers.

@@ -7,18 +7,14 @@
 //! time at which it would change what was read.
 #![tactic(auto)]
 
-mod chains;
 mod error;
 pub mod laws;
-mod own_writes;
 mod range;
-mod rows;
 #[cfg(test)]
 mod tests;
 mod transaction;
-mod versions;
 
 pub use error::RangeError;
+pub use mvcc_versions::{Read, Row, Write};
 pub use range::{Outcome, Range, Reason};
 pub use transaction::Transaction;
-pub use versions::{Read, Row, Write};

@@ -22,13 +22,13 @@ ghost use Rattle.std.specs.Prelude.{
   vec_capacity,
 };
 ghost use Rattle.std.specs.List.{All};
-ghost use Rattle.tsc_span.specs.Span.{point};
 ghost use Rattle.tsc_cache.specs.Settings.{fits};
 ghost use Rattle.tsc_cache.specs.Batch.{all_fit};
 ghost use Rattle.tsc_cache.specs.CacheView.{StandsAfter, StandsAfterAll};
-ghost use Rattle.timestamp_cache.specs.Words.{KeyBytes, is_before};
+ghost use Rattle.timestamp_cache.specs.Words.{KeyBytes, is_before, point, cache_answer};
+ghost use Rattle.timestamp_cache.specs.Clear.{IsClearOf};
 ghost use Rattle.timestamp_cache.specs.Earliest.{TellsEarliest};
-ghost use Rattle.mvcc_range.specs.Versions.{chain_of, as_of, laid, Matches, is_within, are_within};
+ghost use Rattle.mvcc_versions.specs.Versions.{chain_of, as_of, laid, Matches, is_within, are_within};
 ghost use Rattle.mvcc_range.specs.Steps.{
   mark_of,
   reads_fit,
@@ -36,25 +36,23 @@ ghost use Rattle.mvcc_range.specs.Steps.{
   IsSame,
   Answers,
   IsFree,
+  IsFreeOf,
   HandsOn,
   Collects,
   LaysDown,
   TakesOver,
 };
-ghost use Rattle.mvcc_range.specs.Maps.{nodes_of};
+ghost use Rattle.mvcc_versions.specs.Maps.{nodes_of};
 ghost use Rattle.mvcc_range.specs.Calls.{Reads, SeesOwn, TellsTooLarge, Ends};
 
-use crate::chains::{collect, link_all, make_room, nodes_of, time_after};
-use crate::own_writes::rows_after;
-use crate::rows::{is_still_so, rows_as_of};
-use crate::versions::Version;
 use crate::{RangeError, Read, Row, Transaction, Write};
+use mvcc_versions::{Version, VersionMap, rows_after};
 use std::alloc::Global;
-use std::collections::{BTreeMap, LinkedList};
+use std::collections::LinkedList;
 use std::marker::Model;
 use timestamp_cache::{
-    Cache, CacheFault, Config, Key, Mark, NoMemory, Span, Timestamp, TimestampCache, Uuid, Value,
-    apply, earliest_write, summary,
+    Cache, CacheFault, Config, Key, Mark, NoMemory, Span, SpanRef, Timestamp, TimestampCache, Uuid,
+    Value, apply, earliest_clear_of, summary,
 };
 
 /// One range of a store, under a lease: the versions of its keys, and the reads that were answered.
@@ -64,7 +62,7 @@ pub struct Range {
     span: Span,
     cache: Cache,
     threshold: Timestamp,
-    chains: BTreeMap<Key, LinkedList<Version>>,
+    versions: VersionMap,
 }
 
 impl Model for Range {
@@ -76,7 +74,7 @@ impl Model for Range {
       span = r.span;
       cache = r.cache;
       threshold = r.threshold;
-      chains = r.chains.entries;
+      chains = r.versions;
     } };
 }
 
@@ -109,7 +107,7 @@ impl Range {
             span,
             cache: Cache::new(alloc, config)?,
             threshold: Timestamp::ZERO,
-            chains: BTreeMap::new(alloc),
+            versions: VersionMap::new(alloc),
         })
     }
 
@@ -161,7 +159,7 @@ impl Range {
             && not (reads_fit self.old.cache.settings transaction.now.reads)) ≡ true) }
     {
         self.check_commit(transaction)?;
-        let Some(at) = self.free_time(transaction)? else {
+        let Some(at) = self.free_time(transaction) else {
             return Ok(Outcome::Restart(Reason::NoTime));
         };
         let so = self.are_still_so(&transaction.reads, at)?;
@@ -193,7 +191,7 @@ impl Range {
         if self.threshold < before {
             self.threshold = before;
         }
-        collect(&mut self.chains, self.threshold);
+        self.versions.drop_before(self.threshold);
     }
 
     /// The time before which reads and commits are refused.
@@ -265,7 +263,7 @@ impl Range {
     {
         Ok(Read {
             span: span.try_copy()?,
-            rows: rows_as_of(self.alloc, &self.chains, span, at)?,
+            rows: self.versions.rows_as_of(self.alloc, span, at)?,
         })
     }
 
@@ -294,21 +292,17 @@ impl Range {
 
     /// The earliest time, from the one on at which a transaction reads, that is free for its
     /// writes.
-    fn free_time(&self, transaction: &Transaction) -> Result<Option<Timestamp>, NoMemory>
-        ensures { IfOk result
-            (λ at. TellsEarliest
+    fn free_time(&self, transaction: &Transaction) -> Option<Timestamp>
+        ensures { TellsEarliest
             (IsFree self.now.cache self.now.chains transaction.now.by transaction.now.writes)
-            transaction.now.at at) }
+            transaction.now.at result }
     {
-        let by = transaction.by;
-        let from = transaction.at;
         free_time(
-            self.alloc,
             &self.cache,
-            &self.chains,
+            &self.versions,
             &transaction.writes,
-            from,
-            by,
+            transaction.at,
+            transaction.by,
         )
     }
 
@@ -317,7 +311,7 @@ impl Range {
         ensures { IfOk result (λ so. IsTrue so ↔ All (λ r. Matches r (as_of at self.now.chains))
             reads.now) }
     {
-        are_still_so(self.alloc, &self.chains, reads, at)
+        are_still_so(self.alloc, &self.versions, reads, at)
     }
 
     /// Remembers the reads of a transaction at a time, and lays down its writes as versions of it.
@@ -334,12 +328,12 @@ impl Range {
     {
         let by = transaction.by;
         let marks = marks_of(self.alloc, &transaction.reads, at, by)?;
-        let nodes = nodes_of(self.alloc, &transaction.writes, at, by)?;
+        let nodes = VersionMap::prepare(self.alloc, &transaction.writes, at, by)?;
         let writes = transaction.writes.as_slice();
         lay_down(
             self.alloc,
             &mut self.cache,
-            &mut self.chains,
+            &mut self.versions,
             &marks,
             writes,
             nodes,
@@ -349,11 +343,11 @@ impl Range {
     }
 }
 
-/// Adds reads to a cache and versions to chains, or leaves both as they are.
+/// Adds reads to a cache, and versions to those that are there, or leaves both as they are.
 fn lay_down(
     alloc: Global,
     cache: &mut Cache,
-    chains: &mut BTreeMap<Key, LinkedList<Version>>,
+    versions: &mut VersionMap,
     marks: &[Mark],
     writes: &[Write],
     nodes: LinkedList<LinkedList<Version>>,
@@ -363,51 +357,75 @@ fn lay_down(
     requires fit { all_fit cache.old.settings marks.now ≡ true }
     requires nodes { nodes ≡ nodes_of stamp.0 stamp.1 writes.now }
     ensures done { OnOk result (StandsAfterAll cache.old cache.new marks.now now
-        × ((k : KeyBytes) → chain_of chains.new.entries k ≡ laid k stamp.0 stamp.1 writes.now
-        (chain_of chains.old.entries k))) }
+        × ((k : KeyBytes) → chain_of versions.new k ≡ laid k stamp.0 stamp.1 writes.now
+        (chain_of versions.old k))) }
     ensures cache { OnErr result (cache.new ≡ cache.old) }
-    ensures chains { OnErr result ((k : KeyBytes) → chain_of chains.new.entries k
-        ≡ chain_of chains.old.entries k) }
+    ensures versions { OnErr result ((k : KeyBytes) → chain_of versions.new k
+        ≡ chain_of versions.old k) }
 {
-    make_room(alloc, chains, writes)?;
+    versions.make_room(alloc, writes)?;
     add_all(cache, marks, now)?;
-    link_all(chains, writes, nodes, stamp.0, stamp.1);
+    versions.lay_down(writes, nodes, stamp.0, stamp.1);
     Ok(())
 }
 
 /// The earliest time, from one on, that is free for writes.
 fn free_time(
-    alloc: Global,
     cache: &Cache,
-    chains: &BTreeMap<Key, LinkedList<Version>>,
+    versions: &VersionMap,
     writes: &[Write],
     from: Timestamp,
     by: Uuid,
-) -> Result<Option<Timestamp>, NoMemory>
-    ensures { IfOk result (λ at. TellsEarliest (IsFree cache.now chains.now.entries by writes.now)
-        from at) }
+) -> Option<Timestamp>
+    ensures { TellsEarliest (IsFree cache.now versions.now by writes.now) from result }
 {
-    match time_after(chains, writes, from) {
-        Some(after) => {
-            let keys = keys_of(alloc, writes)?;
-            Ok(earliest_write(cache, &keys, after, by))
+    let mut at = from;
+    for write in writes {
+        match free_time_of(cache, versions, write, at, by) {
+            Some(next) => at = next,
+            None => return None,
         }
-        None => Ok(None),
     }
+    Some(at)
+}
+
+/// The earliest time, from one on, that is free of a key that is written.
+fn free_time_of(
+    cache: &Cache,
+    versions: &VersionMap,
+    write: &Write,
+    from: Timestamp,
+    by: Uuid,
+) -> Option<Timestamp>
+    ensures { TellsEarliest (IsFreeOf cache.now versions.now by write.now) from result }
+{
+    match versions.time_after(&write.key, from) {
+        Some(after) => clear_time(cache, &write.key, after, by),
+        None => None,
+    }
+}
+
+/// The earliest time, from one on, at which a write of a key is clear of what a cache answers.
+fn clear_time(cache: &Cache, key: &Key, from: Timestamp, by: Uuid) -> Option<Timestamp>
+    ensures { TellsEarliest (λ t. IsClearOf (cache_answer cache.now (point key.now)) by t) from
+        result }
+{
+    let read = cache.get_max_in(&SpanRef::point(key.bytes()));
+    earliest_clear_of(read, from, by)
 }
 
 /// Whether some reads are still what is there as of a time.
 fn are_still_so(
     alloc: Global,
-    chains: &BTreeMap<Key, LinkedList<Version>>,
+    versions: &VersionMap,
     reads: &[Read],
     at: Timestamp,
 ) -> Result<bool, NoMemory>
-    ensures { IfOk result (λ so. IsTrue so ↔ All (λ r. Matches r (as_of at chains.now.entries))
+    ensures { IfOk result (λ so. IsTrue so ↔ All (λ r. Matches r (as_of at versions.now))
         reads.now) }
 {
     for read in reads {
-        let so = is_still_so(alloc, chains, read, at)?;
+        let so = versions.is_still_so(alloc, read, at)?;
         if !so {
             return Ok(false);
         }
@@ -504,17 +522,6 @@ fn reserve<T>(all: &mut Vec<T>, more: usize) -> Result<(), NoMemory>
 {
     all.reserve(more)?;
     Ok(())
-}
-
-/// The keys that are written, each as a span.
-fn keys_of(alloc: Global, writes: &[Write]) -> Result<Vec<Span>, NoMemory>
-    ensures { IfOk result (λ keys. keys.items ≡ map (λ w. point w.key) writes.now) }
-{
-    let mut keys = Vec::new(alloc);
-    for write in writes {
-        keys.push(Span::point(write.key.try_copy()?))?;
-    }
-    Ok(keys)
 }
 
 /// What the cache remembers of reads.

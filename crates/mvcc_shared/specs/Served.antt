@@ -3,7 +3,7 @@ use Rattle.std.specs.Prelude.{◌≡◌, List, [], ◌∷◌, ◌++◌, reverse}
 use Rattle.timestamp_cache.specs.Words.{Time, Interval}
 use Rattle.mvcc_range.specs.declared.range.Outcome.{Outcome}
 use Rattle.mvcc_range.specs.declared.range.Outcome.TheVariants.{Committed, Restart}
-use Rattle.mvcc_range.specs.Versions.{Row}
+use Rattle.mvcc_versions.specs.Versions.{Row}
 use Rattle.mvcc_range.specs.Serial.{Transaction, moved}
 use Rattle.mvcc_range.specs.Steps.{RangeView, IsSame, Answered, Execution}
 use Rattle.mvcc_range.specs.Calls.{Reads, SeesOwn, Ends}

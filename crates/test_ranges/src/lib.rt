@@ -13,4 +13,6 @@ mod plain;
 #[cfg(test)]
 mod ranges;
 #[cfg(test)]
+mod refused;
+#[cfg(test)]
 mod tests;

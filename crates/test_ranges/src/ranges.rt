@@ -5,7 +5,7 @@ use crate::plain::WALL;
 use mvcc_range::{Outcome, Range, RangeError, Row, Transaction, Write};
 use std::alloc::Global;
 use std::test::Fail;
-use timestamp_cache::{Config, Key, Span, Timestamp, Uuid};
+use timestamp_cache::{Config, Key, Span, SpanFault, Timestamp, Uuid};
 
 const NAMES: [&[u8]; KEYS] = [b"a", b"b", b"c", b"d", b"e", b"f"];
 
@@ -16,17 +16,17 @@ pub struct Ranged {
     begun: Vec<Transaction>,
 }
 
-fn time(wall: u64) -> Result<Timestamp, Fail> {
+pub fn time(wall: u64) -> Result<Timestamp, Fail> {
     Ok(Timestamp::new(wall, 0).ok_or("no such time")?)
 }
 
-fn key(alloc: Global, number: usize) -> Result<Key, Fail> {
+pub fn key(alloc: Global, number: usize) -> Result<Key, SpanFault> {
     let name: &[u8] = if number < KEYS { NAMES[number] } else { b"g" };
-    Ok(Key::new(alloc, name)?)
+    Key::new(alloc, name)
 }
 
 /// Small pages, so that they rotate.
-fn config() -> Result<Config, Fail> {
+pub fn config() -> Result<Config, Fail> {
     Ok(Config::new(128, 256, 1, 4, time(5)?)?)
 }
 
@@ -50,7 +50,7 @@ fn number_of(row: &Row) -> u32 {
 }
 
 /// What rows say of the keys.
-fn contents_of(rows: &[Row]) -> Contents {
+pub fn contents_of(rows: &[Row]) -> Contents {
     let mut contents: Contents = [None; KEYS];
     for row in rows {
         for (number, name) in NAMES.iter().enumerate() {
@@ -119,7 +119,7 @@ impl Store for Ranged {
 }
 
 /// When a transaction committed.
-fn time_of(outcome: Outcome) -> Option<u64> {
+pub fn time_of(outcome: Outcome) -> Option<u64> {
     match outcome {
         Outcome::Committed(at) => {
             Some(

@@ -15,3 +15,4 @@ pub mod SummaryParts
 pub mod SummaryFields
 pub mod SummaryMarks
 pub mod SummaryFrame
+pub mod Rising

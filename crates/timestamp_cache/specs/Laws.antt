@@ -4,18 +4,18 @@ use Rattle.std.specs.List.{Contains}
 use Rattle.tsc_time.specs.Time.{Time, is_before, time_minus}
 use Rattle.tsc_time.specs.OwnedTime.{Owner, OwnedTime}
 use Rattle.tsc_time.specs.Joint.{IsAtMost}
-use Rattle.tsc_span.specs.Span.{Interval, overlaps}
+use Rattle.tsc_span.specs.Span.{KeyBytes, Interval, point, overlaps, covers}
 use Rattle.tsc_page_base.specs.Page.{Mark}
 use Rattle.tsc_cache.specs.Settings.{Settings}
 use Rattle.tsc_cache.specs.State.{CacheState, step_all, look}
-use Rattle.tsc_cache.specs.CacheView.{CacheView, StandsForState, cache_answer}
+use Rattle.tsc_cache.specs.CacheView.{CacheView, StandsForState, StandsAfterAll, cache_answer}
 use Rattle.tsc_cache.specs.declared.history.Entry.{Entry}
 use Rattle.tsc_cache.specs.History.{History, state_from, state_of, BeginsWith}
 use Rattle.tsc_shared.specs.declared.answers.Receipt.{Receipt}
 use Rattle.tsc_shared.specs.Seats.{SeatView, FrontView}
 use Rattle.tsc_shared.specs.Answers.{Accepts, Learns, GoesOn, IsAbove}
 use Rattle.timestamp_cache.specs.Clear.{IsClearOf, IsClearOfReads}
-use Rattle.timestamp_cache.specs.HandOver.{Summary, IsWithin, TellsOf, marks_told}
+use Rattle.timestamp_cache.specs.HandOver.{Summary, summary_answer, IsWithin, TellsOf, marks_told}
 
 -- An Add on one seat, and a lookup on another that had learned a front of it: the front has what the first seat had seen behind that Add, or more.
 pub record Carries (adder added guest told later : SeatView) (ms : List Mark) (span : Interval) (answer : OwnedTime) : Type 0 where
@@ -68,3 +68,26 @@ abbrev pub ReadsAreHandedOn : Type 0
 ReadsAreHandedOn = (settings others : Settings) (h later : History) (s : CacheState) (told : Summary) (now : Time) (inner : Interval) (by : Owner) (at : Time)
     → TellsOf (state_of settings h) told → IsWithin inner told.span
     → IsClearOf (look (state_from others (step_all others s (marks_told told) now).state later) inner) by at → IsClearOfReads h inner by at
+
+-- Whatever is added to a cache that stands for the state of some history, no answer sinks, and each
+-- mark that is added is at most what is answered on its span then.
+pub record AnswersRise : Type 0 where
+  pub no_less : (old new : CacheView) (settings : Settings) (h : History) (ms : List Mark)
+      (now : Time) (span : Interval) → StandsForState old settings (state_of settings h)
+      → StandsAfterAll old new ms now → IsAtMost (cache_answer old span) (cache_answer new span)
+  pub kept : (old new : CacheView) (settings : Settings) (h : History) (ms : List Mark)
+      (now : Time) (m : Mark) (span : Interval) → StandsForState old settings (state_of settings h)
+      → StandsAfterAll old new ms now → Contains ms m → overlaps m.span span ≡ true
+      → IsAtMost m.value (cache_answer new span)
+
+-- What is clear of a read at some time is so at each later one.
+abbrev pub ClearStaysClear : Type 0
+ClearStaysClear = (read : OwnedTime) (by : Owner) (at later : Time) → is_before later at ≡ false
+    → IsClearOf read by at → IsClearOf read by later
+
+-- A summary that tells of a state tells no less than that answers, of each span within its own. A
+-- key of a span lies within it.
+pub record SummariesTellNoLess : Type 0 where
+  pub no_less : (s : CacheState) (told : Summary) (inner : Interval) → TellsOf s told
+      → IsWithin inner told.span → IsAtMost (look s inner) (summary_answer told inner)
+  pub keys : (span : Interval) (k : KeyBytes) → covers span k ≡ true → IsWithin (point k) span

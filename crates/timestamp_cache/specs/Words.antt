@@ -2,11 +2,11 @@
 pub use Rattle.tsc_time.specs.Time.{Time, is_in_range, is_before, zero_time}
 pub use Rattle.tsc_time.specs.OwnedTime.{Owner, OwnedTime, owner_of, unowned}
 pub use Rattle.tsc_time.specs.Joint.{IsAtMost}
-pub use Rattle.tsc_span.specs.Span.{KeyBytes, Interval, nothing, between, point, overlaps}
+pub use Rattle.tsc_span.specs.Span.{KeyBytes, Interval, nothing, between, point, onward, overlaps, covers}
 pub use Rattle.tsc_page_base.specs.Page.{Mark}
 pub use Rattle.tsc_cache.specs.Settings.{Settings}
-pub use Rattle.tsc_cache.specs.State.{CacheState, look}
+pub use Rattle.tsc_cache.specs.State.{CacheState, opening, look}
 pub use Rattle.tsc_cache.specs.History.{History, state_of, entry_of_mark, BeginsWith}
 pub use Rattle.tsc_cache.specs.declared.history.Entry.{Entry}
-pub use Rattle.tsc_cache.specs.CacheView.{CacheView, StandsForState, cache_answer}
+pub use Rattle.tsc_cache.specs.CacheView.{CacheView, StandsForState, StandsAfter, StandsAfterAll, cache_answer}
 pub use Rattle.tsc_shared.specs.Seats.{SharedView, SeatView, FrontView}

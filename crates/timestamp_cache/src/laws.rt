@@ -1,8 +1,8 @@
-//! Laws of histories of reads, over the definitions alone: those of `tsc_cache`, and five on what
-//! a store rests on.
+//! Laws of histories of reads, over the definitions alone: those of `tsc_cache`, and eight on
+//! what a store rests on.
 //!
 //! No program needs to call these functions: their contracts are the laws.
-ghost use Rattle.timestamp_cache.specs.Laws.{AnswersAreLookedUp, ReadsAreCarried, PushedByReadsAlone, ClearIsAtMost, ReadsAreHandedOn};
+ghost use Rattle.timestamp_cache.specs.Laws.{AnswersAreLookedUp, ReadsAreCarried, PushedByReadsAlone, ClearIsAtMost, ReadsAreHandedOn, AnswersRise, ClearStaysClear, SummariesTellNoLess};
 ghost use Rattle.timestamp_cache.specs.SummaryLaws.{SummariesAreReadBack};
 
 pub use tsc_cache::laws::{
@@ -45,4 +45,21 @@ pub fn reads_are_handed_on()
 /// Each summary is read back from its bytes as it is, and no beginning of the bytes is read.
 pub fn summaries_are_read_back()
     ensures { SummariesAreReadBack }
+{}
+
+/// Whatever is added to a cache, no answer sinks, and each mark that is added is at most what is
+/// answered on its span then. So a store that keeps no history knows that its reads are remembered.
+pub fn answers_rise()
+    ensures { AnswersRise }
+{}
+
+/// A write that is clear of a read, or of what a lookup answers, is so at each later time.
+pub fn clear_stays_clear()
+    ensures { ClearStaysClear }
+{}
+
+/// A summary tells no less than each state answers that it tells of, on each span within its own. A
+/// key of a span lies within it.
+pub fn summaries_tell_no_less()
+    ensures { SummariesTellNoLess }
 {}

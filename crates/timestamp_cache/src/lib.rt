@@ -45,7 +45,7 @@ pub use tsc_shared::{
     AddFault, Answer, Closed, Front, Gate, Gone, LowWater, NoGate, OpenFault, Receipt, Seat,
     SeatFigures, SharedCache, StillOut, TryAddFault,
 };
-pub use tsc_span::{Cut, Ends, Key, LONGEST_KEY, Span, SpanFault, SpanRef};
+pub use tsc_span::{Cut, Ends, Key, KeyRef, LONGEST_KEY, Span, SpanFault, SpanRef};
 pub use tsc_time::{NoMemory, Timestamp, Value, ratchet};
 pub use uuid::Uuid;
 pub use writes::{earliest_write, earliest_write_at, may_write, may_write_at};

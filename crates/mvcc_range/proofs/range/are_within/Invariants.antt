@@ -1,5 +1,5 @@
 use Rattle.std.proofs.Common.{◌≡◌, drop}
-use Rattle.mvcc_range.specs.Versions.{are_within}
+use Rattle.mvcc_versions.specs.Versions.{are_within}
 use Rattle.mvcc_range.proofs.range.are_within.Given as goal
 
 abbrev pub invariant-loop-write : goal.invariant-loop-write

@@ -1,9 +1,24 @@
-use Rattle.std.proofs.Common.{◌∙◌}
-use Rattle.mvcc_range.proofs.Times.{free_at}
+use Rattle.std.proofs.Common.{rules, sym}
+use Rattle.mvcc_range.proofs.Times.{none_yet, one_more_key, no_more_keys, all_keys}
 use Rattle.mvcc_range.proofs.range.free_time.Goals as goal
 
-pub returns-in_ok-keys-in-Some : goal.returns-in_ok-keys-in-Some
-returns-in_ok-keys-in-Some c =
-    free_at c.args.cache.now c.args.chains.now.entries c.args.writes.now c.deref.result.now
-    c.args.by c.args.from c.in-Some.after c.earliest_write.result (c.deref.ensures.value
-    ∙ c.in_ok-keys-in-Some.ensures) c.in-Some.ensures c.earliest_write.ensures.earliest
+pub loop-write-init : goal.loop-write-init
+loop-write-init c = none_yet c.args.cache.now c.args.versions.now c.args.by
+    c.args.writes.now c.args.from (search rules)
+
+pub loop-write-preserved : goal.loop-write-preserved
+loop-write-preserved c =
+    one_more_key c.args.cache.now c.args.versions.now c.args.by c.args.writes.now
+    c.loop-write.write-index c.write-item.result c.args.from c.loop-write.at c.in-Some.next
+    c.loop-write-test.true (sym c.write-item.is) c.loop-write.invariant c.in-Some.ensures
+
+pub returns-in-None : goal.returns-in-None
+returns-in-None c =
+    no_more_keys c.args.cache.now c.args.versions.now c.args.by c.args.writes.now
+    c.loop-write.write-index c.write-item.result c.args.from c.loop-write.at c.loop-write-test.true
+    (sym c.write-item.is) c.loop-write.invariant c.in-None.ensures
+
+pub returns : goal.returns
+returns c = all_keys c.args.cache.now c.args.versions.now c.args.by c.args.writes.now
+    c.loop-write.write-index c.args.from c.loop-write.at c.loop-write-test.false
+    c.loop-write.invariant

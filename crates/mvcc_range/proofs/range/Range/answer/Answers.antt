@@ -1,7 +1,7 @@
 use Rattle.std.proofs.Common.{◌≡◌, ◌∙◌, ap, subst}
 use Rattle.tsc_cache.specs.CacheView.{StandsAfter}
 use Rattle.timestamp_cache.specs.Words.{OwnedTime, owner_of, Interval, CacheView}
-use Rattle.mvcc_range.specs.Versions.{Read}
+use Rattle.mvcc_versions.specs.Versions.{Read}
 use Rattle.mvcc_range.specs.Serial.{Transaction}
 use Rattle.mvcc_range.specs.Steps.{RangeView}
 use Rattle.mvcc_range.proofs.range.Range.answer.Goals as goal

@@ -3,10 +3,10 @@ use Rattle.std.specs.List.{All}
 use Rattle.tsc_time.proofs.TimeOrder.{no_earlier-transitive}
 use Rattle.timestamp_cache.specs.Words.{Time}
 use Rattle.timestamp_cache.specs.Earliest.{IsEarliest, TellsEarliest}
-use Rattle.mvcc_range.specs.Versions.{Read, as_of, Matches}
+use Rattle.mvcc_versions.specs.Versions.{Read, as_of, Matches}
 use Rattle.mvcc_range.specs.Serial.{Transaction}
 use Rattle.mvcc_range.specs.Steps.{IsFree}
-use Rattle.mvcc_range.proofs.Linking.{all_within}
+use Rattle.mvcc_range.proofs.Checks.{all_within}
 use Rattle.mvcc_range.proofs.range.Range.commit.Goals as goal
 
 pub returns-clause-ok : goal.returns-clause-ok
@@ -16,7 +16,7 @@ returns-clause-ok c =
     let at = c.in-Some.at in
     let earliest : IsEarliest (IsFree range.cache range.chains t.by t.writes) t.at at
     = subst (λ (o : Option Time). TellsEarliest (IsFree range.cache range.chains t.by t.writes) t.at
-    o) c.in-Some.is c.in_ok-at.ensures in
+    o) c.in-Some.is c.free_time.ensures in
     let reads : c.deref.result.now ≡ t.reads = c.deref.ensures.value
     ∙ ap (λ (x : Transaction). x.reads) c.transaction.view_is in (
       earliest,

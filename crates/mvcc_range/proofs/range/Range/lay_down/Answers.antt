@@ -3,10 +3,10 @@ use Rattle.std.proofs.lemmas.Result.{on_ok_weaker}
 use Rattle.tsc_cache.specs.Batch.{all_fit}
 use Rattle.tsc_cache.specs.CacheView.{StandsAfterAll}
 use Rattle.timestamp_cache.specs.Words.{Mark}
-use Rattle.mvcc_range.specs.Versions.{Write, Read, laid, chain_of}
+use Rattle.mvcc_versions.specs.Versions.{Write, Read, laid, chain_of}
 use Rattle.mvcc_range.specs.Serial.{Transaction}
 use Rattle.mvcc_range.specs.Steps.{RangeView, mark_of, reads_fit}
-use Rattle.mvcc_range.proofs.Linking.{fits_marks}
+use Rattle.mvcc_range.proofs.Checks.{fits_marks}
 use Rattle.mvcc_range.proofs.range.Range.lay_down.Goals as goal
 
 pub lay_down-requires-clause-fit : goal.lay_down-requires-clause-fit
@@ -40,8 +40,8 @@ returns-clause-ok c =
           c.args.now) marks done.0);
       chains = λ k. done.1 k
           ∙ (ap (λ (ws : List Write). laid k at c.transaction.inside.by ws
-          (chain_of c.self.inside.chains.entries k)) c.as_slice-writes.ensures.value
+          (chain_of c.self.inside.versions k)) c.as_slice-writes.ensures.value
           ∙ (ap (λ (x : Transaction). laid k at x.by x.writes
-          (chain_of c.self.inside.chains.entries k)) c.transaction.view_is
+          (chain_of c.self.inside.versions k)) c.transaction.view_is
           ∙ ap (λ (r : RangeView). laid k at t.by t.writes (chain_of r.chains k)) c.self.view_is));
     }) c.lay_down.ensures.done

@@ -1,6 +1,6 @@
 use Rattle.std.proofs.Common.{◌≡◌, ◌∙◌, ap, subst, List}
 use Rattle.timestamp_cache.specs.Words.{Time, Interval}
-use Rattle.mvcc_range.specs.Versions.{Contents, Write, Matches, as_of, after_writes}
+use Rattle.mvcc_versions.specs.Versions.{Contents, Write, Matches, as_of, after_writes}
 use Rattle.mvcc_range.specs.Serial.{Transaction, executed}
 use Rattle.mvcc_range.proofs.range.Range.read.Goals as goal
 

@@ -1,7 +1,0 @@
-use Rattle.std.proofs.Common.{rules}
-use Rattle.mvcc_range.proofs.Collecting.{retained}
-use Rattle.mvcc_range.proofs.chains.collect.Goals as goal
-
-pub returns : goal.returns
-returns c = λ k. retained _ c.args.from _ (λ q vs b w g t. search rules) c.args.chains.now.entries
-    c.retain.new.self.entries c.retain.ensures.was_ordered c.retain.ensures.filtered k

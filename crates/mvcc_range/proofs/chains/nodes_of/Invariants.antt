@@ -1,7 +1,0 @@
-use Rattle.std.proofs.Common.{◌≡◌, ◌++◌, drop}
-use Rattle.mvcc_range.specs.Maps.{nodes_of}
-use Rattle.mvcc_range.proofs.chains.nodes_of.Given as goal
-
-abbrev pub invariant-loop-write : goal.invariant-loop-write
-invariant-loop-write l = l.nodes ++ nodes_of l.at l.by (drop l.write-index l.writes)
-    ≡ nodes_of l.at l.by l.writes

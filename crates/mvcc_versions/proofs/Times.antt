@@ -1,0 +1,94 @@
+-- The earliest time after a key's last write.
+use Rattle.std.proofs.Common.{
+  ◌≡◌,
+  ◌∙◌,
+  ap,
+  sym,
+  refl,
+  subst,
+  inl,
+  inr,
+  ℕ,
+  map,
+  ◌+◌,
+  ◌<◌,
+  ◌≤◌,
+  take,
+  List,
+  [],
+  ◌∷◌,
+  ◌++◌,
+  length,
+  get_or,
+  true,
+  false,
+  Some,
+  None,
+  Option,
+  arith,
+}
+use Rattle.std.specs.List.{All, AllByRecursion}
+use Rattle.std.proofs.lemmas.Bool.{cases_Bool, both_ways}
+use Rattle.std.proofs.lemmas.List.{take_more, take_all}
+use Rattle.std.proofs.lemmas.List.Elements.{
+  All-from_recursion,
+  recursion_from_All,
+  All-take,
+  All-map,
+}
+use Rattle.tsc_time.proofs.TimeOrder.{is_before-itself, is_before-opposite, no_earlier-transitive}
+use Rattle.timestamp_cache.specs.Words.{
+  Time,
+  is_in_range,
+  is_before,
+  Owner,
+  Interval,
+  point,
+  CacheView,
+  cache_answer,
+}
+use Rattle.timestamp_cache.specs.Clear.{IsClearOf, IsClearOfAnswers}
+use Rattle.timestamp_cache.specs.Earliest.{IsEarliest, TellsEarliest}
+use Rattle.timestamp_cache.proofs.Earliest.{one_more, none_more}
+use Rattle.mvcc_versions.specs.Versions.{Chains, chain_of, Write, newest_time, IsAfter}
+
+-- ---- one key
+
+pub from_itself : (from : Time) → is_in_range from ≡ true
+    → TellsEarliest (IsAfter None) from (Some from)
+from_itself from range = record {
+  in_range = range;
+  from_on = is_before-itself from;
+  holds = tt;
+  least = λ t _ on _. on;
+}
+
+pub already_after : (last from : Time) → is_in_range from ≡ true → is_before last from ≡ true
+    → TellsEarliest (IsAfter (Some last)) from (Some from)
+already_after last from range h = record {
+  in_range = range;
+  from_on = is_before-itself from;
+  holds = h;
+  least = λ t _ on _. on;
+}
+
+pub after_next : (last from : Time) (next : Option Time) → is_before last from ≡ false
+    → TellsEarliest (λ t. is_before last t ≡ true) last next
+    → TellsEarliest (IsAfter (Some last)) from next
+after_next last from None on tells =
+    λ t range later is. tells t range (is_before-opposite last t is) is
+after_next last from (Some n) on tells = record {
+  in_range = tells.in_range;
+  from_on = no_earlier-transitive from last n on (is_before-opposite last n tells.holds);
+  holds = tells.holds;
+  least = λ t range later is. tells.least t range (is_before-opposite last t is) is;
+}
+
+-- what is later than a key's last write stays so
+pub after_stays : (o : Option Time) (t u : Time) → is_before u t ≡ false → IsAfter o t → IsAfter o u
+after_stays None t u on h = tt
+after_stays (Some last) t u on h = elim (cases_Bool (is_before last u)) [
+  | inl b ↦ b
+  | inr n ↦
+      absurd (both_ways (is_before last t) (no_earlier-transitive t u last on n) h)
+]

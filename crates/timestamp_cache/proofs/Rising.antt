@@ -1,0 +1,110 @@
+-- What a store rests on that keeps no history: answers that don't sink, and summaries that tell no
+-- less.
+use Rattle.std.proofs.Common.{
+  ◌≡◌,
+  sym,
+  subst,
+  List,
+  [],
+  ◌∷◌,
+  ◌++◌,
+  Bool,
+  true,
+  false,
+  not,
+  ◌&&◌,
+  refl,
+}
+use Rattle.std.specs.List.{Contains}
+use Rattle.std.proofs.lemmas.List.Elements.{Contains-push}
+use Rattle.tsc_time.specs.Time.{Time}
+use Rattle.tsc_time.specs.OwnedTime.{OwnedTime}
+use Rattle.tsc_time.specs.Joint.{IsAtMost}
+use Rattle.tsc_span.specs.Span.{
+  KeyBytes,
+  Interval,
+  nothing,
+  between,
+  before,
+  after,
+  is_below,
+  point,
+  overlaps,
+  covers,
+}
+use Rattle.tsc_span.proofs.CutOrder.{sides_in_order}
+use Rattle.tsc_page_base.specs.Page.{Mark}
+use Rattle.tsc_cache.specs.Settings.{Settings}
+use Rattle.tsc_cache.specs.State.{CacheState, look}
+use Rattle.tsc_cache.specs.declared.history.Entry.{Entry}
+use Rattle.tsc_cache.specs.History.{History, state_of}
+use Rattle.tsc_cache.specs.CacheView.{CacheView, StandsForState, StandsAfterAll, cache_answer}
+use Rattle.tsc_cache.proofs.FloorJoints.{above_each}
+use Rattle.tsc_cache.proofs.Histories.{state_of-push, kept_up, rising}
+use Rattle.tsc_cache.proofs.StatesSeen.{answers_look}
+use Rattle.timestamp_cache.specs.HandOver.{Summary, summary_answer, IsWithin, TellsOf}
+use Rattle.timestamp_cache.specs.Laws.{AnswersRise, SummariesTellNoLess}
+
+-- ---- answers
+
+-- what is added together, as an entry
+abbrev entry_of : List Mark → Time → Entry
+entry_of ms now = record { seat = 0; number = 0; marks = ms; now = now }
+
+-- a cache to which more is added stands for a history with one entry more
+pub stands_longer : (old new : CacheView) (settings : Settings) (h : History) (ms : List Mark)
+    (now : Time) → StandsForState old settings (state_of settings h)
+    → StandsAfterAll old new ms now
+    → StandsForState new settings (state_of settings (h
+    ++ (record { seat = 0; number = 0; marks = ms; now = now }) ∷ []))
+stands_longer old new settings h ms now was adds =
+    subst (StandsForState new settings) (sym (state_of-push settings h (entry_of ms now)))
+    (adds settings (state_of settings h) was)
+
+pub answers_rise : AnswersRise
+answers_rise = record {
+  no_less = λ old new settings h ms now span was adds. let longer : History = h ++ entry_of ms now
+      ∷ [] in
+      let is : StandsForState new settings (state_of settings longer) =
+      stands_longer old new settings h ms now was adds in
+      let rises : IsAtMost (look (state_of settings h) span) (look (state_of settings longer) span)
+      = rising.answers settings h longer span (entry_of ms now ∷ [], refl) in
+      subst (λ (v : OwnedTime). IsAtMost v (cache_answer new span))
+      (sym (answers_look old settings (state_of settings h) span was))
+      (subst (IsAtMost (look (state_of settings h) span))
+      (sym (answers_look new settings (state_of settings longer) span is)) rises);
+  kept = λ old new settings h ms now m span was adds own over. let longer : History = h
+      ++ entry_of ms now ∷ [] in
+      let is : StandsForState new settings (state_of settings longer) =
+      stands_longer old new settings h ms now was adds in
+      subst (IsAtMost m.value) (sym (answers_look new settings (state_of settings longer) span is))
+      (kept_up settings longer (entry_of ms now) m span (Contains-push h (entry_of ms now)) own
+      over);
+}
+
+-- ---- summaries
+
+-- a key of a span lies within it
+key_within : (span : Interval) (k : KeyBytes) → covers span k ≡ true → IsWithin (point k) span
+key_within nothing k c = absurd (let never : false ≡ true = c in cc)
+key_within (between from to) k c = (
+  sides_in_order k,
+  low (is_below (before k) from) (is_below to (after k)) c,
+  high (is_below (before k) from) (is_below to (after k)) c,
+)
+  where
+    low : (a b : Bool) → (not a && not b) ≡ true → a ≡ false
+    low true b h = absurd (let never : false ≡ true = h in cc)
+    low false b h = refl
+
+    high : (a b : Bool) → (not a && not b) ≡ true → b ≡ false
+    high true b h = absurd (let never : false ≡ true = h in cc)
+    high false true h = absurd (let never : false ≡ true = h in cc)
+    high false false h = refl
+
+pub summaries_tell_no_less : SummariesTellNoLess
+summaries_tell_no_less = record {
+  no_less = λ s told inner tells within. subst (IsAtMost (look s inner)) (sym (tells inner within))
+      (above_each told.floor (look s inner ∷ []) (look s inner) (Contains-push [] (look s inner)));
+  keys = key_within;
+}

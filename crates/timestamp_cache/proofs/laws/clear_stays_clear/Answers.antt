@@ -1,0 +1,5 @@
+use Rattle.timestamp_cache.proofs.Earliest.{clear_later}
+use Rattle.timestamp_cache.proofs.laws.clear_stays_clear.Goals as goal
+
+pub returns : goal.returns
+returns c = clear_later

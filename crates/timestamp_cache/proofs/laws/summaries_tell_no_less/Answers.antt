@@ -1,0 +1,5 @@
+use Rattle.timestamp_cache.proofs.Rising.{summaries_tell_no_less}
+use Rattle.timestamp_cache.proofs.laws.summaries_tell_no_less.Goals as goal
+
+pub returns : goal.returns
+returns c = summaries_tell_no_less
