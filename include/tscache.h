@@ -20,8 +20,9 @@
  * that will do is the answer's if the transaction owns it, and if not the one after it, which
  * `tsc_next` tells. Each of several spans has to let the write pass, so a store goes from span to
  * span, on to a later time where one asks for that, and never back: `tsc_earliest_write` and
- * `tsc_seat_earliest_write` do. The trap: an own answer at 30 hides a read of somebody else at 20,
- * so that a write at 25 is never let pass because the answer is its own.
+ * `tsc_seat_earliest_write` do, and `tsc_may_write` and `tsc_seat_may_write` tell whether a write
+ * may be made at once. The trap: an own answer at 30 hides a read of somebody else at 20, so that
+ * a write at 25 is never let pass because the answer is its own.
  *
  * Each function that is declared here is proved, over whatever numbers and bytes it is given, to return and to do what is said
  * of it, as long as the caller keeps to this:
@@ -41,8 +42,8 @@
  *
  * Who owns what: an Add copies the bytes of its keys, a lookup copies nothing, and no call keeps a pointer that it is given. All memory
  * that a call takes belongs to the place until `tsc_close` (one cache) or `tsc_free` (all of them, and the place's own). A shared cache
- * belongs to its number and to its seats together, and is freed with the last of these. Calls that only read, which are lookups and those
- * for floors and figures, take no memory.
+ * belongs to its number and to its seats together, and is freed with the last of these. Lookups and the calls for writes, floors and
+ * figures take no memory. What `tsc_summary`, `tsc_replay` and `tsc_check` take they free before they return.
  *
  * A cache that threads share has seats, each for one thread at a time. A program opens it, and moves each seat to a place of its
  * own, which it hands to a thread:
@@ -93,14 +94,18 @@ enum {
     TSC_PAGE_SIZE = 8,    /* page_first is below 64 or above page_max, or that is above 2^30 */
     TSC_MIN_PAGES = 9,    /* min_pages is 0 or above 64 */
     TSC_RETENTION = 10,   /* retention is above 2^63 - 1 */
-    TSC_NO_MEMORY = 11,   /* malloc or realloc refused; told by no call that only reads */
+    TSC_NO_MEMORY = 11,   /* malloc or realloc refused; told by no call that takes no memory */
     TSC_SEATS = 12,       /* there were to be no seats, or more than 64 */
     TSC_STILL_OUT = 13,   /* a seat of the shared cache was not handed in */
     TSC_BUSY = 14,        /* others were in the way at each of so many tries: another Add, or a lookup */
     TSC_FULL = 15,        /* the shared cache has had as many Adds as `limit` says */
     TSC_REFUSED = 16,     /* of tsc_replay and tsc_check: the text says why the bytes are no trace, or no log */
-    TSC_SHORT = 17,       /* of the same: the text is longer than `room`, and `*len` says how long */
+    TSC_SHORT = 17,       /* of the same, and of tsc_summary: what is told is longer than `room`, and `*len` says how long */
     TSC_NO_TIME = 18,     /* a read of somebody else stands at the last time, so a write may be made at none */
+    TSC_SUMMARY_VERSION = 19,  /* of tsc_apply, as those below: the bytes are a summary of another version */
+    TSC_SUMMARY_LENGTH = 20,   /* some bytes of the summary are missing, or there are more than it has */
+    TSC_SUMMARY_CHECKSUM = 21, /* the summary was changed: its digest is another one */
+    TSC_SUMMARY_FORM = 22,     /* the digest is right, and what it is of is no summary: its sender made it wrong */
     TSC_NULL = 255        /* a pointer is null: told by the calls with `checked_` in their names alone */
 };
 
@@ -187,11 +192,43 @@ uint32_t tsc_get_max(tsc_place *place, uint64_t number, const void *from, size_t
 uint32_t tsc_earliest_write(tsc_place *place, uint64_t number, const void *keys, size_t keys_len, const tsc_span *spans,
                             size_t spans_len, const tsc_value *write, tsc_time *out);
 
+/* Whether a transaction may write all of some spans at the time of `write`, by its owner: whether that time is clear of what a lookup
+ * of each span answers. Then it is clear of each read on one of the spans that was added so far. It is so just where
+ * `tsc_earliest_write` tells that very time. A write that may not be made is not refused: TSC_OK is told, and `*out` is false. It costs
+ * what `tsc_earliest_write` does, and is refused by TSC_TIME, TSC_ENDS, TSC_OUTSIDE and TSC_CLOSED; `*out` is as before then. */
+uint32_t tsc_may_write(tsc_place *place, uint64_t number, const void *keys, size_t keys_len, const tsc_span *spans, size_t spans_len,
+                       const tsc_value *write, bool *out);
+
 /* Where the floor stands. */
 uint32_t tsc_low_water(tsc_place *place, uint64_t number, tsc_time *out);
 
 /* What can be counted. It costs a step for each page. */
 uint32_t tsc_figures_of(tsc_place *place, uint64_t number, tsc_figures *out);
+
+/* What was read of a span, as bytes to be sent to the next holder of its lease, who hands them to `tsc_apply`. The caller stops
+ * answering reads of the span before it asks. docs/FORMATS.md has the form of the bytes.
+ *
+ * The bytes go into a buffer of `room` bytes, which may be 0, as the texts of `tsc_replay` do: TSC_OK where they fit, and TSC_SHORT where
+ * there are more, and `out` is as before. In both cases `*len` tells how many there are. At most `most` marks are told; SIZE_MAX leaves
+ * none out. Where there is no room for a mark its time raises a floor of the summary, so that later writes are pushed further by it,
+ * and never less far. With `most` of 0 it is such a floor alone, in at most 8,264 bytes.
+ *
+ * It costs a lookup for each end key of a read within the span, and for each gap between two. It is refused as a span to be added is,
+ * by TSC_ENDS, TSC_KEY_TOO_LONG and TSC_INVERTED, and by TSC_NO_MEMORY and TSC_CLOSED: `out` and `*len` are as before then. A shared
+ * cache and its seats have no summary: their lease goes on by a floor. */
+uint32_t tsc_summary(tsc_place *place, uint64_t number, const void *from, size_t from_len, const void *to, size_t to_len, uint32_t ends,
+                     size_t most, void *out, size_t room, size_t *len);
+
+/* Adds what the bytes of a summary tell to a cache, at the moment `now`: all of it or nothing. The new holder of a lease does so before
+ * it answers its first write of the span. From then on no answer within the span is earlier than what the former holder's cache answered
+ * there, no answer anywhere has sunk, and reads that were told as marks keep their owners.
+ *
+ * Bytes of which some are missing or were changed are refused by TSC_SUMMARY_VERSION, TSC_SUMMARY_LENGTH or TSC_SUMMARY_CHECKSUM, and the
+ * cache is as it was. The digest is no signature: who takes bytes from somebody that may lie has them signed. Else it is refused by
+ * TSC_SUMMARY_FORM; by TSC_TOO_LARGE where a span of the summary costs more than page_max of this cache; and by TSC_TIME,
+ * TSC_NO_MEMORY and TSC_CLOSED. Where it is refused the holder asks for the bytes again, or opens a cache with `low_water` at or above
+ * each time at which a read was answered; until then it answers no write of the span. */
+uint32_t tsc_apply(tsc_place *place, uint64_t number, const void *summary, size_t summary_len, const tsc_time *now, tsc_added *out);
 
 /* Frees a cache that `tsc_open` opened. Its number is answered by TSC_CLOSED from then on. */
 uint32_t tsc_close(tsc_place *place, uint64_t number);
@@ -219,11 +256,12 @@ uint32_t tsc_open_shared(tsc_place *place, uint32_t page_first, uint32_t page_ma
  * of that seat counts the Add then. A lookup that begins once an Add has returned counts it the first time; this alone is tested, and not
  * proved.
  *
- * There is no call that has a seat learn what another one has seen, and none that tells the reads of a span to the next holder of a lease
- * (that one opens its cache with `low_water` at or above each time at which a read was answered).
+ * There is no call that has a seat learn what another one has seen, and none that tells what a seat has seen of a span to the next holder
+ * of a lease (that one opens its cache with `low_water` at or above each time at which a read was answered).
  *
  * `tsc_seat_earliest_write` looks up one span after another, and each lookup may see more Adds than the one before. The time is
  * clear of each read on a span that the seat had seen when it looked that span up, which is at least all that it had seen before.
+ * `tsc_seat_may_write` asks in the same way, and `*out` is true just where it is told the time of `write`.
  *
  * An Add takes its turn. It tries so many times to begin, where another seat is at it, and looks so many times at each seat that is inside a
  * lookup. Where others are in the way each time it is refused by TSC_BUSY and may be tried again; with 0 tries it always is. Take
@@ -240,6 +278,8 @@ uint32_t tsc_seat_get_max(tsc_place *place, uint64_t seat, const void *from, siz
                           uint32_t ends, uint64_t *seen, tsc_value *out);
 uint32_t tsc_seat_earliest_write(tsc_place *place, uint64_t seat, const void *keys, size_t keys_len, const tsc_span *spans,
                                  size_t spans_len, const tsc_value *write, uint64_t *seen, tsc_time *out);
+uint32_t tsc_seat_may_write(tsc_place *place, uint64_t seat, const void *keys, size_t keys_len, const tsc_span *spans, size_t spans_len,
+                            const tsc_value *write, uint64_t *seen, bool *out);
 uint32_t tsc_seat_low_water(tsc_place *place, uint64_t seat, uint64_t *seen, tsc_time *out);
 uint32_t tsc_seat_figures_of(tsc_place *place, uint64_t seat, uint64_t *seen, tsc_figures *out);
 
@@ -349,6 +389,32 @@ static inline uint32_t tsc_checked_earliest_write(tsc_place *place, uint64_t num
     return tsc_earliest_write(place, number, tsc_bytes(keys), keys_len, spans ? spans : &none, spans_len, write, out);
 }
 
+static inline uint32_t tsc_checked_may_write(tsc_place *place, uint64_t number, const void *keys, size_t keys_len, const tsc_span *spans,
+                                             size_t spans_len, const tsc_value *write, bool *out)
+{
+    static const tsc_span none = {0, 0, 0, 0, 0};
+    if (!place || !write || !out || (!keys && keys_len) || (!spans && spans_len))
+        return TSC_NULL;
+    return tsc_may_write(place, number, tsc_bytes(keys), keys_len, spans ? spans : &none, spans_len, write, out);
+}
+
+static inline uint32_t tsc_checked_summary(tsc_place *place, uint64_t number, const void *from, size_t from_len, const void *to,
+                                           size_t to_len, uint32_t ends, size_t most, void *out, size_t room, size_t *len)
+{
+    uint8_t none[1];
+    if (!place || !len || (!from && from_len) || (!to && to_len) || (!out && room))
+        return TSC_NULL;
+    return tsc_summary(place, number, tsc_bytes(from), from_len, tsc_bytes(to), to_len, ends, most, out ? out : none, room, len);
+}
+
+static inline uint32_t tsc_checked_apply(tsc_place *place, uint64_t number, const void *summary, size_t summary_len, const tsc_time *now,
+                                         tsc_added *out)
+{
+    if (!place || !now || !out || (!summary && summary_len))
+        return TSC_NULL;
+    return tsc_apply(place, number, tsc_bytes(summary), summary_len, now, out);
+}
+
 static inline uint32_t tsc_checked_low_water(tsc_place *place, uint64_t number, tsc_time *out)
 {
     return place && out ? tsc_low_water(place, number, out) : (uint32_t)TSC_NULL;
@@ -394,6 +460,16 @@ static inline uint32_t tsc_checked_seat_earliest_write(tsc_place *place, uint64_
     if (!place || !write || !seen || !out || (!keys && keys_len) || (!spans && spans_len))
         return TSC_NULL;
     return tsc_seat_earliest_write(place, seat, tsc_bytes(keys), keys_len, spans ? spans : &none, spans_len, write, seen, out);
+}
+
+static inline uint32_t tsc_checked_seat_may_write(tsc_place *place, uint64_t seat, const void *keys, size_t keys_len,
+                                                  const tsc_span *spans, size_t spans_len, const tsc_value *write, uint64_t *seen,
+                                                  bool *out)
+{
+    static const tsc_span none = {0, 0, 0, 0, 0};
+    if (!place || !write || !seen || !out || (!keys && keys_len) || (!spans && spans_len))
+        return TSC_NULL;
+    return tsc_seat_may_write(place, seat, tsc_bytes(keys), keys_len, spans ? spans : &none, spans_len, write, seen, out);
 }
 
 static inline uint32_t tsc_checked_seat_low_water(tsc_place *place, uint64_t seat, uint64_t *seen, tsc_time *out)
@@ -467,8 +543,12 @@ static inline const char *tsc_text(uint32_t answer)
     case TSC_BUSY: return "others were in the way";
     case TSC_FULL: return "there are as many Adds as there may be";
     case TSC_REFUSED: return "the bytes are refused, and the text says why";
-    case TSC_SHORT: return "the text is longer than the buffer";
+    case TSC_SHORT: return "what is told is longer than the buffer";
     case TSC_NO_TIME: return "there is no time at which the write may be made";
+    case TSC_SUMMARY_VERSION: return "the summary is of another version";
+    case TSC_SUMMARY_LENGTH: return "the summary has another length";
+    case TSC_SUMMARY_CHECKSUM: return "the summary was changed";
+    case TSC_SUMMARY_FORM: return "the bytes are no summary";
     case TSC_NULL: return "a pointer is null";
     default: return "no such answer";
     }

@@ -135,26 +135,53 @@ static void read_keys(struct worker *w, int from, int to, tsc_time at, uint64_t 
     }
 }
 
-/* The earliest time, not before `at`, at which a key may be written, by the rule of tscache.h. It
- * is false where there is none. */
-static bool clear_key(struct worker *w, int key, uint64_t by, tsc_time *at)
+/* The trap: each key by itself, and an answer of its own is taken for leave. An earlier read of
+ * somebody else may lie behind it. */
+static bool trusts_its_own(struct worker *w, const uint8_t names[2], const uint8_t owner[16],
+                           tsc_time *at)
 {
-    uint8_t name = (uint8_t)key, owner[16];
-    tsc_value read;
+    for (int i = 0; i < 2; i++) {
+        tsc_value read;
+        uint64_t seen;
+        uint32_t answer = tsc_seat_get_max(&w->place, w->seat, &names[i], 1, &names[i], 0,
+                                           TSC_POINT, &seen, &read);
+        if (answer != TSC_OK)
+            fail(tsc_text(answer));
+        tsc_time latest = {read.wall, read.logical};
+        if (memcmp(read.owner, owner, 16) != 0 && !tsc_before(latest, *at) &&
+            !tsc_next(latest, at))
+            return false;
+    }
+    return true;
+}
+
+/* The earliest time, not before `at`, at which two keys may be written. It is false where there is
+ * none. */
+static bool clear_keys(struct worker *w, const int both[2], uint64_t by, tsc_time *at)
+{
+    static const tsc_span SPANS[2] = {{0, 1, 0, 0, TSC_POINT}, {1, 1, 0, 0, TSC_POINT}};
+    uint8_t names[2] = {(uint8_t)both[0], (uint8_t)both[1]};
+    tsc_value write = {at->wall, at->logical, {0}};
     uint64_t seen;
-    id_of(by, owner);
+    bool may;
+    id_of(by, write.owner);
+    if (w->store->asking == NEVER_ASKS)
+        return true;
+    if (w->store->asking == TRUSTS_ITS_OWN)
+        return trusts_its_own(w, names, write.owner, at);
     uint32_t answer =
-        tsc_seat_get_max(&w->place, w->seat, &name, 1, &name, 0, TSC_POINT, &seen, &read);
+        tsc_seat_earliest_write(&w->place, w->seat, names, 2, SPANS, 2, &write, &seen, at);
+    if (answer == TSC_NO_TIME)
+        return false;
     if (answer != TSC_OK)
         fail(tsc_text(answer));
-    tsc_time latest = {read.wall, read.logical};
-    bool is_own = memcmp(read.owner, owner, 16) == 0;
-    if (w->store->asking == TRUSTS_ITS_OWN && is_own)
-        return true; /* the trap: an earlier read of somebody else may lie behind it */
-    if (tsc_before(latest, *at) || (is_own && !tsc_before(*at, latest)))
-        return true;
-    *at = latest;
-    return is_own || tsc_next(latest, at);
+    /* nobody else adds a read of the keys while their latches are held */
+    write.wall = at->wall;
+    write.logical = at->logical;
+    answer = tsc_seat_may_write(&w->place, w->seat, names, 2, SPANS, 2, &write, &seen, &may);
+    if (answer != TSC_OK || !may)
+        fail("a write may not be made at the time that was told");
+    return true;
 }
 
 /* Writes two keys at one time: each has to let it pass. The latches are held from the question to
@@ -166,9 +193,7 @@ static void write_keys(struct worker *w, int one, int other, tsc_time wanted, ui
     tsc_time at = wanted;
     for (int i = 0; i < 2; i++)
         pthread_mutex_lock(&keys[both[i]].latch);
-    bool may = true;
-    for (int i = 0; may && i < 2 && w->store->asking != NEVER_ASKS; i++)
-        may = clear_key(w, both[i], by, &at);
+    bool may = clear_keys(w, both, by, &at);
     w->pushed += tsc_before(wanted, at);
     for (int i = 0; i < 2; i++) { /* and it goes above the newest version of each */
         const struct key *k = &keys[both[i]];

@@ -58,6 +58,16 @@ static void of_a_cache(void)
     asks("tsc_add of a known key", tsc_checked_add(&place, n, "x", 1, NULL, 0, TSC_POINT, &LATER, &NOW, &added), 1, 1);
     asks("tsc_get_max", tsc_checked_get_max(&place, n, "x", 1, NULL, 0, TSC_POINT, &value), 0, 0);
     asks("tsc_add_all of known keys", tsc_checked_add_all(&place, n, "xy", 2, marks, 2, &NOW, &added), 7, 890);
+    uint8_t told[300];
+    size_t len = 0;
+    tsc_span spans[2] = {{0, 1, 1, 1, 0}, {1, 1, 0, 0, TSC_POINT}};
+    tsc_time first;
+    bool may = false;
+    asks("tsc_earliest_write", tsc_checked_earliest_write(&place, n, "xy", 2, spans, 2, &LATER, &first), 0, 0);
+    asks("tsc_may_write", tsc_checked_may_write(&place, n, "xy", 2, spans, 2, &LATER, &may), 0, 0);
+    asks("tsc_summary of two keys", tsc_checked_summary(&place, n, "x", 1, "y", 1, 0, SIZE_MAX, told, sizeof told, &len), 18, 1060);
+    asks("tsc_apply of what is known", tsc_checked_apply(&place, n, told, len, &NOW, &added), 16, 1290);
+    asks("tsc_apply to an empty cache", tsc_checked_apply(&place, second, told, len, &NOW, &added), 24, 1620);
     asks("tsc_move to an empty place", tsc_checked_move(&place, n, &other, &moved), 2, 590);
     asks("tsc_move of a second one", tsc_checked_move(&place, second, &other, &moved), 0, 0);
     tsc_checked_free(&place);

@@ -1,5 +1,6 @@
 /* Plays the rows of bindings/rows.txt, whose head says what they are, on a cache, by one seat of
- * a shared cache, and by three seats in turn. It says at the end `N passed, M failed`. */
+ * a shared cache, and by three seats in turn. With CHECKED it makes the calls that test for null.
+ * It says at the end `N passed, M failed`. */
 #include "tscache.h"
 
 #include <inttypes.h>
@@ -7,7 +8,30 @@
 #include <stdlib.h>
 #include <string.h>
 
-enum { WORDS = 64, LONGEST = 5008, MARKS = 16, SEATS_MOST = 3 };
+#ifdef CHECKED
+#define tsc_open tsc_checked_open
+#define tsc_open_shared tsc_checked_open_shared
+#define tsc_move tsc_checked_move
+#define tsc_add tsc_checked_add
+#define tsc_add_all tsc_checked_add_all
+#define tsc_get_max tsc_checked_get_max
+#define tsc_low_water tsc_checked_low_water
+#define tsc_figures_of tsc_checked_figures_of
+#define tsc_earliest_write tsc_checked_earliest_write
+#define tsc_may_write tsc_checked_may_write
+#define tsc_summary tsc_checked_summary
+#define tsc_apply tsc_checked_apply
+#define tsc_seat_add tsc_checked_seat_add
+#define tsc_seat_add_all tsc_checked_seat_add_all
+#define tsc_seat_get_max tsc_checked_seat_get_max
+#define tsc_seat_low_water tsc_checked_seat_low_water
+#define tsc_seat_figures_of tsc_checked_seat_figures_of
+#define tsc_seat_earliest_write tsc_checked_seat_earliest_write
+#define tsc_seat_may_write tsc_checked_seat_may_write
+#define tsc_free tsc_checked_free
+#endif
+
+enum { WORDS = 64, LONGEST = 5008, MARKS = 16, SEATS_MOST = 3, SUMMARIES = 26, SUMMARY = 32768 };
 
 static int passed, failed;
 
@@ -113,6 +137,10 @@ static const char *name_of(uint32_t answer)
     case TSC_SEATS: return "seats";
     case TSC_BUSY: return "busy";
     case TSC_FULL: return "full";
+    case TSC_SUMMARY_VERSION: return "summary_version";
+    case TSC_SUMMARY_LENGTH: return "summary_length";
+    case TSC_SUMMARY_CHECKSUM: return "summary_checksum";
+    case TSC_SUMMARY_FORM: return "summary_form";
     default: return tsc_text(answer);
     }
 }
@@ -240,24 +268,152 @@ static uint32_t earliest_write(struct table *t, const uint8_t *keys, size_t len,
     return answer;
 }
 
-/* The earliest time at which a write may be made of spans whose keys lie in one piece. */
-static uint32_t earliest(struct table *t, char *const *words, int count, tsc_value write,
-                         tsc_time *at)
+static uint32_t may_write(struct table *t, const uint8_t *keys, size_t len, const tsc_span *spans,
+                          size_t count, const tsc_value *write, bool *out)
 {
-    static uint8_t keys[2 * MARKS * LONGEST];
-    static const tsc_span none;
-    tsc_span spans[MARKS] = {none};
-    size_t len = 0;
+    if (t->seats == 0)
+        return tsc_may_write(&t->opened, t->number, keys, len, spans, count, write, out);
+    uint32_t i = next_seat(t);
+    uint64_t seen = 0;
+    uint32_t answer = tsc_seat_may_write(&t->places[i], t->numbers[i], keys, len, spans, count,
+                                         write, &seen, out);
+    has_seen(t, answer, seen);
+    return answer;
+}
+
+/* Several spans, with their keys in one piece. */
+struct question {
+    uint8_t keys[2 * MARKS * LONGEST];
+    size_t len, count;
+    tsc_span spans[MARKS];
+};
+
+static void ask(struct question *q, char *const *words, int count)
+{
+    q->len = 0;
+    q->count = (size_t)count;
     if (count > MARKS)
         wrong_row("too many spans");
     for (int i = 0; i < count; i++) {
         struct span s = span_of(words[i]);
-        spans[i] = (tsc_span){len, s.from_len, len + s.from_len, s.to_len, s.ends};
-        memcpy(keys + len, s.from, s.from_len);
-        memcpy(keys + len + s.from_len, s.to, s.to_len);
-        len += s.from_len + s.to_len;
+        q->spans[i] = (tsc_span){q->len, s.from_len, q->len + s.from_len, s.to_len, s.ends};
+        memcpy(q->keys + q->len, s.from, s.from_len);
+        memcpy(q->keys + q->len + s.from_len, s.to, s.to_len);
+        q->len += s.from_len + s.to_len;
     }
-    return earliest_write(t, keys, len, spans, (size_t)count, &write, at);
+}
+
+/* The earliest time at which a write may be made, and whether it may at once: it may just where
+ * that is its own time, and it may at the time that is told. */
+static uint32_t earliest(struct table *t, const struct question *q, tsc_value write, tsc_time *at,
+                         bool *may)
+{
+    tsc_value at_told = write;
+    bool then = false;
+    uint32_t answer = earliest_write(t, q->keys, q->len, q->spans, q->count, &write, at),
+             other = may_write(t, q->keys, q->len, q->spans, q->count, &write, may);
+    bool is_told = answer == TSC_OK && at->wall == write.wall && at->logical == write.logical;
+    t->is_right = t->is_right && other == TSC_OK && *may == is_told;
+    if (answer == TSC_OK) {
+        at_told.wall = at->wall;
+        at_told.logical = at->logical;
+        other = may_write(t, q->keys, q->len, q->spans, q->count, &at_told, &then);
+        t->is_right = t->is_right && other == TSC_OK && then;
+    }
+    return answer;
+}
+
+/* Summaries by their names. */
+
+struct summary {
+    uint8_t bytes[SUMMARY];
+    size_t len;
+};
+
+static struct summary summaries[SUMMARIES];
+
+static struct summary *named(const char *name)
+{
+    if (name[0] < 'a' || name[0] > 'z' || name[1])
+        wrong_row("the name of a summary is one small letter");
+    return &summaries[name[0] - 'a'];
+}
+
+/* Takes a summary. Where there is less room than it takes, its length alone is told. */
+static uint32_t summary(struct table *t, const struct span *s, size_t most, struct summary *out)
+{
+    static uint8_t bytes[SUMMARY];
+    size_t len = 0;
+    memset(bytes, 0xEE, sizeof bytes);
+    uint32_t answer = tsc_summary(&t->opened, t->number, s->from, s->from_len, s->to, s->to_len,
+                                  s->ends, most, bytes, 0, &len);
+    if (answer != TSC_SHORT)
+        return answer;
+    if (len > SUMMARY)
+        wrong_row("a summary that is too long for this player");
+    out->len = len;
+    for (size_t room = len - 1; room <= len + 1; room++) {
+        len = 0;
+        answer = tsc_summary(&t->opened, t->number, s->from, s->from_len, s->to, s->to_len,
+                             s->ends, most, bytes, room, &len);
+        bool is_short = room < out->len;
+        t->is_right = t->is_right && len == out->len &&
+                      answer == (uint32_t)(is_short ? TSC_SHORT : TSC_OK) &&
+                      bytes[out->len] == 0xEE && (!is_short || bytes[0] == 0xEE);
+    }
+    memcpy(out->bytes, bytes, len);
+    return answer;
+}
+
+static uint32_t apply(struct table *t, const uint8_t *bytes, size_t len, const char *moment,
+                      tsc_added *a)
+{
+    tsc_time now = time_of(moment);
+    return tsc_apply(&t->opened, t->number, bytes, len, &now, a);
+}
+
+/* What each beginning of a summary is answered, and the whole with a byte behind it, if that is
+ * one answer. */
+static uint32_t cuts(struct table *t, const struct summary *s, const char *moment)
+{
+    tsc_added a;
+    uint32_t answer = apply(t, s->bytes, 0, moment, &a);
+    for (size_t len = 0; len <= s->len + 1; len++)
+        t->is_right =
+            t->is_right && (len == s->len || apply(t, s->bytes, len, moment, &a) == answer);
+    return answer;
+}
+
+/* What a summary is answered where one byte of some places is another, if that is one answer. */
+static uint32_t changes(struct table *t, const struct summary *s, char *const *word)
+{
+    static const uint8_t CHANGES[] = {0x01, 0x10, 0x80, 0xFF};
+    static struct summary changed;
+    size_t first = strtoul(word[2], NULL, 10),
+           last = word[3][0] == '-' ? s->len - 1 : strtoul(word[3], NULL, 10);
+    uint32_t answer = TSC_OK;
+    tsc_added a;
+    for (size_t place = first; place <= last; place++) {
+        for (size_t i = 0; i < sizeof CHANGES; i++) {
+            changed = *s;
+            changed.bytes[place] ^= CHANGES[i];
+            uint32_t told = apply(t, changed.bytes, changed.len, word[4], &a);
+            if (answer == TSC_OK)
+                answer = told;
+            t->is_right = t->is_right && told == answer;
+        }
+    }
+    return answer;
+}
+
+static void take(struct summary *s, const char *hex)
+{
+    for (s->len = 0; hex[2 * s->len]; s->len++) {
+        char digits[3] = {hex[2 * s->len], hex[2 * s->len + 1], 0};
+        if (s->len == SUMMARY)
+            wrong_row("bytes that are too many for this player");
+        s->bytes[s->len] = (uint8_t)strtoul(digits, NULL, 16);
+    }
 }
 
 /* Calls. Each writes what it was answered as the rows say it. */
@@ -336,21 +492,41 @@ static void call(struct table *t, const struct line *l, char *told)
         if (figures_of(t, &f) == TSC_OK)
             sprintf(told, "%" PRIu64 " %" PRIu64 " %" PRIu64 " %" PRIu64, f.pages, f.rotations,
                     f.nodes, f.bytes);
-    } else if (strcmp(w[0], "may") == 0) {
-        tsc_value wanted = value_of(w[2], w[3]);
+    } else if (strcmp(w[0], "may") == 0 || strcmp(w[0], "earliest") == 0) {
+        static struct question q;
         tsc_time at = {0, 0};
-        uint32_t answer = earliest(t, w + 1, 1, wanted, &at);
-        if (answer == TSC_OK)
-            strcpy(told, at.wall == wanted.wall && at.logical == wanted.logical ? "yes" : "no");
-        else if (answer == TSC_NO_TIME)
-            strcpy(told, "no");
-    } else if (strcmp(w[0], "earliest") == 0) {
-        tsc_time at = {0, 0};
-        uint32_t answer = earliest(t, w + 3, l->calls - 3, value_of(w[1], w[2]), &at);
-        if (answer == TSC_OK)
+        bool may = false;
+        ask(&q, w + 3, l->calls - 3);
+        uint32_t answer = earliest(t, &q, value_of(w[1], w[2]), &at, &may);
+        if (strcmp(w[0], "may") == 0)
+            strcpy(told, may ? "yes" : "no");
+        else if (answer == TSC_OK)
             sprintf(told, "%" PRIu64 ".%" PRIu32, at.wall, at.logical);
         else if (answer == TSC_NO_TIME)
             strcpy(told, "none");
+    } else if (strcmp(w[0], "summary") == 0) {
+        struct span s = span_of(w[2]);
+        struct summary *named_so = named(w[1]);
+        size_t most = strcmp(w[3], "all") == 0 ? SIZE_MAX : strtoul(w[3], NULL, 10);
+        uint32_t answer = summary(t, &s, most, named_so);
+        if (answer == TSC_OK)
+            sprintf(told, "%zu", named_so->len);
+        else
+            strcpy(told, name_of(answer));
+    } else if (strcmp(w[0], "take") == 0) {
+        take(named(w[1]), w[2]);
+        strcpy(told, "done");
+    } else if (strcmp(w[0], "same") == 0) {
+        const struct summary *one = named(w[1]), *other = named(w[2]);
+        bool is_same = one->len == other->len && memcmp(one->bytes, other->bytes, one->len) == 0;
+        strcpy(told, is_same ? "yes" : "no");
+    } else if (strcmp(w[0], "apply") == 0) {
+        const struct summary *s = named(w[1]);
+        say_added(told, apply(t, s->bytes, s->len, w[2], &a), &a);
+    } else if (strcmp(w[0], "cuts") == 0) {
+        strcpy(told, name_of(cuts(t, named(w[1]), w[2])));
+    } else if (strcmp(w[0], "changes") == 0) {
+        strcpy(told, name_of(changes(t, named(w[1]), w)));
     } else {
         wrong_row(w[0]);
     }
@@ -368,7 +544,7 @@ static void play(FILE *file, uint32_t seats)
         if (l.words == 0 || text[0] == '#')
             continue;
         if (l.calls < 0) { /* the name of a case */
-            is_played = strcmp(l.word[0], "case") == 0 || seats > 0;
+            is_played = strcmp(l.word[0], seats == 0 ? "seats" : "cache") != 0;
             t.tries = 64;
             continue;
         }

@@ -226,7 +226,7 @@ static void nulls(void)
     CHECK(tsc_checked_check(TRACE, sizeof TRACE - 1, LOG, sizeof LOG - 1, NULL, 0, &len) == TSC_SHORT && len == 6);
     CHECK(tsc_checked_replay(NULL, 0, out, sizeof out, &len) == TSC_REFUSED && len == 22);
     CHECK(strcmp(tsc_text(TSC_REFUSED), "the bytes are refused, and the text says why") == 0);
-    CHECK(strcmp(tsc_text(TSC_SHORT), "the text is longer than the buffer") == 0);
+    CHECK(strcmp(tsc_text(TSC_SHORT), "what is told is longer than the buffer") == 0);
 }
 
 int main(void)

@@ -462,10 +462,12 @@ static void texts(void)
         "done", "the number names nothing of this kind", "a time is out of range", "there are no such ends of a span", "a key is too long", "the range is inverted",
         "the span is too large for a page", "a key does not lie among the bytes", "page_first is 64 to page_max, and page_max is at most 2^30", "min_pages is 1 to 64",
         "retention is at most 2^63 - 1 nanoseconds", "out of memory", "seats are 1 to 64", "a seat is still out", "others were in the way", "there are as many Adds as there may be",
-        "the bytes are refused, and the text says why", "the text is longer than the buffer", "there is no time at which the write may be made", "a pointer is null"};
+        "the bytes are refused, and the text says why", "what is told is longer than the buffer", "there is no time at which the write may be made",
+        "the summary is of another version", "the summary has another length", "the summary was changed", "the bytes are no summary", "a pointer is null"};
     static const uint32_t ANSWERS[] = {
         TSC_OK, TSC_CLOSED, TSC_TIME, TSC_ENDS, TSC_KEY_TOO_LONG, TSC_INVERTED, TSC_TOO_LARGE, TSC_OUTSIDE, TSC_PAGE_SIZE, TSC_MIN_PAGES, TSC_RETENTION, TSC_NO_MEMORY,
-        TSC_SEATS, TSC_STILL_OUT, TSC_BUSY, TSC_FULL, TSC_REFUSED, TSC_SHORT, TSC_NO_TIME, TSC_NULL};
+        TSC_SEATS, TSC_STILL_OUT, TSC_BUSY, TSC_FULL, TSC_REFUSED, TSC_SHORT, TSC_NO_TIME, TSC_SUMMARY_VERSION, TSC_SUMMARY_LENGTH,
+        TSC_SUMMARY_CHECKSUM, TSC_SUMMARY_FORM, TSC_NULL};
     for (size_t i = 0; i < sizeof TEXTS / sizeof *TEXTS; i++)
         CHECK(strcmp(tsc_text(ANSWERS[i]), TEXTS[i]) == 0);
 }
@@ -629,10 +631,17 @@ static uint64_t names_something(tsc_place *place, uint64_t number)
     tsc_time floor = {7, 7};
     tsc_figures f = {7, 7, 7, 7};
     uint64_t at = 7, seen = 7, moved = 7, adds = 7, wrong = 0;
+    uint8_t out[2] = {7, 7};
+    size_t len = 7;
+    bool may = true;
     wrong += tsc_checked_get_max(place, number, "b", 1, NULL, 0, TSC_POINT, &v) != TSC_CLOSED;
     wrong += tsc_low_water(place, number, &floor) != TSC_CLOSED;
     wrong += tsc_earliest_write(place, number, "b", 1, &SPAN, 1, &READ, &floor) != TSC_CLOSED;
     wrong += tsc_seat_earliest_write(place, number, "b", 1, &SPAN, 1, &READ, &seen, &floor) != TSC_CLOSED;
+    wrong += tsc_may_write(place, number, "b", 1, &SPAN, 1, &READ, &may) != TSC_CLOSED;
+    wrong += tsc_seat_may_write(place, number, "b", 1, &SPAN, 1, &READ, &seen, &may) != TSC_CLOSED;
+    wrong += tsc_checked_summary(place, number, "b", 1, NULL, 0, TSC_POINT, 1, out, sizeof out, &len) != TSC_CLOSED;
+    wrong += tsc_checked_apply(place, number, out, sizeof out, &AT_20, &a) != TSC_CLOSED;
     wrong += tsc_figures_of(place, number, &f) != TSC_CLOSED;
     wrong += tsc_checked_add(place, number, "b", 1, NULL, 0, TSC_POINT, &READ, &AT_20, &a) != TSC_CLOSED;
     wrong += tsc_checked_add_all(place, number, "b", 1, &MARK, 1, &AT_20, &a) != TSC_CLOSED;
@@ -646,6 +655,7 @@ static uint64_t names_something(tsc_place *place, uint64_t number)
     wrong += tsc_close_shared(place, number, &adds) != TSC_CLOSED;
     wrong += tsc_move(place, number, &other, &moved) != TSC_CLOSED || tsc_close(&other, 0) != TSC_CLOSED;
     wrong += at != 7 || seen != 7 || moved != 7 || adds != 7 || v.wall != 7 || a.evicted != 7 || a.kept || !a.rotated || floor.wall != 7 || f.pages != 7;
+    wrong += out[0] != 7 || out[1] != 7 || len != 7 || !may;
     tsc_free(&other); /* which a refused move may have given some memory */
     return wrong;
 }

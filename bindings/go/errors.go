@@ -46,6 +46,15 @@ const (
 	// ErrNoTime is of a write for which there is no time: a read of somebody else is at the last
 	// one.
 	ErrNoTime Refused = C.TSC_NO_TIME
+	// ErrSummaryVersion is of bytes that are a summary of another version.
+	ErrSummaryVersion Refused = C.TSC_SUMMARY_VERSION
+	// ErrSummaryLength is of a summary of which bytes are missing, or which has more than its own.
+	ErrSummaryLength Refused = C.TSC_SUMMARY_LENGTH
+	// ErrSummaryChecksum is of a summary that was changed: its digest is another one.
+	ErrSummaryChecksum Refused = C.TSC_SUMMARY_CHECKSUM
+	// ErrSummaryForm is of bytes whose digest is right, and which are no summary: their sender made
+	// them wrong.
+	ErrSummaryForm Refused = C.TSC_SUMMARY_FORM
 )
 
 var reasons = map[Refused]string{
@@ -64,6 +73,11 @@ var reasons = map[Refused]string{
 	ErrBusy:       "others were in the way at each try",
 	ErrFull:       "the cache has had as many Adds as it may have",
 	ErrNoTime:     "a read of somebody else is at the last time",
+
+	ErrSummaryVersion:  "the summary is of another version",
+	ErrSummaryLength:   "the summary has another length",
+	ErrSummaryChecksum: "the summary was changed",
+	ErrSummaryForm:     "the bytes are no summary",
 }
 
 func (r Refused) Error() string {

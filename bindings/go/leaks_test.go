@@ -3,6 +3,7 @@
 package tscache
 
 import (
+	"math"
 	"runtime"
 	"testing"
 
@@ -25,6 +26,27 @@ func TestNothingIsLeftBehind(t *testing.T) {
 				defer c.Close()
 			}
 			_, err = c.Add(key, at(20, one), now)
+			return err
+		},
+		"summaries that are applied": func(closes bool) error {
+			c, err := Open(config)
+			if err != nil {
+				return err
+			}
+			if closes {
+				defer c.Close()
+			}
+			if _, err = c.Add(key, at(20, one), now); err != nil {
+				return err
+			}
+			summary, err := c.Summary(Onward(nil, IncludeBoth), math.MaxUint)
+			if err != nil {
+				return err
+			}
+			if _, err := c.Apply(summary[1:], now); err != ErrSummaryVersion {
+				return err
+			}
+			_, err = c.Apply(summary, now)
 			return err
 		},
 		"caches that are refused": func(bool) error {

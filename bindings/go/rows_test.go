@@ -1,7 +1,9 @@
 package tscache
 
 import (
+	"encoding/hex"
 	"fmt"
+	"math"
 	"os"
 	"strconv"
 	"strings"
@@ -16,7 +18,9 @@ import (
 var wantedErrors = map[string]error{
 	"time": ErrTime, "key_too_long": ErrKeyTooLong, "inverted": ErrInverted, "too_large": ErrTooLarge,
 	"page_size": ErrPageSize, "min_pages": ErrMinPages, "retention": ErrRetention, "seats": ErrSeats,
-	"busy": ErrBusy, "full": ErrFull,
+	"busy": ErrBusy, "full": ErrFull, "summary_version": ErrSummaryVersion,
+	"summary_length": ErrSummaryLength, "summary_checksum": ErrSummaryChecksum,
+	"summary_form": ErrSummaryForm,
 }
 
 func number(text string, bits int) uint64 {
@@ -116,6 +120,8 @@ type table struct {
 	turn   int
 	tries  uint32
 	adds   uint64
+	// The summaries of the case, by their names. They stay where another cache is opened.
+	summaries map[string][]byte
 }
 
 func (p *table) open(words []string, seats uint32) (err error) {
@@ -191,6 +197,8 @@ func (p *table) call(words []string) (string, error) {
 	case op == "tries":
 		p.tries = uint32(number(rest[0], 32))
 		return "done", nil
+	case strings.Contains(" take same summary apply cuts changes ", " "+op+" "):
+		return p.ofLeases(op, rest)
 	case p.cache != nil:
 		return p.ofCache(op, rest)
 	default:
@@ -201,22 +209,99 @@ func (p *table) call(words []string) (string, error) {
 // ask has a Cache or a Seat tell of writes.
 type ask interface {
 	MayWrite(Span, Time, [16]byte) (bool, error)
+	MayWriteAll([]Span, Time, [16]byte) (bool, error)
 	EarliestWrite([]Span, Time, [16]byte) (Time, error)
 }
 
-func (p *table) ofWrites(of ask, op string, rest []string) (string, error) {
-	switch op {
-	case "may":
-		may, err := of.MayWrite(spanOf(rest[0]), timeAt(rest[1]), ownerOf(rest[2]))
-		return map[bool]string{true: "yes", false: "no"}[may], err
-	case "earliest":
-		at, err := of.EarliestWrite(spansOf(rest[2:]), timeAt(rest[0]), ownerOf(rest[1]))
-		if err == ErrNoTime {
-			return "none", nil
-		}
-		return toldTime(at), err
+// may asks of one span by itself, and of several by the call for those.
+func may(of ask, spans []Span, at Time, by [16]byte) (bool, error) {
+	if len(spans) == 1 {
+		return of.MayWrite(spans[0], at, by)
 	}
-	return "", fmt.Errorf("no such call: %s", op)
+	return of.MayWriteAll(spans, at, by)
+}
+
+func toldBool(is bool) string { return map[bool]string{true: "yes", false: "no"}[is] }
+
+func ofWrites(of ask, op string, rest []string) (string, error) {
+	if op != "may" && op != "earliest" {
+		return "", fmt.Errorf("no such call: %s", op)
+	}
+	at, by, spans := timeAt(rest[0]), ownerOf(rest[1]), spansOf(rest[2:])
+	earliest, err := of.EarliestWrite(spans, at, by)
+	if err != nil && err != ErrNoTime {
+		return "", err
+	}
+	isThere := err == nil
+	atOnce, err := may(of, spans, at, by)
+	if err != nil || atOnce != (isThere && earliest == at) {
+		return "", fmt.Errorf("at once: %v, %v", atOnce, err)
+	}
+	if then, err := may(of, spans, earliest, by); isThere && (err != nil || !then) {
+		return "", fmt.Errorf("at %v: %v, %v", earliest, then, err)
+	}
+	switch {
+	case op == "may":
+		return toldBool(atOnce), nil
+	case isThere:
+		return toldTime(earliest), nil
+	default:
+		return "none", nil
+	}
+}
+
+// ofLeases plays a call for the summaries of a case.
+func (p *table) ofLeases(op string, rest []string) (string, error) {
+	switch op {
+	case "take":
+		bytes, err := hex.DecodeString(rest[1])
+		p.summaries[rest[0]] = bytes
+		return "done", err
+	case "same":
+		return toldBool(string(p.summaries[rest[0]]) == string(p.summaries[rest[1]])), nil
+	case "summary":
+		most := uint(math.MaxUint)
+		if rest[2] != "all" {
+			most = uint(number(rest[2], 64))
+		}
+		bytes, err := p.cache.Summary(spanOf(rest[1]), most)
+		p.summaries[rest[0]] = bytes
+		return fmt.Sprint(len(bytes)), err
+	case "apply":
+		a, err := p.cache.Apply(p.summaries[rest[0]], timeAt(rest[1]))
+		return toldAdded(a), err
+	}
+	summary, now := p.summaries[rest[0]], timeAt(rest[len(rest)-1])
+	var all [][]byte
+	if op == "cuts" {
+		for length := range summary {
+			all = append(all, summary[:length])
+		}
+		all = append(all, append(append([]byte{}, summary...), 0))
+	} else {
+		last := len(summary) - 1
+		if rest[2] != "-" {
+			last = int(number(rest[2], 32))
+		}
+		for place := int(number(rest[1], 32)); place <= last; place++ {
+			for _, with := range []byte{0x01, 0x10, 0x80, 0xFF} {
+				changed := append([]byte{}, summary...)
+				changed[place] ^= with
+				all = append(all, changed)
+			}
+		}
+	}
+	var err error
+	for i, bytes := range all {
+		a, why := p.cache.Apply(bytes, now)
+		if i == 0 {
+			err = why
+		}
+		if why != err || why == nil || a != (Added{}) {
+			return "", fmt.Errorf("%d: %v, %v and %v", i, a, why, err)
+		}
+	}
+	return "", err
 }
 
 func toldFigures(f Figures) string {
@@ -235,7 +320,7 @@ func (p *table) ofCache(op string, rest []string) (string, error) {
 		f, err := p.cache.Figures()
 		return toldFigures(f), err
 	}
-	return p.ofWrites(p.cache, op, rest)
+	return ofWrites(p.cache, op, rest)
 }
 
 func (p *table) ofSeat(op string, rest []string, seat *Seat) (string, error) {
@@ -250,7 +335,7 @@ func (p *table) ofSeat(op string, rest []string, seat *Seat) (string, error) {
 		f, seen, err := seat.Figures()
 		return p.seen(toldFigures(f), seen, err)
 	}
-	return p.ofWrites(seat, op, rest)
+	return ofWrites(seat, op, rest)
 }
 
 // seated opens a shared cache with so many seats, and closes it.
@@ -282,7 +367,12 @@ func playRows(t *testing.T, seats uint32) (rows int) {
 		call, wanted, isCall := strings.Cut(line, " =")
 		if !isCall {
 			p.close()
-			p, isPlayed = &table{t: t, tries: 64}, seats > 0 || strings.HasPrefix(line, "case")
+			p = &table{t: t, tries: 64, summaries: map[string][]byte{}}
+			but := "seats "
+			if seats > 0 {
+				but = "cache "
+			}
+			isPlayed = !strings.HasPrefix(line, but)
 			continue
 		}
 		if !isPlayed {
@@ -292,7 +382,7 @@ func playRows(t *testing.T, seats uint32) (rows int) {
 		switch words[0] {
 		case "open":
 			p.close()
-			p = &table{t: t, tries: 64}
+			p = &table{t: t, tries: 64, summaries: p.summaries}
 			err = p.open(words[1:], seats)
 		case "seats":
 			err = seated(uint32(number(words[1], 32)))

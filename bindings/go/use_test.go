@@ -38,6 +38,15 @@ func TestKeysBesidePointers(t *testing.T) {
 		text   [256]byte
 		holder *string
 	}{holder: &holder}
+	told, err := c.Summary(spans[1], 9)
+	if err != nil {
+		t.Fatal(err)
+	}
+	summary := &struct {
+		bytes  [256]byte
+		holder *string
+	}{holder: &holder}
+	sent := summary.bytes[:copy(summary.bytes[:], told)]
 	length := copy(trace.text[:], `{"page_first":132,"page_max":132,"min_pages":2,"retention":10,`+
 		`"low_water":[5,0],"threads":[[]]}`)
 	for _, span := range spans {
@@ -46,11 +55,15 @@ func TestKeysBesidePointers(t *testing.T) {
 			"Cache.AddAll":        func() error { _, err := c.AddAll(marks, now); return err },
 			"Cache.GetMax":        func() error { _, err := c.GetMax(span); return err },
 			"Cache.MayWrite":      func() error { _, err := c.MayWrite(span, now, one); return err },
+			"Cache.MayWriteAll":   func() error { _, err := c.MayWriteAll(spans, now, one); return err },
 			"Cache.EarliestWrite": func() error { _, err := c.EarliestWrite(spans, now, one); return err },
+			"Cache.Summary":       func() error { _, err := c.Summary(span, 9); return err },
+			"Cache.Apply":         func() error { _, err := c.Apply(sent, now); return err },
 			"Seat.Add":            func() error { _, _, err := s.Add(span, at(20, one), now, 64); return err },
 			"Seat.AddAll":         func() error { _, _, err := s.AddAll(marks, now, 64); return err },
 			"Seat.GetMax":         func() error { _, _, err := s.GetMax(span); return err },
 			"Seat.MayWrite":       func() error { _, err := s.MayWrite(span, now, one); return err },
+			"Seat.MayWriteAll":    func() error { _, err := s.MayWriteAll(spans, now, one); return err },
 			"Seat.EarliestWrite":  func() error { _, err := s.EarliestWrite(spans, now, one); return err },
 			"Replay":              func() error { _, err := Replay(trace.text[:length]); return err },
 			"Check":               func() error { _, err := Check(trace.text[:length], trace.text[:0]); return err },
@@ -79,6 +92,10 @@ func open(t *testing.T) opened {
 		t.Fatal(err)
 	}
 	s, key, now := seats[0], Point([]byte("a")), Time{20, 0}
+	summary, err := c.Summary(key, 9)
+	if err != nil {
+		t.Fatal(err)
+	}
 	return opened{c, shared, s, map[string]func() error{
 		"Cache.Add":           func() error { _, err := c.Add(key, at(20, one), now); return err },
 		"Cache.AddAll":        func() error { _, err := c.AddAll(nil, now); return err },
@@ -86,13 +103,17 @@ func open(t *testing.T) opened {
 		"Cache.LowWater":      func() error { _, err := c.LowWater(); return err },
 		"Cache.Figures":       func() error { _, err := c.Figures(); return err },
 		"Cache.MayWrite":      func() error { _, err := c.MayWrite(key, now, one); return err },
+		"Cache.MayWriteAll":   func() error { _, err := c.MayWriteAll(nil, now, one); return err },
 		"Cache.EarliestWrite": func() error { _, err := c.EarliestWrite([]Span{key}, now, one); return err },
+		"Cache.Summary":       func() error { _, err := c.Summary(key, 9); return err },
+		"Cache.Apply":         func() error { _, err := c.Apply(summary, now); return err },
 		"Seat.Add":            func() error { _, _, err := s.Add(key, at(20, one), now, 64); return err },
 		"Seat.AddAll":         func() error { _, _, err := s.AddAll(nil, now, 64); return err },
 		"Seat.GetMax":         func() error { _, _, err := s.GetMax(key); return err },
 		"Seat.LowWater":       func() error { _, _, err := s.LowWater(); return err },
 		"Seat.Figures":        func() error { _, _, err := s.Figures(); return err },
 		"Seat.MayWrite":       func() error { _, err := s.MayWrite(key, now, one); return err },
+		"Seat.MayWriteAll":    func() error { _, err := s.MayWriteAll(nil, now, one); return err },
 		"Seat.EarliestWrite":  func() error { _, err := s.EarliestWrite([]Span{key}, now, one); return err },
 		"Shared.Close":        func() error { _, err := shared.Close(); return err },
 	}}
@@ -165,7 +186,8 @@ func TestTwoGoroutinesOnOneCache(t *testing.T) {
 func TestErrors(t *testing.T) {
 	all := []error{
 		ErrClosed, ErrTime, ErrEnds, ErrKeyTooLong, ErrInverted, ErrTooLarge, ErrPageSize, ErrMinPages,
-		ErrRetention, ErrNoMemory, ErrSeats, ErrStillOut, ErrBusy, ErrFull, ErrNoTime,
+		ErrRetention, ErrNoMemory, ErrSeats, ErrStillOut, ErrBusy, ErrFull, ErrNoTime, ErrSummaryVersion,
+		ErrSummaryLength, ErrSummaryChecksum, ErrSummaryForm,
 	}
 	told := map[string]bool{}
 	for i, err := range all {
@@ -220,6 +242,9 @@ func TestSpansOfNoEnds(t *testing.T) {
 		}
 		if _, err := c.AddAll([]Mark{{span, at(20, one)}}, Time{20, 0}); err != ErrEnds {
 			t.Errorf("span %d: got %v", i, err)
+		}
+		if told, err := c.Summary(span, 9); told != nil || err != ErrEnds {
+			t.Errorf("span %d: got %v, %v", i, told, err)
 		}
 	}
 }
@@ -301,8 +326,11 @@ func TestTimes(t *testing.T) {
 	for i, r := range []struct{ time, next Time }{
 		{Time{}, Time{0, 1}},
 		{Time{20, 5}, Time{20, 6}},
+		{Time{20, math.MaxInt32 - 1}, Time{20, math.MaxInt32}},
 		{Time{20, math.MaxInt32}, Time{21, 0}},
+		{Time{math.MaxInt64 - 1, math.MaxInt32}, Time{math.MaxInt64, 0}},
 		{Time{math.MaxInt64, 5}, Time{math.MaxInt64, 6}},
+		{Time{math.MaxInt64, math.MaxInt32 - 1}, last},
 	} {
 		next, there := r.time.Next()
 		if !there || next != r.next {
@@ -330,32 +358,39 @@ func TestTimes(t *testing.T) {
 	}
 }
 
-func TestClearOf(t *testing.T) {
-	none, last := [16]byte{}, Time{math.MaxInt64, math.MaxInt32}
+func TestTheEarliestTimeIsClear(t *testing.T) {
+	none, last, span := [16]byte{}, Time{math.MaxInt64, math.MaxInt32}, Point([]byte("a"))
 	for i, r := range []struct {
 		read  Value
 		at    Time
 		by    [16]byte
 		want  Time
-		there bool
+		there error
 	}{
-		{Value{Time{20, 0}, one}, Time{20, 1}, two, Time{20, 1}, true},
-		{Value{Time{20, 0}, one}, Time{20, 0}, two, Time{20, 1}, true},
-		{Value{Time{20, 0}, one}, Time{20, 0}, one, Time{20, 0}, true},
-		{Value{Time{20, 0}, one}, Time{15, 3}, one, Time{20, 0}, true},
-		{Value{Time{20, 0}, none}, Time{20, 0}, one, Time{20, 1}, true},
-		{Value{Time{20, math.MaxInt32}, none}, Time{15, 0}, one, Time{21, 0}, true},
-		{Value{last, none}, Time{15, 0}, one, Time{}, false},
-		{Value{last, one}, Time{15, 0}, one, last, true},
-		{Value{Time{20, 0}, none}, Time{20, 0}, none, Time{20, 1}, true},
+		{Value{Time{20, 0}, one}, Time{20, 1}, two, Time{20, 1}, nil},
+		{Value{Time{20, 0}, one}, Time{20, 0}, two, Time{20, 1}, nil},
+		{Value{Time{20, 0}, one}, Time{20, 0}, one, Time{20, 0}, nil},
+		{Value{Time{20, 0}, one}, Time{15, 3}, one, Time{20, 0}, nil},
+		{Value{Time{20, 0}, none}, Time{20, 0}, one, Time{20, 1}, nil},
+		{Value{Time{20, math.MaxInt32}, none}, Time{15, 0}, one, Time{21, 0}, nil},
+		{Value{last, none}, Time{15, 0}, one, Time{}, ErrNoTime},
+		{Value{last, one}, Time{15, 0}, one, last, nil},
+		{Value{Time{20, 0}, none}, Time{20, 0}, none, Time{20, 1}, nil},
 	} {
-		got, there := EarliestClearOf(r.read, r.at, r.by)
-		if got != r.want || there != r.there {
-			t.Errorf("row %d: got %v, %v", i, got, there)
+		c := small(t)
+		if _, err := c.Add(span, r.read, Time{20, 0}); err != nil {
+			t.Fatal(err)
 		}
-		isClear := IsClearOf(r.read, r.at, r.by)
-		if isClear != (there && got == r.at) || there && !IsClearOf(r.read, got, r.by) {
-			t.Errorf("row %d: %v", i, isClear)
+		got, err := c.EarliestWrite([]Span{span}, r.at, r.by)
+		if got != r.want || err != r.there {
+			t.Errorf("row %d: got %v, %v", i, got, err)
+		}
+		may, err := c.MayWrite(span, r.at, r.by)
+		if err != nil || may != (r.there == nil && got == r.at) {
+			t.Errorf("row %d: got %v, %v", i, may, err)
+		}
+		if may, err := c.MayWrite(span, got, r.by); r.there == nil && (!may || err != nil) {
+			t.Errorf("row %d: got %v, %v at %v", i, may, err, got)
 		}
 	}
 }
@@ -368,6 +403,9 @@ func TestWrites(t *testing.T) {
 	if _, err := c.EarliestWrite([]Span{Point([]byte("b")), Point([]byte("a"))}, Time{20, 0}, two); !errors.Is(err, ErrNoTime) {
 		t.Errorf("got %v", err)
 	}
+	if may, err := c.MayWrite(Point([]byte("b")), Time{20, 0}, two); !may || err != nil {
+		t.Errorf("got %v, %v", may, err)
+	}
 	for _, wrong := range []Time{{1 << 63, 0}, {20, 1 << 31}} {
 		if _, err := c.EarliestWrite(nil, wrong, one); err != ErrTime {
 			t.Errorf("got %v", err)
@@ -375,6 +413,19 @@ func TestWrites(t *testing.T) {
 		if may, err := c.MayWrite(Point([]byte("b")), wrong, one); may || err != ErrTime {
 			t.Errorf("got %v, %v", may, err)
 		}
+		if may, err := c.MayWriteAll(nil, wrong, one); may || err != ErrTime {
+			t.Errorf("got %v, %v", may, err)
+		}
+	}
+	_, seats, err := OpenShared(DefaultConfig(), 1, math.MaxUint64)
+	if err != nil {
+		t.Fatal(err)
+	}
+	if may, err := seats[0].MayWrite(Point([]byte("b")), Time{20, 0}, two); !may || err != nil {
+		t.Errorf("got %v, %v", may, err)
+	}
+	if may, err := seats[0].MayWrite(Point([]byte("b")), Time{1 << 63, 0}, two); may || err != ErrTime {
+		t.Errorf("got %v, %v", may, err)
 	}
 	if _, err := c.EarliestWrite([]Span{{}}, Time{20, 0}, two); err != ErrEnds {
 		t.Errorf("got %v", err)
@@ -398,8 +449,12 @@ func TestCallsTakeNoMemory(t *testing.T) {
 		_, _, err3 := s.Add(spans[1], at(20, one), now, 64)
 		_, err4 := s.EarliestWrite(spans, now, one)
 		_, err5 := s.MayWrite(spans[0], now, two)
-		if err1 != nil || err2 != nil || err3 != nil || err4 != nil || err5 != nil {
-			t.Error(err1, err2, err3, err4, err5)
+		_, err6 := c.MayWrite(spans[0], now, two)
+		_, err7 := c.MayWriteAll(spans, now, one)
+		for _, err := range []error{err1, err2, err3, err4, err5, err6, err7} {
+			if err != nil {
+				t.Error(err)
+			}
 		}
 	})
 	if took != 0 {

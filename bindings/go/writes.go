@@ -1,6 +1,14 @@
 package tscache
 
-import "math"
+/*
+#include "block.h"
+*/
+import "C"
+
+import (
+	"math"
+	"runtime"
+)
 
 // Time is a time of a hybrid logical clock: nanoseconds below 2^63, and a count below 2^31 among
 // those of one nanosecond.
@@ -27,49 +35,50 @@ func (t Time) Next() (Time, bool) {
 	}
 }
 
-// IsClearOf says whether a write of a transaction at some time is clear of a read, or of what a
-// lookup answers: that one is earlier, or it is at the same time and the transaction's own. An own
-// read that is later is not passed over: where it is an answer, an earlier read of somebody else
-// may lie behind it.
-func IsClearOf(read Value, at Time, by [16]byte) bool {
-	return read.Time.Before(at) || read.Time == at && isOwn(read, by)
-}
-
-func isOwn(read Value, by [16]byte) bool { return read.Owner == by && by != [16]byte{} }
-
-// EarliestClearOf is the earliest time, not before at, at which a write of a transaction is clear
-// of a read, or of what a lookup answers: at itself, the time of an own read that is later, or
-// else the time after the read's. There is none where that is the last time, and not the
-// transaction's own.
-func EarliestClearOf(read Value, at Time, by [16]byte) (Time, bool) {
-	switch {
-	case IsClearOf(read, at, by):
-		return at, true
-	case isOwn(read, by):
-		return read.Time, true
-	default:
-		return read.Time.Next()
-	}
-}
-
-// mayWrite says whether the earliest time from one on is that one.
-func mayWrite(earliest Time, err error, at Time) (bool, error) {
-	if err == ErrNoTime {
-		return false, nil
-	}
-	return err == nil && earliest == at, err
-}
-
 // MayWrite says whether a transaction may write a span at some time: whether that is clear of what
 // a lookup of the span answers, and so of each read that was added there, also of one that was
 // dropped since. It is refused with ErrTime, and as GetMax is.
 func (c *Cache) MayWrite(span Span, at Time, by [16]byte) (bool, error) {
-	earliest, err := c.EarliestWrite([]Span{span}, at, by)
-	return mayWrite(earliest, err, at)
+	return c.MayWriteAll([]Span{span}, at, by)
 }
 
-// MayWrite is as that of a Cache, by what a lookup of the seat answers.
+// MayWriteAll says whether a transaction may write all of some spans at some time, by the rule of
+// MayWrite. It is so just where EarliestWrite tells that very time.
+func (c *Cache) MayWriteAll(spans []Span, at Time, by [16]byte) (bool, error) {
+	c.take()
+	if c.block == nil {
+		return false, c.leave(C.TSC_CLOSED)
+	}
+	putValue(&c.block.value, Value{at, by})
+	c.ask(spans)
+	code := C.tsc_go_may_write(
+		c.block, bytes(c.keys), C.size_t(len(c.keys)), &c.spans[0], C.size_t(len(spans)),
+	)
+	out := code == C.TSC_OK && bool(c.block.may)
+	err := c.leave(code)
+	runtime.KeepAlive(c)
+	return out, err
+}
+
+// MayWrite is as that of a Cache, by what a lookup of the seat answers. It waits for nobody.
 func (s *Seat) MayWrite(span Span, at Time, by [16]byte) (bool, error) {
-	earliest, err := s.EarliestWrite([]Span{span}, at, by)
-	return mayWrite(earliest, err, at)
+	return s.MayWriteAll([]Span{span}, at, by)
+}
+
+// MayWriteAll is as that of a Cache, by what lookups of the seat answer, one after another. It
+// waits for nobody.
+func (s *Seat) MayWriteAll(spans []Span, at Time, by [16]byte) (bool, error) {
+	s.take()
+	if s.block == nil {
+		return false, s.leave(C.TSC_CLOSED)
+	}
+	putValue(&s.block.value, Value{at, by})
+	s.ask(spans)
+	code := C.tsc_go_seat_may_write(
+		s.block, bytes(s.keys), C.size_t(len(s.keys)), &s.spans[0], C.size_t(len(spans)),
+	)
+	out := code == C.TSC_OK && bool(s.block.may)
+	err := s.leave(code)
+	runtime.KeepAlive(s)
+	return out, err
 }

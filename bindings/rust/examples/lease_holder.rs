@@ -11,7 +11,7 @@
 use std::collections::BTreeMap;
 use std::sync::{Mutex, MutexGuard};
 use std::thread;
-use tscache::{is_clear_of, Config, Error, Seat, Shared, Span, Time, Value};
+use tscache::{Config, Error, Seat, Shared, Span, Time, Value};
 
 /// A key with a time, or with a value.
 type Row = (&'static str, u64);
@@ -99,7 +99,7 @@ impl Held {
         self.take_over(me);
         let at = me.earliest_write(&[Span::Point(self.key.as_bytes())], wanted, by)?;
         assert!(
-            self.answered.iter().all(|read| is_clear_of(*read, at, by)),
+            self.answered.iter().all(|read| is_passed(*read, at, by)),
             "a write would change what was read"
         );
         self.versions.push(Version { at, value });
@@ -187,6 +187,12 @@ impl Worker {
         });
         Ok(())
     }
+}
+
+/// Whether a write would leave a read as it was: that one is earlier, or at the same time and the
+/// transaction's own. A store has the cache look; here it is what that is checked by.
+fn is_passed(read: Value, at: Time, by: Id) -> bool {
+    read.time < at || (read.time == at && read.owner == Some(by))
 }
 
 /// A time of no logical count.

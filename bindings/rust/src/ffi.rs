@@ -9,6 +9,7 @@ pub const ONWARD: u32 = 4;
 pub const POINT: u32 = 8;
 
 pub const TIME: u32 = 2;
+pub const SHORT: u32 = 17;
 pub const NO_TIME: u32 = 18;
 
 #[repr(C)]
@@ -102,6 +103,37 @@ extern "C" {
         write: *const Value,
         out: *mut Time,
     ) -> u32;
+    pub fn tsc_may_write(
+        place: *mut Place,
+        number: u64,
+        keys: *const u8,
+        keys_len: usize,
+        spans: *const Span,
+        spans_len: usize,
+        write: *const Value,
+        out: *mut bool,
+    ) -> u32;
+    pub fn tsc_summary(
+        place: *mut Place,
+        number: u64,
+        from: *const u8,
+        from_len: usize,
+        to: *const u8,
+        to_len: usize,
+        ends: u32,
+        most: usize,
+        out: *mut u8,
+        room: usize,
+        len: *mut usize,
+    ) -> u32;
+    pub fn tsc_apply(
+        place: *mut Place,
+        number: u64,
+        summary: *const u8,
+        summary_len: usize,
+        now: *const Time,
+        out: *mut Added,
+    ) -> u32;
     pub fn tsc_low_water(place: *mut Place, number: u64, out: *mut Time) -> u32;
     pub fn tsc_figures_of(place: *mut Place, number: u64, out: *mut Figures) -> u32;
     pub fn tsc_free(place: *mut Place);
@@ -169,6 +201,17 @@ extern "C" {
         write: *const Value,
         seen: *mut u64,
         out: *mut Time,
+    ) -> u32;
+    pub fn tsc_seat_may_write(
+        place: *mut Place,
+        seat: u64,
+        keys: *const u8,
+        keys_len: usize,
+        spans: *const Span,
+        spans_len: usize,
+        write: *const Value,
+        seen: *mut u64,
+        out: *mut bool,
     ) -> u32;
     pub fn tsc_seat_low_water(place: *mut Place, seat: u64, seen: *mut u64, out: *mut Time) -> u32;
     pub fn tsc_seat_figures_of(

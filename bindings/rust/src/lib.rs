@@ -25,11 +25,11 @@ use std::mem::MaybeUninit;
 use std::ptr::null_mut;
 
 mod ffi;
+mod leases;
 mod texts;
 mod writes;
 
 pub use texts::{check, replay, TextError};
-pub use writes::{earliest_clear_of, is_clear_of};
 
 /// A time of a hybrid logical clock. The smaller wall time comes first, and of two equal ones the
 /// smaller count.
@@ -197,6 +197,14 @@ pub enum Error {
     Busy,
     /// A shared cache has had as many Adds as it may have.
     Full,
+    /// The bytes are a summary of another version.
+    SummaryVersion,
+    /// Some bytes of a summary are missing, or there are more than it has.
+    SummaryLength,
+    /// A summary was changed: its digest is another one.
+    SummaryChecksum,
+    /// The digest is right, and what it is of is no summary: its sender made it wrong.
+    SummaryForm,
     /// A code of the library that no call of this crate brings about.
     Other(u32),
 }
@@ -215,6 +223,10 @@ impl fmt::Display for Error {
             Error::Seats => "seats are 1 to 64",
             Error::Busy => "others were in the way",
             Error::Full => "there are as many Adds as there may be",
+            Error::SummaryVersion => "the summary is of another version",
+            Error::SummaryLength => "the summary has another length",
+            Error::SummaryChecksum => "the summary was changed",
+            Error::SummaryForm => "the bytes are no summary",
             Error::Other(code) => return write!(f, "code {code} of the library"),
         })
     }
@@ -261,6 +273,10 @@ fn fault(code: u32) -> Error {
         12 => Error::Seats,
         14 => Error::Busy,
         15 => Error::Full,
+        19 => Error::SummaryVersion,
+        20 => Error::SummaryLength,
+        21 => Error::SummaryChecksum,
+        22 => Error::SummaryForm,
         other => Error::Other(other),
     }
 }
@@ -896,6 +912,10 @@ mod tests {
             (12, Error::Seats),
             (14, Error::Busy),
             (15, Error::Full),
+            (19, Error::SummaryVersion),
+            (20, Error::SummaryLength),
+            (21, Error::SummaryChecksum),
+            (22, Error::SummaryForm),
             (1, Error::Other(1)),
             (13, Error::Other(13)),
             (99, Error::Other(99)),
@@ -906,6 +926,14 @@ mod tests {
             assert_eq!(alike.count(), 1, "{wanted}");
         }
         assert_eq!(done(0), Ok(()));
+    }
+
+    /// None is refused; one that was would tell a time below which any write passes.
+    #[test]
+    #[should_panic(expected = "a call that only reads was refused")]
+    fn a_lookup_that_is_refused_is_not_passed_over() {
+        answered(0);
+        answered(1);
     }
 
     /// What threads use at once lies apart.

@@ -63,27 +63,35 @@ pub fn check(trace: &[u8], log: &[u8]) -> Result<Vec<u8>, TextError> {
     })
 }
 
-/// Asks with room for a short text, and where that is too little once more, with as much as it
-/// takes.
-fn told(ask: impl Fn(&mut [u8], &mut usize) -> u32) -> Result<Vec<u8>, TextError> {
+/// What a call says that writes bytes, or the text of why it was refused.
+fn told(ask: impl FnMut(&mut [u8], &mut usize) -> u32) -> Result<Vec<u8>, TextError> {
+    let (code, text) = with_room(ask).ok_or(TextError::NoMemory)?;
+    match code {
+        0 => Ok(text),
+        11 => Err(TextError::NoMemory),
+        16 => Err(TextError::Refused(String::from_utf8_lossy(&text).into_owned())),
+        other => Err(TextError::Other(other)),
+    }
+}
+
+/// What a call answers that writes bytes, and these. It is asked with room for a few, and where
+/// that is too little once more, with as much as it takes. Nothing is told where memory for the
+/// room was refused.
+pub(crate) fn with_room(
+    mut ask: impl FnMut(&mut [u8], &mut usize) -> u32,
+) -> Option<(u32, Vec<u8>)> {
     let mut room = 4096;
     loop {
-        let mut text = Vec::new();
-        text.try_reserve_exact(room).map_err(|_| TextError::NoMemory)?;
-        text.resize(room, 0);
+        let mut bytes = Vec::new();
+        bytes.try_reserve_exact(room).ok()?;
+        bytes.resize(room, 0);
         let mut len = 0;
-        let code = ask(&mut text, &mut len);
-        if code == 17 {
-            room = len;
-            continue;
+        let code = ask(&mut bytes, &mut len);
+        if code != ffi::SHORT {
+            bytes.truncate(len);
+            return Some((code, bytes));
         }
-        text.truncate(len);
-        return match code {
-            0 => Ok(text),
-            11 => Err(TextError::NoMemory),
-            16 => Err(TextError::Refused(String::from_utf8_lossy(&text).into_owned())),
-            other => Err(TextError::Other(other)),
-        };
+        room = len;
     }
 }
 

@@ -1,5 +1,5 @@
 //! When a write is clear of reads: the same calls as those of the crate `timestamp_cache`.
-use crate::{answered, ffi, Cache, Seat, Span, Time, Value};
+use crate::{answered, ffi, Cache, Seat, Span, Time};
 
 const MOST_WALL: u64 = i64::MAX as u64;
 const MOST_LOGICAL: u32 = i32::MAX as u32;
@@ -22,36 +22,6 @@ impl Time {
         } else {
             None
         }
-    }
-}
-
-/// Whether a write of a transaction at some time is clear of a read, or of what a lookup answers:
-/// that one is earlier, or it is at the same time and the transaction's own.
-#[inline]
-pub fn is_clear_of(read: Value, at: Time, by: [u8; 16]) -> bool {
-    read.time < at || (read.time == at && read.owner == Some(by))
-}
-
-/// The earliest time, not before `at`, at which a write of a transaction is clear of a read, or of
-/// what a lookup answers: `at` itself, the time of an own read that is later, or else the time
-/// after the read's. It is `None` where that is the last one, and not the transaction's own.
-///
-/// ```
-/// use tscache::{earliest_clear_of, Time, Value};
-/// let read = Value { time: Time::new(20, 0), owner: Some([0x11; 16]) };
-/// assert_eq!(earliest_clear_of(read, Time::new(21, 0), [0x22; 16]), Some(Time::new(21, 0)));
-/// assert_eq!(earliest_clear_of(read, Time::new(15, 0), [0x22; 16]), Some(Time::new(20, 1)));
-/// assert_eq!(earliest_clear_of(read, Time::new(20, 0), [0x11; 16]), Some(Time::new(20, 0)));
-/// assert_eq!(earliest_clear_of(read, Time::new(15, 0), [0x11; 16]), Some(Time::new(20, 0)));
-/// ```
-#[inline]
-pub fn earliest_clear_of(read: Value, at: Time, by: [u8; 16]) -> Option<Time> {
-    if is_clear_of(read, at, by) {
-        Some(at)
-    } else if read.owner == Some(by) {
-        Some(read.time)
-    } else {
-        read.time.next()
     }
 }
 
@@ -93,13 +63,46 @@ fn told(code: u32, time: Time) -> Option<Time> {
     Some(time)
 }
 
+/// Whether a call said that a write may be made, which it doesn't of a time that is out of range. It
+/// is refused else only where there are no such ends.
+#[inline]
+fn allowed(code: u32, may: bool) -> bool {
+    if code == ffi::TIME {
+        return false;
+    }
+    answered(code);
+    may
+}
+
 impl Cache {
     /// Whether a transaction may write a span at some time: whether that is clear of what a lookup
     /// of the span answers, and so of each read that was added there, also of one that was dropped
-    /// since.
+    /// since. No write may be made at a time that is out of range.
     #[inline]
     pub fn may_write(&mut self, span: &Span<'_>, at: Time, by: [u8; 16]) -> bool {
-        self.earliest_write(std::slice::from_ref(span), at, by) == Some(at)
+        self.may_write_all(std::slice::from_ref(span), at, by)
+    }
+
+    /// Whether a transaction may write all of these spans at some time, by the rule of
+    /// [`may_write`](Cache::may_write). It is so just where [`earliest_write`](Cache::earliest_write)
+    /// tells that very time.
+    #[inline]
+    pub fn may_write_all(&mut self, spans: &[Span<'_>], at: Time, by: [u8; 16]) -> bool {
+        let (write, mut may) = (written(at, by), false);
+        // SAFETY: as of the other calls.
+        let code = flat(spans, |keys, asked| unsafe {
+            ffi::tsc_may_write(
+                &mut self.place,
+                self.number,
+                keys.as_ptr(),
+                keys.len(),
+                asked.as_ptr(),
+                asked.len(),
+                &write,
+                &mut may,
+            )
+        });
+        allowed(code, may)
     }
 
     /// The earliest time, not before `at`, at which a transaction may write all of these spans;
@@ -145,10 +148,31 @@ fn written(at: Time, by: [u8; 16]) -> ffi::Value {
 }
 
 impl Seat {
-    /// As [`Cache::may_write`], by what a lookup of the seat answers.
+    /// As [`Cache::may_write`], by what a lookup of the seat answers. It waits for nobody.
     #[inline]
     pub fn may_write(&mut self, span: &Span<'_>, at: Time, by: [u8; 16]) -> bool {
-        self.earliest_write(std::slice::from_ref(span), at, by) == Some(at)
+        self.may_write_all(std::slice::from_ref(span), at, by)
+    }
+
+    /// As [`Cache::may_write_all`], by what lookups of the seat answer, one after another.
+    #[inline]
+    pub fn may_write_all(&mut self, spans: &[Span<'_>], at: Time, by: [u8; 16]) -> bool {
+        let (write, mut may, mut seen) = (written(at, by), false, 0);
+        // SAFETY: as of the other calls.
+        let code = flat(spans, |keys, asked| unsafe {
+            ffi::tsc_seat_may_write(
+                &mut self.place,
+                self.number,
+                keys.as_ptr(),
+                keys.len(),
+                asked.as_ptr(),
+                asked.len(),
+                &write,
+                &mut seen,
+                &mut may,
+            )
+        });
+        allowed(code, may)
     }
 
     /// As [`Cache::earliest_write`], by what lookups of the seat answer. It waits for nobody.
@@ -176,7 +200,7 @@ impl Seat {
 #[cfg(test)]
 mod tests {
     use super::*;
-    use crate::{Config, Shared};
+    use crate::{Config, Shared, Value};
 
     const ONE: [u8; 16] = [0x11; 16];
     const TWO: [u8; 16] = [0x22; 16];
@@ -200,12 +224,44 @@ mod tests {
             ((LAST, Some(ONE)), t(15, 0), ONE, Some(LAST)),
             ((t(20, 0), None), t(20, 0), [0; 16], Some(t(20, 1))),
         ];
+        let span = Span::Point(b"a");
         for (row, ((time, owner), at, by, wanted)) in rows.into_iter().enumerate() {
-            let read = Value { time, owner };
-            let told = earliest_clear_of(read, at, by);
+            let mut cache = Cache::open(&Config::default()).unwrap();
+            cache.add(&span, Value { time, owner }, t(20, 0)).unwrap();
+            let told = cache.earliest_write(&[span], at, by);
             assert_eq!(told, wanted, "row {row}");
-            assert_eq!(is_clear_of(read, at, by), told == Some(at), "row {row}");
-            assert!(told.map_or(true, |told| is_clear_of(read, told, by)), "row {row}");
+            assert_eq!(cache.may_write(&span, at, by), told == Some(at), "row {row}");
+            assert!(told.map_or(true, |told| cache.may_write(&span, told, by)), "row {row}");
+        }
+    }
+
+    #[test]
+    fn the_next_time() {
+        let t = Time::new;
+        let rows = [
+            (t(0, 0), Some(t(0, 1))),
+            (t(20, MOST_LOGICAL - 1), Some(t(20, MOST_LOGICAL))),
+            (t(20, MOST_LOGICAL), Some(t(21, 0))),
+            (t(MOST_WALL - 1, MOST_LOGICAL), Some(t(MOST_WALL, 0))),
+            (t(MOST_WALL, MOST_LOGICAL - 1), Some(LAST)),
+            (LAST, None),
+        ];
+        for (time, next) in rows {
+            assert_eq!(time.next(), next, "{time:?}");
+        }
+    }
+
+    #[test]
+    fn times_that_are_out_of_range() {
+        let (_shared, mut seats) = Shared::open(&Config::default(), 1, 9).unwrap();
+        let mut cache = Cache::open(&Config::default()).unwrap();
+        for wrong in [Time::new(MOST_WALL + 1, 0), Time::new(20, MOST_LOGICAL + 1)] {
+            for spans in [&[Span::Point(b"a")][..], &[]] {
+                assert!(!cache.may_write_all(spans, wrong, ONE));
+                assert!(!seats[0].may_write_all(spans, wrong, ONE));
+                assert_eq!(cache.earliest_write(spans, wrong, ONE), None);
+                assert_eq!(seats[0].earliest_write(spans, wrong, ONE), None);
+            }
         }
     }
 
@@ -217,9 +273,13 @@ mod tests {
         let spans = [Span::Point(b"b"), Span::until(b"a", b"b")];
         assert_eq!(seats[1].earliest_write(&spans, Time::new(15, 0), TWO), Some(Time::new(20, 1)));
         assert_eq!(seats[1].earliest_write(&spans, Time::new(15, 0), ONE), Some(Time::new(20, 0)));
+        let (at, other) = (Time::new(20, 0), Time::new(20, 1));
+        assert!(!seats[1].may_write(&spans[1], at, TWO) && seats[1].may_write(&spans[1], at, ONE));
         assert!(
-            !seats[1].may_write(&spans[1], Time::new(20, 0), TWO)
-                && seats[1].may_write(&spans[1], Time::new(20, 0), ONE)
+            !seats[1].may_write_all(&spans, at, TWO) && seats[1].may_write_all(&spans, at, ONE)
+        );
+        assert!(
+            seats[1].may_write(&spans[0], at, TWO) && seats[1].may_write_all(&spans, other, TWO)
         );
         drop(seats);
         assert_eq!(shared.close().unwrap(), 1);

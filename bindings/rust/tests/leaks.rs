@@ -34,6 +34,15 @@ fn cache() -> Result<(), Error> {
     Cache::open(&CONFIG)?.add(&Span::Point(b"a"), value, Time::new(20, 0)).map(drop)
 }
 
+fn applied() -> Result<(), Error> {
+    let value = Value { time: Time::new(20, 0), owner: None };
+    let mut cache = Cache::open(&CONFIG)?;
+    cache.add(&Span::Point(b"a"), value, Time::new(20, 0))?;
+    let summary = cache.summary(&Span::Onward { from: b"", exclude_from: false }, usize::MAX)?;
+    assert_eq!(cache.apply(&summary[1..], Time::new(20, 0)), Err(Error::SummaryVersion));
+    cache.apply(&summary, Time::new(20, 0)).map(drop)
+}
+
 fn shared(closes: bool) -> Result<(), Error> {
     let (shared, mut seats) = Shared::open(&CONFIG, 2, 9)?;
     let value = Value { time: Time::new(20, 0), owner: None };
@@ -58,8 +67,9 @@ type Kind = fn() -> Result<(), Error>;
 #[test]
 fn nothing_is_left_behind() -> Result<(), Error> {
     const TIMES: usize = 2_000;
-    let kinds: [(&str, Kind); 4] = [
+    let kinds: [(&str, Kind); 5] = [
         ("caches", cache),
+        ("summaries that are applied", applied),
         ("shared caches that are closed", || shared(true)),
         ("shared caches that are dropped", || shared(false)),
         ("refused ones", refused),

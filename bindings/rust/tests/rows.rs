@@ -1,6 +1,7 @@
 //! Plays the rows of `bindings/rows.txt`, whose head says what they are, on a cache, by one seat
 //! of a shared cache, and by three seats in turn. Then each case goes through Rattle's own reader
 //! of traces, cache and writer of logs, by `replay`: so Rattle plays the same rows.
+use std::collections::BTreeMap;
 use tscache::{
     replay, Added, Cache, Config, Error, Figures, Mark, Seat, Shared, Span, TextError, Time, Value,
 };
@@ -9,6 +10,8 @@ const ROWS: &str = include_str!("../../rows.txt");
 
 /// A line: its number, what is called, and what that answers.
 type Line = (usize, &'static str, &'static str);
+
+const OPENED_FIRST: &str = "a case is opened first";
 
 /// Each case: its name and its lines.
 fn cases() -> Vec<(&'static str, Vec<Line>)> {
@@ -136,6 +139,10 @@ fn told_error(why: Error) -> &'static str {
         Error::Seats => "seats",
         Error::Busy => "busy",
         Error::Full => "full",
+        Error::SummaryVersion => "summary_version",
+        Error::SummaryLength => "summary_length",
+        Error::SummaryChecksum => "summary_checksum",
+        Error::SummaryForm => "summary_form",
         other => panic!("{other}"),
     }
 }
@@ -240,35 +247,87 @@ impl Table {
                     self.ask(Cache::figures, Seat::figures);
                 format!("{pages} {rotations} {nodes} {bytes}")
             }
-            ["may", span, at, by] => {
-                let (span, at, by) = (keys(span), time(at), owner(by).unwrap());
-                let adds = self.adds();
-                let may = self.ask(
-                    |cache| cache.may_write(&span.span(), at, by),
-                    |seat| (seat.may_write(&span.span(), at, by), adds),
-                );
-                if may {
-                    "yes".into()
-                } else {
-                    "no".into()
-                }
-            }
-            ["earliest", at, by, spans @ ..] => {
+            [call @ ("may" | "earliest"), at, by, spans @ ..] => {
                 let (at, by) = (time(at), owner(by).unwrap());
                 let owned: Vec<_> = spans.iter().map(|span| keys(span)).collect();
                 let spans: Vec<_> = owned.iter().map(Keys::span).collect();
-                let adds = self.adds();
-                let told = self.ask(
-                    |cache| cache.earliest_write(&spans, at, by),
-                    |seat| (seat.earliest_write(&spans, at, by), adds),
-                );
-                told.map_or("none".into(), told_time)
+                let told = self.earliest_write(&spans, at, by);
+                let may = self.may_write(&spans, at, by);
+                assert_eq!(may, told == Some(at), "{words:?}");
+                assert!(told.map_or(true, |then| self.may_write(&spans, then, by)), "{words:?}");
+                if *call == "earliest" {
+                    return told.map_or("none".into(), told_time);
+                }
+                told_bool(may)
             }
             ["tries", count] => {
                 if let Table::Seats { tries, .. } = self {
                     *tries = count.parse().unwrap();
                 }
                 "done".into()
+            }
+            _ => panic!("no such call: {words:?}"),
+        }
+    }
+
+    fn earliest_write(&mut self, spans: &[Span<'_>], at: Time, by: [u8; 16]) -> Option<Time> {
+        let adds = self.adds();
+        self.ask(
+            |cache| cache.earliest_write(spans, at, by),
+            |seat| (seat.earliest_write(spans, at, by), adds),
+        )
+    }
+
+    /// One span is asked for by itself, and several by the call for those.
+    fn may_write(&mut self, spans: &[Span<'_>], at: Time, by: [u8; 16]) -> bool {
+        let adds = self.adds();
+        if let [span] = spans {
+            return self.ask(
+                |cache| cache.may_write(span, at, by),
+                |seat| (seat.may_write(span, at, by), adds),
+            );
+        }
+        self.ask(
+            |cache| cache.may_write_all(spans, at, by),
+            |seat| (seat.may_write_all(spans, at, by), adds),
+        )
+    }
+
+    /// A call for the summaries of a case, of a cache alone.
+    fn lease(&mut self, summaries: &mut Summaries, words: &[&str]) -> String {
+        let Table::Cache(cache) = self else { panic!("a seat has no summary") };
+        match words {
+            ["summary", name, span, most] => {
+                let most = most.parse().unwrap_or(usize::MAX);
+                match cache.summary(&keys(span).span(), most) {
+                    Ok(bytes) => {
+                        let length = bytes.len();
+                        summaries.insert(name.to_string(), bytes);
+                        length.to_string()
+                    }
+                    Err(why) => told_error(why).into(),
+                }
+            }
+            ["apply", name, now] => told_added(cache.apply(&summaries[*name], time(now))),
+            ["cuts", name, now] => {
+                let mut bytes = summaries[*name].clone();
+                bytes.push(0);
+                let whole = bytes.len() - 1;
+                let lengths = (0..=whole + 1).filter(|length| *length != whole);
+                let told = lengths.map(|length| cache.apply(&bytes[..length], time(now)));
+                alike(told.collect())
+            }
+            ["changes", name, first, last, now] => {
+                let bytes = &summaries[*name];
+                let last = last.parse().unwrap_or(bytes.len() - 1);
+                let places = first.parse().unwrap()..=last;
+                let told = places.flat_map(|place| [1, 0x10, 0x80, 0xFF].map(|with| (place, with)));
+                let told = told.map(|(place, with)| {
+                    let mut changed = bytes.clone();
+                    changed[place] ^= with;
+                    cache.apply(&changed, time(now))
+                });
+                alike(told.collect())
             }
             _ => panic!("no such call: {words:?}"),
         }
@@ -282,39 +341,77 @@ impl Table {
     }
 }
 
+/// Summaries by their names.
+type Summaries = BTreeMap<String, Vec<u8>>;
+
+fn told_bool(is_so: bool) -> String {
+    if is_so {
+        "yes".into()
+    } else {
+        "no".into()
+    }
+}
+
+/// Several answers that are one.
+fn alike(answers: Vec<Result<Added, Error>>) -> String {
+    assert!(answers.iter().all(|answer| *answer == answers[0]), "{answers:?}");
+    told_added(answers[0])
+}
+
+fn from_hex(text: &str) -> Vec<u8> {
+    let digits: Vec<_> = text.chars().map(|digit| digit.to_digit(16).unwrap() as u8).collect();
+    digits.chunks(2).map(|two| two[0] * 16 + two[1]).collect()
+}
+
+/// Plays a row of a case, and gives what it answers.
+fn played(
+    table: &mut Option<Table>,
+    summaries: &mut Summaries,
+    seats: u32,
+    words: &[&str],
+) -> String {
+    match words {
+        ["open", settings @ .., limit] => {
+            match Table::open(seats, &config(settings), limit.parse().unwrap()) {
+                Ok(opened) => {
+                    *table = Some(opened);
+                    "done".into()
+                }
+                Err(why) => told_error(why).into(),
+            }
+        }
+        ["seats", count] => match Shared::open(&Config::default(), count.parse().unwrap(), 9) {
+            Ok((opened, all)) => {
+                assert_eq!(all.len().to_string(), *count);
+                drop(all);
+                assert_eq!(opened.close().unwrap(), 0);
+                "done".into()
+            }
+            Err(why) => told_error(why).into(),
+        },
+        ["take", name, hex] => {
+            summaries.insert(name.to_string(), from_hex(hex));
+            "done".into()
+        }
+        ["same", one, other] => told_bool(summaries[*one] == summaries[*other]),
+        ["summary" | "apply" | "cuts" | "changes", ..] => {
+            table.as_mut().expect(OPENED_FIRST).lease(summaries, words)
+        }
+        _ => table.as_mut().expect(OPENED_FIRST).call(words),
+    }
+}
+
 /// Plays all cases, and gives how many rows there were.
 fn play(seats: u32) -> usize {
     let mut rows = 0;
     for (name, lines) in cases() {
-        if name.starts_with("seats") && seats == 0 {
+        if name.starts_with(if seats == 0 { "seats" } else { "cache" }) {
             continue;
         }
-        let mut table = None;
+        let (mut table, mut summaries) = (None, Summaries::new());
         for (number, call, wanted) in lines {
             let words: Vec<_> = call.split(' ').collect();
-            let told = match words[..] {
-                ["open", ref settings @ .., limit] => {
-                    match Table::open(seats, &config(settings), limit.parse().unwrap()) {
-                        Ok(opened) => {
-                            table = Some(opened);
-                            "done".into()
-                        }
-                        Err(why) => told_error(why).into(),
-                    }
-                }
-                ["seats", count] => {
-                    match Shared::open(&Config::default(), count.parse().unwrap(), 9) {
-                        Ok((opened, all)) => {
-                            assert_eq!(all.len().to_string(), count);
-                            drop(all);
-                            assert_eq!(opened.close().unwrap(), 0);
-                            "done".into()
-                        }
-                        Err(why) => told_error(why).into(),
-                    }
-                }
-                _ => table.as_mut().expect("a case is opened first").call(&words),
-            };
+            let told = played(&mut table, &mut summaries, seats, &words);
             assert_eq!(told, wanted, "rows.txt:{number}, {seats} seats, {name}: {call}");
             rows += 1;
         }
@@ -337,92 +434,172 @@ fn three_seats_play_the_rows_in_turn() {
     assert!(play(3) > 400);
 }
 
-/// The calls of a case as a list of a trace, and the log that the rows tell.
-fn trace_of(lines: &[Line]) -> Option<(String, String)> {
-    let (mut head, mut calls, mut log) = (None, Vec::new(), String::new());
-    let mut adds = 0;
-    let pair = |at: &str| format!("[{}]", at.replace('.', ","));
-    let uuid = |by: &str| match owner(by) {
+/// A number that a summary begins with, of so many bytes.
+fn read_number(rest: &mut &[u8], bytes: usize) -> u64 {
+    let (number, behind) = rest.split_at(bytes);
+    *rest = behind;
+    number.iter().fold(0, |sum, byte| sum << 8 | u64::from(*byte))
+}
+
+/// A place between keys: whether it lies behind its key, and the key; above all keys there is none.
+fn read_place(rest: &mut &[u8]) -> Option<(bool, Vec<u8>)> {
+    let side = read_number(rest, 1);
+    (side < 2).then(|| {
+        let length = read_number(rest, 4) as usize;
+        let (key, behind) = rest.split_at(length);
+        *rest = behind;
+        (side == 1, key.to_vec())
+    })
+}
+
+/// A span as a trace has it. The empty one is `(,)`.
+fn read_span(rest: &mut &[u8]) -> Keys {
+    if read_number(rest, 1) == 0 {
+        return keys("(,)");
+    }
+    let (is_behind, from) = read_place(rest).expect("a span begins before the end of all keys");
+    let first = if is_behind { '(' } else { '[' };
+    match read_place(rest) {
+        Some((is_behind, to)) => {
+            Keys { from, to, ends: (first, if is_behind { ']' } else { ')' }) }
+        }
+        None => Keys { from, to: Vec::new(), ends: (first, '.') },
+    }
+}
+
+/// The marks that a summary is applied as, by its form in docs/FORMATS.md: all of its span at its
+/// floor, and then those that it has.
+fn applied(summary: &[u8]) -> Vec<(Keys, Value)> {
+    let mut rest = &summary[9..];
+    let (rest, mut marks) = (&mut rest, Vec::new());
+    let (span, wall, logical) = (read_span(rest), read_number(rest, 8), read_number(rest, 4));
+    marks.push((span, Value { time: Time::new(wall, logical as u32), owner: None }));
+    for _ in 0..read_number(rest, 8) {
+        let (span, wall, logical) = (read_span(rest), read_number(rest, 8), read_number(rest, 4));
+        let owner = [(); 16].map(|()| read_number(rest, 1) as u8);
+        let owner = Some(owner).filter(|owner| *owner != [0; 16]);
+        marks.push((span, Value { time: Time::new(wall, logical as u32), owner }));
+    }
+    assert_eq!(rest.len(), 32, "the digest");
+    marks
+}
+
+/// The calls of one cache as a list of a trace, and the log that the rows tell.
+struct Trace {
+    head: String,
+    calls: Vec<String>,
+    log: String,
+    adds: usize,
+}
+
+fn pair(at: &str) -> String {
+    format!("[{}]", at.replace('.', ","))
+}
+
+fn uuid(by: Option<[u8; 16]>) -> String {
+    match by {
         Some(id) => format!(r#""{}""#, id.map(|byte| format!("{byte:02x}")).concat()),
         None => "null".into(),
-    };
-    let named = |by: &str| match owner(by) {
-        Some([b, ..]) => format!(
-            "{0}{0}-{1}-{1}-{1}-{1}{1}{1}",
-            format!("{b:02x}{b:02x}"),
-            format!("{b:02x}{b:02x}")
-        ),
+    }
+}
+
+/// A transaction as a log has it.
+fn shown(by: &str) -> String {
+    match owner(by) {
+        Some([b, ..]) => {
+            let two = format!("{b:02x}{b:02x}");
+            format!("{two}{two}-{two}-{two}-{two}-{two}{two}{two}")
+        }
         None => "none".into(),
-    };
-    for (_, call, wanted) in lines {
-        let words: Vec<_> = call.split(' ').collect();
-        match words[..] {
-            ["open", first, max, pages, retention, low, _] => {
-                if *wanted != "done" {
-                    return None; // a trace has one head, and it is one that there may be
-                }
-                head = Some(format!(
-                    r#"{{"page_first":{first},"page_max":{max},"min_pages":{pages},"retention":{retention},"low_water":{},"#,
-                    pair(low)
-                ));
-            }
+    }
+}
+
+impl Trace {
+    fn new(words: &[&str]) -> Trace {
+        let [_, first, max, pages, retention, low, _] = words else { panic!("{words:?}") };
+        let head = format!(
+            r#"{{"page_first":{first},"page_max":{max},"min_pages":{pages},"retention":{retention},"low_water":{},"#,
+            pair(low)
+        );
+        Trace { head, calls: Vec::new(), log: String::new(), adds: 0 }
+    }
+
+    fn call(&mut self, call: String, answer: &str) {
+        self.log += &format!("0 {} {answer}\n", self.calls.len());
+        self.calls.push(call);
+    }
+
+    fn mark(span: &Keys, value: &Value) -> String {
+        format!(
+            r#""span":{},"time":{},"owner":{}"#,
+            span.json(),
+            pair(&told_time(value.time)),
+            uuid(value.owner)
+        )
+    }
+
+    fn batch(&mut self, marks: &[(Keys, Value)], now: &str, wanted: &str) {
+        let marks: Vec<_> =
+            marks.iter().map(|(span, value)| format!("{{{}}}", Trace::mark(span, value))).collect();
+        let marks = marks.join(",");
+        let call = format!(r#"{{"op":"batch","marks":[{marks}],"now":{}}}"#, pair(now));
+        self.call(call, &format!("batch {} {wanted}", self.adds));
+        self.adds += 1;
+    }
+
+    /// A row, if a trace has a call for it. A refused Add changes nothing.
+    fn note(&mut self, summaries: &Summaries, words: &[&str], wanted: &str) {
+        match words {
             ["add", span, at, by, now] if wanted.contains(' ') => {
-                calls.push(format!(
-                    r#"{{"op":"add","span":{},"time":{},"owner":{},"now":{}}}"#,
-                    keys(span).json(),
-                    pair(at),
-                    uuid(by),
-                    pair(now)
-                ));
-                log += &format!("0 {} add {adds} {wanted}\n", calls.len() - 1);
-                adds += 1;
+                let mark = Trace::mark(&keys(span), &value(at, by));
+                let call = format!(r#"{{"op":"add",{mark},"now":{}}}"#, pair(now));
+                self.call(call, &format!("add {} {wanted}", self.adds));
+                self.adds += 1;
             }
-            ["batch", now, ref rest @ ..] if wanted.contains(' ') => {
-                let marks: Vec<_> = rest
-                    .chunks(3)
-                    .map(|m| {
-                        format!(
-                            r#"{{"span":{},"time":{},"owner":{}}}"#,
-                            keys(m[0]).json(),
-                            pair(m[1]),
-                            uuid(m[2])
-                        )
-                    })
-                    .collect();
-                calls.push(format!(
-                    r#"{{"op":"batch","marks":[{}],"now":{}}}"#,
-                    marks.join(","),
-                    pair(now)
-                ));
-                log += &format!("0 {} batch {adds} {wanted}\n", calls.len() - 1);
-                adds += 1;
+            ["batch", now, rest @ ..] if wanted.contains(' ') => {
+                self.batch(&marks(rest), now, wanted);
+            }
+            ["apply", name, now] if wanted.contains(' ') => {
+                self.batch(&applied(&summaries[*name]), now, wanted);
             }
             ["get", span] if keys(span).from.len().max(keys(span).to.len()) <= 4096 => {
                 let (at, by) = wanted.split_once(' ').unwrap();
-                calls.push(format!(r#"{{"op":"get","span":{}}}"#, keys(span).json()));
-                log += &format!("0 {} get {adds} {at} {}\n", calls.len() - 1, named(by));
+                let call = format!(r#"{{"op":"get","span":{}}}"#, keys(span).json());
+                self.call(call, &format!("get {} {at} {}", self.adds, shown(by)));
             }
             ["low"] => {
-                calls.push(r#"{"op":"low"}"#.into());
-                log += &format!("0 {} low {adds} {wanted}\n", calls.len() - 1);
+                self.call(r#"{"op":"low"}"#.into(), &format!("low {} {wanted}", self.adds));
             }
-            // what a trace has no call for; a refused Add changes nothing
             _ => {}
         }
     }
-    Some((format!(r#"{}"threads":[[{}]]}}"#, head?, calls.join(",")), log))
 }
 
+/// Each cache of a case is a trace. What is applied is a batch there, of what the summary has.
 #[test]
 fn rattle_plays_the_rows() -> Result<(), TextError> {
-    let mut played = 0;
+    let (mut played_lines, mut batches) = (0, 0);
     for (name, lines) in cases() {
-        if let Some((trace, log)) = trace_of(&lines) {
+        let (mut traces, mut table, mut summaries) = (Vec::new(), None, Summaries::new());
+        for (_, call, wanted) in lines {
+            let words: Vec<_> = call.split(' ').collect();
+            if name.starts_with("cache") {
+                played(&mut table, &mut summaries, 0, &words);
+            }
+            match (words[0], traces.last_mut()) {
+                ("open", _) if wanted == "done" => traces.push(Trace::new(&words)),
+                (_, Some(trace)) => trace.note(&summaries, &words, wanted),
+                _ => {}
+            }
+            batches += usize::from(words[0] == "apply" && wanted.contains(' '));
+        }
+        for Trace { head, calls, log, .. } in traces {
+            let trace = format!(r#"{head}"threads":[[{}]]}}"#, calls.join(","));
             let told = String::from_utf8(replay(trace.as_bytes())?).unwrap();
             assert_eq!(told, log, "{name}: {trace}");
-            played += told.lines().count();
+            played_lines += told.lines().count();
         }
     }
-    assert!(played > 250, "{played} lines");
+    assert!(played_lines > 350 && batches > 20, "{played_lines} lines, {batches} summaries");
     Ok(())
 }

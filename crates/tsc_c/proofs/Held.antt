@@ -1,5 +1,5 @@
 -- What is done in the store that a pointer owns is done by the call; and where none is owned a call is refused.
-use Rattle.std.proofs.Common.{◌≡◌, refl, sym, ap, subst, inl, ℕ, List, []}
+use Rattle.std.proofs.Common.{◌≡◌, refl, sym, subst, inl, ℕ, List, []}
 use Rattle.std.specs.Prelude.{Option, Some, None, Result, Err}
 use Rattle.tsc_cache.specs.CacheView.{CacheView}
 use Rattle.tsc_shared.specs.Seats.{SeatView}

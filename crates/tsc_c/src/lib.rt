@@ -10,6 +10,9 @@ mod buffer;
 mod cache_calls;
 mod seat_calls;
 mod store_ptr;
+mod summary_calls;
+#[cfg(test)]
+mod summary_tests;
 #[cfg(test)]
 mod tests;
 mod texts;

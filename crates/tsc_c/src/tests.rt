@@ -9,7 +9,9 @@ use crate::seat_calls::{
     tsc_seat_figures_of, tsc_seat_get_max, tsc_seat_low_water,
 };
 use crate::store_ptr::StorePtr;
-use crate::write_calls::{tsc_earliest_write, tsc_seat_earliest_write};
+use crate::write_calls::{
+    tsc_earliest_write, tsc_may_write, tsc_seat_earliest_write, tsc_seat_may_write,
+};
 use std::alloc::Global;
 use tsc_ffi_store::{TscAdded, TscFigures, TscMark, TscSpan, TscTime, TscValue};
 
@@ -45,7 +47,9 @@ enum Call {
     SeatAddAll(u64),
     SeatGetMax(u64, &'static [u8]),
     Earliest(u64),
+    May(u64, u64),
     SeatEarliest(u64),
+    SeatMay(u64, u64),
     SeatLowWater(u64),
     SeatFigures(u64),
     SeatClose(u64),
@@ -148,6 +152,27 @@ fn seat_earliest(store: &mut StorePtr, handle: u64) -> Told {
     let (mut seen, mut time) = (9, NINES);
     let code = tsc_seat_earliest_write(store, handle, b"acd", &SPANS, &WRITE, &mut seen, &mut time);
     (code, time.wall, u64::from(time.logical), seen, 0, 0)
+}
+
+/// A write at some nanosecond.
+fn write_at(wall: u64) -> TscValue {
+    TscValue { wall, ..WRITE }
+}
+
+/// Whether a write may be made.
+fn may(store: &mut StorePtr, handle: u64, wall: u64) -> Told {
+    let mut clear = true;
+    let write = write_at(wall);
+    let code = tsc_may_write(store, handle, b"acd", &SPANS, &write, &mut clear);
+    (code, u64::from(clear), 0, 0, 0, 0)
+}
+
+/// The same at a seat, and how many Adds that has seen.
+fn seat_may(store: &mut StorePtr, handle: u64, wall: u64) -> Told {
+    let (mut seen, mut clear) = (9, true);
+    let write = write_at(wall);
+    let code = tsc_seat_may_write(store, handle, b"acd", &SPANS, &write, &mut seen, &mut clear);
+    (code, u64::from(clear), seen, 0, 0, 0)
 }
 
 const NINES: TscTime = TscTime {
@@ -292,6 +317,8 @@ fn make(alloc: Global, store: &mut StorePtr, other: &mut StorePtr, call: &Call) 
         Call::SeatAddAll(seat) => seat_add_all(alloc, store, *seat),
         Call::SeatGetMax(seat, key) => seat_get_max(store, *seat, key),
         Call::SeatEarliest(seat) => seat_earliest(store, *seat),
+        Call::May(handle, wall) => may(store, *handle, *wall),
+        Call::SeatMay(seat, wall) => seat_may(store, *seat, *wall),
         Call::SeatLowWater(seat) => seat_low_water(store, *seat),
         Call::SeatFigures(seat) => seat_figures(store, *seat),
         Call::SeatClose(seat) => (tsc_seat_close(store, *seat), 0, 0, 0, 0, 0),
@@ -316,7 +343,7 @@ fn first_wrong(alloc: Global, rows: &[Row]) -> Option<usize> {
     None
 }
 
-static CALLS: [Row; 20] = [
+static CALLS: [Row; 23] = [
     (false, Call::Open, (0, 0, 0, 0, 0, 0)),
     (false, Call::Open, (0, 1, 0, 0, 0, 0)),
     (false, Call::Add(1), (0, 1, 0, 0, 0, 0)),
@@ -328,6 +355,9 @@ static CALLS: [Row; 20] = [
     (false, Call::Earliest(1), (0, 20, 2, 0, 0, 0)),
     (false, Call::Earliest(0), (0, 6, 7, 0, 0, 0)),
     (false, Call::Earliest(2), (1, 9, 9, 0, 0, 0)),
+    (false, Call::May(1, 19), (0, 0, 0, 0, 0, 0)),
+    (false, Call::May(1, 20), (0, 1, 0, 0, 0, 0)),
+    (false, Call::May(2, 20), (1, 1, 0, 0, 0, 0)),
     (false, Call::LowWater(1), (0, 5, 0, 0, 0, 0)),
     (false, Call::Figures(0), (0, 1, 0, 0, 0, 0)),
     (false, Call::Figures(1), (0, 1, 0, 3, 99, 0)),
@@ -344,7 +374,7 @@ fn each_call_answers(rt: HostRuntime) {
     assert_eq!(rt; first_wrong(rt.alloc(), &CALLS), None);
 }
 
-static SHARED_CALLS: [Row; 23] = [
+static SHARED_CALLS: [Row; 26] = [
     (false, Call::OpenShared(65), (12, 9, 0, 0, 0, 0)),
     (false, Call::OpenShared(2), (0, 0, 0, 0, 0, 0)),
     (false, Call::Move(2), (0, 0, 0, 0, 0, 0)),
@@ -357,6 +387,9 @@ static SHARED_CALLS: [Row; 23] = [
     (false, Call::SeatGetMax(1, b"d"), (0, 20, 1, 0x11, 2, 0)),
     (false, Call::SeatEarliest(1), (0, 20, 2, 2, 0, 0)),
     (false, Call::SeatEarliest(0), (1, 9, 9, 9, 0, 0)),
+    (false, Call::SeatMay(1, 19), (0, 0, 2, 0, 0, 0)),
+    (false, Call::SeatMay(1, 20), (0, 1, 2, 0, 0, 0)),
+    (false, Call::SeatMay(0, 20), (1, 1, 9, 0, 0, 0)),
     (false, Call::SeatLowWater(1), (0, 5, 0, 2, 0, 0)),
     (false, Call::SeatFigures(1), (0, 1, 0, 3, 99, 2)),
     (false, Call::SeatFigures(0), (1, 9, 9, 9, 9, 9)),

@@ -1,13 +1,15 @@
-//! The calls of writes: from when on they may be made.
+//! The calls of writes: whether and from when on they may be made.
 
 ghost use Rattle.std.specs.Prelude.{◌≡◌};
 ghost use Rattle.tsc_ffi_store.specs.Codes.{Tells};
 ghost use Rattle.tsc_ffi_store.specs.Decode.{time_of};
 ghost use Rattle.tsc_ffi_store.specs.Store.{slots_of, AnswersOfCache, DoesToSeat};
-ghost use Rattle.tsc_ffi_store.specs.Writes.{write_asked, AnswersWrite, AnswersSeatWrite};
+ghost use Rattle.tsc_ffi_leases.specs.Writes.{write_asked, AnswersWrite, AnswersSeatWrite};
+ghost use Rattle.tsc_ffi_leases.specs.Writes.{AnswersMayWrite, AnswersSeatMayWrite};
 
 use crate::store_ptr::StorePtr;
-use tsc_ffi_store::{Refusal, TscSpan, TscTime, TscValue, WriteArgs, code};
+use tsc_ffi_leases::{WriteArgs, earliest_write, may_write, seat_earliest_write, seat_may_write};
+use tsc_ffi_store::{Refusal, TscSpan, TscTime, TscValue, code};
 
 /// The earliest time, from that of a write on, at which its transaction may write some spans.
 #[unsafe(no_mangle)]
@@ -26,12 +28,34 @@ pub extern "C" fn tsc_earliest_write(
 {
     let args = WriteArgs { keys, spans, write };
     match store.store_mut() {
-        Some(held) => code(held.earliest_write(handle, &args, out)),
+        Some(held) => code(earliest_write(held, handle, &args, out)),
         None => Refusal::Closed.code(),
     }
 }
 
-/// The same, by what a seat answers, and how many Adds the seat has seen then.
+/// Whether the transaction of a write may write some spans at its time.
+#[unsafe(no_mangle)]
+pub extern "C" fn tsc_may_write(
+    store: &mut StorePtr,
+    handle: u64,
+    keys: &[u8],
+    spans: &[TscSpan],
+    write: &TscValue,
+    out: &mut bool,
+) -> u32
+    ensures answers { Tells (AnswersOfCache
+        (AnswersMayWrite (write_asked keys.now spans.now write.now) out.new)
+        (slots_of store.old.owned) handle) (out.new ≡ out.old) result }
+    ensures unchanged { store.new.owned ≡ store.old.owned }
+{
+    let args = WriteArgs { keys, spans, write };
+    match store.store_mut() {
+        Some(held) => code(may_write(held, handle, &args, out)),
+        None => Refusal::Closed.code(),
+    }
+}
+
+/// The earliest time, by what a seat answers, and how many Adds the seat has seen then.
 #[unsafe(no_mangle)]
 pub extern "C" fn tsc_seat_earliest_write(
     store: &mut StorePtr,
@@ -49,7 +73,30 @@ pub extern "C" fn tsc_seat_earliest_write(
 {
     let args = WriteArgs { keys, spans, write };
     match store.store_mut() {
-        Some(held) => code(held.seat_earliest_write(handle, &args, seen, out)),
+        Some(held) => code(seat_earliest_write(held, handle, &args, seen, out)),
+        None => Refusal::Closed.code(),
+    }
+}
+
+/// Whether it may, by what a seat answers, and how many Adds the seat has seen then.
+#[unsafe(no_mangle)]
+pub extern "C" fn tsc_seat_may_write(
+    store: &mut StorePtr,
+    handle: u64,
+    keys: &[u8],
+    spans: &[TscSpan],
+    write: &TscValue,
+    seen: &mut u64,
+    out: &mut bool,
+) -> u32
+    ensures answers { Tells (DoesToSeat
+        (AnswersSeatMayWrite (write_asked keys.now spans.now write.now) seen.new out.new)
+        (slots_of store.old.owned) (slots_of store.new.owned) handle)
+        ((seen.new ≡ seen.old) × (out.new ≡ out.old)) result }
+{
+    let args = WriteArgs { keys, spans, write };
+    match store.store_mut() {
+        Some(held) => code(seat_may_write(held, handle, &args, seen, out)),
         None => Refusal::Closed.code(),
     }
 }

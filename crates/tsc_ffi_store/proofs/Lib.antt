@@ -1,8 +1,7 @@
 mod Answering
-mod AtHandle
+pub mod AtHandle
 mod Chains
 mod MarksMade
 mod NewSeats
 mod NextHandle
 mod Trying
-pub mod WritesTold

@@ -20,6 +20,10 @@ code_of refusal.StillOut = 13
 code_of refusal.Busy = 14
 code_of refusal.Full = 15
 code_of refusal.NoTime = 18
+code_of refusal.SummaryVersion = 19
+code_of refusal.SummaryLength = 20
+code_of refusal.SummaryChecksum = 21
+code_of refusal.SummaryForm = 22
 
 -- what C is told of a call
 abbrev pub code_for : {A : Type 0} → Result A Refusal → ℕ

@@ -7,5 +7,3 @@ pub mod Marks
 pub mod Puts
 pub mod SeatCalls
 pub mod Store
-pub mod Writes
-pub mod WriteSteps

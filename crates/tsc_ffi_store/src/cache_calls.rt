@@ -229,7 +229,7 @@ fn add_in(
             *out = words_of_added(added);
             Ok(())
         }
-        Err(fault) => Err(of_fault(fault)),
+        Err(fault) => Err(of_cache_fault(fault)),
     }
 }
 
@@ -252,7 +252,7 @@ fn add_formed(
             *out = words_of_added(added);
             Ok(())
         }
-        Err(fault) => Err(of_fault(fault)),
+        Err(fault) => Err(of_cache_fault(fault)),
     }
 }
 
@@ -274,12 +274,12 @@ fn add_all_in(
             *out = words_of_added(added);
             Ok(())
         }
-        Err(fault) => Err(of_fault(fault)),
+        Err(fault) => Err(of_cache_fault(fault)),
     }
 }
 
 /// Why a cache refused an Add.
-fn of_fault(fault: CacheFault) -> Refusal
+pub fn of_cache_fault(fault: CacheFault) -> Refusal
     ensures too_large { fault ≡ CacheFault.TooLarge → result ≡ TooLarge }
     ensures memory { fault ≡ CacheFault.NoMemory → result ≡ NoMemory }
 {

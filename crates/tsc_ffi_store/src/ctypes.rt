@@ -94,11 +94,3 @@ pub struct ConfigArgs<'a> {
     pub retention: u64,
     pub low_water: &'a TscTime,
 }
-
-/// A write of several spans, whose keys lie among some bytes: when it is to be made, and by whom.
-#[derive(Clone, Copy)]
-pub struct WriteArgs<'a> {
-    pub keys: &'a [u8],
-    pub spans: &'a [TscSpan],
-    pub write: &'a TscValue,
-}

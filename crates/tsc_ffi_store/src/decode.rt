@@ -57,7 +57,7 @@ pub fn value(words: &TscValue) -> Result<Value, Refusal>
 }
 
 /// The time of a value's words.
-pub(crate) fn value_time(words: &TscValue) -> Result<Timestamp, Refusal>
+pub fn value_time(words: &TscValue) -> Result<Timestamp, Refusal>
     ensures value { IfOk result (λ time. time ≡ (value_of words.now).time) }
     ensures refused { IfErr result (λ refusal. RefusesTime refusal (value_of words.now).time) }
 {
@@ -163,7 +163,7 @@ pub(crate) fn key(alloc: Global, bytes: &[u8]) -> Result<Key, Refusal>
 }
 
 /// The span to be added that a call names.
-pub(crate) fn added_span(alloc: Global, args: &SpanArgs<'_>) -> Result<Span, Refusal>
+pub fn added_span(alloc: Global, args: &SpanArgs<'_>) -> Result<Span, Refusal>
     ensures value { IfOk result (λ span. add_span (asked_span args.now) ≡ Some span) }
     ensures refused { IfErr result (λ refusal. RefusesAddSpan refusal (asked_span args.now)) }
 {
@@ -188,7 +188,7 @@ fn added_range(alloc: Global, from: &[u8], to: &[u8], ends: Ends) -> Result<Span
 }
 
 /// The span to be looked up that a call names. It is over the keys where they lie, which may be of any length.
-pub(crate) fn looked_up_span<'a>(args: &SpanArgs<'a>) -> Result<SpanRef<'a>, Refusal>
+pub fn looked_up_span<'a>(args: &SpanArgs<'a>) -> Result<SpanRef<'a>, Refusal>
     ensures value { IfOk result (λ span. lookup_span (asked_span args.now) ≡ Some span) }
     ensures refused { IfErr result (λ refusal. RefusesEnds refusal args.now.ends) }
 {

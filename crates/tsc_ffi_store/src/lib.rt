@@ -13,15 +13,17 @@ mod marks;
 mod refusal;
 mod seat_calls;
 mod store;
-mod writes;
 
 pub use buffer::{REFUSED, put};
-pub use cache_calls::may_open;
+pub use cache_calls::{may_open, of_cache_fault};
 pub use ctypes::{
     AddArgs, BatchArgs, ConfigArgs, SpanArgs, TscAdded, TscFigures, TscMark, TscSpan, TscTime,
-    TscValue, WriteArgs,
+    TscValue,
 };
-pub use decode::Form;
+pub use decode::{
+    Form, added_span, looked_up_span, time, value_time, words_of_added, words_of_time,
+};
+pub use marks::part;
 pub use refusal::{OK, Refusal, code};
 pub use seat_calls::may_open_shared;
 pub use store::{Slot, Store};

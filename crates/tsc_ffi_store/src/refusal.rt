@@ -39,6 +39,14 @@ pub enum Refusal {
     Full,
     /// A read of somebody else stands at the last time, so a write is clear at none.
     NoTime,
+    /// The bytes are a summary of another version.
+    SummaryVersion,
+    /// A summary has other bytes than it tells of, fewer or more.
+    SummaryLength,
+    /// A summary was changed: its digest is another one.
+    SummaryChecksum,
+    /// The digest is right, and what it is of is no summary.
+    SummaryForm,
 }
 
 impl Refusal {
@@ -64,6 +72,10 @@ impl Refusal {
             Refusal::Busy => 14,
             Refusal::Full => 15,
             Refusal::NoTime => 18,
+            Refusal::SummaryVersion => 19,
+            Refusal::SummaryLength => 20,
+            Refusal::SummaryChecksum => 21,
+            Refusal::SummaryForm => 22,
         }
     }
 }

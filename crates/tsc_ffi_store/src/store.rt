@@ -96,7 +96,7 @@ impl Store {
     }
 
     /// The cache that a handle names.
-    pub(crate) fn cache(&self, handle: u64) -> Option<&Cache>
+    pub fn cache(&self, handle: u64) -> Option<&Cache>
         ensures { option_map (λ c. c.now) result ≡ cache_at self.now.slots.items handle }
     {
         match self.slots.get(handle as usize) {
@@ -106,7 +106,7 @@ impl Store {
     }
 
     /// The cache that a handle names, to be changed.
-    pub(crate) fn cache_mut(&mut self, handle: u64) -> Option<&mut Cache>
+    pub fn cache_mut(&mut self, handle: u64) -> Option<&mut Cache>
         ensures* writes_back { sem 𝓛 (LendsCacheAt self.entry handle result) }
         ensures value { option_map (λ c. c.now) result ≡ cache_at self.old.slots.items handle }
     {
@@ -117,7 +117,7 @@ impl Store {
     }
 
     /// The seat that a handle names.
-    pub(crate) fn seat_mut(&mut self, handle: u64) -> Option<&mut SeatHandle>
+    pub fn seat_mut(&mut self, handle: u64) -> Option<&mut SeatHandle>
         ensures* writes_back { sem 𝓛 (LendsSeatAt self.entry handle result) }
         ensures value { option_map (λ s. s.now) result ≡ seat_at self.old.slots.items handle }
     {

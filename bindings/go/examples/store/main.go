@@ -142,8 +142,9 @@ func (s *store) clear(one, other int, wanted tscache.Time, by [16]byte) (
 		s.pool.Do(func(seat *tscache.Seat) {
 			for _, span := range spans {
 				var latest tscache.Value
-				if latest, _, err = seat.GetMax(span); err == nil && latest.Owner != by {
-					at, _ = tscache.EarliestClearOf(latest, at, by)
+				latest, _, err = seat.GetMax(span)
+				if err == nil && latest.Owner != by && !latest.Time.Before(at) {
+					at, _ = latest.Time.Next()
 				}
 			}
 		})

@@ -4,7 +4,7 @@ use Rattle.std.specs.Prelude.{Err}
 use Rattle.tsc_ffi_store.specs.declared.refusal.Refusal.TheVariants as refusal
 use Rattle.tsc_ffi_store.specs.Decode.{time_of}
 use Rattle.tsc_ffi_store.specs.Store.{AnswersOfCache}
-use Rattle.tsc_ffi_store.specs.Writes.{write_asked, AnswersWrite}
+use Rattle.tsc_ffi_leases.specs.Writes.{write_asked, AnswersWrite}
 use Rattle.tsc_c.proofs.Held.{in_store, none_read}
 use Rattle.tsc_c.proofs.write_calls.tsc_earliest_write.Goals as goal
 

@@ -4,7 +4,7 @@ use Rattle.std.specs.Prelude.{Err, Some}
 use Rattle.tsc_ffi_store.specs.declared.refusal.Refusal.TheVariants as refusal
 use Rattle.tsc_ffi_store.specs.Decode.{time_of}
 use Rattle.tsc_ffi_store.specs.Store.{DoesToSeat}
-use Rattle.tsc_ffi_store.specs.Writes.{write_asked, AnswersSeatWrite}
+use Rattle.tsc_ffi_leases.specs.Writes.{write_asked, AnswersSeatWrite}
 use Rattle.tsc_c.proofs.Held.{in_store, no_seat}
 use Rattle.tsc_c.proofs.write_calls.tsc_seat_earliest_write.Goals as goal
 
@@ -19,8 +19,8 @@ returns-in-Some c =
             (AnswersSeatWrite asked c.seat_earliest_write.new.seen
             (time_of c.seat_earliest_write.new.out)) o n c.args.handle
             c.seat_earliest_write.result)
-            c.args.store.now.owned (Some c.seat_earliest_write.new.self) c.in-Some.held.now
-            c.seat_earliest_write.new.self
+            c.args.store.now.owned (Some c.seat_earliest_write.new.store) c.in-Some.held.now
+            c.seat_earliest_write.new.store
             (search rules) (search rules) c.seat_earliest_write.ensures.answers;
         kept = c.seat_earliest_write.ensures.kept;
       };

@@ -1,5 +1,4 @@
 -- What is written is what the cache of the seat answered.
-use Rattle.std.proofs.Common.{rules}
 use Rattle.tsc_ffi_store.specs.Decode.{asked_span, value_of}
 use Rattle.tsc_ffi_store.proofs.Answering.{seat_looks}
 use Rattle.tsc_ffi_store.proofs.seat_calls.look_at.Goals as goal

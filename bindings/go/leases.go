@@ -1,0 +1,57 @@
+package tscache
+
+/*
+#include "block.h"
+*/
+import "C"
+
+import "runtime"
+
+// Summary is what was read of a span, as bytes to be sent to the next holder of its lease, who
+// calls Apply with them. The caller stops answering reads of the span before it asks.
+//
+// At most so many marks are told, and math.MaxUint leaves none out. Where there is no room for a
+// mark its time raises a floor of the summary: later writes are pushed further by it, and never
+// less far. With none it is such a floor alone.
+//
+// It is refused as an Add of the span is, and with ErrClosed. A Shared cache has no summary: its
+// lease goes on by a floor.
+func (c *Cache) Summary(span Span, most uint) ([]byte, error) {
+	c.take()
+	if c.block == nil {
+		return nil, c.leave(C.TSC_CLOSED)
+	}
+	out, err := told(func(out []byte) (uint32, int) {
+		code := C.tsc_go_summary(
+			c.block, bytes(span.from), C.size_t(len(span.from)), bytes(span.to),
+			C.size_t(len(span.to)), span.ends-1, C.size_t(most), bytes(out), C.size_t(len(out)),
+		)
+		return uint32(code), int(c.block.told)
+	})
+	_ = c.leave(C.TSC_OK)
+	runtime.KeepAlive(c)
+	return out, err
+}
+
+// Apply adds what the bytes of a summary tell, at the moment now: all of it or nothing. The new
+// holder of a lease does so before it answers its first write of the span. From then on no answer
+// within the span is earlier than what the former holder's cache answered there, no answer
+// anywhere has sunk, and reads that were told as marks keep their owners.
+//
+// Bytes of which some are missing or were changed are refused with ErrSummaryVersion,
+// ErrSummaryLength or ErrSummaryChecksum, and the cache is as it was. The digest is no signature:
+// who takes bytes from somebody that may lie has them signed. Else it is refused with
+// ErrSummaryForm, and as AddAll is. Where it is refused the holder asks for the bytes again, or
+// opens a cache with LowWater at or above each time at which a read was answered.
+func (c *Cache) Apply(summary []byte, now Time) (Added, error) {
+	c.take()
+	if c.block == nil {
+		return Added{}, c.leave(C.TSC_CLOSED)
+	}
+	putTime(&c.block.time, now)
+	code := C.tsc_go_apply(c.block, bytes(summary), C.size_t(len(summary)))
+	out := added(code, &c.block.added)
+	err := c.leave(code)
+	runtime.KeepAlive(c)
+	return out, err
+}

@@ -1,0 +1,156 @@
+//! What was read of a span, as bytes for the next holder of its lease: the same calls as those of
+//! the crate `timestamp_cache`.
+use crate::texts::with_room;
+use crate::{done, ffi, Added, Cache, Error, Span, Time};
+use std::mem::MaybeUninit;
+
+impl Cache {
+    /// What was read of a span, as bytes to be sent to the next holder of its lease, who calls
+    /// [`apply`](Cache::apply) with them. The caller stops answering reads of the span before it
+    /// asks.
+    ///
+    /// At most `most` marks are told, and `usize::MAX` leaves none out. Where there is no room for
+    /// a mark its time raises a floor of the summary: later writes are pushed further by it, and
+    /// never less far. With `most` of 0 it is such a floor alone.
+    ///
+    /// The span is refused as one that is to be added, and with [`Error::NoMemory`] where memory
+    /// for the bytes was. A shared cache has no summary: its lease goes on by a floor.
+    ///
+    /// ```
+    /// use tscache::{Cache, Config, Error, Span, Time, Value};
+    /// let (reader, writer, all) = ([0x11; 16], [0x22; 16], Span::until(b"a", b"z"));
+    /// let read = Value { time: Time::new(20, 0), owner: Some(reader) };
+    /// let mut former = Cache::open(&Config::default())?;
+    /// former.add(&Span::Point(b"b"), read, Time::new(20, 0))?;
+    /// let summary = former.summary(&all, usize::MAX)?;
+    ///
+    /// let mut next = Cache::open(&Config::default())?;
+    /// next.apply(&summary, Time::new(30, 0))?;
+    /// assert_eq!(next.get_max(&Span::Point(b"b")), read);
+    /// assert!(!next.may_write(&Span::Point(b"b"), Time::new(20, 0), writer));
+    /// # Ok::<(), Error>(())
+    /// ```
+    pub fn summary(&mut self, span: &Span<'_>, most: usize) -> Result<Vec<u8>, Error> {
+        let (from, to, ends) = span.parts();
+        // SAFETY: as of the other calls, and the room is a vector's own, of which no one else has a
+        // reference
+        let (code, bytes) = with_room(|out, len| unsafe {
+            ffi::tsc_summary(
+                &mut self.place,
+                self.number,
+                from.as_ptr(),
+                from.len(),
+                to.as_ptr(),
+                to.len(),
+                ends,
+                most,
+                out.as_mut_ptr(),
+                out.len(),
+                len,
+            )
+        })
+        .ok_or(Error::NoMemory)?;
+        done(code).map(|()| bytes)
+    }
+
+    /// Adds what the bytes of a [`summary`](Cache::summary) tell, at the moment `now`: all of it or
+    /// nothing. The new holder of a lease does so before it answers its first write of the span.
+    /// From then on no answer within the span is earlier than what the former holder's cache
+    /// answered there, no answer anywhere has sunk, and reads that were told as marks keep their
+    /// owners.
+    ///
+    /// Bytes of which some are missing or were changed are refused by name, and the cache is as it
+    /// was. The digest is no signature: who takes bytes from somebody that may lie has them signed.
+    /// Where it is refused the holder asks for the bytes again, or opens a cache with
+    /// [`low_water`](crate::Config::low_water) at or above each time at which a read was answered.
+    ///
+    /// ```
+    /// use tscache::{Cache, Config, Error, Span, Time};
+    /// let mut cache = Cache::open(&Config::default())?;
+    /// let mut summary = cache.summary(&Span::Point(b"a"), 0)?;
+    /// let cut = &summary[..summary.len() - 1];
+    /// assert_eq!(cache.apply(cut, Time::new(30, 0)), Err(Error::SummaryLength));
+    /// summary[9] ^= 1;
+    /// assert_eq!(cache.apply(&summary, Time::new(30, 0)), Err(Error::SummaryChecksum));
+    /// # Ok::<(), Error>(())
+    /// ```
+    pub fn apply(&mut self, summary: &[u8], now: Time) -> Result<Added, Error> {
+        let mut added = MaybeUninit::<ffi::Added>::uninit();
+        // SAFETY: as of the other calls
+        done(unsafe {
+            ffi::tsc_apply(
+                &mut self.place,
+                self.number,
+                summary.as_ptr(),
+                summary.len(),
+                &now,
+                added.as_mut_ptr(),
+            )
+        })?;
+        Ok(unsafe { added.assume_init() }.into())
+    }
+}
+
+#[cfg(test)]
+mod tests {
+    use super::*;
+    use crate::{Config, Value};
+
+    const NOW: Time = Time::new(50, 0);
+
+    fn cache() -> Cache {
+        Cache::open(&Config { low_water: Time::new(5, 0), ..Config::default() }).unwrap()
+    }
+
+    /// Summaries of many lengths, below, at and above the room that is asked with first, go to
+    /// another cache, which then answers the same.
+    #[test]
+    fn summaries_of_many_lengths() {
+        let all = Span::Onward { from: b"", exclude_from: false };
+        let lengths = [0, 1, 92, 93, 94, 5000u16].map(|count| {
+            let (mut former, mut next) = (cache(), cache());
+            let mut keys: Vec<_> = (0..count).map(|i| i.to_be_bytes().to_vec()).collect();
+            if count == 92 {
+                keys[91].resize(38, 0);
+            }
+            for (wall, key) in (20..).zip(&keys) {
+                let read = Value { time: Time::new(wall, 0), owner: Some([1; 16]) };
+                former.add(&Span::Point(key), read, NOW).unwrap();
+            }
+            let summary = former.summary(&all, usize::MAX).unwrap();
+            assert_eq!(next.apply(&summary, NOW).map(|added| added.kept), Ok(count > 0));
+            keys.push(b"z".to_vec());
+            for key in &keys {
+                let span = Span::Point(key);
+                assert_eq!(next.get_max(&span), former.get_max(&span), "{key:?} of {count}");
+            }
+            assert_eq!(next.summary(&all, usize::MAX).as_ref(), Ok(&summary));
+            summary.len()
+        });
+        assert_eq!(lengths, [68, 111, 4096, 4067, 4110, 215_068]);
+    }
+
+    #[test]
+    fn refusals() {
+        let mut cache = cache();
+        let long = [0; 4097];
+        assert_eq!(cache.summary(&Span::Point(&long), 9), Err(Error::KeyTooLong));
+        assert_eq!(cache.summary(&Span::until(b"c", b"a"), 9), Err(Error::Inverted));
+        let summary = cache.summary(&Span::until(b"a", b"c"), 9).unwrap();
+        for cut in 0..summary.len() {
+            assert_eq!(cache.apply(&summary[..cut], NOW), Err(Error::SummaryLength));
+        }
+        for place in 0..summary.len() {
+            let mut changed = summary.clone();
+            changed[place] ^= 0x10;
+            let why = match place {
+                0 => Error::SummaryVersion,
+                1..=8 => Error::SummaryLength,
+                _ => Error::SummaryChecksum,
+            };
+            assert_eq!(cache.apply(&changed, NOW), Err(why), "{place}");
+        }
+        assert_eq!(cache.apply(&summary, Time::new(1 << 63, 0)), Err(Error::Time));
+        assert!(cache.apply(&summary, NOW).is_ok());
+    }
+}

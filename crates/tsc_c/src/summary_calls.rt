@@ -1,0 +1,61 @@
+//! The calls for a lease that goes on: what was read of a span, as bytes to be sent, and its way
+//! into the cache of the next holder.
+
+ghost use Rattle.std.specs.Prelude.{◌≡◌};
+ghost use Rattle.tsc_ffi_store.specs.Codes.{Tells};
+ghost use Rattle.tsc_ffi_store.specs.Decode.{span_asked, added_of};
+ghost use Rattle.tsc_ffi_store.specs.Store.{slots_of, AnswersOfCache, DoesToCache};
+ghost use Rattle.tsc_ffi_leases.specs.Summaries.{summary_asked, AnswersSummary, PutsOr};
+ghost use Rattle.tsc_ffi_leases.specs.Summaries.{apply_asked, AnswersApply};
+
+use crate::store_ptr::StorePtr;
+use std::alloc::Global;
+use tsc_ffi_leases::{ApplyArgs, SummaryArgs, apply_summary, put_summary};
+use tsc_ffi_store::{Refusal, SpanArgs, TscAdded, TscTime, code};
+
+/// Puts what was read of a span into a buffer, as bytes, in so many marks at the most.
+#[unsafe(no_mangle)]
+pub extern "C" fn tsc_summary(
+    alloc: Global,
+    store: &mut StorePtr,
+    handle: u64,
+    from: &[u8],
+    to: &[u8],
+    ends: u32,
+    most: usize,
+    out: &mut [u8],
+    len: &mut usize,
+) -> u32
+    ensures answers { PutsOr (AnswersOfCache
+        (AnswersSummary (summary_asked (span_asked from.now to.now ends) most))
+        (slots_of store.old.owned) handle) result out.old out.new len.old len.new }
+    ensures unchanged { store.new.owned ≡ store.old.owned }
+{
+    let span = SpanArgs { from, to, ends };
+    let args = SummaryArgs { span, most };
+    match store.store_mut() {
+        Some(held) => put_summary(held, alloc, handle, &args, out, len),
+        None => Refusal::Closed.code(),
+    }
+}
+
+/// Adds what the bytes of a summary tell to a cache, at a moment, all of it or nothing.
+#[unsafe(no_mangle)]
+pub extern "C" fn tsc_apply(
+    alloc: Global,
+    store: &mut StorePtr,
+    handle: u64,
+    summary: &[u8],
+    moment: &TscTime,
+    out: &mut TscAdded,
+) -> u32
+    ensures answers { Tells (DoesToCache
+        (AnswersApply (apply_asked summary.now moment.now) (added_of out.new))
+        (slots_of store.old.owned) (slots_of store.new.owned) handle) (out.new ≡ out.old) result }
+{
+    let args = ApplyArgs { summary, moment };
+    match store.store_mut() {
+        Some(held) => code(apply_summary(held, alloc, handle, &args, out)),
+        None => Refusal::Closed.code(),
+    }
+}

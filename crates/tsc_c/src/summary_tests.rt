@@ -1,0 +1,100 @@
+//! What one cache tells of a read, and what another one does with that. `scripts/test-c-library`
+//! tests more of it, from C.
+
+use crate::cache_calls::{tsc_add, tsc_free, tsc_get_max, tsc_open};
+use crate::store_ptr::StorePtr;
+use crate::summary_calls::{tsc_apply, tsc_summary};
+use std::alloc::Global;
+use tsc_ffi_store::{TscAdded, TscTime, TscValue};
+
+const LOW: TscTime = TscTime {
+    wall: 5,
+    logical: 0,
+};
+
+const NOW: TscTime = TscTime {
+    wall: 20,
+    logical: 0,
+};
+
+const READ: TscValue = TscValue {
+    wall: 20,
+    logical: 1,
+    owner: [0x11; 16],
+};
+
+/// How many bytes tell of the span from `a` to before `c` with a read of `b`: the version, the
+/// length, a span, a floor, how many marks there are, a mark and its value, and the digest.
+const LEN: usize = 1 + 8 + 13 + 12 + 8 + 41 + 32;
+
+/// Opens two caches, in the first of which `b` was read.
+fn opened(alloc: Global, store: &mut StorePtr) -> bool {
+    let mut handle = 9;
+    let first = tsc_open(alloc, store, 132, 1024, 2, 10, &LOW, &mut handle);
+    let second = tsc_open(alloc, store, 132, 1024, 2, 10, &LOW, &mut handle);
+    let mut added = nothing_done();
+    let read = tsc_add(alloc, store, 0, b"b", b"", 8, &READ, &NOW, &mut added);
+    first == 0 && second == 0 && handle == 1 && read == 0 && added.kept
+}
+
+fn nothing_done() -> TscAdded {
+    TscAdded {
+        evicted: 9,
+        kept: false,
+        rotated: true,
+    }
+}
+
+/// The code and the length, for a buffer that has this room.
+fn told(alloc: Global, store: &mut StorePtr, handle: u64, out: &mut [u8]) -> (u32, usize) {
+    let mut len = 9;
+    let code = tsc_summary(alloc, store, handle, b"a", b"c", 2, 9, out, &mut len);
+    (code, len)
+}
+
+/// The code, and whether anything was kept.
+fn applied(alloc: Global, store: &mut StorePtr, handle: u64, bytes: &[u8]) -> (u32, bool) {
+    let mut added = nothing_done();
+    let code = tsc_apply(alloc, store, handle, bytes, &NOW, &mut added);
+    (code, added.kept)
+}
+
+/// The nanosecond of the latest read of `b` that the second cache knows of.
+fn known(store: &mut StorePtr) -> u64 {
+    let mut found = TscValue { wall: 0, ..READ };
+    let _code = tsc_get_max(store, 1, b"b", b"", 8, &mut found);
+    found.wall
+}
+
+#[test]
+fn tells_into_a_buffer_that_has_room(rt: HostRuntime) {
+    let mut store = StorePtr::empty();
+    let mut out = [7; LEN];
+    assert!(rt; opened(rt.alloc(), &mut store));
+    let short = told(rt.alloc(), &mut store, 0, &mut out[1..]);
+    assert_eq!(rt; short, (17, LEN));
+    assert_eq!(rt; out, [7; LEN]);
+    let whole = told(rt.alloc(), &mut store, 0, &mut out);
+    assert_eq!(rt; whole, (0, LEN));
+    assert_eq!(rt; out[0], 1);
+    let closed = told(rt.alloc(), &mut store, 2, &mut out);
+    assert_eq!(rt; closed, (1, 9));
+    tsc_free(rt.alloc(), &mut store);
+}
+
+#[test]
+fn applies_what_was_told(rt: HostRuntime) {
+    let mut store = StorePtr::empty();
+    let mut out = [7; LEN];
+    assert!(rt; opened(rt.alloc(), &mut store));
+    let _whole = told(rt.alloc(), &mut store, 0, &mut out);
+    let cut = applied(rt.alloc(), &mut store, 1, &out[1..]);
+    assert_eq!(rt; cut, (19, false));
+    assert_eq!(rt; known(&mut store), 5);
+    let whole = applied(rt.alloc(), &mut store, 1, &out);
+    assert_eq!(rt; whole, (0, true));
+    assert_eq!(rt; known(&mut store), 20);
+    let closed = applied(rt.alloc(), &mut store, 2, &out);
+    assert_eq!(rt; closed, (1, false));
+    tsc_free(rt.alloc(), &mut store);
+}

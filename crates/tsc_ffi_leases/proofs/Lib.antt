@@ -1,0 +1,4 @@
+mod Applying
+mod GoingOn
+mod MayWrite
+mod WritesTold

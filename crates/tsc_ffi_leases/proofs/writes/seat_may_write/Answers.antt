@@ -1,0 +1,20 @@
+-- What is told at the seat of the handle, the store tells.
+use Rattle.std.proofs.Common.{inl, inr, rules}
+use Rattle.tsc_ffi_store.proofs.AtHandle.{when_some}
+use Rattle.tsc_ffi_leases.proofs.writes.seat_may_write.Goals as goal
+
+pub returns-in-Some-clause-answers : goal.returns-in-Some-clause-answers
+returns-in-Some-clause-answers c = inr (record {
+  seat = c.in-Some.seat.now;
+  after = c.may_at.new.seat;
+  holds = search rules;
+  leaves = when_some c.seat_mut.result c.in-Some.seat c.in-Some.is
+      (c.seat_mut.follows.holds c.may_at.new.seat);
+  works = c.may_at.ensures.answers;
+})
+
+pub returns-in-None-clause-answers : goal.returns-in-None-clause-answers
+returns-in-None-clause-answers c = inl (
+  record { none = search rules; closed = search rules },
+  search rules,
+)

@@ -1,0 +1,4 @@
+pub mod Writes
+pub mod WriteSteps
+pub mod Summaries
+pub mod Laws
