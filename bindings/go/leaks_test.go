@@ -13,7 +13,8 @@ import (
 // Opened and dropped so often, each thing leaves nothing behind, whether it is closed or left to
 // the collector.
 func TestNothingIsLeftBehind(t *testing.T) {
-	const times, most = 2000, 64 << 10 // less than an empty cache takes, times 2,000
+	// Less than an empty cache takes, times 2,000, and more than the threads keep for themselves.
+	const times, most = 2000, 128 << 10
 	config := Config{PageFirst: 132, PageMax: 132, MinPages: 2, Retention: 10, LowWater: Time{5, 0}}
 	key, now := Point([]byte("a")), Time{20, 0}
 	kinds := map[string]func(closes bool) error{
