@@ -1,8 +1,8 @@
 -- What follows from the definitions, stated for every cut, span and key.
-use Rattle.std.specs.Prelude.{◌≡◌, not}
+use Rattle.std.specs.Prelude.{◌≡◌, not, true}
 use Rattle.std.specs.declared.cmp.Ordering.TheVariants.{Equal}
 use Rattle.std.specs.Cmp.{IsTotalOrder}
-use Rattle.tsc_span.specs.Span.{KeyBytes, Cut, before, after, cut_cmp, is_below, Interval, point, overlaps, covers}
+use Rattle.tsc_span.specs.Span.{KeyBytes, Cut, before, after, cut_cmp, is_below, Interval, point, all_keys, overlaps, covers}
 
 -- The order of cuts is total, and only the same cuts are equal in it. What is below the place after a key is not above the place before it.
 pub record IsCutOrder : Type 0 where
@@ -17,3 +17,7 @@ CoversIsOverlap = (s : Interval) (k : KeyBytes) → covers s k ≡ overlaps s (p
 -- which of two spans is named first makes no difference
 abbrev pub OverlapBothWays : Type 0
 OverlapBothWays = (s t : Interval) → overlaps s t ≡ overlaps t s
+
+-- each key lies in the span of all keys
+abbrev pub AllCoversEach : Type 0
+AllCoversEach = (k : KeyBytes) → covers all_keys k ≡ true

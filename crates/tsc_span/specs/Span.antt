@@ -71,6 +71,10 @@ end_cut k excluded = if excluded then before k else after k
 abbrev pub onward : KeyBytes → Bool → Interval
 onward k excluded = between (start_cut k excluded) last
 
+-- all keys: from the empty one on
+abbrev pub all_keys : Interval
+all_keys = onward [] false
+
 -- whether the first of two ends is the greater
 abbrev pub is_inverted : KeyBytes → KeyBytes → Bool
 is_inverted from to = is_lt (key_cmp to from)

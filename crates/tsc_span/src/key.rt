@@ -1,4 +1,4 @@
-ghost use Rattle.std.specs.Prelude.{◌≡◌, ◌<◌, ◌≤◌, ◌↔◌, ◌⊎◌, length, IfOk, IfErr, IsErrOf, Some, refl, true};
+ghost use Rattle.std.specs.Prelude.{◌≡◌, ◌<◌, ◌≤◌, ◌↔◌, ◌⊎◌, [], length, IfOk, IfErr, IsErrOf, Some, refl, true};
 ghost use Rattle.std.specs.List.{All};
 ghost use Rattle.std.specs.Str.{bytes_eq};
 ghost use Rattle.std.specs.Cmp.{partial_equiv_from_equiv};
@@ -62,6 +62,15 @@ impl Key {
         Ok(Key {
             bytes: Vec::from_slice(alloc, bytes)?,
         })
+    }
+
+    /// The empty key, which comes before all others. It takes no memory.
+    pub fn empty(alloc: Global) -> Key
+        ensures { result ≡ [] }
+    {
+        Key {
+            bytes: Vec::new(alloc),
+        }
     }
 
     /// The bytes of the key.

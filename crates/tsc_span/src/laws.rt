@@ -6,7 +6,7 @@ ghost use Rattle.std.specs.Ordering.{is_lt};
 ghost use Rattle.tsc_span.specs.Limits.{longest_key};
 ghost use Rattle.tsc_span.specs.Span.{key_cmp, is_empty_span};
 ghost use Rattle.tsc_span.specs.MadeSpan.{MadeByConstructor};
-ghost use Rattle.tsc_span.specs.Laws.{IsCutOrder, CoversIsOverlap, OverlapBothWays};
+ghost use Rattle.tsc_span.specs.Laws.{IsCutOrder, CoversIsOverlap, OverlapBothWays, AllCoversEach};
 
 use crate::{Key, LONGEST_KEY, Span};
 use std::cmp::Ordering;
@@ -52,6 +52,11 @@ pub fn order_of_cuts()
 /// A span covers a key exactly where it overlaps the single key.
 pub fn covers_as_it_overlaps()
     ensures { CoversIsOverlap }
+{}
+
+/// Each key lies in the span of all keys, [`Span::all`].
+pub fn all_covers_each_key()
+    ensures { AllCoversEach }
 {}
 
 /// The spans that can be made are those that [`Span::range`] and [`Span::onward`] give for some keys.

@@ -1,13 +1,14 @@
 ghost use Rattle.std.specs.Prelude.{◌≡◌, ◌≤◌, ◌++◌, IfOk, IfErr, IfSome, true, option_map, option_to_list, slice_get};
 ghost use Rattle.std.specs.Result.{result_ok, IsOk};
 ghost use Rattle.std.specs.Cmp.{partial_equiv_from_equiv};
-ghost use Rattle.tsc_span.specs.Span.{point, range, range_for_lookup, start_to_end, start_cut, onward, is_empty_span, is_below, overlaps, covers, end_keys, cost_of, span_cost};
+ghost use Rattle.tsc_span.specs.Span.{point, range, range_for_lookup, start_to_end, start_cut, onward, all_keys, is_empty_span, is_below, overlaps, covers, end_keys, cost_of, span_cost};
 ghost use Rattle.tsc_span.specs.MadeSpan.{IsMadeCut, IsMadeSpan};
 ghost use Rattle.tsc_span.specs.Cuts.{cut_of, interval_of_cuts};
 ghost use Rattle.tsc_span.specs.Same.{is_same_span};
 ghost use Rattle.tsc_span.specs.Sameness.{is_same_span-equivalence};
 
 use crate::{Cut, Key, SpanFault, SpanRef};
+use std::alloc::Global;
 use std::cmp::Ordering;
 use std::marker::Model;
 use tsc_time::NoMemory;
@@ -84,6 +85,13 @@ impl Span {
         Span {
             shape: Shape::Onward(from, exclude_from),
         }
+    }
+
+    /// All keys. Every key lies in it, as a law of [`laws`](crate::laws) says. It takes no memory.
+    pub fn all(alloc: Global) -> Span
+        ensures { result ≡ all_keys }
+    {
+        Span::onward(Key::empty(alloc), false)
     }
 
     /// The span that a start and an end name, as `Cache.Add` of CockroachDB's
