@@ -5,10 +5,10 @@ use Rattle.std.proofs.Crossing.{crosses}
 use Rattle.tsc_time.specs.contracts.timestamp.Timestamp.{the_row as timestamp}
 use Rattle.tsc_time.specs.contracts.value.Value.{the_row as value}
 use Rattle.tsc_span.specs.contracts.key.Key.{the_row as key}
-use Rattle.tsc_page_base.specs.contracts.number.KeyNumber.{the_row as key_number}
-use Rattle.tsc_page_base.specs.contracts.number.NumberedKey.{the_row as numbered_key}
-use Rattle.tsc_page_base.specs.contracts.nodes.Values.{the_row as values}
-use Rattle.tsc_page_base.specs.contracts.nodes.Nodes.{the_row as nodes}
+use Rattle.tsc_page_nodes.specs.contracts.number.KeyPrefix.{the_row as key_number}
+use Rattle.tsc_page_nodes.specs.contracts.number.PrefixedKey.{the_row as numbered_key}
+use Rattle.tsc_page_nodes.specs.contracts.nodes.Values.{the_row as values}
+use Rattle.tsc_page_nodes.specs.contracts.nodes.Nodes.{the_row as nodes}
 use Rattle.tsc_page_tree.specs.contracts.summary.Summary.{the_row as summary}
 use Rattle.tsc_page_tree.specs.contracts.leaf.Leaf.{the_row as leaf}
 use Rattle.tsc_page_tree.specs.contracts.fork.Fork.{the_row as fork}
@@ -17,8 +17,8 @@ use Rattle.tsc_page.specs.contracts.tree.Tree.{the_row as tree}
 use Rattle.tsc_page.specs.contracts.page.Page.{the_row as page}
 use Rattle.tsc_span.specs.contracts.span.Shape.{the_row as shape}
 use Rattle.tsc_span.specs.contracts.span.Span.{the_row as span}
-use Rattle.tsc_page_base.specs.contracts.plain.PlainMark.{the_row as plain_mark}
-use Rattle.tsc_page_base.specs.contracts.plain.PlainPage.{the_row as plain_page}
+use Rattle.tsc_page.specs.contracts.plain.PlainMark.{the_row as plain_mark}
+use Rattle.tsc_page.specs.contracts.plain.PlainPage.{the_row as plain_page}
 use Rattle.tsc_cache.specs.contracts.added.Added.{the_row as added}
 use Rattle.tsc_cache.specs.contracts.config.Config.{the_row as config}
 use Rattle.tsc_cache.specs.contracts.plain_pages.PlainPages.{the_row as plain_pages}
@@ -63,10 +63,12 @@ values_sync : IsSync values
 values_sync = search (sendable, crosses, value_syncs) depth 20
 
 nodes_send : IsSend nodes
-nodes_send = search (sendable, crosses, numbered_key_sends, numbered_key_syncs, values_send) depth 20
+nodes_send = search (sendable, crosses, numbered_key_sends, numbered_key_syncs, values_send)
+    depth 20
 
 nodes_sync : IsSync nodes
-nodes_sync = search (sendable, crosses, numbered_key_sends, numbered_key_syncs, values_sync) depth 20
+nodes_sync = search (sendable, crosses, numbered_key_sends, numbered_key_syncs, values_sync)
+    depth 20
 
 summary_sends : IsSend summary
 summary_sends = search (sendable, crosses, key_number_sends, value_sends) depth 20
@@ -75,34 +77,124 @@ summary_syncs : IsSync summary
 summary_syncs = search (sendable, crosses, key_number_syncs, value_syncs) depth 20
 
 leaf_sends : IsSend leaf
-leaf_sends = search (sendable, crosses, declared_send, as_row_send, summary_sends, nodes_send, nodes_sync) depth 20
+leaf_sends = search (
+  sendable,
+  crosses,
+  declared_send,
+  as_row_send,
+  summary_sends,
+  nodes_send,
+  nodes_sync,
+) depth 20
 
 leaf_syncs : IsSync leaf
-leaf_syncs = search (sendable, crosses, declared_sync, as_row_sync, summary_syncs, nodes_send, nodes_sync) depth 20
+leaf_syncs = search (
+  sendable,
+  crosses,
+  declared_sync,
+  as_row_sync,
+  summary_syncs,
+  nodes_send,
+  nodes_sync,
+) depth 20
 
 fork_sends : IsSend (fork leaf)
-fork_sends = search (sendable, crosses, declared_send, as_row_send, summary_sends, leaf_sends, leaf_syncs) depth 20
+fork_sends = search (
+  sendable,
+  crosses,
+  declared_send,
+  as_row_send,
+  summary_sends,
+  leaf_sends,
+  leaf_syncs,
+) depth 20
 
 fork_syncs : IsSync (fork leaf)
-fork_syncs = search (sendable, crosses, declared_sync, as_row_sync, summary_syncs, leaf_sends, leaf_syncs) depth 20
+fork_syncs = search (
+  sendable,
+  crosses,
+  declared_sync,
+  as_row_sync,
+  summary_syncs,
+  leaf_sends,
+  leaf_syncs,
+) depth 20
 
 fork_of_forks_sends : IsSend (fork (fork leaf))
-fork_of_forks_sends = search (sendable, crosses, declared_send, as_row_send, summary_sends, fork_sends, fork_syncs) depth 20
+fork_of_forks_sends = search (
+  sendable,
+  crosses,
+  declared_send,
+  as_row_send,
+  summary_sends,
+  fork_sends,
+  fork_syncs,
+) depth 20
 
 fork_of_forks_syncs : IsSync (fork (fork leaf))
-fork_of_forks_syncs = search (sendable, crosses, declared_sync, as_row_sync, summary_syncs, fork_sends, fork_syncs) depth 20
+fork_of_forks_syncs = search (
+  sendable,
+  crosses,
+  declared_sync,
+  as_row_sync,
+  summary_syncs,
+  fork_sends,
+  fork_syncs,
+) depth 20
 
 high_fork_sends : IsSend (fork (fork (fork leaf)))
-high_fork_sends = search (sendable, crosses, declared_send, as_row_send, summary_sends, fork_of_forks_sends, fork_of_forks_syncs) depth 20
+high_fork_sends = search (
+  sendable,
+  crosses,
+  declared_send,
+  as_row_send,
+  summary_sends,
+  fork_of_forks_sends,
+  fork_of_forks_syncs,
+) depth 20
 
 high_fork_syncs : IsSync (fork (fork (fork leaf)))
-high_fork_syncs = search (sendable, crosses, declared_sync, as_row_sync, summary_syncs, fork_of_forks_sends, fork_of_forks_syncs) depth 20
+high_fork_syncs = search (
+  sendable,
+  crosses,
+  declared_sync,
+  as_row_sync,
+  summary_syncs,
+  fork_of_forks_sends,
+  fork_of_forks_syncs,
+) depth 20
 
 root_sends : IsSend root
-root_sends = search (sendable, crosses, variants_send, as_row_send, leaf_sends, leaf_syncs, fork_sends, fork_syncs, fork_of_forks_sends, fork_of_forks_syncs, high_fork_sends, high_fork_syncs) depth 20
+root_sends = search (
+  sendable,
+  crosses,
+  variants_send,
+  as_row_send,
+  leaf_sends,
+  leaf_syncs,
+  fork_sends,
+  fork_syncs,
+  fork_of_forks_sends,
+  fork_of_forks_syncs,
+  high_fork_sends,
+  high_fork_syncs,
+) depth 20
 
 root_syncs : IsSync root
-root_syncs = search (sendable, crosses, variants_sync, as_row_sync, leaf_sends, leaf_syncs, fork_sends, fork_syncs, fork_of_forks_sends, fork_of_forks_syncs, high_fork_sends, high_fork_syncs) depth 20
+root_syncs = search (
+  sendable,
+  crosses,
+  variants_sync,
+  as_row_sync,
+  leaf_sends,
+  leaf_syncs,
+  fork_sends,
+  fork_syncs,
+  fork_of_forks_sends,
+  fork_of_forks_syncs,
+  high_fork_sends,
+  high_fork_syncs,
+) depth 20
 
 tree_sends : IsSend tree
 tree_sends = search (sendable, declared_send, as_row_send, root_sends) depth 20
@@ -129,10 +221,24 @@ pages_sync : IsSync pages
 pages_sync = search (sendable, crosses, page_sends, page_syncs) depth 20
 
 pub cache_sends : IsSend cache
-cache_sends = search (sendable, declared_send, as_row_send, config_sends, timestamp_sends, pages_send) depth 20
+cache_sends = search (
+  sendable,
+  declared_send,
+  as_row_send,
+  config_sends,
+  timestamp_sends,
+  pages_send,
+) depth 20
 
 pub cache_syncs : IsSync cache
-cache_syncs = search (sendable, declared_sync, as_row_sync, config_syncs, timestamp_syncs, pages_sync) depth 20
+cache_syncs = search (
+  sendable,
+  declared_sync,
+  as_row_sync,
+  config_syncs,
+  timestamp_syncs,
+  pages_sync,
+) depth 20
 
 pub added_sends : IsSend added
 added_sends = search sendable depth 20
@@ -159,10 +265,24 @@ plain_mark_syncs : IsSync plain_mark
 plain_mark_syncs = search (sendable, declared_sync, as_row_sync, span_syncs, value_syncs) depth 20
 
 plain_page_sends : IsSend plain_page
-plain_page_sends = search (sendable, crosses, declared_send, as_row_send, timestamp_sends, plain_mark_sends) depth 20
+plain_page_sends = search (
+  sendable,
+  crosses,
+  declared_send,
+  as_row_send,
+  timestamp_sends,
+  plain_mark_sends,
+) depth 20
 
 plain_page_syncs : IsSync plain_page
-plain_page_syncs = search (sendable, crosses, declared_sync, as_row_sync, timestamp_syncs, plain_mark_syncs) depth 20
+plain_page_syncs = search (
+  sendable,
+  crosses,
+  declared_sync,
+  as_row_sync,
+  timestamp_syncs,
+  plain_mark_syncs,
+) depth 20
 
 plain_pages_send : IsSend plain_pages
 plain_pages_send = search (sendable, crosses, declared_send, as_row_send, plain_page_sends) depth 20
@@ -171,7 +291,21 @@ plain_pages_sync : IsSync plain_pages
 plain_pages_sync = search (sendable, crosses, declared_sync, as_row_sync, plain_page_syncs) depth 20
 
 pub plain_cache_sends : IsSend plain_cache
-plain_cache_sends = search (sendable, declared_send, as_row_send, config_sends, timestamp_sends, plain_pages_send) depth 20
+plain_cache_sends = search (
+  sendable,
+  declared_send,
+  as_row_send,
+  config_sends,
+  timestamp_sends,
+  plain_pages_send,
+) depth 20
 
 pub plain_cache_syncs : IsSync plain_cache
-plain_cache_syncs = search (sendable, declared_sync, as_row_sync, config_syncs, timestamp_syncs, plain_pages_sync) depth 20
+plain_cache_syncs = search (
+  sendable,
+  declared_sync,
+  as_row_sync,
+  config_syncs,
+  timestamp_syncs,
+  plain_pages_sync,
+) depth 20

@@ -1,9 +1,10 @@
--- What the examples share: their settings, two transactions, and short words for times, values, spans and histories.
+-- What the examples share: their settings, two transactions, and short words for times, values,
+-- spans and histories.
 use Rattle.std.specs.Prelude.{ℕ, suc, List, [], ◌∷◌, map, Bool, true, false, Some}
 use Rattle.tsc_time.specs.Time.{Time}
 use Rattle.tsc_time.specs.OwnedTime.{Owner, OwnedTime}
 use Rattle.tsc_span.specs.Span.{KeyBytes, Interval, from_to, point}
-use Rattle.tsc_page_base.specs.Page.{Mark, PageMarks}
+use Rattle.tsc_page_nodes.specs.Page.{Mark, PageMarks}
 use Rattle.tsc_cache.specs.declared.added.Added.{Added}
 use Rattle.tsc_cache.specs.Settings.{Settings}
 use Rattle.tsc_cache.specs.State.{CacheState, step_all, opening}
@@ -33,7 +34,13 @@ of_second t = record { time = t; owner = Some second }
 
 -- pages of four keys of one byte, of which two are kept at the least
 abbrev pub usual : Settings
-usual = record { page_first = 132; page_max = 132; min_pages = 2; retention = 10; low_water = at 5 0 }
+usual = record {
+  page_first = 132;
+  page_max = 132;
+  min_pages = 2;
+  retention = 10;
+  low_water = at 5 0;
+}
 
 -- pages of two keys of one byte, of which one is kept at the least
 abbrev pub tight : Settings
@@ -101,7 +108,8 @@ state_after settings adds = state_of settings (history adds)
 abbrev pub answers_from : Settings → CacheState → History → List Added
 answers_from settings s [] = []
 answers_from settings s (e ∷ h) =
-    (step_all settings s e.marks e.now).added ∷ answers_from settings (step_all settings s e.marks e.now).state h
+    (step_all settings s e.marks e.now).added ∷
+    answers_from settings (step_all settings s e.marks e.now).state h
 
 -- what Adds to a new cache answer
 abbrev pub answers : Settings → List Addition → List Added

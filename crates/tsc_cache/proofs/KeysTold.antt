@@ -6,18 +6,20 @@ use Rattle.std.specs.Str.{bytes_eq}
 use Rattle.std.proofs.lemmas.Bool.{cases_Bool}
 use Rattle.std.proofs.lemmas.List.Folds.{list_any-append}
 use Rattle.tsc_span.specs.Span.{KeyBytes, Cut, before, is_below}
-use Rattle.tsc_page_base.specs.Page.{PageMarks, marked_keys}
-use Rattle.tsc_page_base.specs.PageView.{PageView, is_in}
-use Rattle.tsc_page_base.specs.KeysAbove.{IsLeastAbove}
-use Rattle.tsc_page_base.proofs.CutOrder.{Le-from_Lt, Le-chain}
+use Rattle.tsc_page_nodes.specs.Page.{PageMarks, marked_keys}
+use Rattle.tsc_page_nodes.specs.PageView.{PageView, is_in}
+use Rattle.tsc_page_nodes.specs.KeysAbove.{IsLeastAbove}
+use Rattle.tsc_page_nodes.proofs.CutOrder.{Le-from_Lt, Le-chain}
 use Rattle.tsc_cache.specs.CacheView.{EachStandsFor}
 use Rattle.tsc_cache.specs.Keys.{keys_on, keys_seen, lesser}
 
 -- a key of two lists is in one of them
-pub in_both : (k : KeyBytes) (ks ls : List KeyBytes) → is_in k (ks ++ ls) ≡ (is_in k ks || is_in k ls)
+pub in_both : (k : KeyBytes) (ks ls : List KeyBytes) →
+    is_in k (ks ++ ls) ≡ (is_in k ks || is_in k ls)
 in_both k ks ls = list_any-append (bytes_eq k) ks ls
 
-in_either : (k : KeyBytes) (ks ls : List KeyBytes) → is_in k (ks ++ ls) ≡ true → (is_in k ks ≡ true) ⊎ (is_in k ls ≡ true)
+in_either : (k : KeyBytes) (ks ls : List KeyBytes) → is_in k (ks ++ ls) ≡ true →
+    (is_in k ks ≡ true) ⊎ (is_in k ls ≡ true)
 in_either k ks ls h = by (is_in k ks) (is_in k ls) (sym (in_both k ks ls) ∙ h)
   where
     by : (a b : Bool) → (a || b) ≡ true → (a ≡ true) ⊎ (b ≡ true)
@@ -35,30 +37,43 @@ in_second k ks ls h = in_both k ks ls ∙ rw h (or_true (is_in k ks))
     or_true false = refl
 
 -- of two lists the lesser of their least keys is the least one
-pub lesser_is_least : (c : Cut) (ks ls : List KeyBytes) (a b : Option KeyBytes) → IsLeastAbove c ks a → IsLeastAbove c ls b → IsLeastAbove c (ks ++ ls) (lesser a b)
-lesser_is_least c ks ls None None none others = λ k h. elim (in_either k ks ls h) [ inl i ↦ none k i | inr i ↦ others k i ]
+pub lesser_is_least : (c : Cut) (ks ls : List KeyBytes) (a b : Option KeyBytes) →
+    IsLeastAbove c ks a → IsLeastAbove c ls b → IsLeastAbove c (ks ++ ls) (lesser a b)
+lesser_is_least c ks ls None None none others =
+    λ k h. elim (in_either k ks ls h) [ inl i ↦ none k i | inr i ↦ others k i ]
 lesser_is_least c ks ls None (Some m) none other = record {
   member = in_second m ks ls other.member;
   above = other.above;
-  least = λ k h a. elim (in_either k ks ls h) [ inl i ↦ absurd (true≢false (sym a ∙ none k i)) | inr i ↦ other.least k i a ];
+  least = λ k h a. elim (in_either k ks ls h)
+      [ inl i ↦ absurd (true≢false (sym a ∙ none k i)) | inr i ↦ other.least k i a ];
 }
 lesser_is_least c ks ls (Some m) None one none = record {
   member = in_first m ks ls one.member;
   above = one.above;
-  least = λ k h a. elim (in_either k ks ls h) [ inl i ↦ one.least k i a | inr i ↦ absurd (true≢false (sym a ∙ none k i)) ];
+  least = λ k h a. elim (in_either k ks ls h)
+      [ inl i ↦ one.least k i a | inr i ↦ absurd (true≢false (sym a ∙ none k i)) ];
 }
-lesser_is_least c ks ls (Some m) (Some n) one other = elim (cases_Bool (is_below (before n) (before m))) [
-  | inl h ↦ rw h (record {
-    member = in_second n ks ls other.member;
-    above = other.above;
-    least = λ k i a. elim (in_either k ks ls i) [ inl j ↦ Le-chain (before n) (before m) (before k) (Le-from_Lt (before n) (before m) h) (one.least k j a) | inr j ↦ other.least k j a ];
-  })
-  | inr h ↦ rw h (record {
-    member = in_first m ks ls one.member;
-    above = one.above;
-    least = λ k i a. elim (in_either k ks ls i) [ inl j ↦ one.least k j a | inr j ↦ Le-chain (before m) (before n) (before k) h (other.least k j a) ];
-  })
-]
+lesser_is_least c ks ls (Some m) (Some n) one other =
+    elim (cases_Bool (is_below (before n) (before m))) [
+      | inl h ↦ rw h (record {
+        member = in_second n ks ls other.member;
+        above = other.above;
+        least = λ k i a. elim (in_either k ks ls i) [
+          | inl j ↦ Le-chain (before n) (before m) (before k) (Le-from_Lt (before n) (before m) h)
+              (one.least k j a)
+          | inr j ↦ other.least k j a
+        ];
+      })
+      | inr h ↦ rw h (record {
+        member = in_first m ks ls one.member;
+        above = one.above;
+        least = λ k i a. elim (in_either k ks ls i) [
+          | inl j ↦ one.least k j a
+          | inr j ↦ Le-chain (before m) (before n) (before k) h
+              (other.least k j a)
+        ];
+      })
+    ]
 
 -- What the pages tell that were asked so far, with those that are left.
 pub record Asking (pages rest : List PageView) (c : Cut) (told : Option KeyBytes) : Type 0 where
@@ -66,30 +81,42 @@ pub record Asking (pages rest : List PageView) (c : Cut) (told : Option KeyBytes
   pub parts : pages ≡ asked ++ rest
   pub least : IsLeastAbove c (keys_seen asked) told
 
-seen-append : (ps : List PageView) (p : PageView) → keys_seen (ps ++ p ∷ []) ≡ keys_seen ps ++ p.keys
+seen-append : (ps : List PageView) (p : PageView) →
+    keys_seen (ps ++ p ∷ []) ≡ keys_seen ps ++ p.keys
 seen-append [] p = append-nil p.keys
-seen-append (q ∷ ps) p = ap (λ (ks : List KeyBytes). q.keys ++ ks) (seen-append ps p) ∙ sym (append_assoc q.keys (keys_seen ps) p.keys)
+seen-append (q ∷ ps) p = ap (λ (ks : List KeyBytes). q.keys ++ ks) (seen-append ps p) ∙
+    sym (append_assoc q.keys (keys_seen ps) p.keys)
 
-pub asking-start : (front : PageView) (older : List PageView) (c : Cut) (told : Option KeyBytes) → IsLeastAbove c front.keys told → Asking (front ∷ older) older c told
+pub asking-start : (front : PageView) (older : List PageView) (c : Cut) (told : Option KeyBytes) →
+    IsLeastAbove c front.keys told → Asking (front ∷ older) older c told
 asking-start front older c told is = record {
   asked = front ∷ [];
   parts = refl;
   least = subst (λ (ks : List KeyBytes). IsLeastAbove c ks told) (sym (append-nil front.keys)) is;
 }
 
-pub asking-more : (pages : List PageView) (p : PageView) (rest : List PageView) (c : Cut) (told more : Option KeyBytes) → Asking pages (p ∷ rest) c told → IsLeastAbove c p.keys more → Asking pages rest c (lesser told more)
+pub asking-more : (pages : List PageView) (p : PageView) (rest : List PageView) (c : Cut)
+    (told more : Option KeyBytes) → Asking pages (p ∷ rest) c told → IsLeastAbove c p.keys more →
+    Asking pages rest c (lesser told more)
 asking-more pages p rest c told more so_far is = record {
   asked = so_far.asked ++ p ∷ [];
   parts = so_far.parts ∙ sym (append_assoc so_far.asked (p ∷ []) rest);
-  least = subst (λ (ks : List KeyBytes). IsLeastAbove c ks (lesser told more)) (sym (seen-append so_far.asked p)) (lesser_is_least c (keys_seen so_far.asked) p.keys told more so_far.least is);
+  least = subst (λ (ks : List KeyBytes). IsLeastAbove c ks (lesser told more))
+      (sym (seen-append so_far.asked p))
+      (lesser_is_least c (keys_seen so_far.asked) p.keys told more so_far.least is);
 }
 
-pub asking-end : {A : Type 0} (f : A → PageView) (pages : List PageView) (rest : List A) (c : Cut) (told : Option KeyBytes) → length rest ≡ 0 → Asking pages (map f rest) c told → IsLeastAbove c (keys_seen pages) told
-asking-end f pages [] c told none all = subst (λ (ps : List PageView). IsLeastAbove c (keys_seen ps) told) (sym (all.parts ∙ append-nil all.asked)) all.least
+pub asking-end : {A : Type 0} (f : A → PageView) (pages : List PageView) (rest : List A) (c : Cut)
+    (told : Option KeyBytes) → length rest ≡ 0 → Asking pages (map f rest) c told →
+    IsLeastAbove c (keys_seen pages) told
+asking-end f pages [] c told none all =
+    subst (λ (ps : List PageView). IsLeastAbove c (keys_seen ps) told)
+    (sym (all.parts ∙ append-nil all.asked)) all.least
 asking-end f pages (a ∷ rest) c told none all = absurd (omega (arith, none))
 
 -- pages that stand for others have the same keys
-pub same_keys : (vs : List PageView) (ps : List PageMarks) → EachStandsFor vs ps → (k : KeyBytes) → is_in k (keys_seen vs) ≡ is_in k (keys_on ps)
+pub same_keys : (vs : List PageView) (ps : List PageMarks) → EachStandsFor vs ps → (k : KeyBytes) →
+    is_in k (keys_seen vs) ≡ is_in k (keys_on ps)
 same_keys [] [] each k = refl
 same_keys [] (p ∷ ps) each k = absurd each
 same_keys (v ∷ vs) [] each k = absurd each

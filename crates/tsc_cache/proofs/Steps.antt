@@ -5,19 +5,21 @@ use Rattle.std.proofs.lemmas.List.Elements.{All-contains}
 use Rattle.tsc_time.specs.Time.{Time, is_before}
 use Rattle.tsc_time.proofs.TimeOrder.{is_before-itself, no_earlier-transitive}
 use Rattle.tsc_span.specs.Span.{Interval}
-use Rattle.tsc_page_base.specs.Page.{Mark, PageMarks, top}
+use Rattle.tsc_page_nodes.specs.Page.{Mark, PageMarks, top}
 use Rattle.tsc_cache.specs.declared.added.Added.{Added}
 use Rattle.tsc_cache.specs.Settings.{Settings}
-use Rattle.tsc_cache.specs.State.{CacheState, is_past_retention, is_kept, front_has_room, new_front, marked, counted_on, evict, rotate, added_with, not_kept, step, step_all}
+use Rattle.tsc_cache.specs.State.{CacheState, is_past_retention, is_kept, front_has_room, new_front, marked, saturating_inc, evict, rotate, added_with, not_kept, step, step_all}
 use Rattle.tsc_cache.specs.Eviction.{highest}
 use Rattle.tsc_cache.specs.Laws.{PartsPages, OneMarkIsAStep}
 use Rattle.tsc_cache.proofs.Evictions.{evicts_the}
 use Rattle.tsc_cache.proofs.Floors.{highest-floor, highest-reached}
 
--- The state after an Add: as it was where the Add is not kept; with one more mark on the front page that there was; or that after a rotation.
+-- The state after an Add: as it was where the Add is not kept; with one more mark on the front page
+-- that there was; or that after a rotation.
 pub step-tells : (settings : Settings) (s : CacheState) (m : Mark) (now : Time)
     → ((is_kept s.floor m ≡ false) × ((step settings s m now).state ≡ s))
-    ⊎ (((front : PageMarks) × (older : List PageMarks) × (s.pages ≡ front ∷ older) × ((step settings s m now).state ≡ marked s m))
+    ⊎ (((front : PageMarks) × (older : List PageMarks) × (s.pages ≡ front ∷ older) ×
+    ((step settings s m now).state ≡ marked s m))
     ⊎ ((step settings s m now).state ≡ marked (rotate settings s m.span now).state m))
 step-tells settings s m now = elim (cases_Bool (is_kept s.floor m)) [
   | inr h ↦ inl (h, rw h refl)
@@ -27,61 +29,86 @@ step-tells settings s m now = elim (cases_Bool (is_kept s.floor m)) [
   ]
 ]
   where
-    front : (pages : List PageMarks) → front_has_room (record { floor = s.floor; pages = pages; rotations = s.rotations }) m.span ≡ true → (p : PageMarks) × (ps : List PageMarks) × (pages ≡ p ∷ ps)
+    front : (pages : List PageMarks) →
+        front_has_room (record { floor = s.floor; pages = pages; rotations = s.rotations }) m.span ≡
+        true → (p : PageMarks) × (ps : List PageMarks) × (pages ≡ p ∷ ps)
     front [] r = let none : false ≡ true = r in cc
     front (p ∷ ps) r = (p, ps, refl)
 
 -- a rotation by the pages that stay and those that it drops
-pub rotate-is : (settings : Settings) (s : CacheState) (span : Interval) (now : Time) (v : PartsPages settings now s.floor s.pages)
-    → (rotate settings s span now).state ≡ record { floor = highest s.floor (map top v.dropped); pages = new_front settings s.pages span ∷ v.stay; rotations = counted_on s.rotations }
+pub rotate-is : (settings : Settings) (s : CacheState) (span : Interval) (now : Time)
+    (v : PartsPages settings now s.floor s.pages)
+    → (rotate settings s span now).state ≡
+    record {
+      floor = highest s.floor (map top v.dropped);
+      pages = new_front settings s.pages span ∷ v.stay;
+      rotations = saturating_inc s.rotations;
+    }
 rotate-is settings s span now v =
-    let made : Time → List PageMarks → CacheState = λ floor older. record { floor = floor; pages = new_front settings s.pages span ∷ older; rotations = counted_on s.rotations } in
-    ap (λ floor. made floor (reverse (evict settings now s.floor (reverse s.pages)).pages)) v.raised ∙ ap (made (highest s.floor (map top v.dropped))) v.kept
+    let made : Time → List PageMarks → CacheState =
+    λ floor older. record {
+      floor = floor;
+      pages = new_front settings s.pages span ∷ older;
+      rotations = saturating_inc s.rotations;
+    } in
+    ap (λ floor. made floor (reverse (evict settings now s.floor (reverse s.pages)).pages)) v.raised
+    ∙ ap (made (highest s.floor (map top v.dropped))) v.kept
 
 -- a step leaves the floor where it was, or is a rotation's
 floor_tells : (settings : Settings) (s : CacheState) (m : Mark) (now : Time)
-    → ((step settings s m now).state.floor ≡ s.floor) ⊎ ((v : PartsPages settings now s.floor s.pages) × ((step settings s m now).state.floor ≡ highest s.floor (map top v.dropped)))
+    → ((step settings s m now).state.floor ≡ s.floor) ⊎
+    ((v : PartsPages settings now s.floor s.pages) ×
+    ((step settings s m now).state.floor ≡ highest s.floor (map top v.dropped)))
 floor_tells settings s m now = elim (step-tells settings s m now) [
   | inl h ↦ inl (ap (λ (t : CacheState). t.floor) h.1)
   | inr (inl h) ↦ inl (ap (λ (t : CacheState). t.floor) h.3)
-  | inr (inr h) ↦ let v = evicts_the settings now s.floor s.pages in inr (v, ap (λ (t : CacheState). t.floor) h ∙ v.raised)
+  | inr (inr h) ↦ let v = evicts_the settings now s.floor s.pages in inr
+      (v, ap (λ (t : CacheState). t.floor) h ∙ v.raised)
 ]
 
 -- no step lowers the floor
-pub step-floor : (settings : Settings) (s : CacheState) (m : Mark) (now : Time) → is_before (step settings s m now).state.floor s.floor ≡ false
+pub step-floor : (settings : Settings) (s : CacheState) (m : Mark) (now : Time) →
+    is_before (step settings s m now).state.floor s.floor ≡ false
 step-floor settings s m now = elim (floor_tells settings s m now) [
   | inl h ↦ rw h (is_before-itself s.floor)
   | inr h ↦ rw h.1 (highest-floor s.floor (map top h.0.dropped))
 ]
 
 -- and where it lifts it, then to a top that is past its retention
-pub step-lifts : (settings : Settings) (s : CacheState) (m : Mark) (now : Time) → ((step settings s m now).state.floor ≡ s.floor) ⊎ (is_past_retention settings.retention now (step settings s m now).state.floor ≡ true)
+pub step-lifts : (settings : Settings) (s : CacheState) (m : Mark) (now : Time) →
+    ((step settings s m now).state.floor ≡ s.floor) ⊎
+    (is_past_retention settings.retention now (step settings s m now).state.floor ≡ true)
 step-lifts settings s m now = elim (floor_tells settings s m now) [
   | inl h ↦ inl h
   | inr h ↦ elim (highest-reached s.floor (map top h.0.dropped)) [
     | inl e ↦ inl (h.1 ∙ e)
-    | inr c ↦ inr (rw h.1 (All-contains (λ t. is_past_retention settings.retention now t ≡ true) (map top h.0.dropped) (highest s.floor (map top h.0.dropped)) h.0.evicts.expired c))
+    | inr c ↦ inr (rw h.1 (All-contains (λ t. is_past_retention settings.retention now t ≡ true)
+        (map top h.0.dropped) (highest s.floor (map top h.0.dropped)) h.0.evicts.expired c))
   ]
 ]
 
 -- and so for some marks, one after another: none lowers the floor
-pub step_all-floor : (settings : Settings) (s : CacheState) (ms : List Mark) (now : Time) → is_before (step_all settings s ms now).state.floor s.floor ≡ false
+pub step_all-floor : (settings : Settings) (s : CacheState) (ms : List Mark) (now : Time) →
+    is_before (step_all settings s ms now).state.floor s.floor ≡ false
 step_all-floor settings s [] now = is_before-itself s.floor
 step_all-floor settings s (m ∷ ms) now =
     let t : CacheState = (step settings s m now).state in
-    no_earlier-transitive s.floor t.floor (step_all settings t ms now).state.floor (step-floor settings s m now) (step_all-floor settings t ms now)
+    no_earlier-transitive s.floor t.floor (step_all settings t ms now).state.floor
+    (step-floor settings s m now) (step_all-floor settings t ms now)
 
 -- and where they lift it, then to a top that is past its retention
 pub step_all-lifts : (settings : Settings) (s : CacheState) (ms : List Mark) (now : Time)
-    → ((step_all settings s ms now).state.floor ≡ s.floor) ⊎ (is_past_retention settings.retention now (step_all settings s ms now).state.floor ≡ true)
+    → ((step_all settings s ms now).state.floor ≡ s.floor) ⊎
+    (is_past_retention settings.retention now (step_all settings s ms now).state.floor ≡ true)
 step_all-lifts settings s [] now = inl refl
-step_all-lifts settings s (m ∷ ms) now = elim (step_all-lifts settings (step settings s m now).state ms now) [
-  | inr past ↦ inr past
-  | inl same ↦ elim (step-lifts settings s m now) [
-    | inl first ↦ inl (same ∙ first)
-    | inr past ↦ inr (ap (is_past_retention settings.retention now) same ∙ past)
-  ]
-]
+step_all-lifts settings s (m ∷ ms) now =
+    elim (step_all-lifts settings (step settings s m now).state ms now) [
+      | inr past ↦ inr past
+      | inl same ↦ elim (step-lifts settings s m now) [
+        | inl first ↦ inl (same ∙ first)
+        | inr past ↦ inr (ap (is_past_retention settings.retention now) same ∙ past)
+      ]
+    ]
 
 -- what one Add answers alone
 pub answer_alone : (a : Added) → added_with a not_kept ≡ a
@@ -99,4 +126,6 @@ answer_alone a =
 
 -- An Add of a list of one mark is the Add of that mark.
 pub one_mark_is_a_step : OneMarkIsAStep
-one_mark_is_a_step settings s m now = ap (λ (a : Added). record { state = (step settings s m now).state; added = a }) (answer_alone (step settings s m now).added)
+one_mark_is_a_step settings s m now =
+    ap (λ (a : Added). record { state = (step settings s m now).state; added = a })
+    (answer_alone (step settings s m now).added)

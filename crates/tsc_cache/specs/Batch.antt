@@ -1,7 +1,8 @@
--- Several marks that are added at one moment, all of them or none: which of them fit, whether any is kept, and what they make of all that can be seen of a cache.
+-- Several marks that are added at one moment, all of them or none: which of them fit, whether any
+-- is kept, and what they make of all that can be seen of a cache.
 use Rattle.std.specs.Prelude.{◌≡◌, ◌<◌, ℕ, List, [], ◌∷◌, length, take, Bool, true, false, ◌||◌, ◌&&◌}
 use Rattle.tsc_time.specs.Time.{Time}
-use Rattle.tsc_page_base.specs.Page.{Mark}
+use Rattle.tsc_page_nodes.specs.Page.{Mark}
 use Rattle.tsc_cache.specs.declared.added.Added.{Added}
 use Rattle.tsc_cache.specs.declared.fault.CacheFault.{CacheFault}
 use Rattle.tsc_cache.specs.declared.fault.CacheFault.TheVariants.{TooLarge, NoMemory}
@@ -19,18 +20,23 @@ abbrev pub is_any_kept : Time → List Mark → Bool
 is_any_kept floor [] = false
 is_any_kept floor (m ∷ ms) = is_kept floor m || is_any_kept floor ms
 
--- What Adds of several marks, one after another, make of all that can be seen of a cache, and what they answer together.
+-- What Adds of several marks, one after another, make of all that can be seen of a cache, and what
+-- they answer together.
 abbrev pub AddsAll : CacheView → CacheView → List Mark → Time → Added → Type 0
 AddsAll old new [] now added = (new ≡ old) × (added ≡ not_kept)
 AddsAll old new (m ∷ ms) now added =
     (middle : CacheView) × (first : Added) × (others : Added)
-    × Adds old middle m now first × AddsAll middle new ms now others × (added ≡ added_with first others)
+    × Adds old middle m now first × AddsAll middle new ms now others ×
+    (added ≡ added_with first others)
 
--- What is left where one of several marks was refused: so many were added, from the first on, and not all.
+-- What is left where one of several marks was refused: so many were added, from the first on, and
+-- not all.
 abbrev pub AddsSome : CacheView → CacheView → List Mark → Time → Type 0
-AddsSome old new ms now = (count : ℕ) × (added : Added) × (count < length ms) × AddsAll old new (take count ms) now added
+AddsSome old new ms now = (count : ℕ) × (added : Added) × (count < length ms) ×
+    AddsAll old new (take count ms) now added
 
--- What Adds of several marks in place leave where they are refused: the cache as it was, where some mark is too large, and else some of them.
+-- What Adds of several marks in place leave where they are refused: the cache as it was, where some
+-- mark is too large, and else some of them.
 abbrev pub LeavesSome : CacheView → CacheView → List Mark → Time → CacheFault → Type 0
 LeavesSome old new ms now TooLarge = new ≡ old
 LeavesSome old new ms now NoMemory = AddsSome old new ms now

@@ -1,7 +1,7 @@
 -- What can be seen of the parts of a cache.
 use Rattle.std.specs.Prelude.{List, ◌∷◌}
 use Rattle.std.specs.Arc.{arc_value}
-use Rattle.tsc_page_base.specs.PageView.{PageView}
+use Rattle.tsc_page_nodes.specs.PageView.{PageView}
 use Rattle.tsc_cache.specs.declared.older.Pages.{Pages}
 use Rattle.tsc_cache.specs.declared.plain_pages.PlainPages.{PlainPages}
 
@@ -9,15 +9,15 @@ use Rattle.tsc_cache.specs.declared.plain_pages.PlainPages.{PlainPages}
 abbrev pub front_of : Pages → PageView
 front_of p = arc_value p.front
 
--- and of the others
+-- what can be seen of the older pages
 abbrev pub older_of : Pages → List PageView
 older_of p = p.older
 
--- and of all, from newest to oldest
+-- what can be seen of all pages, from newest to oldest
 abbrev pub pages_of : Pages → List PageView
 pages_of p = front_of p ∷ older_of p
 
--- and of those of a plain cache
+-- what can be seen of the front page of a plain cache
 abbrev pub plain_front_of : PlainPages → PageView
 plain_front_of p = p.front
 

@@ -4,15 +4,16 @@ use Rattle.tsc_time.specs.Time.{Time, zero_time, later}
 use Rattle.tsc_time.specs.OwnedTime.{OwnedTime}
 use Rattle.tsc_time.specs.Joint.{joint_above}
 use Rattle.tsc_span.specs.Span.{Interval, span_cost}
-use Rattle.tsc_page_base.specs.Page.{Mark, PageMarks, empty_page, with_mark}
-use Rattle.tsc_page_base.specs.PageView.{PageView, StandsFor, HasKeysWith, AnswersWith, answer, has_room_for}
+use Rattle.tsc_page_nodes.specs.Page.{Mark, PageMarks, empty_page, with_mark}
+use Rattle.tsc_page_nodes.specs.PageView.{PageView, StandsFor, HasKeysWith, AnswersWith, answer, has_room_for}
 use Rattle.tsc_cache.specs.declared.added.Added.{Added}
 use Rattle.tsc_cache.specs.Settings.{Settings}
-use Rattle.tsc_cache.specs.State.{CacheState, step, step_all, is_kept, not_kept, kept_without_rotation, kept_after_rotation, counted_on, next_size}
+use Rattle.tsc_cache.specs.State.{CacheState, step, step_all, is_kept, not_kept, kept_without_rotation, kept_after_rotation, saturating_inc, next_size}
 use Rattle.tsc_cache.specs.Eviction.{highest, Evicts}
 use Rattle.tsc_cache.specs.Lookup.{LooksInto}
 
--- How a cache is set up, its floor, what can be seen of its pages from newest to oldest, and how often they rotated.
+-- How a cache is set up, its floor, what can be seen of its pages from newest to oldest, and how
+-- often they rotated.
 pub record CacheView : Type 0 where
   pub settings : Settings
   pub floor : Time
@@ -26,7 +27,8 @@ EachStandsFor [] (p ∷ ps) = ⊥
 EachStandsFor (v ∷ vs) [] = ⊥
 EachStandsFor (v ∷ vs) (p ∷ ps) = StandsFor v p × EachStandsFor vs ps
 
--- A cache stands for a state under some settings where it is set up so, floor and count are the same, and as many pages stand each for the one at its place.
+-- A cache stands for a state under some settings where it is set up so, floor and count are the
+-- same, and as many pages stand each for the one at its place.
 pub record StandsForState (v : CacheView) (settings : Settings) (s : CacheState) : Type 0 where
   pub set_up : v.settings ≡ settings
   pub floor : v.floor ≡ s.floor
@@ -35,19 +37,23 @@ pub record StandsForState (v : CacheView) (settings : Settings) (s : CacheState)
 
 -- Whatever state a cache stood for, it stands for the one after an Add then.
 abbrev pub StandsAfter : CacheView → CacheView → Mark → Time → Type 0
-StandsAfter old new m now = (settings : Settings) (s : CacheState) → StandsForState old settings s → StandsForState new settings (step settings s m now).state
+StandsAfter old new m now = (settings : Settings) (s : CacheState) → StandsForState old settings s →
+    StandsForState new settings (step settings s m now).state
 
 -- this is what an Add did, whatever state the cache stood for before it
 abbrev pub TellsAdded : CacheView → Mark → Time → Added → Type 0
-TellsAdded old m now added = (settings : Settings) (s : CacheState) → StandsForState old settings s → added ≡ (step settings s m now).added
+TellsAdded old m now added = (settings : Settings) (s : CacheState) →
+    StandsForState old settings s → added ≡ (step settings s m now).added
 
 -- The same of several marks, one after another at a moment.
 abbrev pub StandsAfterAll : CacheView → CacheView → List Mark → Time → Type 0
-StandsAfterAll old new ms now = (settings : Settings) (s : CacheState) → StandsForState old settings s → StandsForState new settings (step_all settings s ms now).state
+StandsAfterAll old new ms now = (settings : Settings) (s : CacheState) →
+    StandsForState old settings s → StandsForState new settings (step_all settings s ms now).state
 
--- and of what they did together
+-- what several marks did together is what the states say
 abbrev pub TellsAddedAll : CacheView → List Mark → Time → Added → Type 0
-TellsAddedAll old ms now added = (settings : Settings) (s : CacheState) → StandsForState old settings s → added ≡ (step_all settings s ms now).added
+TellsAddedAll old ms now added = (settings : Settings) (s : CacheState) →
+    StandsForState old settings s → added ≡ (step_all settings s ms now).added
 
 -- what a cache answers to a span: what its floor and the answer of each page come to together
 abbrev pub cache_answer : CacheView → Interval → OwnedTime
@@ -81,11 +87,15 @@ MarksFront [] new m = ⊥
 MarksFront (front ∷ older) [] m = ⊥
 MarksFront (front ∷ older) (marked ∷ others) m = IsMarked front marked m × (others ≡ older)
 
--- the page that comes to the front for a mark: one of the next size behind the front page before it, which takes its top as its base, with that mark on it
+-- the page that comes to the front for a mark: one of the next size behind the front page before
+-- it, which takes its top as its base, with that mark on it
 abbrev pub front_marked : Settings → List PageView → Mark → PageMarks
-front_marked settings pages m = with_mark (empty_page (next_size settings.page_max (front_view_size pages) (span_cost m.span)) (front_view_top pages)) m
+front_marked settings pages m = with_mark
+    (empty_page (next_size settings.page_max (front_view_size pages) (span_cost m.span))
+    (front_view_top pages)) m
 
--- A rotation that brings a page with one mark to the front: the pages that there were are parted into those that stay and those that are dropped.
+-- A rotation that brings a page with one mark to the front: the pages that there were are parted
+-- into those that stay and those that are dropped.
 pub record RotatesWith (old new : CacheView) (m : Mark) (now : Time) (evicted : ℕ) : Type 0 where
   pub front : PageView
   pub stay : List PageView
@@ -96,30 +106,34 @@ pub record RotatesWith (old new : CacheView) (m : Mark) (now : Time) (evicted : 
   pub pages : new.pages ≡ front ∷ stay
   pub marked : StandsFor front (front_marked old.settings old.pages m)
   pub floor : new.floor ≡ highest old.floor (map (λ p. p.top) dropped)
-  pub rotations : new.rotations ≡ counted_on old.rotations
+  pub rotations : new.rotations ≡ saturating_inc old.rotations
 
 -- What an Add makes of all that can be seen of a cache, and what it answers.
 pub record Adds (old new : CacheView) (m : Mark) (now : Time) (added : Added) : Type 0 where
   pub settings : new.settings ≡ old.settings
   pub not_kept : is_kept old.floor m ≡ false → (new ≡ old) × (added ≡ not_kept)
   pub in_place : is_kept old.floor m ≡ true → front_has_room_for old.pages m.span ≡ true
-      → MarksFront old.pages new.pages m × (new.floor ≡ old.floor) × (new.rotations ≡ old.rotations) × (added ≡ kept_without_rotation)
+      → MarksFront old.pages new.pages m × (new.floor ≡ old.floor) ×
+      (new.rotations ≡ old.rotations) × (added ≡ kept_without_rotation)
   pub rotated : is_kept old.floor m ≡ true → front_has_room_for old.pages m.span ≡ false
       → RotatesWith old new m now added.evicted × (added ≡ kept_after_rotation added.evicted)
 
--- whether an Add of a mark would rotate the pages: it is kept, and the front page has no room for it
+-- whether an Add of a mark would rotate the pages: it is kept, and the front page has no room for
+-- it
 abbrev pub would_rotate : CacheView → Mark → Bool
 would_rotate v m = is_kept v.floor m && not (front_has_room_for v.pages m.span)
 
--- What an Add that never rotates makes of all that can be seen of a cache: where the pages would rotate nothing changes, and else what any Add makes, whatever the moment.
+-- What an Add that never rotates makes of all that can be seen of a cache: where the pages would
+-- rotate nothing changes, and else what any Add makes, whatever the moment.
 abbrev pub AddsWithoutRotation : CacheView → CacheView → Mark → Option Added → Type 0
 AddsWithoutRotation old new m None = (would_rotate old m ≡ true) × (new ≡ old)
-AddsWithoutRotation old new m (Some added) = (would_rotate old m ≡ false) × ((now : Time) → Adds old new m now added)
+AddsWithoutRotation old new m (Some added) = (would_rotate old m ≡ false) ×
+    ((now : Time) → Adds old new m now added)
 
 -- the latest time that some pages answer to a span
 abbrev pub latest_answer : Interval → List PageView → Time
 latest_answer span pages = (joint_above zero_time (map (λ p. answer p span) pages)).time
 
--- and how many pages a lookup looks into, as it can be seen
+-- how many pages a lookup looks into, by what can be seen of them
 abbrev pub LooksIntoViews : Interval → List PageView → ℕ → Type 0
 LooksIntoViews span pages count = LooksInto (λ p. p.top) (latest_answer span) pages count

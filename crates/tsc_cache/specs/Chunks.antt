@@ -4,7 +4,7 @@ use Rattle.std.specs.Arc.{arc_value}
 use Rattle.std.specs.declared.sync.Arc.{Arc}
 use Rattle.std.specs.declared.alloc.Global.{Global}
 use Rattle.std.specs.declared.collections.VecDeque.{VecDeque}
-use Rattle.tsc_page_base.specs.PageView.{PageView}
+use Rattle.tsc_page_nodes.specs.PageView.{PageView}
 
 -- pages that caches share
 abbrev pub Chunk : Type 0
@@ -18,7 +18,7 @@ Chunks = VecDeque (Arc Chunk Global) Global
 abbrev pub in_chunk : Chunk → List PageView
 in_chunk c = map (λ p. arc_value p) c.items
 
--- those of each chunk
+-- what can be seen of the pages of each chunk
 abbrev pub in_chunks : Chunks → List (List PageView)
 in_chunks cs = map (λ c. in_chunk (arc_value c)) cs.items
 

@@ -5,7 +5,7 @@ use Rattle.tsc_time.specs.Time.{Time, is_in_range}
 use Rattle.tsc_time.specs.OwnedTime.{OwnedTime, IsMadeValue}
 use Rattle.tsc_span.specs.Span.{Interval}
 use Rattle.tsc_span.specs.MadeSpan.{IsMadeSpan}
-use Rattle.tsc_page_base.specs.Page.{Mark, values_on}
+use Rattle.tsc_page_nodes.specs.Page.{Mark, values_on}
 use Rattle.tsc_cache.specs.Settings.{Settings, fits}
 use Rattle.tsc_cache.specs.State.{CacheState, opening, step_all}
 pub use Rattle.tsc_cache.specs.declared.history.Entry.{Entry}
@@ -43,31 +43,38 @@ marks_on span h = values_on span (marks_of h)
 abbrev pub BeginsWith : History → History → Type 0
 BeginsWith h start = (rest : History) × (h ≡ start ++ rest)
 
--- A mark that a caller can make: its span and its value are such as the constructors give, and the span fits a page.
+-- A mark that a caller can make: its span and its value are such as the constructors give, and the
+-- span fits a page.
 pub record IsMadeMark (settings : Settings) (m : Mark) : Type 0 where
   pub span : IsMadeSpan m.span
   pub value : IsMadeValue m.value
   pub fits : fits settings m.span ≡ true
 
--- An entry that a caller can make: each of its marks is one that can be made, and its moment is in range.
+-- An entry that a caller can make: each of its marks is one that can be made, and its moment is in
+-- range.
 pub record IsMadeEntry (settings : Settings) (e : Entry) : Type 0 where
   pub marks : All (λ m. IsMadeMark settings m) e.marks
   pub moment : is_in_range e.now ≡ true
 
 -- The entry of this mark can be made, whatever its seat and its number.
 abbrev pub CanBeAdded : Settings → Mark → Time → Type 0
-CanBeAdded settings m now = (seat number : ℕ) → IsMadeEntry settings (entry_of_mark seat number m now)
+CanBeAdded settings m now = (seat number : ℕ) →
+    IsMadeEntry settings (entry_of_mark seat number m now)
 
 -- The entry of these marks can be made, whatever its seat and its number.
 abbrev pub CanAllBeAdded : Settings → List Mark → Time → Type 0
-CanAllBeAdded settings ms now = (seat number : ℕ) → IsMadeEntry settings (record { seat = seat; number = number; marks = ms; now = now })
+CanAllBeAdded settings ms now = (seat number : ℕ) →
+    IsMadeEntry settings (record { seat = seat; number = number; marks = ms; now = now })
 
--- The next entry of a seat after a history: its seat is one of so many, its number is how many entries of that seat stand before it, and a caller can make it.
+-- The next entry of a seat after a history: its seat is one of so many, its number is how many
+-- entries of that seat stand before it, and a caller can make it.
 pub record IsNext (settings : Settings) (seats : ℕ) (h : History) (e : Entry) : Type 0 where
   pub seat : e.seat < seats
   pub number : e.number ≡ own_count e.seat h
   pub made : IsMadeEntry settings e
 
--- A history is legal under some settings for so many seats where each of its entries is the next one after those before it.
+-- A history is legal under some settings for so many seats where each of its entries is the next
+-- one after those before it.
 abbrev pub IsLegal : Settings → ℕ → History → Type 0
-IsLegal settings seats h = (before : History) (e : Entry) → BeginsWith h (before ++ e ∷ []) → IsNext settings seats before e
+IsLegal settings seats h = (before : History) (e : Entry) → BeginsWith h (before ++ e ∷ []) →
+    IsNext settings seats before e

@@ -3,14 +3,14 @@ use Rattle.std.specs.Prelude.{List, Option, Some, None, if◌then◌else◌}
 use Rattle.std.specs.List.{flat_map}
 use Rattle.std.specs.Ordering.{is_lt}
 use Rattle.tsc_span.specs.Span.{KeyBytes, key_cmp}
-use Rattle.tsc_page_base.specs.Page.{PageMarks, marked_keys}
-use Rattle.tsc_page_base.specs.PageView.{PageView}
+use Rattle.tsc_page_nodes.specs.Page.{PageMarks, marked_keys}
+use Rattle.tsc_page_nodes.specs.PageView.{PageView}
 
 -- the end keys of some pages, each as often as it comes
 abbrev pub keys_on : List PageMarks → List KeyBytes
 keys_on pages = flat_map (λ p. marked_keys p.marks) pages
 
--- and as they can be seen
+-- the end keys on all pages, as they can be seen
 abbrev pub keys_seen : List PageView → List KeyBytes
 keys_seen pages = flat_map (λ p. p.keys) pages
 

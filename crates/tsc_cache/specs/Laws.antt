@@ -4,8 +4,8 @@ use Rattle.tsc_time.specs.Time.{Time, is_before, time_minus}
 use Rattle.tsc_time.specs.OwnedTime.{Owner, OwnedTime}
 use Rattle.tsc_time.specs.Joint.{joint_above, IsAtMost}
 use Rattle.tsc_span.specs.Span.{Interval, overlaps}
-use Rattle.tsc_page_base.specs.Limits.{least_size, most_size}
-use Rattle.tsc_page_base.specs.Page.{Mark, PageMarks, top}
+use Rattle.tsc_page_nodes.specs.Limits.{least_size, most_size}
+use Rattle.tsc_page_nodes.specs.Page.{Mark, PageMarks, top}
 use Rattle.tsc_cache.specs.Settings.{Settings}
 use Rattle.tsc_cache.specs.declared.added.Added.{Added}
 use Rattle.tsc_cache.specs.State.{CacheState, look, evict, doubled, next_size, added_with, step, step_all}
@@ -14,44 +14,64 @@ use Rattle.tsc_cache.specs.CacheView.{CacheView, Adds}
 use Rattle.tsc_cache.specs.Batch.{AddsAll}
 use Rattle.tsc_cache.specs.History.{Entry, History, state_of, marks_on, BeginsWith, IsLegal}
 
--- A mark of an entry is at most what a lookup of a span that it overlaps answers, in the ratchet order, whether its page is still there or not.
+-- A mark of an entry is at most what a lookup of a span that it overlaps answers, in the ratchet
+-- order, whether its page is still there or not.
 abbrev pub KeptUp : Type 0
-KeptUp = (settings : Settings) (h : History) (e : Entry) (m : Mark) (s : Interval) → Contains h e → Contains e.marks m → overlaps m.span s ≡ true
+KeptUp = (settings : Settings) (h : History) (e : Entry) (m : Mark) (s : Interval) → Contains h e →
+    Contains e.marks m → overlaps m.span s ≡ true
     → IsAtMost m.value (look (state_of settings h) s)
 
 -- as a history goes on, no answer sinks, and the floor doesn't either
 pub record Rising : Type 0 where
-  pub answers : (settings : Settings) (start h : History) (s : Interval) → BeginsWith h start → IsAtMost (look (state_of settings start) s) (look (state_of settings h) s)
-  pub floors : (settings : Settings) (start h : History) → BeginsWith h start → is_before (state_of settings h).floor (state_of settings start).floor ≡ false
+  pub answers : (settings : Settings) (start h : History) (s : Interval) → BeginsWith h start →
+      IsAtMost (look (state_of settings start) s) (look (state_of settings h) s)
+  pub floors : (settings : Settings) (start h : History) → BeginsWith h start →
+      is_before (state_of settings h).floor (state_of settings start).floor ≡ false
 
--- What a history begins with: itself, and all that a beginning of it begins with. A beginning has no entry that the whole has not, and is legal where the whole is.
+-- What a history begins with: itself, and all that a beginning of it begins with. A beginning has
+-- no entry that the whole has not, and is legal where the whole is.
 pub record Beginnings : Type 0 where
   pub itself : (h : History) → BeginsWith h h
-  pub onward : (h middle start : History) → BeginsWith h middle → BeginsWith middle start → BeginsWith h start
-  pub entries : (h start : History) (e : Entry) → BeginsWith h start → Contains start e → Contains h e
-  pub legal : (settings : Settings) (seats : ℕ) (h start : History) → BeginsWith h start → IsLegal settings seats h → IsLegal settings seats start
+  pub onward : (h middle start : History) → BeginsWith h middle → BeginsWith middle start →
+      BeginsWith h start
+  pub entries : (h start : History) (e : Entry) → BeginsWith h start → Contains start e →
+      Contains h e
+  pub legal : (settings : Settings) (seats : ℕ) (h start : History) → BeginsWith h start →
+      IsLegal settings seats h → IsLegal settings seats start
 
--- The floor stands where it did at first, or it is older than the retention at the moment of some entry.
+-- The floor stands where it did at first, or it is older than the retention at the moment of some
+-- entry.
 abbrev pub FloorBehind : Type 0
 FloorBehind = (settings : Settings) (h : History) →
     ((state_of settings h).floor ≡ settings.low_water)
-    ⊎ ((e : Entry) × (limit : Time) × Contains h e × (time_minus e.now settings.retention ≡ Some limit) × (is_before (state_of settings h).floor limit ≡ true))
+    ⊎ ((e : Entry) × (limit : Time) × Contains h e ×
+    (time_minus e.now settings.retention ≡ Some limit) ×
+    (is_before (state_of settings h).floor limit ≡ true))
 
--- A lookup answers what the floor and all marks of entries on the span come to together, kept or not, dropped or not.
+-- A lookup answers what the floor and all marks of entries on the span come to together, kept or
+-- not, dropped or not.
 abbrev pub Real : Type 0
-Real = (settings : Settings) (h : History) (s : Interval) → look (state_of settings h) s ≡ joint_above (state_of settings h).floor (marks_on s h)
+Real = (settings : Settings) (h : History) (s : Interval) →
+    look (state_of settings h) s ≡ joint_above (state_of settings h).floor (marks_on s h)
 
--- A write of a transaction is clear of a read where it is later, or at the same time and the read is the transaction's own.
+-- A write of a transaction is clear of a read where it is later, or at the same time and the read
+-- is the transaction's own.
 abbrev pub IsClearOf : OwnedTime → Owner → Time → Type 0
-IsClearOf read writer time = (is_before read.time time ≡ true) ⊎ ((read.time ≡ time) × (read.owner ≡ Some writer))
+IsClearOf read writer time = (is_before read.time time ≡ true) ⊎
+    ((read.time ≡ time) × (read.owner ≡ Some writer))
 
--- A write that is clear of what a lookup of its span answers is clear of each read of the history that overlaps the span.
+-- A write that is clear of what a lookup of its span answers is clear of each read of the history
+-- that overlaps the span.
 abbrev pub NoWriteBelowARead : Type 0
-NoWriteBelowARead = (settings : Settings) (h : History) (s : Interval) (writer : Owner) (time : Time) → IsClearOf (look (state_of settings h) s) writer time
-    → (e : Entry) (m : Mark) → Contains h e → Contains e.marks m → overlaps m.span s ≡ true → IsClearOf m.value writer time
+NoWriteBelowARead = (settings : Settings) (h : History) (s : Interval) (writer : Owner)
+    (time : Time) → IsClearOf (look (state_of settings h) s) writer time
+    → (e : Entry) (m : Mark) → Contains h e → Contains e.marks m → overlaps m.span s ≡ true →
+    IsClearOf m.value writer time
 
--- An eviction parts the pages into those that stay and those that it drops, and lifts the floor to the latest of itself and of their tops.
-pub record PartsPages (settings : Settings) (now floor : Time) (pages : List PageMarks) : Type 0 where
+-- An eviction parts the pages into those that stay and those that it drops, and lifts the floor to
+-- the latest of itself and of their tops.
+pub record PartsPages (settings : Settings) (now floor : Time) (pages : List PageMarks) : Type
+    0 where
   pub stay : List PageMarks
   pub dropped : List PageMarks
   pub parts : pages ≡ stay ++ dropped
@@ -62,22 +82,30 @@ pub record PartsPages (settings : Settings) (now floor : Time) (pages : List Pag
 
 -- Whatever the settings, the moment, the floor and the pages are, an eviction does so.
 abbrev pub EvictsExpired : Type 0
-EvictsExpired = (settings : Settings) (now floor : Time) (pages : List PageMarks) → PartsPages settings now floor pages
+EvictsExpired = (settings : Settings) (now floor : Time) (pages : List PageMarks) →
+    PartsPages settings now floor pages
 
 -- An Add of a list of one mark is the Add of that mark.
 abbrev pub OneMarkIsAStep : Type 0
-OneMarkIsAStep = (settings : Settings) (s : CacheState) (m : Mark) (now : Time) → step_all settings s (m ∷ []) now ≡ step settings s m now
+OneMarkIsAStep = (settings : Settings) (s : CacheState) (m : Mark) (now : Time) →
+    step_all settings s (m ∷ []) now ≡ step settings s m now
 
--- So it is for all that can be seen of a cache.
+-- Adding a list of one mark makes of all that can be seen of a cache what an Add of that mark
+-- makes.
 abbrev pub OneMarkIsAnAdd : Type 0
-OneMarkIsAnAdd = (old new : CacheView) (m : Mark) (now : Time) (added : Added) → AddsAll old new (m ∷ []) now added → Adds old new m now added
+OneMarkIsAnAdd = (old new : CacheView) (m : Mark) (now : Time) (added : Added) →
+    AddsAll old new (m ∷ []) now added → Adds old new m now added
 
--- Two lists of marks that are added at one moment, one behind the other, leave what their joined list leaves, and answer together what that one answers.
+-- Two lists of marks that are added at one moment, one behind the other, leave what their joined
+-- list leaves, and answer together what that one answers.
 abbrev pub ListsJoin : Type 0
-ListsJoin = (settings : Settings) (s : CacheState) (ms ns : List Mark) (now : Time) → (let first = step_all settings s ms now in let second = step_all settings first.state ns now in
-    step_all settings s (ms ++ ns) now ≡ record { state = second.state; added = added_with first.added second.added })
+ListsJoin = (settings : Settings) (s : CacheState) (ms ns : List Mark) (now : Time) →
+    (let first = step_all settings s ms now in let second = step_all settings first.state ns now in
+    step_all settings s (ms ++ ns) now ≡
+    record { state = second.state; added = added_with first.added second.added })
 
--- The size of a page for a cost behind a page of some size: that size, doubled so often and no more than the most, is at least the cost, and doubled less often it is not.
+-- The size of a page for a cost behind a page of some size: that size, doubled so often and no more
+-- than the most, is at least the cost, and doubled less often it is not.
 pub record IsFirstDoubled (most size cost next : ℕ) : Type 0 where
   pub times : ℕ
   pub some : 1 ≤ times
@@ -85,6 +113,7 @@ pub record IsFirstDoubled (most size cost next : ℕ) : Type 0 where
   pub enough : cost ≤ next
   pub before : (fewer : ℕ) → 1 ≤ fewer → fewer < times → doubled most size fewer < cost
 
--- So it is whatever the sizes are, where the cost is no more than the most.
+-- The sizes of pages double so, whatever they are, where the cost is no more than the most.
 abbrev pub SizesDouble : Type 0
-SizesDouble = (most size cost : ℕ) → least_size ≤ size → most ≤ most_size → cost ≤ most → IsFirstDoubled most size cost (next_size most size cost)
+SizesDouble = (most size cost : ℕ) → least_size ≤ size → most ≤ most_size → cost ≤ most →
+    IsFirstDoubled most size cost (next_size most size cost)

@@ -6,6 +6,7 @@ pub mod History
 pub mod Lookup
 pub mod CacheView
 pub mod Batch
+pub mod AddSpans
 pub mod Stacks
 pub mod CacheParts
 pub mod Laws

@@ -4,21 +4,25 @@ use Rattle.std.specs.List.{flat_map}
 use Rattle.tsc_time.specs.Time.{Time, zero_time, is_before}
 use Rattle.tsc_time.specs.Joint.{latest}
 use Rattle.tsc_span.specs.Span.{Interval}
-use Rattle.tsc_page_base.specs.Page.{PageMarks, top, values_on}
+use Rattle.tsc_page_nodes.specs.Page.{PageMarks, top, values_on}
 
 -- the latest time of the marks on some pages that overlap a span, or time zero where there are none
 abbrev pub latest_on : Interval → List PageMarks → Time
 latest_on span pages = latest zero_time (flat_map (λ p. values_on span p.marks) pages)
 
--- How many pages are looked into, from the newest on: those before the first page whose top is below the latest time in the pages before it, or all where there is no such page.
-pub record LooksInto {P : Type 0} (top_of : P → Time) (latest_in : List P → Time) (pages : List P) (count : ℕ) : Type 0 where
+-- How many pages are looked into, from the newest on: those before the first page whose top is
+-- below the latest time in the pages before it, or all where there is no such page.
+pub record LooksInto {P : Type 0} (top_of : P → Time) (latest_in : List P → Time) (pages : List P)
+    (count : ℕ) : Type 0 where
   pub into : List P
   pub past : List P
   pub parts : pages ≡ into ++ past
   pub looked : count ≡ length into
-  pub goes_on : (newer : List P) (page : P) (others : List P) → into ≡ newer ++ page ∷ others → is_before (top_of page) (latest_in newer) ≡ false
-  pub stops : (page : P) (others : List P) → past ≡ page ∷ others → is_before (top_of page) (latest_in into) ≡ true
+  pub goes_on : (newer : List P) (page : P) (others : List P) → into ≡ newer ++ page ∷ others →
+      is_before (top_of page) (latest_in newer) ≡ false
+  pub stops : (page : P) (others : List P) → past ≡ page ∷ others →
+      is_before (top_of page) (latest_in into) ≡ true
 
--- and so of the pages of a state
+-- how many pages of a state a lookup looks into
 abbrev pub LooksIntoPages : Interval → List PageMarks → ℕ → Type 0
 LooksIntoPages span pages count = LooksInto top (latest_on span) pages count

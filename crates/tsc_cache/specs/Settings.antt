@@ -2,7 +2,7 @@
 use Rattle.std.specs.Prelude.{◌≡◌, ℕ, ◌&&◌, nat_le, not, Bool, true, Result, Ok, Err, if◌then◌else◌}
 use Rattle.tsc_time.specs.Time.{Time}
 use Rattle.tsc_span.specs.Span.{Interval, span_cost}
-use Rattle.tsc_page_base.specs.Limits.{least_size, most_size}
+use Rattle.tsc_page_nodes.specs.Limits.{least_size, most_size}
 use Rattle.tsc_cache.specs.Limits.{least_min_pages, most_min_pages, longest_retention}
 use Rattle.tsc_cache.specs.declared.config.ConfigFault.{ConfigFault}
 use Rattle.tsc_cache.specs.declared.config.ConfigFault.TheVariants.{PageSize, MinPages, Retention}
@@ -17,7 +17,8 @@ pub record Settings : Type 0 where
 
 -- whether these may be the sizes of the first page and of the largest one
 abbrev pub are_page_sizes : ℕ → ℕ → Bool
-are_page_sizes page_first page_max = nat_le least_size page_first && (nat_le page_first page_max && nat_le page_max most_size)
+are_page_sizes page_first page_max =
+    nat_le least_size page_first && (nat_le page_first page_max && nat_le page_max most_size)
 
 -- whether this may be the number of pages below which none is dropped
 abbrev pub is_min_pages : ℕ → Bool
@@ -33,7 +34,13 @@ settings_of page_first page_max min_pages retention low_water =
     if not (are_page_sizes page_first page_max) then Err PageSize
     else if not (is_min_pages min_pages) then Err MinPages
     else if not (is_retention retention) then Err Retention
-    else Ok (record { page_first = page_first; page_max = page_max; min_pages = min_pages; retention = retention; low_water = low_water })
+    else Ok (record {
+      page_first = page_first;
+      page_max = page_max;
+      min_pages = min_pages;
+      retention = retention;
+      low_water = low_water;
+    })
 
 -- settings within their limits
 pub record IsWithinLimits (s : Settings) : Type 0 where

@@ -1,23 +1,25 @@
-ghost use Rattle.std.specs.Prelude.{◌≡◌, ◌↔◌, ◌<◌, ◌+◌, ◌^◌, option_map, length, true, false, IsOk, IfOk, IfErr, IfSome, IsErrOf, OnOk, OnErr};
+ghost use Rattle.std.specs.Prelude.{◌≡◌, ◌↔◌, ◌<◌, ◌+◌, ◌^◌, option_map, length, true, false, IsOk, IfOk, IfErr, IfSome, IsErrOf, OnOk, OnErr, None};
 ghost use Rattle.tsc_time.specs.Time.{Time};
 ghost use Rattle.tsc_span.specs.Span.{point};
 ghost use Rattle.tsc_span.specs.LookupSpan.{span_for_lookup};
 ghost use Rattle.tsc_span.specs.Cuts.{cut_of};
-ghost use Rattle.tsc_page_base.specs.KeysAbove.{IsLeastAbove};
+ghost use Rattle.tsc_page_nodes.specs.KeysAbove.{IsLeastAbove};
 ghost use Rattle.tsc_cache.specs.Settings.{Settings, fits};
 ghost use Rattle.tsc_cache.specs.State.{CacheState, step, look, is_kept};
 ghost use Rattle.tsc_cache.specs.Lookup.{LooksIntoPages};
 ghost use Rattle.tsc_cache.specs.Keys.{keys_on, keys_seen};
 ghost use Rattle.tsc_cache.specs.CacheView.{StandsForState, StandsAfter, StandsAfterAll, TellsAdded, TellsAddedAll, Adds, AddsWithoutRotation, would_rotate, cache_answer, LooksIntoViews};
 ghost use Rattle.tsc_cache.specs.Counts.{figures_of, figures_seen};
+ghost use Rattle.tsc_cache.specs.AddSpans.{named, refusal_of, is_kept_named, RefusesFor, StandsAfterNamed, TellsAddedNamed, AddsNamed};
 ghost use Rattle.tsc_cache.specs.Batch.{all_fit, is_any_kept, AddsAll, AddsSome, LeavesSome};
 
-use crate::config::counted_on;
+use crate::add_span::AddSpan;
+use crate::config::saturating_inc;
 use crate::mark::is_any_kept;
 use crate::older::Pages;
 use crate::page_stack::PageStack;
 use crate::rotate::Rotate;
-use crate::{Added, CacheFault, Config, Figures, Mark, TimestampCache};
+use crate::{AddBetweenFault, Added, CacheFault, Config, Figures, Mark, TimestampCache};
 use std::alloc::Global;
 use std::marker::Model;
 use tsc_page::{IntervalPage, Page};
@@ -43,7 +45,12 @@ impl Model for Cache {
     ghost use Rattle.tsc_cache.specs.CacheParts.{pages_of};
     ghost use Rattle.tsc_cache.specs.Stacks.{AreStacked};
 
-    ghost view = { λ c. record { settings = c.config; floor = c.floor; pages = pages_of c.pages; rotations = c.rotations } };
+    ghost view = { λ c. record {
+      settings = c.config;
+      floor = c.floor;
+      pages = pages_of c.pages;
+      rotations = c.rotations;
+    } };
 
     ghost invariant = { λ c. AreStacked (pages_of c.pages) };
 }
@@ -53,7 +60,7 @@ impl TimestampCache for Cache {
 
     ghost is_empty_free = { false };
 
-    /// It takes the memory of one empty page.
+    /// A new cache takes the memory of one empty page.
     fn new(alloc: Global, config: Config) -> Result<Cache, NoMemory> {
         let front = Page::new(alloc, config.page_first(), Timestamp::ZERO)?;
         Ok(Cache {
@@ -65,7 +72,8 @@ impl TimestampCache for Cache {
     }
 
     /// One that is kept goes to the front page, in place where no other cache holds that page, and
-    /// to a copy of it else. Where the page has no room the pages rotate first, and a new one is made.
+    /// to a copy of it else. Where the page has no room the pages rotate first, and a new one is
+    /// made.
     fn add(&mut self, span: &Span, value: Value, now: Timestamp) -> Result<Added, CacheFault> {
         if !self.config.fits(span) {
             return Err(CacheFault::TooLarge);
@@ -73,7 +81,8 @@ impl TimestampCache for Cache {
         Ok(self.add_fitting(span, value, now)?)
     }
 
-    /// A batch of which a mark is kept is made as by [`next_all`](Cache::next_all), and then takes the cache's place.
+    /// A batch of which a mark is kept is made as by [`next_all`](Cache::next_all), and then takes
+    /// the cache's place.
     fn add_all(&mut self, marks: &[Mark], now: Timestamp) -> Result<Added, CacheFault> {
         if self.config.fits_all(marks) && !is_any_kept(self.floor, marks) {
             return Ok(Added::nothing());
@@ -83,9 +92,10 @@ impl TimestampCache for Cache {
         Ok(added)
     }
 
-    /// It looks into the pages from the newest on, as [`get_max_counted`](Cache::get_max_counted) tells.
+    /// A lookup goes through the pages from the newest on, as
+    /// [`get_max_counted`](Cache::get_max_counted) tells.
     fn get_max(&self, span: &Span) -> Value {
-        self.get_max_in(&span.borrowed())
+        self.get_max_ref(&span.borrowed())
     }
 
     fn low_water(&self) -> Timestamp {
@@ -132,7 +142,7 @@ impl Rotate for Cache {
         self.pages.push_front(front)?;
         let (floor, evicted) = self.pages.evict(&self.config, self.floor, now);
         self.floor = floor;
-        self.rotations = counted_on(self.rotations);
+        self.rotations = saturating_inc(self.rotations);
         Ok(Added::after_rotation(evicted))
     }
 }
@@ -147,20 +157,28 @@ impl Cache {
 
     /// As [`add`](TimestampCache::add), of a single key whose bytes lie elsewhere.
     ///
-    /// A key that the front page holds is never copied, and takes no memory where no other cache shares the way to it. A new one is
-    /// copied once, and where a leaf is cut, or the pages rotate, once more.
+    /// A key that the front page holds is never copied, and takes no memory where no other cache
+    /// shares the way to it. A new one is copied once, and where a leaf is cut, or the pages
+    /// rotate, once more.
     pub fn add_key(
         &mut self,
         key: &KeyRef<'_>,
         value: Value,
         now: Timestamp,
     ) -> Result<Added, CacheFault>
-        ensures stands { OnOk result (StandsAfter self.old self.new (record { span = point key.now; value = value }) now) }
-        ensures added { IfOk result (TellsAdded self.old (record { span = point key.now; value = value }) now) }
-        ensures seen { IfOk result (λ added. Adds self.old self.new (record { span = point key.now; value = value }) now added) }
-        ensures too_large { IsErrOf result CacheFault.TooLarge ↔ (fits self.old.settings (point key.now) ≡ false) }
+        ensures stands { OnOk result
+            (StandsAfter self.old self.new (record { span = point key.now; value = value }) now) }
+        ensures added { IfOk result
+            (TellsAdded self.old (record { span = point key.now; value = value }) now) }
+        ensures seen { IfOk result
+            (λ added. Adds self.old self.new (record { span = point key.now; value = value }) now
+            added) }
+        ensures too_large { IsErrOf result CacheFault.TooLarge ↔
+            (fits self.old.settings (point key.now) ≡ false) }
         ensures unchanged { OnErr result (self.new ≡ self.old) }
-        ensures memory { fits self.old.settings (point key.now) ≡ true → is_kept self.old.floor (record { span = point key.now; value = value }) ≡ false → IsOk result }
+        ensures memory { fits self.old.settings (point key.now) ≡ true →
+            is_kept self.old.floor (record { span = point key.now; value = value }) ≡ false →
+            IsOk result }
     {
         if !self.config.fits_key(key) {
             return Err(CacheFault::TooLarge);
@@ -176,11 +194,16 @@ impl Cache {
         now: Timestamp,
     ) -> Result<Added, NoMemory>
         requires fits { fits self.old.settings (point key.now) ≡ true }
-        ensures stands { OnOk result (StandsAfter self.old self.new (record { span = point key.now; value = value }) now) }
-        ensures added { IfOk result (TellsAdded self.old (record { span = point key.now; value = value }) now) }
-        ensures seen { IfOk result (λ added. Adds self.old self.new (record { span = point key.now; value = value }) now added) }
+        ensures stands { OnOk result
+            (StandsAfter self.old self.new (record { span = point key.now; value = value }) now) }
+        ensures added { IfOk result
+            (TellsAdded self.old (record { span = point key.now; value = value }) now) }
+        ensures seen { IfOk result
+            (λ added. Adds self.old self.new (record { span = point key.now; value = value }) now
+            added) }
         ensures unchanged { OnErr result (self.new ≡ self.old) }
-        ensures memory { is_kept self.old.floor (record { span = point key.now; value = value }) ≡ false → IsOk result }
+        ensures memory { is_kept self.old.floor (record { span = point key.now; value = value }) ≡
+            false → IsOk result }
     {
         if !self.keeps_key(key, value) {
             return Ok(Added::nothing());
@@ -194,26 +217,104 @@ impl Cache {
 
     /// Whether an Add at a key is kept.
     fn keeps_key(&self, _key: &KeyRef<'_>, value: Value) -> bool
-        ensures { result ≡ is_kept self.now.floor (record { span = point _key.now; value = value }) }
+        ensures { result ≡ is_kept self.now.floor
+            (record { span = point _key.now; value = value }) }
     {
         self.floor < value.time()
     }
 
-    /// Adds a span with its value where that needs no rotation of the pages, at whatever moment. The answer is `None` just where
-    /// [`would_rotate`](Cache::would_rotate) says so of them, as it does of a span that is too large, and the cache stays as it is then.
-    /// It stays so too where memory is refused.
+    /// As [`add`](TimestampCache::add), of the keys from a start to an end that lie elsewhere.
+    /// Without an end there are all keys from the start on.
     ///
-    /// It searches the front page once, whether there is room or not. An Add that is not kept takes no memory.
+    /// A refused Add, and one that is not kept, copy no key and take no memory. A single key is
+    /// added as by [`add_key`](Cache::add_key), and the keys of a range are copied.
+    pub fn add_between(
+        &mut self,
+        start: &[u8],
+        end: Option<&[u8]>,
+        ends: Ends,
+        value: Value,
+        now: Timestamp,
+    ) -> Result<Added, AddBetweenFault>
+        ensures stands { OnOk result
+            (StandsAfterNamed self.old self.new
+            (named start.now (option_map (λ k. k.now) end.entry) ends) value now) }
+        ensures added { IfOk result
+            (TellsAddedNamed self.old (named start.now (option_map (λ k. k.now) end.entry) ends)
+            value now) }
+        ensures seen { IfOk result
+            (AddsNamed self.old self.new (named start.now (option_map (λ k. k.now) end.entry) ends)
+            value now) }
+        ensures refused { RefusesFor
+            (refusal_of self.old.settings
+            (named start.now (option_map (λ k. k.now) end.entry) ends)) result }
+        ensures unchanged { OnErr result (self.new ≡ self.old) }
+        ensures memory { is_kept_named self.old.floor
+            (named start.now (option_map (λ k. k.now) end.entry) ends) value ≡ false
+            → refusal_of self.old.settings
+            (named start.now (option_map (λ k. k.now) end.entry) ends) ≡ None → IsOk result }
+    {
+        let span = AddSpan::between(start, end, ends)?;
+        Ok(self.add_span(&span, value, now)?)
+    }
+
+    /// Adds a span over keys that lie elsewhere.
+    fn add_span(
+        &mut self,
+        span: &AddSpan<'_>,
+        value: Value,
+        now: Timestamp,
+    ) -> Result<Added, CacheFault>
+        ensures stands { OnOk result
+            (StandsAfter self.old self.new (record { span = span.now; value = value }) now) }
+        ensures added { IfOk result
+            (TellsAdded self.old (record { span = span.now; value = value }) now) }
+        ensures seen { IfOk result
+            (λ added. Adds self.old self.new (record { span = span.now; value = value }) now
+            added) }
+        ensures too_large { IsErrOf result CacheFault.TooLarge ↔
+            (fits self.old.settings span.now ≡ false) }
+        ensures unchanged { OnErr result (self.new ≡ self.old) }
+        ensures memory { fits self.old.settings span.now ≡ true →
+            is_kept self.old.floor (record { span = span.now; value = value }) ≡ false →
+            IsOk result }
+    {
+        if let Some(key) = span.key() {
+            return self.add_key(key, value, now);
+        }
+        if span.cost() > self.config.page_max() {
+            return Err(CacheFault::TooLarge);
+        }
+        if span.is_empty() || value.time() <= self.floor {
+            return Ok(Added::nothing());
+        }
+        let span = span.to_span(self.pages.alloc())?;
+        Ok(self.add_fitting(&span, value, now)?)
+    }
+
+    /// Adds a span with its value where that needs no rotation of the pages, at whatever moment.
+    /// The answer is `None` just where [`would_rotate`](Cache::would_rotate) says so of them, as it
+    /// does of a span that is too large, and the cache stays as it is then. It stays so too where
+    /// memory is refused.
+    ///
+    /// It searches the front page once, whether there is room or not. An Add that is not kept takes
+    /// no memory.
     pub fn add_without_rotation(
         &mut self,
         span: &Span,
         value: Value,
     ) -> Result<Option<Added>, NoMemory>
-        ensures seen { IfOk result (AddsWithoutRotation self.old self.new (record { span = span.now; value = value })) }
-        ensures stands { IfOk result (λ made. IfSome made (λ added. (now : Time) → StandsAfter self.old self.new (record { span = span.now; value = value }) now)) }
-        ensures added { IfOk result (λ made. IfSome made (λ added. (now : Time) → TellsAdded self.old (record { span = span.now; value = value }) now added)) }
+        ensures seen { IfOk result
+            (AddsWithoutRotation self.old self.new (record { span = span.now; value = value })) }
+        ensures stands { IfOk result
+            (λ made. IfSome made (λ added. (now : Time) →
+            StandsAfter self.old self.new (record { span = span.now; value = value }) now)) }
+        ensures added { IfOk result
+            (λ made. IfSome made (λ added. (now : Time) →
+            TellsAdded self.old (record { span = span.now; value = value }) now added)) }
         ensures unchanged { OnErr result (self.new ≡ self.old) }
-        ensures memory { is_kept self.old.floor (record { span = span.now; value = value }) ≡ false → IsOk result }
+        ensures memory { is_kept self.old.floor (record { span = span.now; value = value }) ≡
+            false → IsOk result }
     {
         if !self.keeps(span, value) {
             return Ok(Some(Added::nothing()));
@@ -227,18 +328,23 @@ impl Cache {
     /// The cache after an Add, beside this one, which stays as it is. The two share the pages that
     /// the Add leaves as they are.
     ///
-    /// It costs a step for each of the newest pages, 256 at the most, and a copy of the front page where the Add goes
-    /// there. A rotation that drops pages of many costs as many steps again, and one for each 256 pages.
+    /// It costs a step for each of the newest pages, 256 at the most, and a copy of the front page
+    /// where the Add goes there. A rotation that drops pages of many costs as many steps again, and
+    /// one for each 256 pages.
     pub fn next(
         &self,
         span: &Span,
         value: Value,
         now: Timestamp,
     ) -> Result<(Cache, Added), CacheFault>
-        ensures stands { IfOk result (λ next. StandsAfter self.now next.0 (record { span = span.now; value = value }) now) }
-        ensures added { IfOk result (λ next. TellsAdded self.now (record { span = span.now; value = value }) now next.1) }
-        ensures seen { IfOk result (λ next. Adds self.now next.0 (record { span = span.now; value = value }) now next.1) }
-        ensures too_large { IsErrOf result CacheFault.TooLarge ↔ (fits self.now.settings span.now ≡ false) }
+        ensures stands { IfOk result
+            (λ next. StandsAfter self.now next.0 (record { span = span.now; value = value }) now) }
+        ensures added { IfOk result
+            (λ next. TellsAdded self.now (record { span = span.now; value = value }) now next.1) }
+        ensures seen { IfOk result
+            (λ next. Adds self.now next.0 (record { span = span.now; value = value }) now next.1) }
+        ensures too_large { IsErrOf result CacheFault.TooLarge ↔
+            (fits self.now.settings span.now ≡ false) }
     {
         if !self.config.fits(span) {
             return Err(CacheFault::TooLarge);
@@ -248,10 +354,12 @@ impl Cache {
         Ok((next, added))
     }
 
-    /// Adds each of these marks at the moment `now`, one after another, in place. Where memory is refused, those before the one that was
-    /// refused stay: so it is for a cache that is thrown away then, and [`add_all`](Cache::add_all) for any other.
+    /// Adds each of these marks at the moment `now`, one after another, in place. Where memory is
+    /// refused, those before the one that was refused stay: so it is for a cache that is thrown
+    /// away then, and [`add_all`](Cache::add_all) for any other.
     ///
-    /// Where none is kept nothing changes, and no memory is taken. Else it costs an [`add`](Cache::add) for each mark.
+    /// Where none is kept nothing changes, and no memory is taken. Else it costs an
+    /// [`add`](Cache::add) for each mark.
     pub fn add_each_until_refused(
         &mut self,
         marks: &[Mark],
@@ -260,9 +368,11 @@ impl Cache {
         ensures stands { OnOk result (StandsAfterAll self.old self.new marks.now now) }
         ensures added { IfOk result (TellsAddedAll self.old marks.now now) }
         ensures seen { IfOk result (λ added. AddsAll self.old self.new marks.now now added) }
-        ensures too_large { IsErrOf result CacheFault.TooLarge ↔ (all_fit self.old.settings marks.now ≡ false) }
+        ensures too_large { IsErrOf result CacheFault.TooLarge ↔
+            (all_fit self.old.settings marks.now ≡ false) }
         ensures left { IfErr result (λ fault. LeavesSome self.old self.new marks.now now fault) }
-        ensures memory { all_fit self.old.settings marks.now ≡ true → is_any_kept self.old.floor marks.now ≡ false → IsOk result }
+        ensures memory { all_fit self.old.settings marks.now ≡ true →
+            is_any_kept self.old.floor marks.now ≡ false → IsOk result }
     {
         if !self.config.fits_all(marks) {
             return Err(CacheFault::TooLarge);
@@ -273,18 +383,20 @@ impl Cache {
         Ok(self.add_each_fitting(marks, now)?)
     }
 
-    /// The cache after all of these marks, one after another at the moment `now`, beside this one, which stays as it
-    /// is. The two share the pages that the marks leave as they are.
+    /// The cache after all of these marks, one after another at the moment `now`, beside this one,
+    /// which stays as it is. The two share the pages that the marks leave as they are.
     ///
-    /// It costs a step for each of the newest pages, 256 at the most, a copy of the list at the top of the front page, and for each mark an
-    /// Add in place. Before it, each list on
-    /// the way to a mark's leaf and that leaf are copied where this cache shares them, which is once for all marks. A mark for which a leaf is cut, or
-    /// whose span reaches over several leaves that are shared, copies the list at the top once more.
+    /// It costs a step for each of the newest pages, 256 at the most, a copy of the list at the top
+    /// of the front page, and for each mark an Add in place. Before it, each list on the way to a
+    /// mark's leaf and that leaf are copied where this cache shares them, which is once for all
+    /// marks. A mark for which a leaf is cut, or whose span reaches over several leaves that are
+    /// shared, copies the list at the top once more.
     pub fn next_all(&self, marks: &[Mark], now: Timestamp) -> Result<(Cache, Added), CacheFault>
         ensures stands { IfOk result (λ next. StandsAfterAll self.now next.0 marks.now now) }
         ensures added { IfOk result (λ next. TellsAddedAll self.now marks.now now next.1) }
         ensures seen { IfOk result (λ next. AddsAll self.now next.0 marks.now now next.1) }
-        ensures too_large { IsErrOf result CacheFault.TooLarge ↔ (all_fit self.now.settings marks.now ≡ false) }
+        ensures too_large { IsErrOf result CacheFault.TooLarge ↔
+            (all_fit self.now.settings marks.now ≡ false) }
     {
         if !self.config.fits_all(marks) {
             return Err(CacheFault::TooLarge);
@@ -294,66 +406,77 @@ impl Cache {
         Ok((next, added))
     }
 
-    /// As [`get_max`](Cache::get_max), of the keys from a start to an end that lie elsewhere: it copies no key, and takes no
-    /// memory. [`SpanRef::between`] says which span that is.
+    /// As [`get_max`](Cache::get_max), of the keys from a start to an end that lie elsewhere: it
+    /// copies no key, and takes no memory. [`SpanRef::between`] says which span that is.
     pub fn get_max_between(&self, start: &[u8], end: Option<&[u8]>, ends: Ends) -> Value
-        ensures value { result ≡ cache_answer self.now (span_for_lookup start.now (option_map (λ k. k.now) end.entry) ends.exclude_from ends.exclude_to) }
+        ensures value { result ≡ cache_answer self.now
+            (span_for_lookup start.now (option_map (λ k. k.now) end.entry) ends.exclude_from
+            ends.exclude_to) }
         ensures stands { (settings : Settings) (s : CacheState) → StandsForState self.now settings s
-            → result ≡ look s (span_for_lookup start.now (option_map (λ k. k.now) end.entry) ends.exclude_from ends.exclude_to) }
+            → result ≡ look s (span_for_lookup start.now (option_map (λ k. k.now) end.entry)
+            ends.exclude_from ends.exclude_to) }
     {
-        self.get_max_in(&SpanRef::between(start, end, ends))
+        self.get_max_ref(&SpanRef::between(start, end, ends))
     }
 
     /// As [`get_max`](Cache::get_max), of a span over keys that lie elsewhere.
-    pub fn get_max_in(&self, span: &SpanRef<'_>) -> Value
+    pub fn get_max_ref(&self, span: &SpanRef<'_>) -> Value
         ensures value { result ≡ cache_answer self.now span.now }
-        ensures stands { (settings : Settings) (s : CacheState) → StandsForState self.now settings s → result ≡ look s span.now }
+        ensures stands { (settings : Settings) (s : CacheState) →
+            StandsForState self.now settings s → result ≡ look s span.now }
     {
         self.lookup(span).0
     }
 
-    /// The value of [`get_max`](Cache::get_max), and how many pages were looked into: those, from the newest
-    /// on, before the first page whose top is below the latest time that was met in them.
+    /// The value of [`get_max`](Cache::get_max), and how many pages were looked into: those, from
+    /// the newest on, before the first page whose top is below the latest time that was met in
+    /// them.
     pub fn get_max_counted(&self, span: &Span) -> (Value, u64)
         ensures value { result.0 ≡ cache_answer self.now span.now }
-        ensures stands { (settings : Settings) (s : CacheState) → StandsForState self.now settings s → result.0 ≡ look s span.now }
+        ensures stands { (settings : Settings) (s : CacheState) →
+            StandsForState self.now settings s → result.0 ≡ look s span.now }
         ensures looked { LooksIntoViews span.now self.now.pages result.1 }
-        ensures looked_into { (settings : Settings) (s : CacheState) → StandsForState self.now settings s → LooksIntoPages span.now s.pages result.1 }
+        ensures looked_into { (settings : Settings) (s : CacheState) →
+            StandsForState self.now settings s → LooksIntoPages span.now s.pages result.1 }
     {
         self.lookup(&span.borrowed())
     }
 
-    /// The least end key on any page that lies above a cut, as a key does above the place right before it; `None` where none
-    /// does. With the place right after it as the next cut, the cache tells its end keys one after another in their order, each
-    /// of them once.
+    /// The least end key on any page that lies above a cut, as a key does above the place right
+    /// before it; `None` where none does. With the place right after it as the next cut, the cache
+    /// tells its end keys one after another in their order, each of them once.
     ///
     /// It costs a search in each page. It takes no memory, and copies no key.
     ///
-    /// It restates how the skiplist of each `sklPage` is gone over, for all of an `intervalSkl`'s pages, in CockroachDB's
-    /// `pkg/kv/kvserver/tscache/interval_skl.go`.
+    /// It restates how the skiplist of each `sklPage` is gone over, for all of an `intervalSkl`'s
+    /// pages, in CockroachDB's `pkg/kv/kvserver/tscache/interval_skl.go`.
     pub fn key_above(&self, cut: Cut<'_>) -> Option<&Key>
-        ensures value { IsLeastAbove (cut_of cut.entry) (keys_seen self.now.pages) (option_map (λ k. k.now) result) }
+        ensures value { IsLeastAbove (cut_of cut.entry) (keys_seen self.now.pages)
+            (option_map (λ k. k.now) result) }
         ensures stands { (settings : Settings) (s : CacheState) → StandsForState self.now settings s
             → IsLeastAbove (cut_of cut.entry) (keys_on s.pages) (option_map (λ k. k.now) result) }
     {
         self.pages.key_above(cut)
     }
 
-    /// How many pages there are, how often they rotated, how many end keys they hold and what these cost, and where the floor
-    /// stands. It costs a step for each page, and takes no memory.
+    /// How many pages there are, how often they rotated, how many end keys they hold and what these
+    /// cost, and where the floor stands. It costs a step for each page, and takes no memory.
     pub fn figures(&self) -> Figures
         ensures value { result ≡ figures_seen self.now }
-        ensures stands { (settings : Settings) (s : CacheState) → StandsForState self.now settings s → result ≡ figures_of s }
+        ensures stands { (settings : Settings) (s : CacheState) →
+            StandsForState self.now settings s → result ≡ figures_of s }
     {
         self.pages.figures(self.floor, self.rotations)
     }
 
-    /// Whether an Add of this span and value would rotate the pages, at whatever moment. It costs a search for each end key
-    /// where the front page is nearly full.
+    /// Whether an Add of this span and value would rotate the pages, at whatever moment. It costs a
+    /// search for each end key where the front page is nearly full.
     pub fn would_rotate(&self, span: &Span, value: Value) -> bool
         ensures value { result ≡ would_rotate self.now (record { span = span.now; value = value }) }
-        ensures stands { (settings : Settings) (s : CacheState) (now : Time) → StandsForState self.now settings s
-            → result ≡ (step settings s (record { span = span.now; value = value }) now).added.rotated }
+        ensures stands { (settings : Settings) (s : CacheState) (now : Time) →
+            StandsForState self.now settings s
+            → result ≡ (step settings s (record { span = span.now; value = value })
+            now).added.rotated }
     {
         self.keeps(span, value) && !self.pages.has_room(span)
     }
@@ -361,9 +484,11 @@ impl Cache {
     /// What the floor and the pages answer to a span together, and how many pages were looked into.
     fn lookup(&self, span: &SpanRef<'_>) -> (Value, u64)
         ensures value { result.0 ≡ cache_answer self.now span.now }
-        ensures stands { (settings : Settings) (s : CacheState) → StandsForState self.now settings s → result.0 ≡ look s span.now }
+        ensures stands { (settings : Settings) (s : CacheState) →
+            StandsForState self.now settings s → result.0 ≡ look s span.now }
         ensures looked { LooksIntoViews span.now self.now.pages result.1 }
-        ensures looked_into { (settings : Settings) (s : CacheState) → StandsForState self.now settings s → LooksIntoPages span.now s.pages result.1 }
+        ensures looked_into { (settings : Settings) (s : CacheState) →
+            StandsForState self.now settings s → LooksIntoPages span.now s.pages result.1 }
     {
         let (best, looked) = self.pages.lookup(span);
         (ratchet(best, Value::unowned(self.floor)).0, looked)

@@ -1,8 +1,8 @@
 ghost use Rattle.std.specs.Prelude.{◌≡◌, ◌≤◌, ◌<◌, ◌*◌, ◌^◌, length, min};
 ghost use Rattle.tsc_span.specs.Span.{point};
-ghost use Rattle.tsc_page_base.specs.Limits.{least_size, most_size};
+ghost use Rattle.tsc_page_nodes.specs.Limits.{least_size, most_size};
 ghost use Rattle.tsc_cache.specs.Settings.{Settings, settings_of, fits, IsWithinLimits};
-ghost use Rattle.tsc_cache.specs.State.{is_past_retention, next_size, counted_on};
+ghost use Rattle.tsc_cache.specs.State.{is_past_retention, next_size, saturating_inc};
 ghost use Rattle.tsc_cache.specs.Batch.{all_fit};
 
 use crate::Mark;
@@ -15,7 +15,7 @@ use tsc_time::Timestamp;
 /// The least that `min_pages` may be.
 pub const LEAST_MIN_PAGES: u32 = 1;
 
-/// And the most.
+/// The most pages that `min_pages` may ask for.
 pub const MOST_MIN_PAGES: u32 = 64;
 
 /// For how many nanoseconds reads may be retained at the most.
@@ -56,19 +56,38 @@ impl Model for Config {
 
     ghost Value = { Settings };
 
-    ghost view = { λ c. record { page_first = c.page_first; page_max = c.page_max; min_pages = c.min_pages; retention = c.retention; low_water = c.low_water } };
+    ghost view = { λ c. record {
+      page_first = c.page_first;
+      page_max = c.page_max;
+      min_pages = c.min_pages;
+      retention = c.retention;
+      low_water = c.low_water;
+    } };
 
-    ghost invariant = { λ c. IsWithinLimits (record { page_first = c.page_first; page_max = c.page_max; min_pages = c.min_pages; retention = c.retention; low_water = c.low_water }) };
+    ghost invariant = { λ c. IsWithinLimits
+        (record {
+          page_first = c.page_first;
+          page_max = c.page_max;
+          min_pages = c.min_pages;
+          retention = c.retention;
+          low_water = c.low_water;
+        }) };
 
-    ghost inverse = { λ s. record { page_first = s.page_first; page_max = s.page_max; min_pages = s.min_pages; retention = s.retention; low_water = s.low_water } };
+    ghost inverse = { λ s. record {
+      page_first = s.page_first;
+      page_max = s.page_max;
+      min_pages = s.min_pages;
+      retention = s.retention;
+      low_water = s.low_water;
+    } };
 }
 
 impl Config {
     /// The configuration of these values, or the first fault in the order of [`ConfigFault`].
     ///
-    /// The first page has `page_first` bytes, and no page has more than `page_max`. A page is dropped only while
-    /// there are at least `min_pages`, and only once all of it is older than `retention` nanoseconds.
-    /// `low_water` is where the floor stands at first.
+    /// The first page has `page_first` bytes, and no page has more than `page_max`. A page is
+    /// dropped only while there are at least `min_pages`, and only once all of it is older than
+    /// `retention` nanoseconds. `low_water` is where the floor stands at first.
     pub fn new(
         page_first: u32,
         page_max: u32,
@@ -115,7 +134,8 @@ impl Config {
         self.page_max
     }
 
-    /// Whether a span fits the largest page: whether it [costs](Span::cost) no more than `page_max`.
+    /// Whether a span fits the largest page: whether it [costs](Span::cost) no more than
+    /// `page_max`.
     pub fn fits(&self, span: &Span) -> bool
         ensures { result ≡ fits self.now span.now }
     {
@@ -129,7 +149,8 @@ impl Config {
         key.cost() <= self.page_max
     }
 
-    /// Whether the span of each of some marks fits. A list that is in memory has fewer than 2^63 marks.
+    /// Whether the span of each of some marks fits. A list that is in memory has fewer than 2^63
+    /// marks.
     pub fn fits_all(&self, marks: &[Mark]) -> bool
         ensures value { result ≡ all_fit self.now marks.now }
         ensures few { length marks.now < 2 ^ 63 }
@@ -142,8 +163,9 @@ impl Config {
         true
     }
 
-    /// The size of a page for a span of this cost, behind one of this size: the first of twice that size, four times that
-    /// size and so on, each no more than `page_max`, that is at least the cost.
+    /// The size of a page for a span of this cost, behind one of this size: the first of twice that
+    /// size, four times that size and so on, each no more than `page_max`, that is at least the
+    /// cost.
     pub(crate) fn next_size(&self, size: u32, cost: u32) -> u32
         ensures value { result ≡ next_size self.now.page_max size cost }
         ensures enough { cost ≤ self.now.page_max → cost ≤ result }
@@ -202,8 +224,8 @@ impl Config {
 }
 
 /// A count with one more, which stays at 2^64 - 1 once it is there.
-pub(crate) fn counted_on(count: u64) -> u64
-    ensures { result ≡ counted_on count }
+pub(crate) fn saturating_inc(count: u64) -> u64
+    ensures { result ≡ saturating_inc count }
 {
     count.saturating_add(1)
 }

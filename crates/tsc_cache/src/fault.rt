@@ -22,3 +22,34 @@ impl From<NoMemory> for CacheFault {
         CacheFault::NoMemory
     }
 }
+
+/// Why an Add over bytes was refused.
+#[derive(Clone, Copy, Debug, PartialEq, Eq, Error)]
+pub enum AddBetweenFault {
+    /// A key has more than 4096 bytes.
+    #[error("the key is too long")]
+    KeyTooLong,
+    /// The first key is greater than the second.
+    #[error("the range is inverted")]
+    Inverted,
+    /// The span costs more than the largest page may have.
+    #[error("the span is too large for a page")]
+    TooLarge,
+    /// A growth was refused.
+    #[error("out of memory")]
+    NoMemory,
+}
+
+impl From<CacheFault> for AddBetweenFault {
+    ghost use Rattle.std.specs.Prelude.{◌≡◌};
+    ghost use Rattle.tsc_cache.specs.AddSpans.{of_cache_fault};
+
+    ghost from_gives = { λ fault made. made ≡ of_cache_fault fault };
+
+    fn from(fault: CacheFault) -> AddBetweenFault {
+        match fault {
+            CacheFault::TooLarge => AddBetweenFault::TooLarge,
+            CacheFault::NoMemory => AddBetweenFault::NoMemory,
+        }
+    }
+}

@@ -1,7 +1,8 @@
 use tsc_page::{IntervalPage, Page};
 use tsc_time::Timestamp;
 
-/// What can be counted of a cache, and where its floor stands. Rotations, nodes and bytes stay at 2^64 - 1 once they are there.
+/// What can be counted of a cache, and where its floor stands. Rotations, nodes and bytes stay at
+/// 2^64 - 1 once they are there.
 #[derive(Clone, Copy, Debug, PartialEq, Eq)]
 pub struct Figures {
     /// How many pages there are.
@@ -18,13 +19,19 @@ pub struct Figures {
 
 impl Figures {
     ghost use Rattle.std.specs.Prelude.{◌≡◌, ◌+◌};
-    ghost use Rattle.tsc_page_base.specs.Page.{count_distinct};
-    ghost use Rattle.tsc_page_base.specs.PageView.{bytes_of};
+    ghost use Rattle.tsc_page_nodes.specs.Page.{count_distinct};
+    ghost use Rattle.tsc_page_nodes.specs.PageView.{bytes_of};
     ghost use Rattle.tsc_cache.specs.Counts.{up_to_end};
 
     /// The figures of so many pages, before what they hold is counted.
     pub(crate) fn of_pages(pages: u64, floor: Timestamp, rotations: u64) -> Figures
-        ensures { result ≡ record { pages = pages; rotations = rotations; nodes = 0; bytes = 0; floor = floor } }
+        ensures { result ≡ record {
+          pages = pages;
+          rotations = rotations;
+          nodes = 0;
+          bytes = 0;
+          floor = floor;
+        } }
     {
         Figures {
             pages,
@@ -37,7 +44,14 @@ impl Figures {
 
     /// The figures with what one page more holds.
     pub(crate) fn with(self, page: &Page) -> Figures
-        ensures { result ≡ record { pages = self.pages; rotations = self.rotations; nodes = up_to_end (self.nodes + count_distinct page.now.keys); bytes = up_to_end (self.bytes + bytes_of page.now); floor = self.floor } }
+        ensures { result ≡ record {
+          pages = self.pages;
+          rotations = self.rotations;
+          nodes = up_to_end (self.nodes + count_distinct page.now.keys);
+          bytes =
+              up_to_end (self.bytes + bytes_of page.now);
+          floor = self.floor;
+        } }
     {
         Figures {
             pages: self.pages,

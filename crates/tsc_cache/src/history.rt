@@ -4,8 +4,8 @@ use tsc_time::Timestamp;
 
 /// An Add as histories have it.
 ///
-/// Histories are what contracts speak of, here and in the crates above. No value of this type is ever made:
-/// a program keeps none of them.
+/// Histories are what contracts speak of, here and in the crates above. No value of this type is
+/// ever made: a program keeps none of them.
 #[derive(Debug, Drop)]
 pub struct Entry {
     /// The seat that made the Add.

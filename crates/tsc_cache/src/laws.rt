@@ -1,7 +1,9 @@
-//! Laws of histories of Adds, over the definitions alone: for every configuration, history and span.
+//! Laws of histories of Adds, over the definitions alone: for every configuration, history and
+//! span.
 //!
-//! No program needs to call these functions: their contracts are the laws. Whoever keeps a history, as a
-//! ghost, calls [`can_be_added`] or [`can_all_be_added`] to know of an Add that it may stand there.
+//! No program needs to call these functions: their contracts are the laws. Whoever keeps a history,
+//! as a ghost, calls [`can_be_added`] or [`can_all_be_added`] to know of an Add that it may stand
+//! there.
 ghost use Rattle.tsc_cache.specs.Laws.{KeptUp, Rising, Beginnings, FloorBehind, Real, NoWriteBelowARead, EvictsExpired, OneMarkIsAStep, OneMarkIsAnAdd, ListsJoin, SizesDouble};
 ghost use Rattle.tsc_cache.specs.Limits.{least_min_pages, most_min_pages, longest_retention};
 ghost use Rattle.tsc_cache.specs.Settings.{fits};
@@ -13,15 +15,16 @@ use crate::{Config, LEAST_MIN_PAGES, LONGEST_RETENTION, MOST_MIN_PAGES, Mark};
 use tsc_span::Span;
 use tsc_time::{Timestamp, Value};
 
-/// [`LEAST_MIN_PAGES`], [`MOST_MIN_PAGES`] and [`LONGEST_RETENTION`] are the numbers of the definitions.
+/// [`LEAST_MIN_PAGES`], [`MOST_MIN_PAGES`] and [`LONGEST_RETENTION`] are the numbers of the
+/// definitions.
 pub fn limits()
     ensures least_pages { LEAST_MIN_PAGES ≡ least_min_pages }
     ensures most_pages { MOST_MIN_PAGES ≡ most_min_pages }
     ensures retention { LONGEST_RETENTION ≡ longest_retention }
 {}
 
-/// A lookup answers no less than any Add that overlaps its span, also one that was not kept, and one
-/// whose page is gone.
+/// A lookup answers no less than any Add that overlaps its span, also one that was not kept, and
+/// one whose page is gone.
 pub fn kept_up()
     ensures { KeptUp }
 {}
@@ -31,29 +34,29 @@ pub fn rising()
     ensures { Rising }
 {}
 
-/// A history begins with itself and with all that a beginning of it begins with, and has each entry of a beginning;
-/// a beginning of a legal history is legal.
+/// A history begins with itself and with all that a beginning of it begins with, and has each entry
+/// of a beginning; a beginning of a legal history is legal.
 ///
-/// What a seat of a shared cache has seen begins with what it had seen before, or what a front shows: with this law
-/// that holds over several calls.
+/// What a seat of a shared cache has seen begins with what it had seen before, or what a front
+/// shows: with this law that holds over several calls.
 pub fn beginnings()
     ensures { Beginnings }
 {}
 
-/// The floor stands where the configuration put it, or it was already older than the retention at the
-/// moment of some Add: no rotation lifts it to a time that has still to be retained.
+/// The floor stands where the configuration put it, or it was already older than the retention at
+/// the moment of some Add: no rotation lifts it to a time that has still to be retained.
 pub fn floor_behind()
     ensures { FloorBehind }
 {}
 
-/// An answer comes from the floor and from the Adds on the span, and from nothing else: pages change it
-/// only by the floor.
+/// An answer comes from the floor and from the Adds on the span, and from nothing else: pages
+/// change it only by the floor.
 pub fn real()
     ensures { Real }
 {}
 
-/// Where a write is later than what a lookup of its span answers, or at that time and the answer is the
-/// writer's own, it is so too of each read so far that was added on the span.
+/// Where a write is later than what a lookup of its span answers, or at that time and the answer is
+/// the writer's own, it is so too of each read so far that was added on the span.
 pub fn no_write_below_a_read()
     ensures { NoWriteBelowARead }
 {}
@@ -70,32 +73,35 @@ pub fn one_mark_is_a_step()
     ensures { OneMarkIsAStep }
 {}
 
-/// Adding a list of one mark makes of all that can be seen of a cache what an Add of that mark makes, and answers the same.
+/// Adding a list of one mark makes of all that can be seen of a cache what an Add of that mark
+/// makes, and answers the same.
 pub fn one_mark_is_an_add()
     ensures { OneMarkIsAnAdd }
 {}
 
-/// Two lists of marks that are added one behind the other, at one moment, do together what their joined list does. Only
-/// the entries of a history are two there, and one here.
+/// Two lists of marks that are added one behind the other, at one moment, do together what their
+/// joined list does. Only the entries of a history are two there, and one here.
 pub fn lists_join()
     ensures { ListsJoin }
 {}
 
-/// A new page is the first of twice, four times, eight times the size and so on of the one before it, each no larger than
-/// the largest, that the span fits.
+/// A new page is the first of twice, four times, eight times the size and so on of the one before
+/// it, each no larger than the largest, that the span fits.
 pub fn sizes_double()
     ensures { SizesDouble }
 {}
 
-/// Whatever a program holds as a span that fits a page, a value and a moment can be added: the entry is one that a
-/// caller can make.
+/// Whatever a program holds as a span that fits a page, a value and a moment can be added: the
+/// entry is one that a caller can make.
 pub fn can_be_added(config: &Config, span: &Span, value: Value, now: Timestamp)
-    ensures { fits config.now span.now ≡ true → CanBeAdded config.now (record { span = span.now; value = value }) now }
+    ensures { fits config.now span.now ≡ true →
+        CanBeAdded config.now (record { span = span.now; value = value }) now }
 {
     let _cuts = span.cuts();
 }
 
-/// Whatever a program holds as marks that fit a page and a moment can be added: the entry is one that a caller can make.
+/// Whatever a program holds as marks that fit a page and a moment can be added: the entry is one
+/// that a caller can make.
 pub fn can_all_be_added(config: &Config, marks: &[Mark], now: Timestamp)
     ensures { all_fit config.now marks.now ≡ true → CanAllBeAdded config.now marks.now now }
 {

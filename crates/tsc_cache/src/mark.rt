@@ -16,7 +16,7 @@ pub struct Mark {
 }
 
 impl Model for Mark {
-    ghost use Rattle.tsc_page_base.specs.Page.{Mark};
+    ghost use Rattle.tsc_page_nodes.specs.Page.{Mark};
 
     ghost Value = { Mark };
 

@@ -13,7 +13,8 @@ use tsc_time::NoMemory;
 /// How many pages a chunk has.
 const CHUNK: usize = 256;
 
-/// From so many pages in chunks on no chunk is made: they are more than a machine has addresses for.
+/// From so many pages in chunks on no chunk is made: they are more than a machine has addresses
+/// for.
 const MOST: usize = 1 << 62;
 
 /// Pages that caches share.
@@ -33,8 +34,9 @@ pub(crate) struct Pages {
 
 /// The pages behind the front one, from the newest to the oldest.
 ///
-/// A copy of the list copies the newest pages' handles, of which there are at most 256, and shares the chunks.
-/// To change a chunk that is shared, or the list of chunks, costs a step for each of its members.
+/// A copy of the list copies the newest pages' handles, of which there are at most 256, and shares
+/// the chunks. To change a chunk that is shared, or the list of chunks, costs a step for each of
+/// its members.
 #[derive(Debug, Drop)]
 pub(crate) struct OlderPages {
     newest: Chunk,
@@ -46,15 +48,18 @@ pub(crate) struct OlderPages {
 impl Model for OlderPages {
     ghost use Rattle.std.specs.Prelude.{List, ◌++◌, ◌+◌, ◌≤◌, take, length, ◌^◌};
     ghost use Rattle.std.specs.Arc.{arc_value};
-    ghost use Rattle.tsc_page_base.specs.PageView.{PageView};
+    ghost use Rattle.tsc_page_nodes.specs.PageView.{PageView};
     ghost use Rattle.tsc_cache.specs.Chunks.{in_chunk, in_chunks, joined, AreFull};
 
     ghost Value = { List PageView };
 
-    ghost view = { λ o. in_chunk o.newest ++ take o.chunked (joined (in_chunks (arc_value o.chunks))) };
+    ghost view = { λ o. in_chunk o.newest ++
+        take o.chunked (joined (in_chunks (arc_value o.chunks))) };
 
-    ghost invariant = { λ o. (length (in_chunk o.newest) ≤ 256) × AreFull (in_chunks (arc_value o.chunks))
-        × (o.chunked ≤ length (joined (in_chunks (arc_value o.chunks)))) × (o.chunked ≤ 2 ^ 62 + 255) };
+    ghost invariant = { λ o. (length (in_chunk o.newest) ≤ 256) ×
+        AreFull (in_chunks (arc_value o.chunks))
+        × (o.chunked ≤ length (joined (in_chunks (arc_value o.chunks)))) ×
+        (o.chunked ≤ 2 ^ 62 + 255) };
 }
 
 impl OlderPages {
@@ -97,7 +102,8 @@ impl OlderPages {
     /// The oldest page.
     pub(crate) fn back(&self) -> Option<&Page>
         ensures variant { IsSome result ↔ (0 < length self.now) }
-        ensures lookup { IfSome result (λ x. x.now ≡ slice_index_or self.now (length self.now - 1) x.now) }
+        ensures lookup { IfSome result
+            (λ x. x.now ≡ slice_index_or self.now (length self.now - 1) x.now) }
     {
         let len = self.len();
         if len == 0 {
@@ -180,8 +186,10 @@ fn get_in(chunks: &Chunks, at: usize) -> &Page
 
 /// Brings a chunk of these pages before other chunks.
 fn push_chunk(chunks: &mut Arc<Chunks>, pages: &Chunk) -> Result<(), NoMemory>
-    ensures pushed { OnOk result (in_chunks (arc_value chunks.new) ≡ in_chunk pages.now ∷ in_chunks (arc_value chunks.old)) }
-    ensures unchanged { OnErr result (in_chunks (arc_value chunks.new) ≡ in_chunks (arc_value chunks.old)) }
+    ensures pushed { OnOk result (in_chunks (arc_value chunks.new) ≡ in_chunk pages.now ∷
+        in_chunks (arc_value chunks.old)) }
+    ensures unchanged { OnErr result
+        (in_chunks (arc_value chunks.new) ≡ in_chunks (arc_value chunks.old)) }
 {
     let alloc = *pages.allocator();
     let chunk = Arc::new(alloc, copy_of(alloc, pages)?)?;
@@ -215,7 +223,8 @@ fn cut(chunks: &mut Chunks, kept: usize)
 
 /// Leaves only so many pages in a chunk, if memory for the shorter chunk is there.
 fn cut_chunk(chunk: &mut Arc<Chunk>, kept: usize)
-    ensures { (in_chunk (arc_value chunk.new) ≡ in_chunk (arc_value chunk.old)) ⊎ (in_chunk (arc_value chunk.new) ≡ take kept (in_chunk (arc_value chunk.old))) }
+    ensures { (in_chunk (arc_value chunk.new) ≡ in_chunk (arc_value chunk.old)) ⊎
+        (in_chunk (arc_value chunk.new) ≡ take kept (in_chunk (arc_value chunk.old))) }
 {
     if let Ok(pages) = Arc::make_mut(chunk) {
         pages.truncate(kept);

@@ -1,5 +1,5 @@
 ghost use Rattle.std.specs.Prelude.{◌≡◌, ◌∷◌, List, length, OnOk, OnErr};
-ghost use Rattle.tsc_page_base.specs.PageView.{PageView};
+ghost use Rattle.tsc_page_nodes.specs.PageView.{PageView};
 ghost use Rattle.tsc_cache.specs.Stacks.{IsExpiredTop, Drops};
 
 use crate::Config;
@@ -28,15 +28,17 @@ pub(crate) trait PageStack<P: IntervalPage> {
     fn push_front(&mut self, front: P) -> Result<(), NoMemory>
         ensures older { OnOk result (others self.new ≡ newest self.old ∷ others self.old) }
         ensures front { OnOk result (newest self.new ≡ P.view front) }
-        ensures unchanged { OnErr result (newest self.new ∷ others self.new ≡ newest self.old ∷ others self.old) };
+        ensures unchanged { OnErr result
+            (newest self.new ∷ others self.new ≡ newest self.old ∷ others self.old) };
 
     /// The top of the oldest page behind the front, where that page is to be dropped.
     fn expired_top(&self, config: &Config, now: Timestamp) -> Option<Timestamp>
         ensures { IsExpiredTop config.now now (others self.now) result };
 
-    /// Drops expired pages behind the front, from the oldest on, while there are enough of them. Gives the
-    /// latest of `floor` and of their tops, and how many were dropped.
+    /// Drops expired pages behind the front, from the oldest on, while there are enough of them.
+    /// Gives the latest of `floor` and of their tops, and how many were dropped.
     fn evict(&mut self, config: &Config, floor: Timestamp, now: Timestamp) -> (Timestamp, u64)
         ensures front { newest self.new ≡ newest self.old }
-        ensures dropped { Drops config.now floor now (others self.old) (others self.new) result.0 result.1 };
+        ensures dropped { Drops config.now floor now (others self.old) (others self.new) result.0
+            result.1 };
 }

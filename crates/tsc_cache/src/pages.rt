@@ -2,8 +2,8 @@ ghost use Rattle.std.specs.Prelude.{◌≡◌, ◌∷◌, [], true, false, optio
 ghost use Rattle.tsc_time.specs.Time.{is_before};
 ghost use Rattle.tsc_span.specs.Span.{is_empty_span, point};
 ghost use Rattle.tsc_span.specs.Cuts.{cut_of};
-ghost use Rattle.tsc_page_base.specs.KeysAbove.{IsLeastAbove};
-ghost use Rattle.tsc_page_base.specs.PageView.{has_room_for};
+ghost use Rattle.tsc_page_nodes.specs.KeysAbove.{IsLeastAbove};
+ghost use Rattle.tsc_page_nodes.specs.PageView.{has_room_for};
 ghost use Rattle.tsc_cache.specs.CacheView.{MarksFront, LooksIntoViews};
 ghost use Rattle.tsc_cache.specs.Stacks.{AreStacked, pages_answer};
 ghost use Rattle.tsc_cache.specs.CacheParts.{front_of, older_of, pages_of};
@@ -92,12 +92,15 @@ impl Pages {
         self.front.room(span)
     }
 
-    /// Adds a span with its value to the front page, or to a copy of it where others hold it too, and says
-    /// whether that page has room. Without room nothing changes.
+    /// Adds a span with its value to the front page, or to a copy of it where others hold it too,
+    /// and says whether that page has room. Without room nothing changes.
     pub(crate) fn mark_front(&mut self, span: &Span, value: Value) -> Result<bool, NoMemory>
         requires not_empty { is_empty_span span.now ≡ false }
         ensures room { IfOk result (λ done. done ≡ has_room_for (front_of self.old) span.now) }
-        ensures marked { IfOk result (λ done. done ≡ true → MarksFront (pages_of self.old) (pages_of self.new) (record { span = span.now; value = value })) }
+        ensures marked { IfOk result
+            (λ done. done ≡ true →
+            MarksFront (pages_of self.old) (pages_of self.new)
+            (record { span = span.now; value = value })) }
         ensures full { IfOk result (λ done. done ≡ false → pages_of self.new ≡ pages_of self.old) }
         ensures unchanged { OnErr result (pages_of self.new ≡ pages_of self.old) }
     {
@@ -113,10 +116,15 @@ impl Pages {
         }
     }
 
-    /// Adds a value at a single key to the front page, in place, and says whether that was done. Else nothing changes.
+    /// Adds a value at a single key to the front page, in place, and says whether that was done.
+    /// Else nothing changes.
     pub(crate) fn mark_key(&mut self, key: &KeyRef<'_>, value: Value) -> Result<bool, NoMemory>
-        ensures room { IfOk result (λ done. done ≡ true → has_room_for (front_of self.old) (point key.now) ≡ true) }
-        ensures marked { IfOk result (λ done. done ≡ true → MarksFront (pages_of self.old) (pages_of self.new) (record { span = point key.now; value = value })) }
+        ensures room { IfOk result
+            (λ done. done ≡ true → has_room_for (front_of self.old) (point key.now) ≡ true) }
+        ensures marked { IfOk result
+            (λ done. done ≡ true →
+            MarksFront (pages_of self.old) (pages_of self.new)
+            (record { span = point key.now; value = value })) }
         ensures left { IfOk result (λ done. done ≡ false → pages_of self.new ≡ pages_of self.old) }
         ensures unchanged { OnErr result (pages_of self.new ≡ pages_of self.old) }
     {
@@ -132,14 +140,14 @@ impl Pages {
         ensures value { result.0 ≡ pages_answer (pages_of self.now) span.now }
         ensures looked { LooksIntoViews span.now (pages_of self.now) result.1 }
     {
-        let mut best = self.front.lookup_in(span);
+        let mut best = self.front.lookup_ref(span);
         let mut looked = 1;
         for at in 0..self.older.len() {
             let page = self.older.get(at);
             if is_passed(page, best) {
                 return (best, looked);
             }
-            best = ratchet(best, page.lookup_in(span)).0;
+            best = ratchet(best, page.lookup_ref(span)).0;
             looked += 1;
         }
         (best, looked)
@@ -147,7 +155,8 @@ impl Pages {
 
     /// The least end key on all pages that lies above a cut.
     pub(crate) fn key_above(&self, cut: Cut<'_>) -> Option<&Key>
-        ensures { IsLeastAbove (cut_of cut.entry) (keys_seen (pages_of self.now)) (option_map (λ k. k.now) result) }
+        ensures { IsLeastAbove (cut_of cut.entry) (keys_seen (pages_of self.now))
+            (option_map (λ k. k.now) result) }
     {
         let mut least = self.front.key_above(cut);
         for at in 0..self.older.len() {
@@ -179,7 +188,8 @@ fn is_passed(page: &Page, best: Value) -> bool
 
 /// The lesser of two keys, as far as there are any.
 fn lesser<'a>(first: Option<&'a Key>, second: Option<&'a Key>) -> Option<&'a Key>
-    ensures { option_map (λ k. k.now) result ≡ lesser (option_map (λ k. k.now) first.entry) (option_map (λ k. k.now) second.entry) }
+    ensures { option_map (λ k. k.now) result ≡ lesser (option_map (λ k. k.now) first.entry)
+        (option_map (λ k. k.now) second.entry) }
 {
     match (first, second) {
         (Some(key), Some(other)) => { if other < key { Some(other) } else { Some(key) } }

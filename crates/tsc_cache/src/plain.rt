@@ -2,7 +2,7 @@ ghost use Rattle.std.specs.Prelude.{◌≡◌, ◌<◌, ◌+◌, ◌^◌, length
 ghost use Rattle.tsc_cache.specs.Settings.{fits};
 ghost use Rattle.tsc_cache.specs.Batch.{all_fit, is_any_kept, AddsAll};
 
-use crate::config::counted_on;
+use crate::config::saturating_inc;
 use crate::mark::is_any_kept;
 use crate::page_stack::PageStack;
 use crate::plain_pages::PlainPages;
@@ -16,9 +16,9 @@ use tsc_time::{NoMemory, Timestamp, Value, ratchet};
 
 /// The cache over plain lists of what was added.
 ///
-/// It makes the same promises as [`Cache`](crate::Cache), word for word, but has no `next`, no `next_all`, no
-/// `get_max_counted`, and no lookup by bytes. It is slow: a lookup looks at all that stands on its pages, and an Add compares all end
-/// keys of the front page with one another.
+/// It makes the same promises as [`Cache`](crate::Cache), word for word, but has no `next`, no
+/// `next_all`, no `get_max_counted`, and no lookup by bytes. It is slow: a lookup looks at all that
+/// stands on its pages, and an Add compares all end keys of the front page with one another.
 #[derive(Debug, Drop)]
 pub struct PlainCache {
     config: Config,
@@ -34,7 +34,12 @@ impl Model for PlainCache {
 
     ghost use Rattle.tsc_cache.specs.CacheParts.{plain_pages_of};
 
-    ghost view = { λ c. record { settings = c.config; floor = c.floor; pages = plain_pages_of c.pages; rotations = c.rotations } };
+    ghost view = { λ c. record {
+      settings = c.config;
+      floor = c.floor;
+      pages = plain_pages_of c.pages;
+      rotations = c.rotations;
+    } };
 }
 
 impl TimestampCache for PlainCache {
@@ -42,7 +47,7 @@ impl TimestampCache for PlainCache {
 
     ghost is_empty_free = { true };
 
-    /// It takes no memory until something is added.
+    /// An empty cache takes no memory until something is added.
     fn new(alloc: Global, config: Config) -> Result<PlainCache, NoMemory> {
         let front = PlainPage::new(alloc, config.page_first(), Timestamp::ZERO)?;
         Ok(PlainCache {
@@ -53,7 +58,7 @@ impl TimestampCache for PlainCache {
         })
     }
 
-    /// It compares all end keys of the front page with one another.
+    /// An Add compares all end keys of the front page with one another.
     fn add(&mut self, span: &Span, value: Value, now: Timestamp) -> Result<Added, CacheFault> {
         if !self.config.fits(span) {
             return Err(CacheFault::TooLarge);
@@ -75,7 +80,7 @@ impl TimestampCache for PlainCache {
         Ok(added)
     }
 
-    /// It looks at all that stands on the pages.
+    /// A lookup goes through all that stands on the pages.
     fn get_max(&self, span: &Span) -> Value {
         ratchet(self.pages.lookup(span), Value::unowned(self.floor)).0
     }
@@ -125,7 +130,7 @@ impl Rotate for PlainCache {
         self.pages.push_front(front)?;
         let (floor, evicted) = self.pages.evict(&self.config, self.floor, now);
         self.floor = floor;
-        self.rotations = counted_on(self.rotations);
+        self.rotations = saturating_inc(self.rotations);
         Ok(Added::after_rotation(evicted))
     }
 }

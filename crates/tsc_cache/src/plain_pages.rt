@@ -1,6 +1,6 @@
 ghost use Rattle.std.specs.Prelude.{◌≡◌, ◌∷◌, [], true, false, IfOk, OnOk, OnErr};
 ghost use Rattle.tsc_span.specs.Span.{is_empty_span};
-ghost use Rattle.tsc_page_base.specs.PageView.{has_room_for};
+ghost use Rattle.tsc_page_nodes.specs.PageView.{has_room_for};
 ghost use Rattle.tsc_cache.specs.CacheView.{MarksFront};
 ghost use Rattle.tsc_cache.specs.Stacks.{pages_answer};
 ghost use Rattle.tsc_cache.specs.CacheParts.{plain_front_of, plain_older_of, plain_pages_of};
@@ -95,7 +95,9 @@ impl PlainPages {
     pub(crate) fn mark_front(&mut self, span: &Span, value: Value) -> Result<(), NoMemory>
         requires not_empty { is_empty_span span.now ≡ false }
         requires room { has_room_for (plain_front_of self.old) span.now ≡ true }
-        ensures marked { OnOk result (MarksFront (plain_pages_of self.old) (plain_pages_of self.new) (record { span = span.now; value = value })) }
+        ensures marked { OnOk result
+            (MarksFront (plain_pages_of self.old) (plain_pages_of self.new)
+            (record { span = span.now; value = value })) }
         ensures unchanged { OnErr result (plain_pages_of self.new ≡ plain_pages_of self.old) }
     {
         self.front.add(span, value)

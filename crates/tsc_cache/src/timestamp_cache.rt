@@ -9,8 +9,9 @@ use std::alloc::Global;
 use tsc_span::Span;
 use tsc_time::{NoMemory, Timestamp, Value};
 
-/// What a timestamp cache promises, however it keeps what was added: [`Cache`](crate::Cache) on pages of sorted nodes, and
-/// [`PlainCache`](crate::PlainCache) over plain lists. What a call costs depends on the cache.
+/// What a timestamp cache promises, however it keeps what was added: [`Cache`](crate::Cache) on
+/// pages of sorted nodes, and [`PlainCache`](crate::PlainCache) over plain lists. What a call costs
+/// depends on the cache.
 ///
 /// It restates the interface `Cache` of CockroachDB's `pkg/kv/kvserver/tscache/cache.go`.
 pub trait TimestampCache: Drop {
@@ -20,53 +21,74 @@ pub trait TimestampCache: Drop {
     /// Whether an empty one takes no memory.
     ghost is_empty_free: { Bool };
 
-    /// A cache to which nothing was added. Its floor stands at the low-water time of the configuration.
+    /// A cache to which nothing was added. Its floor stands at the low-water time of the
+    /// configuration.
     fn new(alloc: Global, config: Config) -> Result<Self, NoMemory>
-        ensures stands { IfOk result (λ cache. StandsForState (view cache) config (opening config)) }
+        ensures stands { IfOk result
+            (λ cache. StandsForState (view cache) config (opening config)) }
         ensures memory { is_empty_free ≡ true → IsOk result };
 
-    /// Adds a span with its value, at the moment `now`: who read what, and when. Where memory is refused the
-    /// cache is as before. An Add of the empty span, or with a time at or below the floor, is not kept: it changes nothing and
-    /// takes no memory.
+    /// Adds a span with its value, at the moment `now`: who read what, and when. Where memory is
+    /// refused the cache is as before. An Add of the empty span, or with a time at or below the
+    /// floor, is not kept: it changes nothing and takes no memory.
     ///
-    /// It restates `intervalSkl.AddRange` of CockroachDB's `pkg/kv/kvserver/tscache/interval_skl.go`.
+    /// It restates `intervalSkl.AddRange` of CockroachDB's
+    /// `pkg/kv/kvserver/tscache/interval_skl.go`.
     fn add(&mut self, span: &Span, value: Value, now: Timestamp) -> Result<Added, CacheFault>
-        ensures stands { OnOk result (StandsAfter (view self.old) (view self.new) (record { span = span.now; value = value }) now) }
-        ensures added { IfOk result (TellsAdded (view self.old) (record { span = span.now; value = value }) now) }
-        ensures seen { IfOk result (λ added. Adds (view self.old) (view self.new) (record { span = span.now; value = value }) now added) }
-        ensures too_large { IsErrOf result CacheFault.TooLarge ↔ (fits (view self.old).settings span.now ≡ false) }
+        ensures stands { OnOk result
+            (StandsAfter (view self.old) (view self.new)
+            (record { span = span.now; value = value }) now) }
+        ensures added { IfOk result
+            (TellsAdded (view self.old) (record { span = span.now; value = value }) now) }
+        ensures seen { IfOk result
+            (λ added. Adds (view self.old) (view self.new)
+            (record { span = span.now; value = value }) now added) }
+        ensures too_large { IsErrOf result CacheFault.TooLarge ↔
+            (fits (view self.old).settings span.now ≡ false) }
         ensures unchanged { OnErr result (view self.new ≡ view self.old) }
-        ensures memory { fits (view self.old).settings span.now ≡ true → is_kept (view self.old).floor (record { span = span.now; value = value }) ≡ false → IsOk result };
+        ensures memory { fits (view self.old).settings span.now ≡ true →
+            is_kept (view self.old).floor (record { span = span.now; value = value }) ≡ false →
+            IsOk result };
 
-    /// Adds all of these marks at the moment `now`, one after another, or none: where one is too large or memory is
-    /// refused, the cache is as before. Where none is kept nothing changes, and no memory is taken.
+    /// Adds all of these marks at the moment `now`, one after another, or none: where one is too
+    /// large or memory is refused, the cache is as before. Where none is kept nothing changes, and
+    /// no memory is taken.
     fn add_all(&mut self, marks: &[Mark], now: Timestamp) -> Result<Added, CacheFault>
-        ensures stands { OnOk result (StandsAfterAll (view self.old) (view self.new) marks.now now) }
+        ensures stands { OnOk result
+            (StandsAfterAll (view self.old) (view self.new) marks.now now) }
         ensures added { IfOk result (TellsAddedAll (view self.old) marks.now now) }
-        ensures seen { IfOk result (λ added. AddsAll (view self.old) (view self.new) marks.now now added) }
-        ensures too_large { IsErrOf result CacheFault.TooLarge ↔ (all_fit (view self.old).settings marks.now ≡ false) }
+        ensures seen { IfOk result
+            (λ added. AddsAll (view self.old) (view self.new) marks.now now added) }
+        ensures too_large { IsErrOf result CacheFault.TooLarge ↔
+            (all_fit (view self.old).settings marks.now ≡ false) }
         ensures unchanged { OnErr result (view self.new ≡ view self.old) }
-        ensures memory { all_fit (view self.old).settings marks.now ≡ true → is_any_kept (view self.old).floor marks.now ≡ false → IsOk result };
+        ensures memory { all_fit (view self.old).settings marks.now ≡ true →
+            is_any_kept (view self.old).floor marks.now ≡ false → IsOk result };
 
-    /// What the floor, and each Add that overlaps the span, come to together: the latest of their times, with
-    /// its owner where all of that time are of one owner.
+    /// What the floor, and each Add that overlaps the span, come to together: the latest of their
+    /// times, with its owner where all of that time are of one owner.
     fn get_max(&self, span: &Span) -> Value
         ensures value { result ≡ cache_answer (view self.now) span.now }
-        ensures stands { (settings : Settings) (s : CacheState) → StandsForState (view self.now) settings s → result ≡ look s span.now };
+        ensures stands { (settings : Settings) (s : CacheState) →
+            StandsForState (view self.now) settings s → result ≡ look s span.now };
 
-    /// Where the floor stands. Whoever has a cache also learns here that its settings are within their limits.
+    /// Where the floor stands. Whoever has a cache also learns here that its settings are within
+    /// their limits.
     fn low_water(&self) -> Timestamp
         ensures value { result ≡ (view self.now).floor }
         ensures limits { IsWithinLimits (view self.now).settings }
-        ensures stands { (settings : Settings) (s : CacheState) → StandsForState (view self.now) settings s → result ≡ s.floor };
+        ensures stands { (settings : Settings) (s : CacheState) →
+            StandsForState (view self.now) settings s → result ≡ s.floor };
 
     /// How many pages there are.
     fn pages(&self) -> usize
         ensures value { result ≡ length (view self.now).pages }
-        ensures stands { (settings : Settings) (s : CacheState) → StandsForState (view self.now) settings s → result ≡ length s.pages };
+        ensures stands { (settings : Settings) (s : CacheState) →
+            StandsForState (view self.now) settings s → result ≡ length s.pages };
 
     /// How often the pages rotated. The count stays at 2^64 - 1 once it is there.
     fn rotations(&self) -> u64
         ensures value { result ≡ (view self.now).rotations }
-        ensures stands { (settings : Settings) (s : CacheState) → StandsForState (view self.now) settings s → result ≡ s.rotations };
+        ensures stands { (settings : Settings) (s : CacheState) →
+            StandsForState (view self.now) settings s → result ≡ s.rotations };
 }

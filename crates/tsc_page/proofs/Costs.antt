@@ -8,26 +8,34 @@ use Rattle.std.proofs.lemmas.List.Sums.{sum_by-cons}
 use Rattle.tsc_time.specs.Time.{zero_time}
 use Rattle.tsc_time.specs.OwnedTime.{unowned}
 use Rattle.tsc_span.specs.Span.{KeyBytes, Interval, key_cost, end_keys}
-use Rattle.tsc_page_base.specs.Page.{cost_distinct}
-use Rattle.tsc_page_base.specs.PageView.{is_in, new_weight}
-use Rattle.tsc_page_base.specs.Nodes.{Node, node_keys, nodes_cost, found_cost, GrowsBy, IsSorted, IsNewKey, with_new, node_in_gap}
+use Rattle.tsc_page_nodes.specs.Page.{cost_distinct}
+use Rattle.tsc_page_nodes.specs.PageView.{is_in, new_weight}
+use Rattle.tsc_page_nodes.specs.Nodes.{Node, node_keys, nodes_cost, found_cost, GrowsBy, IsSorted, IsNewKey, with_new, node_in_gap}
 use Rattle.tsc_page_tree.specs.Leaves.{HasNode}
-use Rattle.tsc_page_base.proofs.Costs.{cost-new}
-use Rattle.tsc_page_base.proofs.NewKeys.{with_new-length, new_fits}
-use Rattle.tsc_page_base.proofs.Standing.{weigh_with_ends}
+use Rattle.tsc_page_nodes.proofs.Costs.{cost-new}
+use Rattle.tsc_page_nodes.proofs.NewKeys.{with_new-length, new_fits}
+use Rattle.tsc_page_nodes.proofs.Standing.{weigh_with_ends}
 
 -- what nodes cost with the end keys of a span that are new
-pub cost_with_ends : (ns : List Node) (o p : Option KeyBytes) (s : Interval) (bytes : ℕ) → IsSorted ns → option_to_list o ++ option_to_list p ≡ end_keys s → bytes ≡ nodes_cost ns
-    → bytes + new_weight key_cost (node_keys ns) o + new_weight key_cost (node_keys ns) p ≡ cost_distinct (node_keys ns ++ end_keys s)
-cost_with_ends ns o p s bytes sorted keys is = omega (arith, is, weigh_with_ends key_cost ns o p s sorted keys)
+pub cost_with_ends : (ns : List Node) (o p : Option KeyBytes) (s : Interval) (bytes : ℕ) →
+    IsSorted ns → option_to_list o ++ option_to_list p ≡ end_keys s → bytes ≡ nodes_cost ns
+    → bytes + new_weight key_cost (node_keys ns) o + new_weight key_cost (node_keys ns) p ≡
+    cost_distinct (node_keys ns ++ end_keys s)
+cost_with_ends ns o p s bytes sorted keys is =
+    omega (arith, is, weigh_with_ends key_cost ns o p s sorted keys)
 
 -- so what is told of the room for two keys holds of the span
-pub room_told : (ns : List Node) (o p : Option KeyBytes) (s : Interval) (bytes most : ℕ) (has : Bool) → IsSorted ns → option_to_list o ++ option_to_list p ≡ end_keys s → bytes ≡ nodes_cost ns
-    → has ≡ nat_le (bytes + new_weight key_cost (node_keys ns) o + new_weight key_cost (node_keys ns) p) most → has ≡ nat_le (cost_distinct (node_keys ns ++ end_keys s)) most
-room_told ns o p s bytes most has sorted keys is told = told ∙ ap (λ (n : ℕ). nat_le n most) (cost_with_ends ns o p s bytes sorted keys is)
+pub room_told : (ns : List Node) (o p : Option KeyBytes) (s : Interval) (bytes most : ℕ)
+    (has : Bool) → IsSorted ns → option_to_list o ++ option_to_list p ≡ end_keys s →
+    bytes ≡ nodes_cost ns
+    → has ≡ nat_le (bytes + new_weight key_cost (node_keys ns) o + new_weight key_cost
+    (node_keys ns) p) most → has ≡ nat_le (cost_distinct (node_keys ns ++ end_keys s)) most
+room_told ns o p s bytes most has sorted keys is told =
+    told ∙ ap (λ (n : ℕ). nat_le n most) (cost_with_ends ns o p s bytes sorted keys is)
 
 -- a key costs no more where it may be known
-new_up_to : (ks : List KeyBytes) (o : Option KeyBytes) → new_weight key_cost ks o ≤ new_weight key_cost [] o
+new_up_to : (ks : List KeyBytes) (o : Option KeyBytes) →
+    new_weight key_cost ks o ≤ new_weight key_cost [] o
 new_up_to ks None = omega arith
 new_up_to ks (Some k) = by (is_in k ks)
   where
@@ -36,21 +44,29 @@ new_up_to ks (Some k) = by (is_in k ks)
     by false = omega arith
 
 -- where there is room for both keys there is room for the new ones
-pub fits_anyway : (ks : List KeyBytes) (o p : Option KeyBytes) (bytes most one two : ℕ) → one ≡ new_weight key_cost [] o → two ≡ new_weight key_cost [] p → bytes + one + two ≤ most
+pub fits_anyway : (ks : List KeyBytes) (o p : Option KeyBytes) (bytes most one two : ℕ) →
+    one ≡ new_weight key_cost [] o → two ≡ new_weight key_cost [] p → bytes + one + two ≤ most
     → true ≡ nat_le (bytes + new_weight key_cost ks o + new_weight key_cost ks p) most
-fits_anyway ks o p bytes most one two is also few = sym (le-leb (bytes + new_weight key_cost ks o + new_weight key_cost ks p) most (omega (arith, few, is, also, new_up_to ks o, new_up_to ks p)))
+fits_anyway ks o p bytes most one two is also few =
+    sym (le-leb (bytes + new_weight key_cost ks o + new_weight key_cost ks p) most
+    (omega (arith, few, is, also, new_up_to ks o, new_up_to ks p)))
 
 -- a key that is not found has a place
-found_for : (ns : List Node) (k : KeyBytes) (f : Option (ℕ × KeyBytes)) → IsNewKey ns (Some k) f → not (is_in k (node_keys ns)) ≡ true → (length (with_new ns f) ≡ length ns + 1) × (found_cost f ≡ key_cost k)
+found_for : (ns : List Node) (k : KeyBytes) (f : Option (ℕ × KeyBytes)) → IsNewKey ns (Some k) f →
+    not (is_in k (node_keys ns)) ≡ true → (length (with_new ns f) ≡ length ns + 1) ×
+    (found_cost f ≡ key_cost k)
 found_for ns k None new fresh = absurd (differ (is_in k (node_keys ns)) new fresh)
   where
     differ : (b : Bool) → b ≡ true → not b ≡ true → ⊥
     differ true g h = true≢false (sym h)
     differ false g h = true≢false (sym g)
-found_for ns k (Some f) new fresh = (with_new-length ns (Some f) (new_fits ns (Some k) (Some f) new), ap key_cost new.0)
+found_for ns k (Some f) new fresh =
+    (with_new-length ns (Some f) (new_fits ns (Some k) (Some f) new), ap key_cost new.0)
 
 -- what the node of a new key makes of nodes
-pub grown_by_node : (old new : List Node) (k : KeyBytes) (bytes : ℕ) → HasNode old new k → not (is_in k (node_keys old)) ≡ true → bytes ≡ key_cost k → GrowsBy old new (record { nodes = 1; bytes = bytes })
+pub grown_by_node : (old new : List Node) (k : KeyBytes) (bytes : ℕ) → HasNode old new k →
+    not (is_in k (node_keys old)) ≡ true → bytes ≡ key_cost k →
+    GrowsBy old new (record { nodes = 1; bytes = bytes })
 grown_by_node old new k bytes made fresh is =
     let found = found_for old k made.found made.at fresh in
     record {
@@ -59,9 +75,15 @@ grown_by_node old new k bytes made fresh is =
     }
 
 -- and of none
-pub grown_by_first : (old new : List Node) (k : KeyBytes) (bytes : ℕ) → old ≡ [] → new ≡ node_in_gap k (unowned zero_time) ∷ [] → bytes ≡ key_cost k → GrowsBy old new (record { nodes = 1; bytes = bytes })
+pub grown_by_first : (old new : List Node) (k : KeyBytes) (bytes : ℕ) → old ≡ [] →
+    new ≡ node_in_gap k (unowned zero_time) ∷ [] → bytes ≡ key_cost k →
+    GrowsBy old new (record { nodes = 1; bytes = bytes })
 grown_by_first old new k bytes none one is = record {
-  count = omega (arith, ap (λ (ns : List Node). length ns) none, ap (λ (ns : List Node). length ns) one);
+  count = omega (
+    arith,
+    ap (λ (ns : List Node). length ns) none,
+    ap (λ (ns : List Node). length ns) one,
+  );
   cost = omega (arith, ap nodes_cost none, ap nodes_cost one, sum_by-cons key_cost k [], is);
 }
 

@@ -3,3 +3,5 @@ pub mod Refusals
 pub mod Costs
 pub mod KeysAbove
 pub mod KeyEnds
+pub mod PageAdds
+pub mod PlainMarks

@@ -1,16 +1,18 @@
 -- What the root of a page's tree and the tree stand for, and when they are as they have to be.
-use Rattle.std.specs.Prelude.{◌≡◌, List, ◌++◌, length, map, ℕ, ◌≤◌, true, Option, option_to_list}
+use Rattle.std.specs.Prelude.{◌≡◌, List, ◌++◌, length, map, ℕ, ◌<◌, ◌≤◌, Bool, true, false, Option, Some, None, Result, Ok, Err, option_to_list}
 use Rattle.std.specs.List.{All}
-use Rattle.tsc_span.specs.Span.{KeyBytes, Cut, between, is_below, end_keys}
-use Rattle.tsc_page_base.specs.Nodes.{Node, IsSorted, nodes_cost}
-use Rattle.tsc_page_tree.specs.Leaves.{nodes_of, LiesAt}
+use Rattle.tsc_time.specs.OwnedTime.{OwnedTime}
+use Rattle.tsc_span.specs.Span.{Interval, between, is_below, is_empty_span, end_keys}
+use Rattle.tsc_page_nodes.specs.Page.{cost_distinct}
+use Rattle.tsc_page_nodes.specs.Nodes.{Node, IsSorted, node_keys, nodes_cost}
+use Rattle.tsc_page_nodes.specs.Additions.{Addend, LiesAt}
+use Rattle.tsc_page_tree.specs.Leaves.{nodes_of, AddsTo}
 use Rattle.tsc_page_tree.specs.Pending.{sizes_of, AreSizesOf}
 use Rattle.tsc_page_tree.specs.Trees.{leaf_nodes, leaf_sizes, IsWholeLeaf, fork_nodes, fork_sizes, IsWholeFork, AreFewParts}
 use Rattle.tsc_page_tree.specs.declared.leaf.Leaf.{Leaf}
 use Rattle.tsc_page_tree.specs.declared.fork.Fork.{Fork}
 use Rattle.tsc_page.specs.declared.root.Root.{Root}
 use Rattle.tsc_page.specs.declared.root.Root.TheVariants.{One, Two, Three, Four}
-use Rattle.tsc_page.specs.declared.tree.Tree.{Tree}
 
 -- forks of leaves
 abbrev pub two_nodes : Fork Leaf → List Node
@@ -32,7 +34,7 @@ three_sizes = fork_sizes two_sizes
 abbrev pub IsWholeThree : Fork (Fork Leaf) → Type 0
 IsWholeThree = IsWholeFork two_nodes two_sizes IsWholeTwo
 
--- and of these
+-- the nodes of a fork over forks over forks of leaves
 abbrev pub four_nodes : Fork (Fork (Fork Leaf)) → List Node
 four_nodes = fork_nodes three_nodes
 
@@ -49,7 +51,7 @@ root_nodes (Two ps) = nodes_of (map two_nodes ps.items)
 root_nodes (Three ps) = nodes_of (map three_nodes ps.items)
 root_nodes (Four ps) = nodes_of (map four_nodes ps.items)
 
--- and the sizes of their leaves
+-- the sizes of a root's leaves
 abbrev pub root_sizes : Root → List ℕ
 root_sizes (One ps) = sizes_of (map leaf_sizes ps.items)
 root_sizes (Two ps) = sizes_of (map two_sizes ps.items)
@@ -63,25 +65,64 @@ IsWholeRoot (Two ps) = AreFewParts IsWholeTwo ps.items
 IsWholeRoot (Three ps) = AreFewParts IsWholeThree ps.items
 IsWholeRoot (Four ps) = All IsWholeFour ps.items × (1 ≤ length ps.items)
 
--- all nodes
-abbrev pub tree_nodes : Tree → List Node
-tree_nodes t = root_nodes t.root
-
--- and the sizes of their leaves
-abbrev pub tree_sizes : Tree → List ℕ
-tree_sizes t = root_sizes t.root
+-- What can be seen of a tree: its nodes, how many of them each leaf has, and what their keys cost.
+pub record TreeView : Type 0 where
+  pub nodes : List Node
+  pub sizes : List ℕ
+  pub bytes : ℕ
 
 -- Parts in order, how many nodes they have, and what these cost.
-pub record IsCounted (t : Tree) : Type 0 where
-  pub whole : IsWholeRoot t.root
-  pub sorted : IsSorted (tree_nodes t)
-  pub sizes : AreSizesOf (tree_sizes t) (tree_nodes t)
-  pub count : t.count ≡ length (tree_nodes t)
-  pub bytes : t.bytes ≡ nodes_cost (tree_nodes t)
+pub record IsCounted (r : Root) (n b : ℕ) : Type 0 where
+  pub whole : IsWholeRoot r
+  pub sorted : IsSorted (root_nodes r)
+  pub sizes : AreSizesOf (root_sizes r) (root_nodes r)
+  pub count : n ≡ length (root_nodes r)
+  pub bytes : b ≡ nodes_cost (root_nodes r)
 
--- Two cuts, and the keys at them for which the span between these needs nodes.
-pub record AreEnds (lower upper : Option KeyBytes) (from to : Cut) : Type 0 where
-  pub order : is_below from to ≡ true
-  pub first : LiesAt lower from
-  pub second : LiesAt upper to
-  pub keys : option_to_list lower ++ option_to_list upper ≡ end_keys (between from to)
+-- What is known of a tree by what can be seen of it.
+pub record IsKnown (t : TreeView) : Type 0 where
+  pub sorted : IsSorted t.nodes
+  pub sizes : AreSizesOf t.sizes t.nodes
+  pub bytes : t.bytes ≡ nodes_cost t.nodes
+
+-- Two cuts in order, and the keys at them for which the span between these needs nodes.
+pub record AreEnds (a : Addend) : Type 0 where
+  pub order : is_below a.from a.to ≡ true
+  pub first : LiesAt a.first a.from
+  pub second : LiesAt a.second a.to
+  pub keys : option_to_list a.first ++ option_to_list a.second ≡ end_keys (between a.from a.to)
+
+-- what is inserted of a span and a value, unless the span is empty
+abbrev pub IsInsertionOf : Interval → OwnedTime → Option Addend → Type 0
+IsInsertionOf span v (Some a) = (between a.from a.to ≡ span) × (a.value ≡ v)
+IsInsertionOf span v None = is_empty_span span ≡ true
+
+-- What inserting makes of a tree, whose keys then cost no more than so many bytes.
+pub record Inserts (old new : TreeView) (a : Addend) (most : ℕ) : Type 0 where
+  pub order : is_below a.from a.to ≡ true
+  pub adds : AddsTo old.nodes new.nodes (between a.from a.to) a.value
+  pub within : new.bytes ≤ most
+  pub known : IsKnown new
+
+-- the keys would cost more
+abbrev pub IsFullFor : TreeView → Addend → ℕ → Type 0
+IsFullFor t a most = most < cost_distinct (node_keys t.nodes ++ end_keys (between a.from a.to))
+
+-- what a call tells that inserts where there is room, and else leaves all as it is
+abbrev pub IsInsertTold : {E : Type 0} → (old new : TreeView) → Addend → ℕ → Result Bool E → Type 0
+IsInsertTold old new a most (Ok true) = Inserts old new a most
+IsInsertTold old new a most (Ok false) = IsFullFor old a most × (new ≡ old)
+IsInsertTold old new a most (Err e) = new ≡ old
+
+-- what one tells that may leave all as it is where there is room too
+abbrev pub IsTryTold : {E : Type 0} → (old new : TreeView) → Addend → ℕ → Result Bool E → Type 0
+IsTryTold old new a most (Ok true) = Inserts old new a most
+IsTryTold old new a most (Ok false) = new ≡ old
+IsTryTold old new a most (Err e) = new ≡ old
+
+-- and what one tells that makes another tree
+abbrev pub IsInsertedTold : {E : Type 0} → TreeView → Addend → ℕ →
+    Result (Option TreeView) E → Type 0
+IsInsertedTold old a most (Ok (Some new)) = Inserts old new a most
+IsInsertedTold old a most (Ok None) = IsFullFor old a most
+IsInsertedTold old a most (Err e) = Unit {0}

@@ -3,22 +3,24 @@ ghost use Rattle.tsc_time.specs.Joint.{joint_above};
 ghost use Rattle.tsc_time.specs.Time.{zero_time, is_before, later};
 ghost use Rattle.tsc_span.specs.Span.{is_empty_span, end_keys, point};
 ghost use Rattle.tsc_span.specs.Cuts.{cut_of};
-ghost use Rattle.tsc_page_base.specs.Limits.{least_size, most_size};
-ghost use Rattle.tsc_page_base.specs.Page.{PageMarks, top, values_on, marked_keys, count_distinct, has_room};
-ghost use Rattle.tsc_page_base.specs.KeysAbove.{IsLeastAbove};
-ghost use Rattle.tsc_page_base.specs.PageView.{AreLeafSizes, StandsFor, StandsWith, HasKeysWith, AnswersWith, NoAnswerAboveTop, answer, has_room_for};
+ghost use Rattle.tsc_page_nodes.specs.Limits.{least_size, most_size};
+ghost use Rattle.tsc_page_nodes.specs.Page.{PageMarks, top, values_on, marked_keys, count_distinct, has_room};
+ghost use Rattle.tsc_page_nodes.specs.KeysAbove.{IsLeastAbove};
+ghost use Rattle.tsc_page_nodes.specs.PageAdds.{IsMarkTold, IsMarkedTold};
+ghost use Rattle.tsc_page_nodes.specs.PageView.{AreLeafSizes, StandsFor, StandsWith, HasKeysWith, AnswersWith, NoAnswerAboveTop, answer, has_room_for};
 
+use crate::insertion::Insertion;
 use crate::tree::Tree;
 use std::alloc::Global;
 use std::marker::Model;
-use tsc_page_base::{IntervalPage, KeyAddition};
-use tsc_span::{Cut, Key, KeyRef, Span, SpanRef};
+use tsc_page_nodes::{IntervalPage, KeyAddition};
+use tsc_span::{AddSpan, Cut, Key, KeyRef, Span, SpanRef};
 use tsc_time::{NoMemory, Timestamp, Value};
 
 /// One page of the cache: what was added to it, as sorted nodes.
 ///
-/// A page holds end keys that cost no more than its size, and answers a lookup by its nodes alone. So its
-/// cost does not depend on how many spans were added.
+/// A page holds end keys that cost no more than its size, and answers a lookup by its nodes alone.
+/// So its cost does not depend on how many spans were added.
 #[derive(Debug, Drop)]
 pub struct Page {
     size: u32,
@@ -28,17 +30,18 @@ pub struct Page {
 
 impl Model for Page {
     ghost use Rattle.std.specs.Prelude.{◌≡◌, ◌≤◌};
-    ghost use Rattle.tsc_page_base.specs.Limits.{least_size, most_size};
-    ghost use Rattle.tsc_page_base.specs.PageView.{PageView, NoAnswerAboveTop};
-    ghost use Rattle.tsc_page_base.specs.Nodes.{page_of};
-    ghost use Rattle.tsc_page.specs.Roots.{tree_nodes, tree_sizes, IsCounted};
+    ghost use Rattle.tsc_page_nodes.specs.Limits.{least_size, most_size};
+    ghost use Rattle.tsc_page_nodes.specs.PageView.{PageView, NoAnswerAboveTop};
+    ghost use Rattle.tsc_page_nodes.specs.Nodes.{page_of};
+    ghost use Rattle.tsc_page.specs.Roots.{IsKnown};
 
     ghost Value = { PageView };
 
-    ghost view = { λ p. page_of p.size p.top (tree_nodes p.tree) (tree_sizes p.tree) };
+    ghost view = { λ p. page_of p.size p.top p.tree.nodes p.tree.sizes };
 
-    ghost invariant = { λ p. IsCounted p.tree × (p.tree.bytes ≤ p.size) × (least_size ≤ p.size) × (p.size ≤ most_size)
-        × NoAnswerAboveTop (page_of p.size p.top (tree_nodes p.tree) (tree_sizes p.tree)) };
+    ghost invariant = { λ p. IsKnown p.tree × (p.tree.bytes ≤ p.size) × (least_size ≤ p.size) ×
+        (p.size ≤ most_size)
+        × NoAnswerAboveTop (page_of p.size p.top p.tree.nodes p.tree.sizes) };
 }
 
 impl IntervalPage for Page {
@@ -60,52 +63,46 @@ impl IntervalPage for Page {
         self.tree.bytes()
     }
 
-    /// It costs a search for each end key.
+    /// The question costs a search for each end key.
     fn room(&self, span: &Span) -> bool {
+        let span = span.for_add();
         let (first, second) = span.end_keys();
         self.tree.has_room(first, second, self.size)
     }
 
-    /// Adds a span with its value. The span is not empty, and the page has room for it. Where memory is
-    /// refused the page is as before, and so are its leaves.
+    /// Adds a span with its value. The span is not empty, and the page has room for it. Where
+    /// memory is refused the page is as before, and so are its leaves.
     ///
-    /// It is made in place where the span lies in one leaf that would not come to have 65 nodes, or both its end keys have nodes
-    /// and no copy of the page shares the way to the leaves in which it starts and stops. That costs a search in each part on
-    /// the way and one for each end key, a copy of each end key that is new to the page, a move of a leaf's nodes above a new
-    /// one, and a step for each node within the span in the leaves in which it starts and stops, and for each part between
-    /// these. Each list on the way and the leaf are copied first where a copy of the page shares them, and so is a leaf's list of
-    /// keys that gets a new one. Where none does, a span whose end keys the page holds already takes no memory. What is
-    /// pending on the way is ratcheted into the parts below it, but for a single key, which needs one search on each level and leaves
-    /// it pending. Any other Add copies the list at the top and the way to each
-    /// leaf that it changes; a leaf that comes to have 65 nodes is cut into its first 32 and its last 33, and so is a fork of
-    /// 65 parts. Where there may be no room for both end keys, each is searched for once more.
+    /// It is made in place where the span lies in one leaf that would not come to have 65 nodes, or
+    /// both its end keys have nodes and no copy of the page shares the way to the leaves in which
+    /// it starts and stops. That costs a search in each part on the way and one for each end key, a
+    /// copy of each end key that is new to the page, a move of a leaf's nodes above a new one, and
+    /// a step for each node within the span in the leaves in which it starts and stops, and for
+    /// each part between these. Each list on the way and the leaf are copied first where a copy of
+    /// the page shares them, and so is a leaf's list of keys that gets a new one. Where none does,
+    /// a span whose end keys the page holds already takes no memory. What is pending on the way is
+    /// ratcheted into the parts below it, but for a single key, which needs one search on each
+    /// level and leaves it pending. Any other Add copies the list at the top and the way to each
+    /// leaf that it changes; a leaf that comes to have 65 nodes is cut into its first 32 and its
+    /// last 33, and so is a fork of 65 parts. Where there may be no room for both end keys, each is
+    /// searched for once more.
     fn add(&mut self, span: &Span, value: Value) -> Result<(), NoMemory> {
         self.try_add(span, value)?;
         Ok(())
     }
 
-    /// It costs what [`add`](IntervalPage::add) does.
+    /// The Add costs what [`add`](IntervalPage::add) does.
     fn try_add(&mut self, span: &Span, value: Value) -> Result<bool, NoMemory> {
-        let Some((from, to)) = span.cuts() else {
-            unreachable!()
-        };
-        let (first, second) = span.end_keys();
-        if !self
-            .tree
-            .try_add(first, second, from, to, value, self.size)?
-        {
-            return Ok(false);
-        }
-        self.top = self.top.max(value.time());
-        Ok(true)
+        self.add_span(&span.for_add(), value)
     }
 
-    /// The joint value of time zero without an owner and of all that was added and overlaps the span. It costs a search in
-    /// each part on the way to the leaves in which the span starts and stops, a step for each node within it there, and one for
-    /// each part between these. A search compares keys by their first twenty-four bytes, and reads what is behind these only
-    /// where they are the same.
+    /// The joint value of time zero without an owner and of all that was added and overlaps the
+    /// span. It costs a search in each part on the way to the leaves in which the span starts and
+    /// stops, a step for each node within it there, and one for each part between these. A search
+    /// compares keys by their first twenty-four bytes, and reads what is behind these only where
+    /// they are the same.
     fn lookup(&self, span: &Span) -> Value {
-        self.lookup_in(&span.borrowed())
+        self.lookup_ref(&span.borrowed())
     }
 
     fn top(&self) -> Timestamp {
@@ -116,7 +113,8 @@ impl IntervalPage for Page {
         self.tree.len() as u32
     }
 
-    /// It shares the leaves, and takes the memory of the list of parts at the top of their tree.
+    /// The copy shares the leaves, and takes the memory of the list of parts at the top of their
+    /// tree.
     fn try_copy(&self) -> Result<Page, NoMemory> {
         Ok(Page {
             size: self.size,
@@ -127,25 +125,54 @@ impl IntervalPage for Page {
 }
 
 impl Page {
-    /// The page with one more span and its value, where it has room for that; `None` where it has not. The span is not empty,
-    /// and this page stays as it is.
+    /// The page with one more span and its value, where it has room for that; `None` where it has
+    /// not. The span is not empty, and this page stays as it is.
     ///
-    /// It is for a page that others go on to read: it copies the list at the top and the way to each leaf that changes, shares all
-    /// else, and never tries to add in place.
+    /// It is for a page that others go on to read: it copies the list at the top and the way to
+    /// each leaf that changes, shares all else, and never tries to add in place.
     pub fn added(&self, span: &Span, value: Value) -> Result<Option<Page>, NoMemory>
         requires not_empty { is_empty_span span.now ≡ false }
         ensures room { IfOk result (λ made. is_some made ≡ has_room_for self.now span.now) }
-        ensures stands { IfOk result (λ made. IfSome made (λ page. StandsWith self.now page (record { span = span.now; value = value }))) }
+        ensures stands { IfOk result
+            (λ made. IfSome made (λ page. StandsWith self.now page
+            (record { span = span.now; value = value }))) }
         ensures size { IfOk result (λ made. IfSome made (λ page. page.size ≡ self.now.size)) }
-        ensures top { IfOk result (λ made. IfSome made (λ page. page.top ≡ later self.now.top value.time)) }
-        ensures keys { IfOk result (λ made. IfSome made (λ page. HasKeysWith self.now page span.now)) }
-        ensures answers { IfOk result (λ made. IfSome made (λ page. AnswersWith self.now page span.now value)) }
+        ensures top { IfOk result (λ made. IfSome made
+            (λ page. page.top ≡ later self.now.top value.time)) }
+        ensures keys { IfOk result
+            (λ made. IfSome made (λ page. HasKeysWith self.now page span.now)) }
+        ensures answers { IfOk result
+            (λ made. IfSome made (λ page. AnswersWith self.now page span.now value)) }
     {
-        let Some((from, to)) = span.cuts() else {
+        self.added_span(&span.for_add(), value)
+    }
+
+    /// As [`try_add`](IntervalPage::try_add), over keys that lie elsewhere. A key that the page
+    /// holds is neither copied nor takes memory, unless a copy of the page shares the way to it; a
+    /// new one is copied once.
+    pub fn add_span(&mut self, span: &AddSpan<'_>, value: Value) -> Result<bool, NoMemory>
+        requires not_empty { is_empty_span span.now ≡ false }
+        ensures told { IsMarkTold self.old self.new span.now value result }
+    {
+        let Some(add) = Insertion::new(span, value) else {
             unreachable!()
         };
-        let (first, second) = span.end_keys();
-        let Some(tree) = self.tree.added(first, second, from, to, value, self.size)? else {
+        if !self.tree.insert(&add, self.size)? {
+            return Ok(false);
+        }
+        self.top = self.top.max(value.time());
+        Ok(true)
+    }
+
+    /// As [`added`](Page::added), over keys that lie elsewhere.
+    pub fn added_span(&self, span: &AddSpan<'_>, value: Value) -> Result<Option<Page>, NoMemory>
+        requires not_empty { is_empty_span span.now ≡ false }
+        ensures told { IsMarkedTold self.now span.now value result }
+    {
+        let Some(add) = Insertion::new(span, value) else {
+            unreachable!()
+        };
+        let Some(tree) = self.tree.inserted(&add, self.size)? else {
             return Ok(None);
         };
         Ok(Some(Page {
@@ -155,18 +182,24 @@ impl Page {
         }))
     }
 
-    /// Adds a value at a single key in place, where its way in the tree allows that and there is room, and says whether it did. Else
-    /// the page stays as it is, and where memory is refused.
+    /// Adds a value at a single key in place, where its way in the tree allows that and there is
+    /// room, and says whether it did. Else the page stays as it is, and where memory is refused.
     ///
-    /// It costs one search on each level. A key that the page holds is neither copied nor takes memory, unless a copy of the page
-    /// shares the way to it; a new one is copied once.
+    /// It costs one search on each level. A key that the page holds is neither copied nor takes
+    /// memory, unless a copy of the page shares the way to it; a new one is copied once.
     pub fn add_key(&mut self, key: &KeyRef<'_>, value: Value) -> Result<bool, NoMemory>
-        ensures room { IfOk result (λ done. done ≡ true → has_room_for self.old (point key.now) ≡ true) }
-        ensures stands { IfOk result (λ done. done ≡ true → StandsWith self.old self.new (record { span = point key.now; value = value })) }
+        ensures room { IfOk result
+            (λ done. done ≡ true → has_room_for self.old (point key.now) ≡ true) }
+        ensures stands { IfOk result
+            (λ done. done ≡ true →
+            StandsWith self.old self.new (record { span = point key.now; value = value })) }
         ensures size { self.new.size ≡ self.old.size }
-        ensures top { IfOk result (λ done. done ≡ true → self.new.top ≡ later self.old.top value.time) }
-        ensures keys { IfOk result (λ done. done ≡ true → HasKeysWith self.old self.new (point key.now)) }
-        ensures answers { IfOk result (λ done. done ≡ true → AnswersWith self.old self.new (point key.now) value) }
+        ensures top { IfOk result (λ done. done ≡ true →
+            self.new.top ≡ later self.old.top value.time) }
+        ensures keys { IfOk result
+            (λ done. done ≡ true → HasKeysWith self.old self.new (point key.now)) }
+        ensures answers { IfOk result
+            (λ done. done ≡ true → AnswersWith self.old self.new (point key.now) value) }
         ensures left { IfOk result (λ done. done ≡ false → self.new ≡ self.old) }
         ensures unchanged { OnErr result (self.new ≡ self.old) }
     {
@@ -178,37 +211,42 @@ impl Page {
     }
 
     /// As [`lookup`](Page::lookup), over keys that lie elsewhere.
-    pub fn lookup_in(&self, span: &SpanRef<'_>) -> Value
+    pub fn lookup_ref(&self, span: &SpanRef<'_>) -> Value
         ensures value { result ≡ answer self.now span.now }
         ensures below_top { is_before self.now.top result.time ≡ false }
-        ensures stands { (p : PageMarks) → StandsFor self.now p → result ≡ joint_above zero_time (values_on span.now p.marks) }
+        ensures stands { (p : PageMarks) → StandsFor self.now p →
+            result ≡ joint_above zero_time (values_on span.now p.marks) }
     {
         if let Some(key) = span.key() {
             return self.tree.value_at(key);
         }
         match span.cuts() {
-            Some((from, to)) => self.tree.joint_between(from, to),
+            Some((from, to)) => self.tree.join_between(from, to),
             None => Value::unowned(Timestamp::ZERO),
         }
     }
 
-    /// The least end key on the page that lies above a cut, as a key does above the place right before it; `None` where none
-    /// does. With the place right after it as the next cut, the page tells its end keys one after another in their order.
+    /// The least end key on the page that lies above a cut, as a key does above the place right
+    /// before it; `None` where none does. With the place right after it as the next cut, the page
+    /// tells its end keys one after another in their order.
     ///
-    /// It costs a search in each part on the way to a leaf, and where the cut lies above all keys of that leaf one more in the
-    /// parts next to those. It takes no memory, and copies no key.
+    /// It costs a search in each part on the way to a leaf, and where the cut lies above all keys
+    /// of that leaf one more in the parts next to those. It takes no memory, and copies no key.
     ///
     /// It restates how `sklPage`'s skiplist is gone over from a key on, in CockroachDB's
     /// `pkg/kv/kvserver/tscache/interval_skl.go`.
     pub fn key_above(&self, cut: Cut<'_>) -> Option<&Key>
-        ensures value { IsLeastAbove (cut_of cut.entry) self.now.keys (option_map (λ k. k.now) result) }
-        ensures stands { (p : PageMarks) → StandsFor self.now p → IsLeastAbove (cut_of cut.entry) (marked_keys p.marks) (option_map (λ k. k.now) result) }
+        ensures value { IsLeastAbove (cut_of cut.entry) self.now.keys
+            (option_map (λ k. k.now) result) }
+        ensures stands { (p : PageMarks) → StandsFor self.now p →
+            IsLeastAbove (cut_of cut.entry) (marked_keys p.marks) (option_map (λ k. k.now) result) }
     {
         self.tree.key_above(cut)
     }
 
-    /// How many nodes a leaf has, from the first one in the order of keys on; `None` past the last. A page
-    /// keeps its nodes in leaves, each of 1 to 64, and copies of a page share those that are the same.
+    /// How many nodes a leaf has, from the first one in the order of keys on; `None` past the last.
+    /// A page keeps its nodes in leaves, each of 1 to 64, and copies of a page share those that are
+    /// the same.
     pub fn leaf_nodes(&self, i: u32) -> Option<u32>
         ensures value { result ≡ slice_get self.now.leaves i }
         ensures sizes { AreLeafSizes self.now.leaves }

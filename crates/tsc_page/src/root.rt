@@ -4,9 +4,9 @@ ghost use Rattle.tsc_span.specs.Span.{is_below, between, point};
 ghost use Rattle.tsc_span.specs.Cuts.{cut_of};
 ghost use Rattle.tsc_time.specs.Time.{zero_time};
 ghost use Rattle.tsc_time.specs.OwnedTime.{unowned};
-ghost use Rattle.tsc_page_base.specs.PageView.{is_in};
-ghost use Rattle.tsc_page_base.specs.KeysAbove.{first_above};
-ghost use Rattle.tsc_page_base.specs.Nodes.{IsSorted, node_in_gap, node_keys, answer_of, raise_nodes};
+ghost use Rattle.tsc_page_nodes.specs.PageView.{is_in};
+ghost use Rattle.tsc_page_nodes.specs.KeysAbove.{first_above};
+ghost use Rattle.tsc_page_nodes.specs.Nodes.{IsSorted, node_in_gap, node_keys, answer_of, raise_nodes};
 ghost use Rattle.tsc_page_tree.specs.Leaves.{HasNode, nodes_of};
 ghost use Rattle.tsc_page_tree.specs.Pending.{TellsSize, IsAddTold};
 ghost use Rattle.tsc_page_tree.specs.Copies.{IsSameAs};
@@ -15,15 +15,17 @@ ghost use Rattle.tsc_page_tree.specs.Trees.{leaf_nodes, leaf_sizes, IsWholeLeaf,
 ghost use Rattle.tsc_page.specs.Roots.{root_nodes, root_sizes, IsWholeRoot, AreEnds};
 
 use crate::forks;
+use crate::insertion::Insertion;
 use std::alloc::Global;
-use tsc_page_base::{Grown, KeyAddition, Nodes, NumberedCut, SearchKey};
+use tsc_page_nodes::{Addition, Grown, KeyAddition, Nodes, PrefixedCut, SearchKey};
 use tsc_page_tree::fork::{self, Fork, Level};
-use tsc_page_tree::{Addition, Leaf, parts};
-use tsc_span::{Cut, Key};
+use tsc_page_tree::{Leaf, parts};
+use tsc_span::{Cut, Key, KeyRef};
 use tsc_time::{NoMemory, Value};
 
-/// The top of a tree: a list of parts, which are as high as it takes to have 64 of them at the most. Only that of the highest
-/// kind has no bound. A part has at least 32 of the next kind, so the greatest page fills it with some 30.
+/// The top of a tree: a list of parts, which are as high as it takes to have 64 of them at the
+/// most. Only that of the highest kind has no bound. A part has at least 32 of the next kind, so
+/// the greatest page fills it with some 30.
 #[derive(Debug, Drop)]
 pub(crate) enum Root {
     One(Vec<Leaf>),
@@ -55,7 +57,7 @@ impl Root {
     }
 
     /// Whether this is a key that has no node.
-    pub(crate) fn is_new(&self, key: &Key) -> bool
+    pub(crate) fn is_new(&self, key: &KeyRef<'_>) -> bool
         requires whole { IsWholeRoot self.now }
         requires sorted { IsSorted (root_nodes self.now) }
         ensures { result ≡ not (is_in key.now (node_keys (root_nodes self.now))) }
@@ -69,10 +71,11 @@ impl Root {
     }
 
     /// The least key above a cut.
-    pub(crate) fn key_above(&self, cut: &NumberedCut<'_>) -> Option<&Key>
+    pub(crate) fn key_above(&self, cut: &PrefixedCut<'_>) -> Option<&Key>
         requires whole { IsWholeRoot self.now }
         requires sorted { IsSorted (root_nodes self.now) }
-        ensures { option_map (λ k. k.now) result ≡ first_above cut.now (node_keys (root_nodes self.now)) }
+        ensures { option_map (λ k. k.now) result ≡ first_above cut.now
+            (node_keys (root_nodes self.now)) }
     {
         match self {
             Root::One(parts) => parts::key_above(parts, cut),
@@ -83,17 +86,17 @@ impl Root {
     }
 
     /// The joint value of the keys and gaps between two cuts.
-    pub(crate) fn joint_between(&self, from: &NumberedCut<'_>, to: &NumberedCut<'_>) -> Value
+    pub(crate) fn join_between(&self, from: &PrefixedCut<'_>, to: &PrefixedCut<'_>) -> Value
         requires whole { IsWholeRoot self.now }
         requires sorted { IsSorted (root_nodes self.now) }
         requires order { is_below from.now to.now ≡ true }
         ensures { result ≡ answer_of (root_nodes self.now) (between from.now to.now) }
     {
         match self {
-            Root::One(parts) => parts::joint_between(parts, from, to),
-            Root::Two(parts) => forks::joint_between(parts, from, to),
-            Root::Three(parts) => forks::joint_between(parts, from, to),
-            Root::Four(parts) => forks::joint_between(parts, from, to),
+            Root::One(parts) => parts::join_between(parts, from, to),
+            Root::Two(parts) => forks::join_between(parts, from, to),
+            Root::Three(parts) => forks::join_between(parts, from, to),
+            Root::Four(parts) => forks::join_between(parts, from, to),
         }
     }
 
@@ -123,9 +126,9 @@ impl Root {
         }
     }
 
-    /// The root with a node of a key, where it has none. Where the parts would then be more than a fork has, they come into two forks, of
-    /// which the root then is.
-    pub(crate) fn with_node(self, key: &Key) -> Result<Root, NoMemory>
+    /// The root with a node of a key, where it has none. Where the parts would then be more than a
+    /// fork has, they come into two forks, of which the root then is.
+    pub(crate) fn with_node(self, key: &KeyRef<'_>) -> Result<Root, NoMemory>
         requires whole { IsWholeRoot self }
         requires sorted { IsSorted (root_nodes self) }
         ensures made { IfOk result (λ root. HasNode (root_nodes self) (root_nodes root) key.now) }
@@ -152,8 +155,8 @@ impl Root {
         }
     }
 
-    /// Ratchets a value into the keys and gaps between two cuts, and changes nothing that others hold. Where memory is refused
-    /// nothing is known of the root.
+    /// Ratchets a value into the keys and gaps between two cuts, and changes nothing that others
+    /// hold. Where memory is refused nothing is known of the root.
     pub(crate) fn raise_between(
         &mut self,
         from: Cut<'_>,
@@ -163,7 +166,9 @@ impl Root {
         requires whole { IsWholeRoot self.old }
         requires sorted { IsSorted (root_nodes self.old) }
         requires order { is_below (cut_of from) (cut_of to) ≡ true }
-        ensures raised { OnOk result (root_nodes self.new ≡ raise_nodes (between (cut_of from.entry) (cut_of to.entry)) value (root_nodes self.old)) }
+        ensures raised { OnOk result
+            (root_nodes self.new ≡ raise_nodes (between (cut_of from.entry) (cut_of to.entry)) value
+            (root_nodes self.old)) }
         ensures whole { OnOk result (IsWholeRoot self.new) }
     {
         match self {
@@ -174,44 +179,34 @@ impl Root {
         }
     }
 
-    /// Adds in place between two cuts, at which the keys lie: at a single key as [`parts::Part::add_key`] tells, and else as
+    /// Inserts in place: at a single key as [`parts::Part::add_key`] tells, and else as
     /// [`parts::Part::add_within`].
-    pub(crate) fn add(
+    pub(crate) fn insert(
         &mut self,
-        first: Option<&Key>,
-        second: Option<&Key>,
-        from: Cut<'_>,
-        to: Cut<'_>,
-        value: Value,
+        add: &Insertion<'_>,
         room: u32,
     ) -> Result<Option<Grown>, NoMemory>
         requires whole { IsWholeRoot self.old }
         requires sorted { IsSorted (root_nodes self.old) }
-        requires ends { AreEnds (option_map (λ k. k.now) first) (option_map (λ k. k.now) second) (cut_of from) (cut_of to) }
-        ensures told { IsAddTold (root_nodes self.old) (root_nodes self.new) (root_sizes self.old) (root_sizes self.new) (record {
-          first = option_map (λ k. k.now) first.entry;
-          second = option_map (λ k. k.now) second.entry;
-          from = cut_of from.entry;
-          to = cut_of to.entry;
-          value = value;
-        }) room result }
+        ensures told { IsAddTold (root_nodes self.old) (root_nodes self.new) (root_sizes self.old)
+            (root_sizes self.new) add.now room result }
         ensures whole { IsWholeRoot self.new }
+        ensures ends { AreEnds add.now }
     {
-        match (first, second, from, to) {
+        match (add.first, add.second, add.from, add.to) {
             (Some(key), None, Cut::Before(_), Cut::After(_)) => {
-                let key = key.borrowed();
-                self.add_key(&KeyAddition::new(&key, value), room)
+                self.add_key(&KeyAddition::new(key, add.value), room)
             }
             _ => {
-                let (from, to) = (&NumberedCut::new(from), &NumberedCut::new(to));
-                let add = Addition {
-                    first,
-                    second,
+                let (from, to) = (&PrefixedCut::new(add.from), &PrefixedCut::new(add.to));
+                let bounds = Addition {
+                    first: add.first,
+                    second: add.second,
                     from,
                     to,
-                    value,
+                    value: add.value,
                 };
-                self.add_within(&add, room)
+                self.add_within(&bounds, room)
             }
         }
     }
@@ -220,7 +215,8 @@ impl Root {
     fn add_key(&mut self, add: &KeyAddition<'_>, room: u32) -> Result<Option<Grown>, NoMemory>
         requires whole { IsWholeRoot self.old }
         requires sorted { IsSorted (root_nodes self.old) }
-        ensures told { IsKeyAddTold (root_nodes self.old) (root_nodes self.new) (root_sizes self.old) (root_sizes self.new) add.now room result }
+        ensures told { IsKeyAddTold (root_nodes self.old) (root_nodes self.new)
+            (root_sizes self.old) (root_sizes self.new) add.now room result }
         ensures whole { IsWholeRoot self.new }
     {
         match self {
@@ -231,8 +227,8 @@ impl Root {
         }
     }
 
-    /// The same for a key whose bytes lie elsewhere. Its body stands here once more, so that either is compiled into the one call that it
-    /// has, which takes a tenth off an Add of a known key.
+    /// The same for a key whose bytes lie elsewhere. Its body stands here once more, so that either
+    /// is compiled into the one call that it has, which takes a tenth off an Add of a known key.
     pub(crate) fn add_borrowed_key(
         &mut self,
         add: &KeyAddition<'_>,
@@ -240,7 +236,8 @@ impl Root {
     ) -> Result<Option<Grown>, NoMemory>
         requires whole { IsWholeRoot self.old }
         requires sorted { IsSorted (root_nodes self.old) }
-        ensures told { IsKeyAddTold (root_nodes self.old) (root_nodes self.new) (root_sizes self.old) (root_sizes self.new) add.now room result }
+        ensures told { IsKeyAddTold (root_nodes self.old) (root_nodes self.new)
+            (root_sizes self.old) (root_sizes self.new) add.now room result }
         ensures whole { IsWholeRoot self.new }
     {
         match self {
@@ -255,7 +252,8 @@ impl Root {
     fn add_within(&mut self, add: &Addition<'_>, room: u32) -> Result<Option<Grown>, NoMemory>
         requires whole { IsWholeRoot self.old }
         requires sorted { IsSorted (root_nodes self.old) }
-        ensures told { IsAddTold (root_nodes self.old) (root_nodes self.new) (root_sizes self.old) (root_sizes self.new) add.now room result }
+        ensures told { IsAddTold (root_nodes self.old) (root_nodes self.new) (root_sizes self.old)
+            (root_sizes self.new) add.now room result }
         ensures whole { IsWholeRoot self.new }
     {
         match self {
@@ -268,11 +266,12 @@ impl Root {
 }
 
 /// Makes a node of a key among leaves, of which it may be the first, where it has none.
-fn leaves_with_node(leaves: Vec<Leaf>, key: &Key) -> Result<Level<Leaf>, NoMemory>
+fn leaves_with_node(leaves: Vec<Leaf>, key: &KeyRef<'_>) -> Result<Level<Leaf>, NoMemory>
     requires whole { All IsWholeLeaf leaves.items }
     requires few { length leaves.items ≤ 64 }
     requires sorted { IsSorted (nodes_of (map leaf_nodes leaves.items)) }
-    ensures made { IfOk result (λ level. HasNode (nodes_of (map leaf_nodes leaves.items)) (level_nodes leaf_nodes level) key.now) }
+    ensures made { IfOk result (λ level. HasNode (nodes_of (map leaf_nodes leaves.items))
+        (level_nodes leaf_nodes level) key.now) }
     ensures whole { IfOk result (IsWholeLevel leaf_nodes leaf_sizes IsWholeLeaf) }
 {
     if leaves.len() == 0 {
@@ -283,8 +282,9 @@ fn leaves_with_node(leaves: Vec<Leaf>, key: &Key) -> Result<Level<Leaf>, NoMemor
 }
 
 /// A list of one leaf, which has a node of a key alone.
-fn first_leaf(alloc: Global, key: &Key) -> Result<Vec<Leaf>, NoMemory>
-    ensures nodes { IfOk result (λ leaves. nodes_of (map leaf_nodes leaves.items) ≡ node_in_gap key.now (unowned zero_time) ∷ []) }
+fn first_leaf(alloc: Global, key: &KeyRef<'_>) -> Result<Vec<Leaf>, NoMemory>
+    ensures nodes { IfOk result (λ leaves. nodes_of (map leaf_nodes leaves.items) ≡
+        node_in_gap key.now (unowned zero_time) ∷ []) }
     ensures whole { IfOk result (λ leaves. AreFewParts IsWholeLeaf leaves.items) }
 {
     let mut leaves = Vec::with_capacity(alloc, 1)?;

@@ -1,25 +1,23 @@
-ghost use Rattle.std.specs.Prelude.{◌≡◌, None, ◌<◌, ◌≤◌, ◌+◌, [], ◌∷◌, ◌++◌, slice_get, map, true, false, nat_le, IfOk, IfSome, OnOk, OnErr, option_map, option_to_list, if◌then◌else◌};
-ghost use Rattle.std.specs.List.{All};
-ghost use Rattle.tsc_span.specs.Span.{is_below, after, between, point, end_keys, key_cost};
+ghost use Rattle.std.specs.Prelude.{◌≡◌, ◌<◌, ◌≤◌, ◌+◌, [], ◌∷◌, ◌++◌, length, slice_get, true, false, nat_le, IfOk, IfSome, option_map, option_to_list};
+ghost use Rattle.tsc_span.specs.Span.{is_below, between, point, key_cost};
 ghost use Rattle.tsc_span.specs.Cuts.{cut_of};
-ghost use Rattle.tsc_page_base.specs.Limits.{most_size};
-ghost use Rattle.tsc_page_base.specs.Page.{cost_distinct};
-ghost use Rattle.tsc_page_base.specs.PageView.{is_new_among, new_weight};
-ghost use Rattle.tsc_page_base.specs.KeysAbove.{first_above};
-ghost use Rattle.tsc_time.specs.Time.{zero_time};
-ghost use Rattle.tsc_time.specs.OwnedTime.{unowned};
-ghost use Rattle.tsc_page_base.specs.Nodes.{IsSplitAt, IsSorted, GrowsBy, node_in_gap, node_keys, answer_of};
-ghost use Rattle.tsc_page_tree.specs.Leaves.{AddsTo};
-ghost use Rattle.tsc_page.specs.Roots.{root_nodes, IsWholeRoot, tree_nodes, tree_sizes, IsCounted, AreEnds};
+ghost use Rattle.tsc_page_nodes.specs.Limits.{most_size};
+ghost use Rattle.tsc_page_nodes.specs.PageView.{is_new_among, new_weight};
+ghost use Rattle.tsc_page_nodes.specs.KeysAbove.{first_above};
+ghost use Rattle.tsc_page_nodes.specs.Nodes.{IsSplitAt, IsSorted, GrowsBy, node_keys, answer_of};
+ghost use Rattle.tsc_page_tree.specs.KeyAdds.{at_key};
+ghost use Rattle.tsc_page.specs.Roots.{root_nodes, IsWholeRoot, IsKnown, IsInsertTold, IsTryTold, IsInsertedTold};
 
+use crate::insertion::Insertion;
 use crate::root::Root;
 use std::alloc::Global;
-use tsc_page_base::{Grown, KeyAddition, NumberedCut, SearchKey};
-use tsc_span::{Cut, Key};
+use std::marker::Model;
+use tsc_page_nodes::{Grown, KeyAddition, PrefixedCut, SearchKey};
+use tsc_span::{Cut, Key, KeyRef};
 use tsc_time::{NoMemory, Value};
 
-/// The nodes of a page in leaves that are all equally deep below a root, with how many there are and what their keys cost.
-/// What others hold too is never changed.
+/// The nodes of a page in leaves that are all equally deep below a root, with how many there are
+/// and what their keys cost. What others hold too is never changed.
 #[derive(Debug, Drop)]
 pub(crate) struct Tree {
     root: Root,
@@ -27,11 +25,23 @@ pub(crate) struct Tree {
     bytes: u32,
 }
 
+impl Model for Tree {
+    ghost use Rattle.tsc_page.specs.Roots.{TreeView, root_nodes, root_sizes, IsCounted};
+
+    ghost Value = { TreeView };
+
+    ghost view = { λ t. record {
+      nodes = root_nodes t.root;
+      sizes = root_sizes t.root;
+      bytes = t.bytes;
+    } };
+
+    ghost invariant = { λ t. IsCounted t.root t.count t.bytes };
+}
+
 impl Tree {
     pub(crate) fn new(alloc: Global) -> Tree
-        ensures nodes { tree_nodes result ≡ [] }
-        ensures counted { IsCounted result }
-        ensures bytes { result.bytes ≡ 0 }
+        ensures { result ≡ record { nodes = []; sizes = []; bytes = 0 } }
     {
         Tree {
             root: Root::new(alloc),
@@ -42,7 +52,7 @@ impl Tree {
 
     /// How many nodes there are.
     pub(crate) fn len(&self) -> usize
-        ensures { result ≡ self.now.count }
+        ensures { result ≡ length self.now.nodes }
     {
         self.count
     }
@@ -56,17 +66,16 @@ impl Tree {
 
     /// How many nodes a leaf has.
     pub(crate) fn leaf_len(&self, place: usize) -> Option<usize>
-        requires counted { IsCounted self.now }
-        ensures value { result ≡ slice_get (tree_sizes self.now) place }
+        ensures value { result ≡ slice_get self.now.sizes place }
         ensures few { IfSome result (λ len. len ≤ 64) }
     {
         self.root.leaf_len(place).ok()
     }
 
     /// Whether this is a key that has no node.
-    fn is_new(&self, key: Option<&Key>) -> bool
-        requires counted { IsCounted self.now }
-        ensures { result ≡ is_new_among (node_keys (tree_nodes self.now)) (option_map (λ k. k.now) key.entry) }
+    fn is_new(&self, key: Option<&KeyRef<'_>>) -> bool
+        ensures { result ≡ is_new_among (node_keys self.now.nodes)
+            (option_map (λ k. k.now) key.entry) }
     {
         match key {
             Some(key) => self.root.is_new(key),
@@ -75,9 +84,9 @@ impl Tree {
     }
 
     /// What a key costs, where this is one and has no node.
-    fn new_cost(&self, key: Option<&Key>) -> u32
-        requires counted { IsCounted self.now }
-        ensures value { result ≡ new_weight key_cost (node_keys (tree_nodes self.now)) (option_map (λ k. k.now) key.entry) }
+    fn new_cost(&self, key: Option<&KeyRef<'_>>) -> u32
+        ensures value { result ≡ new_weight key_cost (node_keys self.now.nodes)
+            (option_map (λ k. k.now) key.entry) }
         ensures most { result ≤ 4128 }
     {
         match key {
@@ -86,13 +95,21 @@ impl Tree {
         }
     }
 
-    /// Whether the nodes cost no more than `most` with those of two keys that have none. The keys are searched for only where
-    /// that depends on whether they have nodes.
-    pub(crate) fn has_room(&self, first: Option<&Key>, second: Option<&Key>, most: u32) -> bool
-        requires counted { IsCounted self.now }
+    /// Whether the nodes cost no more than `most` with those of two keys that have none. The keys
+    /// are searched for only where that depends on whether they have nodes.
+    pub(crate) fn has_room(
+        &self,
+        first: Option<&KeyRef<'_>>,
+        second: Option<&KeyRef<'_>>,
+        most: u32,
+    ) -> bool
         requires within { self.now.bytes ≤ most_size }
-        ensures { result ≡ nat_le (self.now.bytes + new_weight key_cost (node_keys (tree_nodes self.now)) (option_map (λ k. k.now) first.entry)
-            + new_weight key_cost (node_keys (tree_nodes self.now)) (option_map (λ k. k.now) second.entry)) most }
+        ensures known { IsKnown self.now }
+        ensures value { result ≡ nat_le
+            (self.now.bytes + new_weight key_cost (node_keys self.now.nodes)
+            (option_map (λ k. k.now) first.entry)
+            + new_weight key_cost (node_keys self.now.nodes)
+            (option_map (λ k. k.now) second.entry)) most }
     {
         if self.bytes + cost(first) + cost(second) <= most {
             return true;
@@ -101,37 +118,33 @@ impl Tree {
     }
 
     /// The joint value of the keys and gaps between two cuts.
-    pub(crate) fn joint_between(&self, from: Cut<'_>, to: Cut<'_>) -> Value
-        requires counted { IsCounted self.now }
+    pub(crate) fn join_between(&self, from: Cut<'_>, to: Cut<'_>) -> Value
         requires order { is_below (cut_of from) (cut_of to) ≡ true }
-        ensures { result ≡ answer_of (tree_nodes self.now) (between (cut_of from.entry) (cut_of to.entry)) }
+        ensures { result ≡ answer_of self.now.nodes
+            (between (cut_of from.entry) (cut_of to.entry)) }
     {
-        let (from, to) = (NumberedCut::new(from), NumberedCut::new(to));
-        self.root.joint_between(&from, &to)
+        let (from, to) = (PrefixedCut::new(from), PrefixedCut::new(to));
+        self.root.join_between(&from, &to)
     }
 
     /// The joint value of what overlaps a key.
     pub(crate) fn value_at(&self, key: &[u8]) -> Value
-        requires counted { IsCounted self.now }
-        ensures { result ≡ answer_of (tree_nodes self.now) (point key.now) }
+        ensures { result ≡ answer_of self.now.nodes (point key.now) }
     {
         self.root.value_at(&SearchKey::new(key))
     }
 
     /// The least key above a cut.
     pub(crate) fn key_above(&self, cut: Cut<'_>) -> Option<&Key>
-        requires counted { IsCounted self.now }
-        ensures { option_map (λ k. k.now) result ≡ first_above (cut_of cut.entry) (node_keys (tree_nodes self.now)) }
+        ensures { option_map (λ k. k.now) result ≡ first_above (cut_of cut.entry)
+            (node_keys self.now.nodes) }
     {
-        self.root.key_above(&NumberedCut::new(cut))
+        self.root.key_above(&PrefixedCut::new(cut))
     }
 
     /// The same tree once more, which shares all below the root.
     pub(crate) fn try_copy(&self) -> Result<Tree, NoMemory>
-        ensures nodes { IfOk result (λ copy. tree_nodes copy ≡ tree_nodes self.now) }
-        ensures sizes { IfOk result (λ copy. tree_sizes copy ≡ tree_sizes self.now) }
-        ensures bytes { IfOk result (λ copy. copy.bytes ≡ self.now.bytes) }
-        ensures counted { IfOk result (λ copy. IsCounted self.now → IsCounted copy) }
+        ensures { IfOk result (λ copy. copy ≡ self.now) }
     {
         Ok(Tree {
             root: self.root.try_copy()?,
@@ -140,33 +153,18 @@ impl Tree {
         })
     }
 
-    /// Makes nodes of the keys that have none, of which the first is the smaller, and ratchets a value into
-    /// the keys and gaps between two cuts, which lie at these keys. Says whether it did: where the nodes would then
-    /// cost more than `most` it doesn't. Nothing changes then, nor where memory is refused.
-    pub(crate) fn try_add(
-        &mut self,
-        first: Option<&Key>,
-        second: Option<&Key>,
-        from: Cut<'_>,
-        to: Cut<'_>,
-        value: Value,
-        most: u32,
-    ) -> Result<bool, NoMemory>
-        requires counted { IsCounted self.old }
+    /// Makes nodes of the keys that have none, and ratchets the value into the keys and gaps
+    /// between the cuts. Says whether it did: where the nodes would then cost more than `most` it
+    /// doesn't. Nothing changes then, nor where memory is refused.
+    pub(crate) fn insert(&mut self, add: &Insertion<'_>, most: u32) -> Result<bool, NoMemory>
         requires within { self.old.bytes ≤ most }
         requires small { most ≤ most_size }
-        requires ends { AreEnds (option_map (λ k. k.now) first) (option_map (λ k. k.now) second) (cut_of from) (cut_of to) }
-        ensures added { IfOk result (λ done. done ≡ true → AddsTo (tree_nodes self.old) (tree_nodes self.new) (between (cut_of from.entry) (cut_of to.entry)) value) }
-        ensures within { IfOk result (λ done. done ≡ true → self.new.bytes ≤ most) }
-        ensures full { IfOk result (λ done. done ≡ false → most < cost_distinct (node_keys (tree_nodes self.old) ++ end_keys (between (cut_of from.entry) (cut_of to.entry)))) }
-        ensures left { IfOk result (λ done. done ≡ false → (tree_nodes self.new ≡ tree_nodes self.old) × (tree_sizes self.new ≡ tree_sizes self.old) × (self.new.bytes ≡ self.old.bytes)) }
-        ensures counted { IsCounted self.new }
-        ensures unchanged { OnErr result ((tree_nodes self.new ≡ tree_nodes self.old) × (tree_sizes self.new ≡ tree_sizes self.old) × (self.new.bytes ≡ self.old.bytes)) }
+        ensures told { IsInsertTold self.old self.new add.now most result }
     {
-        if self.add_in_place(first, second, from, to, value, most)? {
+        if self.insert_in_place(add, most)? {
             return Ok(true);
         }
-        match self.added(first, second, from, to, value, most)? {
+        match self.inserted(add, most)? {
             Some(tree) => {
                 *self = tree;
                 Ok(true)
@@ -175,61 +173,34 @@ impl Tree {
         }
     }
 
-    /// The tree with one more Add, as `try_add` makes it; `None` where the nodes would then cost more than `most`. What the Add
-    /// doesn't reach is shared.
-    pub(crate) fn added(
-        &self,
-        first: Option<&Key>,
-        second: Option<&Key>,
-        from: Cut<'_>,
-        to: Cut<'_>,
-        value: Value,
-        most: u32,
-    ) -> Result<Option<Tree>, NoMemory>
-        requires counted { IsCounted self.now }
+    /// The tree with one more insertion, as [`insert`](Tree::insert) makes it; `None` where the
+    /// nodes would then cost more than `most`. What the insertion doesn't reach is shared.
+    pub(crate) fn inserted(&self, add: &Insertion<'_>, most: u32) -> Result<Option<Tree>, NoMemory>
         requires within { self.now.bytes ≤ most }
         requires small { most ≤ most_size }
-        requires order { is_below (cut_of from) (cut_of to) ≡ true }
-        requires keys { option_to_list (option_map (λ k. k.now) first) ++ option_to_list (option_map (λ k. k.now) second) ≡ end_keys (between (cut_of from) (cut_of to)) }
-        ensures added { IfOk result (λ made. IfSome made (λ tree. AddsTo (tree_nodes self.now) (tree_nodes tree) (between (cut_of from.entry) (cut_of to.entry)) value)) }
-        ensures within { IfOk result (λ made. IfSome made (λ tree. tree.bytes ≤ most)) }
-        ensures counted { IfOk result (λ made. IfSome made IsCounted) }
-        ensures full { IfOk result (λ made. made ≡ None → most < cost_distinct (node_keys (tree_nodes self.now) ++ end_keys (between (cut_of from.entry) (cut_of to.entry)))) }
+        ensures told { IsInsertedTold self.now add.now most result }
     {
-        if !self.has_room(first, second, most) {
+        if !self.has_room(add.first, add.second, most) {
             return Ok(None);
         }
-        let upper = with_node(self.root.try_copy()?, second)?;
-        let lower = with_node(upper.root, first)?;
+        let upper = with_node(self.root.try_copy()?, add.second)?;
+        let lower = with_node(upper.root, add.first)?;
         let mut root = lower.root;
-        root.raise_between(from, to, value)?;
+        root.raise_between(add.from, add.to, add.value)?;
         let count = self.count + upper.more.nodes + lower.more.nodes;
         let bytes = self.bytes + upper.more.bytes + lower.more.bytes;
         Ok(Some(Tree { root, count, bytes }))
     }
 
-    /// The same in place, as [`Root::add`] tells, where there is room. Says whether it did.
-    fn add_in_place(
-        &mut self,
-        first: Option<&Key>,
-        second: Option<&Key>,
-        from: Cut<'_>,
-        to: Cut<'_>,
-        value: Value,
-        most: u32,
-    ) -> Result<bool, NoMemory>
-        requires counted { IsCounted self.old }
+    /// The same in place, as [`Root::insert`] tells, where there is room. Says whether it did; else
+    /// nothing changes, nor where memory is refused.
+    fn insert_in_place(&mut self, add: &Insertion<'_>, most: u32) -> Result<bool, NoMemory>
         requires within { self.old.bytes ≤ most }
         requires small { most ≤ most_size }
-        requires ends { AreEnds (option_map (λ k. k.now) first) (option_map (λ k. k.now) second) (cut_of from) (cut_of to) }
-        ensures added { IfOk result (λ done. done ≡ true → AddsTo (tree_nodes self.old) (tree_nodes self.new) (between (cut_of from.entry) (cut_of to.entry)) value) }
-        ensures within { IfOk result (λ done. done ≡ true → self.new.bytes ≤ most) }
-        ensures left { IfOk result (λ done. done ≡ false → (tree_nodes self.new ≡ tree_nodes self.old) × (tree_sizes self.new ≡ tree_sizes self.old) × (self.new.count ≡ self.old.count) × (self.new.bytes ≡ self.old.bytes)) }
-        ensures counted { IsCounted self.new }
-        ensures unchanged { OnErr result ((tree_nodes self.new ≡ tree_nodes self.old) × (tree_sizes self.new ≡ tree_sizes self.old) × (self.new.bytes ≡ self.old.bytes)) }
+        ensures told { IsTryTold self.old self.new add.now most result }
     {
         let room = most - self.bytes;
-        match self.root.add(first, second, from, to, value, room)? {
+        match self.root.insert(add, room)? {
             Some(more) => {
                 self.count += more.nodes;
                 self.bytes += more.bytes;
@@ -239,17 +210,12 @@ impl Tree {
         }
     }
 
-    /// Adds at a single key in place, as [`Root::add_borrowed_key`] tells, where there is room. Says whether it did; else nothing changes,
-    /// nor where memory is refused.
+    /// Adds at a single key in place, as [`Root::add_borrowed_key`] tells, where there is room.
+    /// Says whether it did; else nothing changes, nor where memory is refused.
     pub(crate) fn add_key(&mut self, add: &KeyAddition<'_>, most: u32) -> Result<bool, NoMemory>
-        requires counted { IsCounted self.old }
         requires within { self.old.bytes ≤ most }
         requires small { most ≤ most_size }
-        ensures added { IfOk result (λ done. done ≡ true → AddsTo (tree_nodes self.old) (tree_nodes self.new) (point add.now.key) add.now.value) }
-        ensures within { IfOk result (λ done. done ≡ true → self.new.bytes ≤ most) }
-        ensures left { IfOk result (λ done. done ≡ false → (tree_nodes self.new ≡ tree_nodes self.old) × (tree_sizes self.new ≡ tree_sizes self.old) × (self.new.count ≡ self.old.count) × (self.new.bytes ≡ self.old.bytes)) }
-        ensures counted { IsCounted self.new }
-        ensures unchanged { OnErr result ((tree_nodes self.new ≡ tree_nodes self.old) × (tree_sizes self.new ≡ tree_sizes self.old) × (self.new.bytes ≡ self.old.bytes)) }
+        ensures told { IsTryTold self.old self.new (at_key add.now) most result }
     {
         let room = most - self.bytes;
         match self.root.add_borrowed_key(add, room)? {
@@ -271,12 +237,14 @@ struct Made {
 }
 
 /// Makes a node of a key, where there is one and it has none.
-fn with_node(root: Root, key: Option<&Key>) -> Result<Made, NoMemory>
+fn with_node(root: Root, key: Option<&KeyRef<'_>>) -> Result<Made, NoMemory>
     requires whole { IsWholeRoot root }
     requires sorted { IsSorted (root_nodes root) }
-    ensures split { IfOk result (λ made. IsSplitAt (root_nodes root) (root_nodes made.root) (option_to_list (option_map (λ k. k.now) key.entry))) }
+    ensures split { IfOk result (λ made. IsSplitAt (root_nodes root) (root_nodes made.root)
+        (option_to_list (option_map (λ k. k.now) key.entry))) }
     ensures whole { IfOk result (λ made. IsWholeRoot made.root) }
-    ensures grown { IfOk result (λ made. GrowsBy (root_nodes root) (root_nodes made.root) made.more) }
+    ensures grown { IfOk result (λ made. GrowsBy (root_nodes root) (root_nodes made.root)
+        made.more) }
     ensures few { IfOk result (λ made. (made.more.nodes ≤ 1) × (made.more.bytes ≤ 4128)) }
 {
     match key {
@@ -295,7 +263,7 @@ fn with_node(root: Root, key: Option<&Key>) -> Result<Made, NoMemory>
 }
 
 /// What a key costs, where there is one.
-fn cost(key: Option<&Key>) -> u32
+fn cost(key: Option<&KeyRef<'_>>) -> u32
     ensures value { result ≡ new_weight key_cost [] (option_map (λ k. k.now) key.entry) }
     ensures most { result ≤ 4128 }
 {

@@ -3,20 +3,17 @@ use Rattle.std.proofs.Common.{◌≡◌, ◌⊎◌, ◌∙◌, refl, sym, ap, su
 use Rattle.std.specs.Prelude.{Option, Some, None, Result, Ok, Err, not}
 use Rattle.std.proofs.lemmas.List.{length-map, length-append, map-set}
 use Rattle.tsc_span.specs.Span.{KeyBytes, between, is_below}
-use Rattle.tsc_page_base.specs.declared.nodes.Grown.{Grown}
-use Rattle.tsc_page_base.specs.Nodes.{Node, IsSorted, IsInOrder, IsNewKey, AddsNodes, raise_nodes, nodes_cost}
-use Rattle.tsc_page_tree.specs.Leaves.{nodes_of, AreSome, start_of, IsLeafAt, LiesAt}
-use Rattle.tsc_page_tree.specs.Pending.{sizes_of, Addend, before_second, IsAddTold}
-use Rattle.tsc_page_base.proofs.CutOrder.{Lt, Le}
-use Rattle.tsc_page_base.proofs.Costs.{cost-append}
+use Rattle.tsc_page_nodes.specs.declared.nodes.Grown.{Grown}
+use Rattle.tsc_page_nodes.specs.Nodes.{Node, IsSorted, IsInOrder, IsNewKey, AddsNodes, raise_nodes, nodes_cost}
+use Rattle.tsc_page_nodes.specs.Additions.{Addend, LiesAt, before_second}
+use Rattle.tsc_page_tree.specs.Leaves.{nodes_of, AreSome, start_of, IsLeafAt}
+use Rattle.tsc_page_tree.specs.Pending.{sizes_of, IsAddTold}
+use Rattle.tsc_page_nodes.proofs.CutOrder.{Lt, Le}
+use Rattle.tsc_page_nodes.proofs.Costs.{cost-append}
 use Rattle.tsc_page_tree.proofs.Joins.{up_to_last}
 use Rattle.tsc_page_tree.proofs.LeafLists.{parted_at, leaf_first, leaf_set, sorted_from, starts_low, ends_high, part_read}
 use Rattle.tsc_page_tree.proofs.LeafAdds.{adds_left, adds_right, all_below, told_below}
 use Rattle.tsc_page_tree.proofs.PartLoops.{same_by}
-
--- an Add's keys lie at its cuts, and these are in order
-abbrev pub IsAddend : Addend → Type 0
-IsAddend a = Lt a.from a.to × LiesAt a.first a.from × LiesAt a.second a.to × IsInOrder a.first a.second
 
 -- what a test says where its opposite holds
 pub not_true : (b : Bool) → not b ≡ true → b ≡ false
@@ -27,8 +24,12 @@ pub not_false : (b : Bool) → not b ≡ false → b ≡ true
 not_false true q = refl
 not_false false q = sym q
 
-module _ {X : Type 0} (f : X → List Node) (xs : List X) (p : ℕ) (d y : X) (a : Addend) (some : AreSome (map f xs)) (sorted : IsSorted (nodes_of (map f xs))) (inside : p < length xs) (at : IsLeafAt (map f xs) a.from p)
-    (up : Lt a.from a.to) (first : LiesAt a.first a.from) (second : LiesAt a.second a.to) (order : IsInOrder a.first a.second) (high : Le a.to (start_of (nodes_of (drop (suc p) (map f xs))))) where
+module _ {X : Type 0} (f : X → List Node) (xs : List X) (p : ℕ) (d y : X) (a : Addend)
+    (some : AreSome (map f xs)) (sorted : IsSorted (nodes_of (map f xs))) (inside : p < length xs)
+    (at : IsLeafAt (map f xs) a.from p)
+    (up : Lt a.from a.to) (first : LiesAt a.first a.from) (second : LiesAt a.second a.to)
+    (order : IsInOrder a.first a.second)
+    (high : Le a.to (start_of (nodes_of (drop (suc p) (map f xs))))) where
   abbrev ls : List (List Node)
   ls = map f xs
 
@@ -57,22 +58,38 @@ module _ {X : Type 0} (f : X → List Node) (xs : List X) (p : ℕ) (d y : X) (a
   low = ends_high ls a.from p some (up_to_last a.from a.to up) at
 
   start : (front ≡ []) ⊎ Le (start_of (part ++ behind)) a.from
-  start = subst (λ (ns : List Node). (front ≡ []) ⊎ Le (start_of ns) a.from) here (starts_low ls a.from p some at)
+  start = subst (λ (ns : List Node). (front ≡ []) ⊎ Le (start_of ns) a.from) here
+      (starts_low ls a.from p some at)
 
   -- the second key is handed on where it lies below what comes behind
-  adds_here : (q : Option KeyBytes) → q ≡ cond (is_below a.to (start_of behind)) a.second None → AddsNodes part (f y) a.first q (between a.from a.to) a.value → AddsNodes (nodes_of ls) (nodes_of (map f (set xs p y))) a.first a.second (between a.from a.to) a.value
+  adds_here : (q : Option KeyBytes) → q ≡ cond (is_below a.to (start_of behind)) a.second None →
+      AddsNodes part (f y) a.first q (between a.from a.to) a.value →
+      AddsNodes (nodes_of ls) (nodes_of (map f (set xs p y))) a.first a.second (between a.from a.to)
+      a.value
   adds_here q is adds =
       let upper = adds.made.upper in
       let lower = adds.made.lower in
-      let has_lower = subst (λ (o : Option KeyBytes). IsNewKey part o lower) (sym (all_below behind a.from a.first low first)) adds.made.has_lower in
-      let has_upper = subst (λ (o : Option KeyBytes). IsNewKey part o upper) (is ∙ sym (told_below behind a.to a.second second)) adds.made.has_upper in
-      let left = adds_left part behind (f y) a.from a.to a.value a.first a.second lower upper (subst IsSorted here (sorted_from ls p sorted)) up low high first second order has_lower has_upper (adds.raised ∙ ap (raise_nodes (between a.from a.to) a.value) adds.made.nodes) in
-      let all = adds_right front (part ++ behind) (f y ++ behind) a.from a.to a.value a.first a.second (subst IsSorted whole sorted) up start first second order left in
-      subst (λ (ns : List Node). AddsNodes ns (nodes_of (map f (set xs p y))) a.first a.second (between a.from a.to) a.value) (sym whole)
-      (subst (λ (ns : List Node). AddsNodes (front ++ (part ++ behind)) ns a.first a.second (between a.from a.to) a.value) (sym made) all)
+      let has_lower = subst (λ (o : Option KeyBytes). IsNewKey part o lower)
+      (sym (all_below behind a.from a.first low first)) adds.made.has_lower in
+      let has_upper = subst (λ (o : Option KeyBytes). IsNewKey part o upper)
+      (is ∙ sym (told_below behind a.to a.second second)) adds.made.has_upper in
+      let left = adds_left part behind (f y) a.from a.to a.value a.first a.second lower upper
+      (subst IsSorted here (sorted_from ls p sorted)) up low high first second order has_lower
+      has_upper (adds.raised ∙
+      ap (raise_nodes (between a.from a.to) a.value) adds.made.nodes) in
+      let all = adds_right front (part ++ behind) (f y ++ behind) a.from a.to a.value a.first
+      a.second (subst IsSorted whole sorted) up start first second order left in
+      subst (λ (ns : List Node). AddsNodes ns (nodes_of (map f (set xs p y))) a.first a.second
+      (between a.from a.to) a.value) (sym whole)
+      (subst (λ (ns : List Node). AddsNodes (front ++ (part ++ behind)) ns a.first a.second
+      (between a.from a.to) a.value) (sym made) all)
 
-  told_here : {E : Type 0} (s : X → List ℕ) (r : Result (Option Grown) E) (room : ℕ) (q : Option KeyBytes) → q ≡ cond (is_below a.to (start_of behind)) a.second None
-      → IsAddTold (f (get_or xs p d)) (f y) (s (get_or xs p d)) (s y) (record { first = a.first; second = q; from = a.from; to = a.to; value = a.value }) room r → IsAddTold (nodes_of ls) (nodes_of (map f (set xs p y))) (sizes_of (map s xs)) (sizes_of (map s (set xs p y))) a room r
+  told_here : {E : Type 0} (s : X → List ℕ) (r : Result (Option Grown) E) (room : ℕ)
+      (q : Option KeyBytes) → q ≡ cond (is_below a.to (start_of behind)) a.second None
+      → IsAddTold (f (get_or xs p d)) (f y) (s (get_or xs p d)) (s y)
+      (record { first = a.first; second = q; from = a.from; to = a.to; value = a.value }) room r
+      → IsAddTold (nodes_of ls) (nodes_of (map f (set xs p y))) (sizes_of (map s xs))
+      (sizes_of (map s (set xs p y))) a room r
   told_here s (Ok (Some more)) room q is told =
       let read : f (get_or xs p d) ≡ part = part_read f xs p d inside in
       let one = length-append front (part ++ behind) in
@@ -80,22 +97,58 @@ module _ {X : Type 0} (f : X → List Node) (xs : List X) (p : ℕ) (d y : X) (a
       let three = length-append front (f y ++ behind) in
       let four = length-append (f y) behind in
       record {
-        adds = adds_here q is (subst (λ (ns : List Node). AddsNodes ns (f y) a.first q (between a.from a.to) a.value) read told.adds);
+        adds = adds_here q is (subst
+            (λ (ns : List Node). AddsNodes ns (f y) a.first q (between a.from a.to) a.value) read
+            told.adds);
         grown = record {
-          count = omega (arith, one, two, three, four, told.grown.count, ap length read, ap length whole, ap length made);
-          cost = omega (arith, cost-append front (part ++ behind), cost-append part behind, cost-append front (f y ++ behind), cost-append (f y) behind, told.grown.cost, ap nodes_cost read, ap nodes_cost whole, ap nodes_cost made);
+          count = omega (
+            arith,
+            one,
+            two,
+            three,
+            four,
+            told.grown.count,
+            ap length read,
+            ap length whole,
+            ap length made,
+          );
+          cost = omega (
+            arith,
+            cost-append front (part ++ behind),
+            cost-append part behind,
+            cost-append front (f y ++ behind),
+            cost-append (f y) behind,
+            told.grown.cost,
+            ap nodes_cost read,
+            ap nodes_cost whole,
+            ap nodes_cost made,
+          );
         };
         within = told.within;
       }
-  told_here s (Ok None) room q is told = (ap (λ (ms : List (List Node)). nodes_of ms) (same_by f xs p d y inside told.0), ap (λ (ns : List (List ℕ)). sizes_of ns) (same_by s xs p d y inside told.1))
-  told_here s (Err e) room q is told = (ap (λ (ms : List (List Node)). nodes_of ms) (same_by f xs p d y inside told.0), ap (λ (ns : List (List ℕ)). sizes_of ns) (same_by s xs p d y inside told.1))
+  told_here s (Ok None) room q is told = (
+    ap (λ (ms : List (List Node)). nodes_of ms) (same_by f xs p d y inside told.0),
+    ap (λ (ns : List (List ℕ)). sizes_of ns) (same_by s xs p d y inside told.1),
+  )
+  told_here s (Err e) room q is told = (
+    ap (λ (ms : List (List Node)). nodes_of ms) (same_by f xs p d y inside told.0),
+    ap (λ (ns : List (List ℕ)). sizes_of ns) (same_by s xs p d y inside told.1),
+  )
 
   -- the span stops below what comes behind
-  pub told_in_part : {E : Type 0} (s : X → List ℕ) (r : Result (Option Grown) E) (room : ℕ) → is_below a.to (start_of behind) ≡ true
-      → IsAddTold (f (get_or xs p d)) (f y) (s (get_or xs p d)) (s y) a room r → IsAddTold (nodes_of ls) (nodes_of (map f (set xs p y))) (sizes_of (map s xs)) (sizes_of (map s (set xs p y))) a room r
-  told_in_part s r room below told = told_here s r room a.second (ap (λ (b : Bool). cond b a.second None) (sym below)) told
+  pub told_in_part : {E : Type 0} (s : X → List ℕ) (r : Result (Option Grown) E) (room : ℕ) →
+      is_below a.to (start_of behind) ≡ true
+      → IsAddTold (f (get_or xs p d)) (f y) (s (get_or xs p d)) (s y) a room r →
+      IsAddTold (nodes_of ls) (nodes_of (map f (set xs p y))) (sizes_of (map s xs))
+      (sizes_of (map s (set xs p y))) a room r
+  told_in_part s r room below told =
+      told_here s r room a.second (ap (λ (b : Bool). cond b a.second None) (sym below)) told
 
   -- or right where that begins
-  pub told_before_next : {E : Type 0} (s : X → List ℕ) (r : Result (Option Grown) E) (room : ℕ) → is_below a.to (start_of behind) ≡ false
-      → IsAddTold (f (get_or xs p d)) (f y) (s (get_or xs p d)) (s y) (before_second a) room r → IsAddTold (nodes_of ls) (nodes_of (map f (set xs p y))) (sizes_of (map s xs)) (sizes_of (map s (set xs p y))) a room r
-  told_before_next s r room below told = told_here s r room None (ap (λ (b : Bool). cond b a.second None) (sym below)) told
+  pub told_before_next : {E : Type 0} (s : X → List ℕ) (r : Result (Option Grown) E) (room : ℕ) →
+      is_below a.to (start_of behind) ≡ false
+      → IsAddTold (f (get_or xs p d)) (f y) (s (get_or xs p d)) (s y) (before_second a) room r →
+      IsAddTold (nodes_of ls) (nodes_of (map f (set xs p y))) (sizes_of (map s xs))
+      (sizes_of (map s (set xs p y))) a room r
+  told_before_next s r room below told =
+      told_here s r room None (ap (λ (b : Bool). cond b a.second None) (sym below)) told

@@ -7,91 +7,127 @@ use Rattle.tsc_time.specs.OwnedTime.{OwnedTime, unowned}
 use Rattle.tsc_time.specs.Joint.{joint}
 use Rattle.tsc_time.proofs.RatchetOrder.{IsAtMost-antisymmetric}
 use Rattle.tsc_span.specs.Span.{KeyBytes, Cut, before, after, last, Interval, between, overlaps, is_below}
-use Rattle.tsc_page_base.specs.PageView.{is_in}
-use Rattle.tsc_page_base.specs.Nodes.{Node, node_keys, node_stretches, IsSorted, answer_of, raise_nodes}
+use Rattle.tsc_page_nodes.specs.PageView.{is_in}
+use Rattle.tsc_page_nodes.specs.Nodes.{Node, node_keys, node_stretches, IsSorted, answer_of, raise_nodes}
 use Rattle.tsc_page_tree.specs.Leaves.{nodes_of, start_of}
 use Rattle.tsc_page_tree.specs.Pending.{everything, with_pending, merged, seen_with}
-use Rattle.tsc_page_base.proofs.CutOrder.{Lt, Le, Lt-not_Le, Le-from_Lt, Le-itself, Lt-chain, Le_Lt-chain, before-after, below_last, none_above_last, overlaps-from}
-use Rattle.tsc_page_base.proofs.Cuts.{lowest, raise_nodes_answers}
-use Rattle.tsc_page_base.proofs.Edits.{raise_nodes-keys, raise_nodes-start, raise_nodes-length, raise_nodes-sorted}
-use Rattle.tsc_page_base.proofs.Answers.{Meets}
-use Rattle.tsc_page_base.proofs.Raises.{first_below, second_below, both_below}
-use Rattle.tsc_page_base.proofs.Seen.{none_seen}
+use Rattle.tsc_page_nodes.proofs.CutOrder.{Lt, Le, Lt-not_Le, Le-from_Lt, Le-itself, Lt-chain, Le_Lt-chain, before-after, below_last, none_above_last, overlaps-from}
+use Rattle.tsc_page_nodes.proofs.Cuts.{lowest, raise_nodes_answers}
+use Rattle.tsc_page_nodes.proofs.Edits.{raise_nodes-keys, raise_nodes-start, raise_nodes-length, raise_nodes-sorted}
+use Rattle.tsc_page_nodes.proofs.Answers.{Meets}
+use Rattle.tsc_page_nodes.proofs.Raises.{first_below, second_below, both_below}
+use Rattle.tsc_page_nodes.proofs.Seen.{none_seen}
 use Rattle.tsc_page_tree.proofs.Joins.{sorted_left, sorted_right, up_to_last, meets_none}
 use Rattle.tsc_page_tree.proofs.LeafAnswers.{answer_is, one_joint, joint-chain}
 
 -- two values in either order
 pub joint-turned : (a b : OwnedTime) → joint a (b ∷ []) ≡ joint b (a ∷ [])
-joint-turned a b = IsAtMost-antisymmetric (joint a (b ∷ [])) (joint b (a ∷ [])) (both_below a b (joint b (a ∷ [])) (second_below b a) (first_below b a)) (both_below b a (joint a (b ∷ [])) (second_below a b) (first_below a b))
+joint-turned a b = IsAtMost-antisymmetric (joint a (b ∷ [])) (joint b (a ∷ []))
+    (both_below a b (joint b (a ∷ [])) (second_below b a) (first_below b a))
+    (both_below b a (joint a (b ∷ [])) (second_below a b) (first_below a b))
 
 -- and ratcheted into a third one
-pub joint-swapped : (a b c : OwnedTime) → joint (joint a (b ∷ [])) (c ∷ []) ≡ joint (joint a (c ∷ [])) (b ∷ [])
-joint-swapped a b c = sym (joint-chain a b c) ∙ ap (λ (w : OwnedTime). joint a (w ∷ [])) (joint-turned b c) ∙ joint-chain a c b
+pub joint-swapped : (a b c : OwnedTime) →
+    joint (joint a (b ∷ [])) (c ∷ []) ≡ joint (joint a (c ∷ [])) (b ∷ [])
+joint-swapped a b c = sym (joint-chain a b c) ∙
+    ap (λ (w : OwnedTime). joint a (w ∷ [])) (joint-turned b c) ∙ joint-chain a c b
 
 -- nodes with the same keys and values
-same_first : (k : KeyBytes) (a b c d : OwnedTime) (ns ms : List Node) → a ≡ b → c ≡ d → ns ≡ ms → record { key = k; value = a; gap = c } ∷ ns ≡ record { key = k; value = b; gap = d } ∷ ms
+same_first : (k : KeyBytes) (a b c d : OwnedTime) (ns ms : List Node) → a ≡ b → c ≡ d → ns ≡ ms →
+    record { key = k; value = a; gap = c } ∷ ns ≡ record { key = k; value = b; gap = d } ∷ ms
 same_first k a b c d ns ms p q r = rw (p, q, r) refl
 
-either_first : (x v w : OwnedTime) (a b : Bool) → cond a (joint (cond b (joint x (w ∷ [])) x) (v ∷ [])) (cond b (joint x (w ∷ [])) x) ≡ cond b (joint (cond a (joint x (v ∷ [])) x) (w ∷ [])) (cond a (joint x (v ∷ [])) x)
+either_first : (x v w : OwnedTime) (a b : Bool) →
+    cond a (joint (cond b (joint x (w ∷ [])) x) (v ∷ [])) (cond b (joint x (w ∷ [])) x) ≡
+    cond b (joint (cond a (joint x (v ∷ [])) x) (w ∷ [])) (cond a (joint x (v ∷ [])) x)
 either_first x v w true true = joint-swapped x w v
 either_first x v w true false = refl
 either_first x v w false true = refl
 either_first x v w false false = refl
 
 -- values raised in two spans, in either order
-pub raise_twice : (s t : Interval) (v w : OwnedTime) (ns : List Node) → raise_nodes s v (raise_nodes t w ns) ≡ raise_nodes t w (raise_nodes s v ns)
+pub raise_twice : (s t : Interval) (v w : OwnedTime) (ns : List Node) →
+    raise_nodes s v (raise_nodes t w ns) ≡ raise_nodes t w (raise_nodes s v ns)
 raise_twice s t v w [] = refl
-raise_twice s t v w (n ∷ ns) = same_first n.key _ _ _ _ _ _ (either_first n.value v w (overlaps (between (before n.key) (after n.key)) s) (overlaps (between (before n.key) (after n.key)) t)) gap (raise_twice s t v w ns)
+raise_twice s t v w (n ∷ ns) = same_first n.key _ _ _ _ _ _
+    (either_first n.value v w (overlaps (between (before n.key) (after n.key)) s)
+    (overlaps (between (before n.key) (after n.key)) t)) gap (raise_twice s t v w ns)
   where
-    gap : cond (overlaps (between (after n.key) (start_of (raise_nodes t w ns))) s) (joint (cond (overlaps (between (after n.key) (start_of ns)) t) (joint n.gap (w ∷ [])) n.gap) (v ∷ [])) (cond (overlaps (between (after n.key) (start_of ns)) t) (joint n.gap (w ∷ [])) n.gap)
-        ≡ cond (overlaps (between (after n.key) (start_of (raise_nodes s v ns))) t) (joint (cond (overlaps (between (after n.key) (start_of ns)) s) (joint n.gap (v ∷ [])) n.gap) (w ∷ [])) (cond (overlaps (between (after n.key) (start_of ns)) s) (joint n.gap (v ∷ [])) n.gap)
-    gap = rw (raise_nodes-start t w ns, raise_nodes-start s v ns) (either_first n.gap v w (overlaps (between (after n.key) (start_of ns)) s) (overlaps (between (after n.key) (start_of ns)) t))
+    gap : cond (overlaps (between (after n.key) (start_of (raise_nodes t w ns))) s)
+        (joint (cond (overlaps (between (after n.key) (start_of ns)) t) (joint n.gap (w ∷ []))
+        n.gap) (v ∷ [])) (cond (overlaps (between (after n.key) (start_of ns)) t)
+        (joint n.gap (w ∷ [])) n.gap)
+        ≡ cond (overlaps (between (after n.key) (start_of (raise_nodes s v ns))) t)
+        (joint (cond (overlaps (between (after n.key) (start_of ns)) s) (joint n.gap (v ∷ []))
+        n.gap) (w ∷ [])) (cond (overlaps (between (after n.key) (start_of ns)) s)
+        (joint n.gap (v ∷ [])) n.gap)
+    gap = rw (raise_nodes-start t w ns, raise_nodes-start s v ns)
+        (either_first n.gap v w (overlaps (between (after n.key) (start_of ns)) s)
+        (overlaps (between (after n.key) (start_of ns)) t))
 
 -- what is pending may be ratcheted in before or after
-pub raise_pending : (p : Option OwnedTime) (s : Interval) (v : OwnedTime) (ns : List Node) → with_pending p (raise_nodes s v ns) ≡ raise_nodes s v (with_pending p ns)
+pub raise_pending : (p : Option OwnedTime) (s : Interval) (v : OwnedTime) (ns : List Node) →
+    with_pending p (raise_nodes s v ns) ≡ raise_nodes s v (with_pending p ns)
 raise_pending None s v ns = refl
 raise_pending (Some w) s v ns = raise_twice everything s w v ns
 
-both_at_once : (x v w : OwnedTime) (a : Bool) → cond a (joint x (joint w (v ∷ []) ∷ [])) x ≡ cond a (joint (cond a (joint x (w ∷ [])) x) (v ∷ [])) (cond a (joint x (w ∷ [])) x)
+both_at_once : (x v w : OwnedTime) (a : Bool) →
+    cond a (joint x (joint w (v ∷ []) ∷ [])) x ≡
+    cond a (joint (cond a (joint x (w ∷ [])) x) (v ∷ [])) (cond a (joint x (w ∷ [])) x)
 both_at_once x v w true = joint-chain x w v
 both_at_once x v w false = refl
 
 -- one value raised after another is their joint value raised
-pub raise_joint : (s : Interval) (v w : OwnedTime) (ns : List Node) → raise_nodes s (joint w (v ∷ [])) ns ≡ raise_nodes s v (raise_nodes s w ns)
+pub raise_joint : (s : Interval) (v w : OwnedTime) (ns : List Node) →
+    raise_nodes s (joint w (v ∷ [])) ns ≡ raise_nodes s v (raise_nodes s w ns)
 raise_joint s v w [] = refl
-raise_joint s v w (n ∷ ns) = same_first n.key _ _ _ _ _ _ (both_at_once n.value v w (overlaps (between (before n.key) (after n.key)) s)) gap (raise_joint s v w ns)
+raise_joint s v w (n ∷ ns) = same_first n.key _ _ _ _ _ _
+    (both_at_once n.value v w (overlaps (between (before n.key) (after n.key)) s)) gap
+    (raise_joint s v w ns)
   where
-    gap : cond (overlaps (between (after n.key) (start_of ns)) s) (joint n.gap (joint w (v ∷ []) ∷ [])) n.gap
-        ≡ cond (overlaps (between (after n.key) (start_of (raise_nodes s w ns))) s) (joint (cond (overlaps (between (after n.key) (start_of ns)) s) (joint n.gap (w ∷ [])) n.gap) (v ∷ [])) (cond (overlaps (between (after n.key) (start_of ns)) s) (joint n.gap (w ∷ [])) n.gap)
-    gap = rw (raise_nodes-start s w ns) (both_at_once n.gap v w (overlaps (between (after n.key) (start_of ns)) s))
+    gap : cond (overlaps (between (after n.key) (start_of ns)) s)
+        (joint n.gap (joint w (v ∷ []) ∷ [])) n.gap
+        ≡ cond (overlaps (between (after n.key) (start_of (raise_nodes s w ns))) s)
+        (joint (cond (overlaps (between (after n.key) (start_of ns)) s) (joint n.gap (w ∷ []))
+        n.gap) (v ∷ [])) (cond (overlaps (between (after n.key) (start_of ns)) s)
+        (joint n.gap (w ∷ [])) n.gap)
+    gap = rw (raise_nodes-start s w ns)
+        (both_at_once n.gap v w (overlaps (between (after n.key) (start_of ns)) s))
 
 -- so is one that joins what is pending
-pub raise_merged : (p : Option OwnedTime) (v : OwnedTime) (ns : List Node) → with_pending (Some (merged p v)) ns ≡ raise_nodes everything v (with_pending p ns)
+pub raise_merged : (p : Option OwnedTime) (v : OwnedTime) (ns : List Node) →
+    with_pending (Some (merged p v)) ns ≡ raise_nodes everything v (with_pending p ns)
 raise_merged None v ns = refl
 raise_merged (Some w) v ns = raise_joint everything v w ns
 
 -- what is pending keeps the keys, where they begin, how many there are and their order
-pub pending-keys : (p : Option OwnedTime) (ns : List Node) → node_keys (with_pending p ns) ≡ node_keys ns
+pub pending-keys : (p : Option OwnedTime) (ns : List Node) →
+    node_keys (with_pending p ns) ≡ node_keys ns
 pending-keys None ns = refl
 pending-keys (Some v) ns = raise_nodes-keys everything v ns
 
-pub pending-is_in : (p : Option OwnedTime) (k : KeyBytes) (ns : List Node) → is_in k (node_keys (with_pending p ns)) ≡ is_in k (node_keys ns)
+pub pending-is_in : (p : Option OwnedTime) (k : KeyBytes) (ns : List Node) →
+    is_in k (node_keys (with_pending p ns)) ≡ is_in k (node_keys ns)
 pending-is_in p k ns = ap (λ (ks : List KeyBytes). is_in k ks) (pending-keys p ns)
 
-pub pending-start : (p : Option OwnedTime) (ns : List Node) → start_of (with_pending p ns) ≡ start_of ns
+pub pending-start : (p : Option OwnedTime) (ns : List Node) →
+    start_of (with_pending p ns) ≡ start_of ns
 pending-start None ns = refl
 pending-start (Some v) ns = raise_nodes-start everything v ns
 
-pub pending-length : (p : Option OwnedTime) (ns : List Node) → length (with_pending p ns) ≡ length ns
+pub pending-length : (p : Option OwnedTime) (ns : List Node) →
+    length (with_pending p ns) ≡ length ns
 pending-length None ns = refl
 pending-length (Some v) ns = raise_nodes-length everything v ns
 
-pub pending-sorted : (p : Option OwnedTime) (ns : List Node) → IsSorted ns → IsSorted (with_pending p ns)
+pub pending-sorted : (p : Option OwnedTime) (ns : List Node) → IsSorted ns →
+    IsSorted (with_pending p ns)
 pending-sorted None ns sorted = sorted
 pending-sorted (Some v) ns sorted = raise_nodes-sorted everything v ns sorted
 
 -- and what has them has them without it
-pub sorted_without : (p : Option OwnedTime) (ns : List Node) → IsSorted (with_pending p ns) → IsSorted ns
+pub sorted_without : (p : Option OwnedTime) (ns : List Node) → IsSorted (with_pending p ns) →
+    IsSorted ns
 sorted_without None ns sorted = sorted
 sorted_without (Some v) ns sorted = by ns sorted
   where
@@ -105,9 +141,12 @@ abbrev pub raised_node : OwnedTime → Node → Node
 raised_node v n = record { key = n.key; value = joint n.value (v ∷ []); gap = joint n.gap (v ∷ []) }
 
 -- from where nodes begin or below it each is raised
-pub raise_each : (f : Cut) (v : OwnedTime) (ns : List Node) → IsSorted ns → Le f (start_of ns) → raise_nodes (between f last) v ns ≡ map (raised_node v) ns
+pub raise_each : (f : Cut) (v : OwnedTime) (ns : List Node) → IsSorted ns → Le f (start_of ns) →
+    raise_nodes (between f last) v ns ≡ map (raised_node v) ns
 raise_each f v [] sorted low = refl
-raise_each f v (n ∷ ns) sorted low = rw (key, gap) (ap (λ (ms : List Node). raised_node v n ∷ ms) (raise_each f v ns sorted.1 (Le-from_Lt f (start_of ns) to_next)))
+raise_each f v (n ∷ ns) sorted low =
+    rw (key, gap) (ap (λ (ms : List Node). raised_node v n ∷ ms)
+    (raise_each f v ns sorted.1 (Le-from_Lt f (start_of ns) to_next)))
   where
     to_after : Lt f (after n.key)
     to_after = Le_Lt-chain f (before n.key) (after n.key) low (before-after n.key)
@@ -116,66 +155,120 @@ raise_each f v (n ∷ ns) sorted low = rw (key, gap) (ap (λ (ms : List Node). r
     to_next = Lt-chain f (after n.key) (start_of ns) to_after sorted.0
 
     key : overlaps (between (before n.key) (after n.key)) (between f last) ≡ true
-    key = overlaps-from (before n.key) (after n.key) f last (before-after n.key, up_to_last (before n.key) (after n.key) (before-after n.key), to_after, up_to_last f (after n.key) to_after)
+    key = overlaps-from (before n.key) (after n.key) f last (
+      before-after n.key,
+      up_to_last (before n.key) (after n.key) (before-after n.key),
+      to_after,
+      up_to_last f (after n.key) to_after,
+    )
 
     gap : overlaps (between (after n.key) (start_of ns)) (between f last) ≡ true
-    gap = overlaps-from (after n.key) (start_of ns) f last (sorted.0, below_last n.key, to_next, up_to_last f (after n.key) to_after)
+    gap = overlaps-from (after n.key) (start_of ns) f last
+        (sorted.0, below_last n.key, to_next, up_to_last f (after n.key) to_after)
 
-pub raise_all : (v : OwnedTime) (ns : List Node) → IsSorted ns → raise_nodes everything v ns ≡ map (raised_node v) ns
+pub raise_all : (v : OwnedTime) (ns : List Node) → IsSorted ns →
+    raise_nodes everything v ns ≡ map (raised_node v) ns
 raise_all v ns sorted = raise_each (before []) v ns sorted (lowest (start_of ns))
 
 -- of two lists each is raised
-pub raise_append : (v : OwnedTime) (xs ys : List Node) → IsSorted (xs ++ ys) → raise_nodes everything v (xs ++ ys) ≡ raise_nodes everything v xs ++ raise_nodes everything v ys
-raise_append v xs ys sorted = rw (raise_all v (xs ++ ys) sorted, raise_all v xs (sorted_left xs ys sorted), raise_all v ys (sorted_right xs ys sorted)) (map-append (raised_node v) xs ys)
+pub raise_append : (v : OwnedTime) (xs ys : List Node) → IsSorted (xs ++ ys) →
+    raise_nodes everything v (xs ++ ys) ≡ raise_nodes everything v xs ++ raise_nodes everything v ys
+raise_append v xs ys sorted = rw (
+  raise_all v (xs ++ ys) sorted,
+  raise_all v xs (sorted_left xs ys sorted),
+  raise_all v ys (sorted_right xs ys sorted),
+)
+    (map-append (raised_node v) xs ys)
 
-pub pending_append : (p : Option OwnedTime) (xs ys : List Node) → IsSorted (xs ++ ys) → with_pending p (xs ++ ys) ≡ with_pending p xs ++ with_pending p ys
+pub pending_append : (p : Option OwnedTime) (xs ys : List Node) → IsSorted (xs ++ ys) →
+    with_pending p (xs ++ ys) ≡ with_pending p xs ++ with_pending p ys
 pending_append None xs ys sorted = refl
 pending_append (Some v) xs ys sorted = raise_append v xs ys sorted
 
 -- and of parts each one
-pub pending_parts : {X : Type 0} (p : Option OwnedTime) (f : X → List Node) (xs : List X) → IsSorted (nodes_of (map f xs)) → nodes_of (map (λ (x : X). with_pending p (f x)) xs) ≡ with_pending p (nodes_of (map f xs))
+pub pending_parts : {X : Type 0} (p : Option OwnedTime) (f : X → List Node) (xs : List X) →
+    IsSorted (nodes_of (map f xs)) →
+    nodes_of (map (λ (x : X). with_pending p (f x)) xs) ≡ with_pending p (nodes_of (map f xs))
 pending_parts None f [] sorted = refl
 pending_parts (Some v) f [] sorted = refl
-pending_parts p f (x ∷ xs) sorted = ap (λ (ns : List Node). with_pending p (f x) ++ ns) (pending_parts p f xs (sorted_right (f x) (nodes_of (map f xs)) sorted)) ∙ sym (pending_append p (f x) (nodes_of (map f xs)) sorted)
+pending_parts p f (x ∷ xs) sorted =
+    ap (λ (ns : List Node). with_pending p (f x) ++ ns)
+    (pending_parts p f xs (sorted_right (f x) (nodes_of (map f xs)) sorted)) ∙
+    sym (pending_append p (f x) (nodes_of (map f xs)) sorted)
 
-pub raise_parts : {X : Type 0} (v : OwnedTime) (f : X → List Node) (xs : List X) → IsSorted (nodes_of (map f xs)) → nodes_of (map (λ (x : X). raise_nodes everything v (f x)) xs) ≡ raise_nodes everything v (nodes_of (map f xs))
+pub raise_parts : {X : Type 0} (v : OwnedTime) (f : X → List Node) (xs : List X) →
+    IsSorted (nodes_of (map f xs)) →
+    nodes_of (map (λ (x : X). raise_nodes everything v (f x)) xs) ≡ raise_nodes everything v
+    (nodes_of (map f xs))
 raise_parts v f xs sorted = pending_parts (Some v) f xs sorted
 
-pub raise_leaves : (v : OwnedTime) (ls : List (List Node)) → IsSorted (nodes_of ls) → nodes_of (map (λ (l : List Node). raise_nodes everything v l) ls) ≡ raise_nodes everything v (nodes_of ls)
+pub raise_leaves : (v : OwnedTime) (ls : List (List Node)) → IsSorted (nodes_of ls) →
+    nodes_of (map (λ (l : List Node). raise_nodes everything v l) ls) ≡ raise_nodes everything v
+    (nodes_of ls)
 raise_leaves v [] sorted = refl
-raise_leaves v (l ∷ ls) sorted = ap (λ (ns : List Node). raise_nodes everything v l ++ ns) (raise_leaves v ls (sorted_right l (nodes_of ls) sorted)) ∙ sym (raise_append v l (nodes_of ls) sorted)
+raise_leaves v (l ∷ ls) sorted = ap (λ (ns : List Node). raise_nodes everything v l ++ ns)
+    (raise_leaves v ls (sorted_right l (nodes_of ls) sorted)) ∙
+    sym (raise_append v l (nodes_of ls) sorted)
 
 -- also where what each part is raised to is told by its place
-pub raised_places : {X Y : Type 0} (v : OwnedTime) (f : X → List Node) (g : Y → List Node) (old : List X) (new : List Y) → length new ≡ length old → ((i : ℕ) (d : X) (e : Y) → i < length old → g (get_or new i e) ≡ raise_nodes everything v (f (get_or old i d))) → IsSorted (nodes_of (map f old)) → nodes_of (map g new) ≡ raise_nodes everything v (nodes_of (map f old))
+pub raised_places : {X Y : Type 0} (v : OwnedTime) (f : X → List Node) (g : Y → List Node)
+    (old : List X) (new : List Y) → length new ≡ length old →
+    ((i : ℕ) (d : X) (e : Y) → i < length old →
+    g (get_or new i e) ≡ raise_nodes everything v (f (get_or old i d))) →
+    IsSorted (nodes_of (map f old)) →
+    nodes_of (map g new) ≡ raise_nodes everything v (nodes_of (map f old))
 raised_places v f g [] [] long each sorted = refl
 raised_places v f g [] (y ∷ new) long each sorted = absurd (omega (arith, long))
 raised_places v f g (x ∷ old) [] long each sorted = absurd (omega (arith, long))
 raised_places v f g (x ∷ old) (y ∷ new) long each sorted =
     ap (λ (ns : List Node). ns ++ nodes_of (map g new)) (each 0 x y (omega arith))
-    ∙ ap (λ (ns : List Node). raise_nodes everything v (f x) ++ ns) (raised_places v f g old new (omega (arith, long)) (λ i d e h. each (suc i) d e (omega (arith, h))) (sorted_right (f x) (nodes_of (map f old)) sorted))
+    ∙ ap (λ (ns : List Node). raise_nodes everything v (f x) ++ ns)
+    (raised_places v f g old new (omega (arith, long))
+    (λ i d e h. each (suc i) d e (omega (arith, h)))
+    (sorted_right (f x) (nodes_of (map f old)) sorted))
     ∙ sym (raise_append v (f x) (nodes_of (map f old)) sorted)
 
 -- A value raised in all nodes joins each answer to a span that reaches where they begin.
-pub raised_answer : (f t : Cut) (v : OwnedTime) (ns : List Node) → IsSorted ns → Lt f t → Lt (start_of ns) t → answer_of (raise_nodes everything v ns) (between f t) ≡ joint (answer_of ns (between f t)) (v ∷ [])
+pub raised_answer : (f t : Cut) (v : OwnedTime) (ns : List Node) → IsSorted ns → Lt f t →
+    Lt (start_of ns) t → answer_of (raise_nodes everything v ns) (between f t) ≡
+    joint (answer_of ns (between f t)) (v ∷ [])
 raised_answer f t v [] sorted up reaches = absurd (Lt-not_Le last t reaches (none_above_last t))
 raised_answer f t v (n ∷ ns) sorted up reaches =
-    ap (λ (ms : List Node). answer_of ms (between f t)) (raise_all v (n ∷ ns) sorted ∙ sym (raise_each (before n.key) v (n ∷ ns) sorted (Le-itself (before n.key))))
+    ap (λ (ms : List Node). answer_of ms (between f t))
+    (raise_all v (n ∷ ns) sorted ∙
+    sym (raise_each (before n.key) v (n ∷ ns) sorted (Le-itself (before n.key))))
     ∙ raise_nodes_answers (before n.key) last v (n ∷ ns) sorted (inl refl) (inl refl) (between f t)
-    ∙ ap (λ (b : Bool). cond b (joint (answer_of (n ∷ ns) (between f t)) (v ∷ [])) (answer_of (n ∷ ns) (between f t)))
-    (overlaps-from (before n.key) last f t (up_to_last (before n.key) (after n.key) (before-after n.key), reaches, up_to_last f t up, up))
+    ∙ ap (λ (b : Bool). cond b (joint (answer_of (n ∷ ns) (between f t)) (v ∷ []))
+    (answer_of (n ∷ ns) (between f t)))
+    (overlaps-from (before n.key) last f t (
+      up_to_last (before n.key) (after n.key) (before-after n.key),
+      reaches,
+      up_to_last f t up,
+      up,
+    ))
 
 -- Below where nodes begin there is nothing.
-pub answer_below : (f t : Cut) (ns : List Node) → IsSorted ns → Le t (start_of ns) → answer_of ns (between f t) ≡ unowned zero_time
-answer_below f t ns sorted high = one_joint _ _ _ _ (λ w m. m) (λ w m. m) (answer_is (between f t) ns) (none_seen (Meets (between f t) (node_stretches ns)) (λ w m. meets_none f t w ns sorted high m))
+pub answer_below : (f t : Cut) (ns : List Node) → IsSorted ns → Le t (start_of ns) →
+    answer_of ns (between f t) ≡ unowned zero_time
+answer_below f t ns sorted high = one_joint _ _ _ _ (λ w m. m) (λ w m. m)
+    (answer_is (between f t) ns) (none_seen (Meets (between f t) (node_stretches ns))
+    (λ w m. meets_none f t w ns sorted high m))
 
-pub pending_below : (p : Option OwnedTime) (f t : Cut) (ns : List Node) → IsSorted ns → Le t (start_of ns) → answer_of (with_pending p ns) (between f t) ≡ unowned zero_time
-pending_below p f t ns sorted high = answer_below f t (with_pending p ns) (pending-sorted p ns sorted) (subst (λ (c : Cut). Le t c) (sym (pending-start p ns)) high)
+pub pending_below : (p : Option OwnedTime) (f t : Cut) (ns : List Node) → IsSorted ns →
+    Le t (start_of ns) → answer_of (with_pending p ns) (between f t) ≡ unowned zero_time
+pending_below p f t ns sorted high =
+    answer_below f t (with_pending p ns) (pending-sorted p ns sorted)
+    (subst (λ (c : Cut). Le t c) (sym (pending-start p ns)) high)
 
 -- so what is pending joins an answer just where the span reaches where they begin
-pub pending_answer : (p : Option OwnedTime) (f t : Cut) (ns : List Node) → IsSorted ns → Lt f t → answer_of (with_pending p ns) (between f t) ≡ seen_with p (is_below (start_of ns) t) (answer_of ns (between f t))
+pub pending_answer : (p : Option OwnedTime) (f t : Cut) (ns : List Node) → IsSorted ns → Lt f t →
+    answer_of (with_pending p ns) (between f t) ≡ seen_with p (is_below (start_of ns) t)
+    (answer_of ns (between f t))
 pending_answer None f t ns sorted up = refl
 pending_answer (Some v) f t ns sorted up = by (is_below (start_of ns) t) refl
   where
-    by : (b : Bool) → is_below (start_of ns) t ≡ b → answer_of (raise_nodes everything v ns) (between f t) ≡ cond b (joint (answer_of ns (between f t)) (v ∷ [])) (answer_of ns (between f t))
+    by : (b : Bool) → is_below (start_of ns) t ≡ b →
+        answer_of (raise_nodes everything v ns) (between f t) ≡
+        cond b (joint (answer_of ns (between f t)) (v ∷ [])) (answer_of ns (between f t))
     by true h = raised_answer f t v ns sorted up h
     by false h = pending_below (Some v) f t ns sorted h ∙ sym (answer_below f t ns sorted h)

@@ -1,17 +1,18 @@
 -- A value raised over several parts whose end keys have nodes.
 use Rattle.std.specs.Prelude.{◌≡◌, ℕ, suc, ◌≤◌, ◌-◌, List, [], length, drop, slice_index_or, Bool, true, false, Option, Some, None}
 use Rattle.tsc_span.specs.Span.{KeyBytes, Cut, before, last, between, is_below}
-use Rattle.tsc_page_base.specs.PageView.{is_in}
-use Rattle.tsc_page_base.specs.Nodes.{Node, node_keys, raise_nodes}
+use Rattle.tsc_page_nodes.specs.PageView.{is_in}
+use Rattle.tsc_page_nodes.specs.Nodes.{Node, node_keys, raise_nodes}
+use Rattle.tsc_page_nodes.specs.Additions.{Addend}
 use Rattle.tsc_page_tree.specs.Leaves.{nodes_of, start_of}
-use Rattle.tsc_page_tree.specs.Pending.{Addend}
 
 -- a key has a node, where it is one
 abbrev pub HasKey : Option KeyBytes → List Node → Type 0
 HasKey None ns = Unit {0}
 HasKey (Some k) ns = is_in k (node_keys ns) ≡ true
 
--- What a part and one behind it become where a span starts in the first and stops in the second: each is raised, and the end keys have nodes.
+-- What a part and one behind it become where a span starts in the first and stops in the second:
+-- each is raised, and the end keys have nodes.
 pub record AreRaisedAcross (low new_low high new_high : List Node) (a : Addend) : Type 0 where
   pub first : HasKey a.first low
   pub second : HasKey a.second high

@@ -1,10 +1,10 @@
 -- How the nodes of a page stand in leaves, one after another.
 use Rattle.std.specs.List.{All}
-use Rattle.std.specs.Prelude.{◌≡◌, ℕ, suc, ◌<◌, ◌≤◌, ◌-◌, ◌⊎◌, List, [], ◌∷◌, ◌++◌, length, map, slice_index_or, true, false, Option, Some, None, if◌then◌else◌}
+use Rattle.std.specs.Prelude.{◌≡◌, ℕ, suc, ◌<◌, ◌≤◌, ◌-◌, List, [], ◌∷◌, ◌++◌, length, map, slice_index_or, true, false, Option, Some, None, if◌then◌else◌}
 use Rattle.tsc_time.specs.OwnedTime.{OwnedTime}
 use Rattle.tsc_span.specs.Span.{KeyBytes, Cut, before, after, Interval, is_below, end_keys}
-use Rattle.tsc_page_base.specs.PageView.{AreLeafSizes}
-use Rattle.tsc_page_base.specs.Nodes.{Node, next_cut, node_stretches, IsSorted, IsNewKey, IsSplitAt, with_new, raise_nodes}
+use Rattle.tsc_page_nodes.specs.PageView.{AreLeafSizes}
+use Rattle.tsc_page_nodes.specs.Nodes.{Node, next_cut, node_stretches, IsSorted, IsNewKey, IsSplitAt, with_new, raise_nodes}
 
 -- the nodes of all leaves, in their order
 abbrev pub nodes_of : List (List Node) → List Node
@@ -21,7 +21,8 @@ AreSome [] = Unit {0}
 AreSome (l ∷ ls) = (1 ≤ length l) × AreSome ls
 
 -- Parts that are as they have to be, one by one and in the order of their keys.
-pub record AreParts {X : Type 0} (nodes : X → List Node) (IsWhole : X → Type 0) (xs : List X) : Type 0 where
+pub record AreParts {X : Type 0} (nodes : X → List Node) (IsWhole : X → Type 0) (xs : List X) : Type
+    0 where
   pub whole : All IsWhole xs
   pub sorted : IsSorted (nodes_of (map nodes xs))
 
@@ -44,18 +45,21 @@ pub record AreLeaves (ls : List (List Node)) : Type 0 where
   pub sizes : AreLeafSizes (leaf_sizes ls)
   pub sorted : IsSorted (nodes_of ls)
 
--- The place of the leaf in which a cut falls: the last one that does not begin above it, or the first one.
+-- The place of the leaf in which a cut falls: the last one that does not begin above it, or the
+-- first one.
 pub record IsLeafAt (ls : List (List Node)) (c : Cut) (p : ℕ) : Type 0 where
   pub bound : p ≤ length ls - 1
   pub low : 1 ≤ p → is_below c (start_of (slice_index_or ls p [])) ≡ false
   pub high : suc p < length ls → is_below c (start_of (slice_index_or ls (suc p) [])) ≡ true
 
--- A place at which no leaf begins above a cut: the first one, whatever is there, or that of a leaf that doesn't.
+-- A place at which no leaf begins above a cut: the first one, whatever is there, or that of a leaf
+-- that doesn't.
 pub record IsNotAbove (ls : List (List Node)) (c : Cut) (p : ℕ) : Type 0 where
   pub bound : p ≤ length ls - 1
   pub low : 1 ≤ p → is_below c (start_of (slice_index_or ls p [])) ≡ false
 
--- What an Add of a span makes of nodes: those of its end keys come in, and the value is raised in it.
+-- What an Add of a span makes of nodes: those of its end keys come in, and the value is raised in
+-- it.
 pub record AddsTo (old new : List Node) (span : Interval) (value : OwnedTime) : Type 0 where
   pub mid : List Node
   pub split : IsSplitAt old mid (end_keys span)
@@ -65,8 +69,3 @@ pub record AddsTo (old new : List Node) (span : Interval) (value : OwnedTime) : 
 abbrev pub key_below : Cut → Option KeyBytes → Option KeyBytes
 key_below c None = None
 key_below c (Some k) = if is_below (after k) c then Some k else None
-
--- a key at a cut, where it is one
-abbrev pub LiesAt : Option KeyBytes → Cut → Type 0
-LiesAt None c = Unit {0}
-LiesAt (Some k) c = (c ≡ before k) ⊎ (c ≡ after k)

@@ -7,8 +7,8 @@ pub mod KeyAdds
 pub use Rattle.tsc_time.specs.Time
 pub use Rattle.tsc_time.specs.Joint
 pub use Rattle.tsc_span.specs.Span
-pub use Rattle.tsc_page_base.specs.Page
-pub use Rattle.tsc_page_base.specs.PageView
-pub use Rattle.tsc_page_base.specs.Nodes
-pub use Rattle.tsc_page_base.specs.Numbers
-pub use Rattle.tsc_page_base.specs.KeysAbove
+pub use Rattle.tsc_page_nodes.specs.Page
+pub use Rattle.tsc_page_nodes.specs.PageView
+pub use Rattle.tsc_page_nodes.specs.Nodes
+pub use Rattle.tsc_page_nodes.specs.Numbers
+pub use Rattle.tsc_page_nodes.specs.KeysAbove

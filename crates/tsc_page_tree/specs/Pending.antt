@@ -3,10 +3,11 @@ use Rattle.std.specs.Prelude.{◌≡◌, List, [], ◌∷◌, ◌++◌, ℕ, ◌
 use Rattle.tsc_time.specs.OwnedTime.{OwnedTime}
 use Rattle.tsc_time.specs.Joint.{joint}
 use Rattle.tsc_span.specs.Span.{KeyBytes, Cut, before, last, Interval, between}
-use Rattle.tsc_page_base.specs.PageView.{AreLeafSizes}
-use Rattle.tsc_page_base.specs.Numbers.{IsCutNumber}
-use Rattle.tsc_page_base.specs.Nodes.{Node, AddsNodes, GrowsBy, answer_of, raise_nodes}
-use Rattle.tsc_page_base.specs.declared.nodes.Grown.{Grown}
+use Rattle.tsc_page_nodes.specs.PageView.{AreLeafSizes}
+use Rattle.tsc_page_nodes.specs.Numbers.{IsCutNumber}
+use Rattle.tsc_page_nodes.specs.Nodes.{Node, AddsNodes, GrowsBy, answer_of, raise_nodes}
+use Rattle.tsc_page_nodes.specs.declared.nodes.Grown.{Grown}
+use Rattle.tsc_page_nodes.specs.Additions.{Addend}
 use Rattle.tsc_page_tree.specs.Leaves.{start_of}
 
 -- all keys and gaps
@@ -32,8 +33,10 @@ abbrev pub seen_with : Option OwnedTime → Bool → OwnedTime → OwnedTime
 seen_with None reached w = w
 seen_with (Some v) reached w = if reached then joint w (v ∷ []) else w
 
--- What is told of nodes over which a value is held back: where they begin, and the joint value of all.
-pub record IsToldOf (number : ℕ) (all : OwnedTime) (pending : Option OwnedTime) (ns : List Node) : Type 0 where
+-- What is told of nodes over which a value is held back: where they begin, and the joint value of
+-- all.
+pub record IsToldOf (number : ℕ) (all : OwnedTime) (pending : Option OwnedTime) (ns : List Node) :
+    Type 0 where
   pub some : 1 ≤ length ns
   pub start : IsCutNumber number (start_of ns)
   pub joint : all ≡ all_joint (with_pending pending ns)
@@ -53,18 +56,6 @@ abbrev pub TellsSize : List ℕ → ℕ → Result ℕ ℕ → Type 0
 TellsSize sizes place (Ok n) = slice_get sizes place ≡ Some n
 TellsSize sizes place (Err rest) = place ≡ length sizes + rest
 
--- What is added: a value within two cuts, at which two keys lie.
-pub record Addend : Type 0 where
-  pub first : Option KeyBytes
-  pub second : Option KeyBytes
-  pub from : Cut
-  pub to : Cut
-  pub value : OwnedTime
-
--- the same for nodes before those that begin at the second key
-abbrev pub before_second : Addend → Addend
-before_second a = record { first = a.first; second = None; from = a.from; to = a.to; value = a.value }
-
 -- What an Add makes of nodes, with what comes in, which costs no more than there is room for.
 pub record AddsSome (old new : List Node) (a : Addend) (room : ℕ) (more : Grown) : Type 0 where
   pub adds : AddsNodes old new a.first a.second (between a.from a.to) a.value
@@ -76,13 +67,15 @@ abbrev pub nothing_grown : Grown
 nothing_grown = record { nodes = 0; bytes = 0 }
 
 -- what a call tells that adds, or leaves all as it is
-abbrev pub IsAddTold : {E : Type 0} → (old new : List Node) (was now : List ℕ) → Addend → ℕ → Result (Option Grown) E → Type 0
+abbrev pub IsAddTold : {E : Type 0} → (old new : List Node) (was now : List ℕ) → Addend → ℕ →
+    Result (Option Grown) E → Type 0
 IsAddTold old new was now a room (Ok (Some more)) = AddsSome old new a room more
 IsAddTold old new was now a room (Ok None) = (new ≡ old) × (now ≡ was)
 IsAddTold old new was now a room (Err e) = (new ≡ old) × (now ≡ was)
 
 -- the joint value of all, once such a call is done
-abbrev pub joint_after : {E : Type 0} → Result (Option Grown) E → Bool → OwnedTime → OwnedTime → OwnedTime
+abbrev pub joint_after : {E : Type 0} → Result (Option Grown) E → Bool → OwnedTime → OwnedTime →
+    OwnedTime
 joint_after (Ok (Some more)) reached v w = if reached then joint w (v ∷ []) else w
 joint_after (Ok None) reached v w = w
 joint_after (Err e) reached v w = w

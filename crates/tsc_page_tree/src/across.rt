@@ -1,17 +1,17 @@
 ghost use Rattle.std.specs.Prelude.{◌≡◌, ◌≤◌, ◌<◌, suc, map, length, drop, true, false, if◌then◌else◌};
 ghost use Rattle.std.specs.List.{All};
 ghost use Rattle.tsc_span.specs.Span.{is_below};
-ghost use Rattle.tsc_page_base.specs.Nodes.{IsSorted};
+ghost use Rattle.tsc_page_nodes.specs.Nodes.{IsSorted};
+ghost use Rattle.tsc_page_nodes.specs.Additions.{before_second};
 ghost use Rattle.tsc_page_tree.specs.Leaves.{AreParts, IsLeafAt, nodes_of, start_of};
-ghost use Rattle.tsc_page_tree.specs.Pending.{AddsSome, nothing_grown, before_second};
+ghost use Rattle.tsc_page_tree.specs.Pending.{AddsSome, nothing_grown};
 ghost use Rattle.tsc_page_tree.specs.Across.{IsAcrossTold, IsLastReached};
 
-use crate::addition::Addition;
 use crate::parts::{Part, part_at, raise_all, stops_at_next};
-use tsc_page_base::NumberedCut;
+use tsc_page_nodes::{Addition, PrefixedCut};
 
 /// The last part that a span reaches which stops at a cut, or the first one.
-fn last_reached<P: Part>(parts: &[P], to: &NumberedCut<'_>) -> usize
+fn last_reached<P: Part>(parts: &[P], to: &PrefixedCut<'_>) -> usize
     requires parts { AreParts P.nodes P.IsWhole parts.now }
     requires some { 1 ≤ length parts.now }
     ensures { IsLastReached (map P.nodes parts.now) to.now result }
@@ -31,7 +31,8 @@ fn raise_ends<P: Part>(low: &mut P, high: &mut P, add: &Addition<'_>, stops: boo
     requires sorted_low { IsSorted (P.nodes low.old) }
     requires sorted_high { IsSorted (P.nodes high.old) }
     requires reaches { is_below (start_of (P.nodes high.old)) add.now.to ≡ true }
-    ensures told { IsAcrossTold (P.nodes low.old) (P.nodes low.new) (P.nodes high.old) (P.nodes high.new) (if stops then before_second add.now else add.now) result }
+    ensures told { IsAcrossTold (P.nodes low.old) (P.nodes low.new) (P.nodes high.old)
+        (P.nodes high.new) (if stops then before_second add.now else add.now) result }
     ensures sizes_low { P.sizes low.new ≡ P.sizes low.old }
     ensures sizes_high { P.sizes high.new ≡ P.sizes high.old }
     ensures low { P.IsWhole low.new }
@@ -44,15 +45,17 @@ fn raise_ends<P: Part>(low: &mut P, high: &mut P, add: &Addition<'_>, stops: boo
     }
 }
 
-/// Ratchets a value in place over two lists of parts: from the part of the first one in which the span starts up to that of the
-/// second one in which it stops. Says whether it did, as [`Part::raise_across`]; else nothing changes.
+/// Ratchets a value in place over two lists of parts: from the part of the first one in which the
+/// span starts up to that of the second one in which it stops. Says whether it did, as
+/// [`Part::raise_across`]; else nothing changes.
 pub(crate) fn raise_two<P: Part>(low: &mut [P], high: &mut [P], add: &Addition<'_>) -> bool
     requires parts_low { AreParts P.nodes P.IsWhole low.old }
     requires parts_high { AreParts P.nodes P.IsWhole high.old }
     requires some_low { 1 ≤ length low.old }
     requires some_high { 1 ≤ length high.old }
     requires reaches { is_below (start_of (nodes_of (map P.nodes high.old))) add.now.to ≡ true }
-    ensures told { IsAcrossTold (nodes_of (map P.nodes low.old)) (nodes_of (map P.nodes low.new)) (nodes_of (map P.nodes high.old)) (nodes_of (map P.nodes high.new)) add.now result }
+    ensures told { IsAcrossTold (nodes_of (map P.nodes low.old)) (nodes_of (map P.nodes low.new))
+        (nodes_of (map P.nodes high.old)) (nodes_of (map P.nodes high.new)) add.now result }
     ensures sizes_low { map P.sizes low.new ≡ map P.sizes low.old }
     ensures sizes_high { map P.sizes high.new ≡ map P.sizes high.old }
     ensures low { All P.IsWhole low.new }
@@ -73,15 +76,19 @@ pub(crate) fn raise_two<P: Part>(low: &mut [P], high: &mut [P], add: &Addition<'
     true
 }
 
-/// Ratchets a value in place over several parts of one list, from the one in which the span starts. Says whether it did, as
-/// [`Part::raise_across`]; else nothing changes.
+/// Ratchets a value in place over several parts of one list, from the one in which the span starts.
+/// Says whether it did, as [`Part::raise_across`]; else nothing changes.
 pub(crate) fn raise_over<P: Part>(parts: &mut [P], first: usize, add: &Addition<'_>) -> bool
     requires parts { AreParts P.nodes P.IsWhole parts.old }
     requires bound { first < length parts.old }
     requires first { IsLeafAt (map P.nodes parts.old) add.now.from first }
-    requires beyond { is_below (start_of (nodes_of (drop (suc first) (map P.nodes parts.old)))) add.now.to ≡ true }
-    ensures raised { result ≡ true → AddsSome (nodes_of (map P.nodes parts.old)) (nodes_of (map P.nodes parts.new)) add.now 0 nothing_grown }
-    ensures left { result ≡ false → nodes_of (map P.nodes parts.new) ≡ nodes_of (map P.nodes parts.old) }
+    requires beyond { is_below (start_of (nodes_of (drop (suc first) (map P.nodes parts.old))))
+        add.now.to ≡ true }
+    ensures raised { result ≡ true →
+        AddsSome (nodes_of (map P.nodes parts.old)) (nodes_of (map P.nodes parts.new)) add.now 0
+        nothing_grown }
+    ensures left { result ≡ false →
+        nodes_of (map P.nodes parts.new) ≡ nodes_of (map P.nodes parts.old) }
     ensures sizes { map P.sizes parts.new ≡ map P.sizes parts.old }
     ensures whole { All P.IsWhole parts.new }
     ensures len { length parts.new ≡ length parts.old }

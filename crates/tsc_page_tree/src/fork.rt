@@ -1,25 +1,24 @@
 ghost use Rattle.std.specs.Prelude.{◌≡◌, ◌≤◌, ◌++◌, length, map, take, drop, false, None, IfOk, OnOk, IfSome};
 ghost use Rattle.std.specs.List.{All};
-ghost use Rattle.tsc_page_base.specs.Nodes.{IsSorted};
+ghost use Rattle.tsc_page_nodes.specs.Nodes.{IsSorted};
 ghost use Rattle.tsc_page_tree.specs.Leaves.{AreParts, HasNode, nodes_of};
 ghost use Rattle.tsc_page_tree.specs.Pending.{with_pending, all_joint};
 ghost use Rattle.tsc_page_tree.specs.Trees.{fork_nodes, fork_sizes, fork_copied, AreFewParts, IsWholeFork, IsForkCopy, IsTold, items_in, level_nodes, IsWholeLevel};
 
-use crate::addition::Addition;
 use crate::parts::Part;
 use crate::summary::Summary;
 use crate::{across, parts};
 use std::alloc::{AllocError, Global};
 use std::sync::Arc;
-use tsc_page_base::{Grown, KeyAddition, KeyNumber, NumberedCut, SearchKey};
-use tsc_span::{Cut, Key};
+use tsc_page_nodes::{Addition, Grown, KeyAddition, KeyPrefix, PrefixedCut, SearchKey};
+use tsc_span::{Cut, Key, KeyRef};
 use tsc_time::{NoMemory, Value};
 
 /// How many parts a fork has at the most.
 const FORK_PARTS: usize = 64;
 
-/// Parts one after another that others may hold too, with what is known of all their nodes. The list of them doesn't
-/// change while others hold it.
+/// Parts one after another that others may hold too, with what is known of all their nodes. The
+/// list of them doesn't change while others hold it.
 #[derive(Debug, Drop)]
 pub struct Fork<P> {
     pub(crate) summary: Summary,
@@ -30,7 +29,8 @@ impl<P: Part> Fork<P> {
     fn new(alloc: Global, parts: Vec<P>) -> Result<Fork<P>, NoMemory>
         requires few { AreFewParts P.IsWhole parts.items }
         requires sorted { IsSorted (nodes_of (map P.nodes parts.items)) }
-        ensures nodes { IfOk result (λ fork. fork_nodes P.nodes fork ≡ nodes_of (map P.nodes parts.items)) }
+        ensures nodes { IfOk result
+            (λ fork. fork_nodes P.nodes fork ≡ nodes_of (map P.nodes parts.items)) }
         ensures whole { IfOk result (IsWholeFork P.nodes P.sizes P.IsWhole) }
     {
         Ok(Fork {
@@ -43,9 +43,13 @@ impl<P: Part> Fork<P> {
     fn pair(alloc: Global, lower: Vec<P>, upper: Vec<P>) -> Result<Vec<Fork<P>>, NoMemory>
         requires lower { AreFewParts P.IsWhole lower.items }
         requires upper { AreFewParts P.IsWhole upper.items }
-        requires sorted { IsSorted (nodes_of (map P.nodes lower.items) ++ nodes_of (map P.nodes upper.items)) }
-        ensures nodes { IfOk result (λ forks. nodes_of (map (fork_nodes P.nodes) forks.items) ≡ nodes_of (map P.nodes lower.items) ++ nodes_of (map P.nodes upper.items)) }
-        ensures whole { IfOk result (λ forks. AreFewParts (IsWholeFork P.nodes P.sizes P.IsWhole) forks.items) }
+        requires sorted { IsSorted
+            (nodes_of (map P.nodes lower.items) ++ nodes_of (map P.nodes upper.items)) }
+        ensures nodes { IfOk result
+            (λ forks. nodes_of (map (fork_nodes P.nodes) forks.items) ≡
+            nodes_of (map P.nodes lower.items) ++ nodes_of (map P.nodes upper.items)) }
+        ensures whole { IfOk result
+            (λ forks. AreFewParts (IsWholeFork P.nodes P.sizes P.IsWhole) forks.items) }
     {
         let mut forks = Vec::with_capacity(alloc, 2)?;
         forks.push(Fork::new(alloc, lower)?)?;
@@ -63,11 +67,13 @@ pub enum Level<P> {
     Forks(Vec<Fork<P>>),
 }
 
-/// Makes a node of a key among parts, where it has none. Where there would then be more parts than a fork has, they come into two forks.
-pub fn with_node<P: Part>(parts: Vec<P>, key: &Key) -> Result<Level<P>, NoMemory>
+/// Makes a node of a key among parts, where it has none. Where there would then be more parts than
+/// a fork has, they come into two forks.
+pub fn with_node<P: Part>(parts: Vec<P>, key: &KeyRef<'_>) -> Result<Level<P>, NoMemory>
     requires few { AreFewParts P.IsWhole parts.items }
     requires sorted { IsSorted (nodes_of (map P.nodes parts.items)) }
-    ensures made { IfOk result (λ level. HasNode (nodes_of (map P.nodes parts.items)) (level_nodes P.nodes level) key.now) }
+    ensures made { IfOk result (λ level. HasNode (nodes_of (map P.nodes parts.items))
+        (level_nodes P.nodes level) key.now) }
     ensures whole { IfOk result (IsWholeLevel P.nodes P.sizes P.IsWhole) }
 {
     let mut parts = parts;
@@ -97,21 +103,21 @@ impl<P: Part> Part for Fork<P> {
 
     ghost IsWhole = { IsWholeFork P.nodes P.sizes P.IsWhole };
 
-    fn starts_above(&self, cut: &NumberedCut<'_>) -> bool {
+    fn starts_above(&self, cut: &PrefixedCut<'_>) -> bool {
         match cut.is_below_number(&self.summary.start) {
             Some(below) => below,
             None => parts::first_starts_above(&self.parts, cut),
         }
     }
 
-    fn starts_below(&self, cut: &NumberedCut<'_>) -> bool {
+    fn starts_below(&self, cut: &PrefixedCut<'_>) -> bool {
         match cut.is_above_number(&self.summary.start) {
             Some(above) => above,
             None => parts::first_starts_below(&self.parts, cut),
         }
     }
 
-    fn start_number(&self) -> KeyNumber {
+    fn start_number(&self) -> KeyPrefix {
         self.summary.start
     }
 
@@ -119,8 +125,8 @@ impl<P: Part> Part for Fork<P> {
         self.summary.joint
     }
 
-    fn joint_between(&self, from: &NumberedCut<'_>, to: &NumberedCut<'_>) -> Value {
-        let below = parts::joint_between(&self.parts, from, to);
+    fn join_between(&self, from: &PrefixedCut<'_>, to: &PrefixedCut<'_>) -> Value {
+        let below = parts::join_between(&self.parts, from, to);
         self.summary.seen(below, self.starts_below(to))
     }
 
@@ -132,11 +138,11 @@ impl<P: Part> Part for Fork<P> {
         }
     }
 
-    fn is_new(&self, key: &Key) -> bool {
+    fn is_new(&self, key: &KeyRef<'_>) -> bool {
         parts::is_new(&self.parts, key)
     }
 
-    fn key_above(&self, cut: &NumberedCut<'_>) -> Option<&Key> {
+    fn key_above(&self, cut: &PrefixedCut<'_>) -> Option<&Key> {
         parts::key_above(&self.parts, cut)
     }
 
@@ -151,12 +157,12 @@ impl<P: Part> Part for Fork<P> {
     fn raise_between(&mut self, from: Cut<'_>, to: Cut<'_>, value: Value) -> Result<(), NoMemory> {
         let parts = Arc::make_mut(&mut self.parts)?;
         parts::raise_between(parts, from, to, value)?;
-        let reached = parts::first_starts_below(parts, &NumberedCut::new(to));
+        let reached = parts::first_starts_below(parts, &PrefixedCut::new(to));
         self.summary.reach(reached, value);
         Ok(())
     }
 
-    fn make_node(&mut self, alloc: Global, key: &Key) -> Result<Option<Fork<P>>, NoMemory> {
+    fn make_node(&mut self, alloc: Global, key: &KeyRef<'_>) -> Result<Option<Fork<P>>, NoMemory> {
         let parts = Arc::make_mut(&mut self.parts)?;
         push_down(parts, &self.summary);
         let upper = grow(parts, alloc, key)?;
@@ -220,8 +226,9 @@ fn summary_of<P: Part>(parts: &[P]) -> Summary
     }
 }
 
-/// What is known of all nodes of parts over which nothing is pending, by what was known before one of them was made. A new node has the
-/// value of the gap in which it falls, so the joint value stays, unless parts were cut off.
+/// What is known of all nodes of parts over which nothing is pending, by what was known before one
+/// of them was made. A new node has the value of the gap in which it falls, so the joint value
+/// stays, unless parts were cut off.
 fn summary_with<P: Part>(parts: &[P], before: &Summary, cut: bool) -> Summary
     requires few { AreFewParts P.IsWhole parts.now }
     requires sorted { IsSorted (nodes_of (map P.nodes parts.now)) }
@@ -242,7 +249,8 @@ fn summary_with<P: Part>(parts: &[P], before: &Summary, cut: bool) -> Summary
 /// Ratchets what is pending into parts.
 fn push_down<P: Part>(parts: &mut [P], summary: &Summary)
     requires parts { AreParts P.nodes P.IsWhole parts.old }
-    ensures nodes { nodes_of (map P.nodes parts.new) ≡ with_pending summary.now.pending (nodes_of (map P.nodes parts.old)) }
+    ensures nodes { nodes_of (map P.nodes parts.new) ≡ with_pending summary.now.pending
+        (nodes_of (map P.nodes parts.old)) }
     ensures sizes { map P.sizes parts.new ≡ map P.sizes parts.old }
     ensures whole { All P.IsWhole parts.new }
     ensures len { length parts.new ≡ length parts.old }
@@ -252,12 +260,18 @@ fn push_down<P: Part>(parts: &mut [P], summary: &Summary)
     }
 }
 
-/// Makes a node of a key, where it has none. Where there are then more parts than a fork has, those behind the first 32
-/// come off.
-fn grow<P: Part>(parts: &mut Vec<P>, alloc: Global, key: &Key) -> Result<Option<Vec<P>>, NoMemory>
+/// Makes a node of a key, where it has none. Where there are then more parts than a fork has, those
+/// behind the first 32 come off.
+fn grow<P: Part>(
+    parts: &mut Vec<P>,
+    alloc: Global,
+    key: &KeyRef<'_>,
+) -> Result<Option<Vec<P>>, NoMemory>
     requires few { AreFewParts P.IsWhole parts.old.items }
     requires sorted { IsSorted (nodes_of (map P.nodes parts.old.items)) }
-    ensures made { IfOk result (λ upper. HasNode (nodes_of (map P.nodes parts.old.items)) (nodes_of (map P.nodes parts.new.items) ++ nodes_of (map P.nodes (items_in upper))) key.now) }
+    ensures made { IfOk result (λ upper. HasNode (nodes_of (map P.nodes parts.old.items))
+        (nodes_of (map P.nodes parts.new.items) ++ nodes_of (map P.nodes (items_in upper)))
+        key.now) }
     ensures few { OnOk result (AreFewParts P.IsWhole parts.new.items) }
     ensures upper { IfOk result (λ upper. IfSome upper (λ u. AreFewParts P.IsWhole u.items)) }
 {

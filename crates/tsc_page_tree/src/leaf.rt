@@ -1,24 +1,24 @@
 ghost use Rattle.std.specs.Prelude.{◌≡◌, ◌≤◌, ◌++◌, length, true, false, option_map, None, IfOk, OnOk, IfSome};
 ghost use Rattle.tsc_span.specs.Span.{last, is_below, between};
-ghost use Rattle.tsc_page_base.specs.Nodes.{IsSorted, raise_nodes};
+ghost use Rattle.tsc_page_nodes.specs.Nodes.{IsSorted, raise_nodes};
 ghost use Rattle.tsc_page_tree.specs.Leaves.{IsLeaf, HasNode};
 ghost use Rattle.tsc_page_tree.specs.Pending.{with_pending, all_joint};
 ghost use Rattle.tsc_page_tree.specs.Across.{HasKey};
 ghost use Rattle.tsc_page_tree.specs.Trees.{nodes_in, leaf_nodes, leaf_sizes, leaf_copied, IsWholeLeaf, IsLeafCopy, IsTold};
 
-use crate::addition::Addition;
 use crate::parts::Part;
 use crate::summary::Summary;
 use std::alloc::{AllocError, Global};
 use std::sync::Arc;
-use tsc_page_base::{Grown, KeyAddition, KeyNumber, Nodes, NumberedCut, SearchKey};
-use tsc_span::{Cut, Key};
+use tsc_page_nodes::{Addition, Grown, KeyAddition, KeyPrefix, Nodes, PrefixedCut, SearchKey};
+use tsc_span::{Cut, Key, KeyRef};
 use tsc_time::{NoMemory, Value};
 
 /// How many nodes a leaf has at the most.
 const LEAF_NODES: usize = 64;
 
-/// Nodes that others may hold too, with what is known of them all. They don't change while others hold them.
+/// Nodes that others may hold too, with what is known of them all. They don't change while others
+/// hold them.
 #[derive(Debug, Drop)]
 pub struct Leaf {
     pub(crate) summary: Summary,
@@ -59,21 +59,21 @@ impl Part for Leaf {
 
     ghost IsWhole = { IsWholeLeaf };
 
-    fn starts_above(&self, cut: &NumberedCut<'_>) -> bool {
+    fn starts_above(&self, cut: &PrefixedCut<'_>) -> bool {
         match cut.is_below_number(&self.summary.start) {
             Some(below) => below,
             None => self.nodes.starts_above(cut),
         }
     }
 
-    fn starts_below(&self, cut: &NumberedCut<'_>) -> bool {
+    fn starts_below(&self, cut: &PrefixedCut<'_>) -> bool {
         match cut.is_above_number(&self.summary.start) {
             Some(above) => above,
             None => self.nodes.starts_below(cut),
         }
     }
 
-    fn start_number(&self) -> KeyNumber {
+    fn start_number(&self) -> KeyPrefix {
         self.summary.start
     }
 
@@ -81,8 +81,8 @@ impl Part for Leaf {
         self.summary.joint
     }
 
-    fn joint_between(&self, from: &NumberedCut<'_>, to: &NumberedCut<'_>) -> Value {
-        let below = self.nodes.joint_between(from, to);
+    fn join_between(&self, from: &PrefixedCut<'_>, to: &PrefixedCut<'_>) -> Value {
+        let below = self.nodes.join_between(from, to);
         self.summary.seen(below, self.starts_below(to))
     }
 
@@ -94,11 +94,11 @@ impl Part for Leaf {
         }
     }
 
-    fn is_new(&self, key: &Key) -> bool {
+    fn is_new(&self, key: &KeyRef<'_>) -> bool {
         self.nodes.find(key).is_err()
     }
 
-    fn key_above(&self, cut: &NumberedCut<'_>) -> Option<&Key> {
+    fn key_above(&self, cut: &PrefixedCut<'_>) -> Option<&Key> {
         self.nodes.key_above(cut)
     }
 
@@ -114,14 +114,14 @@ impl Part for Leaf {
     }
 
     fn raise_between(&mut self, from: Cut<'_>, to: Cut<'_>, value: Value) -> Result<(), NoMemory> {
-        let (from, to) = (NumberedCut::new(from), NumberedCut::new(to));
+        let (from, to) = (PrefixedCut::new(from), PrefixedCut::new(to));
         let nodes = Arc::make_mut(&mut self.nodes)?;
         nodes.raise_between(&from, &to, value);
         self.summary.reach(nodes.starts_below(&to), value);
         Ok(())
     }
 
-    fn make_node(&mut self, alloc: Global, key: &Key) -> Result<Option<Leaf>, NoMemory> {
+    fn make_node(&mut self, alloc: Global, key: &KeyRef<'_>) -> Result<Option<Leaf>, NoMemory> {
         let nodes = Arc::make_mut(&mut self.nodes)?;
         push_down(nodes, &self.summary);
         let upper = grow(nodes, key)?;
@@ -140,7 +140,7 @@ impl Part for Leaf {
             nodes: LEAF_NODES - nodes.len(),
             bytes: room,
         };
-        let made = nodes.add_owned(add.first, add.second, add.from, add.to, add.value, room);
+        let made = nodes.add_owned(add, room);
         let reached = nodes.starts_below(add.to);
         self.summary
             .heed(&made, nodes.start_number(), reached, add.value);
@@ -174,7 +174,7 @@ impl Part for Leaf {
         };
         raise_above(below, &mut low.summary, add.from, start, add.value);
         above.raise_near(
-            &NumberedCut::new(Cut::Before(&[])),
+            &PrefixedCut::new(Cut::Before(&[])),
             add.to,
             (None, stop),
             add.value,
@@ -197,17 +197,18 @@ fn summary_of(nodes: &Nodes) -> Summary
     ensures told { IsTold result nodes.now }
     ensures pending { result.pending ≡ None }
 {
-    let least = NumberedCut::new(Cut::Before(&[]));
-    let last = NumberedCut::new(Cut::Last);
+    let least = PrefixedCut::new(Cut::Before(&[]));
+    let last = PrefixedCut::new(Cut::Last);
     Summary {
         start: nodes.start_number(),
-        joint: nodes.joint_between(&least, &last),
+        joint: nodes.join_between(&least, &last),
         pending: None,
     }
 }
 
-/// What is known of nodes over which nothing is pending, by what was known before one of them was made. A new node has the value of
-/// the gap in which it falls, so the joint value stays, unless nodes were cut off.
+/// What is known of nodes over which nothing is pending, by what was known before one of them was
+/// made. A new node has the value of the gap in which it falls, so the joint value stays, unless
+/// nodes were cut off.
 fn summary_with(nodes: &Nodes, before: &Summary, cut: bool) -> Summary
     requires some { 1 ≤ length nodes.now }
     requires sorted { IsSorted nodes.now }
@@ -231,38 +232,40 @@ fn push_down(nodes: &mut Nodes, summary: &Summary)
     ensures { nodes.new ≡ with_pending summary.now.pending nodes.old }
 {
     if let Some(pending) = summary.pending {
-        let least = NumberedCut::new(Cut::Before(&[]));
-        let last = NumberedCut::new(Cut::Last);
+        let least = PrefixedCut::new(Cut::Before(&[]));
+        let last = PrefixedCut::new(Cut::Last);
         nodes.raise_between(&least, &last, pending);
     }
 }
 
-/// Ratchets a value into what lies above a cut, of nodes of which a summary tells. The key of the cut may stand at a place that is told.
-/// Where all of them lie above it they aren't looked into.
+/// Ratchets a value into what lies above a cut, of nodes of which a summary tells. The key of the
+/// cut may stand at a place that is told. Where all of them lie above it they aren't looked into.
 fn raise_above(
     nodes: &mut Nodes,
     summary: &mut Summary,
-    from: &NumberedCut<'_>,
+    from: &PrefixedCut<'_>,
     near: Option<usize>,
     value: Value,
 )
     requires told { IsTold summary.old nodes.old }
     requires sorted { IsSorted (with_pending summary.old.pending nodes.old) }
     requires order { is_below from.now last ≡ true }
-    ensures raised { with_pending summary.new.pending nodes.new ≡ raise_nodes (between from.now last) value (with_pending summary.old.pending nodes.old) }
+    ensures raised { with_pending summary.new.pending nodes.new ≡
+        raise_nodes (between from.now last) value (with_pending summary.old.pending nodes.old) }
     ensures told { IsTold summary.new nodes.new }
     ensures len { length nodes.new ≡ length nodes.old }
 {
     if nodes.starts_below(from) {
-        nodes.raise_near(from, &NumberedCut::new(Cut::Last), (near, None), value);
+        nodes.raise_near(from, &PrefixedCut::new(Cut::Last), (near, None), value);
         summary.reach(true, value);
     } else {
         summary.raise(value);
     }
 }
 
-/// Makes a node of a key, where it has none. Where there are then more than a leaf has, those behind the first 32 come off.
-fn grow(nodes: &mut Nodes, key: &Key) -> Result<Option<Nodes>, NoMemory>
+/// Makes a node of a key, where it has none. Where there are then more than a leaf has, those
+/// behind the first 32 come off.
+fn grow(nodes: &mut Nodes, key: &KeyRef<'_>) -> Result<Option<Nodes>, NoMemory>
     requires leaf { IsLeaf nodes.old }
     requires sorted { IsSorted nodes.old }
     ensures made { IfOk result (λ upper. HasNode nodes.old (nodes.new ++ nodes_in upper) key.now) }
@@ -278,7 +281,7 @@ fn grow(nodes: &mut Nodes, key: &Key) -> Result<Option<Nodes>, NoMemory>
 }
 
 /// Where a key stands, where it is one; `None` where it has no node.
-fn known_place(nodes: &Nodes, key: Option<&Key>) -> Option<Option<usize>>
+fn known_place(nodes: &Nodes, key: Option<&KeyRef<'_>>) -> Option<Option<usize>>
     requires sorted { IsSorted nodes.now }
     ensures { IfSome result (λ _. HasKey (option_map (λ k. k.now) key.entry) nodes.now) }
 {

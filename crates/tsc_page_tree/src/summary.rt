@@ -2,17 +2,18 @@ ghost use Rattle.std.specs.Prelude.{◌≡◌, ◌∷◌, [], Some, if◌then◌
 ghost use Rattle.tsc_time.specs.Joint.{joint};
 ghost use Rattle.tsc_page_tree.specs.Pending.{merged, seen_with, joint_after};
 
-use tsc_page_base::{Grown, KeyNumber};
+use tsc_page_nodes::{Grown, KeyPrefix};
 use tsc_time::{NoMemory, Value, ratchet};
 
 /// What is known of all nodes below a part of the tree, so that they need not be looked into.
 #[derive(Clone, Copy, Debug)]
 pub(crate) struct Summary {
     /// The number of where they begin.
-    pub(crate) start: KeyNumber,
+    pub(crate) start: KeyPrefix,
     /// The joint value of all their keys and gaps.
     pub(crate) joint: Value,
-    /// A value that is still to be ratcheted into each of their keys and gaps. The joint value has it already.
+    /// A value that is still to be ratcheted into each of their keys and gaps. The joint value has
+    /// it already.
     pub(crate) pending: Option<Value>,
 }
 
@@ -46,7 +47,7 @@ impl Summary {
     pub(crate) fn heed(
         &mut self,
         made: &Result<Option<Grown>, NoMemory>,
-        start: KeyNumber,
+        start: KeyPrefix,
         reached: bool,
         value: Value,
     )
@@ -65,7 +66,8 @@ impl Summary {
     /// Heeds that a value was ratcheted into keys and gaps below, where these reach the first node.
     pub(crate) fn reach(&mut self, reached: bool, value: Value)
         ensures start { self.new.start ≡ self.old.start }
-        ensures joint { self.new.joint ≡ (if reached then joint self.old.joint (value ∷ []) else self.old.joint) }
+        ensures joint { self.new.joint ≡
+            (if reached then joint self.old.joint (value ∷ []) else self.old.joint) }
         ensures pending { self.new.pending ≡ self.old.pending }
     {
         if reached {

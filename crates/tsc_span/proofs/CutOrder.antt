@@ -56,9 +56,12 @@ spelled_total = on_total spelled (lists_total nat_list_cmp_total)
 
 pub cut_cmp-total : IsTotalOrder cut_cmp
 cut_cmp-total = record {
-  antisymm = λ a b. spelled_order a b ∙ spelled_total.antisymm a b ∙ ap ordering_reverse (sym (spelled_order b a));
-  trans = λ a b c p q. spelled_order a c ∙ spelled_total.trans a b c (sym (spelled_order a b) ∙ p) (sym (spelled_order b c) ∙ q);
-  congr = λ a b c p. spelled_order a c ∙ spelled_total.congr a b c (sym (spelled_order a b) ∙ p) ∙ sym (spelled_order b c);
+  antisymm = λ a b. spelled_order a b ∙ spelled_total.antisymm a b ∙
+      ap ordering_reverse (sym (spelled_order b a));
+  trans = λ a b c p q. spelled_order a c ∙
+      spelled_total.trans a b c (sym (spelled_order a b) ∙ p) (sym (spelled_order b c) ∙ q);
+  congr = λ a b c p. spelled_order a c ∙ spelled_total.congr a b c (sym (spelled_order a b) ∙ p) ∙
+      sym (spelled_order b c);
 }
 
 -- only the same cuts are equal
@@ -78,7 +81,8 @@ pub sides_in_order : (k : KeyBytes) → is_below (before k) (after k) ≡ true
 sides_in_order k = simp (tied_itself nat_list_cmp_total k)
 
 -- and what is below the place after it is not above the place before it
-pub no_cut_between_sides : (a : Cut) (k : KeyBytes) → is_below a (after k) ≡ not (is_below (before k) a)
+pub no_cut_between_sides : (a : Cut) (k : KeyBytes) →
+    is_below a (after k) ≡ not (is_below (before k) a)
 no_cut_between_sides (before m) k = rw (key_cmp_back m k) (turned (key_cmp m k))
   where
     turned : (o : Ordering) → is_lt (ordering_then o Less) ≡ not (is_lt (ordering_reverse o))

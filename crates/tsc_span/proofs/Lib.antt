@@ -1,4 +1,5 @@
 pub mod CutOrder
+pub mod Spelling
 pub mod Ranges
 pub mod Overlaps
 pub mod AllKeys

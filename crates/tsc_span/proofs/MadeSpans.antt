@@ -36,50 +36,68 @@ less_or_equal Equal e = inr refl
 less_or_equal Greater e = cc
 
 -- a range of two keys of which the first is the smaller
-of_smaller : (from to : KeyBytes) (xf xt : Bool) → IsKey from → IsKey to → key_cmp from to ≡ Less → IsOfRange (between (start_cut from xf) (end_cut to xt))
+of_smaller : (from to : KeyBytes) (xf xt : Bool) → IsKey from → IsKey to → key_cmp from to ≡ Less →
+    IsOfRange (between (start_cut from xf) (end_cut to xt))
 of_smaller from to xf xt f t less = (from, to, xf, xt, f, t, range_of_less from to xf xt less)
 
 -- a range of a key and itself, both included
-of_same : (k m : KeyBytes) → IsKey k → key_cmp k m ≡ Equal → IsOfRange (between (before k) (after m))
-of_same k m h equal =
-    (k, m, false, false, h, rw (← key_cmp-same k m equal) h, range_of_equal k m false false equal ∙ ap (λ x. Some (between (before k) (after x))) (key_cmp-same k m equal))
+of_same : (k m : KeyBytes) → IsKey k → key_cmp k m ≡ Equal →
+    IsOfRange (between (before k) (after m))
+of_same k m h equal = (
+  k,
+  m,
+  false,
+  false,
+  h,
+  rw (← key_cmp-same k m equal) h,
+  range_of_equal k m false false equal ∙
+      ap (λ x. Some (between (before k) (after x))) (key_cmp-same k m equal),
+)
 
 empty_key : IsKey []
 empty_key = record { fits = refl; bytes = All-nil (λ b. b < 256) }
 
 given : (s : Interval) → IsMadeSpan s → IsOfRange s ⊎ IsOnward s
 given nothing m = inl ([], [], true, true, empty_key, empty_key, refl)
-given (between (before k) (before n)) m = inl (of_smaller k n false true m.0 m.1 (only_less (key_cmp k n) m.2))
+given (between (before k) (before n)) m =
+    inl (of_smaller k n false true m.0 m.1 (only_less (key_cmp k n) m.2))
 given (between (before k) (after n)) m =
     elim (less_or_equal (key_cmp k n) m.2) [
       | inl less ↦ inl (of_smaller k n false false m.0 m.1 less)
       | inr equal ↦ inl (of_same k n m.0 equal)
     ]
 given (between (before k) last) m = inr (k, false, m.0, refl)
-given (between (after k) (before n)) m = inl (of_smaller k n true true m.0 m.1 (less_before (key_cmp k n) m.2))
-given (between (after k) (after n)) m = inl (of_smaller k n true false m.0 m.1 (only_less (key_cmp k n) m.2))
+given (between (after k) (before n)) m =
+    inl (of_smaller k n true true m.0 m.1 (less_before (key_cmp k n) m.2))
+given (between (after k) (after n)) m =
+    inl (of_smaller k n true false m.0 m.1 (only_less (key_cmp k n) m.2))
 given (between (after k) last) m = inr (k, true, m.0, refl)
 given (between last (before n)) m = absurd (let e = m.2 in cc)
 given (between last (after n)) m = absurd (let e = m.2 in cc)
 given (between last last) m = absurd (let e = m.2 in cc)
 
-made_key_or_none : (from : KeyBytes) (xf xt : Bool) → IsKey from → IsMadeSpan (if xf && xt then nothing else point from)
+made_key_or_none : (from : KeyBytes) (xf xt : Bool) → IsKey from →
+    IsMadeSpan (if xf && xt then nothing else point from)
 made_key_or_none from true true f = tt
 made_key_or_none from true false f = made_point from f
 made_key_or_none from false xt f = made_point from f
 
-made_between : (from to : KeyBytes) (xf xt : Bool) → IsKey from → IsKey to → key_cmp from to ≡ Less → IsMadeSpan (between (start_cut from xf) (end_cut to xt))
+made_between : (from to : KeyBytes) (xf xt : Bool) → IsKey from → IsKey to →
+    key_cmp from to ≡ Less → IsMadeSpan (between (start_cut from xf) (end_cut to xt))
 made_between from to true true f t less = (f, t, rw less refl)
 made_between from to true false f t less = (f, t, rw less refl)
 made_between from to false true f t less = (f, t, rw less refl)
 made_between from to false false f t less = (f, t, rw less refl)
 
-made_range : (s : Interval) (from to : KeyBytes) (xf xt : Bool) → IsKey from → IsKey to → range from to xf xt ≡ Some s → IsMadeSpan s
+made_range : (s : Interval) (from to : KeyBytes) (xf xt : Bool) → IsKey from → IsKey to →
+    range from to xf xt ≡ Some s → IsMadeSpan s
 made_range s from to xf xt f t e = by_order (key_cmp from to) refl
   where
     by_order : (o : Ordering) → key_cmp from to ≡ o → IsMadeSpan s
-    by_order Less h = subst IsMadeSpan (same_Some _ _ (sym (range_of_less from to xf xt h) ∙ e)) (made_between from to xf xt f t h)
-    by_order Equal h = subst IsMadeSpan (same_Some _ _ (sym (range_of_equal from to xf xt h) ∙ e)) (made_key_or_none from xf xt f)
+    by_order Less h = subst IsMadeSpan (same_Some _ _ (sym (range_of_less from to xf xt h) ∙ e))
+        (made_between from to xf xt f t h)
+    by_order Equal h = subst IsMadeSpan (same_Some _ _ (sym (range_of_equal from to xf xt h) ∙ e))
+        (made_key_or_none from xf xt f)
     by_order Greater h = absurd (let none = sym (range_of_greater from to xf xt h) ∙ e in cc)
 
 made_onward : (from : KeyBytes) (xf : Bool) → IsKey from → IsMadeSpan (onward from xf)

@@ -31,15 +31,19 @@ pub is_below-opposite : (a b : Cut) → is_below a b ≡ true → is_below b a �
 is_below-opposite a b e = below_is_gt a b ∙ not_both (cut_cmp a b) e
 
 -- being no lower is transitive
-pub no_lower-transitive : (a b c : Cut) → is_below b a ≡ false → is_below c b ≡ false → is_below c a ≡ false
+pub no_lower-transitive : (a b c : Cut) → is_below b a ≡ false → is_below c b ≡ false →
+    is_below c a ≡ false
 no_lower-transitive a b c p q =
-    below_is_gt a c ∙ upto cut_cmp-total a b c (sym (below_is_gt a b) ∙ p) (sym (below_is_gt b c) ∙ q)
+    below_is_gt a c ∙ upto cut_cmp-total a b c (sym (below_is_gt a b) ∙ p)
+    (sym (below_is_gt b c) ∙ q)
 
-pub is_below-transitive : (a b c : Cut) → is_below a b ≡ true → is_below b c ≡ true → is_below a c ≡ true
+pub is_below-transitive : (a b c : Cut) → is_below a b ≡ true → is_below b c ≡ true →
+    is_below a c ≡ true
 is_below-transitive a b c p q =
     elim (cases_Bool (is_below a c)) [
       | inl e ↦ e
-      | inr e ↦ let k : is_below b c ≡ false = no_lower-transitive c a b e (is_below-opposite a b p) in cc
+      | inr e ↦ let k : is_below b c ≡ false =
+          no_lower-transitive c a b e (is_below-opposite a b p) in cc
     ]
 
 and_after : (a b : Bool) → (b ≡ true → a ≡ true) → b ≡ a && b
@@ -58,7 +62,11 @@ below_from_greater a b x =
       | inl e ↦ rw e (and_after (is_below a x) (is_below b x) (λ h. is_below-transitive a b x e h))
       | inr e ↦
           rw e (and_before (is_below a x) (is_below b x)
-          (λ h. elim (cases_Bool (is_below b x)) [ inl k ↦ k | inr k ↦ let n : is_below a x ≡ false = no_lower-transitive x b a k e in cc ]))
+          (λ h. elim (cases_Bool (is_below b x)) [
+            | inl k ↦ k
+            | inr k ↦ let n : is_below a x ≡ false = no_lower-transitive x b a k e
+                in cc
+          ]))
     ]
 
 -- what is below the smaller of two cuts is below both
@@ -68,39 +76,52 @@ below_to_smaller x a b =
       | inl e ↦ rw e (and_before (is_below x a) (is_below x b) (λ h. is_below-transitive x a b h e))
       | inr e ↦
           rw e (and_after (is_below x a) (is_below x b)
-          (λ h. elim (cases_Bool (is_below x a)) [ inl k ↦ k | inr k ↦ let n : is_below x b ≡ false = no_lower-transitive b a x e k in cc ]))
+          (λ h. elim (cases_Bool (is_below x a)) [
+            | inl k ↦ k
+            | inr k ↦ let n : is_below x b ≡ false = no_lower-transitive b a x e k
+                in cc
+          ]))
     ]
 
 -- two spans overlap where each of the two begins before either stops
-pub overlaps-each : (from to first end : Cut) → overlaps (between from to) (between first end) ≡ (is_below from to && is_below from end) && (is_below first to && is_below first end)
+pub overlaps-each : (from to first end : Cut) →
+    overlaps (between from to) (between first end) ≡ (is_below from to && is_below from end) &&
+    (is_below first to && is_below first end)
 overlaps-each from to first end =
-    below_from_greater from first (smaller_cut to end) ∙ pair (below_to_smaller from to end) (below_to_smaller first to end)
+    below_from_greater from first (smaller_cut to end) ∙
+    pair (below_to_smaller from to end) (below_to_smaller first to end)
   where
     pair : {a b c d : Bool} → a ≡ b → c ≡ d → a && c ≡ b && d
     pair e f = cc
 
 swapped : (a b c d : Bool) → (a && b) && (c && d) ≡ (d && c) && (b && a)
-swapped a b c d = let whole = and_comm (a && b) (c && d) in let first = and_comm a b in let second = and_comm c d in cc
+swapped a b c d = let whole = and_comm (a && b) (c && d) in let first = and_comm a b in let second =
+    and_comm c d in cc
 
 pub overlaps_both_ways : OverlapBothWays
 overlaps_both_ways nothing nothing = refl
 overlaps_both_ways nothing (between first end) = refl
 overlaps_both_ways (between from to) nothing = refl
 overlaps_both_ways (between from to) (between first end) =
-    overlaps-each from to first end ∙ swapped (is_below from to) (is_below from end) (is_below first to) (is_below first end) ∙ sym (overlaps-each first end from to)
+    overlaps-each from to first end ∙
+    swapped (is_below from to) (is_below from end) (is_below first to) (is_below first end) ∙
+    sym (overlaps-each first end from to)
 
 not_not : (b : Bool) → not (not b) ≡ b
 not_not true = refl
 not_not false = refl
 
 -- a cut below the place after a key, and one above the place before it, stand in order
-begins_before : (k : KeyBytes) (from to : Cut) → is_below from (after k) ≡ true → is_below (before k) to ≡ true → is_below from to ≡ true
+begins_before : (k : KeyBytes) (from to : Cut) → is_below from (after k) ≡ true →
+    is_below (before k) to ≡ true → is_below from to ≡ true
 begins_before k from to p q =
     elim (cases_Bool (is_below from to)) [
       | inl e ↦ e
       | inr e ↦
-          let under : is_below (before k) from ≡ false = sym (not_not (is_below (before k) from)) ∙ ap not (sym (no_cut_between_sides from k) ∙ p) in
-          let over : is_below (before k) to ≡ false = no_lower-transitive to from (before k) e under in
+          let under : is_below (before k) from ≡ false = sym (not_not (is_below (before k) from)) ∙
+          ap not (sym (no_cut_between_sides from k) ∙ p) in
+          let over : is_below (before k) to ≡ false =
+          no_lower-transitive to from (before k) e under in
           cc
     ]
 
@@ -115,10 +136,23 @@ lies_within false false c h = refl
 pub covers_as_it_overlaps : CoversIsOverlap
 covers_as_it_overlaps nothing k = refl
 covers_as_it_overlaps (between from to) k =
-    rw (overlaps-each from to (before k) (after k), sides_in_order k, no_cut_between_sides to k, not_not, ← no_cut_between_sides from k)
-    (lies_within (is_below from to) (is_below from (after k)) (is_below (before k) to) (begins_before k from to))
+    rw (
+      overlaps-each from to (before k) (after k),
+      sides_in_order k,
+      no_cut_between_sides to k,
+      not_not,
+      ← no_cut_between_sides from k,
+    )
+    (lies_within (is_below from to) (is_below from (after k)) (is_below (before k) to)
+    (begins_before k from to))
 
 -- a span whose cuts are in order overlaps itself, unless it is empty
-pub overlaps_itself : (cuts : Option (code.Cut × code.Cut)) (s : Interval) → interval_of_cuts cuts ≡ s → IfSome cuts (λ c. is_below (cut_of c.0) (cut_of c.1) ≡ true) → overlaps s s ≡ not (is_empty_span s)
+pub overlaps_itself : (cuts : Option (code.Cut × code.Cut)) (s : Interval) →
+    interval_of_cuts cuts ≡ s → IfSome cuts (λ c. is_below (cut_of c.0) (cut_of c.1) ≡ true) →
+    overlaps s s ≡ not (is_empty_span s)
 overlaps_itself None s e h = rw (← e) refl
-overlaps_itself (Some c) s e h = rw (← e, overlaps-each (cut_of c.0) (cut_of c.1) (cut_of c.0) (cut_of c.1), h) refl
+overlaps_itself (Some c) s e h = rw (
+  ← e,
+  overlaps-each (cut_of c.0) (cut_of c.1) (cut_of c.0) (cut_of c.1),
+  h,
+) refl

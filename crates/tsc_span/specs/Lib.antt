@@ -1,5 +1,6 @@
 pub mod Limits
 pub mod Span
+pub mod Spelled
 pub mod MadeKey
 pub mod MadeSpan
 pub mod LookupSpan
@@ -8,4 +9,5 @@ pub mod Same
 pub mod Sameness
 pub mod Shape
 pub mod Form
+pub mod AddShape
 pub mod Laws

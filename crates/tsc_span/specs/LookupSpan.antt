@@ -5,4 +5,5 @@ use Rattle.tsc_span.specs.Span.{KeyBytes, Interval, range_for_lookup, onward}
 -- From a start to an end, as a lookup takes a range. Without an end all keys from the start on.
 abbrev pub span_for_lookup : KeyBytes → Option KeyBytes → Bool → Bool → Interval
 span_for_lookup start None from_excluded to_excluded = onward start from_excluded
-span_for_lookup start (Some end) from_excluded to_excluded = range_for_lookup start end from_excluded to_excluded
+span_for_lookup start (Some end) from_excluded to_excluded =
+    range_for_lookup start end from_excluded to_excluded

@@ -14,14 +14,16 @@ IsMadeCut (before k) = IsKey k
 IsMadeCut (after k) = IsKey k
 IsMadeCut last = Unit {0}
 
--- A span that can be made: the empty one, or one between two places of which the first is below the second. So the first is beside a key, since nothing lies above the last cut.
+-- A span that can be made: the empty one, or one between two places of which the first is below the
+-- second. So the first is beside a key, since nothing lies above the last cut.
 abbrev pub IsMadeSpan : Interval → Type 0
 IsMadeSpan nothing = Unit {0}
 IsMadeSpan (between from to) = IsMadeCut from × IsMadeCut to × (is_below from to ≡ true)
 
 -- what `Span::range` gives for some keys and ends
 abbrev pub IsOfRange : Interval → Type 0
-IsOfRange s = (from : KeyBytes) × (to : KeyBytes) × (xf : Bool) × (xt : Bool) × IsKey from × IsKey to × (range from to xf xt ≡ Some s)
+IsOfRange s = (from : KeyBytes) × (to : KeyBytes) × (xf : Bool) × (xt : Bool) × IsKey from ×
+    IsKey to × (range from to xf xt ≡ Some s)
 
 -- what `Span::onward` gives for some key
 abbrev pub IsOnward : Interval → Type 0

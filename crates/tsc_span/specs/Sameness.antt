@@ -12,7 +12,7 @@ is_same_cut-itself (before k) = (bytes_eq-Decides k k).1 refl
 is_same_cut-itself (after k) = (bytes_eq-Decides k k).1 refl
 is_same_cut-itself last = refl
 
--- and where it holds, the cuts are the same
+-- where cuts are told to be the same, they are
 pub is_same_cut-tells : (a b : Cut) → is_same_cut a b ≡ true → a ≡ b
 is_same_cut-tells (before k) (before m) e = ap before ((bytes_eq-Decides k m).0 e)
 is_same_cut-tells (before k) (after m) e = absurd (true≢false (sym e))
@@ -27,20 +27,25 @@ is_same_cut-tells last last e = refl
 -- the test holds of a span and itself
 pub is_same_span-itself : (s : Interval) → is_same_span s s ≡ true
 is_same_span-itself nothing = refl
-is_same_span-itself (between from to) = and_from _ _ (is_same_cut-itself from) (is_same_cut-itself to)
+is_same_span-itself (between from to) =
+    and_from _ _ (is_same_cut-itself from) (is_same_cut-itself to)
 
--- and where it holds, the spans are the same
+-- where spans are told to be the same, they are
 pub is_same_span-tells : (s t : Interval) → is_same_span s t ≡ true → s ≡ t
 is_same_span-tells nothing nothing e = refl
 is_same_span-tells nothing (between first end) e = absurd (true≢false (sym e))
 is_same_span-tells (between from to) nothing e = absurd (true≢false (sym e))
 is_same_span-tells (between from to) (between first end) e =
     let both = and_parts _ _ e in
-    ap (λ a. between a to) (is_same_cut-tells from first both.0) ∙ ap (λ b. between first b) (is_same_cut-tells to end both.1)
+    ap (λ a. between a to) (is_same_cut-tells from first both.0) ∙
+    ap (λ b. between first b) (is_same_cut-tells to end both.1)
 
 -- so it decides whether two spans are the same
 pub is_same_span-Decides : (s t : Interval) → Decides (is_same_span s t) (s ≡ t)
-is_same_span-Decides s t = (is_same_span-tells s t, λ e. subst (λ u. is_same_span s u ≡ true) e (is_same_span-itself s))
+is_same_span-Decides s t = (
+  is_same_span-tells s t,
+  λ e. subst (λ u. is_same_span s u ≡ true) e (is_same_span-itself s),
+)
 
 -- the laws of `==`
 pub is_same_span-equivalence : IsEquivalence is_same_span

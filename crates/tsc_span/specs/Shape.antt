@@ -9,7 +9,8 @@ use Rattle.tsc_span.specs.declared.span.Shape.TheVariants as shape
 abbrev pub interval_of : Shape → Interval
 interval_of shape.Nothing = nothing
 interval_of (shape.Point key) = point key
-interval_of (shape.Range from to ends) = between (start_cut from ends.exclude_from) (end_cut to ends.exclude_to)
+interval_of (shape.Range from to ends) =
+    between (start_cut from ends.exclude_from) (end_cut to ends.exclude_to)
 interval_of (shape.Onward from excluded) = onward from excluded
 
 -- a range has two different keys, the smaller one first

@@ -1,4 +1,5 @@
--- Keys and spans of keys: the bounds of pkg/kv/kvserver/tscache in CockroachDB, with its two flags `excludeFrom` and `excludeTo`.
+-- Keys and spans of keys: the bounds of pkg/kv/kvserver/tscache in CockroachDB, with its two flags
+-- `excludeFrom` and `excludeTo`.
 use Rattle.std.specs.Prelude.{ℕ, ◌+◌, List, [], ◌∷◌, length, nat_le, Bool, true, false, ◌&&◌, not, Option, Some, None, unwrap_or, if◌then◌else◌}
 use Rattle.std.specs.List.{sum_by}
 use Rattle.std.specs.declared.cmp.Ordering.{Ordering}
@@ -26,7 +27,8 @@ pub data Cut : Type 0 where
   after : KeyBytes → Cut
   last : Cut
 
--- The order of cuts: by their keys, and the place before a key stands below the place after it. The last cut stands above all others.
+-- The order of cuts: by their keys, and the place before a key stands below the place after it. The
+-- last cut stands above all others.
 abbrev pub cut_cmp : Cut → Cut → Ordering
 cut_cmp (before k) (before m) = key_cmp k m
 cut_cmp (before k) (after m) = ordering_then (key_cmp k m) Less
@@ -79,7 +81,8 @@ all_keys = onward [] false
 abbrev pub is_inverted : KeyBytes → KeyBytes → Bool
 is_inverted from to = is_lt (key_cmp to from)
 
--- From one key to another that is not smaller. Equal keys are the empty span where both are excluded, and else the single key.
+-- From one key to another that is not smaller. Equal keys are the empty span where both are
+-- excluded, and else the single key.
 abbrev pub from_to : KeyBytes → KeyBytes → Bool → Bool → Interval
 from_to from to from_excluded to_excluded =
     if bytes_eq from to
@@ -96,7 +99,8 @@ abbrev pub range_for_lookup : KeyBytes → KeyBytes → Bool → Bool → Interv
 range_for_lookup from to from_excluded to_excluded =
     unwrap_or (range from to from_excluded to_excluded) nothing
 
--- the span of a start and an end as the cache's callers name them: an empty end means the start alone, and any other end is excluded
+-- the span of a start and an end as the cache's callers name them: an empty end means the start
+-- alone, and any other end is excluded
 abbrev pub start_to_end : KeyBytes → KeyBytes → Option Interval
 start_to_end start [] = Some (point start)
 start_to_end start (b ∷ bs) = range start (b ∷ bs) false true
@@ -111,11 +115,13 @@ abbrev pub covers : Interval → KeyBytes → Bool
 covers nothing k = false
 covers (between from to) k = not (is_below (before k) from) && not (is_below to (after k))
 
--- Two spans overlap where both begin before either stops. There may be no key in what they share, and the empty span overlaps nothing.
+-- Two spans overlap where both begin before either stops. There may be no key in what they share,
+-- and the empty span overlaps nothing.
 abbrev pub overlaps : Interval → Interval → Bool
 overlaps nothing t = false
 overlaps (between from to) nothing = false
-overlaps (between from to) (between first end) = is_below (greater_cut from first) (smaller_cut to end)
+overlaps (between from to) (between first end) =
+    is_below (greater_cut from first) (smaller_cut to end)
 
 -- the key of a cut; the last cut has none
 abbrev pub key_of_cut : Cut → Option KeyBytes

@@ -2,8 +2,8 @@ ghost use Rattle.std.specs.Prelude.{◌≡◌};
 
 /// A place between keys, where a span starts or stops.
 ///
-/// The place before a key lies below the place after it, and no other place lies between the two. The
-/// keys may be of any length.
+/// The place before a key lies below the place after it, and no other place lies between the two.
+/// The keys may be of any length.
 #[derive(Clone, Copy, Debug)]
 pub enum Cut<'a> {
     /// Right before a key.

@@ -5,6 +5,7 @@ ghost use Rattle.std.specs.Cmp.{partial_equiv_from_equiv};
 ghost use Rattle.std.specs.Cmp.Lexicographic.{nat_list_eq_equiv, nat_list_cmp_total, texts_ties, texts_po};
 ghost use Rattle.tsc_span.specs.Limits.{longest_key};
 ghost use Rattle.tsc_span.specs.Span.{key_cmp, key_cost, fits_key};
+ghost use Rattle.tsc_span.specs.Spelled.{spelled};
 ghost use Rattle.tsc_span.specs.MadeKey.{made_key};
 
 use crate::SpanFault;
@@ -19,10 +20,13 @@ pub const LONGEST_KEY: usize = 4096;
 /// What a node of a page costs beside the bytes of its key.
 pub(crate) const NODE_COST: u32 = 32;
 
+/// How many bytes of two keys are compared at once.
+const WORD_BYTES: usize = 8;
+
 /// A key: a text of bytes, 4096 of them at the most. The empty key comes first.
 ///
-/// Keys are ordered byte by byte, and a key comes after each shorter beginning. A comparison costs as
-/// much as the bytes that two keys share at their beginning.
+/// Keys are ordered byte by byte, and a key comes after each shorter beginning. A comparison costs
+/// as much as the bytes that two keys share at their beginning.
 #[derive(Debug, Drop)]
 pub struct Key {
     bytes: Vec<u8>,
@@ -40,12 +44,13 @@ impl Model for Key {
 }
 
 impl Key {
-    /// A copy of `bytes` as a key; more than 4096 bytes are [`SpanFault::KeyTooLong`]. It takes as much
-    /// memory as there are bytes, and asks for none where they are too many.
+    /// A copy of `bytes` as a key; more than 4096 bytes are [`SpanFault::KeyTooLong`]. It takes as
+    /// much memory as there are bytes, and asks for none where they are too many.
     pub fn new(alloc: Global, bytes: &[u8]) -> Result<Key, SpanFault>
         ensures value { IfOk result (λ key. key ≡ bytes.now) }
         ensures refused { IsErrOf result SpanFault.KeyTooLong ↔ (longest_key < length bytes.now) }
-        ensures memory { IfErr result (λ fault. (fault ≡ SpanFault.KeyTooLong) ⊎ (fault ≡ SpanFault.NoMemory)) }
+        ensures memory { IfErr result
+            (λ fault. (fault ≡ SpanFault.KeyTooLong) ⊎ (fault ≡ SpanFault.NoMemory)) }
     {
         if bytes.len() > LONGEST_KEY {
             return Err(SpanFault::KeyTooLong);
@@ -100,7 +105,7 @@ impl Key {
     }
 }
 
-/// These bytes, each of which is below 256.
+/// The bytes themselves, each of which is below 256.
 fn bytes_of(bytes: &[u8]) -> &[u8]
     ensures value { result.now ≡ bytes.now }
     ensures small { All (λ b. b < 256) bytes.now }
@@ -158,6 +163,36 @@ impl Ord for Key {
     ghost matches_eq = { texts_ties };
 
     fn cmp(&self, other: &Key) -> Ordering {
-        self.bytes().cmp(other.bytes())
+        compare(self.bytes(), other.bytes())
     }
+}
+
+/// How the bytes of two keys stand to one another. Where both have eight bytes or more, the first
+/// eight are compared at once, as one number.
+#[inline]
+fn compare(bytes: &[u8], other: &[u8]) -> Ordering
+    requires small { All (λ b. b < 256) bytes.now }
+    requires other_small { All (λ b. b < 256) other.now }
+    ensures { result ≡ key_cmp bytes.now other.now }
+{
+    if bytes.len() < WORD_BYTES || other.len() < WORD_BYTES {
+        return bytes.cmp(other);
+    }
+    let word = first_word(bytes);
+    let other_word = first_word(other);
+    if word != other_word {
+        return word.cmp(&other_word);
+    }
+    bytes[WORD_BYTES..].cmp(&other[WORD_BYTES..])
+}
+
+/// The number that the first eight bytes spell.
+#[inline]
+fn first_word(bytes: &[u8]) -> u64
+    requires { 8 ≤ length bytes.now }
+    ensures { result ≡ spelled 8 0 bytes.now }
+{
+    let mut word = [0; WORD_BYTES];
+    word.copy_from_slice(&bytes[..WORD_BYTES]);
+    u64::from_be_bytes(word)
 }

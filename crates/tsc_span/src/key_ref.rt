@@ -27,7 +27,7 @@ impl<'a> Model for KeyRef<'a> {
 }
 
 impl<'a> KeyRef<'a> {
-    /// These bytes as a key; more than 4096 of them are [`SpanFault::KeyTooLong`].
+    /// A key over these bytes; more than 4096 of them are [`SpanFault::KeyTooLong`].
     pub fn new(bytes: &'a [u8]) -> Result<KeyRef<'a>, SpanFault>
         ensures value { IfOk result (λ key. key ≡ bytes.now) }
         ensures refused { IsErr result ↔ (longest_key < length bytes.now) }

@@ -44,7 +44,8 @@ pub fn tells_same_span(a: &Span, b: &Span) -> bool
     a == b
 }
 
-/// The order of cuts is total, and nothing stands between the place before a key and the place after it.
+/// The order of cuts is total, and nothing stands between the place before a key and the place
+/// after it.
 pub fn order_of_cuts()
     ensures { IsCutOrder }
 {}
@@ -59,7 +60,8 @@ pub fn all_covers_each_key()
     ensures { AllCoversEach }
 {}
 
-/// The spans that can be made are those that [`Span::range`] and [`Span::onward`] give for some keys.
+/// The spans that can be made are those that [`Span::range`] and [`Span::onward`] give for some
+/// keys.
 pub fn made_by_constructor()
     ensures { MadeByConstructor }
 {}

@@ -1,14 +1,15 @@
 //! Keys, and the spans of keys that reads of a store touch.
 //!
-//! A [`Key`] is a text of bytes. A [`Cut`] is a place right before or right after a key, or above all
-//! keys, and a [`Span`] lies between two cuts or is empty. They restate the bounds of CockroachDB's
-//! `pkg/kv/kvserver/tscache`: `intervalSkl.AddRange` takes two keys with flags that exclude either, and
-//! no second key means no end. A [`SpanRef`] is the same over bytes that lie elsewhere, for lookups,
-//! and a [`KeyRef`] is such a key, for Adds.
+//! A [`Key`] is a text of bytes. A [`Cut`] is a place right before or right after a key, or above
+//! all keys, and a [`Span`] lies between two cuts or is empty. They restate the bounds of
+//! CockroachDB's `pkg/kv/kvserver/tscache`: `intervalSkl.AddRange` takes two keys with flags that
+//! exclude either, and no second key means no end. A [`SpanRef`] is the same over bytes that lie
+//! elsewhere, for lookups. An [`AddSpan`] is it for Adds, over keys that are each a [`KeyRef`].
 //!
 //! Only [`Key::new`], [`KeyRef::to_key`] and the two `try_copy` take memory.
 #![tactic(auto)]
 
+mod add_span;
 mod cut;
 mod fault;
 mod key;
@@ -17,6 +18,7 @@ pub mod laws;
 mod span;
 mod span_ref;
 
+pub use add_span::AddSpan;
 pub use cut::Cut;
 pub use fault::SpanFault;
 pub use key::{Key, LONGEST_KEY};

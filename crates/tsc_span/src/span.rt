@@ -7,15 +7,15 @@ ghost use Rattle.tsc_span.specs.Cuts.{cut_of, interval_of_cuts};
 ghost use Rattle.tsc_span.specs.Same.{is_same_span};
 ghost use Rattle.tsc_span.specs.Sameness.{is_same_span-equivalence};
 
-use crate::{Cut, Key, SpanFault, SpanRef};
+use crate::{AddSpan, Cut, Key, SpanFault, SpanRef};
 use std::alloc::Global;
 use std::cmp::Ordering;
 use std::marker::Model;
 use tsc_time::NoMemory;
 
 /// Which ends of a range are excluded, as `rangeOptions` of CockroachDB's
-/// `pkg/kv/kvserver/tscache/interval_skl.go` says it. Two equal keys are the single key, unless both are
-/// excluded.
+/// `pkg/kv/kvserver/tscache/interval_skl.go` says it. Two equal keys are the single key, unless
+/// both are excluded.
 #[derive(Clone, Copy, Debug, PartialEq, Eq)]
 pub struct Ends {
     /// The first key is no part of the range.
@@ -60,8 +60,9 @@ impl Span {
         }
     }
 
-    /// The keys from one to another, or [`SpanFault::Inverted`] where the first is greater; both are then
-    /// dropped. Equal keys are the empty span where both ends are excluded, and else the single key.
+    /// The keys from one to another, or [`SpanFault::Inverted`] where the first is greater; both
+    /// are then dropped. Equal keys are the empty span where both ends are excluded, and else the
+    /// single key.
     pub fn range(from: Key, to: Key, ends: Ends) -> Result<Span, SpanFault>
         ensures value { result_ok result ≡ range from to ends.exclude_from ends.exclude_to }
         ensures refused { IfErr result (λ fault. fault ≡ SpanFault.Inverted) }
@@ -95,8 +96,8 @@ impl Span {
     }
 
     /// The span that a start and an end name, as `Cache.Add` of CockroachDB's
-    /// `pkg/kv/kvserver/tscache/cache.go` takes them: an empty end means the start alone, and any other
-    /// end is excluded.
+    /// `pkg/kv/kvserver/tscache/cache.go` takes them: an empty end means the start alone, and any
+    /// other end is excluded.
     pub fn of(start: Key, end: Key) -> Result<Span, SpanFault>
         ensures value { result_ok result ≡ start_to_end start end }
         ensures refused { IfErr result (λ fault. fault ≡ SpanFault.Inverted) }
@@ -123,16 +124,16 @@ impl Span {
         }
     }
 
-    /// Whether the span is empty. The span between a key and the next one after it, both excluded, is not,
-    /// although no key lies in it.
+    /// Whether the span is empty. The span between a key and the next one after it, both excluded,
+    /// is not, although no key lies in it.
     pub fn is_empty(&self) -> bool
         ensures { result ≡ is_empty_span self.now }
     {
         matches!(&self.shape, Shape::Nothing)
     }
 
-    /// Where the span starts and where it stops, or `None` for the empty span. Whoever has a span also learns
-    /// here that it can be made of keys.
+    /// Where the span starts and where it stops, or `None` for the empty span. Whoever has a span
+    /// also learns here that it can be made of keys.
     pub fn cuts(&self) -> Option<(Cut<'_>, Cut<'_>)>
         ensures value { interval_of_cuts result ≡ self.now }
         ensures order { IfSome result (λ cuts. is_below (cut_of cuts.0) (cut_of cuts.1) ≡ true) }
@@ -164,11 +165,25 @@ impl Span {
         }
     }
 
-    /// Whether two spans overlap: both begin before either stops. It compares three pairs of keys at the
-    /// most.
+    /// The same span for an Add, over the keys that this one has.
+    pub fn for_add(&self) -> AddSpan<'_>
+        ensures { result ≡ self.now }
+    {
+        match &self.shape {
+            Shape::Nothing => AddSpan::nothing(),
+            Shape::Point(key) => AddSpan::point(key.borrowed()),
+            Shape::Range(from, to, ends) => {
+                AddSpan::in_order(from.borrowed(), to.borrowed(), *ends)
+            }
+            Shape::Onward(from, exclude_from) => AddSpan::onward(from.borrowed(), *exclude_from),
+        }
+    }
+
+    /// Whether two spans overlap: both begin before either stops. It compares three pairs of keys
+    /// at the most.
     ///
-    /// No key need lie in what they share: the span between `a` and the next key after it, both excluded,
-    /// overlaps itself.
+    /// No key need lie in what they share: the span between `a` and the next key after it, both
+    /// excluded, overlaps itself.
     pub fn overlaps(&self, other: &Span) -> bool
         ensures { result ≡ overlaps self.now other.now }
     {
@@ -194,8 +209,8 @@ impl Span {
         }
     }
 
-    /// The different keys at the ends of the span. A single key and a span without end have one, and the
-    /// empty span has none. A second key comes only with a first.
+    /// The different keys at the ends of the span. A single key and a span without end have one,
+    /// and the empty span has none. A second key comes only with a first.
     pub fn end_keys(&self) -> (Option<&Key>, Option<&Key>)
         ensures keys { option_to_list (option_map (λ k. k.now) result.0)
             ++ option_to_list (option_map (λ k. k.now) result.1) ≡ end_keys self.now }
@@ -209,8 +224,8 @@ impl Span {
         }
     }
 
-    /// What the span costs on a page that has none of its keys: for each of its [end keys](Span::end_keys) as many
-    /// bytes as it has, and 32 more. The empty span costs nothing.
+    /// What the span costs on a page that has none of its keys: for each of its [end
+    /// keys](Span::end_keys) as many bytes as it has, and 32 more. The empty span costs nothing.
     pub fn cost(&self) -> u32
         ensures value { result ≡ span_cost self.now }
         ensures most { result ≤ 8256 }
@@ -219,7 +234,8 @@ impl Span {
         cost_of(first) + cost_of(second)
     }
 
-    /// A copy of the span. It takes as much memory as its keys have bytes, so none for the empty span.
+    /// A copy of the span. It takes as much memory as its keys have bytes, so none for the empty
+    /// span.
     pub fn try_copy(&self) -> Result<Span, NoMemory>
         ensures value { IfOk result (λ copy. copy ≡ self.now) }
         ensures memory { is_empty_span self.now ≡ true → IsOk result }

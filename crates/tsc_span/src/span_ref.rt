@@ -9,8 +9,8 @@ use std::marker::Model;
 
 /// A span over keys that lie elsewhere, for lookups. It takes no memory, and copies no key.
 ///
-/// The keys may be of any length. No Add has a key of more than 4096 bytes, but such a key still stands at its place in the order of
-/// keys, and a span beside it overlaps what lies there.
+/// The keys may be of any length. No Add has a key of more than 4096 bytes, but such a key still
+/// stands at its place in the order of keys, and a span beside it overlaps what lies there.
 #[derive(Debug, Drop)]
 pub struct SpanRef<'a> {
     form: Form<'a>,
@@ -45,8 +45,8 @@ impl<'a> SpanRef<'a> {
         }
     }
 
-    /// The keys from one to another, where an inverted range is the empty span, as in [`Span::for_lookup`](crate::Span::for_lookup). It compares the two
-    /// keys.
+    /// The keys from one to another, where an inverted range is the empty span, as in
+    /// [`Span::for_lookup`](crate::Span::for_lookup). It compares the two keys.
     pub fn for_lookup(from: &'a [u8], to: &'a [u8], ends: Ends) -> SpanRef<'a>
         ensures { result ≡ range_for_lookup from.now to.now ends.exclude_from ends.exclude_to }
     {
@@ -76,10 +76,12 @@ impl<'a> SpanRef<'a> {
         }
     }
 
-    /// The keys from a start to an end, as [`for_lookup`](SpanRef::for_lookup) takes them. Without an end there are all keys from the
-    /// start on, and whether the end is excluded makes no difference.
+    /// The keys from a start to an end, as [`for_lookup`](SpanRef::for_lookup) takes them. Without
+    /// an end there are all keys from the start on, and whether the end is excluded makes no
+    /// difference.
     pub fn between(start: &'a [u8], end: Option<&'a [u8]>, ends: Ends) -> SpanRef<'a>
-        ensures { result ≡ span_for_lookup start.now (option_map (λ k. k.now) end.entry) ends.exclude_from ends.exclude_to }
+        ensures { result ≡ span_for_lookup start.now (option_map (λ k. k.now) end.entry)
+            ends.exclude_from ends.exclude_to }
     {
         match end {
             Some(end) => SpanRef::for_lookup(start, end, ends),
@@ -123,7 +125,7 @@ impl<'a> SpanRef<'a> {
 }
 
 /// Where a span begins at a key.
-fn start_cut(key: &[u8], excluded: bool) -> Cut<'_>
+pub(crate) fn start_cut(key: &[u8], excluded: bool) -> Cut<'_>
     ensures { cut_of result ≡ start_cut key.now excluded }
 {
     if excluded {
@@ -134,7 +136,7 @@ fn start_cut(key: &[u8], excluded: bool) -> Cut<'_>
 }
 
 /// Where a span stops at a key.
-fn end_cut(key: &[u8], excluded: bool) -> Cut<'_>
+pub(crate) fn end_cut(key: &[u8], excluded: bool) -> Cut<'_>
     ensures { cut_of result ≡ end_cut key.now excluded }
 {
     if excluded {

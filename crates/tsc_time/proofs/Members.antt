@@ -15,4 +15,5 @@ IsIn-from_Contains (y ∷ ys) x (suc k, below, e) = inr (IsIn-from_Contains ys x
 pub Contains-from_IsIn : {X : Type 0} (xs : List X) (x : X) → IsIn xs x → Contains xs x
 Contains-from_IsIn [] x i = absurd i
 Contains-from_IsIn (y ∷ ys) x (inl e) = (0, omega arith, e)
-Contains-from_IsIn (y ∷ ys) x (inr i) = let c = Contains-from_IsIn ys x i in (suc c.0, omega (arith, c.1), c.2)
+Contains-from_IsIn (y ∷ ys) x (inr i) = let c =
+    Contains-from_IsIn ys x i in (suc c.0, omega (arith, c.1), c.2)

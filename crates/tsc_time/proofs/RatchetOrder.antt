@@ -9,7 +9,8 @@ use Rattle.tsc_time.proofs.TimeOrder.{is_before-itself, is_before-opposite, is_b
 -- two owned times of the same parts are the same
 pub same_owned : (v w : OwnedTime) → v.time ≡ w.time → v.owner ≡ w.owner → v ≡ w
 same_owned v w e f =
-    let of : Time → Option Owner → OwnedTime = λ time owner. record { time = time; owner = owner } in
+    let of : Time → Option Owner → OwnedTime =
+    λ time owner. record { time = time; owner = owner } in
     ap (λ t. of t v.owner) e ∙ ap (of w.time) f
 
 pub IsAtMost-itself : (v : OwnedTime) → IsAtMost v v

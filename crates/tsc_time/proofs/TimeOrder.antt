@@ -12,16 +12,20 @@ same_parts a b e f =
 -- the test of equal times decides whether they are the same
 pub is_same_time-Decides : (a b : Time) → Decides (is_same_time a b) (a ≡ b)
 is_same_time-Decides a b =
-    Decides-like _ (λ p. same_parts a b p.0 p.1) (λ e. (ap (λ t. t.wall) e, ap (λ t. t.logical) e)) (Decides-and _ _ (Decides-eqb a.wall b.wall) (Decides-eqb a.logical b.logical))
+    Decides-like _ (λ p. same_parts a b p.0 p.1) (λ e. (ap (λ t. t.wall) e, ap (λ t. t.logical) e))
+    (Decides-and _ _ (Decides-eqb a.wall b.wall) (Decides-eqb a.logical b.logical))
 
 -- what the test of order tells, either way
-pub is_before-tells : (a b : Time) → ((is_before a b ≡ true) × ((a.wall < b.wall) ⊎ ((a.wall ≡ b.wall) × (a.logical < b.logical)))) ⊎ ((is_before a b ≡ false) × ((b.wall < a.wall) ⊎ ((a.wall ≡ b.wall) × (b.logical ≤ a.logical))))
+pub is_before-tells : (a b : Time) →
+    ((is_before a b ≡ true) × ((a.wall < b.wall) ⊎ ((a.wall ≡ b.wall) × (a.logical < b.logical)))) ⊎
+    ((is_before a b ≡ false) × ((b.wall < a.wall) ⊎ ((a.wall ≡ b.wall) × (b.logical ≤ a.logical))))
 is_before-tells a b = grind (arith, nat_tests)
 
 pub is_before-itself : (a : Time) → is_before a a ≡ false
 is_before-itself a = grind (arith, is_before-tells)
 
-pub is_before-transitive : (a b c : Time) → is_before a b ≡ true → is_before b c ≡ true → is_before a c ≡ true
+pub is_before-transitive : (a b c : Time) → is_before a b ≡ true → is_before b c ≡ true →
+    is_before a c ≡ true
 is_before-transitive a b c p q = grind (arith, is_before-tells)
 
 -- no time is before one that is before it
@@ -29,7 +33,8 @@ pub is_before-opposite : (a b : Time) → is_before a b ≡ true → is_before b
 is_before-opposite a b p = grind (arith, is_before-tells)
 
 -- being no earlier is transitive too
-pub no_earlier-transitive : (a b c : Time) → is_before b a ≡ false → is_before c b ≡ false → is_before c a ≡ false
+pub no_earlier-transitive : (a b c : Time) → is_before b a ≡ false → is_before c b ≡ false →
+    is_before c a ≡ false
 no_earlier-transitive a b c p q = grind (arith, is_before-tells)
 
 -- neither is before the other only where they are the same
@@ -37,5 +42,6 @@ pub same_from_neither_before : (a b : Time) → is_before a b ≡ false → is_b
 same_from_neither_before a b p q = grind (arith, is_before-tells, same_parts)
 
 -- which of two is the later
-pub later-tells : (a b : Time) → ((is_before a b ≡ true) × (later a b ≡ b)) ⊎ ((is_before a b ≡ false) × (later a b ≡ a))
+pub later-tells : (a b : Time) → ((is_before a b ≡ true) × (later a b ≡ b)) ⊎
+    ((is_before a b ≡ false) × (later a b ≡ a))
 later-tells a b = grind arith

@@ -30,7 +30,8 @@ zero_number (a ∷ b ∷ c ∷ d ∷ e ∷ f ∷ g ∷ h ∷ i ∷ j ∷ k ∷ l
 zero_number bs len is = absurd (omega (arith, len))
 
 -- so one comparison tells whether they are the nil UUID
-pub is_zero_number : (bs : List ℕ) (n : ℕ) → length bs ≡ 16 → n ≡ from_be_bytes w128 bs → nat_eq n 0 ≡ is_nil_bytes bs
+pub is_zero_number : (bs : List ℕ) (n : ℕ) → length bs ≡ 16 → n ≡ from_be_bytes w128 bs →
+    nat_eq n 0 ≡ is_nil_bytes bs
 is_zero_number bs n len is =
     both_ways (nat_eq n 0) (is_nil_bytes bs)
     (λ e. (bytes_eq-Decides bs zero_bytes).1 (zero_number bs len (sym is ∙ (Decides-eqb n 0).0 e)))

@@ -14,13 +14,15 @@ abbrev pub shared_owner : List (Option Owner) → Option Owner
 shared_owner [] = None
 shared_owner (o ∷ os) = if list_all (is_same_owner o) os then o else None
 
--- those of a list that have this time
+-- the values of a list that have this time
 abbrev pub those_at : Time → List OwnedTime → List OwnedTime
 those_at t vs = filter (λ v. is_same_time v.time t) vs
 
--- The joint value of v and of a list: the latest time among them, and the owner that all those of that time agree on.
+-- The joint value of v and of a list: the latest time among them, and the owner that all those of
+-- that time agree on.
 abbrev pub joint : OwnedTime → List OwnedTime → OwnedTime
-joint v vs = let t = latest v.time vs in record { time = t; owner = shared_owner (map (λ w. w.owner) (those_at t (v ∷ vs))) }
+joint v vs = let t = latest v.time vs
+    in record { time = t; owner = shared_owner (map (λ w. w.owner) (those_at t (v ∷ vs))) }
 
 -- the joint value of a list and a floor, which has no owner
 abbrev pub joint_above : Time → List OwnedTime → OwnedTime
@@ -28,9 +30,11 @@ joint_above floor vs = joint (unowned floor) vs
 
 -- the ratchet order: w is later, or as late and has no owner or the same one
 abbrev pub IsAtMost : OwnedTime → OwnedTime → Type 0
-IsAtMost v w = IsTrue (is_before v.time w.time) ⊎ ((v.time ≡ w.time) × ((w.owner ≡ None) ⊎ (w.owner ≡ v.owner)))
+IsAtMost v w = IsTrue (is_before v.time w.time) ⊎
+    ((v.time ≡ w.time) × ((w.owner ≡ None) ⊎ (w.owner ≡ v.owner)))
 
--- What a new value makes of an old one: whichever is later stays as it is. Two of one time keep an owner that both name, and else have none.
+-- What a new value makes of an old one: whichever is later stays as it is. Two of one time keep an
+-- owner that both name, and else have none.
 abbrev pub ratcheted : OwnedTime → OwnedTime → OwnedTime
 ratcheted old new =
     if is_before old.time new.time then new

@@ -19,9 +19,12 @@ pub record IsRatchetOrder : Type 0 where
 
 -- the joint value is the least that each of the list is at most
 pub record IsLeastAbove : Type 0 where
-  pub above : (v : OwnedTime) (vs : List OwnedTime) (x : OwnedTime) → Contains (v ∷ vs) x → IsAtMost x (joint v vs)
-  pub least : (v : OwnedTime) (vs : List OwnedTime) (u : OwnedTime) → ((x : OwnedTime) → Contains (v ∷ vs) x → IsAtMost x u) → IsAtMost (joint v vs) u
+  pub above : (v : OwnedTime) (vs : List OwnedTime) (x : OwnedTime) → Contains (v ∷ vs) x →
+      IsAtMost x (joint v vs)
+  pub least : (v : OwnedTime) (vs : List OwnedTime) (u : OwnedTime) →
+      ((x : OwnedTime) → Contains (v ∷ vs) x → IsAtMost x u) → IsAtMost (joint v vs) u
 
 -- lists of the same values, in whatever order and however often, have one joint value
 abbrev pub SameJoint : Type 0
-SameJoint = (v w : OwnedTime) (vs ws : List OwnedTime) → ((x : OwnedTime) → Contains (v ∷ vs) x ↔ Contains (w ∷ ws) x) → joint v vs ≡ joint w ws
+SameJoint = (v w : OwnedTime) (vs ws : List OwnedTime) →
+    ((x : OwnedTime) → Contains (v ∷ vs) x ↔ Contains (w ∷ ws) x) → joint v vs ≡ joint w ws

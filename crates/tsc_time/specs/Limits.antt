@@ -5,6 +5,6 @@ use Rattle.std.specs.Prelude.{ℕ, ◌^◌}
 abbrev pub wall_limit : ℕ
 wall_limit = 2 ^ 63
 
--- and what a logical count stays below
+-- what a logical count stays below
 abbrev pub logical_limit : ℕ
 logical_limit = 2 ^ 31

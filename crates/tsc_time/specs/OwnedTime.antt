@@ -1,4 +1,5 @@
--- What the cache holds for a key: a time, and whose it is (`cacheValue` of CockroachDB's pkg/kv/kvserver/tscache).
+-- What the cache holds for a key: a time, and whose it is (`cacheValue` of CockroachDB's
+-- pkg/kv/kvserver/tscache).
 use Rattle.std.specs.Prelude.{◌≡◌, ℕ, ◌<◌, List, length, All, Bool, true, false, Option, Some, None, if◌then◌else◌}
 use Rattle.std.specs.Str.{bytes_eq}
 use Rattle.uuid.specs.Parts.{is_nil_bytes}

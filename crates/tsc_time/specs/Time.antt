@@ -35,4 +35,5 @@ later a b = if is_before a b then b else a
 
 -- a timestamp that many nanoseconds earlier, with the same logical count, where there is one
 abbrev pub time_minus : Time → ℕ → Option Time
-time_minus t ns = if nat_le ns t.wall then Some (record { wall = t.wall - ns; logical = t.logical }) else None
+time_minus t ns = if nat_le ns t.wall then Some (record { wall = t.wall - ns; logical = t.logical })
+    else None

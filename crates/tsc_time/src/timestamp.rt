@@ -7,8 +7,8 @@ use std::marker::Model;
 /// A hybrid logical clock's time: `hlc.Timestamp` of CockroachDB's `pkg/util/hlc`, without negative
 /// values and without the synthetic flag.
 ///
-/// The wall time counts nanoseconds and stays below 2^63, and the logical count stays below 2^31. The
-/// smaller wall time comes first, and of two equal ones the smaller logical count.
+/// The wall time counts nanoseconds and stays below 2^63, and the logical count stays below 2^31.
+/// The smaller wall time comes first, and of two equal ones the smaller logical count.
 #[derive(Clone, Copy, Debug, PartialEq, Eq, PartialOrd, Ord, Hash)]
 pub struct Timestamp {
     pub(crate) wall: u64,
@@ -70,8 +70,8 @@ impl Timestamp {
         self.logical
     }
 
-    /// The timestamp `ns` nanoseconds earlier, with the same logical count, or `None` where the wall time
-    /// would fall below 0.
+    /// The timestamp `ns` nanoseconds earlier, with the same logical count, or `None` where the
+    /// wall time would fall below 0.
     pub const fn minus(self, ns: u64) -> Option<Timestamp>
         ensures { result ≡ time_minus self ns }
     {

@@ -8,13 +8,14 @@ use crate::Timestamp;
 use std::marker::Model;
 use uuid::{Bytes, Uuid};
 
-/// What the cache holds for a key: the time of a read, and the transaction that owns it, if one does.
-/// It restates `cacheValue` of CockroachDB's `pkg/kv/kvserver/tscache`.
+/// What the cache holds for a key: the time of a read, and the transaction that owns it, if one
+/// does. It restates `cacheValue` of CockroachDB's `pkg/kv/kvserver/tscache`.
 ///
-/// A transaction's own reads do not push its writes, so an owner is worth keeping. The nil UUID names
-/// no transaction, and is never an owner.
+/// A transaction's own reads do not push its writes, so an owner is worth keeping. The nil UUID
+/// names no transaction, and is never an owner.
 ///
-/// The parts of the time are fields beside the owner, so a value has 32 bytes; with a `Timestamp` within it would have 40.
+/// The parts of the time are fields beside the owner, so a value has 32 bytes; with a `Timestamp`
+/// within it would have 40.
 #[derive(Clone, Copy, Debug, PartialEq, Eq)]
 pub struct Value {
     wall: u64,
@@ -29,11 +30,19 @@ impl Model for Value {
 
     ghost Value = { OwnedTime };
 
-    ghost view = { λ v. record { time = record { wall = v.wall; logical = v.logical }; owner = v.owner } };
+    ghost view = { λ v. record {
+      time = record { wall = v.wall; logical = v.logical };
+      owner = v.owner;
+    } };
 
-    ghost invariant = { λ v. (is_in_range (record { wall = v.wall; logical = v.logical }) ≡ true) × IsMadeOwner v.owner };
+    ghost invariant = { λ v. (is_in_range (record { wall = v.wall; logical = v.logical }) ≡ true) ×
+        IsMadeOwner v.owner };
 
-    ghost inverse = { λ v. record { wall = v.time.wall; logical = v.time.logical; owner = v.owner } };
+    ghost inverse = { λ v. record {
+      wall = v.time.wall;
+      logical = v.time.logical;
+      owner = v.owner;
+    } };
 }
 
 impl Value {
@@ -70,8 +79,8 @@ impl Value {
         }
     }
 
-    /// The transaction that owns the time, if one does. Whoever has a value also learns here that it can
-    /// be made.
+    /// The transaction that owns the time, if one does. Whoever has a value also learns here that
+    /// it can be made.
     pub const fn owner(self) -> Option<Uuid>
         ensures value { result ≡ self.owner }
         ensures not_nil { result ≢ Some zero_bytes }
@@ -80,11 +89,11 @@ impl Value {
         self.owner
     }
 
-    /// Ratchets a new value into this one, and says whether that changed it: `ratchetValue` of CockroachDB's
-    /// `pkg/kv/kvserver/tscache/cache.go`.
+    /// Ratchets a new value into this one, and says whether that changed it: `ratchetValue` of
+    /// CockroachDB's `pkg/kv/kvserver/tscache/cache.go`.
     ///
-    /// Whichever is later stays. Two values of one time keep an owner that both name, and else lose it, since
-    /// the writes of each transaction have to heed the reads of the other.
+    /// Whichever is later stays. Two values of one time keep an owner that both name, and else lose
+    /// it, since the writes of each transaction have to heed the reads of the other.
     #[inline]
     pub fn raise(&mut self, new: &Value) -> bool
         ensures value { self.new ≡ ratcheted self.old new.now }
@@ -104,7 +113,8 @@ impl Value {
     }
 }
 
-/// Whether all bits of a UUID are zero. As one number they are compared at once, and not byte by byte.
+/// Whether all bits of a UUID are zero. As one number they are compared at once, and not byte by
+/// byte.
 fn is_nil(uuid: Uuid) -> bool
     ensures value { result ≡ is_nil_bytes uuid }
     ensures long { length uuid ≡ 16 }
@@ -124,7 +134,7 @@ fn bytes_of(uuid: Uuid) -> Bytes
     bytes
 }
 
-/// These bytes, each of which is below 256.
+/// The bytes themselves, each of which is below 256.
 fn small_bytes(bytes: &[u8]) -> &[u8]
     ensures { All (λ b. b < 256) bytes.now }
 {

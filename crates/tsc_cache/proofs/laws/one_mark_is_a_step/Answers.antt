@@ -1,3 +1,4 @@
+-- An Add of a list of one mark is the Add of that mark.
 use Rattle.tsc_cache.proofs.Steps.{one_mark_is_a_step}
 use Rattle.tsc_cache.proofs.laws.one_mark_is_a_step.Goals as goal
 

@@ -4,4 +4,5 @@ use Rattle.tsc_cache.specs.Batch.{is_any_kept}
 use Rattle.tsc_cache.proofs.mark.is_any_kept.Given as goal
 
 abbrev pub invariant-loop-mark : goal.invariant-loop-mark
-invariant-loop-mark l = is_any_kept l.floor (drop l.mark-index l.marks) ≡ is_any_kept l.floor l.marks
+invariant-loop-mark l = is_any_kept l.floor (drop l.mark-index l.marks) ≡ is_any_kept l.floor
+    l.marks

@@ -6,4 +6,5 @@ use Rattle.tsc_cache.specs.Chunks.{in_chunk}
 use Rattle.tsc_cache.proofs.older.copy_of.Given as goal
 
 abbrev pub invariant-loop-page : goal.invariant-loop-page
-invariant-loop-page l = in_chunk l.fn.pages ≡ in_chunk l.copy ++ map (λ p. arc_value p) (deque_iter_rest l.page-iterator)
+invariant-loop-page l = in_chunk l.fn.pages ≡ in_chunk l.copy ++
+    map (λ p. arc_value p) (deque_iter_rest l.page-iterator)

@@ -12,8 +12,11 @@ returns-in_default c =
     let n = c.div_ceil.result in
     let is = c.div_ceil.ensures in
     let left : in_chunks c.truncate.new.self ≡ take n (in_chunks c.args.chunks.now) =
-    ap (map (λ k. in_chunk (arc_value k))) c.truncate.ensures.items ∙ sym (take-map (λ k. in_chunk (arc_value k)) n c.args.chunks.now.items) in
-    subst (IsCutTo c.args.kept (in_chunks c.args.chunks.now)) (sym left) (cut_chunks c.args.kept n (in_chunks c.args.chunks.now) c.requires.full c.requires.within (omega arith))
+    ap (map (λ k. in_chunk (arc_value k))) c.truncate.ensures.items ∙
+    sym (take-map (λ k. in_chunk (arc_value k)) n c.args.chunks.now.items) in
+    subst (IsCutTo c.args.kept (in_chunks c.args.chunks.now)) (sym left)
+    (cut_chunks c.args.kept n (in_chunks c.args.chunks.now) c.requires.full c.requires.within
+    (omega arith))
 
 pub returns-in-Some : goal.returns-in-Some
 returns-in-Some c =
@@ -23,13 +26,23 @@ returns-in-Some c =
     let old = c.in-Some.oldest.now in
     let new = in_chunk (arc_value c.cut_chunk.new.chunk) in
     let left : in_chunks q ≡ take n (in_chunks c.args.chunks.now) =
-    ap (map (λ k. in_chunk (arc_value k))) c.truncate.ensures.items ∙ sym (take-map (λ k. in_chunk (arc_value k)) n c.args.chunks.now.items) in
-    let here : in_chunk (arc_value old) ≡ get_or (take n (in_chunks c.args.chunks.now)) w (in_chunk (arc_value old)) =
-    ap (λ k. in_chunk (arc_value k)) c.in-Some.ensures.value ∙ sym (get_or-map (λ k. in_chunk (arc_value k)) q.items w old) ∙ ap (λ ks. get_or ks w (in_chunk (arc_value old))) left in
-    let told = subst (λ ps. (new ≡ ps) ⊎ (new ≡ take (c.args.kept % 256) ps)) here c.cut_chunk.ensures in
+    ap (map (λ k. in_chunk (arc_value k))) c.truncate.ensures.items ∙
+    sym (take-map (λ k. in_chunk (arc_value k)) n c.args.chunks.now.items) in
+    let here : in_chunk (arc_value old) ≡ get_or (take n (in_chunks c.args.chunks.now)) w
+    (in_chunk (arc_value old)) =
+    ap (λ k. in_chunk (arc_value k)) c.in-Some.ensures.value ∙
+    sym (get_or-map (λ k. in_chunk (arc_value k)) q.items w old) ∙
+    ap (λ ks. get_or ks w (in_chunk (arc_value old))) left in
+    let told = subst (λ ps. (new ≡ ps) ⊎ (new ≡ take (c.args.kept % 256) ps)) here
+    c.cut_chunk.ensures in
     let all = q.ok.0 in
-    let long : length (in_chunks q) ≡ length q.items = length-map q.items (λ k. in_chunk (arc_value k)) in
-    let same : length (in_chunks q) ≡ length (take n (in_chunks c.args.chunks.now)) = ap length left in
+    let long : length (in_chunks q) ≡ length q.items =
+    length-map q.items (λ k. in_chunk (arc_value k)) in
+    let same : length (in_chunks q) ≡ length (take n (in_chunks c.args.chunks.now)) =
+    ap length left in
     let some = c.in-Some.ensures.variant.0 refl in
-    let done = cut_whole c.args.kept n (in_chunks c.args.chunks.now) new (in_chunk (arc_value old)) c.requires.full c.requires.within c.div_ceil.ensures (omega arith) told in
-    subst (IsCutTo c.args.kept (in_chunks c.args.chunks.now)) (sym (map-set (λ k. in_chunk (arc_value k)) q.items w c.cut_chunk.new.chunk ∙ ap (λ ks. set ks w new) left)) done
+    let done = cut_whole c.args.kept n (in_chunks c.args.chunks.now) new (in_chunk (arc_value old))
+    c.requires.full c.requires.within c.div_ceil.ensures (omega arith) told in
+    subst (IsCutTo c.args.kept (in_chunks c.args.chunks.now))
+    (sym (map-set (λ k. in_chunk (arc_value k)) q.items w c.cut_chunk.new.chunk ∙
+    ap (λ ks. set ks w new) left)) done

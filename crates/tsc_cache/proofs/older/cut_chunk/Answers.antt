@@ -10,12 +10,22 @@ pub returns-in-Ok : goal.returns-in-Ok
 returns-in-Ok c =
     let old = arc_value c.args.chunk.now in
     let own = c.in-Ok.pages.now in
-    let same : in_chunk own ≡ in_chunk old = elim c.in-Ok.ensures.value [ inl h ↦ ap in_chunk h | inr h ↦ clones_same (λ p. arc_value p) (λ p. p) old.items own.items h.0 ] in
+    let same : in_chunk own ≡ in_chunk old =
+    elim c.in-Ok.ensures.value [
+      | inl h ↦ ap in_chunk h
+      | inr h ↦ clones_same (λ p. arc_value p) (λ p. p) old.items
+          own.items h.0
+    ] in
     let kept = c.make_mut.follows.holds c.truncate.new.self (search rules) in
-    inr (ap in_chunk kept ∙ ap (map (λ p. arc_value p)) c.truncate.ensures.items ∙ sym (take-map (λ p. arc_value p) c.args.kept own.items) ∙ ap (take c.args.kept) same)
+    inr (ap in_chunk kept ∙ ap (map (λ p. arc_value p)) c.truncate.ensures.items ∙
+    sym (take-map (λ p. arc_value p) c.args.kept own.items) ∙ ap (take c.args.kept) same)
 
 pub returns-in_default : goal.returns-in_default
 returns-in_default c =
     let old = arc_value c.args.chunk.now in
     let left = unless_ok c.make_mut.result _ c.in_default.not-Ok c.make_mut.follows.holds-at-none in
-    inl (elim left [ inl h ↦ ap in_chunk h | inr h ↦ clones_same (λ p. arc_value p) (λ p. p) old.items _ h.0 ])
+    inl (elim left [
+      | inl h ↦ ap in_chunk h
+      | inr h ↦ clones_same (λ p. arc_value p) (λ p. p)
+          old.items _ h.0
+    ])

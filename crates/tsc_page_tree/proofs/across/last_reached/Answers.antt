@@ -2,7 +2,7 @@
 use Rattle.std.proofs.Common.{◌≡◌, ◌∙◌, ◌<◌, ◌≤◌, sym, ap, ℕ, List, [], map, length, get_or, true, arith}
 use Rattle.std.proofs.lemmas.List.{length-map}
 use Rattle.tsc_span.specs.Span.{Cut, is_below}
-use Rattle.tsc_page_base.specs.Nodes.{Node}
+use Rattle.tsc_page_nodes.specs.Nodes.{Node}
 use Rattle.tsc_page_tree.specs.Leaves.{start_of}
 use Rattle.tsc_page_tree.proofs.LeafLists.{read_leaf, all_some}
 use Rattle.tsc_page_tree.proofs.PartAcross.{reached_here}
@@ -17,10 +17,14 @@ returns-then-not-starts_below g c =
     let ls : List (List Node) = map read items in
     let to : Cut = c.args.to.now in
     let p : ℕ = c.part_at-place.result in
-    let here : p < length items = omega (arith, c.part_at-place.ensures.bound, length-map items read, c.requires.some) in
+    let here : p < length items = omega
+    (arith, c.part_at-place.ensures.bound, length-map items read, c.requires.some) in
     let is = read_leaf read items p c.index-parts-place.result here c.index-parts-place.is in
-    last_before ls to p (all_some read g.P.Part.IsWhole items g.met.P.Part.some c.requires.parts.whole) c.requires.parts.sorted (omega (arith, c.if-place-gt0.true)) (omega (arith, here, length-map items read)) c.part_at-place.ensures
-    (ap (λ (ns : List Node). is_below (start_of ns) to) (sym is) ∙ sym c.starts_below.ensures ∙ c.if-not-starts_below.true)
+    last_before ls to p (all_some read g.P.Part.IsWhole items g.met.P.Part.some
+    c.requires.parts.whole) c.requires.parts.sorted (omega (arith, c.if-place-gt0.true))
+    (omega (arith, here, length-map items read)) c.part_at-place.ensures
+    (ap (λ (ns : List Node). is_below (start_of ns) to) (sym is) ∙ sym c.starts_below.ensures ∙
+    c.if-not-starts_below.true)
 
 pub returns-else-place-gt0 : goal.returns-else-place-gt0
 returns-else-place-gt0 g c =
@@ -29,9 +33,15 @@ returns-else-place-gt0 g c =
     let ls : List (List Node) = map read items in
     let to : Cut = c.args.to.now in
     let p : ℕ = c.part_at-place.result in
-    let here : p < length items = omega (arith, c.part_at-place.ensures.bound, length-map items read, c.requires.some) in
-    let reaches : 1 ≤ p → is_below (start_of (get_or ls p [])) to ≡ true = elim c.else-place-gt0.branch [
-      | else-place-gt0-via-then-place-gt0+else-not-starts_below w ↦ λ h. ap (λ (ns : List Node). is_below (start_of ns) to) (sym (read_leaf read items p w.index-parts-place.result here w.index-parts-place.is)) ∙ sym w.starts_below.ensures ∙ w.if-not-starts_below.false
+    let here : p < length items = omega
+    (arith, c.part_at-place.ensures.bound, length-map items read, c.requires.some) in
+    let reaches : 1 ≤ p → is_below (start_of (get_or ls p [])) to ≡ true =
+    elim c.else-place-gt0.branch [
+      | else-place-gt0-via-then-place-gt0+else-not-starts_below w ↦ λ h. ap
+          (λ (ns : List Node). is_below (start_of ns) to)
+          (sym (read_leaf read items p w.index-parts-place.result here w.index-parts-place.is)) ∙
+          sym w.starts_below.ensures ∙ w.if-not-starts_below.false
       | else-place-gt0-via-else-place-gt0 w ↦ λ h. absurd (omega (arith, h, w.if-place-gt0.false))
     ] in
-    reached_here ls to p (all_some read g.P.Part.IsWhole items g.met.P.Part.some c.requires.parts.whole) c.part_at-place.ensures reaches
+    reached_here ls to p (all_some read g.P.Part.IsWhole items g.met.P.Part.some
+    c.requires.parts.whole) c.part_at-place.ensures reaches

@@ -1,14 +1,16 @@
--- The first list is raised from the part of the lower cut on, and the second up to that of the upper one.
+-- The first list is raised from the part of the lower cut on, and the second up to that of the
+-- upper one.
 use Rattle.std.proofs.Common.{◌≡◌, ◌∙◌, ◌≤◌, refl, sym, ap, subst, Bool, true, ℕ, suc, List, ◌++◌, map, drop, set, length, arith}
 use Rattle.std.specs.Prelude.{not}
 use Rattle.std.proofs.lemmas.List.{length-map, length-append}
 use Rattle.tsc_span.specs.Span.{Cut, is_below}
-use Rattle.tsc_page_base.specs.Nodes.{Node, raise_nodes}
+use Rattle.tsc_page_nodes.specs.Nodes.{Node, raise_nodes}
+use Rattle.tsc_page_nodes.specs.Additions.{Addend}
 use Rattle.tsc_page_tree.specs.Leaves.{nodes_of, start_of, AreSome, AreParts, IsLeafAt}
-use Rattle.tsc_page_tree.specs.Pending.{everything, Addend}
+use Rattle.tsc_page_tree.specs.Pending.{everything}
 use Rattle.tsc_page_tree.specs.Across.{AreRaisedAcross, IsLastReached}
 use Rattle.tsc_page_tree.proofs.LeafLists.{all_some}
-use Rattle.tsc_page_tree.proofs.PartAdds.{IsAddend}
+use Rattle.tsc_page_nodes.specs.Additions.{IsAddend}
 use Rattle.tsc_page_tree.proofs.LeafLists.{all_set}
 use Rattle.tsc_page_tree.proofs.OverParts.{stays_low, stays_high, raises_two, stops_two, sizes_low, sizes_high, all_two, parts_first, parts_second, part_sorted}
 use Rattle.tsc_page_tree.proofs.across.raise_two.Given.{Over}
@@ -48,7 +50,8 @@ module _ (g : Over) (c : After-split_at_mut-others g) where
   shape_high = c.split_at_mut-others.ensures.value
 
   reached : IsLastReached (map f c.args.high.now) a.to c.last_reached-last.result
-  reached = subst (λ (z : Cut). IsLastReached (map f c.args.high.now) z c.last_reached-last.result) to c.last_reached-last.ensures
+  reached = subst (λ (z : Cut). IsLastReached (map f c.args.high.now) z c.last_reached-last.result)
+      to c.last_reached-last.ensures
 
   long : length bl ≡ suc c.part_at-first.result
   long = omega (arith, c.split_at_mut-below.ensures.front_len)
@@ -57,7 +60,15 @@ module _ (g : Over) (c : After-split_at_mut-others g) where
   front = c.split_at_mut-others.ensures.front_len
 
   one : 1 ≤ length ab
-  one = omega (arith, front, ap length shape_high, length-append ot ab, reached.bound, length-map c.args.high.now f, c.requires.some_high)
+  one = omega (
+    arith,
+    front,
+    ap length shape_high,
+    length-append ot ab,
+    reached.bound,
+    length-map c.args.high.now f,
+    c.requires.some_high,
+  )
 
   parts_low : AreParts f g.P.Part.IsWhole (bl ++ md)
   parts_low = subst (AreParts f g.P.Part.IsWhole) shape_low c.requires.parts_low
@@ -73,17 +84,23 @@ module _ (g : Over) (c : After-split_at_mut-others g) where
 
   at : IsLeafAt (map f (bl ++ md)) a.from c.part_at-first.result
   at =
-      subst (λ (z : Cut). IsLeafAt (map f (bl ++ md)) z c.part_at-first.result) (ap (λ (v : Addend). v.from) c.add.view_is)
-      (subst (λ (xs : List g.row.P.Denot). IsLeafAt (map f xs) c.add.inside.from.now c.part_at-first.result) shape_low c.part_at-first.ensures)
+      subst (λ (z : Cut). IsLeafAt (map f (bl ++ md)) z c.part_at-first.result)
+      (ap (λ (v : Addend). v.from) c.add.view_is)
+      (subst (λ (xs : List g.row.P.Denot). IsLeafAt (map f xs) c.add.inside.from.now
+      c.part_at-first.result) shape_low c.part_at-first.ensures)
 
   reaches : is_below (start_of (nodes_of (map f (ot ++ ab)))) a.to ≡ true
-  reaches = subst (λ (xs : List g.row.P.Denot). is_below (start_of (nodes_of (map f xs))) a.to ≡ true) shape_high c.requires.reaches
+  reaches = subst (λ (xs : List g.row.P.Denot). is_below (start_of (nodes_of (map f xs))) a.to ≡
+      true) shape_high c.requires.reaches
 
   here : IsLastReached (map f (ot ++ ab)) a.to (length ot)
-  here = subst (λ (n : ℕ). IsLastReached (map f (ot ++ ab)) a.to n) (sym front) (subst (λ (xs : List g.row.P.Denot). IsLastReached (map f xs) a.to c.last_reached-last.result) shape_high reached)
+  here = subst (λ (n : ℕ). IsLastReached (map f (ot ++ ab)) a.to n) (sym front)
+      (subst (λ (xs : List g.row.P.Denot). IsLastReached (map f xs) a.to c.last_reached-last.result)
+      shape_high reached)
 
 pub bounds-above-0 : goal.bounds-above-0
-bounds-above-0 g c = let some = one g (goal.at.bounds-above-0 g c).After-split_at_mut-others in omega (arith, some)
+bounds-above-0 g c = let some = one g (goal.at.bounds-above-0 g c).After-split_at_mut-others
+    in omega (arith, some)
 
 pub raise_ends-requires-clause-sorted_low : goal.raise_ends-requires-clause-sorted_low
 raise_ends-requires-clause-sorted_low g c =
@@ -93,7 +110,8 @@ raise_ends-requires-clause-sorted_low g c =
     let p : ℕ = c.part_at-first.result in
     let bl = c.split_at_mut-below.result.0.now in
     let md = c.split_at_mut-below.result.1.now in
-    part_sorted f Q bl p c.index-below-first.result (omega (arith, (long g k))) (parts_first f Q bl md (parts_low g k))
+    part_sorted f Q bl p c.index-below-first.result (omega (arith, (long g k)))
+    (parts_first f Q bl md (parts_low g k))
 
 pub raise_ends-requires-clause-sorted_high : goal.raise_ends-requires-clause-sorted_high
 raise_ends-requires-clause-sorted_high g c =
@@ -116,7 +134,8 @@ raise_ends-requires-clause-reaches g c =
     let ab = c.split_at_mut-others.result.1.now in
     let d = c.index-below-first.result in
     let e = c.index-above-0.result in
-    (stops_two f bl md ot ab p d d e e (long g k) (one g k) a (some_low g k) (some_high g k) (fits g k) (at g k) (reaches g k) (here g k)).part
+    (stops_two f bl md ot ab p d d e e (long g k) (one g k) a (some_low g k) (some_high g k)
+    (fits g k) (at g k) (reaches g k) (here g k)).part
 
 pub returns-then-not-raise_ends-clause-told : goal.returns-then-not-raise_ends-clause-told
 returns-then-not-raise_ends-clause-told g c =
@@ -132,8 +151,10 @@ returns-then-not-raise_ends-clause-told g c =
     let x = c.raise_ends.new.low in
     let y = c.raise_ends.new.high in
     let told = c.if-not-raise_ends.ensures.told in (
-      stays_low f bl md ot ab p d x e y (long g k) (one g k) told.0 ∙ ap (λ (xs : List g.row.P.Denot). nodes_of (map f xs)) (sym (shape_low g k)),
-      stays_high f bl md ot ab p d x e y (long g k) (one g k) told.1 ∙ ap (λ (xs : List g.row.P.Denot). nodes_of (map f xs)) (sym (shape_high g k)),
+      stays_low f bl md ot ab p d x e y (long g k) (one g k) told.0 ∙
+          ap (λ (xs : List g.row.P.Denot). nodes_of (map f xs)) (sym (shape_low g k)),
+      stays_high f bl md ot ab p d x e y (long g k) (one g k) told.1 ∙
+          ap (λ (xs : List g.row.P.Denot). nodes_of (map f xs)) (sym (shape_high g k)),
     )
 
 pub returns-then-not-raise_ends-clause-sizes_low : goal.returns-then-not-raise_ends-clause-sizes_low
@@ -145,15 +166,18 @@ returns-then-not-raise_ends-clause-sizes_low g c =
     let md = c.split_at_mut-below.result.1.now in
     let d = c.index-below-first.result in
     let x = c.raise_ends.new.low in
-    sizes_low s bl md md p d x (long g k) c.raise_ends.ensures.sizes_low refl ∙ ap (map s) (sym (shape_low g k))
+    sizes_low s bl md md p d x (long g k) c.raise_ends.ensures.sizes_low refl ∙
+    ap (map s) (sym (shape_low g k))
 
-pub returns-then-not-raise_ends-clause-sizes_high : goal.returns-then-not-raise_ends-clause-sizes_high
+pub returns-then-not-raise_ends-clause-sizes_high :
+    goal.returns-then-not-raise_ends-clause-sizes_high
 returns-then-not-raise_ends-clause-sizes_high g c =
     let k = (goal.at.returns-then-not-raise_ends-clause-sizes_high g c).After-split_at_mut-others in
     let s = g.P.Part.sizes in
     let ot = c.split_at_mut-others.result.0.now in
     let ab = c.split_at_mut-others.result.1.now in
-    sizes_high s ot ot ab c.index-above-0.result c.raise_ends.new.high (one g k) c.raise_ends.ensures.sizes_high refl ∙ ap (map s) (sym (shape_high g k))
+    sizes_high s ot ot ab c.index-above-0.result c.raise_ends.new.high (one g k)
+    c.raise_ends.ensures.sizes_high refl ∙ ap (map s) (sym (shape_high g k))
 
 pub returns-then-not-raise_ends-clause-low : goal.returns-then-not-raise_ends-clause-low
 returns-then-not-raise_ends-clause-low g c =
@@ -164,7 +188,8 @@ returns-then-not-raise_ends-clause-low g c =
     let bl = c.split_at_mut-below.result.0.now in
     let md = c.split_at_mut-below.result.1.now in
     let x = c.raise_ends.new.low in
-    all_two Q (set bl p x) md (all_set Q bl p x (parts_first f Q bl md (parts_low g k)).whole c.raise_ends.ensures.low) (parts_second f Q bl md (parts_low g k)).whole
+    all_two Q (set bl p x) md (all_set Q bl p x (parts_first f Q bl md (parts_low g k)).whole
+    c.raise_ends.ensures.low) (parts_second f Q bl md (parts_low g k)).whole
 
 pub returns-then-not-raise_ends-clause-high : goal.returns-then-not-raise_ends-clause-high
 returns-then-not-raise_ends-clause-high g c =
@@ -174,7 +199,8 @@ returns-then-not-raise_ends-clause-high g c =
     let ot = c.split_at_mut-others.result.0.now in
     let ab = c.split_at_mut-others.result.1.now in
     let y = c.raise_ends.new.high in
-    all_two Q ot (set ab 0 y) (parts_first f Q ot ab (parts_high g k)).whole (all_set Q ab 0 y (parts_second f Q ot ab (parts_high g k)).whole c.raise_ends.ensures.high)
+    all_two Q ot (set ab 0 y) (parts_first f Q ot ab (parts_high g k)).whole
+    (all_set Q ab 0 y (parts_second f Q ot ab (parts_high g k)).whole c.raise_ends.ensures.high)
 
 pub raise_all-requires : goal.raise_all-requires
 raise_all-requires g c =
@@ -213,14 +239,30 @@ returns-clause-told g c =
     let mn = c.raise_all.new.parts in
     let on = c.raise_all-2.new.parts in
     let stop : Bool = c.stops_at_next-stops.result in
-    let is : stop ≡ not (is_below a.to (start_of (nodes_of (drop (suc (length ot)) (map f (ot ++ ab)))))) =
-    c.stops_at_next-stops.ensures ∙ ap (λ (z : Cut). not (is_below z (start_of (nodes_of (drop (suc r) (map f highs)))))) (to g k) ∙ ap (λ (n : ℕ). not (is_below a.to (start_of (nodes_of (drop (suc n) (map f highs)))))) (sym (front g k))
-    ∙ ap (λ (xs : List g.row.P.Denot). not (is_below a.to (start_of (nodes_of (drop (suc (length ot)) (map f xs)))))) (shape_high g k) in
-    let wholly : nodes_of (map f mn) ≡ raise_nodes everything a.value (nodes_of (map f md)) = c.raise_all.ensures.raised ∙ ap (λ (v : Addend). raise_nodes everything v.value (nodes_of (map f md))) c.add.view_is in
-    let others : nodes_of (map f on) ≡ raise_nodes everything a.value (nodes_of (map f ot)) = c.raise_all-2.ensures.raised ∙ ap (λ (v : Addend). raise_nodes everything v.value (nodes_of (map f ot))) c.add.view_is in
-    subst (λ (xs : List g.row.P.Denot). AreRaisedAcross (nodes_of (map f xs)) (nodes_of (map f (set bl p x ++ mn))) (nodes_of (map f highs)) (nodes_of (map f (on ++ set ab 0 y))) a) (sym (shape_low g k))
-    (subst (λ (xs : List g.row.P.Denot). AreRaisedAcross (nodes_of (map f (bl ++ md))) (nodes_of (map f (set bl p x ++ mn))) (nodes_of (map f xs)) (nodes_of (map f (on ++ set ab 0 y))) a) (sym (shape_high g k))
-    (raises_two f bl md ot ab p d x e y (long g k) (one g k) a (some_low g k) (some_high g k) (fits g k) (at g k) (reaches g k) (here g k) mn on stop (parts_low g k).sorted (parts_high g k).sorted is c.if-not-raise_ends.ensures.told wholly others))
+    let is : stop ≡ not (is_below a.to
+    (start_of (nodes_of (drop (suc (length ot)) (map f (ot ++ ab)))))) =
+    c.stops_at_next-stops.ensures ∙
+    ap (λ (z : Cut). not (is_below z (start_of (nodes_of (drop (suc r) (map f highs))))))
+    (to g k) ∙ ap (λ (n : ℕ). not
+    (is_below a.to (start_of (nodes_of (drop (suc n) (map f highs)))))) (sym (front g k))
+    ∙ ap (λ (xs : List g.row.P.Denot). not
+    (is_below a.to (start_of (nodes_of (drop (suc (length ot)) (map f xs))))))
+    (shape_high g k) in
+    let wholly : nodes_of (map f mn) ≡ raise_nodes everything a.value (nodes_of (map f md)) =
+    c.raise_all.ensures.raised ∙
+    ap (λ (v : Addend). raise_nodes everything v.value (nodes_of (map f md))) c.add.view_is in
+    let others : nodes_of (map f on) ≡ raise_nodes everything a.value (nodes_of (map f ot)) =
+    c.raise_all-2.ensures.raised ∙
+    ap (λ (v : Addend). raise_nodes everything v.value (nodes_of (map f ot))) c.add.view_is in
+    subst (λ (xs : List g.row.P.Denot). AreRaisedAcross (nodes_of (map f xs))
+    (nodes_of (map f (set bl p x ++ mn))) (nodes_of (map f highs))
+    (nodes_of (map f (on ++ set ab 0 y))) a) (sym (shape_low g k))
+    (subst (λ (xs : List g.row.P.Denot). AreRaisedAcross (nodes_of (map f (bl ++ md)))
+    (nodes_of (map f (set bl p x ++ mn))) (nodes_of (map f xs))
+    (nodes_of (map f (on ++ set ab 0 y))) a) (sym (shape_high g k))
+    (raises_two f bl md ot ab p d x e y (long g k) (one g k) a (some_low g k) (some_high g k)
+    (fits g k) (at g k) (reaches g k) (here g k) mn on stop (parts_low g k).sorted
+    (parts_high g k).sorted is c.if-not-raise_ends.ensures.told wholly others))
 
 pub returns-clause-sizes_low : goal.returns-clause-sizes_low
 returns-clause-sizes_low g c =
@@ -231,7 +273,8 @@ returns-clause-sizes_low g c =
     let md = c.split_at_mut-below.result.1.now in
     let d = c.index-below-first.result in
     let x = c.raise_ends.new.low in
-    sizes_low s bl md c.raise_all.new.parts p d x (long g k) c.raise_ends.ensures.sizes_low c.raise_all.ensures.sizes ∙ ap (map s) (sym (shape_low g k))
+    sizes_low s bl md c.raise_all.new.parts p d x (long g k) c.raise_ends.ensures.sizes_low
+    c.raise_all.ensures.sizes ∙ ap (map s) (sym (shape_low g k))
 
 pub returns-clause-sizes_high : goal.returns-clause-sizes_high
 returns-clause-sizes_high g c =
@@ -239,7 +282,9 @@ returns-clause-sizes_high g c =
     let s = g.P.Part.sizes in
     let ot = c.split_at_mut-others.result.0.now in
     let ab = c.split_at_mut-others.result.1.now in
-    sizes_high s ot c.raise_all-2.new.parts ab c.index-above-0.result c.raise_ends.new.high (one g k) c.raise_ends.ensures.sizes_high c.raise_all-2.ensures.sizes ∙ ap (map s) (sym (shape_high g k))
+    sizes_high s ot c.raise_all-2.new.parts ab c.index-above-0.result c.raise_ends.new.high
+    (one g k) c.raise_ends.ensures.sizes_high c.raise_all-2.ensures.sizes ∙
+    ap (map s) (sym (shape_high g k))
 
 pub returns-clause-low : goal.returns-clause-low
 returns-clause-low g c =
@@ -250,7 +295,9 @@ returns-clause-low g c =
     let bl = c.split_at_mut-below.result.0.now in
     let md = c.split_at_mut-below.result.1.now in
     let x = c.raise_ends.new.low in
-    all_two Q (set bl p x) c.raise_all.new.parts (all_set Q bl p x (parts_first f Q bl md (parts_low g k)).whole c.raise_ends.ensures.low) c.raise_all.ensures.whole
+    all_two Q (set bl p x) c.raise_all.new.parts
+    (all_set Q bl p x (parts_first f Q bl md (parts_low g k)).whole c.raise_ends.ensures.low)
+    c.raise_all.ensures.whole
 
 pub returns-clause-high : goal.returns-clause-high
 returns-clause-high g c =
@@ -260,4 +307,5 @@ returns-clause-high g c =
     let ot = c.split_at_mut-others.result.0.now in
     let ab = c.split_at_mut-others.result.1.now in
     let y = c.raise_ends.new.high in
-    all_two Q c.raise_all-2.new.parts (set ab 0 y) c.raise_all-2.ensures.whole (all_set Q ab 0 y (parts_second f Q ot ab (parts_high g k)).whole c.raise_ends.ensures.high)
+    all_two Q c.raise_all-2.new.parts (set ab 0 y) c.raise_all-2.ensures.whole
+    (all_set Q ab 0 y (parts_second f Q ot ab (parts_high g k)).whole c.raise_ends.ensures.high)

@@ -2,7 +2,7 @@
 use Rattle.std.proofs.Common.{◌∙◌, ap, sym, subst, List, ◌++◌, map, take, arith}
 use Rattle.std.proofs.lemmas.List.{length-take-le, length-drop}
 use Rattle.tsc_span.specs.Span.{KeyBytes}
-use Rattle.tsc_page_base.specs.Nodes.{Node}
+use Rattle.tsc_page_nodes.specs.Nodes.{Node}
 use Rattle.tsc_page_tree.specs.Leaves.{nodes_of, HasNode}
 use Rattle.tsc_page_tree.specs.Trees.{AreFewParts}
 use Rattle.tsc_page_tree.proofs.PartLists.{nodes_cut, all_take, all_drop}
@@ -15,16 +15,24 @@ returns-in_ok-cut-clause-made g c =
     let old : List Node = nodes_of (map read c.args.parts.now.items) in
     let new = c.make_node.new.parts.items in
     let parts =
-    ap (λ (xs : List g.row.P.Denot). nodes_of (map read xs) ++ nodes_of (map read c.in_ok-cut.field-0.items)) c.in_ok-cut.ensures.kept
-    ∙ ap (λ (xs : List g.row.P.Denot). nodes_of (map read (take 32 new)) ++ nodes_of (map read xs)) c.in_ok-cut.ensures.rest ∙ sym (nodes_cut read 32 new) in
+    ap (λ (xs : List g.row.P.Denot). nodes_of (map read xs) ++
+    nodes_of (map read c.in_ok-cut.field-0.items)) c.in_ok-cut.ensures.kept
+    ∙ ap (λ (xs : List g.row.P.Denot). nodes_of (map read (take 32 new)) ++ nodes_of (map read xs))
+    c.in_ok-cut.ensures.rest ∙ sym (nodes_cut read 32 new) in
     subst (λ (ns : List Node). HasNode old ns k) (sym parts) c.in_ok-make_node.ensures.made
 
 pub returns-in_ok-cut-clause-few : goal.returns-in_ok-cut-clause-few
 returns-in_ok-cut-clause-few g c =
     let new = c.make_node.new.parts.items in
     let many = c.if-len-gt-FORK_PARTS.true in
-    let long = length-take-le 32 new (omega (arith, many, c.len.ensures, c.make_node.new.parts.ok.0)) in
-    subst (AreFewParts g.P.Part.IsWhole) (sym c.in_ok-cut.ensures.kept) (record { each = all_take g.P.Part.IsWhole 32 new c.in_ok-make_node.ensures.whole; some = omega (arith, long); few = omega (arith, long) })
+    let long = length-take-le 32 new
+    (omega (arith, many, c.len.ensures, c.make_node.new.parts.ok.0)) in
+    subst (AreFewParts g.P.Part.IsWhole) (sym c.in_ok-cut.ensures.kept)
+    (record {
+      each = all_take g.P.Part.IsWhole 32 new c.in_ok-make_node.ensures.whole;
+      some = omega (arith, long);
+      few = omega (arith, long);
+    })
 
 pub returns-in_ok-cut-clause-upper : goal.returns-in_ok-cut-clause-upper
 returns-in_ok-cut-clause-upper g c =

@@ -7,4 +7,6 @@ use Rattle.tsc_page_tree.specs.Pending.{with_pending}
 use Rattle.tsc_page_tree.proofs.fork.push_down.Goals as goal
 
 pub returns-in-Some-clause-nodes : goal.returns-in-Some-clause-nodes
-returns-in-Some-clause-nodes g c = c.raise_all.ensures.raised ∙ ap (λ (o : Option OwnedTime). with_pending o (nodes_of (map g.P.Part.nodes c.args.parts.now))) (sym c.in-Some.is)
+returns-in-Some-clause-nodes g c = c.raise_all.ensures.raised ∙
+    ap (λ (o : Option OwnedTime). with_pending o (nodes_of (map g.P.Part.nodes c.args.parts.now)))
+    (sym c.in-Some.is)

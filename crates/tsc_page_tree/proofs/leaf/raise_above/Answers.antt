@@ -4,9 +4,9 @@ use Rattle.std.specs.Prelude.{Option}
 use Rattle.tsc_time.specs.OwnedTime.{OwnedTime}
 use Rattle.tsc_time.specs.Joint.{joint}
 use Rattle.tsc_span.specs.Span.{Cut, last, between}
-use Rattle.tsc_page_base.specs.Nodes.{Node, raise_nodes}
-use Rattle.tsc_page_base.proofs.CutOrder.{Le}
-use Rattle.tsc_page_base.proofs.Edits.{raise_nodes-length}
+use Rattle.tsc_page_nodes.specs.Nodes.{Node, raise_nodes}
+use Rattle.tsc_page_nodes.proofs.CutOrder.{Le}
+use Rattle.tsc_page_nodes.proofs.Edits.{raise_nodes-length}
 use Rattle.tsc_page_tree.specs.Leaves.{start_of}
 use Rattle.tsc_page_tree.specs.Pending.{with_pending, IsToldOf}
 use Rattle.tsc_page_tree.proofs.Pending.{raise_pending, raise_merged, raise_all, raise_each, pending-start, sorted_without}
@@ -18,17 +18,23 @@ use Rattle.tsc_page_tree.proofs.leaf.raise_above.Goals as goal
 use Rattle.tsc_page_tree.proofs.leaf.raise_above.Goals.{After-raise_near}
 
 pub raise_near-requires-clause-sorted : goal.raise_near-requires-clause-sorted
-raise_near-requires-clause-sorted c = sorted_without c.args.summary.now.pending c.args.nodes.now c.requires.sorted
+raise_near-requires-clause-sorted c =
+    sorted_without c.args.summary.now.pending c.args.nodes.now c.requires.sorted
 
 -- what the nodes become
-raised_is : (c : After-raise_near) → c.raise_near.new.self ≡ raise_nodes (between c.args.from.now last) c.args.value c.args.nodes.now
-raised_is c = c.raise_near.ensures ∙ ap (λ (z : Cut). raise_nodes (between c.args.from.now z) c.args.value c.args.nodes.now) c.new.ensures
+raised_is : (c : After-raise_near) →
+    c.raise_near.new.self ≡ raise_nodes (between c.args.from.now last) c.args.value c.args.nodes.now
+raised_is c = c.raise_near.ensures ∙
+    ap (λ (z : Cut). raise_nodes (between c.args.from.now z) c.args.value c.args.nodes.now)
+    c.new.ensures
 
 pub returns-then-starts_below-clause-raised : goal.returns-then-starts_below-clause-raised
 returns-then-starts_below-clause-raised c =
     let p = c.args.summary.now.pending in
     let is = raised_is (goal.at.returns-then-starts_below-clause-raised c).After-raise_near in
-    ap (λ (o : Option OwnedTime). with_pending o c.raise_near.new.self) c.reach.ensures.pending ∙ ap (with_pending p) is ∙ raise_pending p (between c.args.from.now last) c.args.value c.args.nodes.now
+    ap (λ (o : Option OwnedTime). with_pending o c.raise_near.new.self) c.reach.ensures.pending ∙
+    ap (with_pending p) is ∙ raise_pending p (between c.args.from.now last) c.args.value
+    c.args.nodes.now
 
 pub returns-then-starts_below-clause-told : goal.returns-then-starts_below-clause-told
 returns-then-starts_below-clause-told c =
@@ -36,12 +42,18 @@ returns-then-starts_below-clause-told c =
     let ns : List Node = c.args.nodes.now in
     let v : OwnedTime = c.args.value in
     let is = raised_is (goal.at.returns-then-starts_below-clause-told c).After-raise_near in
-    let reached = told_reached s.start s.joint v s.pending c.args.from.now last ns c.requires.sorted c.requires.order (starts_below_last (with_pending s.pending ns) (told_some s.start s.joint s.pending ns c.requires.told)) c.requires.told in
-    told_as s.start c.reach.new.self.start _ c.reach.new.self.joint _ c.reach.new.self.pending c.raise_near.new.self c.reach.ensures.start c.reach.ensures.joint c.reach.ensures.pending
-    (subst (λ (ms : List Node). IsToldOf s.start (joint s.joint (v ∷ [])) s.pending ms) (sym is) reached)
+    let reached = told_reached s.start s.joint v s.pending c.args.from.now last ns c.requires.sorted
+    c.requires.order (starts_below_last (with_pending s.pending ns)
+    (told_some s.start s.joint s.pending ns c.requires.told)) c.requires.told in
+    told_as s.start c.reach.new.self.start _ c.reach.new.self.joint _ c.reach.new.self.pending
+    c.raise_near.new.self c.reach.ensures.start c.reach.ensures.joint c.reach.ensures.pending
+    (subst (λ (ms : List Node). IsToldOf s.start (joint s.joint (v ∷ [])) s.pending ms) (sym is)
+    reached)
 
 pub returns-then-starts_below-clause-len : goal.returns-then-starts_below-clause-len
-returns-then-starts_below-clause-len c = ap length (raised_is (goal.at.returns-then-starts_below-clause-len c).After-raise_near) ∙ raise_nodes-length (between c.args.from.now last) c.args.value c.args.nodes.now
+returns-then-starts_below-clause-len c =
+    ap length (raised_is (goal.at.returns-then-starts_below-clause-len c).After-raise_near) ∙
+    raise_nodes-length (between c.args.from.now last) c.args.value c.args.nodes.now
 
 pub returns-else-starts_below-clause-raised : goal.returns-else-starts_below-clause-raised
 returns-else-starts_below-clause-raised c =
@@ -49,12 +61,17 @@ returns-else-starts_below-clause-raised c =
     let ns : List Node = c.args.nodes.now in
     let f : Cut = c.args.from.now in
     let v : OwnedTime = c.args.value in
-    let low : Le f (start_of (with_pending p ns)) = subst (Le f) (sym (pending-start p ns)) (sym c.starts_below.ensures ∙ c.if-starts_below.false) in
-    ap (λ (o : Option OwnedTime). with_pending o ns) c.raise.ensures.pending ∙ raise_merged p v ns ∙ raise_all v (with_pending p ns) c.requires.sorted ∙ sym (raise_each f v (with_pending p ns) c.requires.sorted low)
+    let low : Le f (start_of (with_pending p ns)) =
+    subst (Le f) (sym (pending-start p ns))
+    (sym c.starts_below.ensures ∙ c.if-starts_below.false) in
+    ap (λ (o : Option OwnedTime). with_pending o ns) c.raise.ensures.pending ∙ raise_merged p v ns ∙
+    raise_all v (with_pending p ns) c.requires.sorted ∙
+    sym (raise_each f v (with_pending p ns) c.requires.sorted low)
 
 pub returns-else-starts_below-clause-told : goal.returns-else-starts_below-clause-told
 returns-else-starts_below-clause-told c =
     let s = c.args.summary.now in
     let ns : List Node = c.args.nodes.now in
-    told_as s.start c.raise.new.self.start _ c.raise.new.self.joint _ c.raise.new.self.pending ns c.raise.ensures.start c.raise.ensures.joint c.raise.ensures.pending
+    told_as s.start c.raise.new.self.start _ c.raise.new.self.joint _ c.raise.new.self.pending ns
+    c.raise.ensures.start c.raise.ensures.joint c.raise.ensures.pending
     (told_raised s.start s.joint c.args.value s.pending ns c.requires.sorted c.requires.told)

@@ -1,7 +1,7 @@
 -- All lies between the least cut and the last one.
 use Rattle.std.proofs.Common.{◌∙◌, ap, List, []}
 use Rattle.tsc_span.specs.Span.{Cut, before, between}
-use Rattle.tsc_page_base.specs.Nodes.{Node, answer_of}
+use Rattle.tsc_page_nodes.specs.Nodes.{Node, answer_of}
 use Rattle.tsc_page_tree.proofs.leaf.summary_of.Goals as goal
 
 pub returns-clause-told : goal.returns-clause-told
@@ -10,5 +10,7 @@ returns-clause-told c =
     record {
       some = c.requires.some;
       start = c.start_number.ensures;
-      joint = c.joint_between.ensures ∙ ap (λ (x : Cut). answer_of ns (between x c.new-last.result)) c.new-least.ensures ∙ ap (λ (x : Cut). answer_of ns (between (before []) x)) c.new-last.ensures;
+      joint = c.join_between.ensures ∙
+          ap (λ (x : Cut). answer_of ns (between x c.new-last.result)) c.new-least.ensures ∙
+          ap (λ (x : Cut). answer_of ns (between (before []) x)) c.new-last.ensures;
     }

@@ -2,7 +2,7 @@
 use Rattle.std.proofs.Common.{◌∙◌, ◌<◌, sym, ap, subst, ℕ, List, [], map, length, arith}
 use Rattle.std.proofs.lemmas.List.{length-map}
 use Rattle.tsc_span.specs.Span.{Cut, before}
-use Rattle.tsc_page_base.specs.Nodes.{Node, IsSorted}
+use Rattle.tsc_page_nodes.specs.Nodes.{Node, IsSorted}
 use Rattle.tsc_page_tree.specs.Leaves.{IsLeafAt}
 use Rattle.tsc_page_tree.proofs.LeafLists.{all_some, leaf_sorted, part_read}
 use Rattle.tsc_page_tree.proofs.KeyAdds.{key_in_part}
@@ -14,7 +14,9 @@ add_key-requires-clause-sorted g c =
     let items = c.args.parts.now in
     let p : ℕ = c.part_at-place.result in
     let here : p < length items = omega (arith, c.if-place-parts.false) in
-    subst IsSorted (sym (part_read read items p c.index-parts-place.result here)) (leaf_sorted (map read items) p [] (omega (arith, here, length-map items read)) c.requires.parts.sorted)
+    subst IsSorted (sym (part_read read items p c.index-parts-place.result here))
+    (leaf_sorted (map read items) p [] (omega (arith, here, length-map items read))
+    c.requires.parts.sorted)
 
 pub returns-clause-told : goal.returns-clause-told
 returns-clause-told g c =
@@ -23,5 +25,9 @@ returns-clause-told g c =
     let ls : List (List Node) = map read items in
     let p : ℕ = c.part_at-place.result in
     let here : p < length items = omega (arith, c.if-place-parts.false) in
-    let at = subst (λ (x : Cut). IsLeafAt ls x p) (c.at.ensures ∙ ap before c.search.ensures) c.part_at-place.ensures in
-    key_in_part read items p c.index-parts-place.result c.add_key.new.self c.args.add.now (all_some read g.P.Part.IsWhole items g.met.P.Part.some c.requires.parts.whole) c.requires.parts.sorted here at g.P.Part.sizes c.add_key.result c.args.room c.add_key.ensures.told
+    let at = subst (λ (x : Cut). IsLeafAt ls x p) (c.at.ensures ∙ ap before c.search.ensures)
+    c.part_at-place.ensures in
+    key_in_part read items p c.index-parts-place.result c.add_key.new.self c.args.add.now
+    (all_some read g.P.Part.IsWhole items g.met.P.Part.some c.requires.parts.whole)
+    c.requires.parts.sorted here at g.P.Part.sizes c.add_key.result c.args.room
+    c.add_key.ensures.told

@@ -2,12 +2,14 @@
 use Rattle.std.proofs.Common.{◌≡◌, ◌∙◌, ◌<◌, sym, ap, subst, true, false, ℕ, suc, List, [], map, drop, get_or, length, arith}
 use Rattle.std.proofs.lemmas.List.{length-map}
 use Rattle.tsc_span.specs.Span.{Cut, is_below}
-use Rattle.tsc_page_base.specs.Nodes.{Node, IsSorted}
+use Rattle.tsc_page_nodes.specs.Nodes.{Node, IsSorted}
+use Rattle.tsc_page_nodes.specs.Additions.{Addend}
 use Rattle.tsc_page_tree.specs.Leaves.{nodes_of, start_of, IsLeafAt}
-use Rattle.tsc_page_tree.specs.Pending.{Addend, IsAddTold}
-use Rattle.tsc_page_base.proofs.CutOrder.{Le}
+use Rattle.tsc_page_tree.specs.Pending.{IsAddTold}
+use Rattle.tsc_page_nodes.proofs.CutOrder.{Le}
 use Rattle.tsc_page_tree.proofs.LeafLists.{all_some, leaf_sorted, part_read}
-use Rattle.tsc_page_tree.proofs.PartAdds.{IsAddend, not_true, not_false, told_in_part, told_before_next}
+use Rattle.tsc_page_nodes.specs.Additions.{IsAddend}
+use Rattle.tsc_page_tree.proofs.PartAdds.{not_true, not_false, told_in_part, told_before_next}
 use Rattle.tsc_page_tree.proofs.parts.add_within.Goals as goal
 
 pub add_within-requires-clause-sorted : goal.add_within-requires-clause-sorted
@@ -16,7 +18,9 @@ add_within-requires-clause-sorted g c =
     let items = c.args.parts.now in
     let p : ℕ = c.part_at-place.result in
     let here : p < length items = omega (arith, c.if-place-parts.false) in
-    subst IsSorted (sym (part_read read items p c.index-parts-place.result here)) (leaf_sorted (map read items) p [] (omega (arith, here, length-map items read)) c.requires.parts.sorted)
+    subst IsSorted (sym (part_read read items p c.index-parts-place.result here))
+    (leaf_sorted (map read items) p [] (omega (arith, here, length-map items read))
+    c.requires.parts.sorted)
 
 pub add_within-requires-else-stops_at_next-clause-sorted :
     goal.add_within-requires-else-stops_at_next-clause-sorted
@@ -25,7 +29,9 @@ add_within-requires-else-stops_at_next-clause-sorted g c =
     let items = c.args.parts.now in
     let p : ℕ = c.part_at-place.result in
     let here : p < length items = omega (arith, c.if-place-parts.false) in
-    subst IsSorted (sym (part_read read items p c.index-parts-place-else-stops_at_next.result here)) (leaf_sorted (map read items) p [] (omega (arith, here, length-map items read)) c.requires.parts.sorted)
+    subst IsSorted (sym (part_read read items p c.index-parts-place-else-stops_at_next.result here))
+    (leaf_sorted (map read items) p [] (omega (arith, here, length-map items read))
+    c.requires.parts.sorted)
 
 pub returns-then-stops_at_next-clause-told : goal.returns-then-stops_at_next-clause-told
 returns-then-stops_at_next-clause-told g c =
@@ -44,9 +50,16 @@ returns-then-stops_at_next-clause-told g c =
     let to : c.add.inside.to.now ≡ a.to = ap (λ (v : Addend). v.to) c.add.view_is in
     let at = subst (λ (x : Cut). IsLeafAt ls x p) from c.part_at-place.ensures in
     let high = subst (λ (x : Cut). Le x next) to (sym c.goes_on.ensures ∙ c.if-goes_on.false) in
-    let below = subst (λ (x : Cut). is_below x next ≡ false) to (not_true (is_below c.add.inside.to.now next) (sym c.stops_at_next.ensures ∙ c.if-stops_at_next.true)) in
-    let told = subst (λ (b : Addend). IsAddTold (read (get_or items p d)) (read y) (sizes (get_or items p d)) (sizes y) b c.args.room c.add_within.result) c.before_second.ensures c.add_within.ensures.told in
-    told_before_next read items p d y a (all_some read g.P.Part.IsWhole items g.met.P.Part.some c.requires.parts.whole) c.requires.parts.sorted here at fits.0 fits.1 fits.2 fits.3 high sizes c.add_within.result c.args.room below told
+    let below = subst (λ (x : Cut). is_below x next ≡ false) to
+    (not_true (is_below c.add.inside.to.now next)
+    (sym c.stops_at_next.ensures ∙ c.if-stops_at_next.true)) in
+    let told = subst (λ (b : Addend). IsAddTold (read (get_or items p d)) (read y)
+    (sizes (get_or items p d)) (sizes y) b c.args.room c.add_within.result)
+    c.before_second.ensures c.add_within.ensures.told in
+    told_before_next read items p d y a
+    (all_some read g.P.Part.IsWhole items g.met.P.Part.some c.requires.parts.whole)
+    c.requires.parts.sorted here at fits.0 fits.1 fits.2 fits.3 high sizes c.add_within.result
+    c.args.room below told
 
 pub returns-else-stops_at_next-clause-told : goal.returns-else-stops_at_next-clause-told
 returns-else-stops_at_next-clause-told g c =
@@ -65,5 +78,11 @@ returns-else-stops_at_next-clause-told g c =
     let to : c.add.inside.to.now ≡ a.to = ap (λ (v : Addend). v.to) c.add.view_is in
     let at = subst (λ (x : Cut). IsLeafAt ls x p) from c.part_at-place.ensures in
     let high = subst (λ (x : Cut). Le x next) to (sym c.goes_on.ensures ∙ c.if-goes_on.false) in
-    let below = subst (λ (x : Cut). is_below x next ≡ true) to (not_false (is_below c.add.inside.to.now next) (sym c.stops_at_next.ensures ∙ c.if-stops_at_next.false)) in
-    told_in_part read items p d y a (all_some read g.P.Part.IsWhole items g.met.P.Part.some c.requires.parts.whole) c.requires.parts.sorted here at fits.0 fits.1 fits.2 fits.3 high sizes c.add_within-else-stops_at_next.result c.args.room below c.add_within-else-stops_at_next.ensures.told
+    let below = subst (λ (x : Cut). is_below x next ≡ true) to
+    (not_false (is_below c.add.inside.to.now next)
+    (sym c.stops_at_next.ensures ∙ c.if-stops_at_next.false)) in
+    told_in_part read items p d y a
+    (all_some read g.P.Part.IsWhole items g.met.P.Part.some c.requires.parts.whole)
+    c.requires.parts.sorted here at fits.0 fits.1 fits.2 fits.3 high sizes
+    c.add_within-else-stops_at_next.result c.args.room below
+    c.add_within-else-stops_at_next.ensures.told

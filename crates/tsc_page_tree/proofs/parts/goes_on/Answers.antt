@@ -2,7 +2,7 @@
 use Rattle.std.proofs.Common.{◌≡◌, ◌∙◌, ◌+◌, ◌<◌, sym, ap, ℕ, suc, List, [], map, drop, length, arith}
 use Rattle.std.proofs.lemmas.List.{length-map}
 use Rattle.tsc_span.specs.Span.{Cut, is_below}
-use Rattle.tsc_page_base.specs.Nodes.{Node}
+use Rattle.tsc_page_nodes.specs.Nodes.{Node}
 use Rattle.tsc_page_tree.specs.Leaves.{nodes_of, start_of}
 use Rattle.tsc_page_tree.proofs.LeafLists.{read_leaf, start_at, all_some}
 use Rattle.tsc_page_tree.proofs.parts.goes_on.Goals as goal
@@ -17,6 +17,9 @@ returns-in-Some g c =
     let here : next < length items = omega (arith, c.in-Some.ensures.lookup.3.0) in
     let inside : next < length ls = omega (arith, here, length-map items read) in
     let is = read_leaf read items next c.in-Some.next.now here c.in-Some.ensures.lookup.1 in
-    let start = ap (λ (l : List Node). start_of l) is ∙ sym (start_at ls (all_some read g.P.Part.IsWhole items g.met.P.Part.some c.requires.whole) next [] inside) in
+    let start = ap (λ (l : List Node). start_of l) is ∙
+    sym (start_at ls (all_some read g.P.Part.IsWhole items g.met.P.Part.some c.requires.whole)
+    next [] inside) in
     let same : next ≡ suc c.args.place = omega arith in
-    c.starts_below.ensures ∙ ap (λ (x : Cut). is_below x to) start ∙ ap (λ (j : ℕ). is_below (start_of (nodes_of (drop j ls))) to) same
+    c.starts_below.ensures ∙ ap (λ (x : Cut). is_below x to) start ∙
+    ap (λ (j : ℕ). is_below (start_of (nodes_of (drop j ls))) to) same

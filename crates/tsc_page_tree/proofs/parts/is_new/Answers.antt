@@ -3,8 +3,8 @@ use Rattle.std.proofs.Common.{◌∙◌, ◌<◌, ap, sym, subst, refl, ℕ, Lis
 use Rattle.std.specs.Prelude.{not}
 use Rattle.std.proofs.lemmas.List.{length-map}
 use Rattle.tsc_span.specs.Span.{KeyBytes, Cut, before}
-use Rattle.tsc_page_base.specs.PageView.{is_in}
-use Rattle.tsc_page_base.specs.Nodes.{Node, IsSorted, node_keys}
+use Rattle.tsc_page_nodes.specs.PageView.{is_in}
+use Rattle.tsc_page_nodes.specs.Nodes.{Node, IsSorted, node_keys}
 use Rattle.tsc_page_tree.specs.Leaves.{nodes_of, IsLeafAt}
 use Rattle.tsc_page_tree.proofs.LeafLists.{read_leaf, leaf_sorted, StandsAround, stands_around, all_some}
 use Rattle.tsc_page_tree.proofs.LeafKeys.{known_in_part, wholly_below}
@@ -17,7 +17,8 @@ is_new-requires-clause-sorted g c =
     let p : ℕ = c.part_at.result in
     let here : p < length items = omega (arith, c.in-Some.ensures.lookup.3.0) in
     let is = read_leaf read items p c.in-Some.part.now here c.in-Some.ensures.lookup.1 in
-    subst IsSorted (sym is) (leaf_sorted (map read items) p [] (omega (arith, here, length-map items read)) c.requires.parts.sorted)
+    subst IsSorted (sym is) (leaf_sorted (map read items) p []
+    (omega (arith, here, length-map items read)) c.requires.parts.sorted)
 
 pub returns-in-Some : goal.returns-in-Some
 returns-in-Some g c =
@@ -30,7 +31,13 @@ returns-in-Some g c =
     let inside : p < length ls = omega (arith, here, length-map items read) in
     let is = read_leaf read items p c.in-Some.part.now here c.in-Some.ensures.lookup.1 in
     let at = subst (λ (x : Cut). IsLeafAt ls x p) c.new-cut.ensures c.part_at.ensures in
-    let at_key = subst (λ (b : KeyBytes). IsLeafAt ls (before b) p) c.bytes.ensures.value at in
-    let around : StandsAround ls p (before k) = stands_around ls p (before k) (all_some read g.P.Part.IsWhole items g.met.P.Part.some c.requires.parts.whole) c.requires.parts.sorted inside refl at_key in
-    let told = known_in_part k (nodes_of (take p ls)) (get_or ls p []) (nodes_of (drop (suc p) ls)) around.sorted around.some around.low (wholly_below k (nodes_of (drop (suc p) ls)) around.high) in
-    c.is_new.ensures ∙ ap (λ (ns : List Node). not (is_in k (node_keys ns))) is ∙ ap not (sym told) ∙ ap (λ (ns : List Node). not (is_in k (node_keys ns))) (sym around.whole)
+    let at_key = subst (λ (b : KeyBytes). IsLeafAt ls (before b) p) c.bytes.ensures at in
+    let around : StandsAround ls p (before k) =
+    stands_around ls p (before k)
+    (all_some read g.P.Part.IsWhole items g.met.P.Part.some c.requires.parts.whole)
+    c.requires.parts.sorted inside refl at_key in
+    let told = known_in_part k (nodes_of (take p ls)) (get_or ls p []) (nodes_of (drop (suc p) ls))
+    around.sorted around.some around.low
+    (wholly_below k (nodes_of (drop (suc p) ls)) around.high) in
+    c.is_new.ensures ∙ ap (λ (ns : List Node). not (is_in k (node_keys ns))) is ∙
+    ap not (sym told) ∙ ap (λ (ns : List Node). not (is_in k (node_keys ns))) (sym around.whole)

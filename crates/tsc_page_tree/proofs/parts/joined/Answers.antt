@@ -3,7 +3,7 @@ use Rattle.std.proofs.Common.{◌∙◌, ap, sym, [], ◌∷◌}
 use Rattle.tsc_time.specs.OwnedTime.{OwnedTime}
 use Rattle.tsc_time.specs.Joint.{joint}
 use Rattle.tsc_span.specs.Span.{between}
-use Rattle.tsc_page_base.specs.Nodes.{answer_of}
+use Rattle.tsc_page_nodes.specs.Nodes.{answer_of}
 use Rattle.tsc_page_tree.specs.Pending.{all_joint}
 use Rattle.tsc_page_tree.proofs.AllJoint.{answer_below_all}
 use Rattle.tsc_page_tree.proofs.Skips.{nothing_more}
@@ -14,5 +14,7 @@ returns-else-changes g c =
     let ns = g.P.Part.nodes c.args.part.now in
     let best : OwnedTime = c.args.best in
     let s = between c.args.from.now c.args.to.now in
-    let whole = sym (ap (λ (w : OwnedTime). joint best (w ∷ [])) c.joint.ensures) ∙ c.changes.ensures c.if-changes.false in
-    sym (nothing_more best (all_joint ns) (answer_of ns s) whole (answer_below_all s ns c.requires.sorted))
+    let whole = sym (ap (λ (w : OwnedTime). joint best (w ∷ [])) c.joint.ensures) ∙
+    c.changes.ensures c.if-changes.false in
+    sym (nothing_more best (all_joint ns) (answer_of ns s) whole
+    (answer_below_all s ns c.requires.sorted))

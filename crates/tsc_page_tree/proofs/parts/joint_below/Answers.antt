@@ -6,9 +6,9 @@ use Rattle.tsc_time.specs.OwnedTime.{OwnedTime, unowned}
 use Rattle.tsc_time.specs.Joint.{joint}
 use Rattle.tsc_time.proofs.RatchetOrder.{IsAtMost-itself}
 use Rattle.tsc_span.specs.Span.{Cut, before, last, between}
-use Rattle.tsc_page_base.specs.Nodes.{Node, IsSorted, answer_of}
+use Rattle.tsc_page_nodes.specs.Nodes.{Node, IsSorted, answer_of}
 use Rattle.tsc_page_tree.specs.Leaves.{nodes_of, start_of}
-use Rattle.tsc_page_base.proofs.CutOrder.{Lt, Le}
+use Rattle.tsc_page_nodes.proofs.CutOrder.{Lt, Le}
 use Rattle.tsc_page_tree.proofs.LeafLists.{read_leaf, leaf_sorted, leaf_first, sorted_from, lowest_below, all_some}
 use Rattle.tsc_page_tree.proofs.LeafAnswers.{AnswersSoFar, answers_of_last, answers_go_on, answers_at_end, zero_first, zero_below_answer}
 use Rattle.tsc_page_tree.proofs.parts.joint_below.Goals as goal
@@ -19,9 +19,11 @@ loop-place-init g c =
     let to : Cut = c.args.to.now in
     let start : AnswersSoFar left left (before []) to (before []) (unowned zero_time) = record {
       zero_below = IsAtMost-itself (unowned zero_time);
-      answers = zero_first (answer_of left (between (before []) to)) (zero_below_answer (between (before []) to) left);
+      answers = zero_first (answer_of left (between (before []) to))
+          (zero_below_answer (between (before []) to) left);
     } in
-    subst (λ (w : OwnedTime). AnswersSoFar left left (before []) to (before []) w) (sym c.unowned-best.ensures) start
+    subst (λ (w : OwnedTime). AnswersSoFar left left (before []) to (before []) w)
+    (sym c.unowned-best.ensures) start
 
 pub joined-requires-clause-sorted : goal.joined-requires-clause-sorted
 joined-requires-clause-sorted g c =
@@ -30,7 +32,8 @@ joined-requires-clause-sorted g c =
     let p : ℕ = c.loop-place.place in
     let here : p < length items = omega (arith, c.loop-place-test.true) in
     let is = read_leaf read items p c.index-parts-place.result here c.index-parts-place.is in
-    subst IsSorted (sym is) (leaf_sorted (map read items) p [] (omega (arith, here, length-map items read)) c.requires.parts.sorted)
+    subst IsSorted (sym is) (leaf_sorted (map read items) p []
+    (omega (arith, here, length-map items read)) c.requires.parts.sorted)
 
 pub joined-requires-clause-order : goal.joined-requires-clause-order
 joined-requires-clause-order g c = search rules
@@ -47,11 +50,18 @@ returns-then-not-goes_on g c =
     let inside : p < length ls = omega (arith, here, length-map items read) in
     let is = read_leaf read items p c.index-parts-place.result here c.index-parts-place.is in
     let first = leaf_first ls p [] inside in
-    let so_far = subst (λ (ns : List Node). AnswersSoFar all ns (before []) to (before []) c.loop-place.best) first c.loop-place.invariant in
-    let high : Le to (start_of (nodes_of (drop (suc p) ls))) = sym c.goes_on.ensures ∙ c.if-not-goes_on.true in
-    let last_one = answers_of_last all (get_or ls p []) (nodes_of (drop (suc p) ls)) (before []) to (before []) c.loop-place.best (subst IsSorted first (sorted_from ls p c.requires.parts.sorted)) c.requires.order high so_far in
-    c.joined.ensures ∙ ap (λ (x : Cut). joint c.loop-place.best (answer_of (read c.index-parts-place.result) (between x to) ∷ [])) c.new-least.ensures
-    ∙ ap (λ (ns : List Node). joint c.loop-place.best (answer_of ns (between (before []) to) ∷ [])) is ∙ last_one
+    let so_far = subst (λ (ns : List Node). AnswersSoFar all ns (before []) to (before [])
+    c.loop-place.best) first c.loop-place.invariant in
+    let high : Le to (start_of (nodes_of (drop (suc p) ls))) = sym c.goes_on.ensures ∙
+    c.if-not-goes_on.true in
+    let last_one = answers_of_last all (get_or ls p []) (nodes_of (drop (suc p) ls)) (before []) to
+    (before []) c.loop-place.best
+    (subst IsSorted first (sorted_from ls p c.requires.parts.sorted)) c.requires.order high
+    so_far in
+    c.joined.ensures ∙ ap (λ (x : Cut). joint c.loop-place.best
+    (answer_of (read c.index-parts-place.result) (between x to) ∷ [])) c.new-least.ensures
+    ∙ ap (λ (ns : List Node). joint c.loop-place.best (answer_of ns (between (before []) to) ∷ []))
+    is ∙ last_one
 
 pub loop-place-preserved : goal.loop-place-preserved
 loop-place-preserved g c =
@@ -63,21 +73,33 @@ loop-place-preserved g c =
     let p : ℕ = c.loop-place.place in
     let here : p < length items = omega (arith, c.loop-place-test.true) in
     let inside : p < length ls = omega (arith, here, length-map items read) in
-    let is = read_leaf read items p c.index-parts-place-in-loop-place.result here c.index-parts-place-in-loop-place.is in
+    let is = read_leaf read items p c.index-parts-place-in-loop-place.result here
+    c.index-parts-place-in-loop-place.is in
     let first = leaf_first ls p [] inside in
-    let so_far = subst (λ (ns : List Node). AnswersSoFar all ns (before []) to (before []) c.loop-place.best) first c.loop-place.invariant in
-    let goes : Lt (start_of (nodes_of (drop (suc p) ls))) to = sym c.goes_on.ensures ∙ c.if-not-goes_on.false in
+    let so_far = subst (λ (ns : List Node). AnswersSoFar all ns (before []) to (before [])
+    c.loop-place.best) first c.loop-place.invariant in
+    let goes : Lt (start_of (nodes_of (drop (suc p) ls))) to = sym c.goes_on.ensures ∙
+    c.if-not-goes_on.false in
     let sorted = c.requires.parts.sorted in
     let some = all_some read g.P.Part.IsWhole items g.met.P.Part.some c.requires.parts.whole in
-    let more = answers_go_on all (get_or ls p []) (nodes_of (drop (suc p) ls)) (before []) to (before []) c.loop-place.best (subst IsSorted first (sorted_from ls p sorted)) (lowest_below ls some sorted p) goes so_far in
-    let answer = c.joint.ensures ∙ ap (λ (ns : List Node). answer_of ns (between (before []) last)) is in
-    let best = c.raise.ensures.joint ∙ ap (λ (w : OwnedTime). joint c.loop-place.best (w ∷ [])) answer in
+    let more = answers_go_on all (get_or ls p []) (nodes_of (drop (suc p) ls)) (before []) to
+    (before []) c.loop-place.best (subst IsSorted first (sorted_from ls p sorted))
+    (lowest_below ls some sorted p) goes so_far in
+    let answer = c.joint.ensures ∙
+    ap (λ (ns : List Node). answer_of ns (between (before []) last)) is in
+    let best = c.raise.ensures.joint ∙
+    ap (λ (w : OwnedTime). joint c.loop-place.best (w ∷ [])) answer in
     let next : suc p ≡ p + 1 = omega arith in
-    subst (λ (j : ℕ). AnswersSoFar all (nodes_of (drop j ls)) (before []) to (before []) c.raise.new.self) next
-    (subst (λ (w : OwnedTime). AnswersSoFar all (nodes_of (drop (suc p) ls)) (before []) to (before []) w) (sym best) more)
+    subst (λ (j : ℕ). AnswersSoFar all (nodes_of (drop j ls)) (before []) to (before [])
+    c.raise.new.self) next
+    (subst (λ (w : OwnedTime). AnswersSoFar all (nodes_of (drop (suc p) ls)) (before []) to
+    (before []) w) (sym best) more)
 
 pub returns : goal.returns
 returns g c =
     let ls : List (List Node) = map g.P.Part.nodes c.args.parts.now in
-    let past : length ls ≤ c.loop-place.place = omega (arith, c.loop-place-test.false, length-map c.args.parts.now g.P.Part.nodes) in
-    answers_at_end (nodes_of (drop c.args.start ls)) (nodes_of (drop c.loop-place.place ls)) (before []) c.args.to.now (before []) c.loop-place.best (ap nodes_of (drop_all c.loop-place.place ls past)) c.loop-place.invariant
+    let past : length ls ≤ c.loop-place.place =
+    omega (arith, c.loop-place-test.false, length-map c.args.parts.now g.P.Part.nodes) in
+    answers_at_end (nodes_of (drop c.args.start ls)) (nodes_of (drop c.loop-place.place ls))
+    (before []) c.args.to.now (before []) c.loop-place.best
+    (ap nodes_of (drop_all c.loop-place.place ls past)) c.loop-place.invariant

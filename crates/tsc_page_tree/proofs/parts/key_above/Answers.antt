@@ -2,7 +2,7 @@
 use Rattle.std.proofs.Common.{ℕ, suc, [], map, get_or, List, arith}
 use Rattle.std.specs.Prelude.{option_map}
 use Rattle.tsc_span.specs.Span.{Cut}
-use Rattle.tsc_page_base.specs.Nodes.{Node}
+use Rattle.tsc_page_nodes.specs.Nodes.{Node}
 use Rattle.tsc_page_tree.specs.Leaves.{nodes_of}
 use Rattle.tsc_page_tree.proofs.LeafLists.{all_some}
 use Rattle.tsc_page_tree.proofs.KeysAbove.{node_above, above_in_part, found_first, found_next, at_place}
@@ -15,8 +15,11 @@ returns-in-Some g c =
     let ls : List (List Node) = map read items in
     let p : ℕ = c.part_at-place.result in
     let cut : Cut = c.args.cut.now in
-    let told = above_in_part ls cut p (all_some read g.P.Part.IsWhole items g.met.P.Part.some c.requires.parts.whole) c.requires.parts.sorted c.part_at-place.ensures in
-    found_first (node_above cut (nodes_of ls)) (node_above cut (get_or ls p [])) (node_above cut (get_or ls (suc p) [])) c.in-Some.key.now told c.in-Some.ensures
+    let told = above_in_part ls cut p
+    (all_some read g.P.Part.IsWhole items g.met.P.Part.some c.requires.parts.whole)
+    c.requires.parts.sorted c.part_at-place.ensures in
+    found_first (node_above cut (nodes_of ls)) (node_above cut (get_or ls p []))
+    (node_above cut (get_or ls (suc p) [])) c.in-Some.key.now told c.in-Some.ensures
 
 pub returns-in-None : goal.returns-in-None
 returns-in-None g c =
@@ -25,6 +28,11 @@ returns-in-None g c =
     let ls : List (List Node) = map read items in
     let p : ℕ = c.part_at-place.result in
     let cut : Cut = c.args.cut.now in
-    let told = above_in_part ls cut p (all_some read g.P.Part.IsWhole items g.met.P.Part.some c.requires.parts.whole) c.requires.parts.sorted c.part_at-place.ensures in
-    let next = at_place cut ls (suc p) (option_map (λ k. k.now) c.key_in-in-None.result) c.key_in-in-None.ensures (omega arith) in
-    found_next (node_above cut (nodes_of ls)) (node_above cut (get_or ls p [])) (node_above cut (get_or ls (suc p) [])) told c.in-None.ensures (option_map (λ k. k.now) c.key_in-in-None.result) next
+    let told = above_in_part ls cut p
+    (all_some read g.P.Part.IsWhole items g.met.P.Part.some c.requires.parts.whole)
+    c.requires.parts.sorted c.part_at-place.ensures in
+    let next = at_place cut ls (suc p) (option_map (λ k. k.now) c.key_in-in-None.result)
+    c.key_in-in-None.ensures (omega arith) in
+    found_next (node_above cut (nodes_of ls)) (node_above cut (get_or ls p []))
+    (node_above cut (get_or ls (suc p) [])) told c.in-None.ensures
+    (option_map (λ k. k.now) c.key_in-in-None.result) next

@@ -1,7 +1,7 @@
 -- A part of sorted ones is sorted.
 use Rattle.std.proofs.Common.{◌<◌, sym, subst, ℕ, [], map, length, arith}
 use Rattle.std.proofs.lemmas.List.{length-map}
-use Rattle.tsc_page_base.specs.Nodes.{IsSorted}
+use Rattle.tsc_page_nodes.specs.Nodes.{IsSorted}
 use Rattle.tsc_page_tree.proofs.LeafLists.{read_leaf, leaf_sorted}
 use Rattle.tsc_page_tree.proofs.parts.key_in.Goals as goal
 
@@ -12,4 +12,5 @@ key_above-requires-clause-sorted g c =
     let p : ℕ = c.args.place in
     let here : p < length items = omega (arith, c.in-Some.ensures.lookup.3.0) in
     let is = read_leaf read items p c.in-Some.part.now here c.in-Some.ensures.lookup.1 in
-    subst IsSorted (sym is) (leaf_sorted (map read items) p [] (omega (arith, here, length-map items read)) c.requires.parts.sorted)
+    subst IsSorted (sym is) (leaf_sorted (map read items) p []
+    (omega (arith, here, length-map items read)) c.requires.parts.sorted)

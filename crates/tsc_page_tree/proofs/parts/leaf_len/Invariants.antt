@@ -1,3 +1,5 @@
+-- Proves the loop invariants of `leaf_len`. How many nodes a leaf has among those of parts; `Err`
+-- tells how many places behind the last leaf this is.
 use Rattle.tsc_page_tree.proofs.PartSizes.{SizesSoFar}
 use Rattle.tsc_page_tree.proofs.parts.leaf_len.Given as goal
 

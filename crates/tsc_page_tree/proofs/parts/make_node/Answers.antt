@@ -5,7 +5,7 @@ use Rattle.std.specs.Option.{option_to_list}
 use Rattle.std.specs.List.{All, insert}
 use Rattle.std.proofs.lemmas.List.{length-map, length-set}
 use Rattle.tsc_span.specs.Span.{KeyBytes, Cut, before}
-use Rattle.tsc_page_base.specs.Nodes.{IsSorted}
+use Rattle.tsc_page_nodes.specs.Nodes.{IsSorted}
 use Rattle.tsc_page_tree.specs.Leaves.{nodes_of, IsLeafAt, HasNode}
 use Rattle.tsc_page_tree.proofs.LeafLists.{part_read, leaf_sorted, all_some, all_set, all_insert}
 use Rattle.tsc_page_tree.proofs.LeafMakes.{made_whole, made_cut}
@@ -17,8 +17,17 @@ make_node-requires-clause-sorted g c =
     let items = c.args.parts.now.items in
     let p : ℕ = c.part_at-place.result in
     let bound = c.part_at-place.ensures.bound in
-    let here : p < length items = omega (arith, bound, ap length c.deref.ensures.value, length-map c.deref.result.now read, c.requires.some) in
-    subst IsSorted (sym (ap read c.index_mut.ensures.value ∙ part_read read items p c.index_mut.result.now here)) (leaf_sorted (map read items) p [] (omega (arith, here, length-map items read)) c.requires.parts.sorted)
+    let here : p < length items = omega (
+      arith,
+      bound,
+      ap length c.deref.ensures.value,
+      length-map c.deref.result.now read,
+      c.requires.some,
+    ) in
+    subst IsSorted (sym (ap read c.index_mut.ensures.value ∙
+    part_read read items p c.index_mut.result.now here))
+    (leaf_sorted (map read items) p [] (omega (arith, here, length-map items read))
+    c.requires.parts.sorted)
 
 pub returns-in_ok-insert-clause-made : goal.returns-in_ok-insert-clause-made
 returns-in_ok-insert-clause-made g c =
@@ -29,15 +38,29 @@ returns-in_ok-insert-clause-made g c =
     let d = c.index_mut.result.now in
     let y = c.make_node.new.self in
     let bound = c.part_at-place.ensures.bound in
-    let here : p < length items = omega (arith, bound, ap length c.deref.ensures.value, length-map c.deref.result.now read, c.requires.some) in
-    let at = subst (λ (xs : List g.row.P.Denot). IsLeafAt (map read xs) c.new-cut.result p) c.deref.ensures.value c.part_at-place.ensures in
-    let at_key : IsLeafAt (map read items) (before k) p = subst (λ (b : KeyBytes). IsLeafAt (map read items) (before b) p) c.bytes.ensures.value (subst (λ (x : Cut). IsLeafAt (map read items) x p) c.new-cut.ensures at) in
+    let here : p < length items = omega (
+      arith,
+      bound,
+      ap length c.deref.ensures.value,
+      length-map c.deref.result.now read,
+      c.requires.some,
+    ) in
+    let at = subst (λ (xs : List g.row.P.Denot). IsLeafAt (map read xs) c.new-cut.result p)
+    c.deref.ensures.value c.part_at-place.ensures in
+    let at_key : IsLeafAt (map read items) (before k) p =
+    subst (λ (b : KeyBytes). IsLeafAt (map read items) (before b) p) c.bytes.ensures
+    (subst (λ (x : Cut). IsLeafAt (map read items) x p) c.new-cut.ensures at) in
     let some = all_some read g.P.Part.IsWhole items g.met.P.Part.some c.requires.parts.whole in
-    let made = subst (λ (x : g.row.P.Denot). HasNode (read x) (read y ++ nodes_of (map read (option_to_list c.in_ok-upper.field-0))) k) c.index_mut.ensures.value c.in_ok-upper.ensures.made in
-    let told = subst (λ o. HasNode (read (get_or items p d)) (read y ++ nodes_of (map read (option_to_list o))) k) c.in-Some.is made in
+    let made = subst (λ (x : g.row.P.Denot). HasNode (read x)
+    (read y ++ nodes_of (map read (option_to_list c.in_ok-upper.field-0))) k)
+    c.index_mut.ensures.value c.in_ok-upper.ensures.made in
+    let told = subst (λ o. HasNode (read (get_or items p d))
+    (read y ++ nodes_of (map read (option_to_list o))) k) c.in-Some.is made in
     let next : suc p ≡ p + 1 = omega arith in
-    subst (λ (xs : List g.row.P.Denot). HasNode (nodes_of (map read items)) (nodes_of (map read xs)) k) (sym c.in_ok-insert.ensures.items)
-    (subst (λ (j : ℕ). HasNode (nodes_of (map read items)) (nodes_of (map read (insert (set items p y) j c.in-Some.upper))) k) next
+    subst (λ (xs : List g.row.P.Denot). HasNode (nodes_of (map read items)) (nodes_of (map read xs))
+    k) (sym c.in_ok-insert.ensures.items)
+    (subst (λ (j : ℕ). HasNode (nodes_of (map read items))
+    (nodes_of (map read (insert (set items p y) j c.in-Some.upper))) k) next
     (made_cut read items p d y k some c.requires.parts.sorted here at_key c.in-Some.upper told))
 
 pub returns-in_ok-insert-clause-whole : goal.returns-in_ok-insert-clause-whole
@@ -46,10 +69,19 @@ returns-in_ok-insert-clause-whole g c =
     let p : ℕ = c.part_at-place.result in
     let y = c.make_node.new.self in
     let bound = c.part_at-place.ensures.bound in
-    let here : p < length items = omega (arith, bound, ap length c.deref.ensures.value, length-map c.deref.result.now g.P.Part.nodes, c.requires.some) in
+    let here : p < length items = omega (
+      arith,
+      bound,
+      ap length c.deref.ensures.value,
+      length-map c.deref.result.now g.P.Part.nodes,
+      c.requires.some,
+    ) in
     let upper = subst (λ o. IfSome o g.P.Part.IsWhole) c.in-Some.is c.in_ok-upper.ensures.upper in
     subst (All g.P.Part.IsWhole) (sym c.in_ok-insert.ensures.items)
-    (all_insert g.P.Part.IsWhole (set items p y) (p + 1) c.in-Some.upper (omega (arith, here, length-set items p y)) (all_set g.P.Part.IsWhole items p y c.requires.parts.whole c.in_ok-upper.ensures.whole) upper)
+    (all_insert g.P.Part.IsWhole (set items p y) (p + 1) c.in-Some.upper
+    (omega (arith, here, length-set items p y))
+    (all_set g.P.Part.IsWhole items p y c.requires.parts.whole
+    c.in_ok-upper.ensures.whole) upper)
 
 pub returns-in_default-clause-made : goal.returns-in_default-clause-made
 returns-in_default-clause-made g c =
@@ -60,10 +92,22 @@ returns-in_default-clause-made g c =
     let d = c.index_mut.result.now in
     let y = c.make_node.new.self in
     let bound = c.part_at-place.ensures.bound in
-    let here : p < length items = omega (arith, bound, ap length c.deref.ensures.value, length-map c.deref.result.now read, c.requires.some) in
-    let at = subst (λ (xs : List g.row.P.Denot). IsLeafAt (map read xs) c.new-cut.result p) c.deref.ensures.value c.part_at-place.ensures in
-    let at_key : IsLeafAt (map read items) (before k) p = subst (λ (b : KeyBytes). IsLeafAt (map read items) (before b) p) c.bytes.ensures.value (subst (λ (x : Cut). IsLeafAt (map read items) x p) c.new-cut.ensures at) in
+    let here : p < length items = omega (
+      arith,
+      bound,
+      ap length c.deref.ensures.value,
+      length-map c.deref.result.now read,
+      c.requires.some,
+    ) in
+    let at = subst (λ (xs : List g.row.P.Denot). IsLeafAt (map read xs) c.new-cut.result p)
+    c.deref.ensures.value c.part_at-place.ensures in
+    let at_key : IsLeafAt (map read items) (before k) p =
+    subst (λ (b : KeyBytes). IsLeafAt (map read items) (before b) p) c.bytes.ensures
+    (subst (λ (x : Cut). IsLeafAt (map read items) x p) c.new-cut.ensures at) in
     let some = all_some read g.P.Part.IsWhole items g.met.P.Part.some c.requires.parts.whole in
-    let made = subst (λ (x : g.row.P.Denot). HasNode (read x) (read y ++ nodes_of (map read (option_to_list c.in_ok-upper.field-0))) k) c.index_mut.ensures.value c.in_ok-upper.ensures.made in
-    let told = subst (λ o. HasNode (read (get_or items p d)) (read y ++ nodes_of (map read (option_to_list o))) k) c.in_default.is made in
+    let made = subst (λ (x : g.row.P.Denot). HasNode (read x)
+    (read y ++ nodes_of (map read (option_to_list c.in_ok-upper.field-0))) k)
+    c.index_mut.ensures.value c.in_ok-upper.ensures.made in
+    let told = subst (λ o. HasNode (read (get_or items p d))
+    (read y ++ nodes_of (map read (option_to_list o))) k) c.in_default.is made in
     made_whole read items p d y k some c.requires.parts.sorted here at_key told

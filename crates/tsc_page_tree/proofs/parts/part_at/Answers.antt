@@ -7,5 +7,8 @@ use Rattle.tsc_page_tree.proofs.parts.part_at.Goals as goal
 
 pub returns-then-starts_above : goal.returns-then-starts_above
 returns-then-starts_above g c =
-    let tells = ap (λ (x : g.row.P.Denot). is_below c.args.cut.now (start_of (g.P.Part.nodes x))) (sym c.index-parts-next.is) ∙ sym c.starts_above.ensures ∙ c.if-starts_above.true in
-    falls_before_next g.P.Part.nodes c.args.parts.now c.args.cut.now c.loop-next.next c.index-parts-next.result c.loop-next.invariant.0 c.loop-next-test.true tells c.loop-next.invariant.1
+    let tells = ap (λ (x : g.row.P.Denot). is_below c.args.cut.now (start_of (g.P.Part.nodes x)))
+    (sym c.index-parts-next.is) ∙ sym c.starts_above.ensures ∙ c.if-starts_above.true in
+    falls_before_next g.P.Part.nodes c.args.parts.now c.args.cut.now c.loop-next.next
+    c.index-parts-next.result c.loop-next.invariant.0 c.loop-next-test.true tells
+    c.loop-next.invariant.1

@@ -1,3 +1,4 @@
+-- Proves the loop invariants of `part_at`. The place of the part in which a cut falls.
 use Rattle.std.proofs.Common.{◌≤◌, ◌-◌, map}
 use Rattle.tsc_page_tree.specs.Leaves.{IsNotAbove}
 use Rattle.tsc_page_tree.proofs.parts.part_at.Given as goal

@@ -7,7 +7,9 @@ use Rattle.tsc_page_tree.proofs.parts.raise_all.Goals as goal
 pub raise_whole-requires-clause-sorted : goal.raise_whole-requires-clause-sorted
 raise_whole-requires-clause-sorted g c =
     let so_far = c.loop-place.invariant.0 in
-    next_sorted g.P.Part.nodes c.args.value c.args.parts.now c.loop-place.parts c.loop-place.place c.index-parts-place.result c.requires.parts.sorted (omega (arith, c.loop-place-test.true, so_far.as_long)) so_far
+    next_sorted g.P.Part.nodes c.args.value c.args.parts.now c.loop-place.parts c.loop-place.place
+    c.index-parts-place.result c.requires.parts.sorted
+    (omega (arith, c.loop-place-test.true, so_far.as_long)) so_far
 
 pub loop-place-preserved : goal.loop-place-preserved
 loop-place-preserved g c =
@@ -17,10 +19,14 @@ loop-place-preserved g c =
     let d = c.index-parts-place.result in
     let y = c.raise_whole.new.self in
     let inside : i < length items = omega (arith, c.loop-place-test.true, so_far.as_long) in (
-      one_raised g.P.Part.nodes c.args.value c.args.parts.now items i d y inside c.raise_whole.ensures.raised so_far,
+      one_raised g.P.Part.nodes c.args.value c.args.parts.now items i d y inside
+          c.raise_whole.ensures.raised so_far,
       all_set g.P.Part.IsWhole items i y c.loop-place.invariant.1 c.raise_whole.ensures.whole,
-      same_by g.P.Part.sizes items i d y inside c.raise_whole.ensures.sizes ∙ c.loop-place.invariant.2,
+      same_by g.P.Part.sizes items i d y inside c.raise_whole.ensures.sizes ∙
+          c.loop-place.invariant.2,
     )
 
 pub returns-clause-raised : goal.returns-clause-raised
-returns-clause-raised g c = all_raised g.P.Part.nodes c.args.value c.args.parts.now c.loop-place.parts c.loop-place.place c.requires.parts.sorted (omega (arith, c.loop-place-test.false)) c.loop-place.invariant.0
+returns-clause-raised g c = all_raised g.P.Part.nodes c.args.value c.args.parts.now
+    c.loop-place.parts c.loop-place.place c.requires.parts.sorted
+    (omega (arith, c.loop-place-test.false)) c.loop-place.invariant.0

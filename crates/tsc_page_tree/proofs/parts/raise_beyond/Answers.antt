@@ -4,9 +4,9 @@ use Rattle.std.proofs.lemmas.List.{length-map}
 use Rattle.std.proofs.lemmas.Result.{IfOk-weaker}
 use Rattle.tsc_span.specs.Span.{Cut, before, last, between}
 use Rattle.tsc_span.specs.Cuts.{cut_of}
-use Rattle.tsc_page_base.specs.Nodes.{Node, IsSorted, raise_nodes}
+use Rattle.tsc_page_nodes.specs.Nodes.{Node, IsSorted, raise_nodes}
 use Rattle.tsc_page_tree.specs.Leaves.{nodes_of, start_of, IsLeafAt}
-use Rattle.tsc_page_base.proofs.CutOrder.{Lt, Le}
+use Rattle.tsc_page_nodes.proofs.CutOrder.{Lt, Le}
 use Rattle.tsc_page_tree.proofs.Joins.{sorted_left}
 use Rattle.tsc_page_tree.proofs.LeafLists.{part_read, all_some, all_set, leaf_sorted}
 use Rattle.tsc_page_tree.proofs.LeafRaises.{RaisesSoFar, raises_start, left_sorted, raises_last, raises_go_on, raises_end, raised_part}
@@ -18,7 +18,9 @@ raise_between-requires-clause-sorted g c =
     let items = c.args.parts.now in
     let p : ℕ = c.args.first in
     let here : p < length items = c.requires.bound in
-    subst IsSorted (sym (part_read read items p c.index-parts-first.result here)) (leaf_sorted (map read items) p [] (omega (arith, here, length-map items read)) c.requires.parts.sorted)
+    subst IsSorted (sym (part_read read items p c.index-parts-first.result here))
+    (leaf_sorted (map read items) p [] (omega (arith, here, length-map items read))
+    c.requires.parts.sorted)
 
 pub loop-place-init : goal.loop-place-init
 loop-place-init g c =
@@ -33,12 +35,17 @@ loop-place-init g c =
     let inside : p < length ls = omega (arith, here, length-map items read) in
     let some = all_some read g.P.Part.IsWhole items g.met.P.Part.some c.requires.parts.whole in
     let at : IsLeafAt ls from p = c.requires.first in
-    let start = raises_start ls from to c.args.value p some c.requires.parts.sorted c.requires.order at in
-    let more = raises_go_on ls ls from to from c.args.value p some c.requires.parts.sorted inside start c.requires.beyond in
-    let raised = raised_part read items p c.index-parts-first.result y (between from last) c.args.value here c.in_ok-raise_between.ensures.raised in
+    let start = raises_start ls from to c.args.value p some c.requires.parts.sorted
+    c.requires.order at in
+    let more = raises_go_on ls ls from to from c.args.value p some c.requires.parts.sorted inside
+    start c.requires.beyond in
+    let raised = raised_part read items p c.index-parts-first.result y (between from last)
+    c.args.value here c.in_ok-raise_between.ensures.raised in
     let next : suc p ≡ p + 1 = omega arith in (
-      subst (λ (j : ℕ). RaisesSoFar ls (map read (set items p y)) from to (before []) c.args.value j) next
-          (subst (λ (ks : List (List Node)). RaisesSoFar ls ks from to (before []) c.args.value (suc p)) (sym raised) more),
+      subst (λ (j : ℕ). RaisesSoFar ls (map read (set items p y)) from to (before []) c.args.value
+          j) next
+          (subst (λ (ks : List (List Node)). RaisesSoFar ls ks from to (before []) c.args.value
+          (suc p)) (sym raised) more),
       all_set g.P.Part.IsWhole items p y c.requires.parts.whole c.in_ok-raise_between.ensures.whole,
     )
 
@@ -51,9 +58,13 @@ raise_between-requires-then-not-goes_on-clause-sorted g c =
     let now : List (List Node) = map read items in
     let p : ℕ = c.loop-place.place in
     let here : p < length items = omega (arith, c.loop-place-test.true, c.loop-place.auto.parts) in
-    let some = all_some read g.P.Part.IsWhole c.args.parts.now g.met.P.Part.some c.requires.parts.whole in
+    let some = all_some read g.P.Part.IsWhole c.args.parts.now g.met.P.Part.some
+    c.requires.parts.whole in
     subst IsSorted (sym (part_read read items p c.index-parts-place.result here))
-    (sorted_left (get_or now p []) (nodes_of (drop (suc p) now)) (left_sorted old now (cut_of c.args.from) c.args.to.now (before []) c.args.value p some c.requires.parts.sorted (omega (arith, here, length-map items read)) c.loop-place.invariant.0))
+    (sorted_left (get_or now p []) (nodes_of (drop (suc p) now))
+    (left_sorted old now (cut_of c.args.from) c.args.to.now (before []) c.args.value p some
+    c.requires.parts.sorted (omega (arith, here, length-map items read))
+    c.loop-place.invariant.0))
 
 pub returns-then-not-goes_on-clause-raised : goal.returns-then-not-goes_on-clause-raised
 returns-then-not-goes_on-clause-raised g c =
@@ -68,11 +79,16 @@ returns-then-not-goes_on-clause-raised g c =
     let y = c.raise_between-then-not-goes_on.new.self in
     let here : p < length items = omega (arith, c.loop-place-test.true, c.loop-place.auto.parts) in
     let inside : p < length now = omega (arith, here, length-map items read) in
-    let some = all_some read g.P.Part.IsWhole c.args.parts.now g.met.P.Part.some c.requires.parts.whole in
-    let high : Le to (start_of (nodes_of (drop (suc p) now))) = sym c.goes_on.ensures ∙ c.if-not-goes_on.true in
+    let some = all_some read g.P.Part.IsWhole c.args.parts.now g.met.P.Part.some
+    c.requires.parts.whole in
+    let high : Le to (start_of (nodes_of (drop (suc p) now))) = sym c.goes_on.ensures ∙
+    c.if-not-goes_on.true in
     IfOk-weaker c.raise_between-then-not-goes_on.result _ _ (λ u h.
-    ap nodes_of (raised_part read items p d y (between (before []) to) c.args.value here (h ∙ ap (λ (x : Cut). raise_nodes (between (before []) x) c.args.value (read (get_or items p d))) c.cut.ensures))
-    ∙ raises_last old now from to (before []) c.args.value p some c.requires.parts.sorted inside c.loop-place.invariant.0 high) c.raise_between-then-not-goes_on.ensures.raised
+    ap nodes_of (raised_part read items p d y (between (before []) to) c.args.value here
+    (h ∙ ap (λ (x : Cut). raise_nodes (between (before []) x) c.args.value
+    (read (get_or items p d))) c.cut.ensures))
+    ∙ raises_last old now from to (before []) c.args.value p some c.requires.parts.sorted inside
+    c.loop-place.invariant.0 high) c.raise_between-then-not-goes_on.ensures.raised
 
 pub raise_whole-requires-clause-sorted : goal.raise_whole-requires-clause-sorted
 raise_whole-requires-clause-sorted g c =
@@ -82,9 +98,13 @@ raise_whole-requires-clause-sorted g c =
     let now : List (List Node) = map read items in
     let p : ℕ = c.loop-place.place in
     let here : p < length items = omega (arith, c.loop-place-test.true, c.loop-place.auto.parts) in
-    let some = all_some read g.P.Part.IsWhole c.args.parts.now g.met.P.Part.some c.requires.parts.whole in
+    let some = all_some read g.P.Part.IsWhole c.args.parts.now g.met.P.Part.some
+    c.requires.parts.whole in
     subst IsSorted (sym (part_read read items p c.index-parts-place-in-loop-place.result here))
-    (sorted_left (get_or now p []) (nodes_of (drop (suc p) now)) (left_sorted old now (cut_of c.args.from) c.args.to.now (before []) c.args.value p some c.requires.parts.sorted (omega (arith, here, length-map items read)) c.loop-place.invariant.0))
+    (sorted_left (get_or now p []) (nodes_of (drop (suc p) now))
+    (left_sorted old now (cut_of c.args.from) c.args.to.now (before []) c.args.value p some
+    c.requires.parts.sorted (omega (arith, here, length-map items read))
+    c.loop-place.invariant.0))
 
 pub loop-place-preserved : goal.loop-place-preserved
 loop-place-preserved g c =
@@ -98,13 +118,19 @@ loop-place-preserved g c =
     let y = c.raise_whole.new.self in
     let here : p < length items = omega (arith, c.loop-place-test.true, c.loop-place.auto.parts) in
     let inside : p < length now = omega (arith, here, length-map items read) in
-    let some = all_some read g.P.Part.IsWhole c.args.parts.now g.met.P.Part.some c.requires.parts.whole in
-    let goes : Lt (start_of (nodes_of (drop (suc p) now))) to = sym c.goes_on.ensures ∙ c.if-not-goes_on.false in
-    let raised = raised_part read items p c.index-parts-place-in-loop-place.result y (between (before []) last) c.args.value here c.raise_whole.ensures.raised in
-    let more = raises_go_on old now from to (before []) c.args.value p some c.requires.parts.sorted inside c.loop-place.invariant.0 goes in
+    let some = all_some read g.P.Part.IsWhole c.args.parts.now g.met.P.Part.some
+    c.requires.parts.whole in
+    let goes : Lt (start_of (nodes_of (drop (suc p) now))) to = sym c.goes_on.ensures ∙
+    c.if-not-goes_on.false in
+    let raised = raised_part read items p c.index-parts-place-in-loop-place.result y
+    (between (before []) last) c.args.value here c.raise_whole.ensures.raised in
+    let more = raises_go_on old now from to (before []) c.args.value p some c.requires.parts.sorted
+    inside c.loop-place.invariant.0 goes in
     let next : suc p ≡ p + 1 = omega arith in (
-      subst (λ (j : ℕ). RaisesSoFar old (map read (set items p y)) from to (before []) c.args.value j) next
-          (subst (λ (ls : List (List Node)). RaisesSoFar old ls from to (before []) c.args.value (suc p)) (sym raised) more),
+      subst (λ (j : ℕ). RaisesSoFar old (map read (set items p y)) from to (before []) c.args.value
+          j) next
+          (subst (λ (ls : List (List Node)). RaisesSoFar old ls from to (before []) c.args.value
+          (suc p)) (sym raised) more),
       all_set g.P.Part.IsWhole items p y c.loop-place.invariant.1 c.raise_whole.ensures.whole,
     )
 
@@ -112,5 +138,7 @@ pub returns-clause-raised : goal.returns-clause-raised
 returns-clause-raised g c =
     let read = g.P.Part.nodes in
     let items = c.loop-place.parts in
-    let past : length (map read items) ≤ c.loop-place.place = omega (arith, c.loop-place-test.false, c.loop-place.auto.parts, length-map items read) in
-    raises_end (map read c.args.parts.now) (map read items) (cut_of c.args.from) c.args.to.now (before []) c.args.value c.loop-place.place past c.loop-place.invariant.0
+    let past : length (map read items) ≤ c.loop-place.place =
+    omega (arith, c.loop-place-test.false, c.loop-place.auto.parts, length-map items read) in
+    raises_end (map read c.args.parts.now) (map read items) (cut_of c.args.from) c.args.to.now
+    (before []) c.args.value c.loop-place.place past c.loop-place.invariant.0

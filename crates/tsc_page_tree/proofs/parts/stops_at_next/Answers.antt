@@ -3,7 +3,7 @@ use Rattle.std.proofs.Common.{◌≡◌, ◌∙◌, ◌+◌, ◌<◌, sym, ap, �
 use Rattle.std.specs.Prelude.{not}
 use Rattle.std.proofs.lemmas.List.{length-map}
 use Rattle.tsc_span.specs.Span.{Cut, is_below}
-use Rattle.tsc_page_base.specs.Nodes.{Node}
+use Rattle.tsc_page_nodes.specs.Nodes.{Node}
 use Rattle.tsc_page_tree.specs.Leaves.{nodes_of, start_of}
 use Rattle.tsc_page_tree.proofs.LeafLists.{read_leaf, start_at, all_some}
 use Rattle.tsc_page_tree.proofs.parts.stops_at_next.Goals as goal
@@ -18,6 +18,9 @@ returns-in-Some g c =
     let here : next < length items = omega (arith, c.in-Some.ensures.lookup.3.0) in
     let inside : next < length ls = omega (arith, here, length-map items read) in
     let is = read_leaf read items next c.in-Some.next.now here c.in-Some.ensures.lookup.1 in
-    let start = ap (λ (l : List Node). start_of l) is ∙ sym (start_at ls (all_some read g.P.Part.IsWhole items g.met.P.Part.some c.requires.whole) next [] inside) in
+    let start = ap (λ (l : List Node). start_of l) is ∙
+    sym (start_at ls (all_some read g.P.Part.IsWhole items g.met.P.Part.some c.requires.whole)
+    next [] inside) in
     let same : next ≡ suc c.args.place = omega arith in
-    ap not (c.starts_above.ensures ∙ ap (is_below to) start ∙ ap (λ (j : ℕ). is_below to (start_of (nodes_of (drop j ls)))) same)
+    ap not (c.starts_above.ensures ∙ ap (is_below to) start ∙
+    ap (λ (j : ℕ). is_below to (start_of (nodes_of (drop j ls)))) same)

@@ -1,10 +1,13 @@
+-- Proves the loop invariants of `stride_at`. The last of every eighth place, from the first one on,
+-- at which no part begins above a cut.
 use Rattle.std.proofs.Common.{◌≤◌, ◌-◌, map, length}
 use Rattle.tsc_page_tree.specs.Leaves.{IsNotAbove}
 use Rattle.tsc_page_tree.proofs.parts.stride_at.Given as goal
 
 -- the place found so far isn't above
 abbrev pub invariant-loop-place : goal.invariant-loop-place
-invariant-loop-place g l = (l.place ≤ length l.parts) × IsNotAbove (map g.P.Part.nodes l.parts) l.cut l.low
+invariant-loop-place g l = (l.place ≤ length l.parts) ×
+    IsNotAbove (map g.P.Part.nodes l.parts) l.cut l.low
 
 -- fewer parts are left
 abbrev pub decreases-loop-place : goal.decreases-loop-place

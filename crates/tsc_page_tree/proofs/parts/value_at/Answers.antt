@@ -4,8 +4,8 @@ use Rattle.std.proofs.lemmas.List.{length-map, drop_all}
 use Rattle.tsc_time.specs.Time.{zero_time}
 use Rattle.tsc_time.specs.OwnedTime.{OwnedTime, unowned}
 use Rattle.tsc_span.specs.Span.{KeyBytes, Cut, before, after, last, point}
-use Rattle.tsc_page_base.specs.Nodes.{Node, IsSorted, answer_of}
-use Rattle.tsc_page_base.proofs.CutOrder.{Lt, Le, Le-from_Lt, before-after}
+use Rattle.tsc_page_nodes.specs.Nodes.{Node, IsSorted, answer_of}
+use Rattle.tsc_page_nodes.proofs.CutOrder.{Lt, Le, Le-from_Lt, before-after}
 use Rattle.tsc_page_tree.specs.Leaves.{nodes_of, start_of, IsLeafAt}
 use Rattle.tsc_page_tree.proofs.LeafLists.{read_leaf, leaf_sorted, leaf_first, parted_at, sorted_from, starts_low, ends_high, all_some}
 use Rattle.tsc_page_tree.proofs.LeafKeys.{wholly_below}
@@ -19,7 +19,8 @@ value_at-requires-clause-sorted g c =
     let p : ℕ = c.part_at.result in
     let here : p < length items = omega (arith, c.in-Some.ensures.lookup.3.0) in
     let is = read_leaf read items p c.in-Some.part.now here c.in-Some.ensures.lookup.1 in
-    subst IsSorted (sym is) (leaf_sorted (map read items) p [] (omega (arith, here, length-map items read)) c.requires.parts.sorted)
+    subst IsSorted (sym is) (leaf_sorted (map read items) p []
+    (omega (arith, here, length-map items read)) c.requires.parts.sorted)
 
 pub returns-in-None : goal.returns-in-None
 returns-in-None g c =
@@ -30,10 +31,14 @@ returns-in-None g c =
     let p : ℕ = c.part_at.result in
     let some = all_some read g.P.Part.IsWhole items g.met.P.Part.some c.requires.parts.whole in
     let at = subst (λ (x : Cut). IsLeafAt ls x p) c.at.ensures c.part_at.ensures in
-    let start = answers_at_first (before k) (after k) (nodes_of (take p ls)) (nodes_of (drop p ls)) (subst IsSorted (parted_at ls p) c.requires.parts.sorted) (starts_low ls (before k) p some at) in
-    let so_far = subst (λ (ns : List Node). AnswersSoFar ns (nodes_of (drop p ls)) (before k) (after k) (before k) (unowned zero_time)) (sym (parted_at ls p)) start in
+    let start = answers_at_first (before k) (after k) (nodes_of (take p ls)) (nodes_of (drop p ls))
+    (subst IsSorted (parted_at ls p) c.requires.parts.sorted)
+    (starts_low ls (before k) p some at) in
+    let so_far = subst (λ (ns : List Node). AnswersSoFar ns (nodes_of (drop p ls)) (before k)
+    (after k) (before k) (unowned zero_time)) (sym (parted_at ls p)) start in
     let past : length ls ≤ p = omega (arith, c.in-None.ensures.lookup.3, length-map items read) in
-    c.unowned.ensures ∙ answers_at_end (nodes_of ls) (nodes_of (drop p ls)) (before k) (after k) (before k) (unowned zero_time) (ap nodes_of (drop_all p ls past)) so_far
+    c.unowned.ensures ∙ answers_at_end (nodes_of ls) (nodes_of (drop p ls)) (before k) (after k)
+    (before k) (unowned zero_time) (ap nodes_of (drop_all p ls past)) so_far
 
 pub returns-in-Some : goal.returns-in-Some
 returns-in-Some g c =
@@ -49,12 +54,20 @@ returns-in-Some g c =
     let some = all_some read g.P.Part.IsWhole items g.met.P.Part.some c.requires.parts.whole in
     let sorted = c.requires.parts.sorted in
     let at = subst (λ (x : Cut). IsLeafAt ls x p) c.at.ensures c.part_at.ensures in
-    let start = answers_at_first (before k) (after k) (nodes_of (take p ls)) (nodes_of (drop p ls)) (subst IsSorted (parted_at ls p) sorted) (starts_low ls (before k) p some at) in
-    let so_far = subst (λ (ns : List Node). AnswersSoFar ns (nodes_of (drop p ls)) (before k) (after k) (before k) (unowned zero_time)) (sym (parted_at ls p)) start in
-    let of_part = subst (λ (ns : List Node). AnswersSoFar (nodes_of ls) ns (before k) (after k) (before k) (unowned zero_time)) first so_far in
+    let start = answers_at_first (before k) (after k) (nodes_of (take p ls)) (nodes_of (drop p ls))
+    (subst IsSorted (parted_at ls p) sorted) (starts_low ls (before k) p some at) in
+    let so_far = subst (λ (ns : List Node). AnswersSoFar ns (nodes_of (drop p ls)) (before k)
+    (after k) (before k) (unowned zero_time)) (sym (parted_at ls p)) start in
+    let of_part = subst (λ (ns : List Node). AnswersSoFar (nodes_of ls) ns (before k) (after k)
+    (before k) (unowned zero_time)) first so_far in
     let behind : List Node = nodes_of (drop (suc p) ls) in
     let in_order : Lt (before k) last = refl in
-    let high : Le (after k) (start_of behind) = Le-from_Lt (after k) (start_of behind) (wholly_below k behind (ends_high ls (before k) p some in_order at)) in
-    let last_one = answers_of_last (nodes_of ls) (get_or ls p []) behind (before k) (after k) (before k) (unowned zero_time) (subst IsSorted first (sorted_from ls p sorted)) (before-after k) high of_part in
+    let high : Le (after k) (start_of behind) =
+    Le-from_Lt (after k) (start_of behind)
+    (wholly_below k behind (ends_high ls (before k) p some in_order at)) in
+    let last_one = answers_of_last (nodes_of ls) (get_or ls p []) behind (before k) (after k)
+    (before k) (unowned zero_time) (subst IsSorted first (sorted_from ls p sorted))
+    (before-after k) high of_part in
     let answer : OwnedTime = answer_of (get_or ls p []) (point k) in
-    c.value_at.ensures ∙ ap (λ (ns : List Node). answer_of ns (point k)) is ∙ sym (zero_first answer (zero_below_answer (point k) (get_or ls p []))) ∙ last_one
+    c.value_at.ensures ∙ ap (λ (ns : List Node). answer_of ns (point k)) is ∙
+    sym (zero_first answer (zero_below_answer (point k) (get_or ls p []))) ∙ last_one

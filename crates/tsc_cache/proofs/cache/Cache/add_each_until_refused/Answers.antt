@@ -8,21 +8,28 @@ use Rattle.tsc_cache.proofs.cache.Cache.add_each_until_refused.Goals as goal
 
 pub returns-then-not-is_any_kept-clause-seen : goal.returns-then-not-is_any_kept-clause-seen
 returns-then-not-is_any_kept-clause-seen c =
-    let none : is_any_kept c.args.self.now.floor c.args.marks.now ≡ false = ap (λ (v : CacheView). is_any_kept v.floor c.args.marks.now) (sym c.self.view_is) ∙ sym c.is_any_kept.ensures ∙ c.if-not-is_any_kept.true in
-    subst (λ (a : Added). AddsAll c.args.self.now c.args.self.now c.args.marks.now c.args.now a) (sym c.nothing.ensures) (none_adds c.args.self.now c.args.marks.now c.args.now none)
+    let none : is_any_kept c.args.self.now.floor c.args.marks.now ≡ false =
+    ap (λ (v : CacheView). is_any_kept v.floor c.args.marks.now) (sym c.self.view_is) ∙
+    sym c.is_any_kept.ensures ∙ c.if-not-is_any_kept.true in
+    subst (λ (a : Added). AddsAll c.args.self.now c.args.self.now c.args.marks.now c.args.now a)
+    (sym c.nothing.ensures) (none_adds c.args.self.now c.args.marks.now c.args.now none)
 
 pub returns-then-not-is_any_kept-clause-stands : goal.returns-then-not-is_any_kept-clause-stands
 returns-then-not-is_any_kept-clause-stands c settings s stands =
-    (adds_all_stands c.args.self.now c.args.self.now c.args.marks.now c.args.now c.nothing.result (returns-then-not-is_any_kept-clause-seen c) settings s stands).0
+    (adds_all_stands c.args.self.now c.args.self.now c.args.marks.now c.args.now c.nothing.result
+    (returns-then-not-is_any_kept-clause-seen c) settings s stands).0
 
 pub returns-then-not-is_any_kept-clause-added : goal.returns-then-not-is_any_kept-clause-added
 returns-then-not-is_any_kept-clause-added c settings s stands =
-    (adds_all_stands c.args.self.now c.args.self.now c.args.marks.now c.args.now c.nothing.result (returns-then-not-is_any_kept-clause-seen c) settings s stands).1
+    (adds_all_stands c.args.self.now c.args.self.now c.args.marks.now c.args.now c.nothing.result
+    (returns-then-not-is_any_kept-clause-seen c) settings s stands).1
 
 pub returns-clause-stands : goal.returns-clause-stands
 returns-clause-stands c settings s stands =
-    (adds_all_stands c.args.self.now c.add_each_fitting.new.self c.args.marks.now c.args.now c.in_ok-add_each_fitting.field-0 c.in_ok-add_each_fitting.ensures.all settings s stands).0
+    (adds_all_stands c.args.self.now c.add_each_fitting.new.self c.args.marks.now c.args.now
+    c.in_ok-add_each_fitting.field-0 c.in_ok-add_each_fitting.ensures.all settings s stands).0
 
 pub returns-clause-added : goal.returns-clause-added
 returns-clause-added c settings s stands =
-    (adds_all_stands c.args.self.now c.add_each_fitting.new.self c.args.marks.now c.args.now c.in_ok-add_each_fitting.field-0 c.in_ok-add_each_fitting.ensures.all settings s stands).1
+    (adds_all_stands c.args.self.now c.add_each_fitting.new.self c.args.marks.now c.args.now
+    c.in_ok-add_each_fitting.field-0 c.in_ok-add_each_fitting.ensures.all settings s stands).1

@@ -3,7 +3,7 @@ use Rattle.std.proofs.Common.{subst}
 use Rattle.std.specs.Prelude.{Option, option_map}
 use Rattle.tsc_span.specs.Span.{KeyBytes, Cut}
 use Rattle.tsc_span.specs.Cuts.{cut_of}
-use Rattle.tsc_page_base.specs.KeysAbove.{IsLeastAbove}
+use Rattle.tsc_page_nodes.specs.KeysAbove.{IsLeastAbove}
 use Rattle.tsc_page.proofs.KeysAbove.{least_among_same}
 use Rattle.tsc_cache.specs.CacheView.{CacheView}
 use Rattle.tsc_cache.specs.Keys.{keys_on, keys_seen}
@@ -14,5 +14,11 @@ pub returns : goal.returns
 returns c =
     let cut : Cut = cut_of c.args.cut in
     let told : Option KeyBytes = option_map (λ k. k.now) c.key_above.result in
-    let seen = subst (λ (v : CacheView). IsLeastAbove cut (keys_seen v.pages) told) c.self.view_is c.key_above.ensures in
-    record { value = seen; stands = λ settings s is. least_among_same cut (keys_seen c.args.self.now.pages) (keys_on s.pages) (same_keys c.args.self.now.pages s.pages is.pages) told seen }
+    let seen = subst (λ (v : CacheView). IsLeastAbove cut (keys_seen v.pages) told) c.self.view_is
+    c.key_above.ensures in
+    record {
+      value = seen;
+      stands = λ settings s is. least_among_same cut
+          (keys_seen c.args.self.now.pages) (keys_on s.pages)
+          (same_keys c.args.self.now.pages s.pages is.pages) told seen;
+    }

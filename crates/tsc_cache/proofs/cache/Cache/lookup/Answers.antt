@@ -12,14 +12,18 @@ pub returns-clause-value : goal.returns-clause-value
 returns-clause-value c =
     c.ratchet.ensures.joint
     ∙ ap (λ (v : OwnedTime). joint v (c.unowned.result ∷ [])) c.lookup-best.ensures.value
-    ∙ ap (λ (v : OwnedTime). joint (pages_answer (pages_of c.self.inside.pages) c.args.span.now) (v ∷ [])) c.unowned.ensures
+    ∙ ap (λ (v : OwnedTime). joint (pages_answer (pages_of c.self.inside.pages) c.args.span.now)
+    (v ∷ [])) c.unowned.ensures
     ∙ floor_last c.self.inside.floor c.args.span.now (pages_of c.self.inside.pages)
     ∙ ap (λ v. cache_answer v c.args.span.now) c.self.view_is
 
 pub returns-clause-stands : goal.returns-clause-stands
-returns-clause-stands c settings s stands = returns-clause-value c ∙ answers_look c.args.self.now settings s c.args.span.now stands
+returns-clause-stands c settings s stands = returns-clause-value c ∙
+    answers_look c.args.self.now settings s c.args.span.now stands
 
 pub returns-clause-looked_into : goal.returns-clause-looked_into
 returns-clause-looked_into c settings s stands =
-    looks_into_pages c.args.span.now c.args.self.now.pages s.pages c.lookup-best.result.1 stands.pages
-    (subst (λ (v : CacheView). LooksIntoViews c.args.span.now v.pages c.lookup-best.result.1) c.self.view_is c.lookup-best.ensures.looked)
+    looks_into_pages c.args.span.now c.args.self.now.pages s.pages c.lookup-best.result.1
+    stands.pages
+    (subst (λ (v : CacheView). LooksIntoViews c.args.span.now v.pages c.lookup-best.result.1)
+    c.self.view_is c.lookup-best.ensures.looked)

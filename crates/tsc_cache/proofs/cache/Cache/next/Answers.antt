@@ -4,7 +4,11 @@ use Rattle.tsc_cache.specs.CacheView.{CacheView, StandsForState}
 use Rattle.tsc_cache.proofs.cache.Cache.next.Goals as goal
 
 pub returns-clause-stands : goal.returns-clause-stands
-returns-clause-stands c settings s stands = c.in_ok-added.ensures.stands settings s (subst (λ (v : CacheView). StandsForState v settings s) (sym c.in_ok-next.ensures) stands)
+returns-clause-stands c settings s stands =
+    c.in_ok-added.ensures.stands settings s
+    (subst (λ (v : CacheView). StandsForState v settings s) (sym c.in_ok-next.ensures) stands)
 
 pub returns-clause-added : goal.returns-clause-added
-returns-clause-added c settings s stands = c.in_ok-added.ensures.added settings s (subst (λ (v : CacheView). StandsForState v settings s) (sym c.in_ok-next.ensures) stands)
+returns-clause-added c settings s stands =
+    c.in_ok-added.ensures.added settings s
+    (subst (λ (v : CacheView). StandsForState v settings s) (sym c.in_ok-next.ensures) stands)

@@ -1,3 +1,5 @@
+-- Proves the loop invariants of `Config::next_size`. The size of a page for a span of this cost,
+-- behind one of this size.
 use Rattle.tsc_cache.proofs.Sizes.{Doubling}
 use Rattle.tsc_cache.proofs.config.Config.next_size.Given as goal
 

@@ -9,5 +9,6 @@ pub returns-then-self-gt0-clause-left : goal.returns-then-self-gt0-clause-left
 returns-then-self-gt0-clause-left c =
     let o = c.self.inside in
     let some = c.if-self-gt0.true in
-    all_but_last (in_chunk o.newest) (joined (in_chunks (arc_value o.chunks))) o.chunked (omega arith) c.self.invariant.2
+    all_but_last (in_chunk o.newest) (joined (in_chunks (arc_value o.chunks))) o.chunked
+    (omega arith) c.self.invariant.2
     ∙ ap (λ ps. take (length ps - 1) ps) c.self.view_is

@@ -18,12 +18,17 @@ returns-clause-pushed c =
     let count = c.len.ensures in
     let most = c.self.invariant.0 in
     let rest : the_view b ≡ c.args.self.now = elim c.if-len-ge-CHUNK.branch [
-      | then-len-ge-CHUNK+else-self-ge-MOST+in_ok-push_chunk w ↦ let full = w.if-len-ge-CHUNK.true in
+      | then-len-ge-CHUNK+else-self-ge-MOST+in_ok-push_chunk w ↦ let full =
+          w.if-len-ge-CHUNK.true in
           ap the_view w.self-inside-is
-          ∙ ap (λ ps. map (λ p. arc_value p) ps ++ take (o.chunked + 256) (joined (in_chunks (arc_value w.push_chunk.new.chunks)))) w.clear.ensures.items
+          ∙ ap (λ ps. map (λ p. arc_value p) ps ++
+          take (o.chunked + 256) (joined (in_chunks (arc_value w.push_chunk.new.chunks))))
+          w.clear.ensures.items
           ∙ ap (λ kss. take (o.chunked + 256) (joined kss)) w.in_ok-push_chunk.ensures.pushed
-          ∙ take_behind (in_chunk o.newest) (joined (in_chunks (arc_value o.chunks))) o.chunked (omega arith)
+          ∙ take_behind (in_chunk o.newest) (joined (in_chunks (arc_value o.chunks))) o.chunked
+          (omega arith)
           ∙ c.self.view_is
       | else-len-ge-CHUNK w ↦ ap the_view w.self-inside-is ∙ c.self.view_is
     ] in
-    ap (λ ps. map (λ p. arc_value p) ps ++ take b.chunked (joined (in_chunks (arc_value b.chunks)))) items ∙ ap (λ ps. arc_value c.args.page ∷ ps) rest
+    ap (λ ps. map (λ p. arc_value p) ps ++ take b.chunked (joined (in_chunks (arc_value b.chunks))))
+    items ∙ ap (λ ps. arc_value c.args.page ∷ ps) rest

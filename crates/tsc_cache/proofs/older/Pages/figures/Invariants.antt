@@ -5,4 +5,5 @@ use Rattle.tsc_cache.proofs.CountsTold.{Counting}
 use Rattle.tsc_cache.proofs.older.Pages.figures.Given as goal
 
 abbrev pub invariant-loop-at : goal.invariant-loop-at
-invariant-loop-at l = Counting (pages_of l.self) (drop l.at (older_of l.self)) l.fn.floor l.fn.rotations l.figures
+invariant-loop-at l = Counting (pages_of l.self) (drop l.at (older_of l.self)) l.fn.floor
+    l.fn.rotations l.figures

@@ -4,8 +4,8 @@ use Rattle.std.proofs.Math.ListN.{drop_of_length-le}
 use Rattle.std.specs.Prelude.{Option, option_map}
 use Rattle.tsc_span.specs.Span.{KeyBytes, Cut}
 use Rattle.tsc_span.specs.Cuts.{cut_of}
-use Rattle.tsc_page_base.specs.PageView.{PageView}
-use Rattle.tsc_page_base.specs.KeysAbove.{IsLeastAbove}
+use Rattle.tsc_page_nodes.specs.PageView.{PageView}
+use Rattle.tsc_page_nodes.specs.KeysAbove.{IsLeastAbove}
 use Rattle.tsc_cache.specs.CacheParts.{pages_of, front_of, older_of}
 use Rattle.tsc_cache.proofs.FullChunks.{drop_next}
 use Rattle.tsc_cache.proofs.KeysTold.{Asking, asking-start, asking-more, asking-end}
@@ -15,7 +15,8 @@ pub loop-at-init : goal.loop-at-init
 loop-at-init c =
     let cut : Cut = cut_of c.args.cut in
     let told : Option KeyBytes = option_map (λ k. k.now) c.key_above-least.result in
-    let first = subst (λ (p : PageView). IsLeastAbove cut p.keys told) c.deref.ensures c.key_above-least.ensures.value in
+    let first = subst (λ (p : PageView). IsLeastAbove cut p.keys told) c.deref.ensures
+    c.key_above-least.ensures.value in
     asking-start (front_of c.args.self.now) (older_of c.args.self.now) cut told first
 
 pub loop-at-preserved : goal.loop-at-preserved
@@ -28,9 +29,12 @@ loop-at-preserved c =
     let low = c.loop-at-test.true in
     let all = c.len-at-end.ensures.value in
     let here = drop_next c.loop-at.at older page (omega arith) c.get-page.ensures in
-    let asked = subst (λ (ps : List PageView). Asking (pages_of c.args.self.now) ps cut so_far) here c.loop-at.invariant in
-    subst (Asking (pages_of c.args.self.now) (drop (c.loop-at.at + 1) older) cut) (sym c.lesser-least.ensures)
-    (asking-more (pages_of c.args.self.now) page (drop (c.loop-at.at + 1) older) cut so_far more asked c.key_above.ensures.value)
+    let asked = subst (λ (ps : List PageView). Asking (pages_of c.args.self.now) ps cut so_far) here
+    c.loop-at.invariant in
+    subst (Asking (pages_of c.args.self.now) (drop (c.loop-at.at + 1) older) cut)
+    (sym c.lesser-least.ensures)
+    (asking-more (pages_of c.args.self.now) page (drop (c.loop-at.at + 1) older) cut so_far more
+    asked c.key_above.ensures.value)
 
 pub returns : goal.returns
 returns c =
@@ -40,4 +44,6 @@ returns c =
     let past = c.loop-at-test.false in
     let all = c.len-at-end.ensures.value in
     let none : drop c.loop-at.at older ≡ [] = drop_of_length-le older (omega arith) in
-    asking-end (λ p. p) (pages_of c.args.self.now) [] cut told refl (subst (λ (ps : List PageView). Asking (pages_of c.args.self.now) ps cut told) none c.loop-at.invariant)
+    asking-end (λ p. p) (pages_of c.args.self.now) [] cut told refl
+    (subst (λ (ps : List PageView). Asking (pages_of c.args.self.now) ps cut told) none
+    c.loop-at.invariant)

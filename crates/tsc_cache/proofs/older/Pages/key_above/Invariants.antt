@@ -7,4 +7,5 @@ use Rattle.tsc_cache.proofs.KeysTold.{Asking}
 use Rattle.tsc_cache.proofs.older.Pages.key_above.Given as goal
 
 abbrev pub invariant-loop-at : goal.invariant-loop-at
-invariant-loop-at l = Asking (pages_of l.self) (drop l.at (older_of l.self)) (cut_of l.cut) (option_map (λ k. k.now) l.least)
+invariant-loop-at l = Asking (pages_of l.self) (drop l.at (older_of l.self)) (cut_of l.cut)
+    (option_map (λ k. k.now) l.least)

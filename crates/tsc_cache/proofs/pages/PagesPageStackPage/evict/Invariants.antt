@@ -5,7 +5,8 @@ use Rattle.std.proofs.Common.{◌≡◌, ◌-◌, length}
 use Rattle.tsc_cache.proofs.pages.PagesPageStackPage.evict.Given as goal
 
 abbrev pub invariant-loop-top : goal.invariant-loop-top
-invariant-loop-top l = (l.self.front ≡ l.initial.self.front) × Dropping l.config l.initial.floor l.now (older_of l.initial.self) (older_of l.self) l.floor
+invariant-loop-top l = (l.self.front ≡ l.initial.self.front) ×
+    Dropping l.config l.initial.floor l.now (older_of l.initial.self) (older_of l.self) l.floor
     (length (older_of l.initial.self) - length (older_of l.self))
 
 abbrev pub decreases-loop-top : goal.decreases-loop-top

@@ -8,23 +8,33 @@ use Rattle.tsc_cache.proofs.plain.PlainCacheTimestampCache.add_all.Goals as goal
 
 pub returns-then-not-is_any_kept-clause-seen : goal.returns-then-not-is_any_kept-clause-seen
 returns-then-not-is_any_kept-clause-seen c =
-    let none : is_any_kept c.args.self.now.floor c.args.marks.now ≡ false = ap (λ (v : CacheView). is_any_kept v.floor c.args.marks.now) (sym c.self.view_is) ∙ sym c.if-not-is_any_kept.ensures in
-    subst (λ (a : Added). AddsAll c.args.self.now c.args.self.now c.args.marks.now c.args.now a) (sym c.nothing.ensures) (none_adds c.args.self.now c.args.marks.now c.args.now none)
+    let none : is_any_kept c.args.self.now.floor c.args.marks.now ≡ false =
+    ap (λ (v : CacheView). is_any_kept v.floor c.args.marks.now) (sym c.self.view_is) ∙
+    sym c.if-not-is_any_kept.ensures in
+    subst (λ (a : Added). AddsAll c.args.self.now c.args.self.now c.args.marks.now c.args.now a)
+    (sym c.nothing.ensures) (none_adds c.args.self.now c.args.marks.now c.args.now none)
 
 pub returns-then-not-is_any_kept-clause-stands : goal.returns-then-not-is_any_kept-clause-stands
 returns-then-not-is_any_kept-clause-stands c settings s stands =
-    (adds_all_stands c.args.self.now c.args.self.now c.args.marks.now c.args.now c.nothing.result (returns-then-not-is_any_kept-clause-seen c) settings s stands).0
+    (adds_all_stands c.args.self.now c.args.self.now c.args.marks.now c.args.now c.nothing.result
+    (returns-then-not-is_any_kept-clause-seen c) settings s stands).0
 
 pub returns-then-not-is_any_kept-clause-added : goal.returns-then-not-is_any_kept-clause-added
 returns-then-not-is_any_kept-clause-added c settings s stands =
-    (adds_all_stands c.args.self.now c.args.self.now c.args.marks.now c.args.now c.nothing.result (returns-then-not-is_any_kept-clause-seen c) settings s stands).1
+    (adds_all_stands c.args.self.now c.args.self.now c.args.marks.now c.args.now c.nothing.result
+    (returns-then-not-is_any_kept-clause-seen c) settings s stands).1
 
 pub returns-clause-stands : goal.returns-clause-stands
-returns-clause-stands c settings s stands = (adds_all_stands c.args.self.now _ c.args.marks.now c.args.now c.in_ok-added.added (search rules) settings s stands).0
+returns-clause-stands c settings s stands =
+    (adds_all_stands c.args.self.now _ c.args.marks.now c.args.now c.in_ok-added.added
+    (search rules) settings s stands).0
 
 pub returns-clause-added : goal.returns-clause-added
 returns-clause-added c settings s stands =
-    (adds_all_stands c.in_ok-next.next _ c.args.marks.now c.args.now c.in_ok-added.added c.in_ok-added.ensures settings s (subst (λ (v : CacheView). StandsForState v settings s) (sym c.in_ok-next.ensures) stands)).1
+    (adds_all_stands c.in_ok-next.next _ c.args.marks.now c.args.now c.in_ok-added.added
+    c.in_ok-added.ensures settings s
+    (subst (λ (v : CacheView). StandsForState v settings s) (sym c.in_ok-next.ensures)
+    stands)).1
 
 pub returns-in_err-added-clause-unchanged : goal.returns-in_err-added-clause-unchanged
 returns-in_err-added-clause-unchanged c = search rules

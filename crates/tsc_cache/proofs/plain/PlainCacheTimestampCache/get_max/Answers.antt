@@ -12,9 +12,12 @@ pub returns-clause-value : goal.returns-clause-value
 returns-clause-value c =
     c.ratchet.ensures.joint
     ∙ ap (λ (v : OwnedTime). joint v (c.unowned.result ∷ [])) c.lookup.ensures
-    ∙ ap (λ (v : OwnedTime). joint (pages_answer (plain_pages_of c.self.inside.pages) c.args.span.now) (v ∷ [])) c.unowned.ensures
+    ∙ ap (λ (v : OwnedTime). joint
+    (pages_answer (plain_pages_of c.self.inside.pages) c.args.span.now) (v ∷ []))
+    c.unowned.ensures
     ∙ floor_last c.self.inside.floor c.args.span.now (plain_pages_of c.self.inside.pages)
     ∙ ap (λ v. cache_answer v c.args.span.now) c.self.view_is
 
 pub returns-clause-stands : goal.returns-clause-stands
-returns-clause-stands c settings s stands = returns-clause-value c ∙ answers_look c.args.self.now settings s c.args.span.now stands
+returns-clause-stands c settings s stands = returns-clause-value c ∙
+    answers_look c.args.self.now settings s c.args.span.now stands

@@ -3,11 +3,10 @@ use Rattle.std.proofs.Common.{sym, subst, List}
 use Rattle.std.specs.Prelude.{Option, option_map}
 use Rattle.tsc_span.specs.Span.{KeyBytes, Cut}
 use Rattle.tsc_span.specs.Cuts.{cut_of}
-use Rattle.tsc_page_base.specs.Page.{marked_keys}
-use Rattle.tsc_page_base.specs.PageView.{PageView}
-use Rattle.tsc_page_base.specs.Nodes.{node_keys}
-use Rattle.tsc_page_base.specs.KeysAbove.{IsLeastAbove}
-use Rattle.tsc_page.specs.Roots.{tree_nodes}
+use Rattle.tsc_page_nodes.specs.Page.{marked_keys}
+use Rattle.tsc_page_nodes.specs.PageView.{PageView}
+use Rattle.tsc_page_nodes.specs.Nodes.{node_keys}
+use Rattle.tsc_page_nodes.specs.KeysAbove.{IsLeastAbove}
 use Rattle.tsc_page.proofs.KeysAbove.{first_is_least, least_among_same}
 use Rattle.tsc_page.proofs.page.Page.key_above.Goals as goal
 
@@ -15,7 +14,12 @@ pub returns : goal.returns
 returns c =
     let cut : Cut = cut_of c.args.cut in
     let told : Option KeyBytes = option_map (λ k. k.now) c.key_above.result in
-    let keys : List KeyBytes = node_keys (tree_nodes c.self.inside.tree) in
-    let least = subst (IsLeastAbove cut keys) (sym c.key_above.ensures) (first_is_least cut (tree_nodes c.self.inside.tree) c.self.invariant.0.sorted) in
+    let keys : List KeyBytes = node_keys c.self.inside.tree.nodes in
+    let least = subst (IsLeastAbove cut keys) (sym c.key_above.ensures)
+    (first_is_least cut c.self.inside.tree.nodes c.self.invariant.0.sorted) in
     let seen = subst (λ (v : PageView). IsLeastAbove cut v.keys told) c.self.view_is least in
-    record { value = seen; stands = λ p s. least_among_same cut c.args.self.now.keys (marked_keys p.marks) s.keys told seen }
+    record {
+      value = seen;
+      stands = λ p s. least_among_same cut c.args.self.now.keys
+          (marked_keys p.marks) s.keys told seen;
+    }

@@ -1,64 +1,124 @@
--- What the root tells of an Add at a key holds of the tree.
-use Rattle.std.proofs.Common.{◌-◌, ℕ, Ok, arith}
+-- What the root tells of an insertion holds of the tree.
+use Rattle.std.proofs.Common.{◌-◌, ◌+◌, ◌∙◌, ℕ, ap, subst, Ok, arith}
 use Rattle.tsc_time.specs.declared.memory.NoMemory.{NoMemory}
-use Rattle.tsc_span.specs.Span.{point}
-use Rattle.tsc_page_base.proofs.Costs.{node_costs}
-use Rattle.tsc_page_base.proofs.KeyLookups.{point_keys}
-use Rattle.tsc_page_tree.specs.Pending.{Addend}
+use Rattle.tsc_page_nodes.specs.Additions.{Addend}
+use Rattle.tsc_page_nodes.proofs.Costs.{node_costs}
+use Rattle.tsc_page_nodes.proofs.Ends.{ends_in_order}
 use Rattle.tsc_page_tree.specs.KeyAdds.{at_key}
 use Rattle.tsc_page_tree.proofs.KeyAdds.{told_within}
-use Rattle.tsc_page.specs.Roots.{root_nodes, root_sizes}
-use Rattle.tsc_page_tree.proofs.LeafAdds.{adds_to}
-use Rattle.tsc_page.proofs.TreeLists.{counted_added, counted_kept}
 use Rattle.tsc_page_tree.proofs.Wholes.{tells_some, tells_none}
+use Rattle.tsc_page.specs.Roots.{TreeView, root_nodes, root_sizes, Inserts}
+use Rattle.tsc_page.proofs.TreeLists.{seen_of, seen_same, counted_added, counted_kept, inserts_some, refused_try, key_ends}
 use Rattle.tsc_page.proofs.tree.Tree.add_key.Goals as goal
 
-pub returns-in-Some-clause-added : goal.returns-in-Some-clause-added
-returns-in-Some-clause-added c e =
-    let old = c.args.self.now.root in
-    let new = c.add_borrowed_key.new.self in
-    let a : Addend = at_key c.args.add.now in
-    let room : ℕ = c.args.most - c.args.self.now.bytes in
-    let told = told_within {E = NoMemory} (Ok c.in_ok-grown.field-0) (root_nodes old) (root_nodes new) (root_sizes old) (root_sizes new) c.args.add.now room c.in_ok-grown.ensures.told in
-    let adds = tells_some NoMemory c.in_ok-grown.field-0 c.in-Some.grown (root_nodes old) (root_nodes new) (root_sizes old) (root_sizes new) a room c.in-Some.is told in
-    (adds_to (root_nodes old) (root_nodes new) a.first a.second (point c.args.add.now.key) a.value c.requires.counted.sorted tt (point_keys c.args.add.now.key) adds.adds).0
+pub invariant_of-self : goal.invariant_of-self
+invariant_of-self c = counted_kept c.self.inside.root c.add_borrowed_key.new.self
+    c.self.inside.count c.self.inside.bytes c.self.invariant c.add_borrowed_key.ensures.whole
+    c.in_err-grown.ensures.told.0
 
-pub returns-in-Some-clause-counted : goal.returns-in-Some-clause-counted
-returns-in-Some-clause-counted c =
-    let old = c.args.self.now.root in
-    let new = c.add_borrowed_key.new.self in
-    let a : Addend = at_key c.args.add.now in
-    let room : ℕ = c.args.most - c.args.self.now.bytes in
-    let told = told_within {E = NoMemory} (Ok c.in_ok-grown.field-0) (root_nodes old) (root_nodes new) (root_sizes old) (root_sizes new) c.args.add.now room c.in_ok-grown.ensures.told in
-    let adds = tells_some NoMemory c.in_ok-grown.field-0 c.in-Some.grown (root_nodes old) (root_nodes new) (root_sizes old) (root_sizes new) a room c.in-Some.is told in
-    counted_added old new c.args.self.now.count c.args.self.now.bytes room c.in-Some.grown a c.requires.counted c.add_borrowed_key.ensures.whole tt adds
-
-pub returns-in-None-clause-counted : goal.returns-in-None-clause-counted
-returns-in-None-clause-counted c =
-    let old = c.args.self.now.root in
-    let new = c.add_borrowed_key.new.self in
-    let a : Addend = at_key c.args.add.now in
-    let room : ℕ = c.args.most - c.args.self.now.bytes in
-    let told = told_within {E = NoMemory} (Ok c.in_ok-grown.field-0) (root_nodes old) (root_nodes new) (root_sizes old) (root_sizes new) c.args.add.now room c.in_ok-grown.ensures.told in
-    let left = tells_none NoMemory c.in_ok-grown.field-0 (root_nodes old) (root_nodes new) (root_sizes old) (root_sizes new) a room c.in-None.is told in
-    counted_kept old new c.args.self.now.count c.args.self.now.bytes c.requires.counted c.add_borrowed_key.ensures.whole left.0
+pub returns-in_err-grown : goal.returns-in_err-grown
+returns-in_err-grown c = record {
+  told = refused_try c.from_residual.result _ _ _ c.args.most c.from_residual.ensures.0
+      (seen_same c.self.inside.root c.add_borrowed_key.new.self c.self.inside.bytes
+      c.in_err-grown.ensures.told.0 c.in_err-grown.ensures.told.1 ∙ c.self.view_is);
+}
 
 pub overflow_add-self : goal.overflow_add-self
 overflow_add-self c =
-    let old = c.args.self.now.root in
-    let new = c.add_borrowed_key.new.self in
+    let r = c.self.inside.root in
+    let q = c.add_borrowed_key.new.self in
     let a : Addend = at_key c.args.add.now in
-    let room : ℕ = c.args.most - c.args.self.now.bytes in
-    let told = told_within {E = NoMemory} (Ok c.in_ok-grown.field-0) (root_nodes old) (root_nodes new) (root_sizes old) (root_sizes new) c.args.add.now room c.in_ok-grown.ensures.told in
-    let adds = tells_some NoMemory c.in_ok-grown.field-0 c.in-Some.grown (root_nodes old) (root_nodes new) (root_sizes old) (root_sizes new) a room c.in-Some.is told in
-    omega (arith, c.requires.counted.count, c.requires.counted.bytes, adds.grown.count, adds.grown.cost, adds.within, node_costs (root_nodes new), c.requires.within, c.requires.small)
+    let room : ℕ = c.args.most - c.self.inside.bytes in
+    let told = told_within {E = NoMemory} (Ok c.in_ok-grown.field-0) (root_nodes r) (root_nodes q)
+    (root_sizes r) (root_sizes q) c.args.add.now room c.in_ok-grown.ensures.told in
+    let adds = tells_some NoMemory c.in_ok-grown.field-0 c.in-Some.grown (root_nodes r)
+    (root_nodes q) (root_sizes r) (root_sizes q) a room c.in-Some.is told in
+    omega (
+      arith,
+      c.self.invariant.count,
+      c.self.invariant.bytes,
+      adds.grown.count,
+      adds.grown.cost,
+      adds.within,
+      node_costs (root_nodes q),
+      c.requires.within,
+      c.requires.small,
+      ap (λ (t : TreeView). t.bytes) c.self.view_is,
+    )
 
-pub returns-in-Some-clause-within : goal.returns-in-Some-clause-within
-returns-in-Some-clause-within c e =
-    let old = c.args.self.now.root in
-    let new = c.add_borrowed_key.new.self in
+pub overflow_add-self-in-Some : goal.overflow_add-self-in-Some
+overflow_add-self-in-Some c =
+    let r = c.self.inside.root in
+    let q = c.add_borrowed_key.new.self in
     let a : Addend = at_key c.args.add.now in
-    let room : ℕ = c.args.most - c.args.self.now.bytes in
-    let told = told_within {E = NoMemory} (Ok c.in_ok-grown.field-0) (root_nodes old) (root_nodes new) (root_sizes old) (root_sizes new) c.args.add.now room c.in_ok-grown.ensures.told in
-    let adds = tells_some NoMemory c.in_ok-grown.field-0 c.in-Some.grown (root_nodes old) (root_nodes new) (root_sizes old) (root_sizes new) a room c.in-Some.is told in
-    omega (arith, adds.within, c.requires.within)
+    let room : ℕ = c.args.most - c.self.inside.bytes in
+    let told = told_within {E = NoMemory} (Ok c.in_ok-grown.field-0) (root_nodes r) (root_nodes q)
+    (root_sizes r) (root_sizes q) c.args.add.now room c.in_ok-grown.ensures.told in
+    let adds = tells_some NoMemory c.in_ok-grown.field-0 c.in-Some.grown (root_nodes r)
+    (root_nodes q) (root_sizes r) (root_sizes q) a room c.in-Some.is told in
+    omega (
+      arith,
+      adds.within,
+      c.requires.within,
+      c.requires.small,
+      ap (λ (t : TreeView). t.bytes) c.self.view_is,
+    )
+
+pub invariant_of-self-in-Some : goal.invariant_of-self-in-Some
+invariant_of-self-in-Some c =
+    let r = c.self.inside.root in
+    let q = c.add_borrowed_key.new.self in
+    let a : Addend = at_key c.args.add.now in
+    let room : ℕ = c.args.most - c.self.inside.bytes in
+    let told = told_within {E = NoMemory} (Ok c.in_ok-grown.field-0) (root_nodes r) (root_nodes q)
+    (root_sizes r) (root_sizes q) c.args.add.now room c.in_ok-grown.ensures.told in
+    let adds = tells_some NoMemory c.in_ok-grown.field-0 c.in-Some.grown (root_nodes r)
+    (root_nodes q) (root_sizes r) (root_sizes q) a room c.in-Some.is told in
+    let ends = key_ends c.args.add.now in
+    counted_added r q c.self.inside.count c.self.inside.bytes room c.in-Some.grown a
+    c.self.invariant c.add_borrowed_key.ensures.whole
+    (ends_in_order a.from a.to a.first a.second ends.order ends.keys) adds
+
+pub returns-in-Some : goal.returns-in-Some
+returns-in-Some c =
+    let r = c.self.inside.root in
+    let q = c.add_borrowed_key.new.self in
+    let a : Addend = at_key c.args.add.now in
+    let room : ℕ = c.args.most - c.self.inside.bytes in
+    let told = told_within {E = NoMemory} (Ok c.in_ok-grown.field-0) (root_nodes r) (root_nodes q)
+    (root_sizes r) (root_sizes q) c.args.add.now room c.in_ok-grown.ensures.told in
+    let adds = tells_some NoMemory c.in_ok-grown.field-0 c.in-Some.grown (root_nodes r)
+    (root_nodes q) (root_sizes r) (root_sizes q) a room c.in-Some.is told in
+    record {
+      told = subst (λ (t : TreeView). Inserts t
+          (seen_of q (c.self.inside.bytes + c.in-Some.grown.bytes)) a c.args.most) c.self.view_is
+          (inserts_some r q c.self.inside.count c.self.inside.bytes c.args.most c.in-Some.grown a
+          c.self.invariant (omega
+          (arith, c.requires.within, ap (λ (t : TreeView). t.bytes) c.self.view_is))
+          c.add_borrowed_key.ensures.whole (key_ends c.args.add.now) adds);
+    }
+
+pub invariant_of-self-in-None : goal.invariant_of-self-in-None
+invariant_of-self-in-None c =
+    let r = c.self.inside.root in
+    let q = c.add_borrowed_key.new.self in
+    let a : Addend = at_key c.args.add.now in
+    let room : ℕ = c.args.most - c.self.inside.bytes in
+    let told = told_within {E = NoMemory} (Ok c.in_ok-grown.field-0) (root_nodes r) (root_nodes q)
+    (root_sizes r) (root_sizes q) c.args.add.now room c.in_ok-grown.ensures.told in
+    let left = tells_none NoMemory c.in_ok-grown.field-0 (root_nodes r) (root_nodes q)
+    (root_sizes r) (root_sizes q) a room c.in-None.is told in
+    counted_kept r q c.self.inside.count c.self.inside.bytes c.self.invariant
+    c.add_borrowed_key.ensures.whole left.0
+
+pub returns-in-None : goal.returns-in-None
+returns-in-None c =
+    let r = c.self.inside.root in
+    let q = c.add_borrowed_key.new.self in
+    let a : Addend = at_key c.args.add.now in
+    let room : ℕ = c.args.most - c.self.inside.bytes in
+    let told = told_within {E = NoMemory} (Ok c.in_ok-grown.field-0) (root_nodes r) (root_nodes q)
+    (root_sizes r) (root_sizes q) c.args.add.now room c.in_ok-grown.ensures.told in
+    let left = tells_none NoMemory c.in_ok-grown.field-0 (root_nodes r) (root_nodes q)
+    (root_sizes r) (root_sizes q) a room c.in-None.is told in
+    record { told = seen_same r q c.self.inside.bytes left.0 left.1 ∙ c.self.view_is }

@@ -1,7 +1,12 @@
 -- A copy of the root stands for the same.
-use Rattle.std.proofs.Common.{refl}
-use Rattle.tsc_page.proofs.TreeLists.{counted_copy}
+use Rattle.std.proofs.Common.{◌∙◌}
+use Rattle.tsc_page.proofs.TreeLists.{counted_copy, seen_copy}
 use Rattle.tsc_page.proofs.tree.Tree.try_copy.Goals as goal
 
-pub returns-clause-counted : goal.returns-clause-counted
-returns-clause-counted c counted = counted_copy c.args.self.now _ c.in_ok-try_copy.ensures refl refl counted
+pub invariant_of-result : goal.invariant_of-result
+invariant_of-result c = counted_copy c.self.inside.root _ c.self.inside.count c.self.inside.bytes
+    c.in_ok-try_copy.ensures c.self.invariant
+
+pub returns : goal.returns
+returns c = seen_copy c.self.inside.root _ c.self.inside.bytes c.in_ok-try_copy.ensures ∙
+    c.self.view_is

@@ -6,12 +6,13 @@ use Rattle.std.specs.Vec.{with_items}
 use Rattle.std.proofs.lemmas.List.{with_items_is}
 use Rattle.tsc_time.specs.OwnedTime.{OwnedTime}
 use Rattle.tsc_span.specs.Span.{is_below}
-use Rattle.tsc_page_base.specs.Nodes.{Node, IsSorted, IsInOrder}
+use Rattle.tsc_page_nodes.specs.Nodes.{Node, IsSorted, IsInOrder}
+use Rattle.tsc_page_nodes.specs.Additions.{Addend}
 use Rattle.tsc_page_tree.specs.Leaves.{nodes_of, start_of, AreParts}
-use Rattle.tsc_page_tree.specs.Pending.{with_pending, sizes_of, Addend, IsAddTold, joint_after}
+use Rattle.tsc_page_tree.specs.Pending.{with_pending, sizes_of, IsAddTold, joint_after}
 use Rattle.tsc_page_tree.specs.Trees.{IsForkOf}
-use Rattle.tsc_page_base.proofs.CutOrder.{Lt}
-use Rattle.tsc_page_base.specs.Numbers.{IsCutNumber}
+use Rattle.tsc_page_nodes.proofs.CutOrder.{Lt}
+use Rattle.tsc_page_nodes.specs.Numbers.{IsCutNumber}
 use Rattle.tsc_page_tree.proofs.PartLists.{AreSameAs, same_list, copies_same, copies_sorted}
 use Rattle.tsc_page_tree.proofs.Told.{told_pushed, told_added}
 use Rattle.tsc_page_tree.proofs.Wholes.{fork_whole, fork_parts, fork_same, told_as, on_err, refused_told}
@@ -24,8 +25,17 @@ push_down-requires g c =
     let Q = g.P.Part.IsWhole in
     let xs = (arc_value c.args.self.now.parts).items in
     let v = c.in_ok-parts.parts.now in
-    let same : AreSameAs f s Q xs v.items = elim c.in_ok-parts.ensures.value [ inl h ↦ same_list f s Q xs v.items (ap (λ u. u.items) h) | inr h ↦ copies_same f s Q _ xs v.items g.met.P.Part.copied h.0 ] in
-    record { parts = subst (AreParts f Q) (sym c.deref_mut.ensures.value) (copies_sorted f s Q xs v.items same (fork_parts f s Q c.args.self.now.summary xs c.requires.whole c.requires.sorted)) }
+    let same : AreSameAs f s Q xs v.items =
+    elim c.in_ok-parts.ensures.value [
+      | inl h ↦ same_list f s Q xs v.items (ap (λ u. u.items) h)
+      | inr h ↦ copies_same f s Q _ xs
+          v.items g.met.P.Part.copied h.0
+    ] in
+    record {
+      parts = subst (AreParts f Q) (sym c.deref_mut.ensures.value)
+          (copies_sorted f s Q xs v.items same
+          (fork_parts f s Q c.args.self.now.summary xs c.requires.whole c.requires.sorted));
+    }
 
 pub add_within-made-requires : goal.add_within-made-requires
 add_within-made-requires g c =
@@ -36,12 +46,27 @@ add_within-made-requires g c =
     let xs = (arc_value c.args.self.now.parts).items in
     let ns : List Node = nodes_of (map f xs) in
     let v = c.in_ok-parts.parts.now in
-    let same : AreSameAs f s Q xs v.items = elim c.in_ok-parts.ensures.value [ inl h ↦ same_list f s Q xs v.items (ap (λ u. u.items) h) | inr h ↦ copies_same f s Q _ xs v.items g.met.P.Part.copied h.0 ] in
+    let same : AreSameAs f s Q xs v.items =
+    elim c.in_ok-parts.ensures.value [
+      | inl h ↦ same_list f s Q xs v.items (ap (λ u. u.items) h)
+      | inr h ↦ copies_same f s Q _ xs
+          v.items g.met.P.Part.copied h.0
+    ] in
     let zs = c.push_down.new.parts in
-    let pushed : nodes_of (map f zs) ≡ with_pending p ns = c.push_down.ensures.nodes ∙ ap (λ (ps : List g.row.P.Denot). with_pending p (nodes_of (map f ps))) c.deref_mut.ensures.value ∙ ap (λ (ls : List (List Node)). with_pending p (nodes_of ls)) same.nodes in
-    let kept = with_items_is v zs (omega (arith, c.push_down.ensures.len, ap length c.deref_mut.ensures.value, v.ok.0)) in
+    let pushed : nodes_of (map f zs) ≡ with_pending p ns = c.push_down.ensures.nodes ∙
+    ap (λ (ps : List g.row.P.Denot). with_pending p (nodes_of (map f ps)))
+    c.deref_mut.ensures.value ∙
+    ap (λ (ls : List (List Node)). with_pending p (nodes_of ls)) same.nodes in
+    let kept = with_items_is v zs (omega
+    (arith, c.push_down.ensures.len, ap length c.deref_mut.ensures.value, v.ok.0)) in
     let entered = c.deref_mut-2.ensures.value ∙ kept in
-    record { parts = subst (AreParts f Q) (sym entered) (record { whole = c.push_down.ensures.whole; sorted = subst IsSorted (sym pushed) c.requires.sorted }) }
+    record {
+      parts = subst (AreParts f Q) (sym entered)
+          (record {
+            whole = c.push_down.ensures.whole;
+            sorted = subst IsSorted (sym pushed) c.requires.sorted;
+          });
+    }
 
 pub returns-in_err-parts-clause-told : goal.returns-in_err-parts-clause-told
 returns-in_err-parts-clause-told g c =
@@ -52,8 +77,15 @@ returns-in_err-parts-clause-told g c =
     let xs = (arc_value c.args.self.now.parts).items in
     let ys = (arc_value c.make_mut.follows.lender-at-none).items in
     let left = on_err c.make_mut.result _ _ c.in_err-parts.was c.make_mut.follows.holds-at-none in
-    let same : AreSameAs f s Q xs ys = elim left [ inl h ↦ same_list f s Q xs ys (ap (λ u. u.items) h) | inr h ↦ copies_same f s Q _ xs ys g.met.P.Part.copied h.0 ] in
-    refused_told c.from_residual.result _ _ _ _ c.args.add.now c.args.room c.from_residual.ensures.0 (ap (λ (ls : List (List Node)). with_pending p (nodes_of ls)) same.nodes) (ap (λ (ss : List (List ℕ)). sizes_of ss) same.sizes)
+    let same : AreSameAs f s Q xs ys =
+    elim left [
+      | inl h ↦ same_list f s Q xs ys (ap (λ u. u.items) h)
+      | inr h ↦ copies_same f s Q
+          _ xs ys g.met.P.Part.copied h.0
+    ] in
+    refused_told c.from_residual.result _ _ _ _ c.args.add.now c.args.room c.from_residual.ensures.0
+    (ap (λ (ls : List (List Node)). with_pending p (nodes_of ls)) same.nodes)
+    (ap (λ (ss : List (List ℕ)). sizes_of ss) same.sizes)
 
 pub returns-in_err-parts-clause-whole : goal.returns-in_err-parts-clause-whole
 returns-in_err-parts-clause-whole g c =
@@ -63,7 +95,12 @@ returns-in_err-parts-clause-whole g c =
     let xs = (arc_value c.args.self.now.parts).items in
     let ys = (arc_value c.make_mut.follows.lender-at-none).items in
     let left = on_err c.make_mut.result _ _ c.in_err-parts.was c.make_mut.follows.holds-at-none in
-    let same : AreSameAs f s Q xs ys = elim left [ inl h ↦ same_list f s Q xs ys (ap (λ u. u.items) h) | inr h ↦ copies_same f s Q _ xs ys g.met.P.Part.copied h.0 ] in
+    let same : AreSameAs f s Q xs ys =
+    elim left [
+      | inl h ↦ same_list f s Q xs ys (ap (λ u. u.items) h)
+      | inr h ↦ copies_same f s Q
+          _ xs ys g.met.P.Part.copied h.0
+    ] in
     fork_same f s Q c.args.self.now.summary xs ys same c.requires.whole
 
 pub returns-clause-told : goal.returns-clause-told
@@ -75,25 +112,55 @@ returns-clause-told g c =
     let xs = (arc_value c.args.self.now.parts).items in
     let ns : List Node = nodes_of (map f xs) in
     let v = c.in_ok-parts.parts.now in
-    let same : AreSameAs f s Q xs v.items = elim c.in_ok-parts.ensures.value [ inl h ↦ same_list f s Q xs v.items (ap (λ u. u.items) h) | inr h ↦ copies_same f s Q _ xs v.items g.met.P.Part.copied h.0 ] in
+    let same : AreSameAs f s Q xs v.items =
+    elim c.in_ok-parts.ensures.value [
+      | inl h ↦ same_list f s Q xs v.items (ap (λ u. u.items) h)
+      | inr h ↦ copies_same f s Q _ xs
+          v.items g.met.P.Part.copied h.0
+    ] in
     let zs = c.push_down.new.parts in
-    let pushed : nodes_of (map f zs) ≡ with_pending p ns = c.push_down.ensures.nodes ∙ ap (λ (ps : List g.row.P.Denot). with_pending p (nodes_of (map f ps))) c.deref_mut.ensures.value ∙ ap (λ (ls : List (List Node)). with_pending p (nodes_of ls)) same.nodes in
-    let kept = with_items_is v zs (omega (arith, c.push_down.ensures.len, ap length c.deref_mut.ensures.value, v.ok.0)) in
+    let pushed : nodes_of (map f zs) ≡ with_pending p ns = c.push_down.ensures.nodes ∙
+    ap (λ (ps : List g.row.P.Denot). with_pending p (nodes_of (map f ps)))
+    c.deref_mut.ensures.value ∙
+    ap (λ (ls : List (List Node)). with_pending p (nodes_of ls)) same.nodes in
+    let kept = with_items_is v zs (omega
+    (arith, c.push_down.ensures.len, ap length c.deref_mut.ensures.value, v.ok.0)) in
     let ws = c.add_within-made.new.parts in
     let new : List Node = nodes_of (map f ws) in
     let a : Addend = c.args.add.now in
     let r = c.add_within-made.result in
     let entered = c.deref_mut-2.ensures.value ∙ kept in
-    let kept_now = with_items_is (with_items v zs) ws (omega (arith, c.add_within-made.ensures.len, ap length entered, c.push_down.ensures.len, ap length c.deref_mut.ensures.value, v.ok.0)) in
-    let held = ap (λ u. u.items) (c.make_mut.follows.holds (with_items (with_items v zs) ws) (search rules)) ∙ kept_now in
-    let sizes : sizes_of (map s zs) ≡ sizes_of (map s xs) = ap (λ (ss : List (List ℕ)). sizes_of ss) (c.push_down.ensures.sizes ∙ ap (map s) c.deref_mut.ensures.value ∙ same.sizes) in
-    let told : IsAddTold (with_pending p ns) new (sizes_of (map s xs)) (sizes_of (map s ws)) a c.args.room r =
-    subst (λ (ms : List Node). IsAddTold ms new (sizes_of (map s xs)) (sizes_of (map s ws)) a c.args.room r) pushed
-    (subst (λ (ss : List ℕ). IsAddTold (nodes_of (map f zs)) new ss (sizes_of (map s ws)) a c.args.room r) sizes
-    (subst (λ (ps : List g.row.P.Denot). IsAddTold (nodes_of (map f ps)) new (sizes_of (map s ps)) (sizes_of (map s ws)) a c.args.room r) entered c.add_within-made.ensures.told)) in
+    let kept_now = with_items_is (with_items v zs) ws
+    (omega (
+      arith,
+      c.add_within-made.ensures.len,
+      ap length entered,
+      c.push_down.ensures.len,
+      ap length c.deref_mut.ensures.value,
+      v.ok.0,
+    )) in
+    let held = ap (λ u. u.items) (c.make_mut.follows.holds (with_items (with_items v zs) ws)
+    (search rules)) ∙ kept_now in
+    let sizes : sizes_of (map s zs) ≡ sizes_of (map s xs) =
+    ap (λ (ss : List (List ℕ)). sizes_of ss)
+    (c.push_down.ensures.sizes ∙ ap (map s) c.deref_mut.ensures.value ∙ same.sizes) in
+    let told : IsAddTold (with_pending p ns) new (sizes_of (map s xs)) (sizes_of (map s ws)) a
+    c.args.room r =
+    subst (λ (ms : List Node). IsAddTold ms new (sizes_of (map s xs)) (sizes_of (map s ws)) a
+    c.args.room r) pushed
+    (subst (λ (ss : List ℕ). IsAddTold (nodes_of (map f zs)) new ss (sizes_of (map s ws)) a
+    c.args.room r) sizes
+    (subst (λ (ps : List g.row.P.Denot). IsAddTold (nodes_of (map f ps)) new (sizes_of (map s ps))
+    (sizes_of (map s ws)) a c.args.room r) entered c.add_within-made.ensures.told)) in
     let none : c.heed.new.self.pending ≡ None = c.heed.ensures.pending in
-    subst (λ (o : Option OwnedTime). IsAddTold (with_pending p ns) (with_pending o (nodes_of (map f (arc_value (c.make_mut.follows.lender (with_items (with_items v zs) ws))).items))) (sizes_of (map s xs)) (sizes_of (map s (arc_value (c.make_mut.follows.lender (with_items (with_items v zs) ws))).items)) a c.args.room r) (sym none)
-    (subst (λ (ps : List g.row.P.Denot). IsAddTold (with_pending p ns) (nodes_of (map f ps)) (sizes_of (map s xs)) (sizes_of (map s ps)) a c.args.room r) (sym held) told)
+    subst (λ (o : Option OwnedTime). IsAddTold (with_pending p ns)
+    (with_pending o (nodes_of (map f
+    (arc_value (c.make_mut.follows.lender (with_items (with_items v zs) ws))).items)))
+    (sizes_of (map s xs)) (sizes_of
+    (map s (arc_value (c.make_mut.follows.lender (with_items (with_items v zs) ws))).items)) a
+    c.args.room r) (sym none)
+    (subst (λ (ps : List g.row.P.Denot). IsAddTold (with_pending p ns) (nodes_of (map f ps))
+    (sizes_of (map s xs)) (sizes_of (map s ps)) a c.args.room r) (sym held) told)
 
 pub returns-clause-whole : goal.returns-clause-whole
 returns-clause-whole g c =
@@ -105,31 +172,79 @@ returns-clause-whole g c =
     let xs = (arc_value c.args.self.now.parts).items in
     let ns : List Node = nodes_of (map f xs) in
     let v = c.in_ok-parts.parts.now in
-    let same : AreSameAs f s Q xs v.items = elim c.in_ok-parts.ensures.value [ inl h ↦ same_list f s Q xs v.items (ap (λ u. u.items) h) | inr h ↦ copies_same f s Q _ xs v.items g.met.P.Part.copied h.0 ] in
+    let same : AreSameAs f s Q xs v.items =
+    elim c.in_ok-parts.ensures.value [
+      | inl h ↦ same_list f s Q xs v.items (ap (λ u. u.items) h)
+      | inr h ↦ copies_same f s Q _ xs
+          v.items g.met.P.Part.copied h.0
+    ] in
     let a : Addend = c.args.add.now in
     let r = c.add_within-made.result in
     let zs = c.push_down.new.parts in
-    let pushed : nodes_of (map f zs) ≡ with_pending p ns = c.push_down.ensures.nodes ∙ ap (λ (ps : List g.row.P.Denot). with_pending p (nodes_of (map f ps))) c.deref_mut.ensures.value ∙ ap (λ (ls : List (List Node)). with_pending p (nodes_of ls)) same.nodes in
-    let kept = with_items_is v zs (omega (arith, c.push_down.ensures.len, ap length c.deref_mut.ensures.value, v.ok.0)) in
+    let pushed : nodes_of (map f zs) ≡ with_pending p ns = c.push_down.ensures.nodes ∙
+    ap (λ (ps : List g.row.P.Denot). with_pending p (nodes_of (map f ps)))
+    c.deref_mut.ensures.value ∙
+    ap (λ (ls : List (List Node)). with_pending p (nodes_of ls)) same.nodes in
+    let kept = with_items_is v zs (omega
+    (arith, c.push_down.ensures.len, ap length c.deref_mut.ensures.value, v.ok.0)) in
     let ws = c.add_within-made.new.parts in
     let new : List Node = nodes_of (map f ws) in
     let entered = c.deref_mut-2.ensures.value ∙ kept in
-    let kept_now = with_items_is (with_items v zs) ws (omega (arith, c.add_within-made.ensures.len, ap length entered, c.push_down.ensures.len, ap length c.deref_mut.ensures.value, v.ok.0)) in
-    let long : length ws ≡ length xs = omega (arith, c.add_within-made.ensures.len, ap length entered, c.push_down.ensures.len, ap length c.deref_mut.ensures.value, same.long) in
-    let told : IsAddTold (with_pending p ns) new (sizes_of (map s zs)) (sizes_of (map s ws)) a c.args.room r =
-    subst (λ (ms : List Node). IsAddTold ms new (sizes_of (map s zs)) (sizes_of (map s ws)) a c.args.room r) pushed
-    (subst (λ (ps : List g.row.P.Denot). IsAddTold (nodes_of (map f ps)) new (sizes_of (map s ps)) (sizes_of (map s ws)) a c.args.room r) entered c.add_within-made.ensures.told) in
-    let order : IsInOrder a.first a.second = subst (λ (b : Addend). IsInOrder b.first b.second) c.add.view_is c.add.invariant.3 in
-    let up : Lt a.from a.to = subst (λ (b : Addend). Lt b.from b.to) c.add.view_is c.add.invariant.0 in
+    let kept_now = with_items_is (with_items v zs) ws
+    (omega (
+      arith,
+      c.add_within-made.ensures.len,
+      ap length entered,
+      c.push_down.ensures.len,
+      ap length c.deref_mut.ensures.value,
+      v.ok.0,
+    )) in
+    let long : length ws ≡ length xs =
+    omega (
+      arith,
+      c.add_within-made.ensures.len,
+      ap length entered,
+      c.push_down.ensures.len,
+      ap length c.deref_mut.ensures.value,
+      same.long,
+    ) in
+    let told : IsAddTold (with_pending p ns) new (sizes_of (map s zs)) (sizes_of (map s ws)) a
+    c.args.room r =
+    subst (λ (ms : List Node). IsAddTold ms new (sizes_of (map s zs)) (sizes_of (map s ws)) a
+    c.args.room r) pushed
+    (subst (λ (ps : List g.row.P.Denot). IsAddTold (nodes_of (map f ps)) new (sizes_of (map s ps))
+    (sizes_of (map s ws)) a c.args.room r) entered c.add_within-made.ensures.told) in
+    let order : IsInOrder a.first a.second =
+    subst (λ (b : Addend). IsInOrder b.first b.second) c.add.view_is c.add.invariant.3 in
+    let up : Lt a.from a.to = subst (λ (b : Addend). Lt b.from b.to) c.add.view_is
+    c.add.invariant.0 in
     let seen = c.deref.ensures.value ∙ kept_now in
     let seen_start = c.deref-2.ensures.value ∙ kept_now in
-    let start : IsCutNumber c.start_number.result (start_of new) = subst (λ (ps : List g.row.P.Denot). IsCutNumber c.start_number.result (start_of (nodes_of (map f ps)))) seen_start c.start_number.ensures in
+    let start : IsCutNumber c.start_number.result (start_of new) =
+    subst (λ (ps : List g.row.P.Denot). IsCutNumber c.start_number.result
+    (start_of (nodes_of (map f ps)))) seen_start c.start_number.ensures in
     let reached : c.first_starts_below-reached.result ≡ is_below (start_of new) a.to =
-    c.first_starts_below-reached.ensures ∙ ap (λ (ps : List g.row.P.Denot). is_below (start_of (nodes_of (map f ps))) c.add.inside.to.now) seen ∙ ap (λ (b : Addend). is_below (start_of new) b.to) c.add.view_is in
+    c.first_starts_below-reached.ensures ∙
+    ap (λ (ps : List g.row.P.Denot). is_below (start_of (nodes_of (map f ps)))
+    c.add.inside.to.now) seen ∙
+    ap (λ (b : Addend). is_below (start_of new) b.to) c.add.view_is in
     let value : c.add.inside.value ≡ a.value = ap (λ (b : Addend). b.value) c.add.view_is in
-    let after_it = told_added r sum.start c.start_number.result sum.joint (with_pending p ns) new _ _ a c.args.room c.requires.sorted order up start told (told_pushed sum.start sum.joint p ns c.requires.whole.told) in
+    let after_it = told_added r sum.start c.start_number.result sum.joint (with_pending p ns) new _
+    _ a c.args.room c.requires.sorted order up start told
+    (told_pushed sum.start sum.joint p ns c.requires.whole.told) in
     let few = c.requires.whole.parts in
-    subst (λ (ps : List g.row.P.Denot). IsForkOf f s Q c.heed.new.self ps) (sym (ap (λ u. u.items) (c.make_mut.follows.holds (with_items (with_items v zs) ws) (search rules)) ∙ kept_now))
-    (fork_whole f s Q c.heed.new.self ws g.met.P.Part.counted (record { each = c.add_within-made.ensures.whole; some = subst (λ (n : ℕ). 1 ≤ n) (sym long) few.some; few = subst (λ (n : ℕ). n ≤ 64) (sym long) few.few })
-    (told_as c.start_number.result c.heed.new.self.start _ c.heed.new.self.joint None c.heed.new.self.pending new c.heed.ensures.start
-    (c.heed.ensures.joint ∙ ap (λ (b : Bool). joint_after r b c.add.inside.value sum.joint) reached ∙ ap (λ (w : OwnedTime). joint_after r (is_below (start_of new) a.to) w sum.joint) value) c.heed.ensures.pending after_it))
+    subst (λ (ps : List g.row.P.Denot). IsForkOf f s Q c.heed.new.self ps)
+    (sym (ap (λ u. u.items) (c.make_mut.follows.holds (with_items (with_items v zs) ws)
+    (search rules)) ∙ kept_now))
+    (fork_whole f s Q c.heed.new.self ws g.met.P.Part.counted
+    (record {
+      each = c.add_within-made.ensures.whole;
+      some = subst (λ (n : ℕ). 1 ≤ n) (sym long) few.some;
+      few =
+          subst (λ (n : ℕ). n ≤ 64) (sym long) few.few;
+    })
+    (told_as c.start_number.result c.heed.new.self.start _ c.heed.new.self.joint None
+    c.heed.new.self.pending new c.heed.ensures.start
+    (c.heed.ensures.joint ∙ ap (λ (b : Bool). joint_after r b c.add.inside.value sum.joint) reached
+    ∙ ap (λ (w : OwnedTime). joint_after r (is_below (start_of new) a.to) w sum.joint) value)
+    c.heed.ensures.pending after_it))

@@ -7,12 +7,13 @@ use Rattle.std.proofs.lemmas.List.{with_items_is}
 use Rattle.tsc_time.specs.OwnedTime.{OwnedTime}
 use Rattle.tsc_time.specs.Joint.{joint}
 use Rattle.tsc_span.specs.Span.{Cut, is_below}
-use Rattle.tsc_page_base.specs.Nodes.{Node}
+use Rattle.tsc_page_nodes.specs.Nodes.{Node}
+use Rattle.tsc_page_nodes.specs.Additions.{Addend}
 use Rattle.tsc_page_tree.specs.Leaves.{nodes_of, start_of, AreParts}
-use Rattle.tsc_page_tree.specs.Pending.{with_pending, Addend}
+use Rattle.tsc_page_tree.specs.Pending.{with_pending}
 use Rattle.tsc_page_tree.specs.Trees.{IsForkOf}
 use Rattle.tsc_page_tree.specs.Across.{IsAcrossTold}
-use Rattle.tsc_page_base.proofs.CutOrder.{Lt}
+use Rattle.tsc_page_nodes.proofs.CutOrder.{Lt}
 use Rattle.tsc_page_tree.proofs.Pending.{pending-start}
 use Rattle.tsc_page_tree.proofs.TreeAcross.{across_pending, told_across_low, told_across_high}
 use Rattle.tsc_page_tree.proofs.Wholes.{fork_whole, fork_parts, told_as}
@@ -21,19 +22,26 @@ use Rattle.tsc_page_tree.proofs.fork.ForkPart.raise_across.Goals as goal
 pub raise_two-raised-requires-clause-parts_low : goal.raise_two-raised-requires-clause-parts_low
 raise_two-raised-requires-clause-parts_low g c =
     let is = c.deref_mut.ensures.value ∙ ap (λ u. u.items) c.in-Some.ensures.value in
-    subst (AreParts g.P.Part.nodes g.P.Part.IsWhole) (sym is) (fork_parts g.P.Part.nodes g.P.Part.sizes g.P.Part.IsWhole c.args.low.now.summary (arc_value c.args.low.now.parts).items c.requires.whole_low c.requires.sorted_low)
+    subst (AreParts g.P.Part.nodes g.P.Part.IsWhole) (sym is)
+    (fork_parts g.P.Part.nodes g.P.Part.sizes g.P.Part.IsWhole c.args.low.now.summary
+    (arc_value c.args.low.now.parts).items c.requires.whole_low c.requires.sorted_low)
 
 pub raise_two-raised-requires-clause-parts_high : goal.raise_two-raised-requires-clause-parts_high
 raise_two-raised-requires-clause-parts_high g c =
     let is = c.deref_mut-2.ensures.value ∙ ap (λ u. u.items) c.in-Some-get_mut.ensures.value in
-    subst (AreParts g.P.Part.nodes g.P.Part.IsWhole) (sym is) (fork_parts g.P.Part.nodes g.P.Part.sizes g.P.Part.IsWhole c.args.high.now.summary (arc_value c.args.high.now.parts).items c.requires.whole_high c.requires.sorted_high)
+    subst (AreParts g.P.Part.nodes g.P.Part.IsWhole) (sym is)
+    (fork_parts g.P.Part.nodes g.P.Part.sizes g.P.Part.IsWhole c.args.high.now.summary
+    (arc_value c.args.high.now.parts).items c.requires.whole_high c.requires.sorted_high)
 
 pub raise_two-raised-requires-clause-reaches : goal.raise_two-raised-requires-clause-reaches
 raise_two-raised-requires-clause-reaches g c =
     let read = g.P.Part.nodes in
     let is = c.deref_mut-2.ensures.value ∙ ap (λ u. u.items) c.in-Some-get_mut.ensures.value in
     let to : Cut = c.args.add.now.to in
-    ap (λ (xs : List g.row.P.Denot). is_below (start_of (nodes_of (map read xs))) to) is ∙ ap (λ (z : Cut). is_below z to) (sym (pending-start c.args.high.now.summary.pending (nodes_of (map read (arc_value c.args.high.now.parts).items)))) ∙ c.requires.reaches
+    ap (λ (xs : List g.row.P.Denot). is_below (start_of (nodes_of (map read xs))) to) is ∙
+    ap (λ (z : Cut). is_below z to)
+    (sym (pending-start c.args.high.now.summary.pending
+    (nodes_of (map read (arc_value c.args.high.now.parts).items)))) ∙ c.requires.reaches
 
 pub returns-clause-told : goal.returns-clause-told
 returns-clause-told g c =
@@ -54,15 +62,36 @@ returns-clause-told g c =
     let r = c.raise_two-raised.result in
     let is_low = c.deref_mut.ensures.value ∙ ap (λ u. u.items) c.in-Some.ensures.value in
     let is_high = c.deref_mut-2.ensures.value ∙ ap (λ u. u.items) c.in-Some-get_mut.ensures.value in
-    let kept_low = with_items_is v xl (omega (arith, c.raise_two-raised.ensures.len_low, ap length c.deref_mut.ensures.value, v.ok.0)) in
-    let kept_high = with_items_is w xh (omega (arith, c.raise_two-raised.ensures.len_high, ap length c.deref_mut-2.ensures.value, w.ok.0)) in
+    let kept_low = with_items_is v xl
+    (omega (
+      arith,
+      c.raise_two-raised.ensures.len_low,
+      ap length c.deref_mut.ensures.value,
+      v.ok.0,
+    )) in
+    let kept_high = with_items_is w xh
+    (omega (
+      arith,
+      c.raise_two-raised.ensures.len_high,
+      ap length c.deref_mut-2.ensures.value,
+      w.ok.0,
+    )) in
     let across : IsAcrossTold ns nl ms nh a r =
-    subst (λ (zs : List g.row.P.Denot). IsAcrossTold (nodes_of (map f zs)) nl ms nh a r) is_low (subst (λ (zs : List g.row.P.Denot). IsAcrossTold (nodes_of (map f c.deref_mut.result.now)) nl (nodes_of (map f zs)) nh a r) is_high c.raise_two-raised.ensures.told) in
+    subst (λ (zs : List g.row.P.Denot). IsAcrossTold (nodes_of (map f zs)) nl ms nh a r) is_low
+    (subst (λ (zs : List g.row.P.Denot). IsAcrossTold (nodes_of (map f c.deref_mut.result.now))
+    nl (nodes_of (map f zs)) nh a r) is_high c.raise_two-raised.ensures.told) in
     let told = across_pending r ns nl ms nh a p q across in
-    let first = ap (λ (o : Option OwnedTime). with_pending o (nodes_of (map f (with_items v xl).items))) c.reach.ensures.pending ∙ ap (λ (is : List g.row.P.Denot). with_pending p (nodes_of (map f is))) kept_low in
-    let second = ap (λ (o : Option OwnedTime). with_pending o (nodes_of (map f (with_items w xh).items))) c.reach-2.ensures.pending ∙ ap (λ (is : List g.row.P.Denot). with_pending q (nodes_of (map f is))) kept_high in
-    subst (λ (ks : List Node). IsAcrossTold (with_pending p ns) ks (with_pending q ms) (with_pending c.reach-2.new.self.pending (nodes_of (map f (with_items w xh).items))) a r) (sym first)
-    (subst (λ (ks : List Node). IsAcrossTold (with_pending p ns) (with_pending p nl) (with_pending q ms) ks a r) (sym second) told)
+    let first = ap (λ (o : Option OwnedTime). with_pending o
+    (nodes_of (map f (with_items v xl).items))) c.reach.ensures.pending ∙
+    ap (λ (is : List g.row.P.Denot). with_pending p (nodes_of (map f is))) kept_low in
+    let second = ap (λ (o : Option OwnedTime). with_pending o
+    (nodes_of (map f (with_items w xh).items))) c.reach-2.ensures.pending ∙
+    ap (λ (is : List g.row.P.Denot). with_pending q (nodes_of (map f is))) kept_high in
+    subst (λ (ks : List Node). IsAcrossTold (with_pending p ns) ks (with_pending q ms)
+    (with_pending c.reach-2.new.self.pending (nodes_of (map f (with_items w xh).items))) a r)
+    (sym first)
+    (subst (λ (ks : List Node). IsAcrossTold (with_pending p ns) (with_pending p nl)
+    (with_pending q ms) ks a r) (sym second) told)
 
 pub returns-clause-low : goal.returns-clause-low
 returns-clause-low g c =
@@ -83,17 +112,37 @@ returns-clause-low g c =
     let r = c.raise_two-raised.result in
     let is_low = c.deref_mut.ensures.value ∙ ap (λ u. u.items) c.in-Some.ensures.value in
     let is_high = c.deref_mut-2.ensures.value ∙ ap (λ u. u.items) c.in-Some-get_mut.ensures.value in
-    let kept_low = with_items_is v xl (omega (arith, c.raise_two-raised.ensures.len_low, ap length c.deref_mut.ensures.value, v.ok.0)) in
+    let kept_low = with_items_is v xl
+    (omega (
+      arith,
+      c.raise_two-raised.ensures.len_low,
+      ap length c.deref_mut.ensures.value,
+      v.ok.0,
+    )) in
     let across : IsAcrossTold ns nl ms nh a r =
-    subst (λ (zs : List g.row.P.Denot). IsAcrossTold (nodes_of (map f zs)) nl ms nh a r) is_low (subst (λ (zs : List g.row.P.Denot). IsAcrossTold (nodes_of (map f c.deref_mut.result.now)) nl (nodes_of (map f zs)) nh a r) is_high c.raise_two-raised.ensures.told) in
+    subst (λ (zs : List g.row.P.Denot). IsAcrossTold (nodes_of (map f zs)) nl ms nh a r) is_low
+    (subst (λ (zs : List g.row.P.Denot). IsAcrossTold (nodes_of (map f c.deref_mut.result.now))
+    nl (nodes_of (map f zs)) nh a r) is_high c.raise_two-raised.ensures.told) in
     let sum = c.args.low.now.summary in
-    let up : Lt a.from a.to = subst (λ (b : Addend). Lt b.from b.to) c.add.view_is c.add.invariant.0 in
-    let long : length xl ≡ length xs = omega (arith, c.raise_two-raised.ensures.len_low, ap length is_low) in
+    let up : Lt a.from a.to = subst (λ (b : Addend). Lt b.from b.to) c.add.view_is
+    c.add.invariant.0 in
+    let long : length xl ≡ length xs =
+    omega (arith, c.raise_two-raised.ensures.len_low, ap length is_low) in
     let few = c.requires.whole_low.parts in
     subst (λ (is : List g.row.P.Denot). IsForkOf f s Q c.reach.new.self is) (sym kept_low)
-    (fork_whole f s Q c.reach.new.self xl g.met.P.Part.counted (record { each = c.raise_two-raised.ensures.low; some = subst (λ (n : ℕ). 1 ≤ n) (sym long) few.some; few = subst (λ (n : ℕ). n ≤ 64) (sym long) few.few })
-    (told_as sum.start c.reach.new.self.start _ c.reach.new.self.joint _ c.reach.new.self.pending nl c.reach.ensures.start (c.reach.ensures.joint ∙ ap (λ (b : Addend). cond r (joint sum.joint (b.value ∷ [])) sum.joint) c.add.view_is) c.reach.ensures.pending
-    (told_across_low r sum.start sum.joint ns nl ms nh a p c.requires.sorted_low up across c.requires.whole_low.told)))
+    (fork_whole f s Q c.reach.new.self xl g.met.P.Part.counted
+    (record {
+      each = c.raise_two-raised.ensures.low;
+      some = subst (λ (n : ℕ). 1 ≤ n) (sym long) few.some;
+      few =
+          subst (λ (n : ℕ). n ≤ 64) (sym long) few.few;
+    })
+    (told_as sum.start c.reach.new.self.start _ c.reach.new.self.joint _ c.reach.new.self.pending nl
+    c.reach.ensures.start (c.reach.ensures.joint ∙
+    ap (λ (b : Addend). cond r (joint sum.joint (b.value ∷ [])) sum.joint) c.add.view_is)
+    c.reach.ensures.pending
+    (told_across_low r sum.start sum.joint ns nl ms nh a p c.requires.sorted_low up across
+    c.requires.whole_low.told)))
 
 pub returns-clause-high : goal.returns-clause-high
 returns-clause-high g c =
@@ -114,14 +163,35 @@ returns-clause-high g c =
     let r = c.raise_two-raised.result in
     let is_low = c.deref_mut.ensures.value ∙ ap (λ u. u.items) c.in-Some.ensures.value in
     let is_high = c.deref_mut-2.ensures.value ∙ ap (λ u. u.items) c.in-Some-get_mut.ensures.value in
-    let kept_high = with_items_is w xh (omega (arith, c.raise_two-raised.ensures.len_high, ap length c.deref_mut-2.ensures.value, w.ok.0)) in
+    let kept_high = with_items_is w xh
+    (omega (
+      arith,
+      c.raise_two-raised.ensures.len_high,
+      ap length c.deref_mut-2.ensures.value,
+      w.ok.0,
+    )) in
     let across : IsAcrossTold ns nl ms nh a r =
-    subst (λ (zs : List g.row.P.Denot). IsAcrossTold (nodes_of (map f zs)) nl ms nh a r) is_low (subst (λ (zs : List g.row.P.Denot). IsAcrossTold (nodes_of (map f c.deref_mut.result.now)) nl (nodes_of (map f zs)) nh a r) is_high c.raise_two-raised.ensures.told) in
+    subst (λ (zs : List g.row.P.Denot). IsAcrossTold (nodes_of (map f zs)) nl ms nh a r) is_low
+    (subst (λ (zs : List g.row.P.Denot). IsAcrossTold (nodes_of (map f c.deref_mut.result.now))
+    nl (nodes_of (map f zs)) nh a r) is_high c.raise_two-raised.ensures.told) in
     let sum = c.args.high.now.summary in
-    let up : Lt a.from a.to = subst (λ (b : Addend). Lt b.from b.to) c.add.view_is c.add.invariant.0 in
-    let long : length xh ≡ length ys = omega (arith, c.raise_two-raised.ensures.len_high, ap length is_high) in
+    let up : Lt a.from a.to = subst (λ (b : Addend). Lt b.from b.to) c.add.view_is
+    c.add.invariant.0 in
+    let long : length xh ≡ length ys =
+    omega (arith, c.raise_two-raised.ensures.len_high, ap length is_high) in
     let few = c.requires.whole_high.parts in
     subst (λ (is : List g.row.P.Denot). IsForkOf f s Q c.reach-2.new.self is) (sym kept_high)
-    (fork_whole f s Q c.reach-2.new.self xh g.met.P.Part.counted (record { each = c.raise_two-raised.ensures.high; some = subst (λ (n : ℕ). 1 ≤ n) (sym long) few.some; few = subst (λ (n : ℕ). n ≤ 64) (sym long) few.few })
-    (told_as sum.start c.reach-2.new.self.start _ c.reach-2.new.self.joint _ c.reach-2.new.self.pending nh c.reach-2.ensures.start (c.reach-2.ensures.joint ∙ ap (λ (b : Addend). cond r (joint sum.joint (b.value ∷ [])) sum.joint) c.add.view_is) c.reach-2.ensures.pending
-    (told_across_high r sum.start sum.joint ns nl ms nh a q c.requires.sorted_high up c.requires.reaches across c.requires.whole_high.told)))
+    (fork_whole f s Q c.reach-2.new.self xh g.met.P.Part.counted
+    (record {
+      each = c.raise_two-raised.ensures.high;
+      some = subst (λ (n : ℕ). 1 ≤ n) (sym long) few.some;
+      few =
+          subst (λ (n : ℕ). n ≤ 64) (sym long) few.few;
+    })
+    (told_as sum.start c.reach-2.new.self.start _ c.reach-2.new.self.joint _
+    c.reach-2.new.self.pending nh c.reach-2.ensures.start
+    (c.reach-2.ensures.joint ∙
+    ap (λ (b : Addend). cond r (joint sum.joint (b.value ∷ [])) sum.joint) c.add.view_is)
+    c.reach-2.ensures.pending
+    (told_across_high r sum.start sum.joint ns nl ms nh a q c.requires.sorted_high up
+    c.requires.reaches across c.requires.whole_high.told)))

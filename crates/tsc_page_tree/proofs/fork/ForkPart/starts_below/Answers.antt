@@ -10,11 +10,17 @@ use Rattle.tsc_page_tree.proofs.fork.ForkPart.starts_below.Goals as goal
 pub returns-in-Some : goal.returns-in-Some
 returns-in-Some g c =
     let s = c.args.self.now.summary in
-    c.in-Some.ensures.1 _ (told_start s.start s.joint s.pending (nodes_of (map g.P.Part.nodes (arc_value c.args.self.now.parts).items)) c.requires.whole.told)
+    c.in-Some.ensures.1 _ (told_start s.start s.joint s.pending
+    (nodes_of (map g.P.Part.nodes (arc_value c.args.self.now.parts).items))
+    c.requires.whole.told)
 
 pub returns-in-None : goal.returns-in-None
 returns-in-None g c =
     let read = g.P.Part.nodes in
     let cut : Cut = c.args.cut.now in
-    c.first_starts_below.ensures ∙ ap (λ (xs : List g.row.P.Denot). is_below (start_of (nodes_of (map read xs))) cut) (c.deref-in-None.ensures.value ∙ ap (λ v. v.items) c.deref.ensures)
-    ∙ ap (λ (x : Cut). is_below x cut) (sym (pending-start c.args.self.now.summary.pending (nodes_of (map read (arc_value c.args.self.now.parts).items))))
+    c.first_starts_below.ensures ∙
+    ap (λ (xs : List g.row.P.Denot). is_below (start_of (nodes_of (map read xs))) cut)
+    (c.deref-in-None.ensures.value ∙ ap (λ v. v.items) c.deref.ensures)
+    ∙ ap (λ (x : Cut). is_below x cut)
+    (sym (pending-start c.args.self.now.summary.pending
+    (nodes_of (map read (arc_value c.args.self.now.parts).items))))

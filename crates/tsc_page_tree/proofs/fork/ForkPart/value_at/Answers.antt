@@ -4,8 +4,8 @@ use Rattle.std.specs.Prelude.{Option}
 use Rattle.std.specs.Arc.{arc_value}
 use Rattle.tsc_time.specs.OwnedTime.{OwnedTime}
 use Rattle.tsc_span.specs.Span.{KeyBytes, Cut, before, after, point, is_below}
-use Rattle.tsc_page_base.specs.Nodes.{Node, answer_of}
-use Rattle.tsc_page_base.proofs.CutOrder.{before-after}
+use Rattle.tsc_page_nodes.specs.Nodes.{Node, answer_of}
+use Rattle.tsc_page_nodes.proofs.CutOrder.{before-after}
 use Rattle.tsc_page_tree.specs.Leaves.{nodes_of, start_of, AreParts}
 use Rattle.tsc_page_tree.specs.Pending.{with_pending, seen_with}
 use Rattle.tsc_page_tree.proofs.Pending.{sorted_without, pending-start, pending_answer}
@@ -15,7 +15,11 @@ use Rattle.tsc_page_tree.proofs.fork.ForkPart.value_at.Goals as goal
 pub value_at-below-requires : goal.value_at-below-requires
 value_at-below-requires g c =
     let is = c.deref-2.ensures.value ∙ ap (λ v. v.items) c.deref.ensures in
-    record { parts = subst (AreParts g.P.Part.nodes g.P.Part.IsWhole) (sym is) (fork_parts g.P.Part.nodes g.P.Part.sizes g.P.Part.IsWhole c.args.self.now.summary (arc_value c.args.self.now.parts).items c.requires.whole c.requires.sorted) }
+    record {
+      parts = subst (AreParts g.P.Part.nodes g.P.Part.IsWhole) (sym is)
+          (fork_parts g.P.Part.nodes g.P.Part.sizes g.P.Part.IsWhole c.args.self.now.summary
+          (arc_value c.args.self.now.parts).items c.requires.whole c.requires.sorted);
+    }
 
 pub returns-in-None : goal.returns-in-None
 returns-in-None g c =
@@ -23,7 +27,9 @@ returns-in-None g c =
     let is = c.deref-2.ensures.value ∙ ap (λ v. v.items) c.deref.ensures in
     let ns : List Node = nodes_of (map read (arc_value c.args.self.now.parts).items) in
     let k : KeyBytes = c.args.key.now in
-    c.value_at-below.ensures ∙ ap (λ (xs : List g.row.P.Denot). answer_of (nodes_of (map read xs)) (point k)) is ∙ ap (λ (o : Option OwnedTime). answer_of (with_pending o ns) (point k)) (sym c.in-None.is)
+    c.value_at-below.ensures ∙ ap (λ (xs : List g.row.P.Denot). answer_of (nodes_of (map read xs))
+    (point k)) is ∙ ap (λ (o : Option OwnedTime). answer_of (with_pending o ns) (point k))
+    (sym c.in-None.is)
 
 pub returns-in-Some : goal.returns-in-Some
 returns-in-Some g c =
@@ -32,7 +38,12 @@ returns-in-Some g c =
     let ns : List Node = nodes_of (map read (arc_value c.args.self.now.parts).items) in
     let p = c.args.self.now.summary.pending in
     let k : KeyBytes = c.args.key.now in
-    let below : c.value_at-below.result ≡ answer_of ns (point k) = c.value_at-below.ensures ∙ ap (λ (xs : List g.row.P.Denot). answer_of (nodes_of (map read xs)) (point k)) is in
-    let reached : c.starts_below.result ≡ is_below (start_of ns) (after k) = c.starts_below.ensures ∙ ap (λ (x : Cut). is_below x c.past.result) (pending-start p ns) ∙ ap (is_below (start_of ns)) c.past.ensures in
-    c.seen.ensures ∙ ap (λ (w : OwnedTime). seen_with p c.starts_below.result w) below ∙ ap (λ (b : Bool). seen_with p b (answer_of ns (point k))) reached
-    ∙ sym (pending_answer p (before k) (after k) ns (sorted_without p ns c.requires.sorted) (before-after k))
+    let below : c.value_at-below.result ≡ answer_of ns (point k) = c.value_at-below.ensures ∙
+    ap (λ (xs : List g.row.P.Denot). answer_of (nodes_of (map read xs)) (point k)) is in
+    let reached : c.starts_below.result ≡ is_below (start_of ns) (after k) =
+    c.starts_below.ensures ∙ ap (λ (x : Cut). is_below x c.past.result) (pending-start p ns) ∙
+    ap (is_below (start_of ns)) c.past.ensures in
+    c.seen.ensures ∙ ap (λ (w : OwnedTime). seen_with p c.starts_below.result w) below ∙
+    ap (λ (b : Bool). seen_with p b (answer_of ns (point k))) reached
+    ∙ sym (pending_answer p (before k) (after k) ns (sorted_without p ns c.requires.sorted)
+    (before-after k))

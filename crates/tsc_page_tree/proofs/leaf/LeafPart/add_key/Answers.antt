@@ -3,8 +3,8 @@ use Rattle.std.proofs.Common.{◌≡◌, ◌∙◌, ◌-◌, ◌∷◌, [], inl,
 use Rattle.std.specs.Prelude.{Option}
 use Rattle.std.specs.Arc.{arc_value}
 use Rattle.tsc_time.specs.OwnedTime.{OwnedTime}
-use Rattle.tsc_page_base.specs.Nodes.{Node, IsSorted}
-use Rattle.tsc_page_base.specs.KeyAdds.{KeyAddend, IsKeyTold}
+use Rattle.tsc_page_nodes.specs.Nodes.{Node, IsSorted}
+use Rattle.tsc_page_nodes.specs.KeyAdds.{KeyAddend, IsKeyTold}
 use Rattle.tsc_page_tree.specs.Leaves.{IsLeaf}
 use Rattle.tsc_page_tree.specs.Pending.{with_pending, joint_after}
 use Rattle.tsc_page_tree.specs.KeyAdds.{IsKeyAddTold}
@@ -16,8 +16,13 @@ use Rattle.tsc_page_tree.proofs.leaf.LeafPart.add_key.Goals as goal
 
 pub add_key-made-requires : goal.add_key-made-requires
 add_key-made-requires c =
-    let same : c.in_ok-nodes.nodes.now ≡ arc_value c.args.self.now.nodes = elim c.in_ok-nodes.ensures.value [ inl h ↦ h | inr h ↦ h ] in
-    record { sorted = subst IsSorted (sym same) (sorted_without c.args.self.now.summary.pending (arc_value c.args.self.now.nodes) c.requires.sorted) }
+    let same : c.in_ok-nodes.nodes.now ≡ arc_value c.args.self.now.nodes =
+    elim c.in_ok-nodes.ensures.value [ inl h ↦ h | inr h ↦ h ] in
+    record {
+      sorted = subst IsSorted (sym same)
+          (sorted_without c.args.self.now.summary.pending (arc_value c.args.self.now.nodes)
+          c.requires.sorted);
+    }
 
 pub returns-clause-told : goal.returns-clause-told
 returns-clause-told c =
@@ -26,12 +31,20 @@ returns-clause-told c =
     let a : KeyAddend = c.args.add.now in
     let r = c.add_key-made.result in
     let new : List Node = c.add_key-made.new.self in
-    let same : c.in_ok-nodes.nodes.now ≡ ns = elim c.in_ok-nodes.ensures.value [ inl h ↦ h | inr h ↦ h ] in
-    let here = subst (λ (ms : List Node). IsKeyTold ms new a (record { nodes = 64 - c.len.result; bytes = c.args.room }) r) same c.add_key-made.ensures.told in
-    let below = told_pending p ns new _ _ a c.args.room r (sorted_without p ns c.requires.sorted) (told_leaf r ns new a _ here) in
-    let held : arc_value (c.make_mut.follows.lender new) ≡ new = c.make_mut.follows.holds new (search rules) in
-    subst (λ (ms : List Node). IsKeyAddTold (with_pending p ns) (with_pending c.heed.new.self.pending ms) (length ns ∷ []) (length ms ∷ []) a c.args.room r) (sym held)
-    (subst (λ (o : Option OwnedTime). IsKeyAddTold (with_pending p ns) (with_pending o new) (length ns ∷ []) (length new ∷ []) a c.args.room r) (sym c.heed.ensures.pending) below)
+    let same : c.in_ok-nodes.nodes.now ≡ ns =
+    elim c.in_ok-nodes.ensures.value [ inl h ↦ h | inr h ↦ h ] in
+    let here = subst (λ (ms : List Node). IsKeyTold ms new a
+    (record { nodes = 64 - c.len.result; bytes = c.args.room }) r) same
+    c.add_key-made.ensures.told in
+    let below = told_pending p ns new _ _ a c.args.room r (sorted_without p ns c.requires.sorted)
+    (told_leaf r ns new a _ here) in
+    let held : arc_value (c.make_mut.follows.lender new) ≡ new =
+    c.make_mut.follows.holds new (search rules) in
+    subst (λ (ms : List Node). IsKeyAddTold (with_pending p ns)
+    (with_pending c.heed.new.self.pending ms) (length ns ∷ []) (length ms ∷ []) a c.args.room r)
+    (sym held)
+    (subst (λ (o : Option OwnedTime). IsKeyAddTold (with_pending p ns) (with_pending o new)
+    (length ns ∷ []) (length new ∷ []) a c.args.room r) (sym c.heed.ensures.pending) below)
 
 pub returns-clause-whole : goal.returns-clause-whole
 returns-clause-whole c =
@@ -40,11 +53,21 @@ returns-clause-whole c =
     let a : KeyAddend = c.args.add.now in
     let r = c.add_key-made.result in
     let new : List Node = c.add_key-made.new.self in
-    let same : c.in_ok-nodes.nodes.now ≡ ns = elim c.in_ok-nodes.ensures.value [ inl h ↦ h | inr h ↦ h ] in
-    let here = subst (λ (ms : List Node). IsKeyTold ms new a (record { nodes = 64 - c.len.result; bytes = c.args.room }) r) same c.add_key-made.ensures.told in
+    let same : c.in_ok-nodes.nodes.now ≡ ns =
+    elim c.in_ok-nodes.ensures.value [ inl h ↦ h | inr h ↦ h ] in
+    let here = subst (λ (ms : List Node). IsKeyTold ms new a
+    (record { nodes = 64 - c.len.result; bytes = c.args.room }) r) same
+    c.add_key-made.ensures.told in
     let leaf = c.requires.whole.leaf in
-    let few : IsLeaf new = few_in_leaf r ns new a (record { nodes = 64 - c.len.result; bytes = c.args.room }) leaf.0 leaf.1 (omega (arith, c.len.ensures, ap length same, leaf.1)) here in
-    let told = told_key r s.start s.joint s.pending ns new _ _ a c.args.room c.requires.sorted (told_leaf r ns new a _ here) c.requires.whole.told in
-    subst (λ (ms : List Node). IsLeafOf c.heed.new.self ms) (sym (c.make_mut.follows.holds new (search rules)))
-    (leaf_whole c.heed.new.self new few (told_as s.start c.heed.new.self.start _ c.heed.new.self.joint s.pending c.heed.new.self.pending new c.heed.ensures.start
-    (c.heed.ensures.joint ∙ ap (λ (w : OwnedTime). joint_after r true w s.joint) c.value.ensures) c.heed.ensures.pending told))
+    let few : IsLeaf new = few_in_leaf r ns new a
+    (record { nodes = 64 - c.len.result; bytes = c.args.room }) leaf.0 leaf.1
+    (omega (arith, c.len.ensures, ap length same, leaf.1)) here in
+    let told = told_key r s.start s.joint s.pending ns new _ _ a c.args.room c.requires.sorted
+    (told_leaf r ns new a _ here) c.requires.whole.told in
+    subst (λ (ms : List Node). IsLeafOf c.heed.new.self ms)
+    (sym (c.make_mut.follows.holds new (search rules)))
+    (leaf_whole c.heed.new.self new few
+    (told_as s.start c.heed.new.self.start _ c.heed.new.self.joint s.pending
+    c.heed.new.self.pending new c.heed.ensures.start
+    (c.heed.ensures.joint ∙ ap (λ (w : OwnedTime). joint_after r true w s.joint) c.value.ensures)
+    c.heed.ensures.pending told))

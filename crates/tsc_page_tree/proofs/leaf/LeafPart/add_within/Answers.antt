@@ -3,11 +3,14 @@ use Rattle.std.proofs.Common.{◌≡◌, ◌∙◌, ◌-◌, ◌∷◌, [], inl,
 use Rattle.std.specs.Prelude.{None}
 use Rattle.std.specs.Arc.{arc_value}
 use Rattle.tsc_span.specs.Span.{is_below}
-use Rattle.tsc_page_base.specs.Nodes.{Node, IsSorted, IsInOrder}
+use Rattle.tsc_page_nodes.specs.Nodes.{Node, IsSorted, IsInOrder}
+use Rattle.tsc_page_nodes.specs.Additions.{Addend}
+use Rattle.tsc_page_nodes.specs.Additions as additions
+use Rattle.tsc_page_nodes.specs.declared.nodes.Grown.{Grown}
 use Rattle.tsc_page_tree.specs.Leaves.{IsLeaf, start_of}
-use Rattle.tsc_page_tree.specs.Pending.{with_pending, Addend, IsAddTold, joint_after}
+use Rattle.tsc_page_tree.specs.Pending.{with_pending, IsAddTold, joint_after}
 use Rattle.tsc_page_tree.specs.Trees.{IsLeafOf}
-use Rattle.tsc_page_base.proofs.CutOrder.{Lt}
+use Rattle.tsc_page_nodes.proofs.CutOrder.{Lt}
 use Rattle.tsc_page_tree.proofs.Pending.{sorted_without, pending-length}
 use Rattle.tsc_page_tree.proofs.Told.{told_pushed, told_added}
 use Rattle.tsc_page_tree.proofs.Wholes.{leaf_whole, told_as, add_told, leaf_added}
@@ -15,8 +18,13 @@ use Rattle.tsc_page_tree.proofs.leaf.LeafPart.add_within.Goals as goal
 
 pub push_down-requires : goal.push_down-requires
 push_down-requires c =
-    let same : c.in_ok-nodes.nodes.now ≡ arc_value c.args.self.now.nodes = elim c.in_ok-nodes.ensures.value [ inl h ↦ h | inr h ↦ h ] in
-    record { sorted = subst IsSorted (sym same) (sorted_without c.args.self.now.summary.pending (arc_value c.args.self.now.nodes) c.requires.sorted) }
+    let same : c.in_ok-nodes.nodes.now ≡ arc_value c.args.self.now.nodes =
+    elim c.in_ok-nodes.ensures.value [ inl h ↦ h | inr h ↦ h ] in
+    record {
+      sorted = subst IsSorted (sym same)
+          (sorted_without c.args.self.now.summary.pending (arc_value c.args.self.now.nodes)
+          c.requires.sorted);
+    }
 
 pub returns-clause-whole : goal.returns-clause-whole
 returns-clause-whole c =
@@ -24,23 +32,41 @@ returns-clause-whole c =
     let s = c.args.self.now.summary in
     let p = s.pending in
     let a : Addend = c.args.add.now in
-    let same : c.in_ok-nodes.nodes.now ≡ ns = elim c.in_ok-nodes.ensures.value [ inl h ↦ h | inr h ↦ h ] in
-    let pushed : c.push_down.new.nodes ≡ with_pending p ns = c.push_down.ensures ∙ ap (with_pending p) same in
+    let same : c.in_ok-nodes.nodes.now ≡ ns =
+    elim c.in_ok-nodes.ensures.value [ inl h ↦ h | inr h ↦ h ] in
+    let pushed : c.push_down.new.nodes ≡ with_pending p ns = c.push_down.ensures ∙
+    ap (with_pending p) same in
     let old : List Node = with_pending p ns in
     let new : List Node = c.add_owned-made.new.self in
-    let leaf : IsLeaf old = (omega (arith, pending-length p ns, c.requires.whole.leaf.0), omega (arith, pending-length p ns, c.requires.whole.leaf.1)) in
-    let told_here : IsAddTold c.push_down.new.nodes new (length c.push_down.new.nodes ∷ []) (length new ∷ []) a c.args.room c.add_owned-made.result =
-    subst (λ (b : Addend). IsAddTold c.push_down.new.nodes new (length c.push_down.new.nodes ∷ []) (length new ∷ []) b c.args.room c.add_owned-made.result) c.add.view_is
-    (add_told c.add_owned-made.result c.push_down.new.nodes new _ _ c.args.room c.add_owned-made.ensures.added c.add_owned-made.ensures.grown c.add_owned-made.ensures.within c.add_owned-made.ensures.left c.add_owned-made.ensures.unchanged) in
-    let told : IsAddTold old new (length old ∷ []) (length new ∷ []) a c.args.room c.add_owned-made.result =
-    subst (λ (ms : List Node). IsAddTold ms new (length ms ∷ []) (length new ∷ []) a c.args.room c.add_owned-made.result) pushed told_here in
-    let order : IsInOrder a.first a.second = subst (λ (b : Addend). IsInOrder b.first b.second) c.add.view_is c.add.invariant.3 in
-    let up : Lt a.from a.to = subst (λ (b : Addend). Lt b.from b.to) c.add.view_is c.add.invariant.0 in
-    let reached : c.starts_below-reached.result ≡ is_below (start_of new) a.to = c.starts_below-reached.ensures ∙ ap (λ (b : Addend). is_below (start_of new) b.to) c.add.view_is in
+    let leaf : IsLeaf old = (
+      omega (arith, pending-length p ns, c.requires.whole.leaf.0),
+      omega (arith, pending-length p ns, c.requires.whole.leaf.1),
+    ) in
+    let room : Grown = record { nodes = 64 - c.len.result; bytes = c.args.room } in
+    let made : additions.IsTold old new a room c.add_owned-made.result =
+    subst (λ (ms : List Node). additions.IsTold ms new a room c.add_owned-made.result) pushed
+    c.add_owned-made.ensures.told in
+    let told : IsAddTold old new (length old ∷ []) (length new ∷ []) a c.args.room
+    c.add_owned-made.result = add_told c.add_owned-made.result old new a room made in
+    let order : IsInOrder a.first a.second =
+    subst (λ (b : Addend). IsInOrder b.first b.second) c.add.view_is c.add.invariant.3 in
+    let up : Lt a.from a.to = subst (λ (b : Addend). Lt b.from b.to) c.add.view_is
+    c.add.invariant.0 in
+    let reached : c.starts_below-reached.result ≡ is_below (start_of new) a.to =
+    c.starts_below-reached.ensures ∙
+    ap (λ (b : Addend). is_below (start_of new) b.to) c.add.view_is in
     let value : c.add.inside.value ≡ a.value = ap (λ (b : Addend). b.value) c.add.view_is in
-    let after_it = told_added c.add_owned-made.result s.start c.start_number.result s.joint old new _ _ a c.args.room c.requires.sorted order up c.start_number.ensures told (told_pushed s.start s.joint p ns c.requires.whole.told) in
-    let few : IsLeaf new = leaf_added c.add_owned-made.result old new _ _ a (64 - c.len.result) c.args.room leaf (omega (arith, c.len.ensures, ap length pushed, leaf.1)) c.add_owned-made.ensures.within told in
+    let after_it = told_added c.add_owned-made.result s.start c.start_number.result s.joint old new
+    _ _ a c.args.room c.requires.sorted order up c.start_number.ensures told
+    (told_pushed s.start s.joint p ns c.requires.whole.told) in
+    let few : IsLeaf new = leaf_added c.add_owned-made.result old new a room leaf
+    (omega (arith, c.len.ensures, ap length pushed, leaf.1)) made in
     let held = c.make_mut.follows.holds new (search rules) in
     subst (λ (ms : List Node). IsLeafOf c.heed.new.self ms) (sym held)
-    (leaf_whole c.heed.new.self new few (told_as c.start_number.result c.heed.new.self.start _ c.heed.new.self.joint None c.heed.new.self.pending new c.heed.ensures.start
-    (c.heed.ensures.joint ∙ ap (λ (b : Bool). joint_after c.add_owned-made.result b c.add.inside.value s.joint) reached ∙ ap (λ w. joint_after c.add_owned-made.result (is_below (start_of new) a.to) w s.joint) value) c.heed.ensures.pending after_it))
+    (leaf_whole c.heed.new.self new few
+    (told_as c.start_number.result c.heed.new.self.start _ c.heed.new.self.joint None
+    c.heed.new.self.pending new c.heed.ensures.start
+    (c.heed.ensures.joint ∙ ap (λ (b : Bool). joint_after c.add_owned-made.result b
+    c.add.inside.value s.joint) reached ∙
+    ap (λ w. joint_after c.add_owned-made.result (is_below (start_of new) a.to) w s.joint)
+    value) c.heed.ensures.pending after_it))

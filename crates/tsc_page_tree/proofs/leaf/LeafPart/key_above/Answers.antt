@@ -2,18 +2,22 @@
 use Rattle.std.proofs.Common.{◌∙◌, sym, ap, subst, List}
 use Rattle.std.specs.Arc.{arc_value}
 use Rattle.tsc_span.specs.Span.{Cut}
-use Rattle.tsc_page_base.specs.Nodes.{Node, IsSorted, node_keys}
-use Rattle.tsc_page_base.specs.KeysAbove.{first_above}
+use Rattle.tsc_page_nodes.specs.Nodes.{Node, IsSorted, node_keys}
+use Rattle.tsc_page_nodes.specs.KeysAbove.{first_above}
 use Rattle.tsc_page_tree.proofs.Pending.{sorted_without, pending-keys}
 use Rattle.tsc_page_tree.proofs.leaf.LeafPart.key_above.Goals as goal
 
 pub key_above-requires : goal.key_above-requires
 key_above-requires c =
     let ns : List Node = arc_value c.args.self.now.nodes in
-    record { sorted = subst IsSorted (sym c.deref.ensures) (sorted_without c.args.self.now.summary.pending ns c.requires.sorted) }
+    record {
+      sorted = subst IsSorted (sym c.deref.ensures)
+          (sorted_without c.args.self.now.summary.pending ns c.requires.sorted);
+    }
 
 pub returns : goal.returns
 returns c =
     let ns : List Node = arc_value c.args.self.now.nodes in
     let cut : Cut = c.args.cut.now in
-    c.key_above.ensures ∙ ap (λ (ms : List Node). first_above cut (node_keys ms)) c.deref.ensures ∙ ap (first_above cut) (sym (pending-keys c.args.self.now.summary.pending ns))
+    c.key_above.ensures ∙ ap (λ (ms : List Node). first_above cut (node_keys ms)) c.deref.ensures ∙
+    ap (first_above cut) (sym (pending-keys c.args.self.now.summary.pending ns))

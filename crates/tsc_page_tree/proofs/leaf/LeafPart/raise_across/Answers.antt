@@ -5,13 +5,14 @@ use Rattle.std.specs.Arc.{arc_value}
 use Rattle.tsc_time.specs.OwnedTime.{OwnedTime}
 use Rattle.tsc_time.specs.Joint.{joint}
 use Rattle.tsc_span.specs.Span.{KeyBytes, Cut, before, last, between}
-use Rattle.tsc_page_base.specs.Nodes.{Node, IsSorted, raise_nodes}
-use Rattle.tsc_page_tree.specs.Pending.{with_pending, IsToldOf, Addend}
+use Rattle.tsc_page_nodes.specs.Nodes.{Node, IsSorted, raise_nodes}
+use Rattle.tsc_page_nodes.specs.Additions.{Addend}
+use Rattle.tsc_page_tree.specs.Pending.{with_pending, IsToldOf}
 use Rattle.tsc_page_tree.specs.Trees.{IsTold}
 use Rattle.tsc_page_tree.specs.Across.{HasKey, AreRaisedAcross}
-use Rattle.tsc_page_base.proofs.CutOrder.{Lt, Le_Lt-chain}
-use Rattle.tsc_page_base.proofs.Cuts.{lowest}
-use Rattle.tsc_page_base.proofs.Edits.{raise_nodes-length}
+use Rattle.tsc_page_nodes.proofs.CutOrder.{Lt, Le_Lt-chain}
+use Rattle.tsc_page_nodes.proofs.Cuts.{lowest}
+use Rattle.tsc_page_nodes.proofs.Edits.{raise_nodes-length}
 use Rattle.tsc_page_tree.proofs.Joins.{up_to_last}
 use Rattle.tsc_page_tree.proofs.Pending.{raise_pending, sorted_without}
 use Rattle.tsc_page_tree.proofs.PartAcross.{told_reached}
@@ -21,40 +22,64 @@ use Rattle.tsc_page_tree.proofs.leaf.LeafPart.raise_across.Goals as goal
 use Rattle.tsc_page_tree.proofs.leaf.LeafPart.raise_across.Goals.{After-raise_near}
 
 pub known_place-requires : goal.known_place-requires
-known_place-requires c = record { sorted = subst IsSorted (sym c.in-Some.ensures.value) (sorted_without c.args.low.now.summary.pending (arc_value c.args.low.now.nodes) c.requires.sorted_low) }
+known_place-requires c = record {
+  sorted = subst IsSorted (sym c.in-Some.ensures.value)
+      (sorted_without c.args.low.now.summary.pending (arc_value c.args.low.now.nodes)
+      c.requires.sorted_low);
+}
 
 pub known_place-requires-2 : goal.known_place-requires-2
-known_place-requires-2 c = record { sorted = subst IsSorted (sym c.in-Some-get_mut.ensures.value) (sorted_without c.args.high.now.summary.pending (arc_value c.args.high.now.nodes) c.requires.sorted_high) }
+known_place-requires-2 c = record {
+  sorted = subst IsSorted (sym c.in-Some-get_mut.ensures.value)
+      (sorted_without c.args.high.now.summary.pending (arc_value c.args.high.now.nodes)
+      c.requires.sorted_high);
+}
 
 pub raise_above-requires-clause-told : goal.raise_above-requires-clause-told
-raise_above-requires-clause-told c = subst (IsTold c.args.low.now.summary) (sym c.in-Some.ensures.value) c.requires.whole_low.told
+raise_above-requires-clause-told c =
+    subst (IsTold c.args.low.now.summary) (sym c.in-Some.ensures.value) c.requires.whole_low.told
 
 pub raise_above-requires-clause-sorted : goal.raise_above-requires-clause-sorted
-raise_above-requires-clause-sorted c = subst (λ (ns : List Node). IsSorted (with_pending c.args.low.now.summary.pending ns)) (sym c.in-Some.ensures.value) c.requires.sorted_low
+raise_above-requires-clause-sorted c =
+    subst (λ (ns : List Node). IsSorted (with_pending c.args.low.now.summary.pending ns))
+    (sym c.in-Some.ensures.value) c.requires.sorted_low
 
 pub raise_above-requires-clause-order : goal.raise_above-requires-clause-order
-raise_above-requires-clause-order c = up_to_last c.add.inside.from.now c.add.inside.to.now c.add.invariant.0
+raise_above-requires-clause-order c =
+    up_to_last c.add.inside.from.now c.add.inside.to.now c.add.invariant.0
 
 pub raise_near-requires-clause-sorted : goal.raise_near-requires-clause-sorted
-raise_near-requires-clause-sorted c = subst IsSorted (sym c.in-Some-get_mut.ensures.value) (sorted_without c.args.high.now.summary.pending (arc_value c.args.high.now.nodes) c.requires.sorted_high)
+raise_near-requires-clause-sorted c =
+    subst IsSorted (sym c.in-Some-get_mut.ensures.value)
+    (sorted_without c.args.high.now.summary.pending (arc_value c.args.high.now.nodes)
+    c.requires.sorted_high)
 
 pub raise_near-requires-clause-order : goal.raise_near-requires-clause-order
 raise_near-requires-clause-order c =
-    subst (λ (z : Cut). Lt z c.add.inside.to.now) (sym c.new.ensures) (Le_Lt-chain (before []) c.add.inside.from.now c.add.inside.to.now (lowest c.add.inside.from.now) c.add.invariant.0)
+    subst (λ (z : Cut). Lt z c.add.inside.to.now) (sym c.new.ensures)
+    (Le_Lt-chain (before []) c.add.inside.from.now c.add.inside.to.now
+    (lowest c.add.inside.from.now) c.add.invariant.0)
 
 -- what the nodes of the upper leaf become
-raised_high : (c : After-raise_near) → c.raise_near.new.self ≡ raise_nodes (between (before []) c.args.add.now.to) c.args.add.now.value (arc_value c.args.high.now.nodes)
+raised_high : (c : After-raise_near) →
+    c.raise_near.new.self ≡ raise_nodes (between (before []) c.args.add.now.to) c.args.add.now.value
+    (arc_value c.args.high.now.nodes)
 raised_high c =
     let ms : List Node = arc_value c.args.high.now.nodes in
     let t : Cut = c.add.inside.to.now in
     let v : OwnedTime = c.add.inside.value in
-    subst (λ (b : Addend). c.raise_near.new.self ≡ raise_nodes (between (before []) b.to) b.value ms) c.add.view_is
-    (c.raise_near.ensures ∙ ap (λ (z : Cut). raise_nodes (between z t) v c.in-Some-get_mut.above.now) c.new.ensures ∙ ap (raise_nodes (between (before []) t) v) c.in-Some-get_mut.ensures.value)
+    subst (λ (b : Addend). c.raise_near.new.self ≡ raise_nodes (between (before []) b.to) b.value
+    ms) c.add.view_is
+    (c.raise_near.ensures ∙ ap (λ (z : Cut). raise_nodes (between z t) v
+    c.in-Some-get_mut.above.now) c.new.ensures ∙
+    ap (raise_nodes (between (before []) t) v) c.in-Some-get_mut.ensures.value)
 
 -- both leaves are raised within the span
 across : (c : After-raise_near)
-    → AreRaisedAcross (with_pending c.args.low.now.summary.pending (arc_value c.args.low.now.nodes)) (with_pending c.raise_above.new.summary.pending c.raise_above.new.nodes)
-    (with_pending c.args.high.now.summary.pending (arc_value c.args.high.now.nodes)) (with_pending c.args.high.now.summary.pending c.raise_near.new.self) c.args.add.now
+    → AreRaisedAcross (with_pending c.args.low.now.summary.pending (arc_value c.args.low.now.nodes))
+    (with_pending c.raise_above.new.summary.pending c.raise_above.new.nodes)
+    (with_pending c.args.high.now.summary.pending (arc_value c.args.high.now.nodes))
+    (with_pending c.args.high.now.summary.pending c.raise_near.new.self) c.args.add.now
 across c =
     let ns : List Node = arc_value c.args.low.now.nodes in
     let ms : List Node = arc_value c.args.high.now.nodes in
@@ -66,11 +91,19 @@ across c =
     let t : Cut = c.add.inside.to.now in
     let v : OwnedTime = c.add.inside.value in
     let high = raised_high c in
-    subst (λ (b : Addend). AreRaisedAcross (with_pending p ns) (with_pending c.raise_above.new.summary.pending c.raise_above.new.nodes) (with_pending q ms) (with_pending q c.raise_near.new.self) b) c.add.view_is (record {
-      first = has_pending o p ns (subst (λ (xs : List Node). HasKey o xs) c.in-Some.ensures.value c.in-Some-known_place.ensures);
-      second = has_pending r q ms (subst (λ (xs : List Node). HasKey r xs) c.in-Some-get_mut.ensures.value c.in-Some-known_place-2.ensures);
-      raised_low = c.raise_above.ensures.raised ∙ ap (λ (xs : List Node). raise_nodes (between f last) v (with_pending p xs)) c.in-Some.ensures.value;
-      raised_high = ap (with_pending q) (subst (λ (b : Addend). c.raise_near.new.self ≡ raise_nodes (between (before []) b.to) b.value ms) (sym c.add.view_is) high) ∙ raise_pending q (between (before []) t) v ms;
+    subst (λ (b : Addend). AreRaisedAcross (with_pending p ns)
+    (with_pending c.raise_above.new.summary.pending c.raise_above.new.nodes) (with_pending q ms)
+    (with_pending q c.raise_near.new.self) b) c.add.view_is (record {
+      first = has_pending o p ns (subst (λ (xs : List Node). HasKey o xs) c.in-Some.ensures.value
+          c.in-Some-known_place.ensures);
+      second = has_pending r q ms (subst (λ (xs : List Node). HasKey r xs)
+          c.in-Some-get_mut.ensures.value c.in-Some-known_place-2.ensures);
+      raised_low = c.raise_above.ensures.raised ∙
+          ap (λ (xs : List Node). raise_nodes (between f last) v (with_pending p xs))
+          c.in-Some.ensures.value;
+      raised_high = ap (with_pending q)
+          (subst (λ (b : Addend). c.raise_near.new.self ≡ raise_nodes (between (before []) b.to)
+          b.value ms) (sym c.add.view_is) high) ∙ raise_pending q (between (before []) t) v ms;
     })
 
 pub returns-clause-told : goal.returns-clause-told
@@ -80,18 +113,27 @@ returns-clause-told c =
     let ms : List Node = arc_value c.args.high.now.nodes in
     let p = c.args.low.now.summary.pending in
     let q = c.args.high.now.summary.pending in
-    subst (λ (o : Option OwnedTime). AreRaisedAcross (with_pending p ns) (with_pending c.raise_above.new.summary.pending c.raise_above.new.nodes) (with_pending q ms) (with_pending o c.raise_near.new.self) c.args.add.now) (sym c.reach.ensures.pending) told
+    subst (λ (o : Option OwnedTime). AreRaisedAcross (with_pending p ns)
+    (with_pending c.raise_above.new.summary.pending c.raise_above.new.nodes) (with_pending q ms)
+    (with_pending o c.raise_near.new.self) c.args.add.now) (sym c.reach.ensures.pending) told
 
 pub returns-clause-sizes_low : goal.returns-clause-sizes_low
-returns-clause-sizes_low c = ap (λ n. n ∷ []) (c.raise_above.ensures.len ∙ ap length c.in-Some.ensures.value)
+returns-clause-sizes_low c = ap (λ n. n ∷ [])
+    (c.raise_above.ensures.len ∙ ap length c.in-Some.ensures.value)
 
 pub returns-clause-sizes_high : goal.returns-clause-sizes_high
-returns-clause-sizes_high c = ap (λ n. n ∷ []) (ap length (raised_high (goal.at.returns-clause-sizes_high c).After-raise_near) ∙ raise_nodes-length (between (before []) c.args.add.now.to) c.args.add.now.value (arc_value c.args.high.now.nodes))
+returns-clause-sizes_high c = ap (λ n. n ∷ [])
+    (ap length (raised_high (goal.at.returns-clause-sizes_high c).After-raise_near) ∙
+    raise_nodes-length (between (before []) c.args.add.now.to) c.args.add.now.value
+    (arc_value c.args.high.now.nodes))
 
 pub returns-clause-low : goal.returns-clause-low
 returns-clause-low c =
     let long = c.raise_above.ensures.len ∙ ap length c.in-Some.ensures.value in
-    leaf_whole c.raise_above.new.summary c.raise_above.new.nodes (omega (arith, long, c.requires.whole_low.leaf.0), omega (arith, long, c.requires.whole_low.leaf.1)) c.raise_above.ensures.told
+    leaf_whole c.raise_above.new.summary c.raise_above.new.nodes (
+      omega (arith, long, c.requires.whole_low.leaf.0),
+      omega (arith, long, c.requires.whole_low.leaf.1),
+    ) c.raise_above.ensures.told
 
 pub returns-clause-high : goal.returns-clause-high
 returns-clause-high c =
@@ -100,9 +142,18 @@ returns-clause-high c =
     let s = c.args.high.now.summary in
     let nh : List Node = c.raise_near.new.self in
     let is = raised_high (goal.at.returns-clause-high c).After-raise_near in
-    let up : Lt a.from a.to = subst (λ (v : Addend). Lt v.from v.to) c.add.view_is c.add.invariant.0 in
+    let up : Lt a.from a.to = subst (λ (v : Addend). Lt v.from v.to) c.add.view_is
+    c.add.invariant.0 in
     let long = ap length is ∙ raise_nodes-length (between (before []) a.to) a.value ms in
-    let reached = told_reached s.start s.joint a.value s.pending (before []) a.to ms c.requires.sorted_high (Le_Lt-chain (before []) a.from a.to (lowest a.from) up) c.requires.reaches c.requires.whole_high.told in
-    leaf_whole c.reach.new.self nh (omega (arith, long, c.requires.whole_high.leaf.0), omega (arith, long, c.requires.whole_high.leaf.1))
-    (told_as s.start c.reach.new.self.start _ c.reach.new.self.joint _ c.reach.new.self.pending nh c.reach.ensures.start (c.reach.ensures.joint ∙ ap (λ (v : Addend). joint s.joint (v.value ∷ [])) c.add.view_is) c.reach.ensures.pending
-    (subst (λ (ns : List Node). IsToldOf s.start (joint s.joint (a.value ∷ [])) s.pending ns) (sym is) reached))
+    let reached = told_reached s.start s.joint a.value s.pending (before []) a.to ms
+    c.requires.sorted_high (Le_Lt-chain (before []) a.from a.to (lowest a.from) up)
+    c.requires.reaches c.requires.whole_high.told in
+    leaf_whole c.reach.new.self nh (
+      omega (arith, long, c.requires.whole_high.leaf.0),
+      omega (arith, long, c.requires.whole_high.leaf.1),
+    )
+    (told_as s.start c.reach.new.self.start _ c.reach.new.self.joint _ c.reach.new.self.pending nh
+    c.reach.ensures.start (c.reach.ensures.joint ∙
+    ap (λ (v : Addend). joint s.joint (v.value ∷ [])) c.add.view_is) c.reach.ensures.pending
+    (subst (λ (ns : List Node). IsToldOf s.start (joint s.joint (a.value ∷ [])) s.pending ns)
+    (sym is) reached))

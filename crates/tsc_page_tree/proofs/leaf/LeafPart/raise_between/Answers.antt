@@ -5,8 +5,8 @@ use Rattle.std.specs.Arc.{arc_value}
 use Rattle.tsc_time.specs.OwnedTime.{OwnedTime}
 use Rattle.tsc_span.specs.Cuts.{cut_of}
 use Rattle.tsc_span.specs.Span.{Cut, between, is_below}
-use Rattle.tsc_page_base.specs.Nodes.{Node, IsSorted, raise_nodes}
-use Rattle.tsc_page_base.proofs.Edits.{raise_nodes-length}
+use Rattle.tsc_page_nodes.specs.Nodes.{Node, IsSorted, raise_nodes}
+use Rattle.tsc_page_nodes.proofs.Edits.{raise_nodes-length}
 use Rattle.tsc_page_tree.specs.Leaves.{start_of}
 use Rattle.tsc_page_tree.specs.Pending.{with_pending}
 use Rattle.tsc_page_tree.specs.Trees.{IsLeafOf}
@@ -18,7 +18,8 @@ use Rattle.tsc_page_tree.proofs.leaf.LeafPart.raise_between.Goals as goal
 pub raise_between-requires-clause-sorted : goal.raise_between-requires-clause-sorted
 raise_between-requires-clause-sorted c =
     let ns : List Node = arc_value c.args.self.now.nodes in
-    let same : c.in_ok-nodes.nodes.now ≡ ns = elim c.in_ok-nodes.ensures.value [ inl h ↦ h | inr h ↦ h ] in
+    let same : c.in_ok-nodes.nodes.now ≡ ns =
+    elim c.in_ok-nodes.ensures.value [ inl h ↦ h | inr h ↦ h ] in
     subst IsSorted (sym same) (sorted_without c.args.self.now.summary.pending ns c.requires.sorted)
 
 pub returns-clause-raised : goal.returns-clause-raised
@@ -27,12 +28,18 @@ returns-clause-raised c =
     let p = c.args.self.now.summary.pending in
     let f : Cut = cut_of c.args.from in
     let t : Cut = cut_of c.args.to in
-    let same : c.in_ok-nodes.nodes.now ≡ ns = elim c.in_ok-nodes.ensures.value [ inl h ↦ h | inr h ↦ h ] in
+    let same : c.in_ok-nodes.nodes.now ≡ ns =
+    elim c.in_ok-nodes.ensures.value [ inl h ↦ h | inr h ↦ h ] in
     let w : List Node = c.raise_between.new.self in
     let kept = c.make_mut.follows.holds w (search rules) in
     let raised : w ≡ raise_nodes (between f t) c.args.value ns =
-    c.raise_between.ensures ∙ ap (λ (x : Cut). raise_nodes (between x c.new-to.result) c.args.value c.in_ok-nodes.nodes.now) c.new-from.ensures ∙ ap (λ (x : Cut). raise_nodes (between f x) c.args.value c.in_ok-nodes.nodes.now) c.new-to.ensures ∙ ap (raise_nodes (between f t) c.args.value) same in
-    ap (λ (o : Option OwnedTime). with_pending o (arc_value (c.make_mut.follows.lender w))) c.reach.ensures.pending ∙ ap (with_pending p) (kept ∙ raised) ∙ raise_pending p (between f t) c.args.value ns
+    c.raise_between.ensures ∙ ap (λ (x : Cut). raise_nodes (between x c.new-to.result) c.args.value
+    c.in_ok-nodes.nodes.now) c.new-from.ensures ∙
+    ap (λ (x : Cut). raise_nodes (between f x) c.args.value c.in_ok-nodes.nodes.now)
+    c.new-to.ensures ∙ ap (raise_nodes (between f t) c.args.value) same in
+    ap (λ (o : Option OwnedTime). with_pending o (arc_value (c.make_mut.follows.lender w)))
+    c.reach.ensures.pending ∙ ap (with_pending p) (kept ∙ raised) ∙
+    raise_pending p (between f t) c.args.value ns
 
 pub returns-clause-whole : goal.returns-clause-whole
 returns-clause-whole c =
@@ -41,15 +48,27 @@ returns-clause-whole c =
     let p = s.pending in
     let f : Cut = cut_of c.args.from in
     let t : Cut = cut_of c.args.to in
-    let same : c.in_ok-nodes.nodes.now ≡ ns = elim c.in_ok-nodes.ensures.value [ inl h ↦ h | inr h ↦ h ] in
+    let same : c.in_ok-nodes.nodes.now ≡ ns =
+    elim c.in_ok-nodes.ensures.value [ inl h ↦ h | inr h ↦ h ] in
     let w : List Node = c.raise_between.new.self in
     let kept = c.make_mut.follows.holds w (search rules) in
     let raised : w ≡ raise_nodes (between f t) c.args.value ns =
-    c.raise_between.ensures ∙ ap (λ (x : Cut). raise_nodes (between x c.new-to.result) c.args.value c.in_ok-nodes.nodes.now) c.new-from.ensures ∙ ap (λ (x : Cut). raise_nodes (between f x) c.args.value c.in_ok-nodes.nodes.now) c.new-to.ensures ∙ ap (raise_nodes (between f t) c.args.value) same in
-    let reached : c.starts_below.result ≡ is_below (start_of (raise_nodes (between f t) c.args.value ns)) t =
-    c.starts_below.ensures ∙ ap (λ (x : Cut). is_below (start_of w) x) c.new-to.ensures ∙ ap (λ (ms : List Node). is_below (start_of ms) t) raised in
+    c.raise_between.ensures ∙ ap (λ (x : Cut). raise_nodes (between x c.new-to.result) c.args.value
+    c.in_ok-nodes.nodes.now) c.new-from.ensures ∙
+    ap (λ (x : Cut). raise_nodes (between f x) c.args.value c.in_ok-nodes.nodes.now)
+    c.new-to.ensures ∙ ap (raise_nodes (between f t) c.args.value) same in
+    let reached : c.starts_below.result ≡
+    is_below (start_of (raise_nodes (between f t) c.args.value ns)) t =
+    c.starts_below.ensures ∙ ap (λ (x : Cut). is_below (start_of w) x) c.new-to.ensures ∙
+    ap (λ (ms : List Node). is_below (start_of ms) t) raised in
     let long = raise_nodes-length (between f t) c.args.value ns in
-    let told = told_as s.start c.reach.new.self.start _ c.reach.new.self.joint _ c.reach.new.self.pending (raise_nodes (between f t) c.args.value ns) c.reach.ensures.start c.reach.ensures.joint c.reach.ensures.pending
-    (told_raised_below s.start s.joint c.args.value p f t ns c.starts_below.result c.requires.sorted c.requires.order reached c.requires.whole.told) in
+    let told = told_as s.start c.reach.new.self.start _ c.reach.new.self.joint _
+    c.reach.new.self.pending (raise_nodes (between f t) c.args.value ns) c.reach.ensures.start
+    c.reach.ensures.joint c.reach.ensures.pending
+    (told_raised_below s.start s.joint c.args.value p f t ns c.starts_below.result c.requires.sorted
+    c.requires.order reached c.requires.whole.told) in
     subst (λ (ms : List Node). IsLeafOf c.reach.new.self ms) (sym (kept ∙ raised))
-    (leaf_whole c.reach.new.self (raise_nodes (between f t) c.args.value ns) (omega (arith, long, c.requires.whole.leaf.0), omega (arith, long, c.requires.whole.leaf.1)) told)
+    (leaf_whole c.reach.new.self (raise_nodes (between f t) c.args.value ns) (
+      omega (arith, long, c.requires.whole.leaf.0),
+      omega (arith, long, c.requires.whole.leaf.1),
+    ) told)

@@ -2,7 +2,7 @@
 use Rattle.std.proofs.Common.{◌∙◌, ap, sym, List}
 use Rattle.std.specs.Arc.{arc_value}
 use Rattle.tsc_span.specs.Span.{Cut, is_below}
-use Rattle.tsc_page_base.specs.Nodes.{Node}
+use Rattle.tsc_page_nodes.specs.Nodes.{Node}
 use Rattle.tsc_page_tree.specs.Leaves.{start_of}
 use Rattle.tsc_page_tree.proofs.Pending.{pending-start}
 use Rattle.tsc_page_tree.proofs.Told.{told_start}
@@ -11,9 +11,12 @@ use Rattle.tsc_page_tree.proofs.leaf.LeafPart.starts_below.Goals as goal
 pub returns-in-Some : goal.returns-in-Some
 returns-in-Some c =
     let s = c.args.self.now.summary in
-    c.in-Some.ensures.1 _ (told_start s.start s.joint s.pending (arc_value c.args.self.now.nodes) c.requires.whole.told)
+    c.in-Some.ensures.1 _ (told_start s.start s.joint s.pending (arc_value c.args.self.now.nodes)
+    c.requires.whole.told)
 
 pub returns-in-None : goal.returns-in-None
 returns-in-None c =
     let cut : Cut = c.args.cut.now in
-    c.starts_below.ensures ∙ ap (λ (ns : List Node). is_below (start_of ns) cut) c.deref.ensures ∙ ap (λ (x : Cut). is_below x cut) (sym (pending-start c.args.self.now.summary.pending (arc_value c.args.self.now.nodes)))
+    c.starts_below.ensures ∙ ap (λ (ns : List Node). is_below (start_of ns) cut) c.deref.ensures ∙
+    ap (λ (x : Cut). is_below x cut)
+    (sym (pending-start c.args.self.now.summary.pending (arc_value c.args.self.now.nodes)))

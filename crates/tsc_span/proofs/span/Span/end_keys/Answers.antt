@@ -13,4 +13,9 @@ returns-in-Range c =
     let ends = c.in-Range.field-2 in
     let shape : IsShape (Range from to ends) = subst IsShape c.in-Range.is c.self.invariant in
     let keys = sym (end_keys_of_range from to ends.exclude_from ends.exclude_to shape) in
-    rw (← c.self.view_is, c.in-Range.is) (record { keys = keys; start = ap (λ ks. slice_get ks 0) keys; end = ap (λ ks. slice_get ks 1) keys })
+    rw (← c.self.view_is, c.in-Range.is)
+    (record {
+      keys = keys;
+      start = ap (λ ks. slice_get ks 0) keys;
+      end = ap (λ ks. slice_get ks 1) keys;
+    })

@@ -1,0 +1,145 @@
+-- There is room for what the span's keys cost with those of the nodes, without repeats.
+use Rattle.std.proofs.Common.{◌∙◌, ap, sym, subst, ◌+◌, ◌≤◌, ◌++◌, arith}
+use Rattle.std.specs.Prelude.{Option, option_map}
+use Rattle.std.proofs.lemmas.Bool.{leb-true, leb-false}
+use Rattle.tsc_span.specs.Span.{KeyBytes, between, end_keys}
+use Rattle.tsc_span.specs.Cuts.{cut_of}
+use Rattle.tsc_page_nodes.specs.Page.{cost_distinct}
+use Rattle.tsc_page_nodes.specs.Additions.{Addend}
+use Rattle.tsc_page_nodes.specs.Nodes.{IsSorted, node_keys}
+use Rattle.tsc_page.specs.Roots.{TreeView, Inserts, IsFullFor, root_nodes}
+use Rattle.tsc_page_nodes.proofs.Costs.{node_costs}
+use Rattle.tsc_page.proofs.Costs.{room_told}
+use Rattle.tsc_page.proofs.TreeLists.{seen_of, counted_twice, inserts_twice, room_in}
+use Rattle.tsc_page.proofs.tree.Tree.inserted.Goals as goal
+
+pub returns-then-not-has_room : goal.returns-then-not-has_room
+returns-then-not-has_room c =
+    let o : Option KeyBytes = option_map (λ k. k.now) c.add.inside.first in
+    let q : Option KeyBytes = option_map (λ k. k.now) c.add.inside.second in
+    let all = between (cut_of c.add.inside.from) (cut_of c.add.inside.to) in
+    let nodes = c.args.self.now.nodes in
+    let known = c.has_room.ensures.known in
+    let told = room_told nodes o q all c.args.self.now.bytes c.args.most c.has_room.result
+    known.sorted c.add.invariant.keys known.bytes c.has_room.ensures.value in
+    record {
+      told = subst (λ (a : Addend). IsFullFor c.args.self.now a c.args.most) c.add.view_is
+          (leb-false (cost_distinct (node_keys nodes ++ end_keys all)) c.args.most
+          (sym told ∙ c.if-not-has_room.true));
+    }
+
+pub returns : goal.returns
+returns c =
+    let r = c.self.inside.root in
+    let a : Addend = record {
+      first = option_map (λ k. k.now) c.add.inside.first;
+      second = option_map (λ k. k.now) c.add.inside.second;
+      from = cut_of c.add.inside.from;
+      to =
+          cut_of c.add.inside.to;
+      value = c.add.inside.value;
+    } in
+    let all = between a.from a.to in
+    let told = room_in r c.self.inside.count c.self.inside.bytes c.args.self.now a.first a.second
+    all c.args.most c.has_room.result c.self.view_is c.self.invariant c.add.invariant.keys
+    c.has_room.ensures.value in
+    let few = leb-true (cost_distinct (node_keys c.args.self.now.nodes ++ end_keys all)) c.args.most
+    (sym told ∙ c.if-not-has_room.false) in
+    let made = inserts_twice r c.in_ok-try_copy.field-0 c.in_ok-upper.upper.root
+    c.in_ok-lower.lower.root c.raise_between.new.self c.self.inside.count c.self.inside.bytes
+    c.in_ok-upper.upper.more c.in_ok-lower.lower.more a c.args.most c.self.invariant
+    (subst (λ (t : TreeView). cost_distinct (node_keys t.nodes ++ end_keys all) ≤ c.args.most)
+    (sym c.self.view_is) few) c.add.invariant c.in_ok-try_copy.ensures
+    c.in_ok-upper.ensures.split c.in_ok-lower.ensures.split c.in_ok-upper.ensures.grown
+    c.in_ok-lower.ensures.grown c.in_ok-raise_between.ensures.whole
+    c.in_ok-raise_between.ensures.raised in
+    record {
+      told = subst (λ (b : Addend). Inserts c.args.self.now
+          (seen_of c.raise_between.new.self
+          (c.self.inside.bytes + c.in_ok-upper.upper.more.bytes + c.in_ok-lower.lower.more.bytes)) b
+          c.args.most) c.add.view_is
+          (subst (λ (t : TreeView). Inserts t
+          (seen_of c.raise_between.new.self
+          (c.self.inside.bytes + c.in_ok-upper.upper.more.bytes +
+          c.in_ok-lower.lower.more.bytes)) a c.args.most) c.self.view_is made);
+    }
+
+pub invariant_of-result : goal.invariant_of-result
+invariant_of-result c =
+    counted_twice c.self.inside.root c.in_ok-try_copy.field-0 c.in_ok-upper.upper.root
+    c.in_ok-lower.lower.root c.raise_between.new.self c.self.inside.count c.self.inside.bytes
+    c.in_ok-upper.upper.more c.in_ok-lower.lower.more
+    (between (cut_of c.add.inside.from) (cut_of c.add.inside.to)) c.add.inside.value
+    c.self.invariant
+    c.in_ok-try_copy.ensures c.in_ok-lower.ensures.split.sorted c.in_ok-upper.ensures.grown
+    c.in_ok-lower.ensures.grown c.in_ok-raise_between.ensures.whole
+    c.in_ok-raise_between.ensures.raised
+
+pub overflow_add-count : goal.overflow_add-count
+overflow_add-count c =
+    omega (
+      arith,
+      c.self.invariant.count,
+      c.self.invariant.bytes,
+      node_costs (root_nodes c.self.inside.root),
+      c.requires.within,
+      c.requires.small,
+      ap (λ (t : TreeView). t.bytes) c.self.view_is,
+      c.in_ok-upper.ensures.few.0,
+      c.in_ok-lower.ensures.few.0,
+    )
+
+pub overflow_add-count-2 : goal.overflow_add-count-2
+overflow_add-count-2 c =
+    omega (
+      arith,
+      c.self.invariant.count,
+      c.self.invariant.bytes,
+      node_costs (root_nodes c.self.inside.root),
+      c.requires.within,
+      c.requires.small,
+      ap (λ (t : TreeView). t.bytes) c.self.view_is,
+      c.in_ok-upper.ensures.few.0,
+      c.in_ok-lower.ensures.few.0,
+    )
+
+pub with_node-requires-clause-whole : goal.with_node-requires-clause-whole
+with_node-requires-clause-whole c = c.in_ok-try_copy.ensures.whole c.self.invariant.whole
+
+pub with_node-requires-clause-sorted : goal.with_node-requires-clause-sorted
+with_node-requires-clause-sorted c =
+    subst IsSorted (sym c.in_ok-try_copy.ensures.nodes) c.self.invariant.sorted
+
+pub with_node-requires-2-clause-whole : goal.with_node-requires-2-clause-whole
+with_node-requires-2-clause-whole c = c.in_ok-upper.ensures.whole
+
+pub with_node-requires-2-clause-sorted : goal.with_node-requires-2-clause-sorted
+with_node-requires-2-clause-sorted c = c.in_ok-upper.ensures.split.sorted
+
+pub raise_between-requires-clause-whole : goal.raise_between-requires-clause-whole
+raise_between-requires-clause-whole c = c.in_ok-lower.ensures.whole
+
+pub raise_between-requires-clause-sorted : goal.raise_between-requires-clause-sorted
+raise_between-requires-clause-sorted c = c.in_ok-lower.ensures.split.sorted
+
+pub raise_between-requires-clause-order : goal.raise_between-requires-clause-order
+raise_between-requires-clause-order c = c.add.invariant.order
+
+pub overflow_add-bytes : goal.overflow_add-bytes
+overflow_add-bytes c = omega (
+  arith,
+  c.requires.within,
+  c.requires.small,
+  ap (λ (t : TreeView). t.bytes) c.self.view_is,
+  c.in_ok-upper.ensures.few.1,
+)
+
+pub overflow_add-bytes-2 : goal.overflow_add-bytes-2
+overflow_add-bytes-2 c = omega (
+  arith,
+  c.requires.within,
+  c.requires.small,
+  ap (λ (t : TreeView). t.bytes) c.self.view_is,
+  c.in_ok-upper.ensures.few.1,
+  c.in_ok-lower.ensures.few.1,
+)

@@ -1,0 +1,20 @@
+-- The root tells it.
+use Rattle.std.proofs.Common.{◌≡◌, ◌∙◌, ap, rules}
+use Rattle.std.specs.Prelude.{option_map}
+use Rattle.tsc_span.specs.Cuts.{cut_of}
+use Rattle.tsc_page_nodes.specs.KeysAbove.{first_above}
+use Rattle.tsc_page_nodes.specs.Nodes.{node_keys}
+use Rattle.tsc_page.specs.Roots.{TreeView, root_nodes}
+use Rattle.tsc_page.proofs.tree.Tree.key_above.Goals as goal
+
+pub key_above-requires-clause-whole : goal.key_above-requires-clause-whole
+key_above-requires-clause-whole c = c.self.invariant.whole
+
+pub key_above-requires-clause-sorted : goal.key_above-requires-clause-sorted
+key_above-requires-clause-sorted c = c.self.invariant.sorted
+
+pub returns : goal.returns
+returns c =
+    let here : option_map (λ k. k.now) c.key_above.result ≡ first_above (cut_of c.args.cut)
+    (node_keys (root_nodes c.self.inside.root)) = search rules in
+    here ∙ ap (λ (t : TreeView). first_above (cut_of c.args.cut) (node_keys t.nodes)) c.self.view_is

@@ -1,0 +1,18 @@
+-- The root answers it.
+use Rattle.std.proofs.Common.{◌≡◌, ◌∙◌, ap, rules}
+use Rattle.tsc_span.specs.Span.{point}
+use Rattle.tsc_page_nodes.specs.Nodes.{answer_of}
+use Rattle.tsc_page.specs.Roots.{TreeView, root_nodes}
+use Rattle.tsc_page.proofs.tree.Tree.value_at.Goals as goal
+
+pub value_at-requires-clause-whole : goal.value_at-requires-clause-whole
+value_at-requires-clause-whole c = c.self.invariant.whole
+
+pub value_at-requires-clause-sorted : goal.value_at-requires-clause-sorted
+value_at-requires-clause-sorted c = c.self.invariant.sorted
+
+pub returns : goal.returns
+returns c =
+    let here : c.value_at.result ≡ answer_of (root_nodes c.self.inside.root) (point c.args.key.now)
+    = search rules in
+    here ∙ ap (λ (t : TreeView). answer_of t.nodes (point c.args.key.now)) c.self.view_is

@@ -1,6 +1,0 @@
--- The keys are shared, and the values copied.
-use Rattle.std.proofs.Common.{rules}
-use Rattle.tsc_page_base.proofs.nodes.NodesClone.clone.Goals as goal
-
-pub returns : goal.returns
-returns c = search rules

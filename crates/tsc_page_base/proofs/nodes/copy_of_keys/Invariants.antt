@@ -1,6 +1,0 @@
-use Rattle.std.proofs.Common.{◌≡◌, take}
-use Rattle.tsc_page_base.proofs.nodes.copy_of_keys.Given as goal
-
--- what was copied so far
-abbrev pub invariant-loop-key : goal.invariant-loop-key
-invariant-loop-key l = l.copy.items ≡ take l.key-index l.key-items

@@ -1,8 +1,0 @@
-use Rattle.std.proofs.Common.{◌≡◌, take, map}
-use Rattle.tsc_time.specs.Joint.{latest}
-use Rattle.tsc_page_base.specs.Page.{Mark}
-use Rattle.tsc_page_base.proofs.plain.PlainPageIntervalPage.top.Given as goal
-
--- the latest time so far
-abbrev pub invariant-loop-mark : goal.invariant-loop-mark
-invariant-loop-mark l = l.top ≡ latest l.initial.top (map (λ (m : Mark). m.value) (take l.mark-index l.mark-items))

@@ -1,6 +1,0 @@
-use Rattle.std.proofs.Common.{◌≡◌, take}
-use Rattle.tsc_page_base.proofs.plain.PlainPageIntervalPage.try_copy.Given as goal
-
--- what was copied so far
-abbrev pub invariant-loop-mark : goal.invariant-loop-mark
-invariant-loop-mark l = l.marks.items ≡ take l.mark-index l.mark-items

@@ -1,0 +1,13 @@
+pub mod Limits
+pub mod Page
+pub mod PageView
+pub mod PageAdds
+pub mod Nodes
+pub mod Numbers
+pub mod Words
+pub mod KeyAdds
+pub mod Additions
+pub mod KeysAbove
+pub use Rattle.tsc_time.specs.Time
+pub use Rattle.tsc_time.specs.Joint
+pub use Rattle.tsc_span.specs.Span

@@ -1,0 +1,31 @@
+//! The nodes of a page of a timestamp cache.
+//!
+//! A node is an end key of a span that was added to a page. It has the value that holds at its key,
+//! and the value that holds in the open gap between its key and that of the next node. [`Nodes`]
+//! keeps nodes in the order of their keys: it makes nodes of keys, ratchets a value into the keys
+//! and gaps between two cuts, and joins the values of those that lie there. A [`PrefixedCut`] is a
+//! cut beside the number that the first bytes of its key make, so that most keys are compared by
+//! numbers.
+//!
+//! It restates, of CockroachDB's `pkg/kv/kvserver/tscache/interval_skl.go`, what a `sklPage` does
+//! with the nodes of its skiplist: `addNode` makes a node, with the value of the gap in which it
+//! falls, `ratchetValueSet` raises its two values, and `visitRange` goes over those that a span
+//! meets. The page itself is `Page` of `tsc_page`, which keeps such nodes in leaves.
+#![tactic(auto)]
+
+mod addition;
+mod interval_page;
+pub mod laws;
+mod nodes;
+mod number;
+
+pub use addition::{Addition, KeyAddition, SearchKey};
+pub use interval_page::IntervalPage;
+pub use nodes::{Grown, Nodes};
+pub use number::{KeyPrefix, PrefixedCut, PrefixedKey};
+
+/// How many bytes a page may have at the least.
+pub const LEAST_SIZE: u32 = 64;
+
+/// How many bytes a page may have at the most.
+pub const MOST_SIZE: u32 = 1_073_741_824;

@@ -1,0 +1,35 @@
+-- What is pending is seen where the span reaches where the fork begins.
+use Rattle.std.proofs.Common.{◌≡◌, ◌∙◌, sym, ap, subst, map, Bool, List}
+use Rattle.std.specs.Arc.{arc_value}
+use Rattle.tsc_time.specs.OwnedTime.{OwnedTime}
+use Rattle.tsc_span.specs.Span.{Cut, between, is_below}
+use Rattle.tsc_page_nodes.specs.Nodes.{Node, answer_of}
+use Rattle.tsc_page_tree.specs.Leaves.{nodes_of, start_of, AreParts}
+use Rattle.tsc_page_tree.specs.Pending.{seen_with}
+use Rattle.tsc_page_tree.proofs.Pending.{sorted_without, pending-start, pending_answer}
+use Rattle.tsc_page_tree.proofs.Wholes.{fork_parts}
+use Rattle.tsc_page_tree.proofs.fork.ForkPart.join_between.Goals as goal
+
+pub join_between-below-requires-clause-parts : goal.join_between-below-requires-clause-parts
+join_between-below-requires-clause-parts g c =
+    let is = c.deref-2.ensures.value ∙ ap (λ v. v.items) c.deref.ensures in
+    subst (AreParts g.P.Part.nodes g.P.Part.IsWhole) (sym is)
+    (fork_parts g.P.Part.nodes g.P.Part.sizes g.P.Part.IsWhole c.args.self.now.summary
+    (arc_value c.args.self.now.parts).items c.requires.whole c.requires.sorted)
+
+pub returns : goal.returns
+returns g c =
+    let read = g.P.Part.nodes in
+    let is = c.deref-2.ensures.value ∙ ap (λ v. v.items) c.deref.ensures in
+    let ns : List Node = nodes_of (map read (arc_value c.args.self.now.parts).items) in
+    let p = c.args.self.now.summary.pending in
+    let f : Cut = c.args.from.now in
+    let t : Cut = c.args.to.now in
+    let below : c.join_between-below.result ≡ answer_of ns (between f t) =
+    c.join_between-below.ensures ∙
+    ap (λ (xs : List g.row.P.Denot). answer_of (nodes_of (map read xs)) (between f t)) is in
+    let reached : c.starts_below.result ≡ is_below (start_of ns) t = c.starts_below.ensures ∙
+    ap (λ (x : Cut). is_below x t) (pending-start p ns) in
+    c.seen.ensures ∙ ap (λ (w : OwnedTime). seen_with p c.starts_below.result w) below ∙
+    ap (λ (b : Bool). seen_with p b (answer_of ns (between f t))) reached
+    ∙ sym (pending_answer p f t ns (sorted_without p ns c.requires.sorted) c.requires.order)
