@@ -1,11 +1,13 @@
-//! Adds that seats make for one another: very many of them, beside gated ones, where pages rotate, and where some are refused memory.
+//! Adds that seats make for one another: very many of them, beside gated ones, where pages rotate,
+//! and where some are refused memory.
 //!
-//! `scripts/refuse-each-growth` refuses memory to the last of these tests, and `scripts/refuse-handles` handles on the standby copy.
-use super::crowd::{Plan, What};
+//! `scripts/refuse-each-growth` refuses memory to the last of these tests, and
+//! `scripts/refuse-handles` handles on the standby copy.
+use super::harness::{By, Of, TestCache, TestSeat, Told, Why};
 use super::marks::Adding;
-use super::party::{By, Guest, Home, Of, Told, Why};
 use super::steps::Act::{AtOnce, Close, CloseAny};
 use super::steps::{PAGES, Row, play, play_all};
+use super::stress::{Plan, What};
 use super::threads::{Meeting, Scene, check};
 use std::alloc::Global;
 use std::process::Abort;
@@ -21,7 +23,8 @@ const TRIES: u32 = 3;
 const LOOKS: u32 = 10_000;
 
 impl<C: Of> Meeting<'_, C> {
-    /// Waits a little until so many seats are there, this one among them, so that they add at the same time.
+    /// Waits a little until so many seats are there, this one among them, so that they add at the
+    /// same time.
     fn gather(&self, seats: u64) {
         self.adds.fetch_add(1, Ordering::SeqCst);
         for _ in 0..LOOKS {
@@ -36,8 +39,8 @@ impl<C: Of> Meeting<'_, C> {
     fn add_again<R: Wait + Abort>(
         &self,
         rt: &R,
-        home: &Home<C>,
-        guest: &mut Guest<C>,
+        home: &TestCache<C>,
+        guest: &mut TestSeat<C>,
         adding: &Adding,
         by: By,
     ) -> Told {
@@ -50,12 +53,13 @@ impl<C: Of> Meeting<'_, C> {
         Told::Not(Why::NoMemory)
     }
 
-    /// Whether the Add of a round was made, at a place that no other was told. Else memory is refused for good.
+    /// Whether the Add of a round was made, at a place that no other was told. Else memory is
+    /// refused for good.
     fn is_made<R: Wait + Abort>(
         &self,
         rt: &R,
-        home: &Home<C>,
-        guest: &mut Guest<C>,
+        home: &TestCache<C>,
+        guest: &mut TestSeat<C>,
         (plan, adding): (&Plan, &Adding),
         round: u32,
     ) -> bool {
@@ -78,8 +82,8 @@ impl<C: Of> Meeting<'_, C> {
         &self,
         rt: &R,
         alloc: Global,
-        home: &Home<C>,
-        guest: &mut Guest<C>,
+        home: &TestCache<C>,
+        guest: &mut TestSeat<C>,
         plan: &Plan,
         round: u32,
     ) -> bool {
@@ -116,7 +120,8 @@ static MANY: Row = Row {
     ],
 };
 
-/// Adds that bring new pages, and every other seat's with a gate, are made by their own seats. The gate is told of the gated ones alone.
+/// Adds that bring new pages, and every other seat's with a gate, are made by their own seats. The
+/// gate is told of the gated ones alone.
 static THEIR_OWN: [Row; 2] = [
     Row {
         pages: PAGES,
@@ -160,7 +165,8 @@ static THEIR_OWN: [Row; 2] = [
     },
 ];
 
-/// The places that were told are those of all Adds that were made, and the cache answers as one that had these alone.
+/// The places that were told are those of all Adds that were made, and the cache answers as one
+/// that had these alone.
 static AGAIN: Row = Row {
     pages: PAGES,
     seats: 4,

@@ -1,10 +1,10 @@
 //! Batches: several marks that are added as one entry, seen by all seats as a whole or not at all.
+use super::harness::By::{Gate, Plain};
+use super::harness::Owner::{First, Other};
+use super::harness::Told::{Counted, Full, Long, Not, Place, Value};
+use super::harness::{Of, Owner, TestCache, TestSeat, Told, Why};
 use super::marks::Adding;
 use super::marks::Entry::{One, Several};
-use super::party::By::{Gate, Plain};
-use super::party::Owner::{First, Other};
-use super::party::Told::{Counted, Full, Long, Not, Place, Value};
-use super::party::{Guest, Home, Of, Owner, Told, Why};
 use super::steps::Act::{self, Again, AtOnce, Close, Figures, Get, Low};
 use super::steps::{KEPT, PAGES, Row, play, play_all};
 use super::threads::{Meeting, Scene, check};
@@ -226,7 +226,8 @@ static ROWS: [Row; 9] = [
             (0, Act::Gate, Long(0)),
         ],
     },
-    // A batch is one entry of the history, and one that is full refuses another, but for one that is too large.
+    // A batch is one entry of the history, and one that is full refuses another, but for one that
+    // is too large.
     Row {
         pages: PAGES,
         seats: 2,
@@ -326,8 +327,8 @@ impl<C: Of> Meeting<'_, C> {
         &self,
         rt: &R,
         alloc: Global,
-        home: &Home<C>,
-        guest: &mut Guest<C>,
+        home: &TestCache<C>,
+        guest: &mut TestSeat<C>,
         wall: u64,
     ) {
         let rows = [("a", "", wall, First), ("b", "", wall, Other)];
@@ -338,14 +339,15 @@ impl<C: Of> Meeting<'_, C> {
         check(rt, matches!(told, Place(_, _, _)), told);
     }
 
-    /// Two seats add `a` by the first owner and `b` by the second one, at one time, and two others look at both. The two come to no owner
-    /// where both are there, so whoever sees an owner has seen a part of a batch.
+    /// Two seats add `a` by the first owner and `b` by the second one, at one time, and two others
+    /// look at both. The two come to no owner where both are there, so whoever sees an owner has
+    /// seen a part of a batch.
     pub fn both<R: Wait + Abort>(
         &self,
         rt: &R,
         alloc: Global,
-        home: &Home<C>,
-        guest: &mut Guest<C>,
+        home: &TestCache<C>,
+        guest: &mut TestSeat<C>,
         round: u32,
     ) -> bool {
         if guest.number() < 2 {

@@ -1,17 +1,17 @@
 //! What is counted of a cache, as two seats are told it, beside a cache that isn't shared.
+use super::harness::By::Gate;
+use super::harness::Told::{Counted, Long, Not, Place};
+use super::harness::{Told, Why, counted_of};
 use super::marks::Adding;
 use super::marks::Entry::One;
-use super::party::By::Gate;
-use super::party::Told::{Counted, Long, Not, Place};
-use super::party::{Told, Why, counted_of};
 use super::steps::Act::{self, Add, Figures, See};
 use super::steps::{KEPT, PAGES, ROTATED, Row, Step, config_of, end, play};
 use std::alloc::Global;
 use std::test::Fail;
 use tsc_cache::{Cache, TimestampCache};
 
-/// A page has four keys, each of which costs 33 bytes. What lies ten behind the moment is dropped, but for two pages. The second seat is
-/// told what there is only where it asks.
+/// A page has four keys, each of which costs 33 bytes. What lies ten behind the moment is dropped,
+/// but for two pages. The second seat is told what there is only where it asks.
 static ROW: Row = Row {
     pages: PAGES,
     seats: 2,
@@ -74,7 +74,8 @@ pub fn takes(alone: &mut Cache, adding: &Adding) -> bool {
     }
 }
 
-/// What is told of a step with such a cache: of an Add that it was made, and of figures what it counts, where that is what the step tells.
+/// What is told of a step with such a cache: of an Add that it was made, and of figures what it
+/// counts, where that is what the step tells.
 fn take_alone(alloc: Global, alone: &mut Cache, act: &Act, told: Told) -> Told {
     if let Add(entry, now, _) = act {
         return match Adding::of(alloc, entry, *now) {

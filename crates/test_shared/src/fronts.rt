@@ -1,6 +1,6 @@
 //! Fronts that go to other threads by channels.
+use super::harness::{By, Of, SentSnapshot, TestCache, TestSeat, Told};
 use super::marks::Adding;
-use super::party::{By, Guest, Home, Letter, Of, Told};
 use super::steps::Act::{AtOnce, Close};
 use super::steps::{PAGES, Row, play};
 use super::threads::{Meeting, Scene, check};
@@ -19,7 +19,7 @@ static KEYS: [&str; 8] = ["a", "b", "c", "d", "e", "f", "g", "h"];
 /// A front with the key and the time of the Add that it is of.
 #[derive(Drop)]
 struct Post<C: Of> {
-    letter: Letter<C>,
+    letter: SentSnapshot<C>,
     key: &'static str,
     time: u64,
 }
@@ -32,7 +32,7 @@ pub struct Channel<C: Of> {
 }
 
 impl<C: Of> Channel<C> {
-    /// So many. `None` where memory is refused.
+    /// `count` channels. `None` where memory is refused.
     pub fn all(alloc: Global, count: u64) -> Option<Vec<Channel<C>>> {
         let mut all = Vec::new(alloc);
         for _ in 0..count {
@@ -59,8 +59,8 @@ impl<C: Of> Meeting<'_, C> {
         &self,
         rt: &R,
         alloc: Global,
-        home: &Home<C>,
-        guest: &mut Guest<C>,
+        home: &TestCache<C>,
+        guest: &mut TestSeat<C>,
         key: &'static str,
         time: u64,
     ) -> Option<()> {
@@ -74,8 +74,8 @@ impl<C: Of> Meeting<'_, C> {
         &self,
         rt: &R,
         alloc: Global,
-        home: &Home<C>,
-        guest: &mut Guest<C>,
+        home: &TestCache<C>,
+        guest: &mut TestSeat<C>,
         time: u64,
     ) -> Option<Post<C>> {
         let key = *KEYS.get(guest.number() as usize)?;
@@ -95,7 +95,7 @@ impl<C: Of> Meeting<'_, C> {
     }
 
     /// Learns a front that came, and tells whether its Add is seen then.
-    fn has_come(&self, home: &Home<C>, guest: &mut Guest<C>, post: Post<C>) -> bool {
+    fn has_come(&self, home: &TestCache<C>, guest: &mut TestSeat<C>, post: Post<C>) -> bool {
         let Post { letter, key, time } = post;
         let least = letter.len();
         let long = home.learn(guest, letter);
@@ -103,13 +103,14 @@ impl<C: Of> Meeting<'_, C> {
         has(least, time, long, seen)
     }
 
-    /// Adds, sends the front on, and learns the one that comes. `None` where memory or a channel is refused.
+    /// Adds, sends the front on, and learns the one that comes. `None` where memory or a channel is
+    /// refused.
     fn send_one<R: Wait + Abort>(
         &self,
         rt: &R,
         alloc: Global,
-        home: &Home<C>,
-        guest: &mut Guest<C>,
+        home: &TestCache<C>,
+        guest: &mut TestSeat<C>,
         time: u64,
     ) -> Option<bool> {
         let post = self.post(rt, alloc, home, guest, time)?;
@@ -122,8 +123,8 @@ impl<C: Of> Meeting<'_, C> {
         &self,
         rt: &R,
         alloc: Global,
-        home: &Home<C>,
-        guest: &mut Guest<C>,
+        home: &TestCache<C>,
+        guest: &mut TestSeat<C>,
         round: u32,
     ) -> bool {
         let time = u64::from(round).saturating_add(20);

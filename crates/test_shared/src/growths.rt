@@ -1,11 +1,12 @@
-//! How many growths an Add to a shared cache asks for, before and after its pages rotate. Each test but
-//! that of a large page makes one Add again where it is refused memory. Where an Add in place on the
-//! standby copy is refused, that copy is made anew from the active one, so the cache makes some
-//! growths good by itself, and `scripts/refuse-each-growth` counts for how many a whole test asks.
+//! How many growths an Add to a shared cache asks for, before and after its pages rotate. Each test
+//! but that of a large page makes one Add again where it is refused memory. Where an Add in place
+//! on the standby copy is refused, that copy is made anew from the active one, so the cache makes
+//! some growths good by itself, and `scripts/refuse-each-growth` counts for how many a whole test
+//! asks.
+use super::harness::By::{Gate, Plain};
+use super::harness::Owner;
+use super::harness::Told::{Counted, Place, Value};
 use super::marks::Entry::{One, Several};
-use super::party::By::{Gate, Plain};
-use super::party::Owner;
-use super::party::Told::{Counted, Place, Value};
 use super::steps::Act::{Add, Again, Figures, Fill, Get, Often};
 use super::steps::{KEPT, PAGES, ROTATED, Row, play};
 use std::test::Fail;

@@ -1,9 +1,9 @@
-//! An Add that is held up where it has the writer lock and nobody can see it, until lookups on other threads have answered, and Adds there
-//! were given up.
+//! An Add that is held up where it has the writer lock and nobody can see it, until lookups on
+//! other threads have answered, and Adds there were given up.
+use super::harness::Told::{Long, Place, Value};
+use super::harness::{By, Of, Owner, TestCache, TestSeat, Told, Why};
 use super::marks::Entry;
 use super::marks::Entry::{One, Several};
-use super::party::Told::{Long, Place, Value};
-use super::party::{By, Guest, Home, Of, Owner, Told, Why};
 use super::steps::Act::{Add, AtOnce, Get, Learn, Send};
 use super::steps::{KEPT, PAGES, ROTATED, Row, play};
 use super::threads::{Meeting, Scene, check};
@@ -25,7 +25,7 @@ pub struct Plan {
     pub asked: (&'static str, &'static str),
     /// What they are told of it meanwhile.
     pub meanwhile: Told,
-    /// And of the floor.
+    /// What a lookup of the floor answers.
     pub floor: Told,
 }
 
@@ -147,7 +147,7 @@ static MANY: Row = Row {
 };
 
 /// What a seat is told of a key, or of the range up to a second one.
-fn get<C: Of>(home: &Home<C>, guest: &mut Guest<C>, (start, end): (&str, &str)) -> Told {
+fn get<C: Of>(home: &TestCache<C>, guest: &mut TestSeat<C>, (start, end): (&str, &str)) -> Told {
     if end.is_empty() {
         home.get_key(guest, start)
     } else {
@@ -156,8 +156,15 @@ fn get<C: Of>(home: &Home<C>, guest: &mut Guest<C>, (start, end): (&str, &str)) 
 }
 
 impl<C: Of> Meeting<'_, C> {
-    /// Looks as often as the plan says, and tries to add the same, after however many tries, which leaves the seat as it was.
-    fn look<R: Wait + Abort>(&self, rt: &R, home: &Home<C>, guest: &mut Guest<C>, plan: &Plan) {
+    /// Looks as often as the plan says, and tries to add the same, after however many tries, which
+    /// leaves the seat as it was.
+    fn look<R: Wait + Abort>(
+        &self,
+        rt: &R,
+        home: &TestCache<C>,
+        guest: &mut TestSeat<C>,
+        plan: &Plan,
+    ) {
         for _ in 0..plan.looks {
             let (told, floor) = (get(home, guest, plan.asked), home.low(guest));
             check(rt, told == plan.meanwhile, told);
@@ -173,8 +180,8 @@ impl<C: Of> Meeting<'_, C> {
     fn add_held<R: Wait + Abort>(
         &self,
         rt: &R,
-        home: &Home<C>,
-        guest: &mut Guest<C>,
+        home: &TestCache<C>,
+        guest: &mut TestSeat<C>,
         plan: &Plan,
         round: u32,
     ) -> bool {
@@ -188,8 +195,8 @@ impl<C: Of> Meeting<'_, C> {
     pub fn hold<R: Wait + Abort>(
         &self,
         rt: &R,
-        home: &Home<C>,
-        guest: &mut Guest<C>,
+        home: &TestCache<C>,
+        guest: &mut TestSeat<C>,
         plan: &Plan,
         round: u32,
     ) -> bool {

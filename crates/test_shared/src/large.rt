@@ -1,8 +1,8 @@
 //! Adds that are too large for a page.
+use super::harness::By::Gate;
+use super::harness::Told::{Full, Long, Not, Place};
+use super::harness::Why;
 use super::marks::Entry::One;
-use super::party::By::Gate;
-use super::party::Told::{Full, Long, Not, Place};
-use super::party::Why;
 use super::steps::Act::{self, Add, Count, See};
 use super::steps::{KEPT, Row, play_all};
 use std::test::Fail;

@@ -1,7 +1,9 @@
-//! Tests of the shared cache over threads, through its public calls: what it tells where Adds are held up, raced, refused and handed on.
+//! Tests of the shared cache over threads, through its public calls: what it tells where Adds are
+//! held up, raced, refused and handed on.
 //!
-//! They stand apart because a crate that has tests is proved once with them and once without; and apart from those of one thread
-//! because the gate reckons a crate's memory by its lines, so that two large crates wait for each other.
+//! They stand apart because a crate that has tests is proved once with them and once without; and
+//! apart from those of one thread because the gate reckons a crate's memory by its lines, so that
+//! two large crates wait for each other.
 #![tactic(auto)]
 
 #[cfg(test)]
@@ -9,13 +11,13 @@ mod asked;
 #[cfg(test)]
 mod batches;
 #[cfg(test)]
-mod crowd;
-#[cfg(test)]
 mod figures;
 #[cfg(test)]
 mod fronts;
 #[cfg(test)]
 mod growths;
+#[cfg(test)]
+mod harness;
 #[cfg(test)]
 mod held;
 #[cfg(test)]
@@ -25,8 +27,6 @@ mod marks;
 #[cfg(test)]
 mod memory;
 #[cfg(test)]
-mod party;
-#[cfg(test)]
 mod refused;
 #[cfg(test)]
 mod returned;
@@ -34,6 +34,10 @@ mod returned;
 mod rows;
 #[cfg(test)]
 mod steps;
+#[cfg(test)]
+mod stopped;
+#[cfg(test)]
+mod stress;
 #[cfg(test)]
 mod texts;
 #[cfg(test)]

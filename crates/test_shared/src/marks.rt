@@ -1,5 +1,5 @@
 //! Spans and marks by names, and what is added as one entry of the history.
-use super::party::Owner;
+use super::harness::Owner;
 use std::alloc::Global;
 use tsc_cache::Mark;
 use tsc_span::{Ends, Key, Span, SpanFault};
@@ -41,7 +41,8 @@ pub fn at(wall: u64) -> Timestamp {
     Timestamp::new(wall, 0).unwrap_or(Timestamp::MAX)
 }
 
-/// The span of a key, or of the range up to a second one; from a key up to itself it is the empty span.
+/// The span of a key, or of the range up to a second one; from a key up to itself it is the empty
+/// span.
 pub fn span_of(alloc: Global, start: &str, end: &str) -> Result<Span, SpanFault> {
     if end.is_empty() {
         return Ok(Span::point(Key::new(alloc, start.as_bytes())?));
@@ -90,7 +91,8 @@ impl Adding {
         Some(Adding::One(mark, at(now)))
     }
 
-    /// A key of one byte at a wall time, which is its moment too, by an owner of these bytes. `None` where memory is refused.
+    /// A key of one byte at a wall time, which is its moment too, by an owner of these bytes.
+    /// `None` where memory is refused.
     pub fn by(alloc: Global, key: u8, wall: u64, owner: [u8; 16]) -> Option<Adding> {
         let span = Span::point(Key::new(alloc, &[key]).ok()?);
         let value = Value::of(at(wall), Uuid::from_bytes(owner));

@@ -1,14 +1,15 @@
-//! Want of memory. `scripts/refuse-each-growth tests test_shared memory::..` refuses each growth of these tests in
-//! turn, and counts those after which a test passes.
+//! Want of memory. `scripts/refuse-each-growth tests test_shared memory::..` refuses each growth of
+//! these tests in turn, and counts those after which a test passes.
+use super::harness::By::Gate;
+use super::harness::Told::{Long, Not, Place};
+use super::harness::Why;
 use super::marks::Entry::One;
-use super::party::By::Gate;
-use super::party::Told::{Long, Not, Place};
-use super::party::Why;
 use super::steps::Act::{Add, Again, Close, Copy};
 use super::steps::{KEPT, PAGES, ROTATED, Row, play};
 use std::test::Fail;
 
-/// Both seats add, in turn. The third Add is of a key that is there already. The pages rotate at `e` and at `i`, where the oldest is dropped.
+/// Both seats add, in turn. The third Add is of a key that is there already. The pages rotate at
+/// `e` and at `i`, where the oldest is dropped.
 static AGAIN: Row = Row {
     pages: PAGES,
     seats: 2,
@@ -92,8 +93,8 @@ fn a_refused_add_can_be_made_again(rt: HostRuntime) -> Result<(), Fail> {
     play(&rt, rt.alloc(), &AGAIN)
 }
 
-/// As many growths are refused and then made good here as in the next test: an Add takes a copy of its span, and no
-/// other memory, where both sides have its key.
+/// The growths that are refused and then made good here are as many as in the next test: an Add
+/// takes a copy of its span, and no other memory, where both sides have its key.
 #[test]
 fn an_add_of_a_known_key_is_made_again(rt: HostRuntime) -> Result<(), Fail> {
     play(&rt, rt.alloc(), &KNOWN)

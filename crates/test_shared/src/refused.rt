@@ -1,9 +1,9 @@
-//! Adds that are refused memory more than once, or for good, beside a plain cache. `scripts/refuse-each-growth` with the
-//! words `twice` or `for-good` refuses it to them.
+//! Adds that are refused memory more than once, or for good, beside a plain cache.
+//! `scripts/refuse-each-growth` with the words `twice` or `for-good` refuses it to them.
 ghost use Rattle.std.specs.Prelude.{◌≡◌, []};
 
+use super::harness::{Ended, Of, TestCache, TestSeat, Told, Why, told_of};
 use super::marks::Adding;
-use super::party::{Ended, Guest, Home, Of, Told, Why, told_of};
 use super::steps::Act::Refuse;
 use super::steps::{PAGES, Row, config_of, play};
 use super::watch::Watch;
@@ -52,7 +52,8 @@ struct Next {
     plain: Cache,
 }
 
-/// All that is to come, which is made first, since nothing can be made once memory is refused for good.
+/// All that is to come, which is made first, since nothing can be made once memory is refused for
+/// good.
 #[derive(Drop)]
 struct Course {
     /// A plain cache before all Adds.
@@ -60,7 +61,8 @@ struct Course {
     adds: Vec<Next>,
 }
 
-/// What the Add that has this place is to be told, and a plain cache after it. `None` where memory is refused.
+/// What the Add that has this place is to be told, and a plain cache after it. `None` where memory
+/// is refused.
 fn next_of(before: &Cache, adding: &Adding, place: u64) -> Option<(Cache, Told)> {
     let Adding::One(mark, now) = adding else {
         return None;
@@ -116,7 +118,7 @@ impl Course {
     }
 
     /// Whether a seat is told what the plain cache after so many Adds tells.
-    fn is_told<C: Of>(&self, home: &Home<C>, guest: &mut Guest<C>, adds: usize) -> bool {
+    fn is_told<C: Of>(&self, home: &TestCache<C>, guest: &mut TestSeat<C>, adds: usize) -> bool {
         let (plain, front) = (self.after(adds), adds as u64);
         let mut is_told = home.low(guest) == told_of(Value::unowned(plain.low_water()), front);
         for next in self.adds.iter() {
@@ -140,13 +142,13 @@ impl Course {
         is_closed
     }
 
-    /// What an Add is told that is tried three times where it is refused memory. After each refusal all is as before, and the gate was
-    /// told nothing.
+    /// What an Add is told that is tried three times where it is refused memory. After each refusal
+    /// all is as before, and the gate was told nothing.
     fn add<C: Of, R: Wait>(
         &self,
         rt: &R,
-        home: &Home<C>,
-        guest: &mut Guest<C>,
+        home: &TestCache<C>,
+        guest: &mut TestSeat<C>,
         (place, adding): (usize, &Adding),
         gate: &Watch,
     ) -> Told {
@@ -169,7 +171,12 @@ impl Course {
     }
 
     /// Whether all seats are told what the plain cache after so many Adds tells.
-    fn all_are_told<C: Of>(&self, home: &Home<C>, guests: &mut [Guest<C>], adds: usize) -> bool {
+    fn all_are_told<C: Of>(
+        &self,
+        home: &TestCache<C>,
+        guests: &mut [TestSeat<C>],
+        adds: usize,
+    ) -> bool {
         let mut are_told = true;
         for guest in guests.iter_mut() {
             are_told &= self.is_told(home, guest, adds);
@@ -177,13 +184,13 @@ impl Course {
         are_told
     }
 
-    /// The two seats add in turn, until memory is refused for good. The answer is how many Adds were made, or what was told that may
-    /// not be.
+    /// The two seats add in turn, until memory is refused for good. The answer is how many Adds
+    /// were made, or what was told that may not be.
     fn add_all<C: Of, R: Wait>(
         &self,
         rt: &R,
-        home: &Home<C>,
-        guests: &mut [Guest<C>],
+        home: &TestCache<C>,
+        guests: &mut [TestSeat<C>],
     ) -> Result<usize, Told> {
         let gate = Watch::new(0);
         for (place, next) in self.adds.iter().enumerate() {
@@ -223,8 +230,8 @@ impl Course {
         &self,
         rt: &R,
         alloc: Global,
-        home: Home<C>,
-        mut guests: Vec<Guest<C>>,
+        home: TestCache<C>,
+        mut guests: Vec<TestSeat<C>>,
         room: Vec<Seat>,
     ) -> Told
         requires { room.items ≡ [] }
@@ -236,12 +243,13 @@ impl Course {
     }
 }
 
-/// Adds until memory is refused for good, and closes the cache, which then answers as the plain one.
+/// Adds until memory is refused for good, and closes the cache, which then answers as the plain
+/// one.
 pub fn refuse<C: Of, R: Wait>(
     rt: &R,
     alloc: Global,
-    home: Home<C>,
-    guests: Vec<Guest<C>>,
+    home: TestCache<C>,
+    guests: Vec<TestSeat<C>>,
     keys: &[Key],
 ) -> Told {
     let Some(course) = Course::new(alloc, keys) else {
@@ -253,8 +261,8 @@ pub fn refuse<C: Of, R: Wait>(
     }
 }
 
-/// Both seats add, in turn, and each Add is tried three times. Once memory is refused for good, lookups answer and the
-/// cache is closed all the same.
+/// Both seats add, in turn, and each Add is tried three times. Once memory is refused for good,
+/// lookups answer and the cache is closed all the same.
 #[test]
 fn refused_adds_leave_all_as_it_was(rt: HostRuntime) -> Result<(), Fail> {
     play(&rt, rt.alloc(), &ROW)

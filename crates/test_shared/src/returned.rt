@@ -1,6 +1,7 @@
-//! Lookups that begin after an Add has returned on another thread, with nothing but a number to tell them so.
+//! Lookups that begin after an Add has returned on another thread, with nothing but a number to
+//! tell them so.
+use super::harness::{By, Of, TestCache, TestSeat, Told, Why};
 use super::marks::Adding;
-use super::party::{By, Guest, Home, Of, Told, Why};
 use super::steps::Act::{AtOnce, Close};
 use super::steps::{KEPT, PAGES, Row, play};
 use super::threads::{Meeting, Scene, check};
@@ -14,7 +15,8 @@ use std::thread;
 /// How many Adds the first seat makes.
 const ROUNDS: u64 = 10_000;
 
-/// Whether what is seen has all of so many Adds. The first one is at 20.0, and each at a later time than the one before.
+/// Whether what is seen has all of so many Adds. The first one is at 20.0, and each at a later time
+/// than the one before.
 fn has_all(adds: u64, seen: Told) -> bool {
     match seen {
         Told::Value((wall, 0), _, front) => adds <= front && adds <= wall.saturating_sub(19),
@@ -28,8 +30,8 @@ impl<C: Of> Meeting<'_, C> {
         &self,
         rt: &R,
         alloc: Global,
-        home: &Home<C>,
-        guest: &mut Guest<C>,
+        home: &TestCache<C>,
+        guest: &mut TestSeat<C>,
         round: u64,
     ) -> bool {
         let time = round.saturating_add(20);
@@ -48,8 +50,8 @@ impl<C: Of> Meeting<'_, C> {
         &self,
         rt: &R,
         alloc: Global,
-        home: &Home<C>,
-        guest: &mut Guest<C>,
+        home: &TestCache<C>,
+        guest: &mut TestSeat<C>,
         round: u32,
     ) -> bool {
         if guest.number() == 0 {

@@ -1,8 +1,8 @@
 //! What two seats are told, one step after the other.
+use super::harness::By::{Gate, Plain};
+use super::harness::Told::{Full, Long, Not, Place, Value};
+use super::harness::{Owner, Told, Why};
 use super::marks::Entry::{Alone, One};
-use super::party::By::{Gate, Plain};
-use super::party::Told::{Full, Long, Not, Place, Value};
-use super::party::{Owner, Told, Why};
 use super::steps::Act::{
     Add, Between, Close, CloseLate, Get, Learn, Leave, Low, Meet, Number, See, Send,
 };
@@ -202,8 +202,8 @@ static TOLD: [Row; 6] = [
             (0, CloseLate, Long(3)),
         ],
     },
-    // On pages of two nodes, of which one is kept at the least: the first page is dropped, and the floor rises to its top, which has no
-    // owner. The other seat sees that.
+    // On pages of two nodes, of which one is kept at the least: the first page is dropped, and the
+    // floor rises to its top, which has no owner. The other seat sees that.
     Row {
         pages: (66, 66, 1),
         seats: 2,

@@ -1,10 +1,11 @@
-//! Tables of steps, each with what is told of it: one function takes a step, and one loop goes over the rows.
+//! Tables of steps, each with what is told of it: one function takes a step, and one loop goes over
+//! the rows.
 ghost use Rattle.std.specs.Prelude.{◌≡◌, All};
 
-use super::crowd::are_alike;
+use super::harness::{By, Ended, Of, SentSnapshot, TestCache, TestSeat, Told, Why, open, together};
 use super::marks::{Adding, Entry, at, span_of};
-use super::party::{By, Ended, Guest, Home, Letter, Of, Told, Why, open, together};
 use super::refused::{Key, refuse};
+use super::stress::are_alike;
 use super::threads::{Scene, meet};
 use super::watch::Watch;
 use std::alloc::Global;
@@ -49,7 +50,8 @@ pub enum Act {
     Number,
     /// Tells how many Adds the gate was told of.
     Gate,
-    /// Copies the span of a key, or of the range up to a second one, once more where it is refused memory.
+    /// Copies the span of a key, or of the range up to a second one, once more where it is refused
+    /// memory.
     Copy(&'static str, &'static str),
     /// The last seat is dropped.
     Leave,
@@ -59,8 +61,8 @@ pub enum Act {
     AtOnce(Scene),
     /// Two seats make these Adds in turn, which may be refused memory.
     Refuse(&'static [Key]),
-    /// All seats close the cache, which has as many Adds as they count; and if they played a crowd, it answers as one to which their Adds were
-    /// made in the order of their places.
+    /// All seats close the cache, which has as many Adds as they count; and if they played a
+    /// stress, it answers as one to which their Adds were made in the order of their places.
     Close,
     /// The same. All but the last try to first, and have it back with their seats.
     CloseLate,
@@ -82,7 +84,8 @@ pub struct Row {
     pub steps: &'static [Step],
 }
 
-/// Pages of 132 bytes, which are four nodes with keys of one byte, of which two are kept at the least.
+/// Pages of 132 bytes, which are four nodes with keys of one byte, of which two are kept at the
+/// least.
 pub const PAGES: (u32, u32, u32) = (132, 132, 2);
 
 /// What most Adds do: they are kept, and the pages do not rotate.
@@ -107,9 +110,9 @@ fn copy_again(alloc: Global, start: &str, end: &str) -> Told {
     Told::Not(Why::Done)
 }
 
-/// Has all seats look, and tells whether all that they count, and are told of the keys from `a` to `z` and of what is added, is as when they
-/// last did.
-fn look<C: Of>(home: &Home<C>, guests: &mut [Guest<C>], adding: &Adding) -> bool {
+/// Has all seats look, and tells whether all that they count, and are told of the keys from `a` to
+/// `z` and of what is added, is as when they last did.
+fn look<C: Of>(home: &TestCache<C>, guests: &mut [TestSeat<C>], adding: &Adding) -> bool {
     let mut is_as_before = true;
     for guest in guests.iter_mut() {
         let saw = home.look(guest, adding);
@@ -120,7 +123,7 @@ fn look<C: Of>(home: &Home<C>, guests: &mut [Guest<C>], adding: &Adding) -> bool
 }
 
 /// How many Adds these seats count.
-fn counted<C: Of>(guests: &[Guest<C>]) -> u64 {
+fn counted<C: Of>(guests: &[TestSeat<C>]) -> u64 {
     let mut counted: u64 = 0;
     for guest in guests {
         counted = counted.saturating_add(guest.count());
@@ -129,7 +132,7 @@ fn counted<C: Of>(guests: &[Guest<C>]) -> u64 {
 }
 
 /// What a seat is told that asks.
-fn ask<C: Of>(alloc: Global, home: &Home<C>, guest: &mut Guest<C>, act: &Act) -> Told {
+fn ask<C: Of>(alloc: Global, home: &TestCache<C>, guest: &mut TestSeat<C>, act: &Act) -> Told {
     match act {
         Act::Get(start, end) => match span_of(alloc, start, end) {
             Ok(span) => home.get(guest, &span),
@@ -146,7 +149,7 @@ fn ask<C: Of>(alloc: Global, home: &Home<C>, guest: &mut Guest<C>, act: &Act) ->
 }
 
 /// How long the front is that a seat was told last, which it hands on.
-fn send<C: Of>(guest: &mut Guest<C>, letters: &mut VecDeque<Letter<C>>) -> Told {
+fn send<C: Of>(guest: &mut TestSeat<C>, letters: &mut VecDeque<SentSnapshot<C>>) -> Told {
     let Some(letter) = guest.letter.take() else {
         return Told::Not(Why::Gone);
     };
@@ -158,15 +161,20 @@ fn send<C: Of>(guest: &mut Guest<C>, letters: &mut VecDeque<Letter<C>>) -> Told 
 }
 
 /// What a seat is told that learns the front that was handed on first.
-fn learn<C: Of>(home: &Home<C>, guest: &mut Guest<C>, letters: &mut VecDeque<Letter<C>>) -> Told {
+fn learn<C: Of>(
+    home: &TestCache<C>,
+    guest: &mut TestSeat<C>,
+    letters: &mut VecDeque<SentSnapshot<C>>,
+) -> Told {
     match letters.pop_front() {
         Some(letter) => home.learn(guest, letter),
         None => Told::Not(Why::Gone),
     }
 }
 
-/// What a seat is told that counted so many Adds before. It counts one more where it made one, and has seen as much as it is told.
-fn as_counted<C: Of>(guest: &Guest<C>, count: u64, told: Told) -> Told {
+/// What a seat is told that counted so many Adds before. It counts one more where it made one, and
+/// has seen as much as it is told.
+fn as_counted<C: Of>(guest: &TestSeat<C>, count: u64, told: Told) -> Told {
     let more = guest.count().wrapping_sub(count);
     let (made, seen) = match told {
         Told::Place(_, _, front) => (1, front),
@@ -184,8 +192,8 @@ fn as_counted<C: Of>(guest: &Guest<C>, count: u64, told: Told) -> Told {
 fn add_refused<C: Of, R: Wait>(
     rt: &R,
     alloc: Global,
-    home: &Home<C>,
-    guest: &mut Guest<C>,
+    home: &TestCache<C>,
+    guest: &mut TestSeat<C>,
     entry: &Entry,
     text: &str,
 ) -> Told {
@@ -199,14 +207,14 @@ fn add_refused<C: Of, R: Wait>(
 #[derive(Drop)]
 struct Stage<C: Of> {
     /// `None` once it is closed.
-    home: Option<Home<C>>,
-    guests: Vec<Guest<C>>,
+    home: Option<TestCache<C>>,
+    guests: Vec<TestSeat<C>>,
     /// The fronts that were handed on and not yet learnt.
-    letters: VecDeque<Letter<C>>,
+    letters: VecDeque<SentSnapshot<C>>,
     gate: Watch,
     /// Whether each Add that is refused memory is made once more.
     tries_again: bool,
-    /// A cache that isn't shared, to which the Adds of a crowd were made.
+    /// A cache that isn't shared, to which the Adds of a stress were made.
     alone: Option<Cache>,
 }
 
@@ -228,7 +236,8 @@ impl<C: Of + Send + Sync> Stage<C> {
         }
     }
 
-    /// An Add that is made once more where it is refused memory. After the refusal all is as before.
+    /// An Add that is made once more where it is refused memory. After the refusal all is as
+    /// before.
     fn add_again<R: Wait>(&mut self, rt: &R, seat: usize, adding: &Adding, by: By) -> Told {
         self.look(adding);
         let told = self.add(rt, seat, adding, by);
@@ -270,8 +279,8 @@ impl<C: Of + Send + Sync> Stage<C> {
         }
     }
 
-    /// So many Adds of a key at times that rise, and what the last one is told, or the first one
-    /// that brings a new page or is refused.
+    /// `count` Adds of a key at times that rise, and the outcome of the last one, or of the first
+    /// one that brings a new page or is refused.
     fn add_often<R: Wait>(
         &mut self,
         rt: &R,
@@ -326,7 +335,7 @@ impl<C: Of + Send + Sync> Stage<C> {
     }
 
     /// All seats.
-    fn take_seats(&mut self, alloc: Global) -> Vec<Guest<C>> {
+    fn take_seats(&mut self, alloc: Global) -> Vec<TestSeat<C>> {
         std::mem::replace(&mut self.guests, Vec::new(alloc))
     }
 
@@ -451,14 +460,15 @@ fn is_in_place(told: Told) -> bool {
 fn close<C: Of, R: Wait>(
     rt: &R,
     alloc: Global,
-    home: Home<C>,
-    guests: Vec<Guest<C>>,
+    home: TestCache<C>,
+    guests: Vec<TestSeat<C>>,
 ) -> Option<Ended<C>> {
     let room = Vec::with_capacity(alloc, guests.len()).ok()?;
     home.close(rt, alloc, room, guests).ok()
 }
 
-/// What is told of a closed cache, to which so many Adds were made, and which answers as the other one, if there is one.
+/// What is told of a closed cache, to which so many Adds were made, and which answers as the other
+/// one, if there is one.
 fn closed_with(closed: &Closed, counted: u64, alone: Option<&Cache>) -> Told {
     let is_alike = match alone {
         Some(alone) => are_alike(&closed.cache, alone),
@@ -517,7 +527,8 @@ pub fn end<R: Abort>(rt: &R, told: Told) -> Result<(), Fail> {
     Ok(())
 }
 
-/// Opens a cache, and takes the steps of a row; and where so said, tries each Add once more that is refused memory, and the opening.
+/// Opens a cache, and takes the steps of a row; and where so said, tries each Add once more that is
+/// refused memory, and the opening.
 fn play_so<R: Threads + Wait + Abort + Sync>(
     rt: &R,
     alloc: Global,

@@ -1,8 +1,8 @@
 //! The text of each fault, word for word.
 use super::batches::LARGE;
+use super::harness::Told::Not;
+use super::harness::{Told, Why};
 use super::marks::Entry::One;
-use super::party::Told::Not;
-use super::party::{Told, Why};
 use super::steps::Act::Refused;
 use super::steps::{PAGES, Row, end, play};
 use std::alloc::Global;

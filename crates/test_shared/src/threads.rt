@@ -1,10 +1,10 @@
 //! Seats on threads of their own, each of which takes turns until its part is done.
-use super::crowd;
-use super::crowd::What;
 use super::fronts::Channel;
+use super::harness::{By, Of, TestCache, TestSeat, Told, Why};
 use super::held::Plan;
 use super::marks::Adding;
-use super::party::{By, Guest, Home, Of, Told, Why};
+use super::stress;
+use super::stress::What;
 use super::watch::{TURNS, Watch};
 use std::alloc::Global;
 use std::process::Abort;
@@ -19,9 +19,9 @@ pub enum Scene {
     /// An Add that is held up until others have looked.
     Held(Plan),
     /// Adds up to a limit, and lookups.
-    Crowd(crowd::Plan),
+    Crowd(stress::Plan),
     /// Adds of which each is made again where it is refused memory.
-    Again(crowd::Plan),
+    Again(stress::Plan),
     /// Lookups that begin after Adds have returned.
     Returned,
     /// Fronts that go from each seat to the next.
@@ -30,6 +30,8 @@ pub enum Scene {
     Both,
     /// Adds that are given up, beside others and lookups.
     Tries,
+    /// Adds of which one is held up, and another one is made for its seat.
+    Stopped,
 }
 
 /// A scene under way. All that many turns need is there before a thread starts.
@@ -58,7 +60,7 @@ impl Scene {
     }
 }
 
-/// So many counts of 0.
+/// `count` counts of 0.
 fn zeros(alloc: Global, count: u64) -> Option<Vec<AtomicU64>> {
     let mut zeros = Vec::new(alloc);
     for _ in 0..count {
@@ -79,7 +81,7 @@ impl<C: Of> Meeting<'_, C> {
     /// `None` where memory is refused.
     fn of(alloc: Global, scene: &Scene, seats: u64) -> Option<Meeting<'_, C>> {
         let (lookers, places, channels) = match scene {
-            Scene::Held(_) => (seats.saturating_sub(1), 0, 0),
+            Scene::Held(_) | Scene::Stopped => (seats.saturating_sub(1), 0, 0),
             Scene::Crowd(plan) | Scene::Again(plan) => (0, plan.limit, 0),
             Scene::Ring => (0, 0, seats),
             _ => (0, 0, 0),
@@ -97,12 +99,15 @@ impl<C: Of> Meeting<'_, C> {
         })
     }
 
-    /// How many Adds the gate was told of, or that not all looked while the Add was held up, as where a seat has no thread of its own; and
-    /// after a crowd a cache that isn't shared, to which its Adds were made.
+    /// How many Adds the gate was told of, or that not all looked while the Add was held up, as
+    /// where a seat has no thread of its own; and after a stress a cache that isn't shared, to
+    /// which its Adds were made.
     fn end(&self, alloc: Global) -> (Told, Option<Cache>) {
         let told = Told::Long(self.gate.told());
         match self.scene {
-            Scene::Held(_) if !self.gate.has_met() => (Told::Not(Why::NoThread), None),
+            Scene::Held(_) | Scene::Stopped if !self.gate.has_met() => {
+                (Told::Not(Why::NoThread), None)
+            }
             _ if self.has_gap() => (Told::Not(Why::Changed), None),
             Scene::Crowd(plan) | Scene::Again(plan) => match self.alone(alloc, plan) {
                 Some(alone) => (told, Some(alone)),
@@ -117,28 +122,29 @@ impl<C: Of> Meeting<'_, C> {
         &self,
         rt: &R,
         alloc: Global,
-        home: &Home<C>,
-        guest: &mut Guest<C>,
+        home: &TestCache<C>,
+        guest: &mut TestSeat<C>,
         round: u32,
     ) -> bool {
         match self.scene {
             Scene::Held(plan) => self.hold(rt, home, guest, plan, round),
-            Scene::Crowd(plan) => self.crowd(rt, alloc, home, guest, plan, round),
+            Scene::Crowd(plan) => self.stress(rt, alloc, home, guest, plan, round),
             Scene::Again(plan) => self.make_again(rt, alloc, home, guest, plan, round),
             Scene::Returned => self.follow(rt, alloc, home, guest, round),
             Scene::Ring => self.send_on(rt, alloc, home, guest, round),
             Scene::Both => self.both(rt, alloc, home, guest, round),
             Scene::Tries => self.try_beside(rt, home, guest, round),
+            Scene::Stopped => self.stop(rt, alloc, home, guest, round),
         }
     }
 
-    /// What an Add tells: the last one that its seat has seen, and kept on the page that there is but where the keys are many; or one that was
-    /// refused, and left the seat's count.
+    /// What an Add tells: the last one that its seat has seen, and kept on the page that there is
+    /// but where the keys are many; or one that was refused, and left the seat's count.
     pub fn add<R: Wait + Abort>(
         &self,
         rt: &R,
-        home: &Home<C>,
-        guest: &mut Guest<C>,
+        home: &TestCache<C>,
+        guest: &mut TestSeat<C>,
         adding: &Adding,
         by: By,
     ) -> Told {
@@ -151,8 +157,9 @@ impl<C: Of> Meeting<'_, C> {
     }
 }
 
-/// Whether an Add that is told this may leave a seat so that counts so many more, and had seen so many before and now. Its place comes
-/// behind all that were seen. Where the keys are many it may be kept or not, and the pages may rotate.
+/// Whether an Add that is told this may leave a seat so that counts so many more, and had seen so
+/// many before and now. Its place comes behind all that were seen. Where the keys are many it may
+/// be kept or not, and the pages may rotate.
 fn leaves(told: Told, are_many: bool, more: u64, before: u64, seen: u64) -> bool {
     match told {
         Told::Place(place, (kept, rotated, evicted), front) => {
@@ -178,10 +185,10 @@ pub fn check<R: Abort>(rt: &R, is_right: bool, told: Told) {
 fn run<C: Of, R: Wait + Abort>(
     rt: &R,
     alloc: Global,
-    home: &Home<C>,
-    mut guest: Guest<C>,
+    home: &TestCache<C>,
+    mut guest: TestSeat<C>,
     meeting: &Meeting<'_, C>,
-) -> Guest<C> {
+) -> TestSeat<C> {
     let mut has_more = true;
     for round in 0..=TURNS {
         has_more = meeting.turn(rt, alloc, home, &mut guest, round);
@@ -197,14 +204,14 @@ fn run<C: Of, R: Wait + Abort>(
 fn run_all<C: Of + Send + Sync, R: Threads + Wait + Abort + Sync>(
     rt: &R,
     alloc: Global,
-    home: &Home<C>,
-    guests: Vec<Guest<C>>,
+    home: &TestCache<C>,
+    guests: Vec<TestSeat<C>>,
     meeting: &Meeting<'_, C>,
-) -> Option<Vec<Guest<C>>> {
+) -> Option<Vec<TestSeat<C>>> {
     thread::map_vec(
         rt,
         guests,
-        &|guest: Guest<C>| run(rt, alloc, home, guest, meeting),
+        &|guest: TestSeat<C>| run(rt, alloc, home, guest, meeting),
     )
     .ok()
 }
@@ -213,10 +220,10 @@ fn run_all<C: Of + Send + Sync, R: Threads + Wait + Abort + Sync>(
 fn run_to_end<C: Of + Send + Sync, R: Threads + Wait + Abort + Sync>(
     rt: &R,
     alloc: Global,
-    home: &Home<C>,
-    guests: Vec<Guest<C>>,
+    home: &TestCache<C>,
+    guests: Vec<TestSeat<C>>,
     meeting: &Meeting<'_, C>,
-) -> Option<(Vec<Guest<C>>, Told, Option<Cache>)> {
+) -> Option<(Vec<TestSeat<C>>, Told, Option<Cache>)> {
     let guests = run_all(rt, alloc, home, guests, meeting)?;
     let (told, alone) = meeting.end(alloc);
     Some((guests, told, alone))
@@ -226,10 +233,10 @@ fn run_to_end<C: Of + Send + Sync, R: Threads + Wait + Abort + Sync>(
 pub fn meet<C: Of + Send + Sync, R: Threads + Wait + Abort + Sync>(
     rt: &R,
     alloc: Global,
-    home: &Home<C>,
-    guests: Vec<Guest<C>>,
+    home: &TestCache<C>,
+    guests: Vec<TestSeat<C>>,
     scene: &Scene,
-) -> Option<(Vec<Guest<C>>, Told, Option<Cache>)> {
+) -> Option<(Vec<TestSeat<C>>, Told, Option<Cache>)> {
     let meeting = Meeting::of(alloc, scene, guests.len() as u64)?;
     run_to_end(rt, alloc, home, guests, &meeting)
 }

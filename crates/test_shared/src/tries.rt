@@ -1,10 +1,10 @@
-//! Adds that are given up after so many tries: by themselves, and beside others that add and look. `held.rt` tries them while the writer
-//! lock is held.
+//! Adds that are given up after so many tries: by themselves, and beside others that add and look.
+//! `held.rt` tries them while the writer lock is held.
 use super::batches::LARGE;
+use super::harness::By::Tries;
+use super::harness::Told::{Full, Long, Not, Place, Value};
+use super::harness::{By, Of, Owner, TestCache, TestSeat, Told, Why};
 use super::marks::Entry::{One, Several};
-use super::party::By::Tries;
-use super::party::Told::{Full, Long, Not, Place, Value};
-use super::party::{By, Guest, Home, Of, Owner, Told, Why};
 use super::steps::Act::{Add, AtOnce, Close, CloseAny, Get};
 use super::steps::{KEPT, PAGES, Row, play};
 use super::threads::{Meeting, Scene, check};
@@ -85,8 +85,8 @@ impl<C: Of> Meeting<'_, C> {
     pub fn try_beside<R: Wait + Abort>(
         &self,
         rt: &R,
-        home: &Home<C>,
-        guest: &mut Guest<C>,
+        home: &TestCache<C>,
+        guest: &mut TestSeat<C>,
         round: u32,
     ) -> bool {
         let told = match guest.number() {

@@ -1,4 +1,5 @@
-//! A gate that counts the Adds that it is told of, and holds each up until so many seats have looked.
+//! A gate that counts the Adds that it is told of, and holds each up until so many seats have
+//! looked.
 use std::sync::atomic::{AtomicBool, AtomicU64, Ordering};
 use std::thread;
 use tsc_shared::Gate;
@@ -50,8 +51,12 @@ impl Watch {
         self.alone.store(true, Ordering::SeqCst);
     }
 
-    /// Waits until all have looked, or one has given up, and tells whether all had before the limit.
+    /// Waits until all have looked, or one has given up, and tells whether all had before the
+    /// limit. It lets other threads run once at the least.
     fn is_met(&self) -> bool {
+        if self.lookers > 0 {
+            thread::yield_now();
+        }
         for _ in 0..TURNS {
             if self.looked.load(Ordering::SeqCst) >= self.lookers {
                 return true;

@@ -8,7 +8,7 @@ use Rattle.std.specs.declared.alloc.Global.{Global}
 use Rattle.std.specs.List.{All}
 use Rattle.std.proofs.Math.Bool.{and-true}
 use Rattle.std.proofs.lemmas.List.Elements.{All-tail}
-use Rattle.tsc_page_base.specs.Page.{Mark}
+use Rattle.tsc_page_nodes.specs.Page.{Mark}
 use Rattle.tsc_cache.specs.Settings.{Settings, fits}
 use Rattle.tsc_cache.specs.Batch.{all_fit}
 use Rattle.tsc_cache.specs.State.{step_all}

@@ -5,7 +5,7 @@ use Rattle.std.specs.Result.{is_err}
 use Rattle.std.proofs.lemmas.Bool.{cases_Bool}
 use Rattle.std.proofs.lemmas.List.{take_all}
 use Rattle.tsc_time.specs.Time.{Time}
-use Rattle.tsc_page_base.specs.Page.{Mark}
+use Rattle.tsc_page_nodes.specs.Page.{Mark}
 use Rattle.tsc_cache.specs.declared.added.Added.{Added}
 use Rattle.tsc_cache.specs.State.{is_kept, not_kept, kept_without_rotation}
 use Rattle.tsc_cache.specs.CacheView.{CacheView, Adds, AddsWithoutRotation, front_has_room_for}
@@ -24,17 +24,31 @@ use Rattle.tsc_combining.specs.declared.adding.InPlace.TheVariants.{Made, Untouc
 use Rattle.tsc_combining.specs.Adding.{HasHadSome, CatchesUp, IfMade, HasNoPart, IsUntouched, StillLags}
 
 -- all of them
-pub had_all : (old new : CacheView) (ms : List Mark) (now : Time) (added : Added) → AddsAll old new ms now added → HasHadSome old new ms now
-had_all old new ms now added all = (length ms, added, subst (λ (ns : List Mark). AddsAll old new ns now added) (sym (take_all (length ms) ms (omega arith))) all)
+pub had_all : (old new : CacheView) (ms : List Mark) (now : Time) (added : Added) →
+    AddsAll old new ms now added → HasHadSome old new ms now
+had_all old new ms now added all = (
+  length ms,
+  added,
+  subst (λ (ns : List Mark). AddsAll old new ns now added)
+      (sym (take_all (length ms) ms (omega arith))) all,
+)
 
 -- none of them
 pub had_none : (v : CacheView) (ms : List Mark) (now : Time) → HasHadSome v v ms now
 had_none v ms now = (0, not_kept, (refl, refl))
 
 -- the one that there is
-pub had_one : (old new : CacheView) (m n : Mark) (now : Time) (added : Added) → m ≡ n → Adds old new m now added → HasHadSome old new (n ∷ []) now
+pub had_one : (old new : CacheView) (m n : Mark) (now : Time) (added : Added) → m ≡ n →
+    Adds old new m now added → HasHadSome old new (n ∷ []) now
 had_one old new m n now added is adds =
-    had_all old new (n ∷ []) now added (new, added, not_kept, subst (λ (x : Mark). Adds old new x now added) is adds, (refl, refl), sym (answer_alone added))
+    had_all old new (n ∷ []) now added (
+      new,
+      added,
+      not_kept,
+      subst (λ (x : Mark). Adds old new x now added) is adds,
+      (refl, refl),
+      sym (answer_alone added),
+    )
 
 -- who catches up stays set up as it is
 pub caught_up_settings : (late : List UnappliedAdd) (old new : CacheView) → CatchesUp late old new
@@ -75,20 +89,25 @@ no_part_then late (One m) Spoiled old between new first left =
 no_part_then late (Many ms) Spoiled old between new first left = tt
 
 -- an Add that never rotates tells of no rotation
-pub told_no_rotation : (old new : CacheView) (m : Mark) (made : Option Added) (added : Added) (now : Time) → made ≡ Some added → AddsWithoutRotation old new m made → added.rotated ≡ false
-told_no_rotation old new m made added now is seen = by_cases (subst (AddsWithoutRotation old new m) is seen)
+pub told_no_rotation : (old new : CacheView) (m : Mark) (made : Option Added) (added : Added)
+    (now : Time) → made ≡ Some added → AddsWithoutRotation old new m made → added.rotated ≡ false
+told_no_rotation old new m made added now is seen =
+    by_cases (subst (AddsWithoutRotation old new m) is seen)
   where
     by_cases : AddsWithoutRotation old new m (Some added) → added.rotated ≡ false
     by_cases told = elim (cases_Bool (is_kept old.floor m)) [
       | inr lost ↦ ap (λ (a : Added). a.rotated) ((told.1 now).not_kept lost).1
       | inl kept ↦ elim (cases_Bool (front_has_room_for old.pages m.span)) [
         | inl room ↦ ap (λ (a : Added). a.rotated) ((told.1 now).in_place kept room).3
-        | inr full ↦ absurd (let both : true ≡ false = sym (ap (λ (b : Bool). b && not (front_has_room_for old.pages m.span)) kept ∙ ap (λ (b : Bool). not b) full) ∙ told.0 in cc)
+        | inr full ↦ absurd (let both : true ≡ false =
+            sym (ap (λ (b : Bool). b && not (front_has_room_for old.pages m.span)) kept ∙
+            ap (λ (b : Bool). not b) full) ∙ told.0 in cc)
       ]
     ]
 
 -- what follows where an Add was made
-pub if_made : (tried : InPlace) (P Q : Added → Type 0) → IfMade tried P → ((added : Added) → P added → Q added) → IfMade tried Q
+pub if_made : (tried : InPlace) (P Q : Added → Type 0) → IfMade tried P →
+    ((added : Added) → P added → Q added) → IfMade tried Q
 if_made (Made added) P Q p f = f added p
 if_made Untouched P Q p f = tt
 if_made Spoiled P Q p f = tt

@@ -1,4 +1,5 @@
--- What an Add needs to fit before it is made, and which standby copy takes it in place. (For private
+-- What an Add needs to fit before it is made, and which standby copy takes it in place. (For
+-- private
 -- contracts.)
 use Rattle.std.specs.Prelude.{◌≡◌, ℕ, ◌∷◌, [], take, Bool, true, ◌==◌, List}
 use Rattle.std.specs.Prelude.{false, Option, Some, None, IsSome, IfSome}
@@ -6,7 +7,7 @@ use Rattle.std.specs.Arc.{arc_value}
 use Rattle.std.specs.declared.sync.Arc.{Arc}
 use Rattle.std.specs.declared.alloc.Global.{Global}
 use Rattle.tsc_time.specs.Time.{Time}
-use Rattle.tsc_page_base.specs.Page.{Mark}
+use Rattle.tsc_page_nodes.specs.Page.{Mark}
 use Rattle.tsc_cache.specs.declared.added.Added.{Added}
 use Rattle.tsc_cache.specs.Batch.{all_fit, AddsAll}
 use Rattle.tsc_cache.specs.State.{step_all}
@@ -46,7 +47,7 @@ StandsAfterAdd late old new add =
     → StandsForState new t.config
     (step_all t.config (state_of t.config h) (marks_in add.marks) add.moment).state
 
--- and this is what that Add did
+-- what the last of these Adds did
 abbrev pub TellsAdd : List UnappliedAdd → CacheView → UnappliedAdd → Added → Type 0
 TellsAdd late old add added =
     (t : Setup) (h : History) → Lags t h late old
@@ -77,7 +78,7 @@ abbrev pub HasHadSome : CacheView → CacheView → List Mark → Time → Type 
 HasHadSome old new ms now =
     (count : ℕ) × (added : Added) × AddsAll old new (take count ms) now added
 
--- It has had some marks of each Add that it lacked, and nothing else.
+-- A copy has had some marks of each Add that it lacked, and nothing else.
 abbrev pub CatchesUp : List UnappliedAdd → CacheView → CacheView → Type 0
 CatchesUp [] old new = new ≡ old
 CatchesUp (p ∷ ps) old new =

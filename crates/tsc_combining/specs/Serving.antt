@@ -1,4 +1,5 @@
--- What the writer makes for other seats, and what it has in hand meanwhile. (For private contracts.)
+-- What the writer makes for other seats, and what it has in hand meanwhile. (For private
+-- contracts.)
 use Rattle.std.specs.Prelude.{◌≡◌, ℕ, ◌+◌, ◌<◌, ◌≤◌, List, [], ◌∷◌, ◌++◌, length, Bool, false}
 use Rattle.std.specs.Prelude.{None}
 use Rattle.std.specs.Arc.{arc_value}

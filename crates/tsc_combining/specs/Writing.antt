@@ -57,7 +57,7 @@ pub record HoldsState (me : At) (cleared : ℕ) (state : WriterState) : Type 0 w
   pub is_after : IsAfter me.0.setup (seen_of me.0) (state_in me.0).flips state
   pub served : state.served ≡ (state_in me.0).served
 
--- It can make this Add, for which there is room.
+-- The writer can make this Add, for which there is room.
 pub record MayMake (me : At) (state : WriterState) (add : UnappliedAdd) : Type 0 where
   pub can : CanBe me.0.setup add
   pub fits : AllFit state add
@@ -104,7 +104,7 @@ pub record IsPrepared (v : Knowledge) (me : At) (add : UnappliedAdd) (state : Wr
   pub added_is : added ≡ (step_all v.setup.config (state_of v.setup.config (seen_of v))
       (marks_in add.marks) add.moment).added
 
--- That Add is the one that was copied.
+-- The Add that can be made is the one that was copied.
 abbrev pub CanMake : Result UnappliedAdd NoMemory → Knowledge → At → Prepared → Type 0
 CanMake (Ok add) v me made = IsPrepared v me add made.state.value made.added
 CanMake (Err refused) v me made = ⊥
@@ -122,7 +122,7 @@ IsHindered tries length limit not_added.HistoryFull = limit ≤ length
 IsHindered tries length limit not_added.NoMemory = length < limit
 IsHindered tries length limit not_added.SeatInside = (length < limit) × HasEnd tries
 
--- It makes none for one of these reasons.
+-- The writer makes no Add, for one of these reasons.
 pub record IsAborted (tries : Option ℕ) (v : Knowledge) (me : At) (left : Aborted) : Type 0 where
   pub leave : MayLeave v me left.state.value
   pub why : IsHindered tries (length (seen_of v)) v.setup.limit left.why

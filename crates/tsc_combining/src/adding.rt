@@ -173,11 +173,11 @@ fn renew(
 /// What became of the standby copy when an Add was to go there in place.
 #[derive(Drop)]
 pub(crate) enum InPlace {
-    /// It has had the Add, which brought no new page.
+    /// The copy has had the Add, which brought no new page.
     Made(Added),
     /// Nothing of the Add is in it, and it lacks what is still said to lag, or nothing.
     Untouched,
-    /// It has a new page, or a part alone of what it lacked: it is to be made anew.
+    /// The copy has a new page, or only a part of what it lacked: it is to be made anew.
     Spoiled,
 }
 

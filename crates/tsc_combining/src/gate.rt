@@ -10,9 +10,8 @@ pub trait Gate {
     /// The call was answered.
     fn done(&self, thread: u32, call: u32);
 
-    /// The Add of this seat is about to be published: nothing can refuse it any more, and nobody has
-    /// seen it yet.
-    /// A refused Add is not told.
+    /// The Add of this seat is about to be published: nothing can refuse it any more, and nobody
+    /// has seen it yet. A refused Add is not told.
     fn publish(&self, seat: u32);
 }
 

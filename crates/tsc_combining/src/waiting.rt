@@ -20,7 +20,7 @@ use tsc_left_right::{
 /// How often one tries to acquire the writer lock, and then looks whether a seat has left the
 /// standby side.
 pub trait WaitPolicy {
-    /// So often, or without an end.
+    /// The number of tries, or none for a policy without an end.
     ghost tries: { Self → Option ℕ };
 
     /// Acquires the writer lock, once it is free: `None` if it was held at each try.
@@ -170,7 +170,7 @@ impl<'r, R: Wait> WaitPolicy for Blocking<'r, R> {
     }
 }
 
-/// So many times, without a rest but for a few idle steps.
+/// A policy of this number of tries, with a few idle steps between them.
 #[derive(Clone, Copy)]
 pub struct Bounded(pub u32);
 

@@ -60,20 +60,20 @@ struct Aborted {
 pub enum Outcome {
     /// The lock was held at each try.
     Busy,
-    /// It was made at this place, by the seat itself or by another.
+    /// The Add was made at this place, by the seat itself or by another.
     Made {
         place: u64,
         added: Added,
         by_other: bool,
     },
-    /// It was not made, and the seat has seen so many Adds.
+    /// The Add was not made, and the seat has seen this number of Adds.
     Refused {
         seen: u64,
         why: NotAdded,
     },
 }
 
-/// This copy, which has had the writer's own Add and those of others, is to be active, and the one
+/// Makes this copy active, which has had the writer's own Add and those of others; the one
 /// that was active until then lags by them.
 fn swap(state: &mut WriterState, next: Arc<Cache>, own: UnappliedAdd, others: u64)
     requires { (state.old.length + 1 + others < 2 ^ 64) × (state.old.flips + 1 < 2 ^ 64) }

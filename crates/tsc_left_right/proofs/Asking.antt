@@ -378,7 +378,8 @@ module _ (setup : Setup) (slots : ℕ) (st : Step Slot) (id : ℕ) (t : Setup) (
           number_same = refl;
           holds_same = refl;
           fits = record {
-            begins = subst (BeginsWith k.g.history) (sym all.all) ([], sym (append-nil k.g.history));
+            begins = subst (BeginsWith k.g.history) (sym all.all)
+                ([], sym (append-nil k.g.history));
             own = omega (arith, mine.own, x.4, ap made_of here);
             own_seen = own_all;
             at_stage = mine.at_stage;

@@ -6,7 +6,7 @@ use mathlib.Core.Logic.{dite}
 use native.Mathlib.Decide.{ℕ_discrete}
 use mathlib.Core.Option as maybe
 use lib.ListN.{get_elem?}
-use Rattle.std.proofs.lemmas.List.{length-append, replicate-append-replicate}
+use Rattle.std.proofs.lemmas.List.{length-append, length_push, replicate-append-replicate}
 use Rattle.atomic_table.proofs.Lists.{at_longer}
 use Rattle.atomic_table.specs.Table.{opening}
 use Rattle.tsc_cache.specs.CacheView.{CacheView}
@@ -15,7 +15,7 @@ use Rattle.tsc_left_right.specs.declared.table.Slot.{Slot}
 use Rattle.tsc_left_right.specs.declared.table.Slot.TheVariants.{Empty, Writer, Handle, Request}
 use Rattle.tsc_left_right.specs.declared.table.Slot.TheVariants.{Answer}
 use Rattle.tsc_left_right.specs.Rule.{LaidState, LeftRightRule, IsState, Shows, first_knowledge}
-use Rattle.tsc_left_right.specs.Rule.{side_slot, request_slot}
+use Rattle.tsc_left_right.specs.Rule.{side_slot, request_slot, word_count}
 use Rattle.tsc_left_right.specs.Steps.{IsHandleOn}
 use Rattle.tsc_left_right.specs.Opening.{IsLaidOut, IsFirst, line_of}
 use Rattle.tsc_left_right.proofs.Openings.{opening_kept}
@@ -47,42 +47,37 @@ later : (xs ys more : List Slot) → ys ≡ xs ++ more → (i : ℕ) (x : Slot) 
 later xs ys more is i x e = subst (λ (l : List Slot). get_elem? l i ≡ maybe.some x) (sym is)
     (at_longer xs more i x e)
 
--- The slot of a line is behind all that was there.
+-- The slot of a line is behind all that was there, and the next one is empty.
 at_line : (xs ys : List Slot) (x : Slot) (i : ℕ) → ys ≡ xs ++ line_of x → length xs ≡ i
     → get_elem? ys i ≡ maybe.some x
 at_line xs ys x i is long = subst (λ (l : List Slot). get_elem? l i ≡ maybe.some x) (sym is)
     (at_next xs (replicate 7 Empty) x i long)
 
+beside_line : (xs ys : List Slot) (x : Slot) (i : ℕ) → ys ≡ xs ++ line_of x → length xs + 1 ≡ i
+    → get_elem? ys i ≡ maybe.some Empty
+beside_line xs ys x i is long = subst (λ (l : List Slot). get_elem? l i ≡ maybe.some Empty)
+    (append_assoc xs (x ∷ []) (replicate 7 Empty) ∙ sym is)
+    (at_next (xs ++ x ∷ []) (replicate 6 Empty) Empty i (omega (arith, length_push xs x, long)))
+
 line_length : (xs ys : List Slot) (x : Slot) (n : ℕ) → ys ≡ xs ++ line_of x → length xs ≡ n
     → length ys ≡ n + 8
 line_length xs ys x n is long = omega (arith, ap length is, length-append xs (line_of x), long)
 
--- a seat more: a handle on side 0, nothing on side 1, and no request
-pub laid_more : (state : LaidState) (n : ℕ) (xs ys zs us : List Slot) (x : Slot)
+-- a seat more: a handle on side 0, no request beside it, and nothing on side 1
+pub laid_more : (state : LaidState) (n : ℕ) (xs ys zs : List Slot) (x : Slot)
     → IsLaidOut state n xs → ys ≡ xs ++ line_of x → zs ≡ ys ++ line_of Empty
-    → us ≡ zs ++ line_of Empty
-    → IsHandleOn (arc_value state.value.active) 0 x → IsLaidOut state (n + 1) us
-laid_more state n xs ys zs us x laid one two three on =
+    → IsHandleOn (arc_value state.value.active) 0 x → IsLaidOut state (n + 1) zs
+laid_more state n xs ys zs x laid one two on =
     let deep = laid.deep in
-    let long_y : length ys ≡ 24 * n + 16 =
-    omega (arith, line_length xs ys x (24 * n + 8) one deep) in
-    let long_z : length zs ≡ 24 * n + 24 = omega (
-      arith,
-      line_length ys zs Empty (24 * n + 16) two
-          long_y,
-    ) in
-    let long_u : length us ≡ 24 * n + 32 = omega (
-      arith,
-      line_length zs us Empty (24 * n + 24) three
-          long_z,
-    ) in
-    let from_z = later zs us (line_of Empty) three in
-    let from_y : (i : ℕ) (b : Slot) → get_elem? ys i ≡ maybe.some b → get_elem? us i
-    ≡ maybe.some b = λ i b e. from_z i b (later ys zs (line_of Empty) two i b e) in
-    let from_x : (i : ℕ) (b : Slot) → get_elem? xs i ≡ maybe.some b → get_elem? us i
+    let long_y : length ys ≡ 16 * n + 16 =
+    omega (arith, line_length xs ys x (16 * n + 8) one deep) in
+    let long_z : length zs ≡ 16 * n + 24 =
+    omega (arith, line_length ys zs Empty (16 * n + 16) two long_y) in
+    let from_y = later ys zs (line_of Empty) two in
+    let from_x : (i : ℕ) (b : Slot) → get_elem? xs i ≡ maybe.some b → get_elem? zs i
     ≡ maybe.some b = λ i b e. from_y i b (later xs ys (line_of x) one i b e) in
     record {
-      deep = omega (arith, long_u);
+      deep = omega (arith, long_z);
       writer = from_x 0 (Writer state) laid.writer;
       active = λ seat low. dite (ℕ_discrete seat n)
           (λ is. (
@@ -94,11 +89,11 @@ laid_more state n xs ys zs us x laid one two three on =
           (λ isnt. let s = laid.active seat (omega (arith, low, isnt)) in
           (s.0, from_x (side_slot seat 0) s.0 s.1, s.2));
       standby = λ seat low. dite (ℕ_discrete seat n)
-          (λ is. from_z (side_slot seat 1) Empty (at_line ys zs Empty (side_slot seat 1) two
-          (omega (arith, long_y, is))))
+          (λ is. at_line ys zs Empty (side_slot seat 1) two (omega (arith, long_y, is)))
           (λ isnt. from_x (side_slot seat 1) Empty (laid.standby seat (omega (arith, low, isnt))));
       requests = λ seat low. dite (ℕ_discrete seat n)
-          (λ is. at_line zs us Empty (request_slot seat) three (omega (arith, long_z, is)))
+          (λ is. from_y (request_slot seat) Empty
+          (beside_line xs ys x (request_slot seat) one (omega (arith, deep, is))))
           (λ isnt. from_x (request_slot seat) Empty
           (laid.requests seat (omega (arith, low, isnt))));
     }
@@ -135,7 +130,7 @@ shows_first setup cache (Answer reply) stands on = absurd on
 
 -- the rule at the opening
 pub opens : (setup : Setup) (state : LaidState) (words : List ℕ) (slots : List Slot)
-    → words ≡ replicate (32 * setup.seats + 64) 0 → IsFirst setup state.value
+    → words ≡ replicate (word_count setup.seats) 0 → IsFirst setup state.value
     → IsLaidOut state setup.seats slots → LeftRightRule setup
     (opening words slots (first_knowledge setup))
 opens setup state words slots blank first laid = subst (λ (ws : List ℕ). LeftRightRule setup

@@ -20,6 +20,7 @@ use Rattle.tsc_left_right.specs.declared.table.Knowledge.{Knowledge}
 use Rattle.tsc_left_right.specs.Rule.{LaidState, keeping, one_if, SharedState, LeftRightRule}
 use Rattle.tsc_left_right.specs.Rule.{SeatFits, RequestFits, CollectedFits, KnowledgeFits}
 use Rattle.tsc_left_right.specs.Rule.{StateFits, IsAfter, states_of, holders, head_word}
+use Rattle.tsc_left_right.specs.Rule.{word_count, slot_count}
 use Rattle.tsc_left_right.proofs.Prefixes.{begins_empty}
 use Rattle.tsc_left_right.proofs.Totals.{part, two_parts, total_set}
 use Rattle.tsc_left_right.proofs.Hands.{Homes}
@@ -34,8 +35,8 @@ pub record Moved (setup : Setup) (s : Board) (k : LeftRightRule setup s) (id : �
   pub legal : IsLegal setup.config setup.seats g.history
   pub limit : length g.history ≤ setup.limit
   pub few : g.flips ≤ length g.history
-  pub wide : length words ≡ 32 * setup.seats + 64
-  pub deep : length homes ≡ 24 * setup.seats + 8
+  pub wide : length words ≡ word_count setup.seats
+  pub deep : length homes ≡ slot_count setup.seats
   pub word_is : slice_index words 0 ≡ g.word
   pub head_is : slice_index words head_word ≡ g.flips
   pub seats : (seat : ℕ) → seat < setup.seats → SeatFits setup g words homes seat

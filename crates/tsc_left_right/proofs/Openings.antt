@@ -20,7 +20,8 @@ use Rattle.atomic_table.proofs.Lists.{at_map}
 use Rattle.tsc_left_right.specs.Rule.{LaidState, at_rest, IsAfter, Shows, epoch_word, side_slot}
 use Rattle.tsc_left_right.specs.Rule.{request_slot, served_word, one_if, SharedState, Idle}
 use Rattle.tsc_left_right.specs.Rule.{LeftRightRule, KnowledgeFits, StateFits, states_of, holders}
-use Rattle.tsc_left_right.specs.Rule.{first_knowledge, fresh_states}
+use Rattle.tsc_left_right.specs.Rule.{first_knowledge, fresh_states, request_word}
+use Rattle.tsc_left_right.specs.Rule.{word_count, slot_count}
 use Rattle.tsc_left_right.proofs.Prefixes.{begins_empty, legal_empty}
 use Rattle.tsc_left_right.proofs.Moves.{same_number, false_is_no, none_is_no}
 
@@ -108,7 +109,7 @@ blank_at (suc n) (suc i) = blank_at n i
 -- The slots at the opening: the writer's, and of each seat a handle that shows the empty history on
 -- side 0, something on side 1, and something for its request.
 pub record IsOpening (setup : Setup) (state : LaidState) (slots : List Slot) : Type 0 where
-  pub deep : length slots ≡ 24 * setup.seats + 8
+  pub deep : length slots ≡ slot_count setup.seats
   pub writer : get_elem? slots 0 ≡ maybe.some (Writer state)
   pub active : (r : ℕ) → r < setup.seats → (x : Slot) × (get_elem? slots (side_slot r 0)
       ≡ maybe.some x) × Shows setup [] x
@@ -133,17 +134,17 @@ first_shared = record {
 
 pub opening_kept : (setup : Setup) (state : LaidState) (slots : List Slot)
     → IsAfter setup [] 0 state.value → state.value.served ≡ 0 → IsOpening setup state slots
-    → LeftRightRule setup (opening (replicate (32 * setup.seats + 64) 0) slots
+    → LeftRightRule setup (opening (replicate (word_count setup.seats) 0) slots
     (first_knowledge setup))
 unfolding first_shared
 opening_kept setup state slots after served laid =
-    let blank : (i : ℕ) → slice_index (replicate (32 * setup.seats + 64) 0) i ≡ 0 =
-    blank_at (32 * setup.seats + 64) in record {
+    let blank : (i : ℕ) → slice_index (replicate (word_count setup.seats) 0) i ≡ 0 =
+    blank_at (word_count setup.seats) in record {
       g = first_shared;
       legal = legal_empty setup.config setup.seats;
       limit = omega arith;
       few = omega arith;
-      wide = length-replicate (32 * setup.seats + 64) 0;
+      wide = length-replicate (word_count setup.seats) 0;
       deep = length-map slots (λ (x : Slot). maybe.some x) ∙ laid.deep;
       word_is = blank 0;
       head_is = blank 16;
@@ -156,7 +157,7 @@ opening_kept setup state slots after served laid =
         late = λ e _ z. absurd (none_is_no e z);
       };
       requests = λ r low. let x = laid.requests r low in record {
-        toggle = blank (32 * r + 64);
+        toggle = blank (request_word r);
         small = omega arith;
         says = (
           (x.0, at_map maybe.some slots (request_slot r) x.0 x.1),

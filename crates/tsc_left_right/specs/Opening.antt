@@ -7,7 +7,7 @@ use Rattle.tsc_left_right.specs.declared.table.Slot.{Slot}
 use Rattle.tsc_left_right.specs.declared.table.Slot.TheVariants.{Empty, Writer}
 use Rattle.tsc_left_right.specs.declared.table.Setup.{Setup}
 use Rattle.tsc_left_right.specs.declared.table.WriterState.{WriterState}
-use Rattle.tsc_left_right.specs.Rule.{LaidState, IsAfter, side_slot, request_slot}
+use Rattle.tsc_left_right.specs.Rule.{LaidState, IsAfter, side_slot, request_slot, slot_count}
 use Rattle.tsc_left_right.specs.Steps.{IsHandleOn}
 
 -- a slot with seven empty ones behind it
@@ -17,7 +17,7 @@ line_of x = x ∷ replicate 7 Empty
 -- The writer's slot has this, and each seat has a handle on the active copy on side 0, nothing on
 -- side 1, and no request.
 pub record IsLaidOut (state : LaidState) (seats : ℕ) (slots : List Slot) : Type 0 where
-  pub deep : length slots ≡ 24 * seats + 8
+  pub deep : length slots ≡ slot_count seats
   pub writer : get_elem? slots 0 ≡ maybe.some (Writer state)
   pub active : (seat : ℕ) → seat < seats → (x : Slot)
       × (get_elem? slots (side_slot seat 0) ≡ maybe.some x)

@@ -20,6 +20,7 @@ use Rattle.tsc_left_right.specs.declared.table.Slot.TheVariants.{Empty, Writer, 
 use Rattle.tsc_left_right.specs.declared.table.Slot.TheVariants.{Answer}
 use Rattle.tsc_left_right.specs.declared.table.Knowledge.{Knowledge}
 use Rattle.tsc_left_right.specs.declared.table.Setup.{Setup}
+use Rattle.tsc_left_right.specs.Rule.{word_count, slot_count}
 use Rattle.tsc_left_right.specs.Rule.{keeping, side_slot, request_slot, standby_side, IsState}
 use Rattle.tsc_left_right.specs.Rule.{Shows, CanBe, IsAfter}
 use Rattle.tsc_left_right.specs.Steps.{first_state, Acquires, flipped, released, staged}
@@ -32,8 +33,8 @@ Participant = TableSeat Slot Knowledge
 
 -- a table for so many seats
 pub record IsSized (table : TableId) (seats : ℕ) : Type 0 where
-  pub words : table.words ≡ 32 * seats + 64
-  pub slots : table.slots ≡ 24 * seats + 8
+  pub words : table.words ≡ word_count seats
+  pub slots : table.slots ≡ slot_count seats
 
 -- one that takes part in this table, which has words and slots for all seats
 pub record IsOf (p : Participant) (id : TableId) : Type 0 where
@@ -104,11 +105,12 @@ pub record IsWriting (v : Knowledge) (me : At) (cleared : ℕ) (watched : Option
   pub holds : (state_in v).holds ≡ true
   pub unpinned : (state_in v).stage ≡ 0
 
--- it has the writer lock
+-- the participant has the writer lock
 abbrev pub HasLock : At → Type 0
 HasLock me = (cleared : ℕ) × (watched : Option ℕ) × IsWriting me.0 me cleared watched
 
--- It has cleared so many seats, and each of their slots has a handle on a cache after so many Adds.
+-- The writer has cleared some seats, and each of their slots has a handle on a cache after a number
+-- of Adds.
 pub record HasInstalled (v : Knowledge) (me : At) (cache : CacheView) (adds cleared : ℕ)
     : Type 0 where
   pub slots : List (ℕ × Slot)

@@ -1,5 +1,5 @@
 -- What each step at a request says to the one who takes it.
-use Rattle.std.specs.Prelude.{◌≡◌, ◌≢◌, ℕ, ◌+◌, ◌-◌, ◌^◌, ◌/◌, ◌<◌}
+use Rattle.std.specs.Prelude.{◌≡◌, ◌≢◌, ℕ, ◌+◌, ◌-◌, ◌*◌, ◌^◌, ◌/◌, ◌%◌, ◌<◌}
 use Rattle.std.specs.Prelude.{List, [], ◌∷◌, ◌++◌, length, bit_xor, Bool, true, false}
 use Rattle.std.specs.Prelude.{Option, Some, None}
 use Rattle.std.specs.Int.{bit_at}
@@ -74,7 +74,7 @@ serving p collected served = record p { collected = collected; served = served }
 
 -- the seat whose request word this is
 abbrev pub seat_of_word : ℕ → ℕ
-seat_of_word i = (i - 64) / 32
+seat_of_word i = 8 * ((i - 48) / 152) + (i - 48) % 152
 
 -- A request that is collected, where the seat's toggle differs from its bit: its slot is in hand,
 -- with an Add that can be made. Else nothing changes.

@@ -42,7 +42,7 @@ pub record HasFetched (me : At) : Type 0 where
   pub slot : Slot
   pub hand : me.1 ≡ (request_slot (number_of me.0), slot) ∷ rest me.1
 
--- It may post an Add that can be made, by its toggle.
+-- A seat may post an Add that can be made, by its toggle.
 pub record MayPost (me : At) (toggle : ℕ) (add : UnappliedAdd) : Type 0 where
   pub fetched : HasFetched me
   pub toggle_is : toggle ≡ (state_in me.0).toggle
@@ -126,7 +126,7 @@ pub record MayPutBack (me : At) (number : ℕ) (x : Slot) : Type 0 where
   pub hand : me.1 ≡ (request_slot number, old) ∷ rest me.1
   pub laid : LaidFor me.0.setup first.add first.before x
 
--- That slot is at home, and the seat's bit is turned in what is to be told.
+-- The request slot is at home, and the seat's bit is turned in what is to be told.
 pub record IsPutBack (me me' : At) (seat served : ℕ) : Type 0 where
   pub told : served ≡ turned_bit (state_in me.0).served seat
   pub after : me' ≡ (with_state me.0 (put_back_by (state_in me.0) seat), rest me.1)

@@ -1,5 +1,5 @@
 -- The rule of the protocol: what holds between any two steps of any threads.
-use Rattle.std.specs.Prelude.{◌≡◌, ◌≢◌, ℕ, suc, ◌+◌, ◌*◌, ◌%◌, ◌<◌, ◌≤◌, ◌==◌, nat_lt, List, []}
+use Rattle.std.specs.Prelude.{◌≡◌, ◌≢◌, ℕ, suc, ◌+◌, ◌*◌, ◌/◌, ◌%◌, ◌<◌, ◌≤◌, ◌==◌, nat_lt, List, []}
 use Rattle.std.specs.Prelude.{◌∷◌, ◌++◌, length, slice_index, Bool, true, false, Option, Some, None}
 use Rattle.std.specs.Prelude.{Box, if◌then◌else◌}
 use Rattle.std.specs.List.{sum_by}
@@ -10,7 +10,7 @@ use Rattle.std.specs.declared.alloc.Global.{Global}
 use mathlib.Core.Option as maybe
 use lib.ListN.{get_elem?}
 use Rattle.atomic_table.specs.Table.{State}
-use Rattle.tsc_page_base.specs.Page.{Mark}
+use Rattle.tsc_page_nodes.specs.Page.{Mark}
 use Rattle.tsc_cache.specs.CacheView.{CacheView, StandsForState}
 use Rattle.tsc_cache.specs.State.{step_all}
 use Rattle.tsc_cache.specs.declared.history.Entry.{Entry}
@@ -75,7 +75,8 @@ states_of number v = sum_by (λ (p : SeatState). one_if (p.number == number)) v.
 abbrev pub holders : Knowledge → ℕ
 holders v = sum_by (λ (p : SeatState). one_if p.holds) v.states
 
--- The words HEAD and SERVED, and the words with the epoch and with the request of a seat.
+-- The words HEAD and SERVED, and the words with the epoch and with the request of a seat: before
+-- the epochs of eight seats come their request words, side by side.
 abbrev pub head_word : ℕ
 head_word = 16
 
@@ -83,17 +84,25 @@ abbrev pub served_word : ℕ
 served_word = 32
 
 abbrev pub epoch_word : ℕ → ℕ
-epoch_word seat = 32 * seat + 48
+epoch_word seat = 152 * (seat / 8) + 16 * (seat % 8) + 72
 
 abbrev pub request_word : ℕ → ℕ
-request_word seat = 32 * seat + 64
+request_word seat = 152 * (seat / 8) + seat % 8 + 48
 
--- the slot of a seat on a side, and that of its request
+-- how many words there are for so many seats, of which a few behind the last epoch serve nobody
+abbrev pub word_count : ℕ → ℕ
+word_count seats = 19 * seats + 69
+
+-- the slot of a seat on a side, and that of its request, beside that on side 0
 abbrev pub side_slot : ℕ → ℕ → ℕ
-side_slot seat side = 24 * seat + 8 * side + 8
+side_slot seat side = 16 * seat + 8 * side + 8
 
 abbrev pub request_slot : ℕ → ℕ
-request_slot seat = 24 * seat + 24
+request_slot seat = 16 * seat + 9
+
+-- how many slots there are for so many seats
+abbrev pub slot_count : ℕ → ℕ
+slot_count seats = 16 * seats + 8
 
 -- the side of the active copy after so many flips, and that of the standby copy
 abbrev pub active_side : ℕ → ℕ
@@ -355,7 +364,7 @@ with_first (Some p) ps = p ∷ ps
 abbrev pub late_adds : Lagging → List UnappliedAdd
 late_adds lagging = with_first lagging.own (adds_in lagging.others.items)
 
--- and so does the cache of a handle, where there is one
+-- the cache of a handle lacks the Adds that lag, where there is a handle
 abbrev pub HandleLags : Setup → History → List UnappliedAdd → Option (Arc CacheView Global) → Type 0
 HandleLags setup h lagging None = Unit {0}
 HandleLags setup h lagging (Some handle) = Lags setup h lagging (arc_value handle)
@@ -381,8 +390,8 @@ pub record LeftRightRule (setup : Setup) (s : State Slot Knowledge) : Type 0 whe
   pub legal : IsLegal setup.config setup.seats g.history
   pub limit : length g.history ≤ setup.limit
   pub few : g.flips ≤ length g.history
-  pub wide : length s.words ≡ 32 * setup.seats + 64
-  pub deep : length s.homes ≡ 24 * setup.seats + 8
+  pub wide : length s.words ≡ word_count setup.seats
+  pub deep : length s.homes ≡ slot_count setup.seats
   pub word_is : slice_index s.words 0 ≡ g.word
   pub head_is : slice_index s.words head_word ≡ g.flips
   pub seats : (seat : ℕ) → seat < setup.seats → SeatFits setup g s.words s.homes seat

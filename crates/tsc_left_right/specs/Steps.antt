@@ -180,7 +180,7 @@ abbrev pub grown : History → List Collected → History
 grown h [] = h
 grown h (x ∷ xs) = grown h xs ++ next_of (grown h xs) x ∷ []
 
--- those requests, each with what stands before its Add
+-- the requests, each with what stands before its Add
 abbrev pub all_made : History → List Collected → List Collected
 all_made h [] = []
 all_made h (x ∷ xs) = record { seat = x.seat; add = x.add; before = Some (grown h xs) }

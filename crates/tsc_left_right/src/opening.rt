@@ -3,10 +3,12 @@ ghost use Rattle.std.specs.Prelude.{◌≡◌, [], ◌+◌, ◌*◌, ◌++◌, �
 ghost use Rattle.std.specs.Prelude.{replicate};
 ghost use Rattle.std.specs.Arc.{arc_value};
 ghost use Rattle.tsc_left_right.specs.Rule.{IsState, IsAfter, first_knowledge, keeping};
+ghost use Rattle.tsc_left_right.specs.Rule.{word_count};
 ghost use Rattle.tsc_left_right.specs.Steps.{other_states};
 ghost use Rattle.tsc_left_right.specs.Opening.{IsLaidOut, IsFirst, line_of};
 ghost use Rattle.tsc_left_right.specs.Participating.{IsOf, IsSized, KeepsStates, IsFirstOf};
 
+use crate::places::{slot_count, word_count};
 use crate::steps::SplitOff;
 use crate::table::{
     Lagging, Participant, ReadHandle, Replicas, Setup, SharedReplicas, Slot, WriterState,
@@ -17,12 +19,11 @@ use std::sync::Arc;
 use tsc_cache::{Cache, TimestampCache};
 use tsc_time::NoMemory;
 
-/// The words: that of the writer lock, HEAD, SERVED, and two of each seat, each with a line of
-/// sixteen.
+/// The words: that of the writer lock, HEAD, SERVED, and two of each seat.
 fn blank_words(alloc: Global, seats: u32) -> Result<Vec<u64>, NoMemory>
-    ensures { IfOk result (λ words. words.items ≡ replicate (32 * seats + 64) 0) }
+    ensures { IfOk result (λ words. words.items ≡ replicate (word_count seats) 0) }
 {
-    Ok(vec![in alloc; 0; 32 * seats as usize + 64]?)
+    Ok(vec![in alloc; 0; word_count(seats)]?)
 }
 
 /// Lays one more, and seven empty slots behind it: what is laid next lies 128 bytes above.
@@ -42,12 +43,11 @@ fn first_slots(alloc: Global, state: Box<WriterState>, seats: u32) -> Result<Vec
     ensures { IfOk result (λ slots. IsLaidOut state seats slots.items) }
 {
     let active = Arc::try_clone(&state.active)?;
-    let mut slots = Vec::with_capacity(alloc, 24 * seats as usize + 8)?;
+    let mut slots = Vec::with_capacity(alloc, slot_count(seats))?;
     lay(&mut slots, Slot::Writer(state))?;
     for seat in 0..seats {
         let cache = Arc::try_clone(&active)?;
         lay(&mut slots, Slot::Handle(ReadHandle { cache, length: 0 }))?;
-        lay(&mut slots, Slot::Empty)?;
         lay(&mut slots, Slot::Empty)?;
     }
     Ok(slots)

@@ -1,7 +1,8 @@
 //! Where the words and the slots are.
-ghost use Rattle.std.specs.Prelude.{◌≡◌, ℕ, ◌+◌, ◌<◌, ◌≤◌};
+ghost use Rattle.std.specs.Prelude.{◌≡◌, ℕ, ◌+◌, ◌/◌, ◌<◌, ◌≤◌};
 ghost use Rattle.tsc_left_right.specs.declared.places.TheConstants.{HEAD, SERVED};
 ghost use Rattle.tsc_left_right.specs.Rule.{epoch_word, request_word, side_slot, request_slot};
+ghost use Rattle.tsc_left_right.specs.Rule.{word_count, slot_count};
 ghost use Rattle.tsc_left_right.specs.Steps.{has_left};
 
 /// The word with the number of flips.
@@ -10,43 +11,63 @@ pub(crate) const HEAD: usize = 16;
 /// The word with a bit for each seat, which is its toggle once its request is answered.
 pub(crate) const SERVED: usize = 32;
 
-/// The word with the epoch of a seat. It lies sixteen words of eight bytes or more above each word
-/// of each seat before, and above SERVED. So no two of these share a line of 128 bytes.
+/// The word with the epoch of a seat. It lies sixteen words of eight bytes or more above each epoch
+/// before, and above SERVED. So no two of these share a line of 128 bytes.
 pub(crate) fn epoch_word(seat: u32) -> usize
     ensures value { result ≡ epoch_word seat }
-    ensures apart { (before : ℕ) → before < seat → request_word before + 16 ≤ result }
+    ensures apart { (before : ℕ) → before < seat → epoch_word before + 16 ≤ result }
     ensures head { (16 ≤ HEAD) × (HEAD + 16 ≤ SERVED) × (SERVED + 16 ≤ result) }
 {
-    32 * seat as usize + 48
+    152 * (seat as usize / 8) + 16 * (seat as usize % 8) + 72
 }
 
-/// The request word of a seat, sixteen words above its epoch.
+/// The request word of a seat. Those of eight seats lie side by side, sixteen words or more from
+/// SERVED and from each epoch. The writer reads them one after another.
 pub(crate) fn request_word(seat: u32) -> usize
     ensures value { result ≡ request_word seat }
-    ensures apart { epoch_word seat + 16 ≤ result }
+    ensures above { (other : ℕ) → other / 8 < seat / 8 → epoch_word other + 16 ≤ result }
+    ensures below { (other : ℕ) → seat / 8 ≤ other / 8 → result + 16 ≤ epoch_word other }
+    ensures served { SERVED + 16 ≤ result }
 {
-    32 * seat as usize + 64
+    152 * (seat as usize / 8) + seat as usize % 8 + 48
 }
 
-/// The slot of a seat on a side. It lies eight slots of sixteen bytes or more above each slot of
-/// each seat before, above that of the seat itself on the side before, and above the writer's,
-/// which is slot 0. So no two slots that are used share a line of 128 bytes.
+/// How many words there are for so many seats: fifteen or more behind the last epoch.
+pub(crate) fn word_count(seats: u32) -> usize
+    ensures value { result ≡ word_count seats }
+    ensures room { (seat : ℕ) → seat < seats → epoch_word seat + 16 ≤ result }
+{
+    19 * seats as usize + 69
+}
+
+/// The slot of a seat on a side. It lies eight slots of sixteen bytes or more above each of a seat
+/// before, above that of the seat itself on the side before, and above the writer's, which is slot
+/// 0. So no two of these share a line of 128 bytes.
 pub(crate) fn side_slot(seat: u32, side: u64) -> usize
     requires { side < 2 }
     ensures value { result ≡ side_slot seat side }
-    ensures apart { (before : ℕ) → before < seat → request_slot before + 8 ≤ result }
+    ensures apart { (before other : ℕ) → before < seat → other < 2
+        → side_slot before other + 8 ≤ result }
     ensures sides { (other : ℕ) → other < side → side_slot seat other + 8 ≤ result }
     ensures writer { 8 ≤ result }
 {
-    24 * seat as usize + 8 * side as usize + 8
+    16 * seat as usize + 8 * side as usize + 8
 }
 
-/// The slot with the request of a seat, eight slots above those of its sides.
+/// The slot with the request of a seat, beside that on side 0. While the seat asks it does not look
+/// up, so the writer takes nothing from its reach by the same line.
 pub(crate) fn request_slot(seat: u32) -> usize
     ensures value { result ≡ request_slot seat }
-    ensures apart { (side : ℕ) → side < 2 → side_slot seat side + 8 ≤ result }
+    ensures beside { result ≡ side_slot seat 0 + 1 }
 {
-    24 * seat as usize + 24
+    16 * seat as usize + 9
+}
+
+/// How many slots there are for so many seats.
+pub(crate) fn slot_count(seats: u32) -> usize
+    ensures value { result ≡ slot_count seats }
+{
+    16 * seats as usize + 8
 }
 
 /// Whether a seat whose epoch is this, and was that when it was watched, has left the standby side.

@@ -50,7 +50,7 @@ fn max_of(slot: &Slot, span: &SpanRef<'_>) -> (Value, u64)
         × InEachState cache (λ s. result.0 ≡ look s span.now)) }
 {
     match slot {
-        Slot::Handle(handle) => (handle.cache.get_max_in(span), handle.length),
+        Slot::Handle(handle) => (handle.cache.get_max_ref(span), handle.length),
         _ => unreachable!(),
     }
 }

@@ -1,4 +1,5 @@
-//! What a seat does that asks the writer for an Add: it posts a request, and hears what became of it.
+//! What a seat does that asks the writer for an Add: it posts a request, and hears what became of
+//! it.
 //!
 //! SERVED has 64 bits, so only the first 64 seats can ask.
 ghost use Rattle.std.specs.Prelude.{◌≡◌, ◌∷◌, ◌<◌, ◌-◌, true, false};
@@ -23,7 +24,7 @@ pub enum Heard {
     Waiting,
     /// The Add was made.
     Made(Reply),
-    /// It was not made, and is the seat's again.
+    /// The Add was not made, and is the seat's again.
     SentBack(Box<UnappliedAdd>),
 }
 

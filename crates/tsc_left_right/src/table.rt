@@ -44,7 +44,7 @@ pub struct MadeAdd {
 pub struct Lagging {
     /// The writer's own, which comes first.
     pub own: Option<UnappliedAdd>,
-    /// Those that it made for other seats. There is room for one of each seat.
+    /// The Adds that the writer made for other seats. There is room for one of each seat.
     pub others: Vec<MadeAdd>,
 }
 
@@ -148,10 +148,10 @@ impl TableRule<Slot, Knowledge, Setup> for LeftRight {
 /// Both copies, with the words and slots by which seats reach them.
 ///
 /// Word 0 is 0 where the writer lock is free, and else one more than the number of the seat that
-/// holds it. Word 16 is HEAD, and word 32 SERVED. Word 32 * s + 48 is the epoch of seat s, and word
-/// 32 * s + 64 its request word. Slot 0 is the writer's, slot 24 * s + 8 * k + 8 that of seat s on
-/// side k, and slot 24 * s + 24 that of its request. Sixteen words are 128 bytes, and so are fewer
-/// than eight slots: no two of these share a line.
+/// holds it. Word 16 is HEAD, and word 32 SERVED. Then come, for each eight seats, their request
+/// words, side by side, and their epochs, each with a line of its own. Slot 0 is the writer's, slot
+/// 16 * s + 8 * k + 8 that of seat s on side k, and slot 16 * s + 9 that of its request. Sixteen
+/// words are 128 bytes, and so are fewer than eight slots (`places.rt`).
 pub type Replicas = Table<Slot, Knowledge, Setup, LeftRight, Global>;
 
 /// The same as threads share them.

@@ -13,64 +13,96 @@ use Rattle.tsc_shared.specs.Seats.{SeatView}
 use Rattle.tsc_shared.specs.Keeping.{state_of_seat}
 
 -- the first of the states that are left
-fresh_first : (number n : ℕ) → number < n → fresh_states number (n - number) ≡ at_rest number [] 0 ∷ fresh_states (number + 1) (n - (number + 1))
+fresh_first : (number n : ℕ) → number < n → fresh_states number (n - number) ≡ at_rest number [] 0 ∷
+    fresh_states (number + 1) (n - (number + 1))
 fresh_first number n low =
     let more : n - number ≡ suc (n - (number + 1)) = omega arith in
     let next : suc number ≡ number + 1 = omega arith in
-    ap (fresh_states number) more ∙ ap (λ (k : ℕ). at_rest number [] 0 ∷ fresh_states k (n - (number + 1))) next
+    ap (fresh_states number) more ∙
+    ap (λ (k : ℕ). at_rest number [] 0 ∷ fresh_states k (n - (number + 1))) next
 
 -- a participant that keeps those that are left
 abbrev pub left_over : Setup → ℕ → ℕ → At
 left_over t number n = (keeping t (fresh_states number (n - number)), [])
 
 abbrev first_over : Setup → ℕ → ℕ → At
-first_over t number n = (keeping t (at_rest number [] 0 ∷ fresh_states (number + 1) (n - (number + 1))), [])
+first_over t number n = (
+  keeping t
+      (at_rest number [] 0 ∷ fresh_states (number + 1) (n - (number + 1))),
+  [],
+)
 
-left_first : (me : At) (t : Setup) (number n : ℕ) → number < n → me ≡ left_over t number n → me ≡ first_over t number n
-left_first me t number n low is = is ∙ ap (λ (ps : List SeatState). (keeping t ps, [])) (fresh_first number n low)
+left_first : (me : At) (t : Setup) (number n : ℕ) → number < n → me ≡ left_over t number n →
+    me ≡ first_over t number n
+left_first me t number n low is = is ∙
+    ap (λ (ps : List SeatState). (keeping t ps, [])) (fresh_first number n low)
 
 -- it takes part in the table
-pub left_at : (p q : Participant) (shared : TableId) (t : Setup) (number : ℕ) → IsOf p shared → p.me ≡ (first_knowledge t, []) → q.table_id ≡ p.table_id → q.me ≡ left_over t number t.seats → IsOf q shared
-left_at p q shared t number at all table is = still_of p q shared at table (ap (λ (m : At). m.0.setup) is ∙ sym (ap (λ (m : At). m.0.setup) all))
+pub left_at : (p q : Participant) (shared : TableId) (t : Setup) (number : ℕ) → IsOf p shared →
+    p.me ≡ (first_knowledge t, []) → q.table_id ≡ p.table_id → q.me ≡ left_over t number t.seats →
+    IsOf q shared
+left_at p q shared t number at all table is =
+    still_of p q shared at table (ap (λ (m : At). m.0.setup) is ∙
+    sym (ap (λ (m : At). m.0.setup) all))
 
 -- and keeps states
 pub left_keeps : (me : At) (t : Setup) (number n : ℕ) → me ≡ left_over t number n → KeepsStates me.0
 left_keeps me t number n is = subst (λ (m : At). KeepsStates m.0) (sym is) refl
 
 -- of which there is a first
-pub left_some : (me : At) (t : Setup) (number n : ℕ) → number < n → me ≡ left_over t number n → 0 < length me.0.states
-left_some me t number n low is = subst (λ (m : At). 0 < length m.0.states) (sym (left_first me t number n low is)) (omega arith)
+pub left_some : (me : At) (t : Setup) (number n : ℕ) → number < n → me ≡ left_over t number n →
+    0 < length me.0.states
+left_some me t number n low is = subst (λ (m : At). 0 < length m.0.states)
+    (sym (left_first me t number n low is)) (omega arith)
 
 -- what is left then
-pub left_then : (me me' : At) (t : Setup) (number n : ℕ) → number < n → me ≡ left_over t number n → me' ≡ (keeping me.0.setup (other_states me.0.states), me.1) → me' ≡ left_over t (number + 1) n
-left_then me me' t number n low is then' = then' ∙ ap (λ (m : At). (keeping m.0.setup (other_states m.0.states), m.1)) (left_first me t number n low is)
+pub left_then : (me me' : At) (t : Setup) (number n : ℕ) → number < n → me ≡ left_over t number n →
+    me' ≡ (keeping me.0.setup (other_states me.0.states), me.1) → me' ≡ left_over t (number + 1) n
+left_then me me' t number n low is then' =
+    then' ∙ ap (λ (m : At). (keeping m.0.setup (other_states m.0.states), m.1))
+    (left_first me t number n low is)
 
 -- and what the new one keeps
-pub dealt_then : (me me' : At) (t : Setup) (number n : ℕ) → number < n → me ≡ left_over t number n → me' ≡ (keeping me.0.setup (first_state me.0.states ∷ []), []) → me' ≡ (seated t number [] 0, [])
-dealt_then me me' t number n low is then' = then' ∙ ap (λ (m : At). (keeping m.0.setup (first_state m.0.states ∷ []), [])) (left_first me t number n low is)
+pub dealt_then : (me me' : At) (t : Setup) (number n : ℕ) → number < n → me ≡ left_over t number n →
+    me' ≡ (keeping me.0.setup (first_state me.0.states ∷ []), []) → me' ≡ (seated t number [] 0, [])
+dealt_then me me' t number n low is then' =
+    then' ∙ ap (λ (m : At). (keeping m.0.setup (first_state m.0.states ∷ []), []))
+    (left_first me t number n low is)
 
 -- a seat keeps its state
 pub rest_keeps : (me : At) → IsAtRest me → KeepsStates me.0
 rest_keeps me rest = subst (λ (m : At). KeepsStates m.0) (sym rest) refl
 
 -- and what has come together so far keeps the states of those seats
-pub taken_keeps : (all : At) (taken : List SeatView) → all ≡ (keeping all.0.setup (map state_of_seat taken), []) → KeepsStates all.0
+pub taken_keeps : (all : At) (taken : List SeatView) →
+    all ≡ (keeping all.0.setup (map state_of_seat taken), []) → KeepsStates all.0
 taken_keeps all taken is = subst (λ (m : At). KeepsStates m.0) (sym is) refl
 
-get_middle : {X : Type 0} (xs ys : List X) (x : X) → slice_index_or ((xs ++ x ∷ []) ++ ys) (length xs) x ≡ x
+get_middle : {X : Type 0} (xs ys : List X) (x : X) →
+    slice_index_or ((xs ++ x ∷ []) ++ ys) (length xs) x ≡ x
 get_middle [] ys x = refl
 get_middle (y ∷ xs) ys x = get_middle xs ys x
 
 -- what holds of all holds of one among them
-pub all_middle : {X : Type 0} (P : X → Type 0) (xs ys zs ws : List X) (x : X) → zs ≡ ws ++ ys → ws ≡ xs ++ x ∷ [] → All P zs → P x
+pub all_middle : {X : Type 0} (P : X → Type 0) (xs ys zs ws : List X) (x : X) → zs ≡ ws ++ ys →
+    ws ≡ xs ++ x ∷ [] → All P zs → P x
 all_middle P xs ys zs ws x is whole all =
     let same : zs ≡ (xs ++ x ∷ []) ++ ys = is ∙ ap (λ v. v ++ ys) whole in
     subst P (ap (λ v. slice_index_or v (length xs) x) same ∙ get_middle xs ys x)
-    (all (length xs) x (omega (arith, ap length same, length-append (xs ++ x ∷ []) ys, length_push xs x)))
+    (all (length xs) x (omega (
+      arith,
+      ap length same,
+      length-append (xs ++ x ∷ []) ys,
+      length_push xs x,
+    )))
 
 -- the state of a seat comes to the others
-pub gathered_then : (me me' all : At) (seat : SeatView) (taken : List SeatView) → IsAtRest me → at_rest (number_of me.0) (seen_of me.0) (count_of me.0) ≡ state_of_seat seat
-    → all ≡ (keeping all.0.setup (map state_of_seat taken), []) → me' ≡ (keeping me.0.setup (me.0.states ++ all.0.states), me.1) → me' ≡ (keeping me'.0.setup (map state_of_seat (seat ∷ taken)), [])
+pub gathered_then : (me me' all : At) (seat : SeatView) (taken : List SeatView) → IsAtRest me →
+    at_rest (number_of me.0) (seen_of me.0) (count_of me.0) ≡ state_of_seat seat
+    → all ≡ (keeping all.0.setup (map state_of_seat taken), []) →
+    me' ≡ (keeping me.0.setup (me.0.states ++ all.0.states), me.1) →
+    me' ≡ (keeping me'.0.setup (map state_of_seat (seat ∷ taken)), [])
 gathered_then me me' all seat taken rest same alls then' =
     let setup : me'.0.setup ≡ me.0.setup = ap (λ m. m.0.setup) then' in
-    then' ∙ (λ i. (keeping (sym setup i) ((rest i).0.states ++ (alls i).0.states), (rest i).1)) ∙ ap (λ (p : SeatState). (keeping me'.0.setup (p ∷ map state_of_seat taken), [])) same
+    then' ∙ (λ i. (keeping (sym setup i) ((rest i).0.states ++ (alls i).0.states), (rest i).1)) ∙
+    ap (λ (p : SeatState). (keeping me'.0.setup (p ∷ map state_of_seat taken), [])) same

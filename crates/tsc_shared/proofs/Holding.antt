@@ -23,54 +23,79 @@ use Rattle.tsc_shared.specs.Keeping.{cache_of, seat_view}
 use Rattle.tsc_shared.proofs.SeatSteps.{rests_unadded, accepted}
 
 -- a seat takes part in the table of its cache
-pub of_table : (p : Participant) (table : TableId) → p.table_id ≡ table → IsSized p.table_id p.me.0.setup.seats → IsOf p table
-of_table p table is sized = record { table = is; sized = subst (λ (x : TableId). IsSized x p.me.0.setup.seats) is sized }
+pub of_table : (p : Participant) (table : TableId) → p.table_id ≡ table →
+    IsSized p.table_id p.me.0.setup.seats → IsOf p table
+of_table p table is sized = record {
+  table = is;
+  sized = subst (λ (x : TableId). IsSized x p.me.0.setup.seats) is sized;
+}
 
 -- what was copied was accepted
-pub accepts_made : (old new : Participant) (copied : Result UnappliedAdd NoMemory) (add : UnappliedAdd) (receipt : Receipt) (s s' : SeatView) → seat_view old ≡ s → s' ≡ seat_view new → IsSeat (seat_view old)
-    → new.table_id ≡ old.table_id → copied ≡ Ok add → IsAdded old.me.0 new.me add receipt.place receipt.added
-    → receipt.front ≡ record { cache = cache_of new; seen = seen_of new.me.0 } → AcceptsCopy copied s s' receipt
+pub accepts_made : (old new : Participant) (copied : Result UnappliedAdd NoMemory)
+    (add : UnappliedAdd) (receipt : Receipt) (s s' : SeatView) → seat_view old ≡ s →
+    s' ≡ seat_view new → IsSeat (seat_view old)
+    → new.table_id ≡ old.table_id → copied ≡ Ok add →
+    IsAdded old.me.0 new.me add receipt.place receipt.added
+    → receipt.front ≡ record { cache = cache_of new; seen = seen_of new.me.0 } →
+    AcceptsCopy copied s s' receipt
 accepts_made old new copied add receipt s s' is is' seat table copy a front =
     subst (λ (x : Result UnappliedAdd NoMemory). AcceptsCopy x s s' receipt) (sym copy)
     (subst (λ (x : SeatView). Accepts x s' (marks_in add.marks) add.moment receipt) is
-    (subst (λ (x : SeatView). Accepts (seat_view old) x (marks_in add.marks) add.moment receipt) (sym is') (accepted old new add receipt seat table a front)))
+    (subst (λ (x : SeatView). Accepts (seat_view old) x (marks_in add.marks) add.moment receipt)
+    (sym is') (accepted old new add receipt seat table a front)))
 
 -- Why none was made is why it is refused.
-refused_for : (old new : Participant) (tries : Option ℕ) (seen : ℕ) (why : NotAdded) → new.table_id ≡ old.table_id → IsSeat (seat_view old) → (n : IsNotAdded tries old.me.0 new.me seen why)
-    → TryRefusedFor (seat_view old) (seat_view new) (fault_for why (record { cache = cache_of old; seen = seen_of new.me.0 }))
+refused_for : (old new : Participant) (tries : Option ℕ) (seen : ℕ) (why : NotAdded) →
+    new.table_id ≡ old.table_id → IsSeat (seat_view old) →
+    (n : IsNotAdded tries old.me.0 new.me seen why)
+    → TryRefusedFor (seat_view old) (seat_view new)
+    (fault_for why (record { cache = cache_of old; seen = seen_of new.me.0 }))
 refused_for old new tries seen HistoryFull table seat n =
     let r = rests_unadded old new tries seen HistoryFull seat table n in
     record { front = refl; limit = omega (arith, ap length r.seen, n.limit, n.why_is) }
 refused_for old new tries seen not_added.NoMemory table seat n =
-    let r = rests_unadded old new tries seen not_added.NoMemory seat table n in omega (arith, ap length r.seen, n.why_is)
+    let r = rests_unadded old new tries seen not_added.NoMemory seat table n in omega
+    (arith, ap length r.seen, n.why_is)
 refused_for old new tries seen SeatInside table seat n =
-    let r = rests_unadded old new tries seen SeatInside seat table n in omega (arith, ap length r.seen, n.why_is.0)
+    let r = rests_unadded old new tries seen SeatInside seat table n in omega
+    (arith, ap length r.seen, n.why_is.0)
 
-pub why_refused : (old new : Participant) (tries : Option ℕ) (seen : ℕ) (why : NotAdded) (fault : TryAddFault) (s s' : SeatView) → seat_view old ≡ s → s' ≡ seat_view new → new.table_id ≡ old.table_id → IsSeat (seat_view old)
-    → IsNotAdded tries old.me.0 new.me seen why → fault ≡ fault_for why (record { cache = cache_of new; seen = seen_of new.me.0 }) → TryRefusedFor s s' fault
+pub why_refused : (old new : Participant) (tries : Option ℕ) (seen : ℕ) (why : NotAdded)
+    (fault : TryAddFault) (s s' : SeatView) → seat_view old ≡ s → s' ≡ seat_view new →
+    new.table_id ≡ old.table_id → IsSeat (seat_view old)
+    → IsNotAdded tries old.me.0 new.me seen why →
+    fault ≡ fault_for why (record { cache = cache_of new; seen = seen_of new.me.0 }) →
+    TryRefusedFor s s' fault
 why_refused old new tries seen why fault s s' is is' table seat n told =
     let r = rests_unadded old new tries seen why seat table n in
     let same : fault ≡ fault_for why (record { cache = cache_of old; seen = seen_of new.me.0 })
-    = told ∙ ap (λ (x : SharedView). fault_for why (record { cache = x; seen = seen_of new.me.0 })) r.cache in
+    = told ∙ ap (λ (x : SharedView). fault_for why (record { cache = x; seen = seen_of new.me.0 }))
+    r.cache in
     subst (λ (x : SeatView). TryRefusedFor x s' fault) is
     (subst (λ (x : SeatView). TryRefusedFor (seat_view old) x fault) (sym is')
-    (subst (λ (x : TryAddFault). TryRefusedFor (seat_view old) (seat_view new) x) (sym same) (refused_for old new tries seen why table seat n)))
+    (subst (λ (x : TryAddFault). TryRefusedFor (seat_view old) (seat_view new) x) (sym same)
+    (refused_for old new tries seen why table seat n)))
 
 -- It is given up only where the tries have an end.
-gives_up_for : (tries : Option ℕ) (v : Knowledge) (me : At) (seen : ℕ) (why : NotAdded) (front : FrontView) → IsNotAdded tries v me seen why → GivesUp tries (fault_for why front)
+gives_up_for : (tries : Option ℕ) (v : Knowledge) (me : At) (seen : ℕ) (why : NotAdded)
+    (front : FrontView) → IsNotAdded tries v me seen why → GivesUp tries (fault_for why front)
 gives_up_for tries v me seen HistoryFull front n = tt
 gives_up_for tries v me seen not_added.NoMemory front n = tt
 gives_up_for tries v me seen SeatInside front n = n.why_is.1
 
-pub gives_up : (v : Knowledge) (me : At) (tries : Option ℕ) (seen : ℕ) (why : NotAdded) (front : FrontView) (fault : TryAddFault) → IsNotAdded tries v me seen why → fault ≡ fault_for why front → GivesUp tries fault
-gives_up v me tries seen why front fault n told = subst (GivesUp tries) (sym told) (gives_up_for tries v me seen why front n)
+pub gives_up : (v : Knowledge) (me : At) (tries : Option ℕ) (seen : ℕ) (why : NotAdded)
+    (front : FrontView) (fault : TryAddFault) → IsNotAdded tries v me seen why →
+    fault ≡ fault_for why front → GivesUp tries fault
+gives_up v me tries seen why front fault n told =
+    subst (GivesUp tries) (sym told) (gives_up_for tries v me seen why front n)
 
 -- whether an Add was refused for its size
 abbrev pub is_too_large : Result Receipt TryAddFault → Bool
 is_too_large (Err (Refused TooLarge)) = true
 is_too_large other = false
 
-pub not_too_large : (x : Result Receipt TryAddFault) → is_too_large x ≡ false → x ≡ Err (Refused TooLarge) → ⊥
+pub not_too_large : (x : Result Receipt TryAddFault) → is_too_large x ≡ false →
+    x ≡ Err (Refused TooLarge) → ⊥
 not_too_large x other is = true≢false (sym (ap is_too_large is) ∙ other)
 
 fits_for : (why : NotAdded) (front : FrontView) → is_too_large (Err (fault_for why front)) ≡ false
@@ -78,5 +103,8 @@ fits_for HistoryFull front = refl
 fits_for not_added.NoMemory front = refl
 fits_for SeatInside front = refl
 
-pub fault_fits : (why : NotAdded) (front : FrontView) (fault : TryAddFault) → fault ≡ fault_for why front → ◌≡◌ {A = Result Receipt TryAddFault} (Err fault) (Err (Refused TooLarge)) → ⊥
-fault_fits why front fault told = not_too_large (Err fault) (ap (λ (x : TryAddFault). is_too_large (Err x)) told ∙ fits_for why front)
+pub fault_fits : (why : NotAdded) (front : FrontView) (fault : TryAddFault) →
+    fault ≡ fault_for why front → ◌≡◌ {A = Result Receipt TryAddFault} (Err fault)
+    (Err (Refused TooLarge)) → ⊥
+fault_fits why front fault told = not_too_large (Err fault)
+    (ap (λ (x : TryAddFault). is_too_large (Err x)) told ∙ fits_for why front)

@@ -2,7 +2,7 @@
 use Rattle.std.specs.Prelude.{◌≡◌, ℕ, List, Option, Result, Ok, Err}
 use Rattle.tsc_time.specs.Time.{Time}
 use Rattle.tsc_time.specs.declared.memory.NoMemory.{NoMemory}
-use Rattle.tsc_page_base.specs.Page.{Mark}
+use Rattle.tsc_page_nodes.specs.Page.{Mark}
 use Rattle.tsc_left_right.specs.declared.table.UnappliedAdd.{UnappliedAdd}
 use Rattle.tsc_left_right.specs.Rule.{marks_in}
 use Rattle.tsc_combining.specs.Waiting.{HasEnd}

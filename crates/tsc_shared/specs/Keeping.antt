@@ -10,19 +10,30 @@ use Rattle.tsc_shared.specs.Seats.{SharedView, SeatView, FrontView, IsSeat}
 
 -- the cache of a table that was made with this setup
 abbrev pub shared_view : TableId → Setup → SharedView
-shared_view table setup = record { table = table; config = setup.config; seats = setup.seats; limit = setup.limit }
+shared_view table setup = record {
+  table = table;
+  config = setup.config;
+  seats = setup.seats;
+  limit = setup.limit;
+}
 
 -- the cache that a participant belongs to
 abbrev pub cache_of : Participant → SharedView
 cache_of p = shared_view p.table_id p.me.0.setup
 
 abbrev pub seat_view : Participant → SeatView
-seat_view p = record { cache = cache_of p; number = number_of p.me.0; count = count_of p.me.0; seen = seen_of p.me.0 }
+seat_view p = record {
+  cache = cache_of p;
+  number = number_of p.me.0;
+  count = count_of p.me.0;
+  seen = seen_of p.me.0;
+}
 
 abbrev pub front_view : Participant → FrontView
 front_view p = record { cache = cache_of p; seen = p.me.0.front }
 
--- A participant keeps a seat with this number, this count of its Adds, and so long a history that it has seen.
+-- A participant keeps a seat with this number, this count of its Adds, and so long a history that
+-- it has seen.
 pub record KeepsSeat (p : Participant) (number count seen : ℕ) : Type 0 where
   pub rest : IsAtRest p.me
   pub number_kept : number ≡ number_of p.me.0

@@ -20,7 +20,8 @@ pub(crate) fn seat_all(
 ) -> Result<Vec<Seat>, NoMemory>
     requires participant { IsOf all shared.now.table_id }
     requires all { all.me ≡ (first_knowledge setup.now, []) }
-    ensures { IfOk result (λ seats. seats.items ≡ new_seats (shared_view shared.now.table_id setup.now) 0 setup.now.seats) }
+    ensures { IfOk result (λ seats. seats.items ≡
+        new_seats (shared_view shared.now.table_id setup.now) 0 setup.now.seats) }
 {
     let count = setup.seats;
     let _first = setup.config.page_first();
@@ -42,10 +43,17 @@ pub(crate) fn seat_all(
 pub(crate) fn front_of(shared: &SharedReplicas, participant: &mut Participant, seen: u64) -> Front
     requires participant { IsOf participant.old shared.now.table_id }
     requires rest { IsAtRest participant.old.me }
-    requires front { IsFront (record { cache = cache_of participant.old; seen = seen_of participant.old.me.0 }) }
+    requires front { IsFront (record {
+      cache = cache_of participant.old;
+      seen = seen_of participant.old.me.0;
+    }) }
     requires length { seen ≡ length (seen_of participant.old.me.0) }
-    ensures same { (participant.new.table_id ≡ participant.old.table_id) × (participant.new.me ≡ participant.old.me) }
-    ensures front { result ≡ record { cache = cache_of participant.old; seen = seen_of participant.old.me.0 } }
+    ensures same { (participant.new.table_id ≡ participant.old.table_id) ×
+        (participant.new.me ≡ participant.old.me) }
+    ensures front { result ≡ record {
+      cache = cache_of participant.old;
+      seen = seen_of participant.old.me.0;
+    } }
 {
     let front = new_front(shared, participant);
     Front {
@@ -56,9 +64,11 @@ pub(crate) fn front_of(shared: &SharedReplicas, participant: &mut Participant, s
 
 /// All seats at one shared seat, or `None` where there are none.
 pub(crate) fn gather_all(shared: &SharedReplicas, mut seats: Vec<Seat>) -> Option<Participant>
-    requires seats { (cache : SharedView) × (cache.table ≡ shared.now.table_id) × All (λ seat. seat.cache ≡ cache) seats.items }
+    requires seats { (cache : SharedView) × (cache.table ≡ shared.now.table_id) ×
+        All (λ seat. seat.cache ≡ cache) seats.items }
     requires shared { 0 < shared.now.table_id.words }
-    ensures all { IfSome result (λ all. (all.table_id ≡ shared.now.table_id) × (all.me.1 ≡ []) × (all.me.0 ≡ keeping all.me.0.setup (map state_of_seat seats.items))) }
+    ensures all { IfSome result (λ all. (all.table_id ≡ shared.now.table_id) × (all.me.1 ≡ []) ×
+        (all.me.0 ≡ keeping all.me.0.setup (map state_of_seat seats.items))) }
     ensures none { IfNone result (seats.items ≡ []) }
 {
     let mut all = seats.pop()?.participant;

@@ -1,3 +1,5 @@
+-- Proves the contract of `add_in_place`. Adds to the standby copy in place, if the Adds that it
+-- lacks brought no new page, nor does this one, and nobody else has a handle on it.
 use Rattle.std.proofs.Common.{subst}
 use Rattle.std.specs.Arc.{arc_value}
 use Rattle.tsc_cache.specs.CacheView.{CacheView}

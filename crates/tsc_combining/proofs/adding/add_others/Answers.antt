@@ -1,3 +1,4 @@
+-- Proves the contract of `add_others`. Adds what was made for others and the cache has not had yet.
 use Rattle.std.proofs.Common.{◌+◌, sym, subst, drop}
 use Rattle.tsc_left_right.specs.declared.table.UnappliedAdd.{UnappliedAdd}
 use Rattle.tsc_left_right.specs.Rule.{marks_in, adds_in}

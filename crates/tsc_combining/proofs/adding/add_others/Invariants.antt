@@ -1,3 +1,5 @@
+-- Proves the loop invariants of `add_others`. Adds what was made for others and the cache has not
+-- had yet.
 use Rattle.std.proofs.Common.{drop}
 use Rattle.tsc_left_right.specs.Rule.{adds_in}
 use Rattle.tsc_combining.proofs.AddingUp.{IsComingUp}

@@ -1,3 +1,5 @@
+-- Proves the contract of `add_own`. Adds the writer's own Add that the cache has not had yet, if
+-- there is one.
 use Rattle.std.proofs.Common.{sym, subst, []}
 use Rattle.std.specs.Prelude.{Option}
 use Rattle.tsc_left_right.specs.declared.table.UnappliedAdd.{UnappliedAdd}

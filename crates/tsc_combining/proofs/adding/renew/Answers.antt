@@ -1,3 +1,4 @@
+-- Proves the contract of `renew`. The cache after an Add, beside the active copy.
 use Rattle.std.proofs.Common.{sym, subst, []}
 use Rattle.tsc_cache.specs.State.{step_all}
 use Rattle.tsc_cache.specs.History.{state_of}

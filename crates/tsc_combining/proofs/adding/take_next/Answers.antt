@@ -1,3 +1,5 @@
+-- Proves the contract of `take_next`. The standby copy, after an Add in place, or else one made
+-- anew from the active copy.
 use Rattle.std.proofs.Common.{◌≡◌, ◌∙◌, refl, sym, ap, subst, true, false}
 use Rattle.std.specs.Prelude.{Option, Some, IsSome}
 use Rattle.std.specs.Arc.{arc_value}

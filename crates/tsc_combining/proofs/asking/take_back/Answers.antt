@@ -1,3 +1,5 @@
+-- Proves the contract of `take_back`. Tries once to acquire the lock, and takes the own request
+-- back then.
 use Rattle.tsc_combining.proofs.Turns.{asking_unpinned, acquired_releases}
 use Rattle.tsc_combining.proofs.asking.take_back.Goals as goal
 

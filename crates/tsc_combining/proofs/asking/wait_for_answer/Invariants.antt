@@ -1,3 +1,5 @@
+-- Proves the loop invariants of `wait_for_answer`. Waits until the request was answered, or until
+-- the lock is free.
 use Rattle.std.proofs.Common.{◌≡◌}
 use Rattle.tsc_combining.proofs.asking.wait_for_answer.Given as goal
 

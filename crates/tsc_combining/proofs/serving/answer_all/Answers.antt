@@ -58,7 +58,8 @@ loop-done-preserved c =
     (sym c.index-others-others.is) in (
       c.answer-served.ensures.table ∙ c.loop-done.invariant.0,
       (λ v h xs b. let s = c.loop-done.invariant.1 v h xs b in
-          let a = answered_last v h s.0 0 c.loop-done.served c.answer-served.result c.loop-done.who.me
+          let a = answered_last v h s.0 0 c.loop-done.served c.answer-served.result
+          c.loop-done.who.me
           c.answer-served.new.who.me _ _ made s.1 left c.answer-served.ensures.answered in
           (a.0, a.1, omega (arith, s.2, a.2))),
     )

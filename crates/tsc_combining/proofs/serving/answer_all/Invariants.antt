@@ -1,3 +1,5 @@
+-- Proves the loop invariants of `answer_all`. Answers all whose Adds were published, the last
+-- first.
 use Rattle.std.proofs.Common.{◌≡◌, ◌-◌, length, take}
 use Rattle.tsc_combining.proofs.Making.{Answers}
 use Rattle.tsc_combining.proofs.serving.answer_all.Given as goal

@@ -1,3 +1,4 @@
+-- Proves the contract of `make`. Makes an Add of one mark in place, if that brings no new page.
 use Rattle.tsc_combining.proofs.InPlace.{made_alone}
 use Rattle.tsc_combining.proofs.serving.make.Goals as goal
 

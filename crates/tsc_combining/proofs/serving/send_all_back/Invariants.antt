@@ -1,3 +1,5 @@
+-- Proves the loop invariants of `send_all_back`. Sends back all that the writer has made and not
+-- published.
 use Rattle.std.proofs.Common.{◌≡◌, length}
 use Rattle.tsc_combining.proofs.Making.{SendsBack}
 use Rattle.tsc_combining.proofs.serving.send_all_back.Given as goal

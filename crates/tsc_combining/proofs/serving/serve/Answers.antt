@@ -1,3 +1,5 @@
+-- Proves the contract of `serve`. Makes the Add that a seat asks for, if it asks for one and there
+-- is room for it.
 use Rattle.std.proofs.Common.{◌≡◌, ◌∙◌, ◌<◌, refl, sym, subst, length, true, arith, ℕ, nat_lt}
 use Rattle.tsc_left_right.specs.declared.table.UnappliedAdd.{UnappliedAdd}
 use Rattle.tsc_left_right.specs.declared.table.Slot.TheVariants.{Request}

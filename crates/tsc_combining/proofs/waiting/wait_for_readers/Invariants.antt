@@ -1,3 +1,5 @@
+-- Proves the loop invariants of `wait_for_readers`. Takes the slots of all seats on the standby
+-- side.
 use Rattle.std.proofs.Common.{◌≡◌}
 use Rattle.std.specs.Prelude.{None}
 use Rattle.tsc_left_right.specs.Participating.{IsWriting}

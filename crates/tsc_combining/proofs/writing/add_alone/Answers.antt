@@ -1,3 +1,5 @@
+-- Proves the contract of `add_alone`. Acquires the lock and makes an Add by a copy of it, which may
+-- have been refused.
 use Rattle.tsc_combining.proofs.Turns.{acquired_number}
 use Rattle.tsc_combining.proofs.Outcomes.{new_writer, since_outcome}
 use Rattle.tsc_combining.proofs.writing.add_alone.Goals as goal

@@ -1,3 +1,5 @@
+-- Proves the contract of `add_asking`. Acquires the lock and makes an Add, or has it made by the
+-- seat that has the lock.
 use Rattle.std.proofs.Common.{sym, refl, subst, Ok}
 use Rattle.tsc_left_right.specs.Rule.{CanBe}
 use Rattle.tsc_combining.specs.Writing.{IsOutcome}

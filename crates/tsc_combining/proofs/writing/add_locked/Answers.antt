@@ -1,3 +1,5 @@
+-- Proves the contract of `add_locked`. Makes an Add of the seat that has just acquired the lock,
+-- and releases it.
 use Rattle.std.proofs.Common.{refl, ap, subst, ◌<◌}
 use Rattle.tsc_combining.proofs.Outcomes.{can_make_ready, is_added_alone, is_not_added}
 use Rattle.tsc_combining.proofs.writing.add_locked.Goals as goal

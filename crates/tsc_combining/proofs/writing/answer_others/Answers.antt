@@ -1,3 +1,4 @@
+-- Proves the contract of `answer_others`. Answers all whose Adds were published.
 use Rattle.std.proofs.Common.{◌∙◌, sym, ap, subst, refl, length}
 use Rattle.tsc_left_right.specs.Steps.{all_made}
 use Rattle.tsc_left_right.specs.Participating.{released_in}

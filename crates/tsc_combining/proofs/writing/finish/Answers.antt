@@ -1,3 +1,5 @@
+-- Proves the contract of `finish`. Publishes what is prepared, answers all whose Adds were made,
+-- and releases the lock.
 use Rattle.std.proofs.Common.{◌∙◌, sym, ap, subst, [], vec_len}
 use Rattle.tsc_left_right.specs.Steps.{state_in, own_of, with_own}
 use Rattle.tsc_left_right.specs.Participating.{released_in}
@@ -11,7 +13,8 @@ publish-state-requires-clause-requests c =
     let me = c.args.who.now.me in
     let state = c.args.state.value in
     c.len-made.ensures ∙ ap (λ s. vec_len s.lagging.others) c.deref.ensures
-    ∙ state.lagging.others.ok.0 ∙ are_made_length me.0.setup (with_own (state_in me.0) (own_of state))
+    ∙ state.lagging.others.ok.0 ∙ are_made_length me.0.setup
+    (with_own (state_in me.0) (own_of state))
     (state_in me.0).collected state.lagging.others.items c.requires.ready.made
 
 pub answer_others-requires-clause-published : goal.answer_others-requires-clause-published

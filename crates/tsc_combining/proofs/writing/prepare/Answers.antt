@@ -1,3 +1,5 @@
+-- Proves the contract of `prepare`. Prepares an Add that is to be published, and those that others
+-- ask for beside it.
 use Rattle.std.proofs.Common.{◌∙◌, refl, sym, ap, ◌+◌, ◌-◌, ◌%◌, arith}
 use Rattle.tsc_left_right.specs.declared.table.WriterState.{WriterState}
 use Rattle.tsc_left_right.proofs.Calls.{still_of}

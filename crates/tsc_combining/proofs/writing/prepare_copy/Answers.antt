@@ -1,3 +1,5 @@
+-- Proves the contract of `prepare_copy`. Prepares an Add by a copy of it, which may have been
+-- refused.
 use Rattle.std.proofs.Common.{sym, ap, subst, arith, IfOk, None}
 use Rattle.tsc_left_right.specs.Rule.{CanBe}
 use Rattle.tsc_combining.specs.Writing.{HoldsState, MayMake}

@@ -1,3 +1,5 @@
+-- Proves the contract of `close`. Closes the table when one participant keeps the states of all
+-- seats, and gives what lay there.
 use Rattle.std.proofs.Common.{sym, subst}
 use Rattle.std.specs.Slots.{slots_items}
 use Rattle.tsc_left_right.specs.Closing.{IsEnd}

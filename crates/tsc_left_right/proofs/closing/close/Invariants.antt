@@ -1,3 +1,5 @@
+-- Proves the loop invariants of `close`. Closes the table when one participant keeps the states of
+-- all seats, and gives what lay there.
 use Rattle.std.proofs.Common.{◌≡◌, ℕ, ◌-◌, ◌<◌, false, get_or}
 use Rattle.std.specs.Slots.{slots_filled, slots_len}
 use Rattle.std.specs.Mem.Slots.Ownership.{Filled}

@@ -1,3 +1,5 @@
+-- Proves the contract of `merge`. The states of another participant come to this one, behind its
+-- own.
 use Rattle.tsc_left_right.proofs.FrontCalls.{merge_at}
 use Rattle.tsc_left_right.proofs.closing.merge.Goals as goal
 

@@ -1,3 +1,4 @@
+-- Proves the contract of `new_front`. A front of all that the seat of this participant has seen.
 use Rattle.std.proofs.Common.{arith}
 use Rattle.tsc_left_right.proofs.FrontCalls.{front_at}
 use Rattle.tsc_left_right.proofs.fronts.new_front.Goals as goal

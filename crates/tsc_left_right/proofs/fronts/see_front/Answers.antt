@@ -1,3 +1,5 @@
+-- Proves the contract of `see_front`. The seat has then seen what a front says, if that is longer
+-- than what it had seen.
 use Rattle.std.proofs.Common.{◌∙◌, ap, arith}
 use mathlib.Core.Option as maybe
 use Rattle.atomic_table.specs.Table.{step}

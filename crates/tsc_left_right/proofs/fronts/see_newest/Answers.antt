@@ -1,3 +1,5 @@
+-- Proves the contract of `see_newest`. The seat has then seen the whole history, which begins with
+-- what a front says.
 use Rattle.tsc_left_right.proofs.FrontCalls.{caught_up_rests, newest_then, looked_length}
 use Rattle.tsc_left_right.proofs.fronts.see_newest.Goals as goal
 

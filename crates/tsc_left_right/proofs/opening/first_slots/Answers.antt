@@ -1,3 +1,4 @@
+-- Proves the contract of `first_slots`. What lies in the slots at the opening.
 use Rattle.std.proofs.Common.{◌∙◌, ap, refl}
 use Rattle.std.specs.Arc.{arc_value}
 use Rattle.tsc_left_right.proofs.Laying.{laid_more, laid_all}
@@ -7,8 +8,7 @@ pub loop-seat-preserved : goal.loop-seat-preserved
 loop-seat-preserved c =
     laid_more c.args.state c.loop-seat.seat c.loop-seat.slots.items
     c.lay-in-loop-seat.new.slots.items c.lay-in-loop-seat-2.new.slots.items
-    c.lay-in-loop-seat-3.new.slots.items _ c.loop-seat.invariant c.in_ok-lay-2.ensures
-    c.in_ok-lay-3.ensures c.in_ok-lay-4.ensures (
+    _ c.loop-seat.invariant c.in_ok-lay-2.ensures c.in_ok-lay-3.ensures (
       c.in_ok-cache.ensures ∙ c.in_ok-active.ensures ∙ ap (λ d. arc_value d.active) c.deref.ensures,
       refl,
     )

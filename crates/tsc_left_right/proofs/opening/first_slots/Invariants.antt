@@ -1,3 +1,4 @@
+-- Proves the loop invariants of `first_slots`. What lies in the slots at the opening.
 use Rattle.tsc_left_right.specs.Opening.{IsLaidOut}
 use Rattle.tsc_left_right.proofs.opening.first_slots.Given as goal
 

@@ -1,3 +1,4 @@
+-- Proves the contract of `lay`. Lays one more, and seven empty slots behind it.
 use Rattle.std.proofs.Common.{arith}
 use Rattle.tsc_left_right.proofs.Laying.{line_more, line_full}
 use Rattle.tsc_left_right.proofs.opening.lay.Goals as goal

@@ -1,3 +1,4 @@
+-- Proves the loop invariants of `lay`. Lays one more, and seven empty slots behind it.
 use Rattle.std.proofs.Common.{◌≡◌, ◌++◌, ◌∷◌, replicate}
 use Rattle.tsc_left_right.specs.declared.table.Slot.TheVariants.{Empty}
 use Rattle.tsc_left_right.proofs.opening.lay.Given as goal

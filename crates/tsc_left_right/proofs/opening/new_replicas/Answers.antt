@@ -1,3 +1,5 @@
+-- Proves the contract of `new_replicas`. A table with two empty copies, and its first participant,
+-- which keeps the states of all seats.
 use Rattle.std.proofs.Common.{◌∙◌}
 use Rattle.tsc_left_right.proofs.Laying.{opens}
 use Rattle.tsc_left_right.proofs.opening.new_replicas.Goals as goal

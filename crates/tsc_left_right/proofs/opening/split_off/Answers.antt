@@ -1,3 +1,5 @@
+-- Proves the contract of `split_off`. The first of the states that a participant keeps goes to a
+-- participant of its own.
 use Rattle.std.proofs.Common.{arith}
 use Rattle.tsc_left_right.proofs.FrontCalls.{split_at}
 use Rattle.tsc_left_right.proofs.opening.split_off.Goals as goal

@@ -1,3 +1,4 @@
+-- Proves the contract of `side_slot`. The slot of a seat on a side.
 use Rattle.std.proofs.Common.{rules, arith}
 use Rattle.tsc_left_right.proofs.places.side_slot.Goals as goal
 

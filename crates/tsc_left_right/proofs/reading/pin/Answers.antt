@@ -1,3 +1,4 @@
+-- Proves the contract of `pin`. The seat is pinned, and has its slot of the active side in hand.
 use Rattle.std.proofs.Common.{◌∙◌, arith}
 use mathlib.Core.Option as maybe
 use Rattle.atomic_table.specs.Table.{step}

@@ -1,3 +1,4 @@
+-- Proves the contract of `unpin`. The seat lays its slot back as it was, and is unpinned.
 use Rattle.std.proofs.Common.{arith}
 use mathlib.Core.Option as maybe
 use Rattle.atomic_table.specs.Table.{step}

@@ -1,3 +1,4 @@
+-- Proves the contract of `fetch`. The seat takes its request slot.
 use Rattle.std.proofs.Common.{arith}
 use mathlib.Core.Option as maybe
 use Rattle.atomic_table.specs.Table.{step}

@@ -1,3 +1,4 @@
+-- Proves the contract of `hear`. Looks once whether the seat's request was answered.
 use Rattle.std.proofs.Common.{arith}
 use mathlib.Core.Option as maybe
 use Rattle.atomic_table.specs.Table.{step}

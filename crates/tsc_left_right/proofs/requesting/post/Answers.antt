@@ -1,3 +1,4 @@
+-- Proves the contract of `post`. The seat asks for this Add, and its request slot is at home.
 use Rattle.std.proofs.Common.{◌∙◌, ◌-◌, arith}
 use mathlib.Core.Option as maybe
 use Rattle.atomic_table.specs.Table.{step}

@@ -1,3 +1,4 @@
+-- Proves the contract of `rest`. The seat lays its request slot back, and asks for nothing.
 use Rattle.std.proofs.Common.{arith}
 use mathlib.Core.Option as maybe
 use Rattle.atomic_table.specs.Table.{step}

@@ -1,3 +1,5 @@
+-- Proves the contract of `withdraw`. The writer takes its own request back, which it has not
+-- collected, and has seen all then.
 use Rattle.std.proofs.Common.{◌∙◌, ◌-◌, arith}
 use mathlib.Core.Option as maybe
 use Rattle.atomic_table.specs.Table.{step}

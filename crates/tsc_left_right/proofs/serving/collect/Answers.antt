@@ -1,3 +1,4 @@
+-- Proves the contract of `collect`. Takes the Add that a seat asks for, if it asks for one.
 use Rattle.std.proofs.Common.{◌∙◌, ◌∷◌, arith, refl}
 use mathlib.Core.Option as maybe
 use Rattle.atomic_table.specs.Table.{step, rest}

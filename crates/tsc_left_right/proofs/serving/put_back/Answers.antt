@@ -1,3 +1,5 @@
+-- Proves the contract of `put_back`. Lays this into the slot of the request that was collected
+-- last.
 use Rattle.std.proofs.Common.{◌∙◌, sym, ap, arith, ◌∷◌, rules}
 use mathlib.Core.Option as maybe
 use Rattle.atomic_table.specs.Table.{step, rest}

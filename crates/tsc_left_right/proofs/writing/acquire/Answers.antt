@@ -1,3 +1,4 @@
+-- Proves the contract of `acquire`. Tries once to acquire the writer lock.
 use Rattle.std.proofs.Common.{◌∙◌, arith, ◌+◌, [], refl}
 use mathlib.Core.Option as maybe
 use Rattle.atomic_table.specs.Table.{step}

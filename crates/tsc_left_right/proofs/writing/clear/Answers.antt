@@ -1,3 +1,5 @@
+-- Proves the contract of `clear`. Looks once whether the next seat, watched at this epoch before,
+-- has left the standby side.
 use Rattle.std.proofs.Common.{rules, ◌∙◌, sym, ap, arith}
 use mathlib.Core.Option as maybe
 use Rattle.atomic_table.specs.Table.{step}

@@ -1,3 +1,5 @@
+-- Proves the contract of `publish`. Makes the writer's own Add, if there is one, and then all that
+-- it has collected, in the order in which it has collected them.
 use Rattle.std.proofs.Common.{◌∙◌, sym, refl, ap, arith, ◌++◌}
 use Rattle.std.specs.Arc.{arc_value}
 use mathlib.Core.Option as maybe

@@ -1,3 +1,5 @@
+-- Proves the contract of `release`. Tells all seats whose requests were answered or sent back, and
+-- releases the writer lock.
 use Rattle.std.proofs.Common.{◌∙◌, refl, ap, arith, ◌∷◌}
 use mathlib.Core.Option as maybe
 use Rattle.atomic_table.specs.Table.{step}

@@ -1,3 +1,5 @@
+-- Proves the loop invariants of `BlockingWaitPolicy::acquire`. Acquires the writer lock, once it is
+-- free.
 use Rattle.std.proofs.Common.{◌≡◌}
 use Rattle.tsc_combining.proofs.waiting.BlockingWaitPolicy.acquire.Given as goal
 

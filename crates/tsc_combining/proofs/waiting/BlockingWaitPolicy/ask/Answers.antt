@@ -1,3 +1,5 @@
+-- Proves the contract of `BlockingWaitPolicy::ask`. Acquires the writer lock with this Add, or has
+-- it made by the seat that has the lock.
 use Rattle.std.proofs.Common.{◌≡◌, ◌∙◌, None}
 use Rattle.tsc_combining.proofs.Turns.{left_as, may_post, posted_since, turn_made, turn_back}
 use Rattle.tsc_combining.proofs.Turns.{turn_acquired, turn_since}
@@ -6,7 +8,8 @@ use Rattle.tsc_combining.proofs.waiting.BlockingWaitPolicy.ask.Goals as goal
 pub post-toggle-requires-clause-may : goal.post-toggle-requires-clause-may
 post-toggle-requires-clause-may g c =
     may_post c.args.who.now.me c.acquire_first.new.who.me c.fetch-toggle.new.who.me
-    c.fetch-toggle.result c.args.number c.fetch-toggle.ensures.fetched.0 c.args.add c.in-Ok.add.value
+    c.fetch-toggle.result c.args.number c.fetch-toggle.ensures.fetched.0 c.args.add
+    c.in-Ok.add.value
     c.requires.rest
     (left_as c.acquire_first.result (c.acquire_first.new.who.me ≡ c.args.who.now.me)
     c.in_default.not-Some c.acquire_first.ensures.busy)

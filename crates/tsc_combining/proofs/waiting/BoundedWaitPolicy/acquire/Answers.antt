@@ -1,3 +1,4 @@
+-- Proves the contract of `BoundedWaitPolicy::acquire`. Acquires the writer lock, once it is free.
 use Rattle.std.proofs.Common.{rules}
 use Rattle.tsc_combining.proofs.waiting.BoundedWaitPolicy.acquire.Goals as goal
 

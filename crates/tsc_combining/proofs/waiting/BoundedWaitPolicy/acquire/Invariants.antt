@@ -1,3 +1,5 @@
+-- Proves the loop invariants of `BoundedWaitPolicy::acquire`. Acquires the writer lock, once it is
+-- free.
 use Rattle.std.proofs.Common.{◌≡◌}
 use Rattle.tsc_combining.proofs.waiting.BoundedWaitPolicy.acquire.Given as goal
 

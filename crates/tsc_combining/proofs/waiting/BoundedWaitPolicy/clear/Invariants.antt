@@ -1,3 +1,5 @@
+-- Proves the loop invariants of `BoundedWaitPolicy::clear`. Takes the slot of the next seat on the
+-- standby side, once that seat has left it.
 use Rattle.std.proofs.Common.{◌≡◌}
 use Rattle.tsc_left_right.specs.Participating.{IsWriting}
 use Rattle.tsc_combining.proofs.waiting.BoundedWaitPolicy.clear.Given as goal

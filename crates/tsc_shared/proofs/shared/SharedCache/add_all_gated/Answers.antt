@@ -1,3 +1,4 @@
+-- Proves the contract of `SharedCache::add_all_gated`. As `add_all`.
 use Rattle.tsc_shared.proofs.GivenUp.{waited_answers}
 use Rattle.tsc_shared.proofs.shared.SharedCache.add_all_gated.Goals as goal
 

@@ -1,3 +1,5 @@
+-- Proves the contract of `SharedCache::add_mark`. An Add of one mark, which is given up where
+-- policy comes to its end.
 use Rattle.std.proofs.Common.{rules, ◌≡◌, ◌∙◌, true, false, true≢false, refl, sym, ap, subst}
 use Rattle.tsc_cache.specs.Settings.{fits}
 use Rattle.tsc_shared.specs.Seats.{SharedView}
@@ -8,23 +10,31 @@ use Rattle.tsc_shared.proofs.shared.SharedCache.add_mark.Goals as goal
 
 pub add_copy-requires-clause-made : goal.add_copy-requires-clause-made
 add_copy-requires-clause-made g c =
-    let fit : fits c.self.inside.setup.config c.args.span.now ≡ true = subst (λ (cache : SharedView). fits cache.config c.args.span.now ≡ true) (sym c.self.view_is) (sym c.fits.ensures ∙ c.if-not-fits.false) in
-    copy_added c.self.inside.setup.config _ (one_mark c.args.span.now c.args.value) c.args.now _ (ap (λ (cache : SharedView). cache.config) (sym c.self.view_is)) c.copy_of_one-copied.ensures (c.can_be_added.ensures fit)
+    let fit : fits c.self.inside.setup.config c.args.span.now ≡ true =
+    subst (λ (cache : SharedView). fits cache.config c.args.span.now ≡ true)
+    (sym c.self.view_is) (sym c.fits.ensures ∙ c.if-not-fits.false) in
+    copy_added c.self.inside.setup.config _ (one_mark c.args.span.now c.args.value) c.args.now _
+    (ap (λ (cache : SharedView). cache.config) (sym c.self.view_is))
+    c.copy_of_one-copied.ensures (c.can_be_added.ensures fit)
 
 pub returns-clause-answers : goal.returns-clause-answers
 returns-clause-answers g c = record {
-  accepted = accepts_where_copied _ _ _ _ (one_mark c.args.span.now c.args.value) c.args.now c.copy_of_one-copied.ensures c.add_copy.ensures.accepted;
+  accepted = accepts_where_copied _ _ _ _ (one_mark c.args.span.now c.args.value) c.args.now
+      c.copy_of_one-copied.ensures c.add_copy.ensures.accepted;
   seat = c.add_copy.ensures.seat;
   refused = c.add_copy.ensures.refused;
   why = c.add_copy.ensures.why;
-  too_large = not_where_it_fits _ _ _ (ap (λ (cache : SharedView). fits cache.config c.args.span.now) c.requires.cache)
+  too_large = not_where_it_fits _ _ _
+      (ap (λ (cache : SharedView). fits cache.config c.args.span.now) c.requires.cache)
       (sym c.fits.ensures ∙ c.if-not-fits.false) c.add_copy.ensures.fits;
   no_tries = λ none _. c.add_copy.ensures.no_tries (none_of_them _ none);
 }
 
 pub returns-then-not-fits-clause-answers : goal.returns-then-not-fits-clause-answers
 returns-then-not-fits-clause-answers g c =
-    let large : fits c.args.seat.now.cache.config c.args.span.now ≡ false = subst (λ (cache : SharedView). fits cache.config c.args.span.now ≡ false) (sym c.requires.cache) (sym c.fits.ensures ∙ c.if-not-fits.true) in
+    let large : fits c.args.seat.now.cache.config c.args.span.now ≡ false =
+    subst (λ (cache : SharedView). fits cache.config c.args.span.now ≡ false)
+    (sym c.requires.cache) (sym c.fits.ensures ∙ c.if-not-fits.true) in
     record {
       accepted = tt;
       seat = goes_nowhere c.args.seat.now c.is_as_always.ensures;

@@ -1,3 +1,6 @@
+-- Proves the contract of `SharedCache::figures`. What `Cache::figures` counts, after a history that
+-- begins with all that the seat has seen, and that has each Add that returned before, as in
+-- `get_max`.
 use Rattle.std.proofs.Common.{subst}
 use Rattle.tsc_shared.specs.Keeping.{seat_view}
 use Rattle.tsc_shared.specs.Answers.{ReadsFigures}
@@ -6,9 +9,17 @@ use Rattle.tsc_shared.proofs.shared.SharedCache.figures.Goals as goal
 
 pub invariant_of-seat : goal.invariant_of-seat
 invariant_of-seat c = let l = c.read_figures-figures.ensures.looked in
-    kept_looked c.seat.inside.participant c.read_figures-figures.new.who c.read_figures-figures.result.1 l.0 c.seat.inside.number c.seat.inside.count c.seat.inside.seen c.seat.invariant l.1 c.read_figures-figures.ensures.table
+    kept_looked c.seat.inside.participant c.read_figures-figures.new.who
+    c.read_figures-figures.result.1 l.0 c.seat.inside.number c.seat.inside.count
+    c.seat.inside.seen c.seat.invariant l.1 c.read_figures-figures.ensures.table
 
 pub returns-clause-figures : goal.returns-clause-figures
 returns-clause-figures c = let l = c.read_figures-figures.ensures.looked in
-    subst (λ old. ReadsFigures old (seat_view c.read_figures-figures.new.who) (record { figures = c.read_figures-figures.result.0; front = c.read_figures-figures.result.1 })) c.seat.view_is
-    (counts_now c.seat.inside.participant c.read_figures-figures.new.who c.read_figures-figures.result.1 l.0 c.read_figures-figures.result.0 c.seat.invariant.seat l.1 c.read_figures-figures.ensures.table l.2)
+    subst (λ old. ReadsFigures old (seat_view c.read_figures-figures.new.who)
+    (record {
+      figures = c.read_figures-figures.result.0;
+      front = c.read_figures-figures.result.1;
+    })) c.seat.view_is
+    (counts_now c.seat.inside.participant c.read_figures-figures.new.who
+    c.read_figures-figures.result.1 l.0 c.read_figures-figures.result.0 c.seat.invariant.seat
+    l.1 c.read_figures-figures.ensures.table l.2)

@@ -6,4 +6,6 @@ use Rattle.tsc_shared.specs.Answers.{TellsNoPart}
 use Rattle.tsc_shared.proofs.shared.SharedCache.get_max_between.Goals as goal
 
 pub returns-clause-whole : goal.returns-clause-whole
-returns-clause-whole c = subst (λ (s : Interval). IfOk c.get_max_in.result (λ (answer : Answer). TellsNoPart c.get_max_in.new.seat s answer.value)) c.between.ensures c.get_max_in.ensures.whole
+returns-clause-whole c = subst (λ (s : Interval). IfOk c.get_max_ref.result
+    (λ (answer : Answer). TellsNoPart c.get_max_ref.new.seat s answer.value)) c.between.ensures
+    c.get_max_ref.ensures.whole

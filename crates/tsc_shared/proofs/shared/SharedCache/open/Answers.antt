@@ -1,3 +1,5 @@
+-- Proves the contract of `SharedCache::open`. A cache to which nothing was added, and its seats,
+-- numbered from 0 in their order.
 use Rattle.std.proofs.Common.{rules}
 use Rattle.tsc_shared.proofs.shared.SharedCache.open.Goals as goal
 

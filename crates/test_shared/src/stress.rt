@@ -1,7 +1,8 @@
-//! Seats on threads of their own, which all add and look, and a cache that isn't shared after the same Adds.
+//! Seats on threads of their own, which all add and look, and a cache that isn't shared after the
+//! same Adds.
 use super::figures::takes;
+use super::harness::{By, Of, Owner, TestCache, TestSeat, Told, Why};
 use super::marks::{Adding, FIRST};
-use super::party::{By, Guest, Home, Of, Owner, Told, Why};
 use super::steps::Act::{AtOnce, Close, CloseLate, Get};
 use super::steps::{PAGES, Row, config_of, play, play_all};
 use super::threads::{Meeting, Scene, check};
@@ -21,7 +22,7 @@ pub struct Plan {
     pub limit: u64,
     /// By which call every other seat adds, from the first one on.
     pub by: By,
-    /// And by which the others.
+    /// The way in which the other seats are asked.
     pub other: By,
     pub what: What,
 }
@@ -86,7 +87,8 @@ impl Plan {
 }
 
 impl<C: Of> Meeting<'_, C> {
-    /// Whether a place is there, and was told to no other Add. It is told to that of a seat in a round now.
+    /// Whether a place is there, and was told to no other Add. It is told to that of a seat in a
+    /// round now.
     pub fn is_new(&self, place: u64, number: u32, round: u32) -> bool {
         let made = (u64::from(number) * NUMBER + u64::from(round)).saturating_add(1);
         match self.places.get(place as usize) {
@@ -99,8 +101,8 @@ impl<C: Of> Meeting<'_, C> {
     fn add_seen<R: Wait + Abort>(
         &self,
         rt: &R,
-        home: &Home<C>,
-        guest: &mut Guest<C>,
+        home: &TestCache<C>,
+        guest: &mut TestSeat<C>,
         (plan, adding): (&Plan, &Adding),
         round: u32,
     ) {
@@ -115,12 +117,12 @@ impl<C: Of> Meeting<'_, C> {
         check(rt, plan.is_seen(round, least, seen), seen);
     }
 
-    pub fn crowd<R: Wait + Abort>(
+    pub fn stress<R: Wait + Abort>(
         &self,
         rt: &R,
         alloc: Global,
-        home: &Home<C>,
-        guest: &mut Guest<C>,
+        home: &TestCache<C>,
+        guest: &mut TestSeat<C>,
         plan: &Plan,
         round: u32,
     ) -> bool {

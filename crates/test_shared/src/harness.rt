@@ -1,5 +1,6 @@
-//! A shared cache with its seats and fronts, which show by their types that they belong together. So they can go
-//! through threads and channels, and need no clauses there. And what each call tells.
+//! A shared cache with its seats and fronts, which show by their types that they belong together.
+//! So they can go through threads and channels, and need no clauses there. And what each call
+//! tells.
 ghost use Rattle.std.specs.Prelude.{◌≡◌, [], All, IfOk};
 ghost use Rattle.tsc_shared.specs.Answers.{Opens};
 
@@ -25,12 +26,33 @@ pub trait Of {
 impl Of for Brand {
     ghost use Rattle.std.specs.Prelude.{[]};
 
-    ghost cache = { record { table = record { words = 0; slots = 0; views_name = 0; atom = 0; block = 0; offset = 0; slot_names = [] }; config = record { page_first = 132; page_max = 132; min_pages = 2; retention = 10; low_water = record { wall = 5; logical = 0 } }; seats = 1; limit = 0 } };
+    ghost cache = { record {
+      table =
+          record {
+            words = 0;
+            slots = 0;
+            views_name = 0;
+            atom = 0;
+            block = 0;
+            offset = 0;
+            slot_names = [];
+          };
+      config =
+          record {
+            page_first = 132;
+            page_max = 132;
+            min_pages = 2;
+            retention = 10;
+            low_water = record { wall = 5; logical = 0 };
+          };
+      seats = 1;
+      limit = 0;
+    } };
 }
 
 /// The cache.
 #[derive(Drop)]
-pub struct Home<C: Of> {
+pub struct TestCache<C: Of> {
     cache: SharedCache,
     of: PhantomData<C>,
     ghost is: { cache ≡ C.cache },
@@ -38,17 +60,18 @@ pub struct Home<C: Of> {
 
 /// A history that was seen.
 #[derive(Drop)]
-pub struct Letter<C: Of> {
+pub struct SentSnapshot<C: Of> {
     front: Front,
     of: PhantomData<C>,
     ghost is: { front.cache ≡ C.cache },
 }
 
-/// A seat, the front that it was told last, until it hands that on, and what it saw when it last looked around.
+/// A seat, the front that it was told last, until it hands that on, and what it saw when it last
+/// looked around.
 #[derive(Drop)]
-pub struct Guest<C: Of> {
+pub struct TestSeat<C: Of> {
     seat: Seat,
-    pub letter: Option<Letter<C>>,
+    pub letter: Option<SentSnapshot<C>>,
     pub saw: (u64, Told, Told, Told),
     ghost is: { seat.cache ≡ C.cache },
 }
@@ -59,8 +82,8 @@ pub type Counts = (u64, u64, u64, u64, u64);
 /// What is told of a step.
 #[derive(Clone, Copy, Debug, PartialEq, Eq)]
 pub enum Told {
-    /// The place, whether the Add was kept, whether the pages rotated, how many were dropped, and the length of
-    /// the front.
+    /// The place, whether the Add was kept, whether the pages rotated, how many were dropped, and
+    /// the length of the front.
     Place(u64, (bool, bool, u64), u64),
     /// The length of the front.
     Full(u64),
@@ -85,7 +108,7 @@ pub enum Why {
     Gone,
     /// No thread could be had.
     NoThread,
-    /// It was refused again.
+    /// The Add was refused again.
     Again,
     /// A refusal changed what can be seen, or a cache is not as it should be.
     Changed,
@@ -93,7 +116,7 @@ pub enum Why {
     Text,
     /// A seat is missing, and the cache stays open.
     Open,
-    /// It was done.
+    /// The Add was made.
     Done,
 }
 
@@ -162,14 +185,14 @@ fn told_by(added: Result<Receipt, AddFault>) -> Told {
     }
 }
 
-impl<C: Of> Letter<C> {
+impl<C: Of> SentSnapshot<C> {
     /// How long the history is.
     pub fn len(&self) -> u64 {
         self.front.len()
     }
 }
 
-impl<C: Of> Guest<C> {
+impl<C: Of> TestSeat<C> {
     pub fn number(&self) -> u32 {
         self.seat.number()
     }
@@ -185,12 +208,12 @@ impl<C: Of> Guest<C> {
     }
 }
 
-impl<C: Of> Home<C> {
+impl<C: Of> TestCache<C> {
     /// What an Add tells, and its front, which the guest then has, if there is one.
     pub fn add_gated<R: Wait, G: Gate>(
         &self,
         rt: &R,
-        guest: &mut Guest<C>,
+        guest: &mut TestSeat<C>,
         adding: &Adding,
         gate: &G,
     ) -> Told {
@@ -211,7 +234,7 @@ impl<C: Of> Home<C> {
             Err(AddFault::NoMemory) => return Told::Not(Why::NoMemory),
             Err(AddFault::TooLarge) => return Told::Not(Why::TooLarge),
         };
-        guest.letter = Some(Letter {
+        guest.letter = Some(SentSnapshot {
             front,
             of: PhantomData,
         });
@@ -222,7 +245,7 @@ impl<C: Of> Home<C> {
     pub fn add<R: Wait>(
         &self,
         rt: &R,
-        guest: &mut Guest<C>,
+        guest: &mut TestSeat<C>,
         adding: &Adding,
         by: By,
         gate: &Watch,
@@ -234,7 +257,7 @@ impl<C: Of> Home<C> {
         }
     }
 
-    fn add_plain<R: Wait>(&self, rt: &R, guest: &mut Guest<C>, adding: &Adding) -> Told {
+    fn add_plain<R: Wait>(&self, rt: &R, guest: &mut TestSeat<C>, adding: &Adding) -> Told {
         let seat = &mut guest.seat;
         match adding {
             Adding::One(mark, now) => {
@@ -246,12 +269,13 @@ impl<C: Of> Home<C> {
         }
     }
 
-    /// Whether an Add of a mark by itself is refused with this text, and one that does not wait would be too.
+    /// Whether an Add of a mark by itself is refused with this text, and one that does not wait
+    /// would be too.
     pub fn refuses<R: Wait>(
         &self,
         rt: &R,
         alloc: Global,
-        guest: &mut Guest<C>,
+        guest: &mut TestSeat<C>,
         adding: &Adding,
         text: &str,
     ) -> Told {
@@ -267,7 +291,7 @@ impl<C: Of> Home<C> {
         }
     }
 
-    fn try_add(&self, guest: &mut Guest<C>, adding: &Adding, tries: u32) -> Told {
+    fn try_add(&self, guest: &mut TestSeat<C>, adding: &Adding, tries: u32) -> Told {
         let seat = &mut guest.seat;
         match adding {
             Adding::One(mark, now) => told_at(
@@ -280,7 +304,7 @@ impl<C: Of> Home<C> {
         }
     }
 
-    pub fn get(&self, guest: &mut Guest<C>, span: &Span) -> Told {
+    pub fn get(&self, guest: &mut TestSeat<C>, span: &Span) -> Told {
         match self.cache.get_max(&mut guest.seat, span) {
             Ok(answer) => told_of(answer.value, answer.front),
             Err(Gone) => Told::Not(Why::Gone),
@@ -290,7 +314,7 @@ impl<C: Of> Home<C> {
     /// The same of the keys from a start to an end, of which either may be excluded.
     pub fn get_between(
         &self,
-        guest: &mut Guest<C>,
+        guest: &mut TestSeat<C>,
         start: &str,
         end: Option<&str>,
         (exclude_from, exclude_to): (bool, bool),
@@ -310,12 +334,12 @@ impl<C: Of> Home<C> {
     }
 
     /// The same of one key.
-    pub fn get_key(&self, guest: &mut Guest<C>, key: &str) -> Told {
+    pub fn get_key(&self, guest: &mut TestSeat<C>, key: &str) -> Told {
         self.get_between(guest, key, Some(key), (false, false))
     }
 
     /// The floor, which has no owner.
-    pub fn low(&self, guest: &mut Guest<C>) -> Told {
+    pub fn low(&self, guest: &mut TestSeat<C>) -> Told {
         match self.cache.low_water(&mut guest.seat) {
             Ok(floor) => told_of(Value::unowned(floor.time), floor.front),
             Err(Gone) => Told::Not(Why::Gone),
@@ -323,15 +347,16 @@ impl<C: Of> Home<C> {
     }
 
     /// What is counted of the cache.
-    pub fn figures(&self, guest: &mut Guest<C>) -> Told {
+    pub fn figures(&self, guest: &mut TestSeat<C>) -> Told {
         match self.cache.figures(&mut guest.seat) {
             Ok(answer) => counted_of(answer.figures, answer.front),
             Err(Gone) => Told::Not(Why::Gone),
         }
     }
 
-    /// What a seat counts, and is told of the keys from `a` to `z`, of what is added, and of the floor.
-    pub fn look(&self, guest: &mut Guest<C>, adding: &Adding) -> (u64, Told, Told, Told) {
+    /// What a seat counts, and is told of the keys from `a` to `z`, of what is added, and of the
+    /// floor.
+    pub fn look(&self, guest: &mut TestSeat<C>, adding: &Adding) -> (u64, Told, Told, Told) {
         let all = self.get_between(guest, "a", Some("z"), (false, true));
         let own = match adding {
             Adding::One(mark, _) => self.get(guest, &mark.span),
@@ -341,7 +366,7 @@ impl<C: Of> Home<C> {
     }
 
     /// Two seats meet, and both have seen as much then.
-    pub fn meet<R: Wait>(&self, rt: &R, one: &mut Guest<C>, other: &mut Guest<C>) -> Told {
+    pub fn meet<R: Wait>(&self, rt: &R, one: &mut TestSeat<C>, other: &mut TestSeat<C>) -> Told {
         match self.cache.meet(rt, &mut one.seat, &mut other.seat) {
             Ok(met) if (one.seen(), other.seen()) == (met, met) => Told::Long(met),
             Ok(_) => Told::Not(Why::Changed),
@@ -349,7 +374,7 @@ impl<C: Of> Home<C> {
         }
     }
 
-    pub fn learn(&self, guest: &mut Guest<C>, letter: Letter<C>) -> Told {
+    pub fn learn(&self, guest: &mut TestSeat<C>, letter: SentSnapshot<C>) -> Told {
         match self.cache.learn(&mut guest.seat, letter.front) {
             Ok(long) => Told::Long(long),
             Err(Gone) => Told::Not(Why::Gone),
@@ -369,15 +394,15 @@ const NOTHING: (u64, Told, Told, Told) = (
 #[derive(Drop)]
 pub enum Ended<C: Of> {
     Closed(Closed),
-    Out(Home<C>, Vec<Guest<C>>),
+    Out(TestCache<C>, Vec<TestSeat<C>>),
 }
 
-fn guests_of<C: Of>(alloc: Global, seats: Vec<Seat>) -> Result<Vec<Guest<C>>, NoMemory>
+fn guests_of<C: Of>(alloc: Global, seats: Vec<Seat>) -> Result<Vec<TestSeat<C>>, NoMemory>
     requires { All (λ seat. seat.cache ≡ C.cache) seats.items }
 {
     let mut guests = Vec::with_capacity(alloc, seats.len())?;
     for seat in seats {
-        guests.push(Guest {
+        guests.push(TestSeat {
             seat,
             letter: None,
             saw: NOTHING,
@@ -387,12 +412,12 @@ fn guests_of<C: Of>(alloc: Global, seats: Vec<Seat>) -> Result<Vec<Guest<C>>, No
 }
 
 /// The seats, in this room, which is empty.
-fn seats_of<C: Of>(mut room: Vec<Seat>, guests: Vec<Guest<C>>) -> Result<Vec<Seat>, NoMemory>
+fn seats_of<C: Of>(mut room: Vec<Seat>, guests: Vec<TestSeat<C>>) -> Result<Vec<Seat>, NoMemory>
     requires { room.items ≡ [] }
     ensures { IfOk result (λ seats. All (λ seat. seat.cache ≡ C.cache) seats.items) }
 {
     for guest in guests {
-        let Guest {
+        let TestSeat {
             seat,
             letter: _,
             saw: _,
@@ -402,21 +427,21 @@ fn seats_of<C: Of>(mut room: Vec<Seat>, guests: Vec<Guest<C>>) -> Result<Vec<Sea
     Ok(room)
 }
 
-impl<C: Of> Home<C> {
-    /// It takes no memory where there is room for the seats, and none is missing.
+impl<C: Of> TestCache<C> {
+    /// Closing takes no memory where there is room for the seats, and none is missing.
     pub fn close<R: Wait>(
         self,
         rt: &R,
         alloc: Global,
         room: Vec<Seat>,
-        guests: Vec<Guest<C>>,
+        guests: Vec<TestSeat<C>>,
     ) -> Result<Ended<C>, NoMemory>
         requires { room.items ≡ [] }
     {
         match self.cache.close(rt, seats_of(room, guests)?) {
             Ok(closed) => Ok(Ended::Closed(closed)),
             Err(out) => {
-                let home = Home {
+                let home = TestCache {
                     cache: out.cache,
                     of: PhantomData,
                 };
@@ -431,19 +456,20 @@ pub fn together<C: Of>(
     alloc: Global,
     cache: SharedCache,
     seats: Vec<Seat>,
-) -> Result<(Home<C>, Vec<Guest<C>>), NoMemory>
+) -> Result<(TestCache<C>, Vec<TestSeat<C>>), NoMemory>
     requires cache { cache ≡ C.cache }
     requires seats { All (λ seat. seat.cache ≡ C.cache) seats.items }
 {
     let guests = guests_of(alloc, seats)?;
-    let home = Home {
+    let home = TestCache {
         cache,
         of: PhantomData,
     };
     Ok((home, guests))
 }
 
-/// Opens a cache. Where it is refused memory, and this is to be tried again, it is opened once more.
+/// Opens a cache. Where it is refused memory, and this is to be tried again, it is opened once
+/// more.
 pub fn open(
     alloc: Global,
     config: Config,
