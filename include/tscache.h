@@ -1,63 +1,76 @@
 /* tscache.h: the timestamp cache for C and C++.
  *
- * A timestamp cache remembers the latest time at which each span of keys was read, and by which transaction. A store asks it
- * before a write: a write at or below the time that a lookup of its span answers would change what was read, and has to move
- * up. The cache is bounded: where its pages are full the oldest ones are dropped, and a floor answers for them. An answer may
- * be later than the reads that there were, and never earlier.
+ * A timestamp cache remembers the latest time at which each span of keys was read, and by which
+ * transaction. A database asks it before a write: a write at or below the time that a lookup of
+ * its span answers would change what was read, and has to move up. The cache is bounded: where its
+ * pages are full the oldest ones are dropped, and a floor answers for them. An answer may be later
+ * than the reads that there were, and never earlier.
  *
- *     static tsc_place place;                                  // zeros: owns nothing yet
- *     uint64_t n;                                              // the number of a cache in it
+ *     static tsc_store store;   // zeros: owns nothing yet
+ *     uint64_t n;               // the handle of a cache in it
  *     tsc_time low = {5, 0}, now = {20, 0};
  *     tsc_value read = {20, 0, {0x11}}, latest;
  *     tsc_added added;
- *     if (tsc_open(&place, 4096, 65536, 2, 10000000000, &low, &n)) return 1;
- *     tsc_checked_add(&place, n, "a", 1, "c", 1, TSC_EXCLUDE_TO, &read, &now, &added);    // [a, c) was read at 20
- *     tsc_checked_get_max(&place, n, "b", 1, NULL, 0, TSC_POINT, &latest);                // latest.wall is 20
- *     tsc_free(&place);
+ *     if (tsc_open(&store, 4096, 65536, 2, 10000000000, &low, &n)) return 1;
+ *     // [a, c) was read at 20
+ *     tsc_checked_add(&store, n, "a", 1, "c", 1, TSC_EXCLUDE_TO, &read, &now, &added);
+ *     tsc_checked_get_max(&store, n, "b", 1, NULL, 0, TSC_POINT, &latest);   // latest.wall is 20
+ *     tsc_free(&store);
  *
  * When a write may be made: at a time above what a lookup of its span answers, or at that very
  * time where its transaction owns the answer, which sixteen zeros never do. Else the earliest time
  * that will do is the answer's if the transaction owns it, and if not the one after it, which
- * `tsc_next` tells. Each of several spans has to let the write pass, so a store goes from span to
- * span, on to a later time where one asks for that, and never back: `tsc_earliest_write` and
+ * `tsc_next` tells. Each of several spans has to let the write pass, so a database goes from span
+ * to span, on to a later time where one asks for that, and never back: `tsc_earliest_write` and
  * `tsc_seat_earliest_write` do, and `tsc_may_write` and `tsc_seat_may_write` tell whether a write
  * may be made at once. The trap: an own answer at 30 hides a read of somebody else at 20, so that
  * a write at 25 is never let pass because the answer is its own.
  *
- * Each function that is declared here is proved, over whatever numbers and bytes it is given, to return and to do what is said
- * of it, as long as the caller keeps to this:
+ * Each function that is declared here is proved, over whatever numbers and bytes it is given, to
+ * return and to do what is said of it, as long as the caller keeps to this:
  *
- *   - A `tsc_place` begins as zeros, and only these functions change it. What its pointer leads to is the library's: no one else
- *     reads, writes or frees it. A place may be moved (the old memory is a place no more); it is never copied and used twice.
- *   - Each pointer leads to as much as its type and the length after it say, which nothing else writes until the call returns.
- *     What a call writes (a place, a number, an `out`) overlaps nothing else that it is given; `from` and `to` may be the same
- *     bytes. No pointer is null, and none but those of bytes and marks has a length. Each call has one beside it, with
+ *   - A `tsc_store` begins as zeros, and only these functions change it. What its pointer leads to
+ *     is the library's: no one else reads, writes or frees it. A store may be moved (the old
+ *     memory is a store no more); it is never copied and used twice.
+ *   - Each pointer leads to as much as its type and the length after it say, which nothing else
+ *     writes until the call returns. What a call writes (a store, a handle, an `out`) overlaps
+ *     nothing else that it is given; `from` and `to` may be the same bytes. No pointer is null,
+ *     and none but those of bytes and marks has a length. Each call has one beside it, with
  *     `checked_` in its name, that tests for null, and takes null for no bytes.
- *   - The calls of one place come one at a time, and each sees what the last one did: one thread, or a lock round each call, or
- *     the start or the end of a thread between them. A place may go from thread to thread in this way. Different places may be
- *     used at once, also where both have seats of one shared cache, which is all that they can have in common. Each call writes to its
- *     place, so places that threads use at once should lie 128 bytes apart, or their calls are up to twice as slow.
+ *   - The calls of one store come one at a time, and each sees what the last one did: one thread,
+ *     or a lock round each call, or the start or the end of a thread between them. A store may go
+ *     from thread to thread in this way. Different stores may be used at once, also where both
+ *     have seats of one shared cache, which is all that they can have in common. Each call writes
+ *     to its store, so stores that threads use at once should lie 128 bytes apart, or their calls
+ *     are up to twice as slow.
  *   - No call comes from a signal handler, or from the forked child of a process that has threads.
- *   - `malloc`, `realloc` and `free` are one allocator, which aligns a block to each power of two up to 16 that divides its size.
+ *   - `malloc`, `realloc` and `free` are one allocator, which aligns a block to each power of two
+ *     up to 16 that divides its size.
  *
- * Who owns what: an Add copies the bytes of its keys, a lookup copies nothing, and no call keeps a pointer that it is given. All memory
- * that a call takes belongs to the place until `tsc_close` (one cache) or `tsc_free` (all of them, and the place's own). A shared cache
- * belongs to its number and to its seats together, and is freed with the last of these. Lookups and the calls for writes, floors and
- * figures take no memory. What `tsc_summary`, `tsc_replay` and `tsc_check` take they free before they return.
+ * Who owns what: an Add copies the bytes of its keys, a lookup copies nothing, and no call keeps a
+ * pointer that it is given. All memory that a call takes belongs to the store until `tsc_close`
+ * (one cache) or `tsc_free` (all of them, and the store's own). A shared cache belongs to its
+ * handle and to its seats together, and is freed with the last of these. Lookups and the calls for
+ * writes, floors and figures take no memory. What `tsc_summary`, `tsc_replay` and `tsc_check` take
+ * they free before they return.
  *
- * A cache that threads share has seats, each for one thread at a time. A program opens it, and moves each seat to a place of its
- * own, which it hands to a thread:
+ * A cache that threads share has seats, each for one thread at a time. A program opens it, and
+ * moves each seat to a store of its own, which it hands to a thread:
  *
  *     uint64_t n, seat, at, seen, adds;
- *     static tsc_place theirs;                                 // the place of another thread
- *     if (tsc_open_shared(&place, 4096, 65536, 2, 10000000000, &low, 2, UINT64_MAX, &n)) return 1;   // seats n + 1 and n + 2
- *     if (tsc_move(&place, n + 2, &theirs, &seat)) return 1;   // the other thread's seat is number `seat` of `theirs`
- *     while (tsc_checked_seat_add(&place, n + 1, "a", 1, "c", 1, TSC_EXCLUDE_TO, &read, &now, 64, &at, &added) == TSC_BUSY)
+ *     static tsc_store theirs;   // the store of another thread
+ *     // two seats, n + 1 and n + 2
+ *     if (tsc_open_shared(&store, 4096, 65536, 2, 10000000000, &low, 2, UINT64_MAX, &n)) return 1;
+ *     // the other thread's seat is `seat` in `theirs`
+ *     if (tsc_move(&store, n + 2, &theirs, &seat)) return 1;
+ *     while (tsc_checked_seat_add(&store, n + 1, "a", 1, "c", 1, TSC_EXCLUDE_TO, &read, &now, 64,
+ *                                 &at, &added) == TSC_BUSY)
  *         thrd_yield();
- *     tsc_checked_seat_get_max(&theirs, seat, "b", 1, NULL, 0, TSC_POINT, &seen, &latest);            // in the other thread
- *     tsc_seat_close(&theirs, seat);                           // each seat is handed in,
- *     tsc_seat_close(&place, n + 1);
- *     tsc_close_shared(&place, n, &adds);                      // and then there were so many Adds
+ *     // in the other thread
+ *     tsc_checked_seat_get_max(&theirs, seat, "b", 1, NULL, 0, TSC_POINT, &seen, &latest);
+ *     tsc_seat_close(&theirs, seat);        // each seat is handed in,
+ *     tsc_seat_close(&store, n + 1);
+ *     tsc_close_shared(&store, n, &adds);   // and then there were so many Adds
  */
 #ifndef TSCACHE_H
 #define TSCACHE_H
@@ -70,8 +83,9 @@
 extern "C" {
 #endif
 
-/* The version of this header: a million for each major number, a thousand for each minor one, and the patch. Before 1.0 each
- * minor version may change what stands here, and CHANGELOG.md says how. */
+/* The version of this header: a million for each major number, a thousand for each minor one, and
+ * the patch. Before 1.0 each minor version may change what stands here, and CHANGELOG.md says
+ * how. */
 #define TSC_VERSION_MAJOR 0
 #define TSC_VERSION_MINOR 1
 #define TSC_VERSION_PATCH 0
@@ -80,16 +94,20 @@ extern "C" {
 /* The version of the library that is linked, which should be TSC_VERSION. */
 uint32_t tsc_version(void);
 
-/* What a call answers: TSC_OK, or why it was refused. A call that is refused adds nothing to a cache, and writes nothing but to the
- * place (and with TSC_REFUSED and TSC_SHORT what is said there). */
+/* What a call answers: TSC_OK, or why it was refused. A call that is refused adds nothing to a
+ * cache, and writes nothing but to the store (and with TSC_REFUSED and TSC_SHORT what is said
+ * there). */
 enum {
     TSC_OK = 0,
-    TSC_CLOSED = 1,       /* the number names nothing in this place, or nothing of this kind: it was closed, moved, or never given */
+    TSC_CLOSED = 1,       /* the handle names nothing in this store, or nothing of this kind: it
+                           * was closed, moved, or never given */
     TSC_TIME = 2,         /* a wall time is above 2^63 - 1, or a logical count above 2^31 - 1 */
     TSC_ENDS = 3,         /* `ends` is none of the sums named below */
-    TSC_KEY_TOO_LONG = 4, /* a key of a span to be added has more than 4096 bytes; a lookup takes any */
+    TSC_KEY_TOO_LONG = 4, /* a key of a span to be added has more than 4096 bytes; a lookup takes
+                           * any */
     TSC_INVERTED = 5,     /* of a span to be added the first key is greater than the second */
-    TSC_TOO_LARGE = 6,    /* a span to be added costs more than page_max: 32 and its bytes for each key */
+    TSC_TOO_LARGE = 6,    /* a span to be added costs more than page_max: 32 and its bytes for each
+                           * key */
     TSC_OUTSIDE = 7,      /* a key of a mark does not lie among `keys` */
     TSC_PAGE_SIZE = 8,    /* page_first is below 64 or above page_max, or that is above 2^30 */
     TSC_MIN_PAGES = 9,    /* min_pages is 0 or above 64 */
@@ -97,19 +115,28 @@ enum {
     TSC_NO_MEMORY = 11,   /* malloc or realloc refused; told by no call that takes no memory */
     TSC_SEATS = 12,       /* there were to be no seats, or more than 64 */
     TSC_STILL_OUT = 13,   /* a seat of the shared cache was not handed in */
-    TSC_BUSY = 14,        /* others were in the way at each of so many tries: another Add, or a lookup */
+    TSC_BUSY = 14,        /* others were in the way at each of the tries: another Add, or a
+                           * lookup */
     TSC_FULL = 15,        /* the shared cache has had as many Adds as `limit` says */
-    TSC_REFUSED = 16,     /* of tsc_replay and tsc_check: the text says why the bytes are no trace, or no log */
-    TSC_SHORT = 17,       /* of the same, and of tsc_summary: what is told is longer than `room`, and `*len` says how long */
-    TSC_NO_TIME = 18,     /* a read of somebody else stands at the last time, so a write may be made at none */
-    TSC_SUMMARY_VERSION = 19,  /* of tsc_apply, as those below: the bytes are a summary of another version */
-    TSC_SUMMARY_LENGTH = 20,   /* some bytes of the summary are missing, or there are more than it has */
+    TSC_REFUSED = 16,     /* of tsc_replay and tsc_check: the text says why the bytes are no trace,
+                           * or no log */
+    TSC_SHORT = 17,       /* of the same, and of tsc_summary: what is told is longer than `room`,
+                           * and `*len` says how long */
+    TSC_NO_TIME = 18,     /* a read of somebody else stands at the last time, so a write may be
+                           * made at none */
+    TSC_SUMMARY_VERSION = 19,  /* of tsc_apply, as those below: the bytes are a summary of another
+                                * version */
+    TSC_SUMMARY_LENGTH = 20,   /* some bytes of the summary are missing, or there are more than it
+                                * has */
     TSC_SUMMARY_CHECKSUM = 21, /* the summary was changed: its digest is another one */
-    TSC_SUMMARY_FORM = 22,     /* the digest is right, and what it is of is no summary: its sender made it wrong */
-    TSC_NULL = 255        /* a pointer is null: told by the calls with `checked_` in their names alone */
+    TSC_SUMMARY_FORM = 22,     /* the digest is right, and what it is of is no summary: its sender
+                                * made it wrong */
+    TSC_NULL = 255        /* a pointer is null: told by the calls with `checked_` in their names
+                           * alone */
 };
 
-/* The ends of a span: TSC_POINT, or TSC_ONWARD with or without TSC_EXCLUDE_FROM, or any sum of the first two, 0 too. */
+/* The ends of a span: TSC_POINT, or TSC_ONWARD with or without TSC_EXCLUDE_FROM, or any sum of the
+ * first two, 0 too. */
 enum {
     TSC_EXCLUDE_FROM = 1, /* `from` itself is no part of it */
     TSC_EXCLUDE_TO = 2,   /* `to` itself is no part of it */
@@ -117,10 +144,10 @@ enum {
     TSC_POINT = 8         /* the key `from` alone; `to` is passed over */
 };
 
-/* A place that owns caches. Zeros own nothing. */
+/* A store that owns caches. Zeros own nothing. */
 typedef struct {
     void *at;
-} tsc_place;
+} tsc_store;
 
 /* A time of a hybrid logical clock: nanoseconds, and a count among those of one nanosecond. */
 typedef struct {
@@ -128,7 +155,8 @@ typedef struct {
     uint32_t logical;
 } tsc_time;
 
-/* A time with the transaction that owns it, by its sixteen bytes (a UUID). Sixteen zeros: nobody does. */
+/* A time with the transaction that owns it, by its sixteen bytes (a UUID). Sixteen zeros: nobody
+ * does. */
 typedef struct {
     uint64_t wall;
     uint32_t logical;
@@ -142,14 +170,16 @@ typedef struct {
     bool rotated;     /* a new page came to the front */
 } tsc_added;
 
-/* One mark of several: its keys are `from_len` bytes of `keys` from place `from_at` on, and `to_len` from `to_at` on. */
+/* One mark of several: its keys are `from_len` bytes of `keys` from `from_at` on, and `to_len`
+ * from `to_at` on. */
 typedef struct {
     size_t from_at, from_len, to_at, to_len;
     tsc_value value;
     uint32_t ends;
 } tsc_mark;
 
-/* One span of several: its keys are `from_len` bytes of `keys` from place `from_at` on, and `to_len` from `to_at` on. */
+/* One span of several: its keys are `from_len` bytes of `keys` from `from_at` on, and `to_len`
+ * from `to_at` on. */
 typedef struct {
     size_t from_at, from_len, to_at, to_len;
     uint32_t ends;
@@ -159,195 +189,233 @@ typedef struct {
 typedef struct {
     uint64_t pages;     /* how many there are */
     uint64_t rotations; /* how often they rotated */
-    uint64_t nodes;     /* how many end keys the pages hold, each counted once for each page that holds it */
+    uint64_t nodes;     /* how many end keys the pages hold, each counted once for each page that
+                         * holds it */
     uint64_t bytes;     /* what these cost: for each as many bytes as it has, and 32 more */
 } tsc_figures;
 
-/* Opens a cache, and writes its number. Numbers count on from 0 and none is given twice, until the place is freed; each takes
- * some memory of the place until then, also where its cache is closed. The first page has `page_first` bytes, and no page more
- * than `page_max`. A page is dropped only while there are at least `min_pages`, and once all of it is older than `retention`
- * nanoseconds. `low_water` is where the floor stands at first. */
-uint32_t tsc_open(tsc_place *place, uint32_t page_first, uint32_t page_max, uint32_t min_pages, uint64_t retention,
-                  const tsc_time *low_water, uint64_t *number);
+/* Opens a cache, and writes its handle. Handles count on from 0 and none is given twice, until the
+ * store is freed; each takes some memory of the store until then, also where its cache is closed.
+ * The first page has `page_first` bytes, and no page more than `page_max`. A page is dropped only
+ * while there are at least `min_pages`, and once all of it is older than `retention` nanoseconds.
+ * `low_water` is where the floor stands at first. */
+uint32_t tsc_open(tsc_store *store, uint32_t page_first, uint32_t page_max, uint32_t min_pages,
+                  uint64_t retention, const tsc_time *low_water, uint64_t *handle);
 
 /* Adds a span that was read, with the time and the owner of the read, at the moment `now`. */
-uint32_t tsc_add(tsc_place *place, uint64_t number, const void *from, size_t from_len, const void *to, size_t to_len,
-                 uint32_t ends, const tsc_value *value, const tsc_time *now, tsc_added *out);
+uint32_t tsc_add(tsc_store *store, uint64_t handle, const void *from, size_t from_len,
+                 const void *to, size_t to_len, uint32_t ends, const tsc_value *value,
+                 const tsc_time *now, tsc_added *out);
 
 /* Adds several marks, one after another at one moment, all of them or none. */
-uint32_t tsc_add_all(tsc_place *place, uint64_t number, const void *keys, size_t keys_len, const tsc_mark *marks,
-                     size_t marks_len, const tsc_time *now, tsc_added *out);
+uint32_t tsc_add_all(tsc_store *store, uint64_t handle, const void *keys, size_t keys_len,
+                     const tsc_mark *marks, size_t marks_len, const tsc_time *now, tsc_added *out);
 
-/* The latest time on a span, with its owner where all reads of that time are one transaction's, or the floor. A span whose first
- * key is greater than the second is empty, and the floor answers. A key may be of any length. It is refused by TSC_CLOSED and TSC_ENDS
- * alone. */
-uint32_t tsc_get_max(tsc_place *place, uint64_t number, const void *from, size_t from_len, const void *to, size_t to_len,
-                     uint32_t ends, tsc_value *out);
+/* The latest time on a span, with its owner where all reads of that time are one transaction's, or
+ * the floor. A span whose first key is greater than the second is empty, and the floor answers. A
+ * key may be of any length. It is refused by TSC_CLOSED and TSC_ENDS alone. */
+uint32_t tsc_get_max(tsc_store *store, uint64_t handle, const void *from, size_t from_len,
+                     const void *to, size_t to_len, uint32_t ends, tsc_value *out);
 
-/* The earliest time at which a transaction may write all of some spans, by the rule at the head of this file: from the time of
- * `write` on, by its owner. The time is clear of each read on one of the spans that was added so far, and no earlier one from that of
- * `write` on is clear of what lookups of the spans answer. A write may be made at once where it is told its own time. It costs a
- * lookup for each span, and takes no memory. It is refused by TSC_NO_TIME where there is no such time, by TSC_TIME, TSC_ENDS and
- * TSC_OUTSIDE, and by TSC_CLOSED. */
-uint32_t tsc_earliest_write(tsc_place *place, uint64_t number, const void *keys, size_t keys_len, const tsc_span *spans,
-                            size_t spans_len, const tsc_value *write, tsc_time *out);
+/* The earliest time at which a transaction may write all of some spans, by the rule at the head of
+ * this file: from the time of `write` on, by its owner. The time is clear of each read on one of
+ * the spans that was added so far, and no earlier one from that of `write` on is clear of what
+ * lookups of the spans answer. A write may be made at once where it is told its own time. It costs
+ * a lookup for each span, and takes no memory. It is refused by TSC_NO_TIME where there is no such
+ * time, by TSC_TIME, TSC_ENDS and TSC_OUTSIDE, and by TSC_CLOSED. */
+uint32_t tsc_earliest_write(tsc_store *store, uint64_t handle, const void *keys, size_t keys_len,
+                            const tsc_span *spans, size_t spans_len, const tsc_value *write,
+                            tsc_time *out);
 
-/* Whether a transaction may write all of some spans at the time of `write`, by its owner: whether that time is clear of what a lookup
- * of each span answers. Then it is clear of each read on one of the spans that was added so far. It is so just where
- * `tsc_earliest_write` tells that very time. A write that may not be made is not refused: TSC_OK is told, and `*out` is false. It costs
- * what `tsc_earliest_write` does, and is refused by TSC_TIME, TSC_ENDS, TSC_OUTSIDE and TSC_CLOSED; `*out` is as before then. */
-uint32_t tsc_may_write(tsc_place *place, uint64_t number, const void *keys, size_t keys_len, const tsc_span *spans, size_t spans_len,
-                       const tsc_value *write, bool *out);
+/* Whether a transaction may write all of some spans at the time of `write`, by its owner: whether
+ * that time is clear of what a lookup of each span answers. Then it is clear of each read on one
+ * of the spans that was added so far. It is so just where `tsc_earliest_write` tells that very
+ * time. A write that may not be made is not refused: TSC_OK is told, and `*out` is false. It costs
+ * what `tsc_earliest_write` does, and is refused by TSC_TIME, TSC_ENDS, TSC_OUTSIDE and
+ * TSC_CLOSED; `*out` is as before then. */
+uint32_t tsc_may_write(tsc_store *store, uint64_t handle, const void *keys, size_t keys_len,
+                       const tsc_span *spans, size_t spans_len, const tsc_value *write, bool *out);
 
 /* Where the floor stands. */
-uint32_t tsc_low_water(tsc_place *place, uint64_t number, tsc_time *out);
+uint32_t tsc_low_water(tsc_store *store, uint64_t handle, tsc_time *out);
 
 /* What can be counted. It costs a step for each page. */
-uint32_t tsc_figures_of(tsc_place *place, uint64_t number, tsc_figures *out);
+uint32_t tsc_figures_of(tsc_store *store, uint64_t handle, tsc_figures *out);
 
-/* What was read of a span, as bytes to be sent to the next holder of its lease, who hands them to `tsc_apply`. The caller stops
- * answering reads of the span before it asks. docs/FORMATS.md has the form of the bytes.
+/* What was read of a span, as bytes to be sent to the next holder of its lease, who hands them to
+ * `tsc_apply`. The caller stops answering reads of the span before it asks. docs/FORMATS.md has
+ * the form of the bytes.
  *
- * The bytes go into a buffer of `room` bytes, which may be 0, as the texts of `tsc_replay` do: TSC_OK where they fit, and TSC_SHORT where
- * there are more, and `out` is as before. In both cases `*len` tells how many there are. At most `most` marks are told; SIZE_MAX leaves
- * none out. Where there is no room for a mark its time raises a floor of the summary, so that later writes are pushed further by it,
- * and never less far. With `most` of 0 it is such a floor alone, in at most 8,264 bytes.
+ * The bytes go into a buffer of `room` bytes, which may be 0, as the texts of `tsc_replay` do:
+ * TSC_OK where they fit, and TSC_SHORT where there are more, and `out` is as before. In both cases
+ * `*len` tells how many there are. At most `most` marks are told; SIZE_MAX leaves none out. Where
+ * there is no room for a mark its time raises a floor of the summary, so that later writes are
+ * pushed further by it, and never less far. With `most` of 0 it is such a floor alone, in at most
+ * 8,264 bytes.
  *
- * It costs a lookup for each end key of a read within the span, and for each gap between two. It is refused as a span to be added is,
- * by TSC_ENDS, TSC_KEY_TOO_LONG and TSC_INVERTED, and by TSC_NO_MEMORY and TSC_CLOSED: `out` and `*len` are as before then. A shared
- * cache and its seats have no summary: their lease goes on by a floor. */
-uint32_t tsc_summary(tsc_place *place, uint64_t number, const void *from, size_t from_len, const void *to, size_t to_len, uint32_t ends,
-                     size_t most, void *out, size_t room, size_t *len);
+ * It costs a lookup for each end key of a read within the span, and for each gap between two. It
+ * is refused as a span to be added is, by TSC_ENDS, TSC_KEY_TOO_LONG and TSC_INVERTED, and by
+ * TSC_NO_MEMORY and TSC_CLOSED: `out` and `*len` are as before then. A shared cache and its seats
+ * have no summary: their lease goes on by a floor. */
+uint32_t tsc_summary(tsc_store *store, uint64_t handle, const void *from, size_t from_len,
+                     const void *to, size_t to_len, uint32_t ends, size_t most, void *out,
+                     size_t room, size_t *len);
 
-/* Adds what the bytes of a summary tell to a cache, at the moment `now`: all of it or nothing. The new holder of a lease does so before
- * it answers its first write of the span. From then on no answer within the span is earlier than what the former holder's cache answered
- * there, no answer anywhere has sunk, and reads that were told as marks keep their owners.
+/* Adds what the bytes of a summary tell to a cache, at the moment `now`: all of it or nothing. The
+ * new holder of a lease does so before it answers its first write of the span. From then on no
+ * answer within the span is earlier than what the former holder's cache answered there, no answer
+ * anywhere has sunk, and reads that were told as marks keep their owners.
  *
- * Bytes of which some are missing or were changed are refused by TSC_SUMMARY_VERSION, TSC_SUMMARY_LENGTH or TSC_SUMMARY_CHECKSUM, and the
- * cache is as it was. The digest is no signature: who takes bytes from somebody that may lie has them signed. Else it is refused by
- * TSC_SUMMARY_FORM; by TSC_TOO_LARGE where a span of the summary costs more than page_max of this cache; and by TSC_TIME,
- * TSC_NO_MEMORY and TSC_CLOSED. Where it is refused the holder asks for the bytes again, or opens a cache with `low_water` at or above
- * each time at which a read was answered; until then it answers no write of the span. */
-uint32_t tsc_apply(tsc_place *place, uint64_t number, const void *summary, size_t summary_len, const tsc_time *now, tsc_added *out);
+ * Bytes of which some are missing or were changed are refused by TSC_SUMMARY_VERSION,
+ * TSC_SUMMARY_LENGTH or TSC_SUMMARY_CHECKSUM, and the cache is as it was. The digest is no
+ * signature: who takes bytes from somebody that may lie has them signed. Else it is refused by
+ * TSC_SUMMARY_FORM; by TSC_TOO_LARGE where a span of the summary costs more than page_max of this
+ * cache; and by TSC_TIME, TSC_NO_MEMORY and TSC_CLOSED. Where it is refused the holder asks for
+ * the bytes again, or opens a cache with `low_water` at or above each time at which a read was
+ * answered; until then it answers no write of the span. */
+uint32_t tsc_apply(tsc_store *store, uint64_t handle, const void *summary, size_t summary_len,
+                   const tsc_time *now, tsc_added *out);
 
-/* Frees a cache that `tsc_open` opened. Its number is answered by TSC_CLOSED from then on. */
-uint32_t tsc_close(tsc_place *place, uint64_t number);
+/* Frees a cache that `tsc_open` opened. Its handle is answered by TSC_CLOSED from then on. */
+uint32_t tsc_close(tsc_store *store, uint64_t handle);
 
-/* Frees all that the place owns, and hands in the seats that lie there. It is as zeros then, and may be used anew: numbers count
- * from 0 again. */
-void tsc_free(tsc_place *place);
+/* Frees all that the store owns, and hands in the seats that lie there. It is as zeros then, and
+ * may be used anew: handles count from 0 again. */
+void tsc_free(tsc_store *store);
 
-/* What a number names goes to another place, where it gets the next number, which is written. The number names nothing from then
- * on. The two places are different ones. Where it is refused the other one may own some memory too, which `tsc_free` frees. */
-uint32_t tsc_move(tsc_place *place, uint64_t number, tsc_place *other, uint64_t *other_number);
+/* What a handle names goes to another store, where it gets the next handle, which is written. The
+ * handle names nothing from then on. The two stores are different ones. Where it is refused the
+ * other one may own some memory too, which `tsc_free` frees. */
+uint32_t tsc_move(tsc_store *store, uint64_t handle, tsc_store *other, uint64_t *other_handle);
 
-/* Opens a cache that threads share, and writes its number. Its `seats` have the numbers behind that, in their order: 1 to 64 of them.
- * There may be `limit` Adds: take UINT64_MAX, which is never reached, since a smaller limit is for
- * tests. What else it takes is as with `tsc_open`. */
-uint32_t tsc_open_shared(tsc_place *place, uint32_t page_first, uint32_t page_max, uint32_t min_pages, uint64_t retention,
-                         const tsc_time *low_water, uint32_t seats, uint64_t limit, uint64_t *number);
+/* Opens a cache that threads share, and writes its handle. Its `seats` have the handles behind
+ * that, in their order: 1 to 64 of them. There may be `limit` Adds: take UINT64_MAX, which is
+ * never reached, since a smaller limit is for tests. What else it takes is as with `tsc_open`. */
+uint32_t tsc_open_shared(tsc_store *store, uint32_t page_first, uint32_t page_max,
+                         uint32_t min_pages, uint64_t retention, const tsc_time *low_water,
+                         uint32_t seats, uint64_t limit, uint64_t *handle);
 
-/* The calls of a seat. Each answers after a history of Adds, of whichever seats, that begins with all that the seat had seen before:
- * its own Adds, and what its answers came from. None waits.
+/* The calls of a seat. Each answers after a history of Adds, of whichever seats, that begins with
+ * all that the seat had seen before: its own Adds, and what its answers came from. None waits.
  *
- * There is one history of all Adds of a shared cache, and what a seat has seen are the first so many of it. So a lookup whose `seen` is
- * above an Add's `place_in_history` counts that Add, whichever seats the two are of. This is how one thread goes on from another's Add: the
- * number goes along, with a lock or through a queue, and who takes over asks `tsc_seat_low_water` until `seen` is above it; each later lookup
- * of that seat counts the Add then. A lookup that begins once an Add has returned counts it the first time; this alone is tested, and not
- * proved.
+ * All Adds of a shared cache form one history, and a seat has seen a beginning of it. A lookup
+ * whose `seen` is above an Add's `place_in_history` counts that Add, whichever seats made the two.
+ * Every Add returns its place. If another thread continues the work, pass the place to it, under a
+ * lock or through a queue. That thread calls `tsc_seat_low_water` until `seen` is above the place,
+ * in practice once. Each later lookup of its seat counts the Add. That the first call does, if it
+ * begins after the Add has returned, is tested and not proved.
  *
- * There is no call that has a seat learn what another one has seen, and none that tells what a seat has seen of a span to the next holder
- * of a lease (that one opens its cache with `low_water` at or above each time at which a read was answered).
+ * There is no call that has a seat learn what another one has seen, and none that tells what a
+ * seat has seen of a span to the next holder of a lease (that one opens its cache with `low_water`
+ * at or above each time at which a read was answered).
  *
- * `tsc_seat_earliest_write` looks up one span after another, and each lookup may see more Adds than the one before. The time is
- * clear of each read on a span that the seat had seen when it looked that span up, which is at least all that it had seen before.
- * `tsc_seat_may_write` asks in the same way, and `*out` is true just where it is told the time of `write`.
+ * `tsc_seat_earliest_write` looks up one span after another, and each lookup may see more Adds
+ * than the one before. The time is clear of each read on a span that the seat had seen when it
+ * looked that span up, which is at least all that it had seen before. `tsc_seat_may_write` asks in
+ * the same way, and `*out` is true just where it is told the time of `write`.
  *
- * An Add takes its turn. It tries so many times to begin, where another seat is at it, and looks so many times at each seat that is inside a
- * lookup. Where others are in the way each time it is refused by TSC_BUSY and may be tried again; with 0 tries it always is. Take
- * 64 tries; where it is refused let other threads run (`sched_yield`, `thrd_yield`), and try again.
- * TSC_FULL comes where there were `limit` Adds. `place_in_history` is where this one stands among all
- * Adds, from 0 on. Lookups wait for nobody, and are refused as those of `tsc_get_max` are. `seen` is
- * how many Adds the seat has seen then, which never goes back. */
-uint32_t tsc_seat_add(tsc_place *place, uint64_t seat, const void *from, size_t from_len, const void *to, size_t to_len,
-                      uint32_t ends, const tsc_value *value, const tsc_time *now, uint32_t tries, uint64_t *place_in_history,
+ * One Add is made at a time. An Add tries `tries` times to acquire the lock that another seat's
+ * Add may hold, and looks as often at each seat that is inside a lookup. If others are in the way
+ * each time, it is refused with TSC_BUSY, and may be tried again; with 0 tries it always is. Take
+ * 64 tries. After TSC_BUSY, let other threads run (`sched_yield`, `thrd_yield`), and try again.
+ * TSC_FULL means that `limit` Adds were made. `place_in_history` is the Add's position among all
+ * Adds, from 0 on. Lookups wait for nobody, and are refused as those of `tsc_get_max` are. `seen`
+ * is the number of Adds that the seat has seen then, which never sinks. */
+uint32_t tsc_seat_add(tsc_store *store, uint64_t seat, const void *from, size_t from_len,
+                      const void *to, size_t to_len, uint32_t ends, const tsc_value *value,
+                      const tsc_time *now, uint32_t tries, uint64_t *place_in_history,
                       tsc_added *out);
-uint32_t tsc_seat_add_all(tsc_place *place, uint64_t seat, const void *keys, size_t keys_len, const tsc_mark *marks,
-                          size_t marks_len, const tsc_time *now, uint32_t tries, uint64_t *place_in_history, tsc_added *out);
-uint32_t tsc_seat_get_max(tsc_place *place, uint64_t seat, const void *from, size_t from_len, const void *to, size_t to_len,
-                          uint32_t ends, uint64_t *seen, tsc_value *out);
-uint32_t tsc_seat_earliest_write(tsc_place *place, uint64_t seat, const void *keys, size_t keys_len, const tsc_span *spans,
-                                 size_t spans_len, const tsc_value *write, uint64_t *seen, tsc_time *out);
-uint32_t tsc_seat_may_write(tsc_place *place, uint64_t seat, const void *keys, size_t keys_len, const tsc_span *spans, size_t spans_len,
-                            const tsc_value *write, uint64_t *seen, bool *out);
-uint32_t tsc_seat_low_water(tsc_place *place, uint64_t seat, uint64_t *seen, tsc_time *out);
-uint32_t tsc_seat_figures_of(tsc_place *place, uint64_t seat, uint64_t *seen, tsc_figures *out);
+uint32_t tsc_seat_add_all(tsc_store *store, uint64_t seat, const void *keys, size_t keys_len,
+                          const tsc_mark *marks, size_t marks_len, const tsc_time *now,
+                          uint32_t tries, uint64_t *place_in_history, tsc_added *out);
+uint32_t tsc_seat_get_max(tsc_store *store, uint64_t seat, const void *from, size_t from_len,
+                          const void *to, size_t to_len, uint32_t ends, uint64_t *seen,
+                          tsc_value *out);
+uint32_t tsc_seat_earliest_write(tsc_store *store, uint64_t seat, const void *keys,
+                                 size_t keys_len, const tsc_span *spans, size_t spans_len,
+                                 const tsc_value *write, uint64_t *seen, tsc_time *out);
+uint32_t tsc_seat_may_write(tsc_store *store, uint64_t seat, const void *keys, size_t keys_len,
+                            const tsc_span *spans, size_t spans_len, const tsc_value *write,
+                            uint64_t *seen, bool *out);
+uint32_t tsc_seat_low_water(tsc_store *store, uint64_t seat, uint64_t *seen, tsc_time *out);
+uint32_t tsc_seat_figures_of(tsc_store *store, uint64_t seat, uint64_t *seen, tsc_figures *out);
 
-/* Hands in a seat. Its number names nothing from then on. */
-uint32_t tsc_seat_close(tsc_place *place, uint64_t seat);
+/* Hands in a seat. Its handle names nothing from then on. */
+uint32_t tsc_seat_close(tsc_store *store, uint64_t seat);
 
-/* Closes a shared cache where all its seats were handed in, and writes how many Adds it had. Else it is refused by TSC_STILL_OUT and
- * stays as it is; so it is too where a call that hands in the last seat has not returned yet. */
-uint32_t tsc_close_shared(tsc_place *place, uint64_t number, uint64_t *length);
+/* Closes a shared cache where all its seats were handed in, and writes how many Adds it had. Else
+ * it is refused by TSC_STILL_OUT and stays as it is; so it is too where a call that hands in the
+ * last seat has not returned yet. */
+uint32_t tsc_close_shared(tsc_store *store, uint64_t handle, uint64_t *length);
 
-/* Recorded traces, from bytes to bytes. These two calls take no place, and threads may make them at once, each with a buffer of its
- * own. The memory that they take they free before they return.
+/* Recorded traces, from bytes to bytes. These two calls take no store, and threads may make them
+ * at once, each with a buffer of its own. The memory that they take they free before they return.
  *
- * `out` is a buffer of `room` bytes, which may be 0. A text that fits stands there from the first byte on, with no zero byte behind
- * it, and what lies behind it is as before: TSC_OK for what was asked for, TSC_REFUSED for why the bytes were refused, as the program
- * tells it on standard error, without the line feed. Where the text is longer than `room` that is TSC_SHORT, and `out` is as before. In
- * all three cases `*len` tells how many bytes the text has; with TSC_NO_MEMORY `out` and `*len` are as before. A trace, or a log, of
- * more than 16,777,216 bytes is refused. */
+ * `out` is a buffer of `room` bytes, which may be 0. A text that fits stands there from the first
+ * byte on, with no zero byte behind it, and what lies behind it is as before: TSC_OK for what was
+ * asked for, TSC_REFUSED for why the bytes were refused, as the program tells it on standard
+ * error, without the line feed. Where the text is longer than `room` that is TSC_SHORT, and `out`
+ * is as before. In all three cases `*len` tells how many bytes the text has; with TSC_NO_MEMORY
+ * `out` and `*len` are as before. A trace, or a log, of more than 16,777,216 bytes is refused. */
 
 /* Replays a trace on one thread. The text is that of its log. */
 uint32_t tsc_replay(const void *trace, size_t trace_len, void *out, size_t room, size_t *len);
 
 /* Checks a log against its trace. The text is the line of the verdict, with its line feed. */
-uint32_t tsc_check(const void *trace, size_t trace_len, const void *log, size_t log_len, void *out, size_t room, size_t *len);
+uint32_t tsc_check(const void *trace, size_t trace_len, const void *log, size_t log_len,
+                   void *out, size_t room, size_t *len);
 
-/* The same calls where a pointer may be null. Then all but tsc_checked_free, which does nothing, answer TSC_NULL. */
+/* The same calls where a pointer may be null. Then all but tsc_checked_free, which does nothing,
+ * answer TSC_NULL. */
 
-static inline uint32_t tsc_checked_open(tsc_place *place, uint32_t page_first, uint32_t page_max, uint32_t min_pages, uint64_t retention,
-                                    const tsc_time *low_water, uint64_t *number)
+static inline uint32_t tsc_checked_open(tsc_store *store, uint32_t page_first, uint32_t page_max,
+                                        uint32_t min_pages, uint64_t retention,
+                                        const tsc_time *low_water, uint64_t *handle)
 {
-    if (!place || !low_water || !number)
+    if (!store || !low_water || !handle)
         return TSC_NULL;
-    return tsc_open(place, page_first, page_max, min_pages, retention, low_water, number);
+    return tsc_open(store, page_first, page_max, min_pages, retention, low_water, handle);
 }
 
-static inline uint32_t tsc_checked_open_shared(tsc_place *place, uint32_t page_first, uint32_t page_max, uint32_t min_pages,
-                                           uint64_t retention, const tsc_time *low_water, uint32_t seats, uint64_t limit,
-                                           uint64_t *number)
+static inline uint32_t tsc_checked_open_shared(tsc_store *store, uint32_t page_first,
+                                               uint32_t page_max, uint32_t min_pages,
+                                               uint64_t retention, const tsc_time *low_water,
+                                               uint32_t seats, uint64_t limit, uint64_t *handle)
 {
-    if (!place || !low_water || !number)
+    if (!store || !low_water || !handle)
         return TSC_NULL;
-    return tsc_open_shared(place, page_first, page_max, min_pages, retention, low_water, seats, limit, number);
+    return tsc_open_shared(store, page_first, page_max, min_pages, retention, low_water, seats,
+                           limit, handle);
 }
 
-static inline uint32_t tsc_checked_move(tsc_place *place, uint64_t number, tsc_place *other, uint64_t *other_number)
+static inline uint32_t tsc_checked_move(tsc_store *store, uint64_t handle, tsc_store *other,
+                                        uint64_t *other_handle)
 {
-    return place && other && other_number ? tsc_move(place, number, other, other_number) : (uint32_t)TSC_NULL;
+    if (!store || !other || !other_handle)
+        return TSC_NULL;
+    return tsc_move(store, handle, other, other_handle);
 }
 
-static inline uint32_t tsc_checked_close(tsc_place *place, uint64_t number)
+static inline uint32_t tsc_checked_close(tsc_store *store, uint64_t handle)
 {
-    return place ? tsc_close(place, number) : (uint32_t)TSC_NULL;
+    return store ? tsc_close(store, handle) : (uint32_t)TSC_NULL;
 }
 
-static inline uint32_t tsc_checked_seat_close(tsc_place *place, uint64_t seat)
+static inline uint32_t tsc_checked_seat_close(tsc_store *store, uint64_t seat)
 {
-    return place ? tsc_seat_close(place, seat) : (uint32_t)TSC_NULL;
+    return store ? tsc_seat_close(store, seat) : (uint32_t)TSC_NULL;
 }
 
-static inline uint32_t tsc_checked_close_shared(tsc_place *place, uint64_t number, uint64_t *length)
+static inline uint32_t tsc_checked_close_shared(tsc_store *store, uint64_t handle,
+                                                uint64_t *length)
 {
-    return place && length ? tsc_close_shared(place, number, length) : (uint32_t)TSC_NULL;
+    return store && length ? tsc_close_shared(store, handle, length) : (uint32_t)TSC_NULL;
 }
 
-static inline void tsc_checked_free(tsc_place *place)
+static inline void tsc_checked_free(tsc_store *store)
 {
-    if (place)
-        tsc_free(place);
+    if (store)
+        tsc_free(store);
 }
 
 static inline const void *tsc_bytes(const void *bytes)
@@ -355,134 +423,167 @@ static inline const void *tsc_bytes(const void *bytes)
     return bytes ? bytes : "";
 }
 
-static inline uint32_t tsc_checked_add(tsc_place *place, uint64_t number, const void *from, size_t from_len, const void *to,
-                                   size_t to_len, uint32_t ends, const tsc_value *value, const tsc_time *now, tsc_added *out)
+static inline uint32_t tsc_checked_add(tsc_store *store, uint64_t handle, const void *from,
+                                       size_t from_len, const void *to, size_t to_len,
+                                       uint32_t ends, const tsc_value *value, const tsc_time *now,
+                                       tsc_added *out)
 {
-    if (!place || !value || !now || !out || (!from && from_len) || (!to && to_len))
+    if (!store || !value || !now || !out || (!from && from_len) || (!to && to_len))
         return TSC_NULL;
-    return tsc_add(place, number, tsc_bytes(from), from_len, tsc_bytes(to), to_len, ends, value, now, out);
+    return tsc_add(store, handle, tsc_bytes(from), from_len, tsc_bytes(to), to_len, ends, value,
+                   now, out);
 }
 
-static inline uint32_t tsc_checked_add_all(tsc_place *place, uint64_t number, const void *keys, size_t keys_len,
-                                       const tsc_mark *marks, size_t marks_len, const tsc_time *now, tsc_added *out)
+static inline uint32_t tsc_checked_add_all(tsc_store *store, uint64_t handle, const void *keys,
+                                           size_t keys_len, const tsc_mark *marks,
+                                           size_t marks_len, const tsc_time *now, tsc_added *out)
 {
     static const tsc_mark none = {0, 0, 0, 0, {0, 0, {0}}, 0};
-    if (!place || !now || !out || (!keys && keys_len) || (!marks && marks_len))
+    if (!store || !now || !out || (!keys && keys_len) || (!marks && marks_len))
         return TSC_NULL;
-    return tsc_add_all(place, number, tsc_bytes(keys), keys_len, marks ? marks : &none, marks_len, now, out);
+    return tsc_add_all(store, handle, tsc_bytes(keys), keys_len, marks ? marks : &none, marks_len,
+                       now, out);
 }
 
-static inline uint32_t tsc_checked_get_max(tsc_place *place, uint64_t number, const void *from, size_t from_len, const void *to,
-                                       size_t to_len, uint32_t ends, tsc_value *out)
+static inline uint32_t tsc_checked_get_max(tsc_store *store, uint64_t handle, const void *from,
+                                           size_t from_len, const void *to, size_t to_len,
+                                           uint32_t ends, tsc_value *out)
 {
-    if (!place || !out || (!from && from_len) || (!to && to_len))
+    if (!store || !out || (!from && from_len) || (!to && to_len))
         return TSC_NULL;
-    return tsc_get_max(place, number, tsc_bytes(from), from_len, tsc_bytes(to), to_len, ends, out);
+    return tsc_get_max(store, handle, tsc_bytes(from), from_len, tsc_bytes(to), to_len, ends, out);
 }
 
-static inline uint32_t tsc_checked_earliest_write(tsc_place *place, uint64_t number, const void *keys, size_t keys_len,
-                                                  const tsc_span *spans, size_t spans_len, const tsc_value *write, tsc_time *out)
+static inline uint32_t tsc_checked_earliest_write(tsc_store *store, uint64_t handle,
+                                                  const void *keys, size_t keys_len,
+                                                  const tsc_span *spans, size_t spans_len,
+                                                  const tsc_value *write, tsc_time *out)
 {
     static const tsc_span none = {0, 0, 0, 0, 0};
-    if (!place || !write || !out || (!keys && keys_len) || (!spans && spans_len))
+    if (!store || !write || !out || (!keys && keys_len) || (!spans && spans_len))
         return TSC_NULL;
-    return tsc_earliest_write(place, number, tsc_bytes(keys), keys_len, spans ? spans : &none, spans_len, write, out);
+    return tsc_earliest_write(store, handle, tsc_bytes(keys), keys_len, spans ? spans : &none,
+                              spans_len, write, out);
 }
 
-static inline uint32_t tsc_checked_may_write(tsc_place *place, uint64_t number, const void *keys, size_t keys_len, const tsc_span *spans,
+static inline uint32_t tsc_checked_may_write(tsc_store *store, uint64_t handle, const void *keys,
+                                             size_t keys_len, const tsc_span *spans,
                                              size_t spans_len, const tsc_value *write, bool *out)
 {
     static const tsc_span none = {0, 0, 0, 0, 0};
-    if (!place || !write || !out || (!keys && keys_len) || (!spans && spans_len))
+    if (!store || !write || !out || (!keys && keys_len) || (!spans && spans_len))
         return TSC_NULL;
-    return tsc_may_write(place, number, tsc_bytes(keys), keys_len, spans ? spans : &none, spans_len, write, out);
+    return tsc_may_write(store, handle, tsc_bytes(keys), keys_len, spans ? spans : &none,
+                         spans_len, write, out);
 }
 
-static inline uint32_t tsc_checked_summary(tsc_place *place, uint64_t number, const void *from, size_t from_len, const void *to,
-                                           size_t to_len, uint32_t ends, size_t most, void *out, size_t room, size_t *len)
+static inline uint32_t tsc_checked_summary(tsc_store *store, uint64_t handle, const void *from,
+                                           size_t from_len, const void *to, size_t to_len,
+                                           uint32_t ends, size_t most, void *out, size_t room,
+                                           size_t *len)
 {
     uint8_t none[1];
-    if (!place || !len || (!from && from_len) || (!to && to_len) || (!out && room))
+    if (!store || !len || (!from && from_len) || (!to && to_len) || (!out && room))
         return TSC_NULL;
-    return tsc_summary(place, number, tsc_bytes(from), from_len, tsc_bytes(to), to_len, ends, most, out ? out : none, room, len);
+    return tsc_summary(store, handle, tsc_bytes(from), from_len, tsc_bytes(to), to_len, ends,
+                       most, out ? out : none, room, len);
 }
 
-static inline uint32_t tsc_checked_apply(tsc_place *place, uint64_t number, const void *summary, size_t summary_len, const tsc_time *now,
-                                         tsc_added *out)
+static inline uint32_t tsc_checked_apply(tsc_store *store, uint64_t handle, const void *summary,
+                                         size_t summary_len, const tsc_time *now, tsc_added *out)
 {
-    if (!place || !now || !out || (!summary && summary_len))
+    if (!store || !now || !out || (!summary && summary_len))
         return TSC_NULL;
-    return tsc_apply(place, number, tsc_bytes(summary), summary_len, now, out);
+    return tsc_apply(store, handle, tsc_bytes(summary), summary_len, now, out);
 }
 
-static inline uint32_t tsc_checked_low_water(tsc_place *place, uint64_t number, tsc_time *out)
+static inline uint32_t tsc_checked_low_water(tsc_store *store, uint64_t handle, tsc_time *out)
 {
-    return place && out ? tsc_low_water(place, number, out) : (uint32_t)TSC_NULL;
+    return store && out ? tsc_low_water(store, handle, out) : (uint32_t)TSC_NULL;
 }
 
-static inline uint32_t tsc_checked_figures_of(tsc_place *place, uint64_t number, tsc_figures *out)
+static inline uint32_t tsc_checked_figures_of(tsc_store *store, uint64_t handle, tsc_figures *out)
 {
-    return place && out ? tsc_figures_of(place, number, out) : (uint32_t)TSC_NULL;
+    return store && out ? tsc_figures_of(store, handle, out) : (uint32_t)TSC_NULL;
 }
 
-static inline uint32_t tsc_checked_seat_add(tsc_place *place, uint64_t seat, const void *from, size_t from_len, const void *to,
-                                        size_t to_len, uint32_t ends, const tsc_value *value, const tsc_time *now, uint32_t tries,
-                                        uint64_t *place_in_history, tsc_added *out)
+static inline uint32_t tsc_checked_seat_add(tsc_store *store, uint64_t seat, const void *from,
+                                            size_t from_len, const void *to, size_t to_len,
+                                            uint32_t ends, const tsc_value *value,
+                                            const tsc_time *now, uint32_t tries,
+                                            uint64_t *place_in_history, tsc_added *out)
 {
-    if (!place || !value || !now || !place_in_history || !out || (!from && from_len) || (!to && to_len))
+    if (!store || !value || !now || !place_in_history || !out || (!from && from_len) ||
+        (!to && to_len))
         return TSC_NULL;
-    return tsc_seat_add(place, seat, tsc_bytes(from), from_len, tsc_bytes(to), to_len, ends, value, now, tries, place_in_history, out);
+    return tsc_seat_add(store, seat, tsc_bytes(from), from_len, tsc_bytes(to), to_len, ends,
+                        value, now, tries, place_in_history, out);
 }
 
-static inline uint32_t tsc_checked_seat_add_all(tsc_place *place, uint64_t seat, const void *keys, size_t keys_len, const tsc_mark *marks,
-                                            size_t marks_len, const tsc_time *now, uint32_t tries, uint64_t *place_in_history,
-                                            tsc_added *out)
+static inline uint32_t tsc_checked_seat_add_all(tsc_store *store, uint64_t seat, const void *keys,
+                                                size_t keys_len, const tsc_mark *marks,
+                                                size_t marks_len, const tsc_time *now,
+                                                uint32_t tries, uint64_t *place_in_history,
+                                                tsc_added *out)
 {
     static const tsc_mark none = {0, 0, 0, 0, {0, 0, {0}}, 0};
-    if (!place || !now || !place_in_history || !out || (!keys && keys_len) || (!marks && marks_len))
+    if (!store || !now || !place_in_history || !out || (!keys && keys_len) ||
+        (!marks && marks_len))
         return TSC_NULL;
-    return tsc_seat_add_all(place, seat, tsc_bytes(keys), keys_len, marks ? marks : &none, marks_len, now, tries, place_in_history, out);
+    return tsc_seat_add_all(store, seat, tsc_bytes(keys), keys_len, marks ? marks : &none,
+                            marks_len, now, tries, place_in_history, out);
 }
 
-static inline uint32_t tsc_checked_seat_get_max(tsc_place *place, uint64_t seat, const void *from, size_t from_len, const void *to,
-                                            size_t to_len, uint32_t ends, uint64_t *seen, tsc_value *out)
+static inline uint32_t tsc_checked_seat_get_max(tsc_store *store, uint64_t seat, const void *from,
+                                                size_t from_len, const void *to, size_t to_len,
+                                                uint32_t ends, uint64_t *seen, tsc_value *out)
 {
-    if (!place || !seen || !out || (!from && from_len) || (!to && to_len))
+    if (!store || !seen || !out || (!from && from_len) || (!to && to_len))
         return TSC_NULL;
-    return tsc_seat_get_max(place, seat, tsc_bytes(from), from_len, tsc_bytes(to), to_len, ends, seen, out);
+    return tsc_seat_get_max(store, seat, tsc_bytes(from), from_len, tsc_bytes(to), to_len, ends,
+                            seen, out);
 }
 
-static inline uint32_t tsc_checked_seat_earliest_write(tsc_place *place, uint64_t seat, const void *keys, size_t keys_len,
-                                                       const tsc_span *spans, size_t spans_len, const tsc_value *write,
-                                                       uint64_t *seen, tsc_time *out)
+static inline uint32_t tsc_checked_seat_earliest_write(tsc_store *store, uint64_t seat,
+                                                       const void *keys, size_t keys_len,
+                                                       const tsc_span *spans, size_t spans_len,
+                                                       const tsc_value *write, uint64_t *seen,
+                                                       tsc_time *out)
 {
     static const tsc_span none = {0, 0, 0, 0, 0};
-    if (!place || !write || !seen || !out || (!keys && keys_len) || (!spans && spans_len))
+    if (!store || !write || !seen || !out || (!keys && keys_len) || (!spans && spans_len))
         return TSC_NULL;
-    return tsc_seat_earliest_write(place, seat, tsc_bytes(keys), keys_len, spans ? spans : &none, spans_len, write, seen, out);
+    return tsc_seat_earliest_write(store, seat, tsc_bytes(keys), keys_len, spans ? spans : &none,
+                                   spans_len, write, seen, out);
 }
 
-static inline uint32_t tsc_checked_seat_may_write(tsc_place *place, uint64_t seat, const void *keys, size_t keys_len,
-                                                  const tsc_span *spans, size_t spans_len, const tsc_value *write, uint64_t *seen,
+static inline uint32_t tsc_checked_seat_may_write(tsc_store *store, uint64_t seat,
+                                                  const void *keys, size_t keys_len,
+                                                  const tsc_span *spans, size_t spans_len,
+                                                  const tsc_value *write, uint64_t *seen,
                                                   bool *out)
 {
     static const tsc_span none = {0, 0, 0, 0, 0};
-    if (!place || !write || !seen || !out || (!keys && keys_len) || (!spans && spans_len))
+    if (!store || !write || !seen || !out || (!keys && keys_len) || (!spans && spans_len))
         return TSC_NULL;
-    return tsc_seat_may_write(place, seat, tsc_bytes(keys), keys_len, spans ? spans : &none, spans_len, write, seen, out);
+    return tsc_seat_may_write(store, seat, tsc_bytes(keys), keys_len, spans ? spans : &none,
+                              spans_len, write, seen, out);
 }
 
-static inline uint32_t tsc_checked_seat_low_water(tsc_place *place, uint64_t seat, uint64_t *seen, tsc_time *out)
+static inline uint32_t tsc_checked_seat_low_water(tsc_store *store, uint64_t seat, uint64_t *seen,
+                                                  tsc_time *out)
 {
-    return place && seen && out ? tsc_seat_low_water(place, seat, seen, out) : (uint32_t)TSC_NULL;
+    return store && seen && out ? tsc_seat_low_water(store, seat, seen, out) : (uint32_t)TSC_NULL;
 }
 
-static inline uint32_t tsc_checked_seat_figures_of(tsc_place *place, uint64_t seat, uint64_t *seen, tsc_figures *out)
+static inline uint32_t tsc_checked_seat_figures_of(tsc_store *store, uint64_t seat,
+                                                   uint64_t *seen, tsc_figures *out)
 {
-    return place && seen && out ? tsc_seat_figures_of(place, seat, seen, out) : (uint32_t)TSC_NULL;
+    return store && seen && out ? tsc_seat_figures_of(store, seat, seen, out) : (uint32_t)TSC_NULL;
 }
 
-static inline uint32_t tsc_checked_replay(const void *trace, size_t trace_len, void *out, size_t room, size_t *len)
+static inline uint32_t tsc_checked_replay(const void *trace, size_t trace_len, void *out,
+                                          size_t room, size_t *len)
 {
     uint8_t none[1];
     if (!len || (!trace && trace_len) || (!out && room))
@@ -490,13 +591,14 @@ static inline uint32_t tsc_checked_replay(const void *trace, size_t trace_len, v
     return tsc_replay(tsc_bytes(trace), trace_len, out ? out : none, room, len);
 }
 
-static inline uint32_t tsc_checked_check(const void *trace, size_t trace_len, const void *log, size_t log_len, void *out, size_t room,
-                                     size_t *len)
+static inline uint32_t tsc_checked_check(const void *trace, size_t trace_len, const void *log,
+                                         size_t log_len, void *out, size_t room, size_t *len)
 {
     uint8_t none[1];
     if (!len || (!trace && trace_len) || (!log && log_len) || (!out && room))
         return TSC_NULL;
-    return tsc_check(tsc_bytes(trace), trace_len, tsc_bytes(log), log_len, out ? out : none, room, len);
+    return tsc_check(tsc_bytes(trace), trace_len, tsc_bytes(log), log_len, out ? out : none, room,
+                     len);
 }
 
 /* Times. The smaller wall time comes first, and of two equal ones the smaller count. */
@@ -527,7 +629,7 @@ static inline const char *tsc_text(uint32_t answer)
 {
     switch (answer) {
     case TSC_OK: return "done";
-    case TSC_CLOSED: return "the number names nothing of this kind";
+    case TSC_CLOSED: return "the handle names nothing of this kind";
     case TSC_TIME: return "a time is out of range";
     case TSC_ENDS: return "there are no such ends of a span";
     case TSC_KEY_TOO_LONG: return "a key is too long";

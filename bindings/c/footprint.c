@@ -30,24 +30,24 @@ static void must(uint32_t answer)
 }
 
 /* No seats are a cache of one thread. */
-static void open_cache(tsc_place *place, uint32_t page, uint32_t min_pages, uint32_t seats)
+static void open_cache(tsc_store *store, uint32_t page, uint32_t min_pages, uint32_t seats)
 {
     uint64_t n;
     if (seats)
-        must(tsc_open_shared(place, page, page, min_pages, 10, &LOW, seats, UINT64_MAX, &n));
+        must(tsc_open_shared(store, page, page, min_pages, 10, &LOW, seats, UINT64_MAX, &n));
     else
-        must(tsc_open(place, page, page, min_pages, 10, &LOW, &n));
+        must(tsc_open(store, page, page, min_pages, 10, &LOW, &n));
 }
 
 static void empty(uint32_t seats)
 {
-    static tsc_place places[TIMES];
+    static tsc_store stores[TIMES];
     size_t before = in_use();
     for (int i = 0; i < TIMES; i++)
-        open_cache(&places[i], 1 << 17, 2, seats);
+        open_cache(&stores[i], 1 << 17, 2, seats);
     printf("an empty cache, %" PRIu32 " seats: %zu bytes\n", seats, (in_use() - before) / TIMES);
     for (int i = 0; i < TIMES; i++)
-        tsc_free(&places[i]);
+        tsc_free(&stores[i]);
 }
 
 static void key_of(uint8_t *key, size_t len, uint64_t number, bool rises)
@@ -62,24 +62,24 @@ static void key_of(uint8_t *key, size_t len, uint64_t number, bool rises)
 /* Fills so many pages, and tells what a byte of them takes. */
 static void full(size_t len, uint32_t seats, uint64_t pages, bool rises)
 {
-    tsc_place place = {NULL};
+    tsc_store store = {NULL};
     tsc_value read = {20, 0, {1}};
     tsc_added added = {0, false, false};
     uint8_t key[LONGEST];
     uint64_t at;
     size_t before = in_use();
-    open_cache(&place, PAGE, 64, seats);
+    open_cache(&store, PAGE, 64, seats);
     for (uint64_t i = 0; i < PAGE / (len + 32) * pages; i++) {
         key_of(key, len, i, rises);
         if (seats)
-            must(tsc_seat_add(&place, 1, key, len, key, 0, TSC_POINT, &read, &NOW, 64, &at, &added));
+            must(tsc_seat_add(&store, 1, key, len, key, 0, TSC_POINT, &read, &NOW, 64, &at, &added));
         else
-            must(tsc_add(&place, 0, key, len, key, 0, TSC_POINT, &read, &NOW, &added));
+            must(tsc_add(&store, 0, key, len, key, 0, TSC_POINT, &read, &NOW, &added));
     }
     printf("keys of %zu bytes%s, %s, %" PRIu64 " pages: %.1f bytes for each\n", len,
            rises ? ", rising" : "", seats ? "shared" : "alone", pages,
            (double)(in_use() - before) / (double)(PAGE * pages));
-    tsc_free(&place);
+    tsc_free(&store);
 }
 
 int main(void)

@@ -35,17 +35,17 @@ static void must(uint32_t answer)
 int main(int words, char **word)
 {
     uint32_t nodes = words > 1 ? (uint32_t)atoi(word[1]) : 65536;
-    static tsc_place place;
+    static tsc_store store;
     static uint8_t keys[PLACES][8];
     uint64_t cache;
     tsc_time low = {0, 0}, moment = {1, 0};
     tsc_value value = {10, 0, {0x11}}, found;
     tsc_added added;
-    must(tsc_open(&place, nodes * 40, nodes * 40, 2, 1000000, &low, &cache));
+    must(tsc_open(&store, nodes * 40, nodes * 40, 2, 1000000, &low, &cache));
     for (uint32_t i = 0; i < nodes; i++) {
         uint8_t key[8];
         key_of(i, key);
-        must(tsc_add(&place, cache, key, 8, key, 0, TSC_POINT, &value, &moment, &added));
+        must(tsc_add(&store, cache, key, 8, key, 0, TSC_POINT, &value, &moment, &added));
     }
     for (uint64_t i = 0; i < PLACES; i++)
         key_of(i * STRIDE % nodes, keys[i]);
@@ -54,7 +54,7 @@ int main(int words, char **word)
     for (int turn = 0; turn < TURNS; turn++) {
         double start = now();
         for (int i = 0; i < PLACES; i++) {
-            must(tsc_get_max(&place, cache, keys[i], 8, keys[i], 0, TSC_POINT, &found));
+            must(tsc_get_max(&store, cache, keys[i], 8, keys[i], 0, TSC_POINT, &found));
             latest = found.wall > latest ? found.wall : latest;
         }
         double middle = now();
@@ -64,13 +64,13 @@ int main(int words, char **word)
         }
         value.wall++;
         for (int i = 0; i < PLACES; i++)
-            must(tsc_add(&place, cache, keys[i], 8, keys[i], 0, TSC_POINT, &value, &moment, &added));
+            must(tsc_add(&store, cache, keys[i], 8, keys[i], 0, TSC_POINT, &value, &moment, &added));
         double end = now();
         least[0] = middle - start < least[0] ? middle - start : least[0];
         least[1] = end - middle < least[1] ? end - middle : least[1];
     }
     printf("C, %u nodes, lookup of a key: %.0f ns\n", nodes, least[0] / PLACES);
     printf("C, %u nodes, add of a key: %.0f ns\n", nodes, least[1] / PLACES);
-    tsc_free(&place);
+    tsc_free(&store);
     return 0;
 }

@@ -62,10 +62,10 @@ struct store {
     enum asking asking;
 };
 
-/* A thread: its seat, and what it did. A place is written at each call, so threads' places lie
- * apart. */
+/* A thread: its seat, and what it did. A `tsc_store` is written at each call, so those of threads
+ * lie apart. */
 struct worker {
-    _Alignas(128) tsc_place place;
+    _Alignas(128) tsc_store caches;
     uint64_t seat;
     struct store *store;
     struct answer *answers;
@@ -124,7 +124,7 @@ static void read_keys(struct worker *w, int from, int to, tsc_time at, uint64_t 
     id_of(by, read.owner);
     for (int i = from; i < to; i++)
         pthread_mutex_lock(&keys[i].latch);
-    while ((answer = tsc_seat_add(&w->place, w->seat, &first, 1, &last, 1, TSC_EXCLUDE_TO, &read,
+    while ((answer = tsc_seat_add(&w->caches, w->seat, &first, 1, &last, 1, TSC_EXCLUDE_TO, &read,
                                   &at, TRIES, &place, &added)) == TSC_BUSY)
         sched_yield();
     if (answer != TSC_OK)
@@ -143,7 +143,7 @@ static bool trusts_its_own(struct worker *w, const uint8_t names[2], const uint8
     for (int i = 0; i < 2; i++) {
         tsc_value read;
         uint64_t seen;
-        uint32_t answer = tsc_seat_get_max(&w->place, w->seat, &names[i], 1, &names[i], 0,
+        uint32_t answer = tsc_seat_get_max(&w->caches, w->seat, &names[i], 1, &names[i], 0,
                                            TSC_POINT, &seen, &read);
         if (answer != TSC_OK)
             fail(tsc_text(answer));
@@ -170,7 +170,7 @@ static bool clear_keys(struct worker *w, const int both[2], uint64_t by, tsc_tim
     if (w->store->asking == TRUSTS_ITS_OWN)
         return trusts_its_own(w, names, write.owner, at);
     uint32_t answer =
-        tsc_seat_earliest_write(&w->place, w->seat, names, 2, SPANS, 2, &write, &seen, at);
+        tsc_seat_earliest_write(&w->caches, w->seat, names, 2, SPANS, 2, &write, &seen, at);
     if (answer == TSC_NO_TIME)
         return false;
     if (answer != TSC_OK)
@@ -178,7 +178,7 @@ static bool clear_keys(struct worker *w, const int both[2], uint64_t by, tsc_tim
     /* nobody else adds a read of the keys while their latches are held */
     write.wall = at->wall;
     write.logical = at->logical;
-    answer = tsc_seat_may_write(&w->place, w->seat, names, 2, SPANS, 2, &write, &seen, &may);
+    answer = tsc_seat_may_write(&w->caches, w->seat, names, 2, SPANS, 2, &write, &seen, &may);
     if (answer != TSC_OK || !may)
         fail("a write may not be made at the time that was told");
     return true;
@@ -241,21 +241,21 @@ static void *serve(void *of)
 /* One lease: a cache with its floor at the present time, and a seat for each thread. */
 static void hold_lease(struct store *s, struct worker *workers)
 {
-    static tsc_place opened;
+    static tsc_store opened;
     pthread_t running[THREADS];
     tsc_time low = now_of(s);
     uint64_t n, adds;
     if (tsc_open_shared(&opened, 4096, 1 << 20, 2, 10000, &low, THREADS, UINT64_MAX, &n) != TSC_OK)
         fail("no cache was opened");
     for (int i = 0; i < THREADS; i++)
-        if (tsc_move(&opened, n + 1 + (uint64_t)i, &workers[i].place, &workers[i].seat) != TSC_OK)
+        if (tsc_move(&opened, n + 1 + (uint64_t)i, &workers[i].caches, &workers[i].seat) != TSC_OK)
             fail("a seat was not handed out");
     for (int i = 0; i < THREADS; i++)
         if (pthread_create(&running[i], NULL, serve, &workers[i]) != 0)
             fail("a thread was not started");
     for (int i = 0; i < THREADS; i++) {
         pthread_join(running[i], NULL);
-        tsc_free(&workers[i].place);
+        tsc_free(&workers[i].caches);
     }
     if (tsc_close_shared(&opened, n, &adds) != TSC_OK)
         fail("a seat is missing");

@@ -34,18 +34,18 @@ static size_t in_use(void)
 static const tsc_time LOW = {5, 0}, NOW = {20, 0};
 static const tsc_value READ = {20, 0, {0x11}};
 
-static uint32_t add(tsc_place *place, uint64_t n)
+static uint32_t add(tsc_store *store, uint64_t n)
 {
     tsc_added a;
-    return tsc_add(place, n, "a", 1, "", 0, TSC_POINT, &READ,
+    return tsc_add(store, n, "a", 1, "", 0, TSC_POINT, &READ,
                    &NOW, &a);
 }
 
-static uint32_t seat_add(tsc_place *place, uint64_t seat)
+static uint32_t seat_add(tsc_store *store, uint64_t seat)
 {
     tsc_added a;
     uint64_t at;
-    return tsc_seat_add(place, seat, "a", 1, "", 0, TSC_POINT,
+    return tsc_seat_add(store, seat, "a", 1, "", 0, TSC_POINT,
                         &READ, &NOW, 64, &at, &a);
 }
 
@@ -53,37 +53,37 @@ static uint32_t seat_add(tsc_place *place, uint64_t seat)
 
 static bool caches(void)
 {
-    tsc_place place = {NULL};
+    tsc_store store = {NULL};
     uint64_t n;
     bool is_right =
-        tsc_open(&place, 132, 132, 2, 10, &LOW, &n) == TSC_OK && add(&place, n) == TSC_OK;
-    tsc_free(&place);
-    return is_right && place.at == NULL;
+        tsc_open(&store, 132, 132, 2, 10, &LOW, &n) == TSC_OK && add(&store, n) == TSC_OK;
+    tsc_free(&store);
+    return is_right && store.at == NULL;
 }
 
 static bool refused_ones(void)
 {
-    tsc_place place = {NULL};
+    tsc_store store = {NULL};
     uint64_t n;
-    bool is_right = tsc_open(&place, 132, 132, 0, 10, &LOW, &n) == TSC_MIN_PAGES &&
-                    tsc_open_shared(&place, 132, 132, 2, 10, &LOW, 65, 9, &n) == TSC_SEATS &&
-                    tsc_close(&place, 0) == TSC_CLOSED;
-    tsc_free(&place);
+    bool is_right = tsc_open(&store, 132, 132, 0, 10, &LOW, &n) == TSC_MIN_PAGES &&
+                    tsc_open_shared(&store, 132, 132, 2, 10, &LOW, 65, 9, &n) == TSC_SEATS &&
+                    tsc_close(&store, 0) == TSC_CLOSED;
+    tsc_free(&store);
     return is_right;
 }
 
 static bool shared_ones(bool closes)
 {
-    tsc_place place = {NULL}, other = {NULL};
+    tsc_store store = {NULL}, other = {NULL};
     uint64_t n, seat, adds;
-    bool is_right = tsc_open_shared(&place, 132, 132, 2, 10, &LOW, 2, 9, &n) == TSC_OK &&
-                    tsc_move(&place, n + 2, &other, &seat) == TSC_OK &&
+    bool is_right = tsc_open_shared(&store, 132, 132, 2, 10, &LOW, 2, 9, &n) == TSC_OK &&
+                    tsc_move(&store, n + 2, &other, &seat) == TSC_OK &&
                     seat_add(&other, seat) == TSC_OK;
     if (closes)
         is_right = is_right && tsc_seat_close(&other, seat) == TSC_OK &&
-                   tsc_seat_close(&place, n + 1) == TSC_OK &&
-                   tsc_close_shared(&place, n, &adds) == TSC_OK && adds == 1;
-    tsc_free(&place);
+                   tsc_seat_close(&store, n + 1) == TSC_OK &&
+                   tsc_close_shared(&store, n, &adds) == TSC_OK && adds == 1;
+    tsc_free(&store);
     tsc_free(&other);
     return is_right;
 }

@@ -39,33 +39,33 @@ void *__wrap_realloc(void *block, size_t size)
     return ++requests == refused_request ? NULL : __real_realloc(block, size);
 }
 
-/* One place with the caches of two holders: the former one and the next. */
+/* One store with the caches of two holders: the former one and the next. */
 
 enum { FORMER, NEXT, ROOM = 1 << 16 };
 
 static const tsc_time LOW = {5, 0}, AT_20 = {20, 0};
 
-static void open_caches(tsc_place *place, int count, uint32_t page_max)
+static void open_caches(tsc_store *store, int count, uint32_t page_max)
 {
-    uint64_t number = 77;
+    uint64_t handle = 77;
     for (int i = 0; i < count; i++)
-        EACH(tsc_open(place, 64, page_max, 2, UINT64_C(1) << 62, &LOW, &number) == TSC_OK && number == (uint64_t)i);
+        EACH(tsc_open(store, 64, page_max, 2, UINT64_C(1) << 62, &LOW, &handle) == TSC_OK && handle == (uint64_t)i);
 }
 
 /* Whether an Add of a key, or of the keys from one to before another, was kept. */
-static bool add(tsc_place *place, uint64_t number, const char *from, const char *to, uint64_t wall, uint8_t owner)
+static bool add(tsc_store *store, uint64_t handle, const char *from, const char *to, uint64_t wall, uint8_t owner)
 {
     tsc_value value = {wall, 0, {owner}};
     tsc_added added = {0, false, false};
     uint32_t ends = to ? TSC_EXCLUDE_TO : TSC_POINT;
-    return tsc_checked_add(place, number, from, strlen(from), to, to ? strlen(to) : 0, ends, &value, &AT_20, &added) == TSC_OK && added.kept;
+    return tsc_checked_add(store, handle, from, strlen(from), to, to ? strlen(to) : 0, ends, &value, &AT_20, &added) == TSC_OK && added.kept;
 }
 
 /* What a cache answers to a key, as one number: the wall time, the logical count and the first byte of the owner. */
-static uint64_t known(tsc_place *place, uint64_t number, const char *key)
+static uint64_t known(tsc_store *store, uint64_t handle, const char *key)
 {
     tsc_value v = {0, 0, {0}};
-    EACH(tsc_get_max(place, number, key, strlen(key), "", 0, TSC_POINT, &v) == TSC_OK);
+    EACH(tsc_get_max(store, handle, key, strlen(key), "", 0, TSC_POINT, &v) == TSC_OK);
     return v.wall * 1000000 + v.logical * 1000 + v.owner[0];
 }
 
@@ -76,33 +76,33 @@ struct told {
     uint8_t bytes[ROOM];
 };
 
-static const struct told *tell(tsc_place *place, uint64_t number, const char *from, const char *to, size_t most)
+static const struct told *tell(tsc_store *store, uint64_t handle, const char *from, const char *to, size_t most)
 {
     static struct told t;
     t.len = SIZE_MAX;
-    t.answer = tsc_summary(place, number, from, strlen(from), to, strlen(to), TSC_EXCLUDE_TO, most, t.bytes, ROOM, &t.len);
+    t.answer = tsc_summary(store, handle, from, strlen(from), to, strlen(to), TSC_EXCLUDE_TO, most, t.bytes, ROOM, &t.len);
     return &t;
 }
 
-static uint32_t apply(tsc_place *place, uint64_t number, const void *bytes, size_t len)
+static uint32_t apply(tsc_store *store, uint64_t handle, const void *bytes, size_t len)
 {
     tsc_added added = {99, true, true};
-    uint32_t answer = tsc_apply(place, number, bytes, len, &AT_20, &added);
+    uint32_t answer = tsc_apply(store, handle, bytes, len, &AT_20, &added);
     EACH(answer == TSC_OK ? added.evicted == 0 : added.evicted == 99 && added.kept && added.rotated);
     return answer;
 }
 
 /* Whether two caches have the same figures. */
-static bool same_figures(tsc_place *place, uint64_t number, tsc_figures was)
+static bool same_figures(tsc_store *store, uint64_t handle, tsc_figures was)
 {
     tsc_figures f = {0, 0, 0, 0};
-    return tsc_figures_of(place, number, &f) == TSC_OK && memcmp(&f, &was, sizeof f) == 0;
+    return tsc_figures_of(store, handle, &f) == TSC_OK && memcmp(&f, &was, sizeof f) == 0;
 }
 
-static tsc_figures figures(tsc_place *place, uint64_t number)
+static tsc_figures figures(tsc_store *store, uint64_t handle)
 {
     tsc_figures f = {0, 0, 0, 0};
-    EACH(tsc_figures_of(place, number, &f) == TSC_OK);
+    EACH(tsc_figures_of(store, handle, &f) == TSC_OK);
     return f;
 }
 
@@ -111,37 +111,37 @@ static tsc_figures figures(tsc_place *place, uint64_t number)
 static void buffers(void)
 {
     static uint8_t out[200], sevens[200];
-    tsc_place place = {NULL};
+    tsc_store store = {NULL};
     memset(sevens, 7, sizeof sevens);
-    open_caches(&place, 1, 1024);
-    CHECK(add(&place, FORMER, "b", NULL, 20, 1));
-    const size_t whole = tell(&place, FORMER, "a", "c", SIZE_MAX)->len;
+    open_caches(&store, 1, 1024);
+    CHECK(add(&store, FORMER, "b", NULL, 20, 1));
+    const size_t whole = tell(&store, FORMER, "a", "c", SIZE_MAX)->len;
     CHECK(whole == 115);
     for (size_t room = 0; room <= whole + 2; room++) {
         size_t len = 99;
         memcpy(out, sevens, sizeof out);
-        uint32_t answer = tsc_checked_summary(&place, FORMER, "a", 1, "c", 1, TSC_EXCLUDE_TO, SIZE_MAX, room ? out : NULL, room, &len);
+        uint32_t answer = tsc_checked_summary(&store, FORMER, "a", 1, "c", 1, TSC_EXCLUDE_TO, SIZE_MAX, room ? out : NULL, room, &len);
         EACH(len == whole && answer == (room < whole ? TSC_SHORT : TSC_OK));
-        EACH(memcmp(out, room < whole ? sevens : tell(&place, FORMER, "a", "c", SIZE_MAX)->bytes, whole) == 0);
+        EACH(memcmp(out, room < whole ? sevens : tell(&store, FORMER, "a", "c", SIZE_MAX)->bytes, whole) == 0);
         EACH(memcmp(out + whole, sevens, sizeof out - whole) == 0);
     }
     CHECK(failed == 0);
-    tsc_free(&place);
+    tsc_free(&store);
 }
 
 /* Of 40 keys that were read one after another, so many marks are told at the most, and without any a floor alone. */
 static void marks(void)
 {
     static char longest[4097], longer[4097];
-    tsc_place place = {NULL};
+    tsc_store store = {NULL};
     size_t last = 0;
-    open_caches(&place, 2, 1024);
+    open_caches(&store, 2, 1024);
     for (char i = 0; i < 40; i++) {
         char key[3] = {'b', (char)('A' + i), 0};
-        EACH(add(&place, FORMER, key, NULL, 30 + (uint64_t)i, 1));
+        EACH(add(&store, FORMER, key, NULL, 30 + (uint64_t)i, 1));
     }
     for (size_t most = 0; most <= 41; most++) {
-        const struct told *t = tell(&place, FORMER, "a", "c", most);
+        const struct told *t = tell(&store, FORMER, "a", "c", most);
         EACH(t->answer == TSC_OK && (most == 41 ? t->len == last : t->len > last));
         EACH(t->bytes[41] == (most < 41 ? most : 40)); /* how many marks there are, by its low byte */
         last = t->len;
@@ -149,9 +149,9 @@ static void marks(void)
     memset(longest, 'x', 4096);
     memset(longer, 'x', 4095);
     longer[4095] = 'y';
-    const struct told *t = tell(&place, FORMER, longest, longer, 0);
+    const struct told *t = tell(&store, FORMER, longest, longer, 0);
     CHECK(t->answer == TSC_OK && t->len == 8264);
-    tsc_free(&place);
+    tsc_free(&store);
 }
 
 /* ---- what is refused leaves all as it was */
@@ -161,53 +161,53 @@ static void refused_spans(void)
     static char long_key[4098];
     uint8_t out[2] = {7, 7};
     size_t len = 9;
-    tsc_place place = {NULL};
+    tsc_store store = {NULL};
     uint64_t shared = 77;
     memset(long_key, 'x', 4097);
-    open_caches(&place, 1, 1024);
-    CHECK(tsc_open_shared(&place, 64, 1024, 2, 10, &LOW, 1, 9, &shared) == TSC_OK && shared == 1);
-    CHECK(tsc_summary(&place, FORMER, "a", 1, "c", 1, 6, 9, out, 2, &len) == TSC_ENDS);
-    CHECK(tsc_summary(&place, FORMER, long_key, 4097, "c", 1, TSC_POINT, 9, out, 2, &len) == TSC_KEY_TOO_LONG);
-    CHECK(tsc_summary(&place, FORMER, "c", 1, long_key, 4097, 0, 9, out, 2, &len) == TSC_KEY_TOO_LONG);
-    CHECK(tsc_summary(&place, FORMER, "c", 1, "a", 1, TSC_EXCLUDE_TO, 9, out, 2, &len) == TSC_INVERTED);
-    for (uint64_t number = 1; number < 4; number++) /* a shared cache, its seat, and nothing */
-        CHECK(tsc_summary(&place, number, "a", 1, "c", 1, TSC_EXCLUDE_TO, 9, out, 2, &len) == TSC_CLOSED);
+    open_caches(&store, 1, 1024);
+    CHECK(tsc_open_shared(&store, 64, 1024, 2, 10, &LOW, 1, 9, &shared) == TSC_OK && shared == 1);
+    CHECK(tsc_summary(&store, FORMER, "a", 1, "c", 1, 6, 9, out, 2, &len) == TSC_ENDS);
+    CHECK(tsc_summary(&store, FORMER, long_key, 4097, "c", 1, TSC_POINT, 9, out, 2, &len) == TSC_KEY_TOO_LONG);
+    CHECK(tsc_summary(&store, FORMER, "c", 1, long_key, 4097, 0, 9, out, 2, &len) == TSC_KEY_TOO_LONG);
+    CHECK(tsc_summary(&store, FORMER, "c", 1, "a", 1, TSC_EXCLUDE_TO, 9, out, 2, &len) == TSC_INVERTED);
+    for (uint64_t handle = 1; handle < 4; handle++) /* a shared cache, its seat, and nothing */
+        CHECK(tsc_summary(&store, handle, "a", 1, "c", 1, TSC_EXCLUDE_TO, 9, out, 2, &len) == TSC_CLOSED);
     CHECK(len == 9 && out[0] == 7 && out[1] == 7);
-    CHECK(tsc_summary(&place, FORMER, "a", 1, long_key, 4097, TSC_POINT, 9, out, 2, &len) == TSC_SHORT); /* the second key is passed over */
-    tsc_free(&place);
+    CHECK(tsc_summary(&store, FORMER, "a", 1, long_key, 4097, TSC_POINT, 9, out, 2, &len) == TSC_SHORT); /* the second key is passed over */
+    tsc_free(&store);
 }
 
 /* Cut at each place, one byte more, and each byte changed in each bit. */
 static void changed_bytes(void)
 {
     static uint8_t bytes[ROOM];
-    tsc_place place = {NULL};
-    open_caches(&place, 2, 1024);
-    CHECK(add(&place, FORMER, "b", "bb", 30, 1) && add(&place, FORMER, "a", "az", 40, 2) && add(&place, NEXT, "k", NULL, 25, 3));
-    const struct told *t = tell(&place, FORMER, "a", "c", SIZE_MAX);
+    tsc_store store = {NULL};
+    open_caches(&store, 2, 1024);
+    CHECK(add(&store, FORMER, "b", "bb", 30, 1) && add(&store, FORMER, "a", "az", 40, 2) && add(&store, NEXT, "k", NULL, 25, 3));
+    const struct told *t = tell(&store, FORMER, "a", "c", SIZE_MAX);
     CHECK(t->answer == TSC_OK);
     const size_t len = t->len;
-    const tsc_figures was = figures(&place, NEXT);
+    const tsc_figures was = figures(&store, NEXT);
     memcpy(bytes, t->bytes, len);
     for (size_t cut = 0; cut < len; cut++)
-        EACH(apply(&place, NEXT, bytes, cut) == TSC_SUMMARY_LENGTH);
-    CHECK(apply(&place, NEXT, bytes, len + 1) == TSC_SUMMARY_LENGTH && tsc_checked_apply(&place, NEXT, NULL, 0, &AT_20, &(tsc_added){0, 0, 0}) == TSC_SUMMARY_LENGTH);
+        EACH(apply(&store, NEXT, bytes, cut) == TSC_SUMMARY_LENGTH);
+    CHECK(apply(&store, NEXT, bytes, len + 1) == TSC_SUMMARY_LENGTH && tsc_checked_apply(&store, NEXT, NULL, 0, &AT_20, &(tsc_added){0, 0, 0}) == TSC_SUMMARY_LENGTH);
     for (size_t i = 0; i < 8 * len; i++) {
         bytes[i / 8] ^= (uint8_t)(1u << i % 8);
-        EACH(apply(&place, NEXT, bytes, len) == (i < 8 ? TSC_SUMMARY_VERSION : i < 72 ? TSC_SUMMARY_LENGTH : TSC_SUMMARY_CHECKSUM));
+        EACH(apply(&store, NEXT, bytes, len) == (i < 8 ? TSC_SUMMARY_VERSION : i < 72 ? TSC_SUMMARY_LENGTH : TSC_SUMMARY_CHECKSUM));
         bytes[i / 8] ^= (uint8_t)(1u << i % 8);
     }
-    CHECK(same_figures(&place, NEXT, was) && known(&place, NEXT, "b") == 5000000 && known(&place, NEXT, "k") == 25000003);
-    CHECK(apply(&place, NEXT, bytes, len) == TSC_OK && known(&place, NEXT, "b") == 30000001 && known(&place, NEXT, "k") == 25000003);
-    tsc_free(&place);
+    CHECK(same_figures(&store, NEXT, was) && known(&store, NEXT, "b") == 5000000 && known(&store, NEXT, "k") == 25000003);
+    CHECK(apply(&store, NEXT, bytes, len) == TSC_OK && known(&store, NEXT, "b") == 30000001 && known(&store, NEXT, "k") == 25000003);
+    tsc_free(&store);
 }
 
 /* Bytes whose digest is right, in hexadecimal; the first is the summary of the keys from `a` to before `c` that were not read. */
 static const char *const FORMS[] = {
     "010000000000000021010000000001610000000001630000000000000005000000000000000000000000d2ae83a15c78cf9fda0cbd8854b06909384734ae6497663eb87df38d5ebb487e",
-    /* a span that is neither empty nor between two places */
+    /* a span that is neither empty nor between two cuts */
     "0100000000000000150200000000000000050000000000000000000000000f7326a9e30319fd51e04d4f7547bd75d5ef4368183eef4227035c14bccd7767",
-    /* a place of no kind */
+    /* a cut of no kind */
     "0100000000000000170103020000000000000005000000000000000000000000294ff638bc676c9d895a6ec1b24ed059b3114f6fb7ddc0835fc49cb6fb20c90d",
     /* an end that is not above the start */
     "01000000000000002101000000000163000000000161000000000000000500000000000000000000000019f658935d90446a774d6e114dea0cfbcf43ca349b23edf017d1cbfaf09651f9",
@@ -237,17 +237,17 @@ static size_t bytes_of(const char *text, uint8_t *out)
 static void forms(void)
 {
     uint8_t bytes[200];
-    tsc_place place = {NULL};
-    open_caches(&place, 2, 1024);
+    tsc_store store = {NULL};
+    open_caches(&store, 2, 1024);
     size_t len = bytes_of(FORMS[0], bytes);
-    const struct told *t = tell(&place, FORMER, "a", "c", 0);
+    const struct told *t = tell(&store, FORMER, "a", "c", 0);
     CHECK(t->answer == TSC_OK && t->len == len && memcmp(t->bytes, bytes, len) == 0);
     for (size_t i = 0; i < sizeof FORMS / sizeof *FORMS; i++) {
         len = bytes_of(FORMS[i], bytes);
-        CHECK(apply(&place, NEXT, bytes, len) == (i ? TSC_SUMMARY_FORM : TSC_OK));
+        CHECK(apply(&store, NEXT, bytes, len) == (i ? TSC_SUMMARY_FORM : TSC_OK));
     }
-    CHECK(known(&place, NEXT, "b") == 5000000);
-    tsc_free(&place);
+    CHECK(known(&store, NEXT, "b") == 5000000);
+    tsc_free(&store);
 }
 
 /* A moment that is none, a page that is too small, other numbers; and what is judged first. */
@@ -255,38 +255,38 @@ static void refused_applies(void)
 {
     static const tsc_time NEVER = {INT64_MAX + UINT64_C(1), 0};
     tsc_added added = {99, true, true};
-    tsc_place place = {NULL};
+    tsc_store store = {NULL};
     uint64_t shared = 77;
-    open_caches(&place, 2, 80);
-    CHECK(tsc_open_shared(&place, 64, 1024, 2, 10, &LOW, 1, 9, &shared) == TSC_OK && shared == 2);
-    CHECK(add(&place, FORMER, "bbbb", NULL, 30, 1));
-    const struct told *t = tell(&place, FORMER, "aaaaaaaaa", "ccccccccc", 9); /* 41 bytes for each end */
+    open_caches(&store, 2, 80);
+    CHECK(tsc_open_shared(&store, 64, 1024, 2, 10, &LOW, 1, 9, &shared) == TSC_OK && shared == 2);
+    CHECK(add(&store, FORMER, "bbbb", NULL, 30, 1));
+    const struct told *t = tell(&store, FORMER, "aaaaaaaaa", "ccccccccc", 9); /* 41 bytes for each end */
     CHECK(t->answer == TSC_OK);
-    CHECK(apply(&place, NEXT, t->bytes, t->len) == TSC_TOO_LARGE);
-    CHECK(tsc_apply(&place, NEXT, t->bytes, t->len, &NEVER, &added) == TSC_TIME);
-    CHECK(tsc_apply(&place, NEXT, t->bytes, t->len - 1, &NEVER, &added) == TSC_SUMMARY_LENGTH);
-    for (uint64_t number = 2; number < 5; number++) /* a shared cache, its seat, and nothing */
-        CHECK(tsc_apply(&place, number, t->bytes, t->len - 1, &NEVER, &added) == TSC_CLOSED);
-    CHECK(added.evicted == 99 && added.kept && added.rotated && known(&place, NEXT, "bbbb") == 5000000);
-    t = tell(&place, FORMER, "aaaaaaaa", "cccccccc", 9); /* 40 bytes for each end */
-    CHECK(apply(&place, NEXT, t->bytes, t->len) == TSC_OK && known(&place, NEXT, "bbbb") == 30000001);
-    tsc_free(&place);
+    CHECK(apply(&store, NEXT, t->bytes, t->len) == TSC_TOO_LARGE);
+    CHECK(tsc_apply(&store, NEXT, t->bytes, t->len, &NEVER, &added) == TSC_TIME);
+    CHECK(tsc_apply(&store, NEXT, t->bytes, t->len - 1, &NEVER, &added) == TSC_SUMMARY_LENGTH);
+    for (uint64_t handle = 2; handle < 5; handle++) /* a shared cache, its seat, and nothing */
+        CHECK(tsc_apply(&store, handle, t->bytes, t->len - 1, &NEVER, &added) == TSC_CLOSED);
+    CHECK(added.evicted == 99 && added.kept && added.rotated && known(&store, NEXT, "bbbb") == 5000000);
+    t = tell(&store, FORMER, "aaaaaaaa", "cccccccc", 9); /* 40 bytes for each end */
+    CHECK(apply(&store, NEXT, t->bytes, t->len) == TSC_OK && known(&store, NEXT, "bbbb") == 30000001);
+    tsc_free(&store);
 }
 
 /* Each request for memory is refused in turn, and then none. */
 static void memory(void)
 {
-    tsc_place place = {NULL};
+    tsc_store store = {NULL};
     static uint8_t out[ROOM];
     size_t len = 9;
     uint32_t answer = TSC_NO_MEMORY;
-    open_caches(&place, 2, 1024);
-    CHECK(add(&place, FORMER, "b", "bb", 30, 1) && add(&place, FORMER, "a", "az", 40, 2));
-    const tsc_figures was = figures(&place, NEXT);
+    open_caches(&store, 2, 1024);
+    CHECK(add(&store, FORMER, "b", "bb", 30, 1) && add(&store, FORMER, "a", "az", 40, 2));
+    const tsc_figures was = figures(&store, NEXT);
     uint64_t told = 0, applied = 0;
     for (refused_request = 1; answer == TSC_NO_MEMORY; refused_request++) {
         requests = 0;
-        answer = tsc_summary(&place, FORMER, "a", 1, "c", 1, TSC_EXCLUDE_TO, SIZE_MAX, out, ROOM, &len);
+        answer = tsc_summary(&store, FORMER, "a", 1, "c", 1, TSC_EXCLUDE_TO, SIZE_MAX, out, ROOM, &len);
         EACH(answer == TSC_OK || (answer == TSC_NO_MEMORY && len == 9 && out[0] == 0));
         told += answer == TSC_NO_MEMORY;
     }
@@ -295,15 +295,15 @@ static void memory(void)
     for (refused_request = 1; answer == TSC_NO_MEMORY; refused_request++) {
         tsc_added added = {99, false, true};
         requests = 0;
-        answer = tsc_apply(&place, NEXT, out, len, &AT_20, &added);
+        answer = tsc_apply(&store, NEXT, out, len, &AT_20, &added);
         EACH(answer == TSC_OK ? added.kept : answer == TSC_NO_MEMORY && added.evicted == 99);
         if (answer == TSC_NO_MEMORY)
-            EACH(same_figures(&place, NEXT, was) && known(&place, NEXT, "b") == 5000000);
+            EACH(same_figures(&store, NEXT, was) && known(&store, NEXT, "b") == 5000000);
         applied += answer == TSC_NO_MEMORY;
     }
-    CHECK(answer == TSC_OK && applied > 5 && known(&place, NEXT, "b") == 30000001 && known(&place, NEXT, "a") == 40000002);
+    CHECK(answer == TSC_OK && applied > 5 && known(&store, NEXT, "b") == 30000001 && known(&store, NEXT, "a") == 40000002);
     refused_request = 0;
-    tsc_free(&place);
+    tsc_free(&store);
 }
 
 /* Each pointer that may be null, and each that may not. */
@@ -311,7 +311,7 @@ static void nulls(void)
 {
     static const tsc_span SPAN = {0, 1, 0, 0, TSC_POINT};
     static const tsc_value WRITE = {30, 0, {1}};
-    tsc_place place = {NULL}, *p = &place;
+    tsc_store store = {NULL}, *p = &store;
     uint8_t out[200];
     size_t len = 9;
     uint64_t seen = 7;
@@ -368,10 +368,10 @@ static tsc_value some_value(void)
 }
 
 /* How far a write of some spans is pushed in a cache. */
-static tsc_time pushed(tsc_place *place, uint64_t number, const tsc_span *spans, size_t count, const tsc_value *write)
+static tsc_time pushed(tsc_store *store, uint64_t handle, const tsc_span *spans, size_t count, const tsc_value *write)
 {
     tsc_time at = {0, 0};
-    EACH(tsc_earliest_write(place, number, KEY_BYTES, sizeof KEY_BYTES - 1, spans, count, write, &at) == TSC_OK);
+    EACH(tsc_earliest_write(store, handle, KEY_BYTES, sizeof KEY_BYTES - 1, spans, count, write, &at) == TSC_OK);
     return at;
 }
 
@@ -380,28 +380,28 @@ static void pushes(void)
 {
     int further = 0;
     for (int round = 0; round < 200; round++) {
-        tsc_place place = {NULL};
+        tsc_store store = {NULL};
         tsc_added added;
         size_t most = round % 2 ? below(4) : SIZE_MAX;
-        open_caches(&place, 2, 1024);
+        open_caches(&store, 2, 1024);
         for (int i = 0; i < 12; i++) {
             tsc_span s = some_span(0, KEYS);
             tsc_value read = some_value();
-            EACH(tsc_add(&place, FORMER, KEY_BYTES + s.from_at, s.from_len, KEY_BYTES + s.to_at, s.to_len, s.ends, &read, &AT_20, &added) == TSC_OK);
+            EACH(tsc_add(&store, FORMER, KEY_BYTES + s.from_at, s.from_len, KEY_BYTES + s.to_at, s.to_len, s.ends, &read, &AT_20, &added) == TSC_OK);
         }
-        const struct told *t = tell(&place, FORMER, "c", "j", most); /* the keys of the places 2 to 9 */
-        EACH(t->answer == TSC_OK && apply(&place, NEXT, t->bytes, t->len) == TSC_OK);
+        const struct told *t = tell(&store, FORMER, "c", "j", most); /* the keys of the places 2 to 9 */
+        EACH(t->answer == TSC_OK && apply(&store, NEXT, t->bytes, t->len) == TSC_OK);
         for (int i = 0; i < 40; i++) {
             tsc_span spans[2] = {some_span(2, 10), some_span(2, 10)};
             tsc_value write = some_value();
-            tsc_time before = pushed(&place, FORMER, spans, 2, &write), after = pushed(&place, NEXT, spans, 2, &write);
+            tsc_time before = pushed(&store, FORMER, spans, 2, &write), after = pushed(&store, NEXT, spans, 2, &write);
             bool same = before.wall == after.wall && before.logical == after.logical;
             EACH(same || (most != SIZE_MAX && tsc_before(before, after)));
             further += !same;
         }
         tsc_value out;
-        EACH(tsc_get_max(&place, NEXT, "b", 1, "", 0, TSC_POINT, &out) == TSC_OK && out.wall == 5); /* nothing is told beside the span */
-        tsc_free(&place);
+        EACH(tsc_get_max(&store, NEXT, "b", 1, "", 0, TSC_POINT, &out) == TSC_OK && out.wall == 5); /* nothing is told beside the span */
+        tsc_free(&store);
     }
     CHECK(further > 100);
 }
@@ -411,34 +411,34 @@ static void may_writes(void)
 {
     int clear = 0, pushed_on = 0;
     for (int round = 0; round < 100; round++) {
-        tsc_place place = {NULL};
+        tsc_store store = {NULL};
         tsc_added added;
         uint64_t n = 77, at = 0, seen = 0;
-        open_caches(&place, 1, 1024);
-        EACH(tsc_open_shared(&place, 64, 1024, 2, UINT64_C(1) << 62, &LOW, 1, 99, &n) == TSC_OK);
+        open_caches(&store, 1, 1024);
+        EACH(tsc_open_shared(&store, 64, 1024, 2, UINT64_C(1) << 62, &LOW, 1, 99, &n) == TSC_OK);
         for (int i = 0; i < 6; i++) {
             tsc_span s = some_span(0, KEYS);
             tsc_value read = some_value();
             const char *from = KEY_BYTES + s.from_at, *to = KEY_BYTES + s.to_at;
-            EACH(tsc_add(&place, FORMER, from, s.from_len, to, s.to_len, s.ends, &read, &AT_20, &added) == TSC_OK);
-            EACH(tsc_seat_add(&place, n + 1, from, s.from_len, to, s.to_len, s.ends, &read, &AT_20, 64, &at, &added) == TSC_OK);
+            EACH(tsc_add(&store, FORMER, from, s.from_len, to, s.to_len, s.ends, &read, &AT_20, &added) == TSC_OK);
+            EACH(tsc_seat_add(&store, n + 1, from, s.from_len, to, s.to_len, s.ends, &read, &AT_20, 64, &at, &added) == TSC_OK);
         }
         for (int i = 0; i < 40; i++) {
             tsc_span spans[PLACES] = {some_span(0, KEYS), some_span(0, KEYS), some_span(0, KEYS)};
             tsc_value write = some_value();
             size_t count = below(PLACES + 1);
-            tsc_time first = pushed(&place, FORMER, spans, count, &write);
+            tsc_time first = pushed(&store, FORMER, spans, count, &write);
             bool wanted = first.wall == write.wall && first.logical == write.logical, may = !wanted, seat_may = !wanted;
-            EACH(tsc_may_write(&place, FORMER, KEY_BYTES, sizeof KEY_BYTES - 1, spans, count, &write, &may) == TSC_OK && may == wanted);
-            EACH(tsc_seat_may_write(&place, n + 1, KEY_BYTES, sizeof KEY_BYTES - 1, spans, count, &write, &seen, &seat_may) == TSC_OK);
+            EACH(tsc_may_write(&store, FORMER, KEY_BYTES, sizeof KEY_BYTES - 1, spans, count, &write, &may) == TSC_OK && may == wanted);
+            EACH(tsc_seat_may_write(&store, n + 1, KEY_BYTES, sizeof KEY_BYTES - 1, spans, count, &write, &seen, &seat_may) == TSC_OK);
             EACH(seat_may == wanted && seen == 6);
             may = seat_may = !wanted;
-            EACH(tsc_checked_may_write(&place, FORMER, KEY_BYTES, sizeof KEY_BYTES - 1, spans, count, &write, &may) == TSC_OK && may == wanted);
-            EACH(tsc_checked_seat_may_write(&place, n + 1, KEY_BYTES, sizeof KEY_BYTES - 1, spans, count, &write, &seen, &seat_may) == TSC_OK && seat_may == wanted);
+            EACH(tsc_checked_may_write(&store, FORMER, KEY_BYTES, sizeof KEY_BYTES - 1, spans, count, &write, &may) == TSC_OK && may == wanted);
+            EACH(tsc_checked_seat_may_write(&store, n + 1, KEY_BYTES, sizeof KEY_BYTES - 1, spans, count, &write, &seen, &seat_may) == TSC_OK && seat_may == wanted);
             clear += wanted;
             pushed_on += !wanted;
         }
-        tsc_free(&place);
+        tsc_free(&store);
     }
     CHECK(clear > 400 && pushed_on > 400);
 }
@@ -449,28 +449,28 @@ static void refused_writes(void)
     static const tsc_value READ = {20, 0, {1}}, LAST = {INT64_MAX, INT32_MAX, {1}};
     static const tsc_span SPANS[] = {{0, 1, 0, 0, TSC_POINT}, {1, 2, 0, 0, TSC_POINT}, {0, 1, 3, 0, TSC_POINT}, {0, 1, 0, 0, 6}};
     static const uint32_t ANSWERS[] = {TSC_OK, TSC_OUTSIDE, TSC_OUTSIDE, TSC_ENDS};
-    tsc_place place = {NULL};
+    tsc_store store = {NULL};
     tsc_added added;
     uint64_t n = 77, seen = 7, at = 0;
     bool may = true;
-    open_caches(&place, 1, 1024);
-    CHECK(tsc_open_shared(&place, 64, 1024, 2, 10, &LOW, 1, 9, &n) == TSC_OK);
+    open_caches(&store, 1, 1024);
+    CHECK(tsc_open_shared(&store, 64, 1024, 2, 10, &LOW, 1, 9, &n) == TSC_OK);
     for (int i = 1; i < 4; i++) {
         tsc_span both[2] = {SPANS[0], SPANS[i]};
-        CHECK(tsc_may_write(&place, FORMER, "bc", 2, both, 2, &READ, &may) == ANSWERS[i]);
-        CHECK(tsc_seat_may_write(&place, n + 1, "bc", 2, both, 2, &READ, &seen, &may) == ANSWERS[i]);
+        CHECK(tsc_may_write(&store, FORMER, "bc", 2, both, 2, &READ, &may) == ANSWERS[i]);
+        CHECK(tsc_seat_may_write(&store, n + 1, "bc", 2, both, 2, &READ, &seen, &may) == ANSWERS[i]);
     }
     tsc_value never = {INT64_MAX + UINT64_C(1), 0, {0}};
-    CHECK(tsc_may_write(&place, FORMER, "bc", 2, SPANS, 1, &never, &may) == TSC_TIME && tsc_seat_may_write(&place, n + 1, "bc", 2, SPANS, 1, &never, &seen, &may) == TSC_TIME);
-    CHECK(tsc_may_write(&place, n, "bc", 2, SPANS, 1, &READ, &may) == TSC_CLOSED && tsc_seat_may_write(&place, FORMER, "bc", 2, SPANS, 1, &READ, &seen, &may) == TSC_CLOSED);
+    CHECK(tsc_may_write(&store, FORMER, "bc", 2, SPANS, 1, &never, &may) == TSC_TIME && tsc_seat_may_write(&store, n + 1, "bc", 2, SPANS, 1, &never, &seen, &may) == TSC_TIME);
+    CHECK(tsc_may_write(&store, n, "bc", 2, SPANS, 1, &READ, &may) == TSC_CLOSED && tsc_seat_may_write(&store, FORMER, "bc", 2, SPANS, 1, &READ, &seen, &may) == TSC_CLOSED);
     CHECK(may && seen == 7);
-    CHECK(tsc_add(&place, FORMER, "b", 1, "", 0, TSC_POINT, &LAST, &AT_20, &added) == TSC_OK);
-    CHECK(tsc_seat_add(&place, n + 1, "b", 1, "", 0, TSC_POINT, &LAST, &AT_20, 64, &at, &added) == TSC_OK);
+    CHECK(tsc_add(&store, FORMER, "b", 1, "", 0, TSC_POINT, &LAST, &AT_20, &added) == TSC_OK);
+    CHECK(tsc_seat_add(&store, n + 1, "b", 1, "", 0, TSC_POINT, &LAST, &AT_20, 64, &at, &added) == TSC_OK);
     tsc_value write = {20, 0, {2}};
-    CHECK(tsc_may_write(&place, FORMER, "bc", 2, SPANS, 1, &write, &may) == TSC_OK && !may);
+    CHECK(tsc_may_write(&store, FORMER, "bc", 2, SPANS, 1, &write, &may) == TSC_OK && !may);
     may = true;
-    CHECK(tsc_seat_may_write(&place, n + 1, "bc", 2, SPANS, 1, &write, &seen, &may) == TSC_OK && !may && seen == 1);
-    tsc_free(&place);
+    CHECK(tsc_seat_may_write(&store, n + 1, "bc", 2, SPANS, 1, &write, &seen, &may) == TSC_OK && !may && seen == 1);
+    tsc_free(&store);
 }
 
 int main(void)

@@ -46,47 +46,47 @@ static const tsc_value READ = {20, 1, {0x11}}, LATER = {21, 0, {0x11}};
 
 static void of_a_cache(void)
 {
-    tsc_place place = {NULL}, other = {NULL};
+    tsc_store store = {NULL}, other = {NULL};
     uint64_t n = 77, second = 77, moved = 77;
     tsc_added added;
     tsc_value value;
     tsc_mark marks[2] = {{0, 1, 0, 0, {30, 0, {0}}, TSC_POINT}, {1, 1, 0, 0, {31, 0, {0}}, TSC_POINT}};
-    asks("tsc_open", tsc_checked_open(&place, 1024, 1024, 2, 10, &LOW, &n), 4, 720);
-    asks("tsc_open of a second one", tsc_checked_open(&place, 1024, 1024, 2, 10, &LOW, &second), 2, 132);
-    asks("tsc_add of a first key", tsc_checked_add(&place, n, "x", 1, NULL, 0, TSC_POINT, &READ, &NOW, &added), 8, 315);
-    asks("tsc_add of a second key", tsc_checked_add(&place, n, "y", 1, NULL, 0, TSC_POINT, &READ, &NOW, &added), 5, 430);
-    asks("tsc_add of a known key", tsc_checked_add(&place, n, "x", 1, NULL, 0, TSC_POINT, &LATER, &NOW, &added), 1, 1);
-    asks("tsc_get_max", tsc_checked_get_max(&place, n, "x", 1, NULL, 0, TSC_POINT, &value), 0, 0);
-    asks("tsc_add_all of known keys", tsc_checked_add_all(&place, n, "xy", 2, marks, 2, &NOW, &added), 7, 890);
+    asks("tsc_open", tsc_checked_open(&store, 1024, 1024, 2, 10, &LOW, &n), 4, 720);
+    asks("tsc_open of a second one", tsc_checked_open(&store, 1024, 1024, 2, 10, &LOW, &second), 2, 132);
+    asks("tsc_add of a first key", tsc_checked_add(&store, n, "x", 1, NULL, 0, TSC_POINT, &READ, &NOW, &added), 8, 315);
+    asks("tsc_add of a second key", tsc_checked_add(&store, n, "y", 1, NULL, 0, TSC_POINT, &READ, &NOW, &added), 4, 430);
+    asks("tsc_add of a known key", tsc_checked_add(&store, n, "x", 1, NULL, 0, TSC_POINT, &LATER, &NOW, &added), 0, 0);
+    asks("tsc_get_max", tsc_checked_get_max(&store, n, "x", 1, NULL, 0, TSC_POINT, &value), 0, 0);
+    asks("tsc_add_all of known keys", tsc_checked_add_all(&store, n, "xy", 2, marks, 2, &NOW, &added), 7, 890);
     uint8_t told[300];
     size_t len = 0;
     tsc_span spans[2] = {{0, 1, 1, 1, 0}, {1, 1, 0, 0, TSC_POINT}};
     tsc_time first;
     bool may = false;
-    asks("tsc_earliest_write", tsc_checked_earliest_write(&place, n, "xy", 2, spans, 2, &LATER, &first), 0, 0);
-    asks("tsc_may_write", tsc_checked_may_write(&place, n, "xy", 2, spans, 2, &LATER, &may), 0, 0);
-    asks("tsc_summary of two keys", tsc_checked_summary(&place, n, "x", 1, "y", 1, 0, SIZE_MAX, told, sizeof told, &len), 18, 1060);
-    asks("tsc_apply of what is known", tsc_checked_apply(&place, n, told, len, &NOW, &added), 16, 1290);
-    asks("tsc_apply to an empty cache", tsc_checked_apply(&place, second, told, len, &NOW, &added), 24, 1620);
-    asks("tsc_move to an empty place", tsc_checked_move(&place, n, &other, &moved), 2, 590);
-    asks("tsc_move of a second one", tsc_checked_move(&place, second, &other, &moved), 0, 0);
-    tsc_checked_free(&place);
+    asks("tsc_earliest_write", tsc_checked_earliest_write(&store, n, "xy", 2, spans, 2, &LATER, &first), 0, 0);
+    asks("tsc_may_write", tsc_checked_may_write(&store, n, "xy", 2, spans, 2, &LATER, &may), 0, 0);
+    asks("tsc_summary of two keys", tsc_checked_summary(&store, n, "x", 1, "y", 1, 0, SIZE_MAX, told, sizeof told, &len), 18, 1060);
+    asks("tsc_apply of what is known", tsc_checked_apply(&store, n, told, len, &NOW, &added), 16, 1290);
+    asks("tsc_apply to an empty cache", tsc_checked_apply(&store, second, told, len, &NOW, &added), 24, 1620);
+    asks("tsc_move to an empty store", tsc_checked_move(&store, n, &other, &moved), 2, 590);
+    asks("tsc_move of a second one", tsc_checked_move(&store, second, &other, &moved), 0, 0);
+    tsc_checked_free(&store);
     tsc_checked_free(&other);
 }
 
 static void of_seats(void)
 {
-    tsc_place place = {NULL}, other = {NULL};
+    tsc_store store = {NULL}, other = {NULL};
     uint64_t n = 77, moved = 77, at = 77, seen = 77;
     tsc_added added;
     tsc_value value;
-    asks("tsc_open_shared", tsc_checked_open_shared(&place, 1024, 1024, 2, 10, &LOW, 2, 9, &n), 22, 6900);
-    asks("tsc_seat_add of a first key", tsc_checked_seat_add(&place, n + 1, "x", 1, NULL, 0, TSC_POINT, &READ, &NOW, 1, &at, &added), 9, 316);
-    asks("tsc_seat_add of a second key", tsc_checked_seat_add(&place, n + 1, "y", 1, NULL, 0, TSC_POINT, &READ, &NOW, 1, &at, &added), 13, 745);
-    asks("tsc_seat_add of a known key", tsc_checked_seat_add(&place, n + 1, "y", 1, NULL, 0, TSC_POINT, &LATER, &NOW, 1, &at, &added), 6, 430);
-    asks("tsc_seat_get_max", tsc_checked_seat_get_max(&place, n + 2, "x", 1, NULL, 0, TSC_POINT, &seen, &value), 0, 0);
-    asks("tsc_move of a seat", tsc_checked_move(&place, n + 1, &other, &moved), 2, 590);
-    tsc_checked_free(&place);
+    asks("tsc_open_shared", tsc_checked_open_shared(&store, 1024, 1024, 2, 10, &LOW, 2, 9, &n), 22, 5760);
+    asks("tsc_seat_add of a first key", tsc_checked_seat_add(&store, n + 1, "x", 1, NULL, 0, TSC_POINT, &READ, &NOW, 1, &at, &added), 9, 316);
+    asks("tsc_seat_add of a second key", tsc_checked_seat_add(&store, n + 1, "y", 1, NULL, 0, TSC_POINT, &READ, &NOW, 1, &at, &added), 13, 745);
+    asks("tsc_seat_add of a known key", tsc_checked_seat_add(&store, n + 1, "y", 1, NULL, 0, TSC_POINT, &LATER, &NOW, 1, &at, &added), 6, 430);
+    asks("tsc_seat_get_max", tsc_checked_seat_get_max(&store, n + 2, "x", 1, NULL, 0, TSC_POINT, &seen, &value), 0, 0);
+    asks("tsc_move of a seat", tsc_checked_move(&store, n + 1, &other, &moved), 2, 590);
+    tsc_checked_free(&store);
     tsc_checked_free(&other);
 }
 

@@ -147,8 +147,8 @@ static const char *name_of(uint32_t answer)
 
 /* What a case is played on: a cache where there are no seats. */
 struct table {
-    tsc_place opened, places[SEATS_MOST];
-    uint64_t number, numbers[SEATS_MOST], adds;
+    tsc_store opened, stores[SEATS_MOST];
+    uint64_t handle, handles[SEATS_MOST], adds;
     uint32_t seats, turn, tries;
     bool is_right; /* the places of Adds, and what seats have seen */
 };
@@ -156,7 +156,7 @@ struct table {
 static void close_table(struct table *t)
 {
     for (uint32_t i = 0; i < t->seats; i++)
-        tsc_free(&t->places[i]);
+        tsc_free(&t->stores[i]);
     tsc_free(&t->opened);
     t->adds = t->turn = 0;
 }
@@ -170,11 +170,11 @@ static uint32_t open_table(struct table *t, char *const *word)
     uint64_t retention = strtoull(word[4], NULL, 10);
     close_table(t);
     if (t->seats == 0)
-        return tsc_open(&t->opened, first, max, pages, retention, &low, &t->number);
+        return tsc_open(&t->opened, first, max, pages, retention, &low, &t->handle);
     uint32_t answer = tsc_open_shared(&t->opened, first, max, pages, retention, &low, t->seats,
-                                      strtoull(word[6], NULL, 10), &t->number);
+                                      strtoull(word[6], NULL, 10), &t->handle);
     for (uint32_t i = 0; answer == TSC_OK && i < t->seats; i++)
-        answer = tsc_move(&t->opened, t->number + 1 + i, &t->places[i], &t->numbers[i]);
+        answer = tsc_move(&t->opened, t->handle + 1 + i, &t->stores[i], &t->handles[i]);
     return answer;
 }
 
@@ -196,11 +196,11 @@ static uint32_t add(struct table *t, const struct span *s, const tsc_value *v, c
                     tsc_added *out)
 {
     if (t->seats == 0)
-        return tsc_add(&t->opened, t->number, s->from, s->from_len, s->to, s->to_len, s->ends, v,
+        return tsc_add(&t->opened, t->handle, s->from, s->from_len, s->to, s->to_len, s->ends, v,
                        now, out);
     uint32_t i = next_seat(t);
     uint64_t place = 0;
-    uint32_t answer = tsc_seat_add(&t->places[i], t->numbers[i], s->from, s->from_len, s->to,
+    uint32_t answer = tsc_seat_add(&t->stores[i], t->handles[i], s->from, s->from_len, s->to,
                                    s->to_len, s->ends, v, now, t->tries, &place, out);
     is_added(t, answer, place);
     return answer;
@@ -210,10 +210,10 @@ static uint32_t add_all(struct table *t, const uint8_t *keys, size_t keys_len,
                         const tsc_mark *marks, size_t len, const tsc_time *now, tsc_added *out)
 {
     if (t->seats == 0)
-        return tsc_add_all(&t->opened, t->number, keys, keys_len, marks, len, now, out);
+        return tsc_add_all(&t->opened, t->handle, keys, keys_len, marks, len, now, out);
     uint32_t i = next_seat(t);
     uint64_t place = 0;
-    uint32_t answer = tsc_seat_add_all(&t->places[i], t->numbers[i], keys, keys_len, marks, len,
+    uint32_t answer = tsc_seat_add_all(&t->stores[i], t->handles[i], keys, keys_len, marks, len,
                                        now, t->tries, &place, out);
     is_added(t, answer, place);
     return answer;
@@ -222,11 +222,11 @@ static uint32_t add_all(struct table *t, const uint8_t *keys, size_t keys_len,
 static uint32_t get_max(struct table *t, const struct span *s, tsc_value *out)
 {
     if (t->seats == 0)
-        return tsc_get_max(&t->opened, t->number, s->from, s->from_len, s->to, s->to_len, s->ends,
+        return tsc_get_max(&t->opened, t->handle, s->from, s->from_len, s->to, s->to_len, s->ends,
                            out);
     uint32_t i = next_seat(t);
     uint64_t seen = 0;
-    uint32_t answer = tsc_seat_get_max(&t->places[i], t->numbers[i], s->from, s->from_len, s->to,
+    uint32_t answer = tsc_seat_get_max(&t->stores[i], t->handles[i], s->from, s->from_len, s->to,
                                        s->to_len, s->ends, &seen, out);
     has_seen(t, answer, seen);
     return answer;
@@ -235,10 +235,10 @@ static uint32_t get_max(struct table *t, const struct span *s, tsc_value *out)
 static uint32_t low_water(struct table *t, tsc_time *out)
 {
     if (t->seats == 0)
-        return tsc_low_water(&t->opened, t->number, out);
+        return tsc_low_water(&t->opened, t->handle, out);
     uint32_t i = next_seat(t);
     uint64_t seen = 0;
-    uint32_t answer = tsc_seat_low_water(&t->places[i], t->numbers[i], &seen, out);
+    uint32_t answer = tsc_seat_low_water(&t->stores[i], t->handles[i], &seen, out);
     has_seen(t, answer, seen);
     return answer;
 }
@@ -246,10 +246,10 @@ static uint32_t low_water(struct table *t, tsc_time *out)
 static uint32_t figures_of(struct table *t, tsc_figures *out)
 {
     if (t->seats == 0)
-        return tsc_figures_of(&t->opened, t->number, out);
+        return tsc_figures_of(&t->opened, t->handle, out);
     uint32_t i = next_seat(t);
     uint64_t seen = 0;
-    uint32_t answer = tsc_seat_figures_of(&t->places[i], t->numbers[i], &seen, out);
+    uint32_t answer = tsc_seat_figures_of(&t->stores[i], t->handles[i], &seen, out);
     has_seen(t, answer, seen);
     return answer;
 }
@@ -259,10 +259,10 @@ static uint32_t earliest_write(struct table *t, const uint8_t *keys, size_t len,
                                tsc_time *out)
 {
     if (t->seats == 0)
-        return tsc_earliest_write(&t->opened, t->number, keys, len, spans, count, write, out);
+        return tsc_earliest_write(&t->opened, t->handle, keys, len, spans, count, write, out);
     uint32_t i = next_seat(t);
     uint64_t seen = 0;
-    uint32_t answer = tsc_seat_earliest_write(&t->places[i], t->numbers[i], keys, len, spans,
+    uint32_t answer = tsc_seat_earliest_write(&t->stores[i], t->handles[i], keys, len, spans,
                                               count, write, &seen, out);
     has_seen(t, answer, seen);
     return answer;
@@ -272,10 +272,10 @@ static uint32_t may_write(struct table *t, const uint8_t *keys, size_t len, cons
                           size_t count, const tsc_value *write, bool *out)
 {
     if (t->seats == 0)
-        return tsc_may_write(&t->opened, t->number, keys, len, spans, count, write, out);
+        return tsc_may_write(&t->opened, t->handle, keys, len, spans, count, write, out);
     uint32_t i = next_seat(t);
     uint64_t seen = 0;
-    uint32_t answer = tsc_seat_may_write(&t->places[i], t->numbers[i], keys, len, spans, count,
+    uint32_t answer = tsc_seat_may_write(&t->stores[i], t->handles[i], keys, len, spans, count,
                                          write, &seen, out);
     has_seen(t, answer, seen);
     return answer;
@@ -345,7 +345,7 @@ static uint32_t summary(struct table *t, const struct span *s, size_t most, stru
     static uint8_t bytes[SUMMARY];
     size_t len = 0;
     memset(bytes, 0xEE, sizeof bytes);
-    uint32_t answer = tsc_summary(&t->opened, t->number, s->from, s->from_len, s->to, s->to_len,
+    uint32_t answer = tsc_summary(&t->opened, t->handle, s->from, s->from_len, s->to, s->to_len,
                                   s->ends, most, bytes, 0, &len);
     if (answer != TSC_SHORT)
         return answer;
@@ -354,7 +354,7 @@ static uint32_t summary(struct table *t, const struct span *s, size_t most, stru
     out->len = len;
     for (size_t room = len - 1; room <= len + 1; room++) {
         len = 0;
-        answer = tsc_summary(&t->opened, t->number, s->from, s->from_len, s->to, s->to_len,
+        answer = tsc_summary(&t->opened, t->handle, s->from, s->from_len, s->to, s->to_len,
                              s->ends, most, bytes, room, &len);
         bool is_short = room < out->len;
         t->is_right = t->is_right && len == out->len &&
@@ -369,7 +369,7 @@ static uint32_t apply(struct table *t, const uint8_t *bytes, size_t len, const c
                       tsc_added *a)
 {
     tsc_time now = time_of(moment);
-    return tsc_apply(&t->opened, t->number, bytes, len, &now, a);
+    return tsc_apply(&t->opened, t->handle, bytes, len, &now, a);
 }
 
 /* What each beginning of a summary is answered, and the whole with a byte behind it, if that is
@@ -458,12 +458,12 @@ static void call(struct table *t, const struct line *l, char *told)
     if (strcmp(w[0], "open") == 0) {
         strcpy(told, name_of(open_table(t, w)));
     } else if (strcmp(w[0], "seats") == 0) {
-        tsc_place place = {NULL};
+        tsc_store store = {NULL};
         tsc_time low = {5, 0};
         uint64_t n;
-        strcpy(told, name_of(tsc_open_shared(&place, 132, 132, 2, 10, &low,
+        strcpy(told, name_of(tsc_open_shared(&store, 132, 132, 2, 10, &low,
                                              (uint32_t)strtoul(w[1], NULL, 10), 9, &n)));
-        tsc_free(&place);
+        tsc_free(&store);
     } else if (strcmp(w[0], "tries") == 0) {
         t->tries = (uint32_t)strtoul(w[1], NULL, 10);
         strcpy(told, "done");

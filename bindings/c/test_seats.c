@@ -28,74 +28,74 @@ static const tsc_value READ = {20, 1, {0x11}};
 
 /* Calls with the arguments that most tests give them. */
 
-static uint32_t open_shared(tsc_place *place, uint32_t seats, uint64_t limit, uint64_t *number)
+static uint32_t open_shared(tsc_store *store, uint32_t seats, uint64_t limit, uint64_t *handle)
 {
-    return tsc_open_shared(place, 132, 1024, 2, 10, &LOW, seats, limit, number);
+    return tsc_open_shared(store, 132, 1024, 2, 10, &LOW, seats, limit, handle);
 }
 
-static uint32_t add(tsc_place *place, uint64_t seat, const char *key, uint32_t tries, uint64_t *at)
+static uint32_t add(tsc_store *store, uint64_t seat, const char *key, uint32_t tries, uint64_t *at)
 {
     tsc_added added;
-    return tsc_checked_seat_add(place, seat, key, strlen(key), NULL, 0, TSC_POINT, &READ, &NOW, tries, at, &added);
+    return tsc_checked_seat_add(store, seat, key, strlen(key), NULL, 0, TSC_POINT, &READ, &NOW, tries, at, &added);
 }
 
-static bool answers(tsc_place *place, uint64_t seat, const char *key, uint64_t wall, uint64_t seen)
+static bool answers(tsc_store *store, uint64_t seat, const char *key, uint64_t wall, uint64_t seen)
 {
     uint64_t long_ = 99;
     tsc_value v = {0, 0, {0}};
-    return tsc_checked_seat_get_max(place, seat, key, strlen(key), NULL, 0, TSC_POINT, &long_, &v) == TSC_OK && v.wall == wall && long_ == seen;
+    return tsc_checked_seat_get_max(store, seat, key, strlen(key), NULL, 0, TSC_POINT, &long_, &v) == TSC_OK && v.wall == wall && long_ == seen;
 }
 
-static bool has(tsc_place *place, uint64_t seat, uint64_t pages, uint64_t rotations, uint64_t seen)
+static bool has(tsc_store *store, uint64_t seat, uint64_t pages, uint64_t rotations, uint64_t seen)
 {
     uint64_t long_ = 99;
     tsc_figures f = {99, 99, 99, 99};
-    return tsc_checked_seat_figures_of(place, seat, &long_, &f) == TSC_OK && f.pages == pages && f.rotations == rotations && long_ == seen;
+    return tsc_checked_seat_figures_of(store, seat, &long_, &f) == TSC_OK && f.pages == pages && f.rotations == rotations && long_ == seen;
 }
 
 /* How many keys the pages hold, each counted once for each page, and what they cost. */
-static bool counts(tsc_place *place, uint64_t seat, uint64_t nodes, uint64_t bytes)
+static bool counts(tsc_store *store, uint64_t seat, uint64_t nodes, uint64_t bytes)
 {
     uint64_t long_ = 99;
     tsc_figures f = {99, 99, 99, 99};
-    return tsc_checked_seat_figures_of(place, seat, &long_, &f) == TSC_OK && f.nodes == nodes && f.bytes == bytes;
+    return tsc_checked_seat_figures_of(store, seat, &long_, &f) == TSC_OK && f.nodes == nodes && f.bytes == bytes;
 }
 
 /* What one thread sees of another's seat, one call after another. */
 static void seats(void)
 {
-    tsc_place place = {NULL}, other = {NULL};
+    tsc_store store = {NULL}, other = {NULL};
     uint64_t n = 77, moved = 77, at = 77, seen = 77, adds = 77;
     tsc_time floor;
-    CHECK(open_shared(&place, 2, 3, &n) == TSC_OK && n == 0);
-    CHECK(tsc_move(&place, 2, &other, &moved) == TSC_OK && moved == 0);
-    CHECK(add(&place, 1, "a", 1, &at) == TSC_OK && at == 0);
-    CHECK(answers(&other, moved, "a", 20, 1) && answers(&other, moved, "b", 5, 1) && answers(&place, 1, "b", 5, 1));
+    CHECK(open_shared(&store, 2, 3, &n) == TSC_OK && n == 0);
+    CHECK(tsc_move(&store, 2, &other, &moved) == TSC_OK && moved == 0);
+    CHECK(add(&store, 1, "a", 1, &at) == TSC_OK && at == 0);
+    CHECK(answers(&other, moved, "a", 20, 1) && answers(&other, moved, "b", 5, 1) && answers(&store, 1, "b", 5, 1));
     CHECK(add(&other, moved, "b", 1, &at) == TSC_OK && at == 1);
-    CHECK(answers(&place, 1, "b", 20, 2));
-    CHECK(tsc_seat_low_water(&place, 1, &seen, &floor) == TSC_OK && seen == 2 && floor.wall == 5 && floor.logical == 0);
-    CHECK(has(&place, 1, 1, 0, 2) && has(&other, moved, 1, 0, 2));
+    CHECK(answers(&store, 1, "b", 20, 2));
+    CHECK(tsc_seat_low_water(&store, 1, &seen, &floor) == TSC_OK && seen == 2 && floor.wall == 5 && floor.logical == 0);
+    CHECK(has(&store, 1, 1, 0, 2) && has(&other, moved, 1, 0, 2));
     tsc_mark marks[2] = {{0, 1, 0, 0, {30, 0, {0}}, TSC_POINT}, {1, 1, 0, 0, {31, 0, {0}}, TSC_POINT}};
     tsc_added added = {99, false, true};
-    CHECK(tsc_checked_seat_add_all(&place, 1, "xy", 2, marks, 2, &NOW, 1, &at, &added) == TSC_OK && at == 2 && added.kept && !added.rotated && added.evicted == 0);
+    CHECK(tsc_checked_seat_add_all(&store, 1, "xy", 2, marks, 2, &NOW, 1, &at, &added) == TSC_OK && at == 2 && added.kept && !added.rotated && added.evicted == 0);
     CHECK(answers(&other, moved, "x", 30, 3) && answers(&other, moved, "y", 31, 3));
-    CHECK(add(&place, 1, "z", 1, &at) == TSC_FULL && at == 2 && add(&other, moved, "z", 1, &at) == TSC_FULL);
-    CHECK(answers(&place, 1, "z", 5, 3));
-    CHECK(tsc_close_shared(&place, n, &adds) == TSC_STILL_OUT && adds == 77);
-    CHECK(tsc_seat_close(&place, 1) == TSC_OK && tsc_seat_close(&place, 1) == TSC_CLOSED && add(&place, 1, "z", 1, &at) == TSC_CLOSED);
-    CHECK(tsc_close_shared(&place, n, &adds) == TSC_STILL_OUT && adds == 77);
+    CHECK(add(&store, 1, "z", 1, &at) == TSC_FULL && at == 2 && add(&other, moved, "z", 1, &at) == TSC_FULL);
+    CHECK(answers(&store, 1, "z", 5, 3));
+    CHECK(tsc_close_shared(&store, n, &adds) == TSC_STILL_OUT && adds == 77);
+    CHECK(tsc_seat_close(&store, 1) == TSC_OK && tsc_seat_close(&store, 1) == TSC_CLOSED && add(&store, 1, "z", 1, &at) == TSC_CLOSED);
+    CHECK(tsc_close_shared(&store, n, &adds) == TSC_STILL_OUT && adds == 77);
     CHECK(answers(&other, moved, "y", 31, 3));
     CHECK(tsc_seat_close(&other, moved) == TSC_OK);
-    CHECK(tsc_close_shared(&place, n, &adds) == TSC_OK && adds == 3);
-    CHECK(tsc_close_shared(&place, n, &adds) == TSC_CLOSED);
-    tsc_free(&place);
+    CHECK(tsc_close_shared(&store, n, &adds) == TSC_OK && adds == 3);
+    CHECK(tsc_close_shared(&store, n, &adds) == TSC_CLOSED);
+    tsc_free(&store);
     tsc_free(&other);
 }
 
 /* Each pointer that may be null, where it has to lead somewhere. */
 static void nulls(void)
 {
-    tsc_place place = {NULL}, *p = &place;
+    tsc_store store = {NULL}, *p = &store;
     uint64_t n = 77, at = 77, seen = 77;
     tsc_added a = {99, false, true};
     tsc_value v = {7, 7, {7}};
@@ -115,7 +115,7 @@ static void nulls(void)
     CHECK(tsc_checked_seat_get_max(p, 1, "a", 1, NULL, 0, TSC_POINT, &seen, NULL) == TSC_NULL);
     CHECK(tsc_checked_seat_low_water(NULL, 1, &seen, &floor) == TSC_NULL && tsc_checked_seat_low_water(p, 1, NULL, &floor) == TSC_NULL && tsc_checked_seat_low_water(p, 1, &seen, NULL) == TSC_NULL);
     CHECK(tsc_checked_seat_figures_of(NULL, 1, &seen, &f) == TSC_NULL && tsc_checked_seat_figures_of(p, 1, NULL, &f) == TSC_NULL && tsc_checked_seat_figures_of(p, 1, &seen, NULL) == TSC_NULL);
-    tsc_place empty = {NULL};
+    tsc_store empty = {NULL};
     uint64_t opened = 77, adds = 77;
     CHECK(tsc_checked_open_shared(NULL, 132, 1024, 2, 10, &LOW, 1, 9, &opened) == TSC_NULL && tsc_checked_open_shared(&empty, 132, 1024, 2, 10, NULL, 1, 9, &opened) == TSC_NULL && tsc_checked_open_shared(&empty, 132, 1024, 2, 10, &LOW, 1, 9, NULL) == TSC_NULL);
     CHECK(tsc_checked_seat_close(NULL, 1) == TSC_NULL && tsc_checked_close_shared(NULL, n, &adds) == TSC_NULL && tsc_checked_close_shared(p, n, NULL) == TSC_NULL);
@@ -126,86 +126,86 @@ static void nulls(void)
     CHECK(tsc_checked_seat_close(p, 1) == TSC_OK && tsc_checked_seat_close(p, 1) == TSC_CLOSED && tsc_checked_close_shared(p, n, &adds) == TSC_OK && adds == 0);
     CHECK(tsc_checked_open_shared(p, 132, 1024, 2, 10, &LOW, 1, 9, &opened) == TSC_OK && opened == n + 2 && answers(p, opened + 1, "a", 5, 0));
     tsc_checked_free(p);
-    CHECK(place.at == NULL);
+    CHECK(store.at == NULL);
 }
 
 /* What can be counted is of the history that the seat has seen. */
 static void figures(void)
 {
-    tsc_place place = {NULL};
+    tsc_store store = {NULL};
     uint64_t n = 77, at = 77;
-    CHECK(tsc_open_shared(&place, 132, 132, 2, 10, &LOW, 2, 9, &n) == TSC_OK);
+    CHECK(tsc_open_shared(&store, 132, 132, 2, 10, &LOW, 2, 9, &n) == TSC_OK);
     for (const char *key = "abcd"; *key; key++)
-        CHECK(add(&place, 1, (char[]){*key, 0}, 1, &at) == TSC_OK && has(&place, 2, 1, 0, at + 1) && counts(&place, 2, at + 1, 33 * (at + 1)));
-    CHECK(add(&place, 2, "e", 1, &at) == TSC_OK && at == 4 && has(&place, 1, 2, 1, 5) && has(&place, 2, 2, 1, 5) && counts(&place, 1, 5, 165));
-    CHECK(add(&place, 2, "a", 1, &at) == TSC_OK && at == 5 && has(&place, 1, 2, 1, 6) && counts(&place, 1, 6, 198)); /* the key of two pages counts twice */
-    tsc_free(&place);
+        CHECK(add(&store, 1, (char[]){*key, 0}, 1, &at) == TSC_OK && has(&store, 2, 1, 0, at + 1) && counts(&store, 2, at + 1, 33 * (at + 1)));
+    CHECK(add(&store, 2, "e", 1, &at) == TSC_OK && at == 4 && has(&store, 1, 2, 1, 5) && has(&store, 2, 2, 1, 5) && counts(&store, 1, 5, 165));
+    CHECK(add(&store, 2, "a", 1, &at) == TSC_OK && at == 5 && has(&store, 1, 2, 1, 6) && counts(&store, 1, 6, 198)); /* the key of two pages counts twice */
+    tsc_free(&store);
 }
 
 static void refusals(void)
 {
-    tsc_place place = {NULL}, other = {NULL};
+    tsc_store store = {NULL}, other = {NULL};
     uint64_t n = 77, own = 77, at = 77, seen = 77, adds = 77;
     tsc_added added = {99, false, true};
     tsc_value v = {7, 7, {7}};
     tsc_figures f = {7, 7, 7, 7};
     uint32_t not_allowed[] = {0, 65, 100000000, UINT32_MAX};
     for (size_t i = 0; i < sizeof not_allowed / sizeof *not_allowed; i++)
-        CHECK(open_shared(&place, not_allowed[i], 9, &n) == TSC_SEATS && n == 77 && place.at == NULL);
-    CHECK(tsc_open_shared(&place, 63, 132, 2, 10, &LOW, 1, 9, &n) == TSC_PAGE_SIZE && n == 77);
-    CHECK(tsc_move(&place, 0, &other, &at) == TSC_CLOSED && at == 77);
-    CHECK(open_shared(&place, 64, 9, &n) == TSC_OK && n == 0);
-    CHECK(tsc_open(&place, 132, 132, 2, 10, &LOW, &own) == TSC_OK && own == 65);
+        CHECK(open_shared(&store, not_allowed[i], 9, &n) == TSC_SEATS && n == 77 && store.at == NULL);
+    CHECK(tsc_open_shared(&store, 63, 132, 2, 10, &LOW, 1, 9, &n) == TSC_PAGE_SIZE && n == 77);
+    CHECK(tsc_move(&store, 0, &other, &at) == TSC_CLOSED && at == 77);
+    CHECK(open_shared(&store, 64, 9, &n) == TSC_OK && n == 0);
+    CHECK(tsc_open(&store, 132, 132, 2, 10, &LOW, &own) == TSC_OK && own == 65);
 
-    /* numbers of another kind */
-    CHECK(add(&place, n, "a", 1, &at) == TSC_CLOSED && add(&place, own, "a", 1, &at) == TSC_CLOSED && add(&place, 66, "a", 1, &at) == TSC_CLOSED);
-    CHECK(tsc_get_max(&place, 1, "a", 1, "", 0, TSC_POINT, &v) == TSC_CLOSED && v.wall == 7);
-    CHECK(tsc_seat_figures_of(&place, n, &seen, &f) == TSC_CLOSED && tsc_seat_figures_of(&place, own, &seen, &f) == TSC_CLOSED && seen == 77);
-    CHECK(tsc_figures_of(&place, n, &f) == TSC_CLOSED && tsc_figures_of(&place, 1, &f) == TSC_CLOSED && f.pages == 7 && f.nodes == 7 && f.bytes == 7);
-    CHECK(tsc_close(&place, n) == TSC_CLOSED && tsc_close(&place, 1) == TSC_CLOSED && tsc_seat_close(&place, n) == TSC_CLOSED && tsc_seat_close(&place, own) == TSC_CLOSED);
-    CHECK(tsc_close_shared(&place, 1, &adds) == TSC_CLOSED && tsc_close_shared(&place, own, &adds) == TSC_CLOSED && adds == 77);
+    /* handles of another kind */
+    CHECK(add(&store, n, "a", 1, &at) == TSC_CLOSED && add(&store, own, "a", 1, &at) == TSC_CLOSED && add(&store, 66, "a", 1, &at) == TSC_CLOSED);
+    CHECK(tsc_get_max(&store, 1, "a", 1, "", 0, TSC_POINT, &v) == TSC_CLOSED && v.wall == 7);
+    CHECK(tsc_seat_figures_of(&store, n, &seen, &f) == TSC_CLOSED && tsc_seat_figures_of(&store, own, &seen, &f) == TSC_CLOSED && seen == 77);
+    CHECK(tsc_figures_of(&store, n, &f) == TSC_CLOSED && tsc_figures_of(&store, 1, &f) == TSC_CLOSED && f.pages == 7 && f.nodes == 7 && f.bytes == 7);
+    CHECK(tsc_close(&store, n) == TSC_CLOSED && tsc_close(&store, 1) == TSC_CLOSED && tsc_seat_close(&store, n) == TSC_CLOSED && tsc_seat_close(&store, own) == TSC_CLOSED);
+    CHECK(tsc_close_shared(&store, 1, &adds) == TSC_CLOSED && tsc_close_shared(&store, own, &adds) == TSC_CLOSED && adds == 77);
 
     /* spans, times and tries */
     char long_key[4097];
     memset(long_key, 'k', sizeof long_key);
     tsc_mark one = {0, 1, 0, 0, {30, 0, {0}}, TSC_POINT};
-    CHECK(add(&place, 1, "a", 0, &at) == TSC_BUSY && at == 77 && answers(&place, 1, "a", 5, 0));
-    CHECK(tsc_checked_seat_add_all(&place, 1, "a", 1, &one, 1, &NOW, 0, &at, &added) == TSC_BUSY && at == 77 && answers(&place, 1, "a", 5, 0));
-    CHECK(tsc_checked_seat_add_all(&place, 1, NULL, 0, NULL, 0, &NOW, 0, &at, &added) == TSC_BUSY && at == 77 && has(&place, 1, 1, 0, 0));
-    CHECK(tsc_checked_seat_add(&place, 1, "c", 1, "a", 1, 0, &READ, &NOW, 1, &at, &added) == TSC_INVERTED);
-    CHECK(tsc_checked_seat_add(&place, 1, "a", 1, NULL, 0, 6, &READ, &NOW, 1, &at, &added) == TSC_ENDS);
-    CHECK(tsc_checked_seat_add(&place, 1, long_key, 4097, NULL, 0, TSC_POINT, &READ, &NOW, 1, &at, &added) == TSC_KEY_TOO_LONG);
-    CHECK(tsc_checked_seat_add(&place, 1, long_key, 993, NULL, 0, TSC_POINT, &READ, &NOW, 0, &at, &added) == TSC_TOO_LARGE);
+    CHECK(add(&store, 1, "a", 0, &at) == TSC_BUSY && at == 77 && answers(&store, 1, "a", 5, 0));
+    CHECK(tsc_checked_seat_add_all(&store, 1, "a", 1, &one, 1, &NOW, 0, &at, &added) == TSC_BUSY && at == 77 && answers(&store, 1, "a", 5, 0));
+    CHECK(tsc_checked_seat_add_all(&store, 1, NULL, 0, NULL, 0, &NOW, 0, &at, &added) == TSC_BUSY && at == 77 && has(&store, 1, 1, 0, 0));
+    CHECK(tsc_checked_seat_add(&store, 1, "c", 1, "a", 1, 0, &READ, &NOW, 1, &at, &added) == TSC_INVERTED);
+    CHECK(tsc_checked_seat_add(&store, 1, "a", 1, NULL, 0, 6, &READ, &NOW, 1, &at, &added) == TSC_ENDS);
+    CHECK(tsc_checked_seat_add(&store, 1, long_key, 4097, NULL, 0, TSC_POINT, &READ, &NOW, 1, &at, &added) == TSC_KEY_TOO_LONG);
+    CHECK(tsc_checked_seat_add(&store, 1, long_key, 993, NULL, 0, TSC_POINT, &READ, &NOW, 0, &at, &added) == TSC_TOO_LARGE);
     tsc_value late = {UINT64_C(1) << 63, 0, {0}};
     tsc_time odd = {0, UINT32_C(1) << 31};
-    CHECK(tsc_checked_seat_add(&place, 1, "a", 1, NULL, 0, TSC_POINT, &late, &NOW, 1, &at, &added) == TSC_TIME);
-    CHECK(tsc_checked_seat_add(&place, 1, "a", 1, NULL, 0, TSC_POINT, &READ, &odd, 1, &at, &added) == TSC_TIME);
+    CHECK(tsc_checked_seat_add(&store, 1, "a", 1, NULL, 0, TSC_POINT, &late, &NOW, 1, &at, &added) == TSC_TIME);
+    CHECK(tsc_checked_seat_add(&store, 1, "a", 1, NULL, 0, TSC_POINT, &READ, &odd, 1, &at, &added) == TSC_TIME);
     tsc_mark outside = {1, 1, 0, 0, {30, 0, {0}}, TSC_POINT};
-    CHECK(tsc_checked_seat_add_all(&place, 1, "x", 1, &outside, 1, &NOW, 1, &at, &added) == TSC_OUTSIDE && at == 77 && added.evicted == 99);
-    CHECK(tsc_checked_seat_get_max(&place, 1, "a", 1, NULL, 0, 6, &seen, &v) == TSC_ENDS && seen == 77 && v.wall == 7);
-    CHECK(tsc_checked_seat_get_max(&place, 1, "c", 1, "a", 1, 0, &seen, &v) == TSC_OK && seen == 0 && v.wall == 5);
-    CHECK(tsc_checked_seat_add_all(&place, 1, NULL, 0, NULL, 0, &NOW, 1, &at, &added) == TSC_OK && at == 0); /* no marks are an entry too */
+    CHECK(tsc_checked_seat_add_all(&store, 1, "x", 1, &outside, 1, &NOW, 1, &at, &added) == TSC_OUTSIDE && at == 77 && added.evicted == 99);
+    CHECK(tsc_checked_seat_get_max(&store, 1, "a", 1, NULL, 0, 6, &seen, &v) == TSC_ENDS && seen == 77 && v.wall == 7);
+    CHECK(tsc_checked_seat_get_max(&store, 1, "c", 1, "a", 1, 0, &seen, &v) == TSC_OK && seen == 0 && v.wall == 5);
+    CHECK(tsc_checked_seat_add_all(&store, 1, NULL, 0, NULL, 0, &NOW, 1, &at, &added) == TSC_OK && at == 0); /* no marks are an entry too */
     CHECK(strcmp(tsc_text(TSC_STILL_OUT), "a seat is still out") == 0 && strcmp(tsc_text(TSC_FULL), "there are as many Adds as there may be") == 0);
 
-    /* what was moved is what it was, and each of these goes with its place; seats that are freed with one are handed in */
-    CHECK(tsc_move(&place, own, &other, &at) == TSC_OK && at == 0 && tsc_close(&place, own) == TSC_CLOSED);
-    CHECK(tsc_move(&place, n, &other, &at) == TSC_OK && at == 1 && tsc_close_shared(&place, n, &adds) == TSC_CLOSED);
-    CHECK(answers(&place, 64, "a", 5, 1));
+    /* what was moved is what it was, and each of these goes with its store; seats that are freed with one are handed in */
+    CHECK(tsc_move(&store, own, &other, &at) == TSC_OK && at == 0 && tsc_close(&store, own) == TSC_CLOSED);
+    CHECK(tsc_move(&store, n, &other, &at) == TSC_OK && at == 1 && tsc_close_shared(&store, n, &adds) == TSC_CLOSED);
+    CHECK(answers(&store, 64, "a", 5, 1));
     CHECK(tsc_close_shared(&other, at, &adds) == TSC_STILL_OUT);
-    tsc_free(&place);
+    tsc_free(&store);
     CHECK(tsc_close_shared(&other, at, &adds) == TSC_OK && adds == 1);
     CHECK(tsc_close(&other, 0) == TSC_OK);
     tsc_free(&other);
 
-    /* seats outlive the number of their cache, whose memory goes with the last of them */
-    CHECK(open_shared(&place, 2, 9, &n) == TSC_OK && tsc_move(&place, 2, &other, &at) == TSC_OK);
-    tsc_free(&place);
+    /* seats outlive the handle of their cache, whose memory goes with the last of them */
+    CHECK(open_shared(&store, 2, 9, &n) == TSC_OK && tsc_move(&store, 2, &other, &at) == TSC_OK);
+    tsc_free(&store);
     CHECK(add(&other, at, "a", 1, &seen) == TSC_OK && answers(&other, at, "a", 20, 1));
     CHECK(add(&other, at, "", 1, &seen) == TSC_OK && answers(&other, at, "", 20, 2)); /* the empty key is the first one */
     tsc_free(&other);
 }
 
-/* Threads, each with a place and a seat of its own. */
+/* Threads, each with a store and a seat of its own. */
 
 enum { THREADS = 8, CALLS = 10000, KEYS = 64 };
 
@@ -223,7 +223,7 @@ struct answer {
 };
 
 struct thread {
-    tsc_place place;
+    tsc_store store;
     uint64_t seat, accepted, busy;
     struct entry *history; /* of all threads */
     struct answer answers[CALLS];
@@ -261,8 +261,8 @@ static void *work(void *handed)
             /* who may try four thousand million times is never told that others were in the way */
             uint32_t tries = i % 16 ? 16 : UINT32_MAX;
             uint32_t answer = i % 32 < 16
-                ? tsc_checked_seat_add(&t->place, t->seat, key, 2, NULL, 0, TSC_POINT, &v, &NOW, tries, &at, &added)
-                : tsc_checked_seat_add_all(&t->place, t->seat, key, 2, &mark, 1, &NOW, tries, &at, &added);
+                ? tsc_checked_seat_add(&t->store, t->seat, key, 2, NULL, 0, TSC_POINT, &v, &NOW, tries, &at, &added)
+                : tsc_checked_seat_add_all(&t->store, t->seat, key, 2, &mark, 1, &NOW, tries, &at, &added);
             if (answer == TSC_OK) {
                 /* it is behind all that was seen, at a place of its own, and is seen from now on */
                 t->right = t->right && at >= seen && (t->accepted == 0 || at > last) && takes(t->history, at, (struct entry){k, v});
@@ -281,16 +281,67 @@ static void *work(void *handed)
         } else {
             tsc_value v;
             uint64_t long_;
-            uint32_t answer = tsc_checked_seat_get_max(&t->place, t->seat, key, 2, NULL, 0, TSC_POINT, &long_, &v);
+            uint32_t answer = tsc_checked_seat_get_max(&t->store, t->seat, key, 2, NULL, 0, TSC_POINT, &long_, &v);
             t->right = t->right && answer == TSC_OK && long_ >= seen && v.wall >= latest[k];
             seen = long_;
             latest[k] = v.wall;
             t->answers[t->lookups++] = (struct answer){k, long_, v};
         }
     }
-    t->right = t->right && tsc_seat_close(&t->place, t->seat) == TSC_OK;
-    tsc_free(&t->place);
+    t->right = t->right && tsc_seat_close(&t->store, t->seat) == TSC_OK;
+    tsc_free(&t->store);
     return NULL;
+}
+
+/* Threads whose Adds try so often as no other can be in their way: none is refused as busy. */
+
+enum { EAGER = 4, EAGER_CALLS = 2000 };
+
+struct eager {
+    _Alignas(128) tsc_store store;
+    uint64_t seat;
+    bool right;
+};
+
+static void *adds_eagerly(void *handed)
+{
+    struct eager *t = handed;
+    const tsc_mark mark = {0, 1, 0, 0, READ, TSC_POINT};
+    pthread_barrier_wait(&start);
+    for (int i = 0; i < EAGER_CALLS && t->right; i++) {
+        uint64_t at;
+        tsc_added added;
+        t->right = add(&t->store, t->seat, "a", UINT32_MAX, &at) == TSC_OK &&
+                   tsc_checked_seat_add_all(&t->store, t->seat, "b", 1, &mark, 1, &NOW, UINT32_MAX,
+                                            &at, &added) == TSC_OK;
+    }
+    t->right = t->right && tsc_seat_close(&t->store, t->seat) == TSC_OK;
+    tsc_free(&t->store);
+    return NULL;
+}
+
+static void tries(void)
+{
+    static struct eager all[EAGER];
+    pthread_t running[EAGER];
+    tsc_store store = {NULL};
+    uint64_t n, adds = 77;
+    CHECK(open_shared(&store, EAGER, UINT64_MAX, &n) == TSC_OK);
+    CHECK(pthread_barrier_init(&start, NULL, EAGER) == 0);
+    for (int i = 0; i < EAGER; i++) {
+        all[i].right = true;
+        CHECK(tsc_move(&store, n + 1 + (uint64_t)i, &all[i].store, &all[i].seat) == TSC_OK);
+    }
+    for (int i = 0; i < EAGER; i++)
+        if (pthread_create(&running[i], NULL, adds_eagerly, &all[i]) != 0) {
+            printf("a thread was not started\n");
+            exit(1);
+        }
+    for (int i = 0; i < EAGER; i++)
+        CHECK(pthread_join(running[i], NULL) == 0 && all[i].right);
+    CHECK(pthread_barrier_destroy(&start) == 0);
+    CHECK(tsc_close_shared(&store, n, &adds) == TSC_OK && adds == 2 * EAGER * EAGER_CALLS);
+    tsc_free(&store);
 }
 
 static bool same(const tsc_value *a, const tsc_value *b)
@@ -322,14 +373,14 @@ static void threads(void)
     static struct thread all[THREADS];
     static struct entry history[THREADS * CALLS];
     pthread_t running[THREADS];
-    tsc_place place = {NULL};
+    tsc_store store = {NULL};
     uint64_t n, adds = 77, accepted = 0, busy = 0, lookups = 0;
-    CHECK(tsc_open_shared(&place, 65536, 1 << 20, 2, 10, &LOW, THREADS, (uint64_t)THREADS * CALLS, &n) == TSC_OK);
+    CHECK(tsc_open_shared(&store, 65536, 1 << 20, 2, 10, &LOW, THREADS, (uint64_t)THREADS * CALLS, &n) == TSC_OK);
     for (int i = 0; i < THREADS; i++) {
         all[i].history = history;
         all[i].right = true;
         all[i].number = i;
-        CHECK(tsc_move(&place, n + 1 + (uint64_t)i, &all[i].place, &all[i].seat) == TSC_OK);
+        CHECK(tsc_move(&store, n + 1 + (uint64_t)i, &all[i].store, &all[i].seat) == TSC_OK);
     }
     CHECK(pthread_barrier_init(&start, NULL, THREADS) == 0);
     for (int i = 0; i < THREADS; i++)
@@ -349,8 +400,8 @@ static void threads(void)
     CHECK(each && accepted > 0);
     for (int i = 0; i < THREADS; i++)
         CHECK(as_in_history(&all[i], history, accepted));
-    CHECK(tsc_close_shared(&place, n, &adds) == TSC_OK && adds == accepted);
-    tsc_free(&place);
+    CHECK(tsc_close_shared(&store, n, &adds) == TSC_OK && adds == accepted);
+    tsc_free(&store);
     printf("%d threads made %d calls each: %" PRIu64 " Adds, %" PRIu64 " that others were in the way of, and %" PRIu64 " lookups\n", THREADS, CALLS, accepted, busy, lookups);
 }
 
@@ -360,6 +411,7 @@ int main(void)
     nulls();
     figures();
     refusals();
+    tries();
     threads();
     printf("%d passed, %d failed\n", passed, failed);
     return failed != 0;

@@ -81,18 +81,18 @@ static struct span span_of(const char *text)
     return s;
 }
 
-/* One cache with its place, and calls on it by text. */
+/* One cache with its store, and calls on it by text. */
 
 struct cache {
-    tsc_place place;
-    uint64_t number;
+    tsc_store store;
+    uint64_t handle;
 };
 
 static struct cache open_cache(uint32_t page_first, uint32_t page_max, uint32_t min_pages)
 {
     struct cache c = {{NULL}, 77};
     tsc_time low = {5, 0};
-    CHECK(tsc_open(&c.place, page_first, page_max, min_pages, 10, &low, &c.number) == TSC_OK);
+    CHECK(tsc_open(&c.store, page_first, page_max, min_pages, 10, &low, &c.handle) == TSC_OK);
     return c;
 }
 
@@ -101,7 +101,7 @@ static uint32_t add_at(struct cache *c, const char *text, uint64_t wall, uint32_
     struct span s = span_of(text);
     tsc_value v = {wall, logical, {0}};
     put_owner(owner, v.owner);
-    return tsc_checked_add(&c->place, c->number, s.from, s.from_len, s.to, s.to_len, s.ends, &v, &now, added);
+    return tsc_checked_add(&c->store, c->handle, s.from, s.from_len, s.to, s.to_len, s.ends, &v, &now, added);
 }
 
 static bool adds_at(struct cache *c, const char *text, uint64_t wall, char owner, tsc_time now, bool kept, bool rotated, uint64_t evicted)
@@ -140,7 +140,7 @@ static bool answers(struct cache *c, const char *text, uint64_t wall, uint32_t l
 {
     struct span s = span_of(text);
     tsc_value v = {1, 1, {1}};
-    uint32_t answer = tsc_checked_get_max(&c->place, c->number, s.from, s.from_len, s.to, s.to_len, s.ends, &v);
+    uint32_t answer = tsc_checked_get_max(&c->store, c->handle, s.from, s.from_len, s.to, s.to_len, s.ends, &v);
     return answer == TSC_OK && v.wall == wall && v.logical == logical && owner_name(v.owner) == owner;
 }
 
@@ -148,15 +148,15 @@ static bool has(struct cache *c, uint64_t pages, uint64_t rotations, uint64_t wa
 {
     tsc_figures f;
     tsc_time floor;
-    return tsc_figures_of(&c->place, c->number, &f) == TSC_OK && f.pages == pages && f.rotations == rotations
-        && tsc_low_water(&c->place, c->number, &floor) == TSC_OK && floor.wall == wall && floor.logical == logical;
+    return tsc_figures_of(&c->store, c->handle, &f) == TSC_OK && f.pages == pages && f.rotations == rotations
+        && tsc_low_water(&c->store, c->handle, &floor) == TSC_OK && floor.wall == wall && floor.logical == logical;
 }
 
 /* How many keys the pages hold, each counted once for each page, and what they cost. */
 static bool counts(struct cache *c, uint64_t nodes, uint64_t bytes)
 {
     tsc_figures f = {99, 99, 99, 99};
-    return tsc_figures_of(&c->place, c->number, &f) == TSC_OK && f.nodes == nodes && f.bytes == bytes;
+    return tsc_figures_of(&c->store, c->handle, &f) == TSC_OK && f.nodes == nodes && f.bytes == bytes;
 }
 
 static const tsc_time AT_20 = {20, 0}, AT_40 = {40, 0}, AT_80 = {80, 0};
@@ -168,63 +168,63 @@ static void rows_of_spans(void)
     CHECK(answers(&c, "a", 5, 0, '-') && has(&c, 1, 0, 5, 0)); /* nothing was read */
     CHECK(adds(&c, "[a,c)", 20, 'A'));
     CHECK(answers(&c, "a", 20, 0, 'A') && answers(&c, "b", 20, 0, 'A') && answers(&c, "c", 5, 0, '-'));
-    tsc_free(&c.place);
+    tsc_free(&c.store);
 
     c = open_cache(132, 132, 2); /* two transactions at one time: nobody owns it */
     CHECK(adds(&c, "a", 20, 'A') && adds(&c, "a", 20, 'B') && answers(&c, "a", 20, 0, '-'));
-    tsc_free(&c.place);
+    tsc_free(&c.store);
     c = open_cache(132, 132, 2); /* one that reads again keeps its own */
     CHECK(adds(&c, "a", 20, 'A') && adds(&c, "a", 20, 'A') && answers(&c, "a", 20, 0, 'A'));
-    tsc_free(&c.place);
+    tsc_free(&c.store);
     c = open_cache(132, 132, 2);
     CHECK(adds(&c, "[a,c)", 20, 'A') && adds(&c, "[b,d)", 20, 'B'));
     CHECK(answers(&c, "a", 20, 0, 'A') && answers(&c, "b", 20, 0, '-') && answers(&c, "c", 20, 0, 'B') && answers(&c, "[a,d)", 20, 0, '-'));
-    tsc_free(&c.place);
+    tsc_free(&c.store);
     c = open_cache(132, 132, 2);
     CHECK(adds(&c, "a", 20, '-') && adds(&c, "a", 20, 'A') && answers(&c, "a", 20, 0, '-'));
-    tsc_free(&c.place);
+    tsc_free(&c.store);
 
     c = open_cache(132, 132, 2); /* a time on the floor is not kept, and one logical step above it is */
     tsc_added a;
     CHECK(adds_at(&c, "a", 5, 'A', AT_20, false, false, 0));
     CHECK(add_at(&c, "a", 5, 1, 'A', AT_20, &a) == TSC_OK && a.kept && answers(&c, "a", 5, 1, 'A'));
-    tsc_free(&c.place);
+    tsc_free(&c.store);
 
     c = open_cache(132, 132, 2); /* excluded ends */
     CHECK(adds(&c, "(a,c)", 20, 'A'));
     CHECK(answers(&c, "a", 5, 0, '-') && answers(&c, "b", 20, 0, 'A') && answers(&c, "c", 5, 0, '-'));
-    tsc_free(&c.place);
+    tsc_free(&c.store);
     c = open_cache(132, 132, 2); /* the gap between a and the next key holds no key, and is not empty */
     tsc_value v = {20, 0, {0}};
     put_owner('A', v.owner);
-    CHECK(tsc_checked_add(&c.place, c.number, "a", 1, "a", 2, TSC_EXCLUDE_FROM | TSC_EXCLUDE_TO, &v, &AT_20, &a) == TSC_OK && a.kept);
-    CHECK(tsc_checked_get_max(&c.place, c.number, "a", 1, "a", 2, TSC_EXCLUDE_FROM | TSC_EXCLUDE_TO, &v) == TSC_OK && v.wall == 20);
-    CHECK(tsc_checked_get_max(&c.place, c.number, "a", 1, NULL, 0, TSC_POINT, &v) == TSC_OK && v.wall == 5);
-    CHECK(tsc_checked_get_max(&c.place, c.number, "a", 2, NULL, 0, TSC_POINT, &v) == TSC_OK && v.wall == 5);
-    CHECK(tsc_checked_get_max(&c.place, c.number, "a", 1, "a", 2, 0, &v) == TSC_OK && v.wall == 20 && owner_name(v.owner) == 'A');
-    tsc_free(&c.place);
+    CHECK(tsc_checked_add(&c.store, c.handle, "a", 1, "a", 2, TSC_EXCLUDE_FROM | TSC_EXCLUDE_TO, &v, &AT_20, &a) == TSC_OK && a.kept);
+    CHECK(tsc_checked_get_max(&c.store, c.handle, "a", 1, "a", 2, TSC_EXCLUDE_FROM | TSC_EXCLUDE_TO, &v) == TSC_OK && v.wall == 20);
+    CHECK(tsc_checked_get_max(&c.store, c.handle, "a", 1, NULL, 0, TSC_POINT, &v) == TSC_OK && v.wall == 5);
+    CHECK(tsc_checked_get_max(&c.store, c.handle, "a", 2, NULL, 0, TSC_POINT, &v) == TSC_OK && v.wall == 5);
+    CHECK(tsc_checked_get_max(&c.store, c.handle, "a", 1, "a", 2, 0, &v) == TSC_OK && v.wall == 20 && owner_name(v.owner) == 'A');
+    tsc_free(&c.store);
 
     c = open_cache(132, 132, 2); /* equal ends: the key, unless both are excluded */
     CHECK(adds(&c, "[a,a)", 20, 'A') && answers(&c, "a", 20, 0, 'A') && answers(&c, "(a,a)", 5, 0, '-'));
-    tsc_free(&c.place);
+    tsc_free(&c.store);
     c = open_cache(132, 132, 2);
     CHECK(adds_at(&c, "(a,a)", 20, 'A', AT_20, false, false, 0) && answers(&c, "a", 5, 0, '-'));
-    tsc_free(&c.place);
+    tsc_free(&c.store);
 
     c = open_cache(132, 132, 2); /* the empty key is the first one */
     CHECK(adds(&c, "[,a)", 20, 'A') && answers(&c, "[,a)", 20, 0, 'A') && answers(&c, "a", 5, 0, '-') && adds(&c, "", 30, 'B') && answers(&c, "", 30, 0, 'B'));
-    tsc_free(&c.place);
+    tsc_free(&c.store);
 
     c = open_cache(132, 132, 2); /* without an end */
     CHECK(adds(&c, "[m..", 20, 'A') && answers(&c, "\xff", 20, 0, 'A') && answers(&c, "m", 20, 0, 'A') && answers(&c, "l", 5, 0, '-') && answers(&c, "[z..", 20, 0, 'A'));
     CHECK(adds(&c, "(k..", 20, 'A') && answers(&c, "k", 5, 0, '-') && answers(&c, "l", 20, 0, 'A') && answers(&c, "(k..", 20, 0, 'A'));
-    tsc_free(&c.place);
+    tsc_free(&c.store);
 
     c = open_cache(132, 132, 2); /* an inverted lookup is the empty span */
     CHECK(adds(&c, "[a,c]", 20, 'A') && answers(&c, "[c,a)", 5, 0, '-'));
     CHECK(add_at(&c, "a", UINT64_C(9223372036854775807), UINT32_C(2147483647), 'A', AT_20, &a) == TSC_OK && a.kept);
     CHECK(answers(&c, "a", UINT64_C(9223372036854775807), UINT32_C(2147483647), 'A'));
-    tsc_free(&c.place);
+    tsc_free(&c.store);
 }
 
 /* Pages that fill, rotate and are dropped. Four keys of one byte fill 132 bytes. */
@@ -236,43 +236,43 @@ static void rows_of_pages(void)
     CHECK(adds_keys(&c, "fgh", 41, AT_40) && adds_at(&c, "i", 41, 'A', AT_40, true, true, 1)); /* the first is past its retention */
     CHECK(has(&c, 2, 2, 20, 0) && answers(&c, "a", 20, 0, '-') && answers(&c, "e", 20, 0, 'A') == false && answers(&c, "f", 41, 0, 'A'));
     CHECK(answers(&c, "e", 20, 0, '-'));
-    tsc_free(&c.place);
+    tsc_free(&c.store);
 
     c = open_cache(132, 132, 2); /* a top on the limit stays, and goes one logical step later */
     CHECK(adds_keys(&c, "abcde", 30, AT_20) && adds_keys(&c, "fgh", 41, AT_40) && adds_at(&c, "i", 41, 'A', AT_40, true, true, 0));
     CHECK(has(&c, 3, 2, 5, 0) && answers(&c, "a", 30, 0, 'A'));
-    tsc_free(&c.place);
+    tsc_free(&c.store);
     c = open_cache(132, 132, 2);
     CHECK(adds_keys(&c, "abcde", 30, AT_20) && adds_keys(&c, "fgh", 41, AT_40) && adds_at(&c, "i", 41, 'A', (tsc_time){40, 1}, true, true, 1));
     CHECK(has(&c, 2, 2, 30, 0) && answers(&c, "a", 30, 0, '-'));
-    tsc_free(&c.place);
+    tsc_free(&c.store);
 
     c = open_cache(132, 132, 2); /* a moment below the retention drops nothing */
     CHECK(adds_keys(&c, "abcdefgh", 20, AT_20) && adds_at(&c, "i", 20, 'A', (tsc_time){9, 0}, true, true, 0) && has(&c, 3, 2, 5, 0));
-    tsc_free(&c.place);
+    tsc_free(&c.store);
 
     c = open_cache(132, 132, 2); /* a page begins with the top of the one before it */
     CHECK(adds_keys(&c, "abcd", 50, AT_20) && adds_keys(&c, "e", 20, AT_20) && has(&c, 2, 1, 5, 0) && adds_keys(&c, "fgh", 20, AT_20) && has(&c, 2, 1, 5, 0));
     CHECK(adds_at(&c, "i", 60, 'A', AT_80, true, true, 1) && has(&c, 2, 2, 50, 0));
     CHECK(adds_keys(&c, "jkl", 60, AT_80) && adds_at(&c, "m", 60, 'A', AT_40, true, true, 0) && has(&c, 3, 3, 50, 0) && answers(&c, "e", 50, 0, '-'));
-    tsc_free(&c.place);
+    tsc_free(&c.store);
 
     c = open_cache(132, 132, 2); /* what is late stands on an older page too */
     CHECK(adds_keys(&c, "abcd", 50, AT_20) && adds_keys(&c, "efgh", 20, AT_20) && adds_at(&c, "i", 30, 'A', AT_20, true, true, 0) && has(&c, 3, 2, 5, 0));
     CHECK(answers(&c, "[a,z)", 50, 0, 'A') && answers(&c, "[e,z)", 30, 0, 'A'));
-    tsc_free(&c.place);
+    tsc_free(&c.store);
 
     c = open_cache(66, 66, 1); /* the only page goes, and the floor rises to its top */
     CHECK(adds_keys(&c, "ab", 20, AT_20) && adds_at(&c, "c", 40, 'A', AT_40, true, true, 1) && has(&c, 1, 1, 20, 0));
     CHECK(answers(&c, "a", 20, 0, '-') && answers(&c, "c", 40, 0, 'A'));
-    tsc_free(&c.place);
+    tsc_free(&c.store);
     c = open_cache(66, 66, 1); /* what stands below the new floor is answered by it */
     CHECK(adds_keys(&c, "ab", 20, AT_20) && adds_at(&c, "c", 15, 'A', AT_40, true, true, 1) && has(&c, 1, 1, 20, 0) && answers(&c, "c", 20, 0, '-'));
-    tsc_free(&c.place);
+    tsc_free(&c.store);
 
     c = open_cache(66, 264, 2); /* pages grow, each twice as large as the one before, up to the largest */
     CHECK(adds_keys(&c, "abcdefghijklmno", 20, AT_20) && has(&c, 4, 3, 5, 0) && counts(&c, 15, 495));
-    tsc_free(&c.place);
+    tsc_free(&c.store);
 }
 
 /* How many keys all pages hold, and what they cost. Four keys of one byte fill 132 bytes. */
@@ -286,7 +286,7 @@ static void rows_of_figures(void)
     CHECK(adds(&c, "ccc", 20, 'A') && counts(&c, 3, 101));
     CHECK(adds_at(&c, "[a,d)", 20, 'A', AT_20, true, true, 0) && counts(&c, 5, 167) && has(&c, 2, 1, 5, 0)); /* the key of two pages counts twice */
     CHECK(adds_keys(&c, "ef", 41, AT_40) && adds_at(&c, "g", 41, 'A', AT_40, true, true, 1) && counts(&c, 5, 165) && has(&c, 2, 2, 21, 0)); /* a page is dropped */
-    tsc_free(&c.place);
+    tsc_free(&c.store);
 }
 
 /* Several marks at once. */
@@ -299,39 +299,39 @@ static void batches(void)
     put_owner('B', marks[1].value.owner);
     put_owner('B', marks[2].value.owner);
     tsc_added a;
-    CHECK(tsc_checked_add_all(&c.place, c.number, keys, 3, marks, 3, &AT_20, &a) == TSC_OK && a.kept && !a.rotated && a.evicted == 0);
+    CHECK(tsc_checked_add_all(&c.store, c.handle, keys, 3, marks, 3, &AT_20, &a) == TSC_OK && a.kept && !a.rotated && a.evicted == 0);
     CHECK(answers(&c, "a", 20, 0, '-') && answers(&c, "b", 20, 0, 'B') && answers(&c, "c", 5, 0, '-'));
-    CHECK(tsc_checked_add_all(&c.place, c.number, NULL, 0, NULL, 0, &AT_20, &a) == TSC_OK && !a.kept && !a.rotated && a.evicted == 0);
+    CHECK(tsc_checked_add_all(&c.store, c.handle, NULL, 0, NULL, 0, &AT_20, &a) == TSC_OK && !a.kept && !a.rotated && a.evicted == 0);
 
     /* all or none: the second mark is refused, so the first is not there */
     marks[0] = (tsc_mark){2, 1, 0, 0, {30, 0, {0}}, TSC_POINT};
     tsc_added before = {7, true, true};
     a = before;
     marks[1].from_at = 4;
-    CHECK(tsc_checked_add_all(&c.place, c.number, keys, 3, marks, 2, &AT_20, &a) == TSC_OUTSIDE);
+    CHECK(tsc_checked_add_all(&c.store, c.handle, keys, 3, marks, 2, &AT_20, &a) == TSC_OUTSIDE);
     marks[1].from_at = SIZE_MAX;
-    CHECK(tsc_checked_add_all(&c.place, c.number, keys, 3, marks, 2, &AT_20, &a) == TSC_OUTSIDE);
+    CHECK(tsc_checked_add_all(&c.store, c.handle, keys, 3, marks, 2, &AT_20, &a) == TSC_OUTSIDE);
     marks[1] = (tsc_mark){1, SIZE_MAX, 0, 0, {30, 0, {0}}, TSC_POINT};
-    CHECK(tsc_checked_add_all(&c.place, c.number, keys, 3, marks, 2, &AT_20, &a) == TSC_OUTSIDE);
+    CHECK(tsc_checked_add_all(&c.store, c.handle, keys, 3, marks, 2, &AT_20, &a) == TSC_OUTSIDE);
     marks[1] = (tsc_mark){1, 1, 3, 1, {30, 0, {0}}, TSC_POINT};
-    CHECK(tsc_checked_add_all(&c.place, c.number, keys, 3, marks, 2, &AT_20, &a) == TSC_OUTSIDE);
+    CHECK(tsc_checked_add_all(&c.store, c.handle, keys, 3, marks, 2, &AT_20, &a) == TSC_OUTSIDE);
     marks[1] = (tsc_mark){1, 1, 0, 1, {30, 0, {0}}, 0};
-    CHECK(tsc_checked_add_all(&c.place, c.number, keys, 3, marks, 2, &AT_20, &a) == TSC_INVERTED);
+    CHECK(tsc_checked_add_all(&c.store, c.handle, keys, 3, marks, 2, &AT_20, &a) == TSC_INVERTED);
     marks[1].ends = 6;
-    CHECK(tsc_checked_add_all(&c.place, c.number, keys, 3, marks, 2, &AT_20, &a) == TSC_ENDS);
+    CHECK(tsc_checked_add_all(&c.store, c.handle, keys, 3, marks, 2, &AT_20, &a) == TSC_ENDS);
     marks[1] = (tsc_mark){1, 1, 0, 0, {30, UINT32_C(1) << 31, {0}}, TSC_POINT};
-    CHECK(tsc_checked_add_all(&c.place, c.number, keys, 3, marks, 2, &AT_20, &a) == TSC_TIME);
+    CHECK(tsc_checked_add_all(&c.store, c.handle, keys, 3, marks, 2, &AT_20, &a) == TSC_TIME);
     marks[1].value.logical = 0;
-    CHECK(tsc_checked_add_all(&c.place, c.number, keys, 3, marks, 2, &(tsc_time){UINT64_MAX, 0}, &a) == TSC_TIME);
+    CHECK(tsc_checked_add_all(&c.store, c.handle, keys, 3, marks, 2, &(tsc_time){UINT64_MAX, 0}, &a) == TSC_TIME);
     static uint8_t long_key[5000];
     marks[1].from_at = 3;
     marks[1].from_len = 4097;
-    CHECK(tsc_checked_add_all(&c.place, c.number, long_key, 5000, marks, 2, &AT_20, &a) == TSC_KEY_TOO_LONG);
+    CHECK(tsc_checked_add_all(&c.store, c.handle, long_key, 5000, marks, 2, &AT_20, &a) == TSC_KEY_TOO_LONG);
     marks[1].from_len = 101;
-    CHECK(tsc_checked_add_all(&c.place, c.number, long_key, 5000, marks, 2, &AT_20, &a) == TSC_TOO_LARGE);
-    CHECK(tsc_checked_add_all(&c.place, c.number, NULL, 1, marks, 2, &AT_20, &a) == TSC_NULL);
-    CHECK(tsc_checked_add_all(&c.place, c.number, keys, 3, NULL, 2, &AT_20, &a) == TSC_NULL);
-    CHECK(tsc_checked_add_all(&c.place, c.number + 1, keys, 3, marks, 2, &AT_20, &a) == TSC_CLOSED);
+    CHECK(tsc_checked_add_all(&c.store, c.handle, long_key, 5000, marks, 2, &AT_20, &a) == TSC_TOO_LARGE);
+    CHECK(tsc_checked_add_all(&c.store, c.handle, NULL, 1, marks, 2, &AT_20, &a) == TSC_NULL);
+    CHECK(tsc_checked_add_all(&c.store, c.handle, keys, 3, NULL, 2, &AT_20, &a) == TSC_NULL);
+    CHECK(tsc_checked_add_all(&c.store, c.handle + 1, keys, 3, marks, 2, &AT_20, &a) == TSC_CLOSED);
     CHECK(memcmp(&a, &before, sizeof a.evicted) == 0 && a.kept && a.rotated);
     CHECK(answers(&c, "c", 5, 0, '-') && has(&c, 1, 0, 5, 0));
 
@@ -340,13 +340,13 @@ static void batches(void)
     tsc_mark three[3] = {{0, 1, 0, 0, {20, 0, {0}}, TSC_POINT}, {1, 1, 0, 0, {20, 0, {0}}, TSC_POINT}, {2, 1, 0, 0, {40, 0, {0}}, TSC_POINT}};
     for (int i = 0; i < 3; i++)
         put_owner('A', three[i].value.owner);
-    CHECK(tsc_checked_add_all(&d.place, d.number, keys, 3, three, 3, &AT_40, &a) == TSC_OK && a.kept && a.rotated && a.evicted == 1);
+    CHECK(tsc_checked_add_all(&d.store, d.handle, keys, 3, three, 3, &AT_40, &a) == TSC_OK && a.kept && a.rotated && a.evicted == 1);
     CHECK(has(&d, 1, 1, 20, 0) && answers(&d, "a", 20, 0, '-') && answers(&d, "c", 40, 0, 'A'));
-    tsc_free(&d.place);
-    tsc_free(&c.place);
+    tsc_free(&d.store);
+    tsc_free(&c.store);
 }
 
-/* There is no limit to the caches of a place, nor to the marks of a batch, and settings may be as large as they say. */
+/* There is no limit to the caches of a store, nor to the marks of a batch, and settings may be as large as they say. */
 static void limits(void)
 {
     enum { CACHES = 70000, MARKS = 5000 };
@@ -354,11 +354,11 @@ static void limits(void)
     tsc_time low = {5, 0};
     uint64_t n = 0, wrong = 0;
     for (uint64_t i = 1; i < CACHES; i++)
-        wrong += tsc_open(&c.place, 132, 132, 2, 10, &low, &n) != TSC_OK || n != i;
+        wrong += tsc_open(&c.store, 132, 132, 2, 10, &low, &n) != TSC_OK || n != i;
     CHECK(wrong == 0 && adds(&c, "a", 20, 'A'));
-    c.number = n;
+    c.handle = n;
     CHECK(answers(&c, "a", 5, 0, '-') && adds(&c, "a", 30, 'A') && answers(&c, "a", 30, 0, 'A'));
-    tsc_free(&c.place);
+    tsc_free(&c.store);
 
     c = open_cache(UINT32_C(1) << 30, UINT32_C(1) << 30, 64);
     CHECK(adds(&c, "a", 20, 'A') && answers(&c, "a", 20, 0, 'A') && has(&c, 1, 0, 5, 0));
@@ -372,17 +372,17 @@ static void limits(void)
     tsc_added a;
     tsc_value v;
     uint64_t at = 77, seen = 77;
-    CHECK(tsc_checked_add_all(&c.place, c.number, keys, sizeof keys, marks, MARKS, &AT_20, &a) == TSC_OK && a.kept && !a.rotated);
-    CHECK(tsc_checked_get_max(&c.place, c.number, keys + 2, 2, NULL, 0, TSC_POINT, &v) == TSC_OK && v.wall == 101);
+    CHECK(tsc_checked_add_all(&c.store, c.handle, keys, sizeof keys, marks, MARKS, &AT_20, &a) == TSC_OK && a.kept && !a.rotated);
+    CHECK(tsc_checked_get_max(&c.store, c.handle, keys + 2, 2, NULL, 0, TSC_POINT, &v) == TSC_OK && v.wall == 101);
     CHECK(answers(&c, "[,z)", 100 + MARKS - 1, 0, '-'));
-    CHECK(tsc_open_shared(&c.place, UINT32_C(1) << 30, UINT32_C(1) << 30, 64, (UINT64_C(1) << 63) - 1, &low, 1, UINT64_MAX, &n) == TSC_OK);
-    CHECK(tsc_checked_seat_add_all(&c.place, n + 1, keys, sizeof keys, marks, MARKS, &AT_20, 1, &at, &a) == TSC_OK && at == 0 && a.kept && !a.rotated);
-    CHECK(tsc_checked_seat_get_max(&c.place, n + 1, keys + 2, 2, NULL, 0, TSC_POINT, &seen, &v) == TSC_OK && v.wall == 101 && seen == 1);
+    CHECK(tsc_open_shared(&c.store, UINT32_C(1) << 30, UINT32_C(1) << 30, 64, (UINT64_C(1) << 63) - 1, &low, 1, UINT64_MAX, &n) == TSC_OK);
+    CHECK(tsc_checked_seat_add_all(&c.store, n + 1, keys, sizeof keys, marks, MARKS, &AT_20, 1, &at, &a) == TSC_OK && at == 0 && a.kept && !a.rotated);
+    CHECK(tsc_checked_seat_get_max(&c.store, n + 1, keys + 2, 2, NULL, 0, TSC_POINT, &seen, &v) == TSC_OK && v.wall == 101 && seen == 1);
     static uint8_t longest_key[4096];
     v = (tsc_value){6000, 0, {0}};
-    CHECK(tsc_checked_add(&c.place, c.number, longest_key, 4096, NULL, 0, TSC_POINT, &v, &AT_20, &a) == TSC_OK && a.kept);
-    CHECK(tsc_checked_seat_add(&c.place, n + 1, longest_key, 4096, NULL, 0, TSC_POINT, &v, &AT_20, 1, &at, &a) == TSC_OK && at == 1 && a.kept);
-    tsc_free(&c.place);
+    CHECK(tsc_checked_add(&c.store, c.handle, longest_key, 4096, NULL, 0, TSC_POINT, &v, &AT_20, &a) == TSC_OK && a.kept);
+    CHECK(tsc_checked_seat_add(&c.store, n + 1, longest_key, 4096, NULL, 0, TSC_POINT, &v, &AT_20, 1, &at, &a) == TSC_OK && at == 1 && a.kept);
+    tsc_free(&c.store);
 }
 
 /* A page grows as far as its size goes. Some two million keys have it one list higher than 66,593 do. It takes 700 MB, and more under sanitizers, so it is left out there. */
@@ -400,66 +400,66 @@ static void large_page(void)
             for (int byte = 0; byte < 4; byte++)
                 key[byte] = (uint8_t)(i >> (24 - 8 * byte));
             tsc_value read = {20 + i % 1000, 0, {0}};
-            wrong += round == 0 ? tsc_checked_add(&c.place, c.number, key, 4, NULL, 0, TSC_POINT, &read, &AT_20, &a) != TSC_OK
-                                : tsc_checked_get_max(&c.place, c.number, key, 4, NULL, 0, TSC_POINT, &v) != TSC_OK || v.wall != read.wall;
+            wrong += round == 0 ? tsc_checked_add(&c.store, c.handle, key, 4, NULL, 0, TSC_POINT, &read, &AT_20, &a) != TSC_OK
+                                : tsc_checked_get_max(&c.store, c.handle, key, 4, NULL, 0, TSC_POINT, &v) != TSC_OK || v.wall != read.wall;
         }
     CHECK(wrong == 0 && has(&c, 1, 0, 5, 0) && answers(&c, "[,z)", 20 + 999, 0, '-'));
-    tsc_free(&c.place);
+    tsc_free(&c.store);
 #endif
 }
 
 /* Each refusal, by its own code, and that nothing is changed. */
 static void refusals(void)
 {
-    tsc_place place = {NULL};
+    tsc_store store = {NULL};
     uint64_t n = 77;
     tsc_time low = {5, 0};
-    CHECK(tsc_open(&place, 63, 132, 2, 10, &low, &n) == TSC_PAGE_SIZE && tsc_open(&place, 132, 131, 2, 10, &low, &n) == TSC_PAGE_SIZE);
-    CHECK(tsc_open(&place, 64, (UINT32_C(1) << 30) + 1, 2, 10, &low, &n) == TSC_PAGE_SIZE);
-    CHECK(tsc_open(&place, 132, 132, 0, 10, &low, &n) == TSC_MIN_PAGES && tsc_open(&place, 132, 132, 65, 10, &low, &n) == TSC_MIN_PAGES);
-    CHECK(tsc_open(&place, 132, 132, 2, UINT64_C(1) << 63, &low, &n) == TSC_RETENTION);
-    CHECK(tsc_open(&place, 132, 132, 2, 10, &(tsc_time){UINT64_C(1) << 63, 0}, &n) == TSC_TIME);
-    CHECK(tsc_open(&place, 132, 132, 2, 10, &(tsc_time){0, UINT32_C(1) << 31}, &n) == TSC_TIME);
-    CHECK(n == 77 && place.at == NULL);
-    tsc_free(&place); /* zeros own nothing */
+    CHECK(tsc_open(&store, 63, 132, 2, 10, &low, &n) == TSC_PAGE_SIZE && tsc_open(&store, 132, 131, 2, 10, &low, &n) == TSC_PAGE_SIZE);
+    CHECK(tsc_open(&store, 64, (UINT32_C(1) << 30) + 1, 2, 10, &low, &n) == TSC_PAGE_SIZE);
+    CHECK(tsc_open(&store, 132, 132, 0, 10, &low, &n) == TSC_MIN_PAGES && tsc_open(&store, 132, 132, 65, 10, &low, &n) == TSC_MIN_PAGES);
+    CHECK(tsc_open(&store, 132, 132, 2, UINT64_C(1) << 63, &low, &n) == TSC_RETENTION);
+    CHECK(tsc_open(&store, 132, 132, 2, 10, &(tsc_time){UINT64_C(1) << 63, 0}, &n) == TSC_TIME);
+    CHECK(tsc_open(&store, 132, 132, 2, 10, &(tsc_time){0, UINT32_C(1) << 31}, &n) == TSC_TIME);
+    CHECK(n == 77 && store.at == NULL);
+    tsc_free(&store); /* zeros own nothing */
 
     struct cache c = open_cache(132, 132, 2);
     CHECK(adds(&c, "a", 20, 'A'));
     static uint8_t long_key[4097];
     tsc_value v = {20, 0, {0}}, out = {1, 2, {3}};
     tsc_added a = {99, true, true};
-    CHECK(tsc_checked_add(&c.place, c.number, long_key, 4097, NULL, 0, TSC_ONWARD, &v, &AT_20, &a) == TSC_KEY_TOO_LONG);
-    CHECK(tsc_checked_add(&c.place, c.number, "a", 1, long_key, 4097, TSC_EXCLUDE_TO, &v, &AT_20, &a) == TSC_KEY_TOO_LONG);
-    CHECK(tsc_checked_add(&c.place, c.number, "c", 1, "a", 1, TSC_EXCLUDE_TO, &v, &AT_20, &a) == TSC_INVERTED);
-    CHECK(tsc_checked_add(&c.place, c.number, long_key, 4096, NULL, 0, TSC_POINT, &v, &AT_20, &a) == TSC_TOO_LARGE);
+    CHECK(tsc_checked_add(&c.store, c.handle, long_key, 4097, NULL, 0, TSC_ONWARD, &v, &AT_20, &a) == TSC_KEY_TOO_LONG);
+    CHECK(tsc_checked_add(&c.store, c.handle, "a", 1, long_key, 4097, TSC_EXCLUDE_TO, &v, &AT_20, &a) == TSC_KEY_TOO_LONG);
+    CHECK(tsc_checked_add(&c.store, c.handle, "c", 1, "a", 1, TSC_EXCLUDE_TO, &v, &AT_20, &a) == TSC_INVERTED);
+    CHECK(tsc_checked_add(&c.store, c.handle, long_key, 4096, NULL, 0, TSC_POINT, &v, &AT_20, &a) == TSC_TOO_LARGE);
     for (uint32_t ends = 0; ends < 64; ends++) {
         bool known = ends <= 5 || ends == 8;
-        CHECK((tsc_checked_get_max(&c.place, c.number, "b", 1, "c", 1, ends, &v) == TSC_ENDS) == !known);
-        CHECK((tsc_checked_add(&c.place, c.number, "b", 1, "c", 1, ends, &v, &AT_20, &a) == TSC_ENDS) == !known);
+        CHECK((tsc_checked_get_max(&c.store, c.handle, "b", 1, "c", 1, ends, &v) == TSC_ENDS) == !known);
+        CHECK((tsc_checked_add(&c.store, c.handle, "b", 1, "c", 1, ends, &v, &AT_20, &a) == TSC_ENDS) == !known);
     }
-    CHECK(tsc_checked_get_max(&c.place, c.number, "b", 1, "c", 1, UINT32_MAX, &out) == TSC_ENDS);
+    CHECK(tsc_checked_get_max(&c.store, c.handle, "b", 1, "c", 1, UINT32_MAX, &out) == TSC_ENDS);
     v = (tsc_value){UINT64_MAX, 0, {0}};
     a = (tsc_added){99, true, true};
-    CHECK(tsc_checked_add(&c.place, c.number, "b", 1, NULL, 0, TSC_POINT, &v, &AT_20, &a) == TSC_TIME);
+    CHECK(tsc_checked_add(&c.store, c.handle, "b", 1, NULL, 0, TSC_POINT, &v, &AT_20, &a) == TSC_TIME);
     v = (tsc_value){20, UINT32_MAX, {0}};
-    CHECK(tsc_checked_add(&c.place, c.number, "b", 1, NULL, 0, TSC_POINT, &v, &AT_20, &a) == TSC_TIME);
+    CHECK(tsc_checked_add(&c.store, c.handle, "b", 1, NULL, 0, TSC_POINT, &v, &AT_20, &a) == TSC_TIME);
     v.logical = 0;
-    CHECK(tsc_checked_add(&c.place, c.number, "b", 1, NULL, 0, TSC_POINT, &v, &(tsc_time){UINT64_MAX, 0}, &a) == TSC_TIME);
+    CHECK(tsc_checked_add(&c.store, c.handle, "b", 1, NULL, 0, TSC_POINT, &v, &(tsc_time){UINT64_MAX, 0}, &a) == TSC_TIME);
     CHECK(a.evicted == 99 && a.kept && a.rotated && out.wall == 1 && out.logical == 2 && out.owner[0] == 3);
     CHECK(answers(&c, "a", 20, 0, 'A') && has(&c, 1, 0, 5, 0));
-    CHECK(answers(&c, "[,a)", 20, 0, '-') == false && tsc_checked_get_max(&c.place, c.number, NULL, 0, NULL, 0, TSC_POINT, &v) == TSC_OK);
-    CHECK(strcmp(tsc_text(TSC_CLOSED), "the number names nothing of this kind") == 0 && strcmp(tsc_text(1000), "no such answer") == 0);
+    CHECK(answers(&c, "[,a)", 20, 0, '-') == false && tsc_checked_get_max(&c.store, c.handle, NULL, 0, NULL, 0, TSC_POINT, &v) == TSC_OK);
+    CHECK(strcmp(tsc_text(TSC_CLOSED), "the handle names nothing of this kind") == 0 && strcmp(tsc_text(1000), "no such answer") == 0);
     v = (tsc_value){20, 0, {0}};
-    CHECK(tsc_checked_add(&c.place, c.number, "x", 1, long_key, 4097, TSC_POINT, &v, &AT_20, &a) == TSC_OK && a.kept); /* the second key is passed over */
-    CHECK(tsc_checked_add(&c.place, c.number, "y", 1, long_key, 4097, TSC_ONWARD, &v, &AT_20, &a) == TSC_OK && a.kept);
-    tsc_free(&c.place);
+    CHECK(tsc_checked_add(&c.store, c.handle, "x", 1, long_key, 4097, TSC_POINT, &v, &AT_20, &a) == TSC_OK && a.kept); /* the second key is passed over */
+    CHECK(tsc_checked_add(&c.store, c.handle, "y", 1, long_key, 4097, TSC_ONWARD, &v, &AT_20, &a) == TSC_OK && a.kept);
+    tsc_free(&c.store);
 }
 
 /* The name of each answer. */
 static void texts(void)
 {
     static const char *const TEXTS[] = {
-        "done", "the number names nothing of this kind", "a time is out of range", "there are no such ends of a span", "a key is too long", "the range is inverted",
+        "done", "the handle names nothing of this kind", "a time is out of range", "there are no such ends of a span", "a key is too long", "the range is inverted",
         "the span is too large for a page", "a key does not lie among the bytes", "page_first is 64 to page_max, and page_max is at most 2^30", "min_pages is 1 to 64",
         "retention is at most 2^63 - 1 nanoseconds", "out of memory", "seats are 1 to 64", "a seat is still out", "others were in the way", "there are as many Adds as there may be",
         "the bytes are refused, and the text says why", "what is told is longer than the buffer", "there is no time at which the write may be made",
@@ -481,17 +481,17 @@ static void writes(void)
     tsc_time low = {5, 0}, at = {7, 8};
     uint64_t n = 0, seen = 7, place = 0;
     tsc_added a;
-    CHECK(tsc_add(&c.place, c.number, "b", 1, "b", 1, TSC_POINT, &READ, &AT_20, &a) == TSC_OK);
-    CHECK(tsc_open_shared(&c.place, 132, 132, 2, 10, &low, 1, 9, &n) == TSC_OK);
-    CHECK(tsc_seat_add(&c.place, n + 1, "b", 1, "b", 1, TSC_POINT, &READ, &AT_20, 64, &place, &a) == TSC_OK);
+    CHECK(tsc_add(&c.store, c.handle, "b", 1, "b", 1, TSC_POINT, &READ, &AT_20, &a) == TSC_OK);
+    CHECK(tsc_open_shared(&c.store, 132, 132, 2, 10, &low, 1, 9, &n) == TSC_OK);
+    CHECK(tsc_seat_add(&c.store, n + 1, "b", 1, "b", 1, TSC_POINT, &READ, &AT_20, 64, &place, &a) == TSC_OK);
     for (uint8_t own = 0; own < 2; own++) {
         tsc_value write = {15, 3, {own ? 0x11 : 0x22}};
         tsc_time first = {20, own ? 0 : 1};
-        CHECK(tsc_earliest_write(&c.place, c.number, "bc", 2, SPANS, 3, &write, &at) == TSC_OK && at.wall == first.wall && at.logical == first.logical);
+        CHECK(tsc_earliest_write(&c.store, c.handle, "bc", 2, SPANS, 3, &write, &at) == TSC_OK && at.wall == first.wall && at.logical == first.logical);
         at = (tsc_time){7, 8};
-        CHECK(tsc_seat_earliest_write(&c.place, n + 1, "bc", 2, SPANS, 3, &write, &seen, &at) == TSC_OK && at.wall == first.wall && at.logical == first.logical && seen == 1);
-        CHECK(tsc_earliest_write(&c.place, c.number, "bc", 2, SPANS + 2, 1, &write, &at) == TSC_OK && at.wall == 15 && at.logical == 3);
-        CHECK(tsc_checked_earliest_write(&c.place, c.number, NULL, 0, NULL, 0, &write, &at) == TSC_OK && at.wall == 15 && at.logical == 3);
+        CHECK(tsc_seat_earliest_write(&c.store, n + 1, "bc", 2, SPANS, 3, &write, &seen, &at) == TSC_OK && at.wall == first.wall && at.logical == first.logical && seen == 1);
+        CHECK(tsc_earliest_write(&c.store, c.handle, "bc", 2, SPANS + 2, 1, &write, &at) == TSC_OK && at.wall == 15 && at.logical == 3);
+        CHECK(tsc_checked_earliest_write(&c.store, c.handle, NULL, 0, NULL, 0, &write, &at) == TSC_OK && at.wall == 15 && at.logical == 3);
     }
     /* refused, and nothing is written */
     static const tsc_span OUT = {1, 2, 0, 0, TSC_POINT}, BEHIND = {0, 1, 3, 0, TSC_POINT}, ENDS = {0, 1, 0, 0, 6};
@@ -500,24 +500,24 @@ static void writes(void)
     at = (tsc_time){7, 8}, seen = 7;
     for (int i = 0; i < 3; i++) {
         uint32_t answer = i < 2 ? TSC_OUTSIDE : TSC_ENDS;
-        CHECK(tsc_earliest_write(&c.place, c.number, "bc", 2, wrong[i], 1, &write, &at) == answer);
-        CHECK(tsc_seat_earliest_write(&c.place, n + 1, "bc", 2, wrong[i], 1, &write, &seen, &at) == answer);
+        CHECK(tsc_earliest_write(&c.store, c.handle, "bc", 2, wrong[i], 1, &write, &at) == answer);
+        CHECK(tsc_seat_earliest_write(&c.store, n + 1, "bc", 2, wrong[i], 1, &write, &seen, &at) == answer);
     }
-    CHECK(tsc_earliest_write(&c.place, c.number, "bc", 2, SPANS, 1, &never, &at) == TSC_TIME);
-    CHECK(tsc_add(&c.place, c.number, "b", 1, "b", 1, TSC_POINT, &LAST, &AT_20, &a) == TSC_OK);
-    CHECK(tsc_seat_add(&c.place, n + 1, "b", 1, "b", 1, TSC_POINT, &LAST, &AT_20, 64, &place, &a) == TSC_OK);
-    CHECK(tsc_earliest_write(&c.place, c.number, "bc", 2, SPANS, 3, &write, &at) == TSC_NO_TIME);
-    CHECK(tsc_seat_earliest_write(&c.place, n + 1, "bc", 2, SPANS, 3, &write, &seen, &at) == TSC_NO_TIME);
+    CHECK(tsc_earliest_write(&c.store, c.handle, "bc", 2, SPANS, 1, &never, &at) == TSC_TIME);
+    CHECK(tsc_add(&c.store, c.handle, "b", 1, "b", 1, TSC_POINT, &LAST, &AT_20, &a) == TSC_OK);
+    CHECK(tsc_seat_add(&c.store, n + 1, "b", 1, "b", 1, TSC_POINT, &LAST, &AT_20, 64, &place, &a) == TSC_OK);
+    CHECK(tsc_earliest_write(&c.store, c.handle, "bc", 2, SPANS, 3, &write, &at) == TSC_NO_TIME);
+    CHECK(tsc_seat_earliest_write(&c.store, n + 1, "bc", 2, SPANS, 3, &write, &seen, &at) == TSC_NO_TIME);
     CHECK(at.wall == 7 && at.logical == 8 && seen == 7);
-    tsc_free(&c.place);
+    tsc_free(&c.store);
 }
 
 /* Each pointer that may be null, where it has to lead somewhere. */
 static void nulls(void)
 {
     struct cache c = open_cache(132, 132, 2);
-    tsc_place *p = &c.place;
-    uint64_t n = c.number;
+    tsc_store *p = &c.store;
+    uint64_t n = c.handle;
     tsc_value v = {20, 0, {0}}, out = {1, 2, {3}};
     tsc_added a = {99, true, true};
     tsc_mark mark = {0, 1, 0, 0, {20, 0, {0}}, TSC_POINT};
@@ -541,7 +541,7 @@ static void nulls(void)
     CHECK(tsc_checked_seat_earliest_write(p, n, "b", 1, &span, 1, &v, &seen, NULL) == TSC_NULL && seen == 7);
     CHECK(tsc_checked_low_water(NULL, n, &floor) == TSC_NULL && tsc_checked_low_water(p, n, NULL) == TSC_NULL);
     CHECK(tsc_checked_figures_of(NULL, n, &f) == TSC_NULL && tsc_checked_figures_of(p, n, NULL) == TSC_NULL);
-    tsc_place empty = {NULL};
+    tsc_store empty = {NULL};
     uint64_t opened = 77;
     CHECK(tsc_checked_open(NULL, 132, 132, 2, 10, &AT_20, &opened) == TSC_NULL && tsc_checked_open(&empty, 132, 132, 2, 10, NULL, &opened) == TSC_NULL && tsc_checked_open(&empty, 132, 132, 2, 10, &AT_20, NULL) == TSC_NULL);
     CHECK(tsc_checked_move(NULL, n, &empty, &opened) == TSC_NULL && tsc_checked_move(p, n, NULL, &opened) == TSC_NULL && tsc_checked_move(p, n, &empty, NULL) == TSC_NULL);
@@ -567,24 +567,24 @@ static void lookups(void)
     tsc_time floor;
     tsc_figures f;
     uint64_t n, seen, before = requests;
-    CHECK(tsc_checked_get_max(&c.place, 0, "b", 1, NULL, 0, TSC_POINT, &v) == TSC_CLOSED && tsc_low_water(&c.place, 0, &floor) == TSC_CLOSED && tsc_figures_of(&c.place, 0, &f) == TSC_CLOSED);
-    CHECK(tsc_checked_seat_get_max(&c.place, 0, "b", 1, NULL, 0, TSC_POINT, &seen, &v) == TSC_CLOSED && tsc_seat_low_water(&c.place, 0, &seen, &floor) == TSC_CLOSED);
-    CHECK(tsc_seat_figures_of(&c.place, 0, &seen, &f) == TSC_CLOSED && requests == before && c.place.at == NULL);
+    CHECK(tsc_checked_get_max(&c.store, 0, "b", 1, NULL, 0, TSC_POINT, &v) == TSC_CLOSED && tsc_low_water(&c.store, 0, &floor) == TSC_CLOSED && tsc_figures_of(&c.store, 0, &f) == TSC_CLOSED);
+    CHECK(tsc_checked_seat_get_max(&c.store, 0, "b", 1, NULL, 0, TSC_POINT, &seen, &v) == TSC_CLOSED && tsc_seat_low_water(&c.store, 0, &seen, &floor) == TSC_CLOSED);
+    CHECK(tsc_seat_figures_of(&c.store, 0, &seen, &f) == TSC_CLOSED && requests == before && c.store.at == NULL);
 
     c = open_cache(132, 132, 2);
-    CHECK(adds(&c, "a", 20, 'A') && tsc_open_shared(&c.place, 132, 132, 2, 10, &(tsc_time){5, 0}, 1, 9, &n) == TSC_OK);
+    CHECK(adds(&c, "a", 20, 'A') && tsc_open_shared(&c.store, 132, 132, 2, 10, &(tsc_time){5, 0}, 1, 9, &n) == TSC_OK);
     before = requests;
     for (size_t len = 4096; len <= sizeof low_key; len += sizeof low_key - 4096) {
-        CHECK(tsc_checked_get_max(&c.place, c.number, low_key, len, NULL, 0, TSC_POINT, &v) == TSC_OK && v.wall == 5);
-        CHECK(tsc_checked_get_max(&c.place, c.number, low_key, len, "b", 1, 0, &v) == TSC_OK && v.wall == 20 && owner_name(v.owner) == 'A');
-        CHECK(tsc_checked_get_max(&c.place, c.number, low_key, len, NULL, 0, TSC_ONWARD, &v) == TSC_OK && v.wall == 20);
-        CHECK(tsc_checked_get_max(&c.place, c.number, "a", 1, low_key, len, 0, &v) == TSC_OK && v.wall == 5); /* inverted */
-        CHECK(tsc_checked_seat_get_max(&c.place, n + 1, low_key, len, "b", 1, 0, &seen, &v) == TSC_OK && v.wall == 5 && seen == 0);
+        CHECK(tsc_checked_get_max(&c.store, c.handle, low_key, len, NULL, 0, TSC_POINT, &v) == TSC_OK && v.wall == 5);
+        CHECK(tsc_checked_get_max(&c.store, c.handle, low_key, len, "b", 1, 0, &v) == TSC_OK && v.wall == 20 && owner_name(v.owner) == 'A');
+        CHECK(tsc_checked_get_max(&c.store, c.handle, low_key, len, NULL, 0, TSC_ONWARD, &v) == TSC_OK && v.wall == 20);
+        CHECK(tsc_checked_get_max(&c.store, c.handle, "a", 1, low_key, len, 0, &v) == TSC_OK && v.wall == 5); /* inverted */
+        CHECK(tsc_checked_seat_get_max(&c.store, n + 1, low_key, len, "b", 1, 0, &seen, &v) == TSC_OK && v.wall == 5 && seen == 0);
     }
-    CHECK(tsc_checked_get_max(&c.place, c.number, low_key, 4097, NULL, 0, 6, &v) == TSC_ENDS && tsc_checked_seat_get_max(&c.place, n + 1, low_key, 4097, NULL, 0, 6, &seen, &v) == TSC_ENDS);
-    CHECK(has(&c, 1, 0, 5, 0) && tsc_seat_low_water(&c.place, n + 1, &seen, &floor) == TSC_OK && tsc_seat_figures_of(&c.place, n + 1, &seen, &f) == TSC_OK);
+    CHECK(tsc_checked_get_max(&c.store, c.handle, low_key, 4097, NULL, 0, 6, &v) == TSC_ENDS && tsc_checked_seat_get_max(&c.store, n + 1, low_key, 4097, NULL, 0, 6, &seen, &v) == TSC_ENDS);
+    CHECK(has(&c, 1, 0, 5, 0) && tsc_seat_low_water(&c.store, n + 1, &seen, &floor) == TSC_OK && tsc_seat_figures_of(&c.store, n + 1, &seen, &f) == TSC_OK);
     CHECK(requests == before);
-    tsc_free(&c.place);
+    tsc_free(&c.store);
 }
 
 /* Which of two times is earlier, and which is the next. */
@@ -619,13 +619,13 @@ static void times(void)
     CHECK(!tsc_next((tsc_time){WALL, LOGICAL}, &next) && next.wall == 7 && next.logical == 7);
 }
 
-/* How many of the calls that take a number don't answer that this one names nothing, or write something. */
-static uint64_t names_something(tsc_place *place, uint64_t number)
+/* How many of the calls that take a handle don't answer that this one names nothing, or write something. */
+static uint64_t names_something(tsc_store *store, uint64_t handle)
 {
     static const tsc_value READ = {30, 0, {0x11}};
     static const tsc_mark MARK = {0, 1, 0, 0, {30, 0, {0x11}}, TSC_POINT};
     static const tsc_span SPAN = {0, 1, 0, 0, TSC_POINT};
-    tsc_place other = {NULL};
+    tsc_store other = {NULL};
     tsc_value v = {7, 7, {7}};
     tsc_added a = {7, false, true};
     tsc_time floor = {7, 7};
@@ -634,55 +634,55 @@ static uint64_t names_something(tsc_place *place, uint64_t number)
     uint8_t out[2] = {7, 7};
     size_t len = 7;
     bool may = true;
-    wrong += tsc_checked_get_max(place, number, "b", 1, NULL, 0, TSC_POINT, &v) != TSC_CLOSED;
-    wrong += tsc_low_water(place, number, &floor) != TSC_CLOSED;
-    wrong += tsc_earliest_write(place, number, "b", 1, &SPAN, 1, &READ, &floor) != TSC_CLOSED;
-    wrong += tsc_seat_earliest_write(place, number, "b", 1, &SPAN, 1, &READ, &seen, &floor) != TSC_CLOSED;
-    wrong += tsc_may_write(place, number, "b", 1, &SPAN, 1, &READ, &may) != TSC_CLOSED;
-    wrong += tsc_seat_may_write(place, number, "b", 1, &SPAN, 1, &READ, &seen, &may) != TSC_CLOSED;
-    wrong += tsc_checked_summary(place, number, "b", 1, NULL, 0, TSC_POINT, 1, out, sizeof out, &len) != TSC_CLOSED;
-    wrong += tsc_checked_apply(place, number, out, sizeof out, &AT_20, &a) != TSC_CLOSED;
-    wrong += tsc_figures_of(place, number, &f) != TSC_CLOSED;
-    wrong += tsc_checked_add(place, number, "b", 1, NULL, 0, TSC_POINT, &READ, &AT_20, &a) != TSC_CLOSED;
-    wrong += tsc_checked_add_all(place, number, "b", 1, &MARK, 1, &AT_20, &a) != TSC_CLOSED;
-    wrong += tsc_close(place, number) != TSC_CLOSED;
-    wrong += tsc_checked_seat_get_max(place, number, "b", 1, NULL, 0, TSC_POINT, &seen, &v) != TSC_CLOSED;
-    wrong += tsc_seat_low_water(place, number, &seen, &floor) != TSC_CLOSED;
-    wrong += tsc_seat_figures_of(place, number, &seen, &f) != TSC_CLOSED;
-    wrong += tsc_checked_seat_add(place, number, "b", 1, NULL, 0, TSC_POINT, &READ, &AT_20, 1, &at, &a) != TSC_CLOSED;
-    wrong += tsc_checked_seat_add_all(place, number, "b", 1, &MARK, 1, &AT_20, 1, &at, &a) != TSC_CLOSED;
-    wrong += tsc_seat_close(place, number) != TSC_CLOSED;
-    wrong += tsc_close_shared(place, number, &adds) != TSC_CLOSED;
-    wrong += tsc_move(place, number, &other, &moved) != TSC_CLOSED || tsc_close(&other, 0) != TSC_CLOSED;
+    wrong += tsc_checked_get_max(store, handle, "b", 1, NULL, 0, TSC_POINT, &v) != TSC_CLOSED;
+    wrong += tsc_low_water(store, handle, &floor) != TSC_CLOSED;
+    wrong += tsc_earliest_write(store, handle, "b", 1, &SPAN, 1, &READ, &floor) != TSC_CLOSED;
+    wrong += tsc_seat_earliest_write(store, handle, "b", 1, &SPAN, 1, &READ, &seen, &floor) != TSC_CLOSED;
+    wrong += tsc_may_write(store, handle, "b", 1, &SPAN, 1, &READ, &may) != TSC_CLOSED;
+    wrong += tsc_seat_may_write(store, handle, "b", 1, &SPAN, 1, &READ, &seen, &may) != TSC_CLOSED;
+    wrong += tsc_checked_summary(store, handle, "b", 1, NULL, 0, TSC_POINT, 1, out, sizeof out, &len) != TSC_CLOSED;
+    wrong += tsc_checked_apply(store, handle, out, sizeof out, &AT_20, &a) != TSC_CLOSED;
+    wrong += tsc_figures_of(store, handle, &f) != TSC_CLOSED;
+    wrong += tsc_checked_add(store, handle, "b", 1, NULL, 0, TSC_POINT, &READ, &AT_20, &a) != TSC_CLOSED;
+    wrong += tsc_checked_add_all(store, handle, "b", 1, &MARK, 1, &AT_20, &a) != TSC_CLOSED;
+    wrong += tsc_close(store, handle) != TSC_CLOSED;
+    wrong += tsc_checked_seat_get_max(store, handle, "b", 1, NULL, 0, TSC_POINT, &seen, &v) != TSC_CLOSED;
+    wrong += tsc_seat_low_water(store, handle, &seen, &floor) != TSC_CLOSED;
+    wrong += tsc_seat_figures_of(store, handle, &seen, &f) != TSC_CLOSED;
+    wrong += tsc_checked_seat_add(store, handle, "b", 1, NULL, 0, TSC_POINT, &READ, &AT_20, 1, &at, &a) != TSC_CLOSED;
+    wrong += tsc_checked_seat_add_all(store, handle, "b", 1, &MARK, 1, &AT_20, 1, &at, &a) != TSC_CLOSED;
+    wrong += tsc_seat_close(store, handle) != TSC_CLOSED;
+    wrong += tsc_close_shared(store, handle, &adds) != TSC_CLOSED;
+    wrong += tsc_move(store, handle, &other, &moved) != TSC_CLOSED || tsc_close(&other, 0) != TSC_CLOSED;
     wrong += at != 7 || seen != 7 || moved != 7 || adds != 7 || v.wall != 7 || a.evicted != 7 || a.kept || !a.rotated || floor.wall != 7 || f.pages != 7;
     wrong += out[0] != 7 || out[1] != 7 || len != 7 || !may;
     tsc_free(&other); /* which a refused move may have given some memory */
     return wrong;
 }
 
-/* Numbers that were never given, and such as were given and closed, or moved. */
-static void numbers(void)
+/* Handles that were never given, and such as were given and closed, or moved. */
+static void handles(void)
 {
     enum { LIVE_CACHE, SECOND_CACHE, LIVE_SHARED, LIVE_SEAT, CLOSED_SEAT, MOVED_SEAT, CLOSED_CACHE, MOVED_CACHE, CLOSED_SHARED, ITS_SEAT, GIVEN };
     static const uint64_t STALE[] = {CLOSED_SEAT, MOVED_SEAT, CLOSED_CACHE, MOVED_CACHE, CLOSED_SHARED, ITS_SEAT};
-    static tsc_place place, other; /* zeros */
+    static tsc_store store, other; /* zeros */
     tsc_value v = {20, 0, {0}};
     tsc_added a;
     tsc_time low = {5, 0}, floor;
     tsc_figures f;
     uint64_t first = 77, second = 78, third = 79, shared = 77, last = 77, at = 77, seen = 77, adds = 77;
-    CHECK(names_something(&place, 0) == 0 && place.at == NULL);
-    CHECK(tsc_close(&place, 0) == TSC_CLOSED && tsc_low_water(&place, 0, &floor) == TSC_CLOSED && tsc_figures_of(&place, 0, &f) == TSC_CLOSED);
-    CHECK(tsc_checked_get_max(&place, 0, "b", 1, NULL, 0, TSC_POINT, &v) == TSC_CLOSED);
-    CHECK(tsc_open(&place, 132, 132, 2, 10, &low, &first) == TSC_OK && tsc_open(&place, 132, 132, 2, 10, &low, &second) == TSC_OK && first == LIVE_CACHE && second == SECOND_CACHE);
-    CHECK(tsc_checked_add(&place, first, "b", 1, NULL, 0, TSC_POINT, &v, &AT_20, &a) == TSC_OK && a.kept);
-    CHECK(tsc_open_shared(&place, 132, 132, 2, 10, &low, 3, 9, &shared) == TSC_OK && shared == LIVE_SHARED);
-    CHECK(tsc_checked_seat_add(&place, LIVE_SEAT, "b", 1, NULL, 0, TSC_POINT, &v, &AT_20, 1, &at, &a) == TSC_OK && at == 0);
-    CHECK(tsc_seat_close(&place, CLOSED_SEAT) == TSC_OK && tsc_move(&place, MOVED_SEAT, &other, &at) == TSC_OK && at == 0);
-    CHECK(tsc_open(&place, 132, 132, 2, 10, &low, &at) == TSC_OK && at == CLOSED_CACHE && tsc_close(&place, CLOSED_CACHE) == TSC_OK);
-    CHECK(tsc_open(&place, 132, 132, 2, 10, &low, &at) == TSC_OK && at == MOVED_CACHE && tsc_move(&place, MOVED_CACHE, &other, &at) == TSC_OK && at == 1);
-    CHECK(tsc_open_shared(&place, 132, 132, 2, 10, &low, 1, 9, &last) == TSC_OK && last == CLOSED_SHARED);
-    CHECK(tsc_seat_close(&place, ITS_SEAT) == TSC_OK && tsc_close_shared(&place, CLOSED_SHARED, &adds) == TSC_OK && adds == 0);
+    CHECK(names_something(&store, 0) == 0 && store.at == NULL);
+    CHECK(tsc_close(&store, 0) == TSC_CLOSED && tsc_low_water(&store, 0, &floor) == TSC_CLOSED && tsc_figures_of(&store, 0, &f) == TSC_CLOSED);
+    CHECK(tsc_checked_get_max(&store, 0, "b", 1, NULL, 0, TSC_POINT, &v) == TSC_CLOSED);
+    CHECK(tsc_open(&store, 132, 132, 2, 10, &low, &first) == TSC_OK && tsc_open(&store, 132, 132, 2, 10, &low, &second) == TSC_OK && first == LIVE_CACHE && second == SECOND_CACHE);
+    CHECK(tsc_checked_add(&store, first, "b", 1, NULL, 0, TSC_POINT, &v, &AT_20, &a) == TSC_OK && a.kept);
+    CHECK(tsc_open_shared(&store, 132, 132, 2, 10, &low, 3, 9, &shared) == TSC_OK && shared == LIVE_SHARED);
+    CHECK(tsc_checked_seat_add(&store, LIVE_SEAT, "b", 1, NULL, 0, TSC_POINT, &v, &AT_20, 1, &at, &a) == TSC_OK && at == 0);
+    CHECK(tsc_seat_close(&store, CLOSED_SEAT) == TSC_OK && tsc_move(&store, MOVED_SEAT, &other, &at) == TSC_OK && at == 0);
+    CHECK(tsc_open(&store, 132, 132, 2, 10, &low, &at) == TSC_OK && at == CLOSED_CACHE && tsc_close(&store, CLOSED_CACHE) == TSC_OK);
+    CHECK(tsc_open(&store, 132, 132, 2, 10, &low, &at) == TSC_OK && at == MOVED_CACHE && tsc_move(&store, MOVED_CACHE, &other, &at) == TSC_OK && at == 1);
+    CHECK(tsc_open_shared(&store, 132, 132, 2, 10, &low, 1, 9, &last) == TSC_OK && last == CLOSED_SHARED);
+    CHECK(tsc_seat_close(&store, ITS_SEAT) == TSC_OK && tsc_close_shared(&store, CLOSED_SHARED, &adds) == TSC_OK && adds == 0);
 
     uint64_t x = UINT64_C(88172645463325252), wrong = 0;
     for (int i = 0; i < 100000; i++) {
@@ -690,36 +690,36 @@ static void numbers(void)
         x ^= x >> 7;
         x ^= x << 17;
         uint64_t made_up = i % 2 ? x : GIVEN + x % 1000;
-        wrong += names_something(&place, i % 3 ? made_up : STALE[x % (sizeof STALE / sizeof *STALE)]);
+        wrong += names_something(&store, i % 3 ? made_up : STALE[x % (sizeof STALE / sizeof *STALE)]);
     }
     CHECK(wrong == 0);
-    CHECK(tsc_checked_get_max(&place, first, "b", 1, NULL, 0, TSC_POINT, &v) == TSC_OK && v.wall == 20);
-    CHECK(tsc_checked_get_max(&place, second, "b", 1, NULL, 0, TSC_POINT, &v) == TSC_OK && v.wall == 5);
-    CHECK(tsc_checked_seat_get_max(&place, LIVE_SEAT, "b", 1, NULL, 0, TSC_POINT, &seen, &v) == TSC_OK && v.wall == 20 && seen == 1);
+    CHECK(tsc_checked_get_max(&store, first, "b", 1, NULL, 0, TSC_POINT, &v) == TSC_OK && v.wall == 20);
+    CHECK(tsc_checked_get_max(&store, second, "b", 1, NULL, 0, TSC_POINT, &v) == TSC_OK && v.wall == 5);
+    CHECK(tsc_checked_seat_get_max(&store, LIVE_SEAT, "b", 1, NULL, 0, TSC_POINT, &seen, &v) == TSC_OK && v.wall == 20 && seen == 1);
     CHECK(tsc_checked_seat_get_max(&other, 0, "b", 1, NULL, 0, TSC_POINT, &seen, &v) == TSC_OK && v.wall == 20 && seen == 1);
-    CHECK(tsc_close_shared(&place, shared, &adds) == TSC_STILL_OUT && tsc_seat_close(&place, LIVE_SEAT) == TSC_OK && tsc_close(&other, 1) == TSC_OK);
+    CHECK(tsc_close_shared(&store, shared, &adds) == TSC_STILL_OUT && tsc_seat_close(&store, LIVE_SEAT) == TSC_OK && tsc_close(&other, 1) == TSC_OK);
     tsc_free(&other);
-    CHECK(tsc_close_shared(&place, shared, &adds) == TSC_OK && adds == 1);
+    CHECK(tsc_close_shared(&store, shared, &adds) == TSC_OK && adds == 1);
 
-    CHECK(tsc_close(&place, first) == TSC_OK && tsc_close(&place, first) == TSC_CLOSED); /* closed twice */
-    CHECK(tsc_checked_get_max(&place, first, "b", 1, NULL, 0, TSC_POINT, &v) == TSC_CLOSED);
-    CHECK(tsc_open(&place, 132, 132, 2, 10, &low, &third) == TSC_OK && third != first && third != second);
+    CHECK(tsc_close(&store, first) == TSC_OK && tsc_close(&store, first) == TSC_CLOSED); /* closed twice */
+    CHECK(tsc_checked_get_max(&store, first, "b", 1, NULL, 0, TSC_POINT, &v) == TSC_CLOSED);
+    CHECK(tsc_open(&store, 132, 132, 2, 10, &low, &third) == TSC_OK && third != first && third != second);
     wrong = 0;
-    for (int i = 0; i < 1000; i++) /* the stale number stays stale */
-        wrong += names_something(&place, first);
+    for (int i = 0; i < 1000; i++) /* the stale handle stays stale */
+        wrong += names_something(&store, first);
     CHECK(wrong == 0);
-    CHECK(tsc_checked_get_max(&place, second, "b", 1, NULL, 0, TSC_POINT, &v) == TSC_OK && v.wall == 5);
+    CHECK(tsc_checked_get_max(&store, second, "b", 1, NULL, 0, TSC_POINT, &v) == TSC_OK && v.wall == 5);
 
-    tsc_place moved = place; /* a move: the old place is one no more */
-    memset(&place, 0, sizeof place);
-    CHECK(tsc_checked_get_max(&place, second, "b", 1, NULL, 0, TSC_POINT, &v) == TSC_CLOSED);
+    tsc_store moved = store; /* a move: the old store is one no more */
+    memset(&store, 0, sizeof store);
+    CHECK(tsc_checked_get_max(&store, second, "b", 1, NULL, 0, TSC_POINT, &v) == TSC_CLOSED);
     CHECK(tsc_checked_get_max(&moved, second, "b", 1, NULL, 0, TSC_POINT, &v) == TSC_OK);
     tsc_free(&moved);
     CHECK(moved.at == NULL && tsc_close(&moved, second) == TSC_CLOSED);
-    CHECK(tsc_open(&moved, 132, 132, 2, 10, &low, &first) == TSC_OK && first == 0); /* a freed place begins anew */
+    CHECK(tsc_open(&moved, 132, 132, 2, 10, &low, &first) == TSC_OK && first == 0); /* a freed store begins anew */
     tsc_free(&moved);
 
-    static tsc_place left; /* never closed, nor freed: the program ends with it */
+    static tsc_store left; /* never closed, nor freed: the program ends with it */
     CHECK(tsc_open(&left, 132, 132, 2, 10, &low, &first) == TSC_OK);
 }
 
@@ -732,53 +732,53 @@ static bool one_run(void)
     tsc_added a;
     tsc_value v;
     bool right = true;
-    if (tried(tsc_open(&c.place, 66, 132, 2, 10, &low, &c.number)) == TSC_NO_MEMORY)
-        right = tsc_open(&c.place, 66, 132, 2, 10, &low, &c.number) == TSC_OK;
-    right = right && c.number == 0;
+    if (tried(tsc_open(&c.store, 66, 132, 2, 10, &low, &c.handle)) == TSC_NO_MEMORY)
+        right = tsc_open(&c.store, 66, 132, 2, 10, &low, &c.handle) == TSC_OK;
+    right = right && c.handle == 0;
     for (const char *key = "abcdefgh"; *key; key++) {
         char span[6] = {'[', *key, ',', 'z', ')', 0};
         uint64_t wall = 20 + (uint64_t)(*key - 'a');
-        right = right && tsc_checked_get_max(&c.place, c.number, key, 1, "z", 1, TSC_EXCLUDE_TO, &v) == TSC_OK && v.wall == (*key == 'a' ? 5 : wall - 1);
+        right = right && tsc_checked_get_max(&c.store, c.handle, key, 1, "z", 1, TSC_EXCLUDE_TO, &v) == TSC_OK && v.wall == (*key == 'a' ? 5 : wall - 1);
         tsc_figures before, after;
-        right = right && tsc_figures_of(&c.place, c.number, &before) == TSC_OK;
+        right = right && tsc_figures_of(&c.store, c.handle, &before) == TSC_OK;
         if (tried(add_at(&c, span, wall, 0, 'A', AT_20, &a)) == TSC_NO_MEMORY) {
-            right = right && tsc_figures_of(&c.place, c.number, &after) == TSC_OK && after.pages == before.pages && after.rotations == before.rotations && after.nodes == before.nodes && after.bytes == before.bytes;
+            right = right && tsc_figures_of(&c.store, c.handle, &after) == TSC_OK && after.pages == before.pages && after.rotations == before.rotations && after.nodes == before.nodes && after.bytes == before.bytes;
             right = right && answers(&c, "y", *key == 'a' ? 5 : wall - 1, 0, *key == 'a' ? '-' : 'A');
             right = right && add_at(&c, span, wall, 0, 'A', AT_20, &a) == TSC_OK;
         }
         right = right && a.kept && answers(&c, "y", wall, 0, 'A');
     }
     tsc_mark marks[2] = {{0, 1, 0, 0, {50, 0, {0}}, TSC_POINT}, {1, 1, 0, 0, {50, 0, {0}}, TSC_POINT}};
-    if (tried(tsc_checked_add_all(&c.place, c.number, "xy", 2, marks, 2, &AT_40, &a)) == TSC_NO_MEMORY) {
+    if (tried(tsc_checked_add_all(&c.store, c.handle, "xy", 2, marks, 2, &AT_40, &a)) == TSC_NO_MEMORY) {
         right = right && answers(&c, "[x,y]", 27, 0, 'A');
-        right = right && tsc_checked_add_all(&c.place, c.number, "xy", 2, marks, 2, &AT_40, &a) == TSC_OK;
+        right = right && tsc_checked_add_all(&c.store, c.handle, "xy", 2, marks, 2, &AT_40, &a) == TSC_OK;
     }
     right = right && answers(&c, "x", 50, 0, '-') && answers(&c, "y", 50, 0, '-') && answers(&c, "b", 20 + 1, 0, 'A');
     uint64_t other;
-    if (tried(tsc_open(&c.place, 66, 132, 2, 10, &low, &other)) == TSC_NO_MEMORY)
-        right = right && tsc_open(&c.place, 66, 132, 2, 10, &low, &other) == TSC_OK;
-    right = right && other == 1 && tsc_close(&c.place, 0) == TSC_OK;
-    tsc_free(&c.place);
+    if (tried(tsc_open(&c.store, 66, 132, 2, 10, &low, &other)) == TSC_NO_MEMORY)
+        right = right && tsc_open(&c.store, 66, 132, 2, 10, &low, &other) == TSC_OK;
+    right = right && other == 1 && tsc_close(&c.store, 0) == TSC_OK;
+    tsc_free(&c.store);
     return right;
 }
 
-/* The same of a cache that threads share, by two of its seats, in two places. */
+/* The same of a cache that threads share, by two of its seats, in two stores. */
 static bool one_shared_run(void)
 {
-    tsc_place places[2] = {{NULL}, {NULL}};
+    tsc_store stores[2] = {{NULL}, {NULL}};
     uint64_t n = 77, seats[2] = {1, 77}, at, seen, adds = 77;
     tsc_time low = {5, 0};
     tsc_added a;
     tsc_value v, read = {20, 0, {0}};
     bool right = true;
-    if (tried(tsc_open_shared(&places[0], 66, 132, 2, 10, &low, 2, 9, &n)) == TSC_NO_MEMORY)
-        right = n == 77 && tsc_open_shared(&places[0], 66, 132, 2, 10, &low, 2, 9, &n) == TSC_OK;
+    if (tried(tsc_open_shared(&stores[0], 66, 132, 2, 10, &low, 2, 9, &n)) == TSC_NO_MEMORY)
+        right = n == 77 && tsc_open_shared(&stores[0], 66, 132, 2, 10, &low, 2, 9, &n) == TSC_OK;
     right = right && n == 0;
-    if (tried(tsc_move(&places[0], 2, &places[1], &seats[1])) == TSC_NO_MEMORY)
-        right = right && seats[1] == 77 && tsc_move(&places[0], 2, &places[1], &seats[1]) == TSC_OK;
+    if (tried(tsc_move(&stores[0], 2, &stores[1], &seats[1])) == TSC_NO_MEMORY)
+        right = right && seats[1] == 77 && tsc_move(&stores[0], 2, &stores[1], &seats[1]) == TSC_OK;
     right = right && seats[1] == 0;
     for (uint64_t i = 0; i < 8; i++) {
-        tsc_place *mine = &places[i % 2], *other = &places[1 - i % 2];
+        tsc_store *mine = &stores[i % 2], *other = &stores[1 - i % 2];
         char key = (char)('a' + i);
         read.wall = 20 + i;
         if (tried(tsc_checked_seat_add(mine, seats[i % 2], &key, 1, "z", 1, TSC_EXCLUDE_TO, &read, &AT_20, 1, &at, &a)) == TSC_NO_MEMORY) {
@@ -790,12 +790,12 @@ static bool one_shared_run(void)
         right = right && seen == i + 1 && v.wall == 20 + i;
     }
     tsc_mark marks[2] = {{0, 1, 0, 0, {50, 0, {0}}, TSC_POINT}, {1, 1, 0, 0, {50, 0, {0}}, TSC_POINT}};
-    if (tried(tsc_checked_seat_add_all(&places[0], 1, "xy", 2, marks, 2, &AT_40, 1, &at, &a)) == TSC_NO_MEMORY)
-        right = right && tsc_checked_seat_add_all(&places[0], 1, "xy", 2, marks, 2, &AT_40, 1, &at, &a) == TSC_OK;
-    right = right && at == 8 && tsc_seat_close(&places[0], 1) == TSC_OK && tsc_close_shared(&places[0], 0, &adds) == TSC_STILL_OUT && adds == 77;
-    tsc_free(&places[1]);
-    right = right && tsc_close_shared(&places[0], 0, &adds) == TSC_OK && adds == 9;
-    tsc_free(&places[0]);
+    if (tried(tsc_checked_seat_add_all(&stores[0], 1, "xy", 2, marks, 2, &AT_40, 1, &at, &a)) == TSC_NO_MEMORY)
+        right = right && tsc_checked_seat_add_all(&stores[0], 1, "xy", 2, marks, 2, &AT_40, 1, &at, &a) == TSC_OK;
+    right = right && at == 8 && tsc_seat_close(&stores[0], 1) == TSC_OK && tsc_close_shared(&stores[0], 0, &adds) == TSC_STILL_OUT && adds == 77;
+    tsc_free(&stores[1]);
+    right = right && tsc_close_shared(&stores[0], 0, &adds) == TSC_OK && adds == 9;
+    tsc_free(&stores[0]);
     return right;
 }
 
@@ -846,13 +846,13 @@ static int measure(void)
     uint8_t key[8];
     uint64_t x = UINT64_C(88172645463325252), sum = 0, wall = 100;
     double lookup = 1, add = 1, none = 1;
-    if (tsc_open(&c.place, 1 << 26, 1 << 26, 1, UINT64_C(10000000000), &low, &c.number))
+    if (tsc_open(&c.store, 1 << 26, 1 << 26, 1, UINT64_C(10000000000), &low, &c.handle))
         return 1;
     for (uint64_t i = 0; i < KEYS; i++) {
         tsc_time now = {wall, 0};
         key_of(key, i);
         v.wall = wall++;
-        if (tsc_add(&c.place, c.number, key, 8, key, 8, TSC_POINT, &v, &now, &a))
+        if (tsc_add(&c.store, c.handle, key, 8, key, 8, TSC_POINT, &v, &now, &a))
             return 1;
     }
     for (int r = 0; r < ROUNDS; r++) {
@@ -862,7 +862,7 @@ static int measure(void)
             x ^= x >> 7;
             x ^= x << 17;
             key_of(key, x % KEYS);
-            tsc_get_max(&c.place, c.number, key, 8, key, 8, TSC_POINT, &v);
+            tsc_get_max(&c.store, c.handle, key, 8, key, 8, TSC_POINT, &v);
             sum += v.wall;
         }
         double took = seconds() - start;
@@ -875,20 +875,20 @@ static int measure(void)
             key_of(key, x % KEYS);
             tsc_time now = {wall, 0};
             v.wall = wall++;
-            tsc_add(&c.place, c.number, key, 8, key, 8, TSC_POINT, &v, &now, &a);
+            tsc_add(&c.store, c.handle, key, 8, key, 8, TSC_POINT, &v, &now, &a);
             sum += a.kept;
         }
         took = seconds() - start;
         add = took < add ? took : add;
         start = seconds();
         for (int i = 0; i < BATCH; i++)
-            sum += tsc_get_max(&c.place, x, key, 8, key, 8, TSC_POINT, &v);
+            sum += tsc_get_max(&c.store, x, key, 8, key, 8, TSC_POINT, &v);
         took = seconds() - start;
         none = took < none ? took : none;
     }
-    printf("%d keys: a lookup %.0f ns, an Add of a known key %.0f ns, a number that names none %.1f ns (sum %" PRIu64 ")\n", KEYS,
+    printf("%d keys: a lookup %.0f ns, an Add of a known key %.0f ns, a handle that names none %.1f ns (sum %" PRIu64 ")\n", KEYS,
            lookup * 1e9 / BATCH, add * 1e9 / BATCH, none * 1e9 / BATCH, sum);
-    tsc_free(&c.place);
+    tsc_free(&c.store);
     return 0;
 }
 
@@ -909,7 +909,7 @@ int main(int argc, char **argv)
     nulls();
     lookups();
     times();
-    numbers();
+    handles();
     memory();
     printf("%d passed, %d failed\n", passed, failed);
     return failed != 0;

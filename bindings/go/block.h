@@ -6,13 +6,13 @@
 #include <string.h>
 #include "tscache.h"
 
-// What a Cache, a Shared or a Seat has outside of Go: its place, the number of what lies there,
+// What a Cache, a Shared or a Seat has outside of Go: its store, the handle of what it has,
 // and what calls read and write beside keys. So a call takes no memory of Go's, and hands over no
-// pointer into it but those of keys and marks. The place is bytes for Go, since cgo looks at each
+// pointer into it but those of keys and marks. The store is bytes for Go, since cgo looks at each
 // block that has a pointer in it, at each call.
 typedef struct {
-    unsigned char place[sizeof(tsc_place)];
-    uint64_t number;
+    unsigned char store[sizeof(tsc_store)];
+    uint64_t handle;
     uint64_t told;
     tsc_value value;
     tsc_time time;
@@ -32,105 +32,105 @@ static inline tsc_go_block *tsc_go_new(void)
     return (tsc_go_block *)(block ? memset(block, 0, TSC_GO_APART) : NULL);
 }
 
-static inline tsc_place *tsc_go_place(tsc_go_block *b)
+static inline tsc_store *tsc_go_store(tsc_go_block *b)
 {
-    return (tsc_place *)(void *)b->place;
+    return (tsc_store *)(void *)b->store;
 }
 
 static inline void tsc_go_free(tsc_go_block *b)
 {
-    tsc_free(tsc_go_place(b));
+    tsc_free(tsc_go_store(b));
     free(b);
 }
 
 static inline uint32_t tsc_go_open(tsc_go_block *b, uint32_t page_first, uint32_t page_max,
                                    uint32_t min_pages, uint64_t retention)
 {
-    return tsc_open(tsc_go_place(b), page_first, page_max, min_pages, retention, &b->time,
-                    &b->number);
+    return tsc_open(tsc_go_store(b), page_first, page_max, min_pages, retention, &b->time,
+                    &b->handle);
 }
 
 static inline uint32_t tsc_go_open_shared(tsc_go_block *b, uint32_t page_first, uint32_t page_max,
                                           uint32_t min_pages, uint64_t retention, uint32_t seats,
                                           uint64_t limit)
 {
-    return tsc_open_shared(tsc_go_place(b), page_first, page_max, min_pages, retention, &b->time,
-                           seats, limit, &b->number);
+    return tsc_open_shared(tsc_go_store(b), page_first, page_max, min_pages, retention, &b->time,
+                           seats, limit, &b->handle);
 }
 
 static inline uint32_t tsc_go_move(tsc_go_block *b, uint64_t seat, tsc_go_block *other)
 {
-    return tsc_move(tsc_go_place(b), b->number + seat, tsc_go_place(other), &other->number);
+    return tsc_move(tsc_go_store(b), b->handle + seat, tsc_go_store(other), &other->handle);
 }
 
 static inline uint32_t tsc_go_close_shared(tsc_go_block *b)
 {
-    return tsc_close_shared(tsc_go_place(b), b->number, &b->told);
+    return tsc_close_shared(tsc_go_store(b), b->handle, &b->told);
 }
 
 static inline uint32_t tsc_go_add(tsc_go_block *b, const uint8_t *from, size_t from_len,
                                   const uint8_t *to, size_t to_len, uint32_t ends)
 {
-    return tsc_add(tsc_go_place(b), b->number, from, from_len, to, to_len, ends, &b->value,
+    return tsc_add(tsc_go_store(b), b->handle, from, from_len, to, to_len, ends, &b->value,
                    &b->time, &b->added);
 }
 
 static inline uint32_t tsc_go_add_all(tsc_go_block *b, const uint8_t *keys, size_t keys_len,
                                       const tsc_mark *marks, size_t marks_len)
 {
-    return tsc_add_all(tsc_go_place(b), b->number, keys, keys_len, marks, marks_len, &b->time,
+    return tsc_add_all(tsc_go_store(b), b->handle, keys, keys_len, marks, marks_len, &b->time,
                        &b->added);
 }
 
 static inline uint32_t tsc_go_get_max(tsc_go_block *b, const uint8_t *from, size_t from_len,
                                       const uint8_t *to, size_t to_len, uint32_t ends)
 {
-    return tsc_get_max(tsc_go_place(b), b->number, from, from_len, to, to_len, ends, &b->value);
+    return tsc_get_max(tsc_go_store(b), b->handle, from, from_len, to, to_len, ends, &b->value);
 }
 
 static inline uint32_t tsc_go_earliest_write(tsc_go_block *b, const uint8_t *keys, size_t keys_len,
                                              const tsc_span *spans, size_t spans_len)
 {
-    return tsc_earliest_write(tsc_go_place(b), b->number, keys, keys_len, spans, spans_len,
+    return tsc_earliest_write(tsc_go_store(b), b->handle, keys, keys_len, spans, spans_len,
                               &b->value, &b->time);
 }
 
 static inline uint32_t tsc_go_may_write(tsc_go_block *b, const uint8_t *keys, size_t keys_len,
                                         const tsc_span *spans, size_t spans_len)
 {
-    return tsc_may_write(tsc_go_place(b), b->number, keys, keys_len, spans, spans_len, &b->value,
+    return tsc_may_write(tsc_go_store(b), b->handle, keys, keys_len, spans, spans_len, &b->value,
                          &b->may);
 }
 
 static inline uint32_t tsc_go_low_water(tsc_go_block *b)
 {
-    return tsc_low_water(tsc_go_place(b), b->number, &b->time);
+    return tsc_low_water(tsc_go_store(b), b->handle, &b->time);
 }
 
 static inline uint32_t tsc_go_figures(tsc_go_block *b)
 {
-    return tsc_figures_of(tsc_go_place(b), b->number, &b->figures);
+    return tsc_figures_of(tsc_go_store(b), b->handle, &b->figures);
 }
 
 static inline uint32_t tsc_go_seat_add(tsc_go_block *b, const uint8_t *from, size_t from_len,
                                        const uint8_t *to, size_t to_len, uint32_t ends,
                                        uint32_t tries)
 {
-    return tsc_seat_add(tsc_go_place(b), b->number, from, from_len, to, to_len, ends, &b->value,
+    return tsc_seat_add(tsc_go_store(b), b->handle, from, from_len, to, to_len, ends, &b->value,
                         &b->time, tries, &b->told, &b->added);
 }
 
 static inline uint32_t tsc_go_seat_add_all(tsc_go_block *b, const uint8_t *keys, size_t keys_len,
                                            const tsc_mark *marks, size_t marks_len, uint32_t tries)
 {
-    return tsc_seat_add_all(tsc_go_place(b), b->number, keys, keys_len, marks, marks_len, &b->time,
+    return tsc_seat_add_all(tsc_go_store(b), b->handle, keys, keys_len, marks, marks_len, &b->time,
                             tries, &b->told, &b->added);
 }
 
 static inline uint32_t tsc_go_seat_get_max(tsc_go_block *b, const uint8_t *from, size_t from_len,
                                            const uint8_t *to, size_t to_len, uint32_t ends)
 {
-    return tsc_seat_get_max(tsc_go_place(b), b->number, from, from_len, to, to_len, ends, &b->told,
+    return tsc_seat_get_max(tsc_go_store(b), b->handle, from, from_len, to, to_len, ends, &b->told,
                             &b->value);
 }
 
@@ -138,25 +138,25 @@ static inline uint32_t tsc_go_seat_earliest_write(tsc_go_block *b, const uint8_t
                                                   size_t keys_len, const tsc_span *spans,
                                                   size_t spans_len)
 {
-    return tsc_seat_earliest_write(tsc_go_place(b), b->number, keys, keys_len, spans, spans_len,
+    return tsc_seat_earliest_write(tsc_go_store(b), b->handle, keys, keys_len, spans, spans_len,
                                    &b->value, &b->told, &b->time);
 }
 
 static inline uint32_t tsc_go_seat_may_write(tsc_go_block *b, const uint8_t *keys, size_t keys_len,
                                              const tsc_span *spans, size_t spans_len)
 {
-    return tsc_seat_may_write(tsc_go_place(b), b->number, keys, keys_len, spans, spans_len,
+    return tsc_seat_may_write(tsc_go_store(b), b->handle, keys, keys_len, spans, spans_len,
                               &b->value, &b->told, &b->may);
 }
 
 static inline uint32_t tsc_go_seat_low_water(tsc_go_block *b)
 {
-    return tsc_seat_low_water(tsc_go_place(b), b->number, &b->told, &b->time);
+    return tsc_seat_low_water(tsc_go_store(b), b->handle, &b->told, &b->time);
 }
 
 static inline uint32_t tsc_go_seat_figures(tsc_go_block *b)
 {
-    return tsc_seat_figures_of(tsc_go_place(b), b->number, &b->told, &b->figures);
+    return tsc_seat_figures_of(tsc_go_store(b), b->handle, &b->told, &b->figures);
 }
 
 static inline uint32_t tsc_go_summary(tsc_go_block *b, const uint8_t *from, size_t from_len,
@@ -164,7 +164,7 @@ static inline uint32_t tsc_go_summary(tsc_go_block *b, const uint8_t *from, size
                                       uint8_t *out, size_t room)
 {
     size_t len = 0;
-    uint32_t code = tsc_summary(tsc_go_place(b), b->number, from, from_len, to, to_len, ends, most,
+    uint32_t code = tsc_summary(tsc_go_store(b), b->handle, from, from_len, to, to_len, ends, most,
                                 out, room, &len);
     b->told = len;
     return code;
@@ -172,7 +172,7 @@ static inline uint32_t tsc_go_summary(tsc_go_block *b, const uint8_t *from, size
 
 static inline uint32_t tsc_go_apply(tsc_go_block *b, const uint8_t *summary, size_t summary_len)
 {
-    return tsc_apply(tsc_go_place(b), b->number, summary, summary_len, &b->time, &b->added);
+    return tsc_apply(tsc_go_store(b), b->handle, summary, summary_len, &b->time, &b->added);
 }
 
 #endif

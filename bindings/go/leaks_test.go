@@ -13,8 +13,9 @@ import (
 // Opened and dropped so often, each thing leaves nothing behind, whether it is closed or left to
 // the collector.
 func TestNothingIsLeftBehind(t *testing.T) {
-	// Less than an empty cache takes, times 2,000, and more than the threads keep for themselves.
-	const times, most = 2000, 128 << 10
+	// Less than a block takes, times 4,000, and more than the threads keep for themselves, which are
+	// more where the machine is busy.
+	const times, most = 4000, 384 << 10
 	config := Config{PageFirst: 132, PageMax: 132, MinPages: 2, Retention: 10, LowWater: Time{5, 0}}
 	key, now := Point([]byte("a")), Time{20, 0}
 	kinds := map[string]func(closes bool) error{

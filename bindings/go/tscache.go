@@ -153,7 +153,7 @@ func (o *owned) open() error {
 	return nil
 }
 
-// free frees the block, with what lies in its place. A second call does nothing.
+// free frees the block, with what its store owns. A second call does nothing.
 func (o *owned) free() {
 	o.take()
 	if o.block != nil {
@@ -306,9 +306,9 @@ type Shared struct{ owned }
 // second one panics; those of different seats may come at once. Where there are more goroutines
 // than seats a Pool has the seats go round.
 //
-// There is one history of all Adds of the cache, and what a seat has seen are the first so many of
-// it. So a lookup that tells more of them than the place of an Add counts that Add, whichever seat
-// made it, and so does each later lookup of its seat.
+// All Adds of the cache form one history, and a seat has seen a beginning of it. A lookup that
+// returns more Adds than the place of an Add counts that Add, whichever seat made it, and so does
+// each later lookup of its seat.
 type Seat struct{ owned }
 
 // OpenShared makes a cache to which nothing was added, and its seats, 1 to 64 of them. There may
@@ -382,10 +382,9 @@ func (s *Seat) Close() {
 	s.free()
 }
 
-// Add adds a span that was read, and tells which place the Add has among all of the cache, counted
-// from 0. It waits for nobody: where others are in the way at each of so many tries it is refused
-// with ErrBusy, and may be tried again. Take 64 tries; where it is refused call runtime.Gosched,
-// and try again.
+// Add adds a span that was read, and returns the Add's place among all of the cache, counted from
+// 0. It waits for nobody: if others are in the way at each of its tries, it returns ErrBusy. Take
+// 64 tries; if it is refused, call runtime.Gosched and try again.
 func (s *Seat) Add(span Span, value Value, now Time, tries uint32) (uint64, Added, error) {
 	s.take()
 	if s.block == nil {
@@ -490,7 +489,7 @@ func (s *Seat) told(code C.uint32_t) uint64 {
 	return uint64(s.block.told)
 }
 
-// flat gives the keys of some marks, one behind the other, and the marks with their places there,
+// flat gives the keys of some marks, one behind the other, and the marks with where theirs lie,
 // and one more mark behind them, which is nobody's.
 func flat(marks []Mark) ([]byte, []C.tsc_mark) {
 	var keys []byte

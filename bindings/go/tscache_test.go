@@ -26,6 +26,13 @@ func wants(t *testing.T, c *Cache, span Span, value Value) {
 	}
 }
 
+func TestTheDefaultIsWhatItSays(t *testing.T) {
+	said := Config{PageFirst: 131072, PageMax: 33554432, MinPages: 2, Retention: 10000000000}
+	if got := DefaultConfig(); got != said {
+		t.Errorf("got %v", got)
+	}
+}
+
 func TestSpans(t *testing.T) {
 	c := small(t)
 	if a, err := c.Add(Range([]byte("a"), []byte("c"), ExcludeBoth), at(20, one), Time{20, 0}); err != nil || a != (Added{Kept: true}) {

@@ -265,6 +265,79 @@ func TestApart(t *testing.T) {
 	}
 }
 
+// Each of the sixteen bytes of a transaction goes in and comes out at its own place.
+func TestATransactionKeepsItsBytes(t *testing.T) {
+	var by [16]byte
+	for i := range by {
+		by[i] = byte(i) * 0x11
+	}
+	c, now, later := small(t), Time{20, 0}, Time{20, 1}
+	_, seats, err := OpenShared(DefaultConfig(), 1, math.MaxUint64)
+	if err != nil {
+		t.Fatal(err)
+	}
+	s, value := seats[0], Value{now, by}
+	spans := []Span{Point([]byte("a")), Point([]byte("b"))}
+	marks := []Mark{{spans[1], value}}
+	_, err1 := c.Add(spans[0], value, now)
+	_, err2 := c.AddAll(marks, now)
+	_, _, err3 := s.Add(spans[0], value, now, 64)
+	_, _, err4 := s.AddAll(marks, now, 64)
+	for _, err := range []error{err1, err2, err3, err4} {
+		if err != nil {
+			t.Fatal(err)
+		}
+	}
+	for _, span := range spans {
+		wants(t, c, span, value)
+		if got, _, err := s.GetMax(span); err != nil || got != value {
+			t.Errorf("got %v, %v", got, err)
+		}
+		for i := -1; i < len(by); i++ {
+			who, wanted := by, now
+			if i >= 0 {
+				who[i] ^= 1
+				wanted = later
+			}
+			one, err1 := c.EarliestWrite([]Span{span}, now, who)
+			other, err2 := s.EarliestWrite([]Span{span}, now, who)
+			may, err3 := c.MayWrite(span, now, who)
+			mayToo, err4 := s.MayWrite(span, now, who)
+			if err1 != nil || err2 != nil || err3 != nil || err4 != nil || one != wanted || other != wanted {
+				t.Errorf("byte %d: got %v and %v", i, one, other)
+			}
+			if may != (i < 0) || mayToo != (i < 0) {
+				t.Errorf("byte %d: got %v and %v", i, may, mayToo)
+			}
+		}
+	}
+}
+
+// No Add is refused as busy that tries so often as no other can be in its way.
+func TestAnAddTriesAsOftenAsItIsTold(t *testing.T) {
+	_, seats, err := OpenShared(DefaultConfig(), 4, math.MaxUint64)
+	if err != nil {
+		t.Fatal(err)
+	}
+	var all sync.WaitGroup
+	for _, seat := range seats {
+		all.Add(1)
+		go func(seat *Seat) {
+			defer all.Done()
+			key, value := Point([]byte("a")), at(20, one)
+			for i := 0; i < 2000; i++ {
+				_, _, err1 := seat.Add(key, value, value.Time, math.MaxUint32)
+				_, _, err2 := seat.AddAll([]Mark{{key, value}}, value.Time, math.MaxUint32)
+				if err1 != nil || err2 != nil {
+					t.Errorf("got %v and %v", err1, err2)
+					return
+				}
+			}
+		}(seat)
+	}
+	all.Wait()
+}
+
 func TestPool(t *testing.T) {
 	const goroutines, each = 1000, 20
 	shared, seats, err := OpenShared(DefaultConfig(), 4, math.MaxUint64)
@@ -459,5 +532,10 @@ func TestCallsTakeNoMemory(t *testing.T) {
 	})
 	if took != 0 {
 		t.Errorf("they took memory %v times", took)
+	}
+	for _, o := range []*owned{&c.owned, &s.owned} { // a part of a run doesn't count above
+		if cap(o.keys) > 64 || cap(o.spans) > 8 {
+			t.Errorf("questions left %d bytes and %d spans", cap(o.keys), cap(o.spans))
+		}
 	}
 }

@@ -7,8 +7,8 @@
 #include <tscache.h>
 
 uint32_t other_tsc_version(void);
-uint32_t other_tsc_open(tsc_place *, uint32_t, uint32_t, uint32_t, uint64_t, const tsc_time *, uint64_t *);
-void other_tsc_free(tsc_place *);
+uint32_t other_tsc_open(tsc_store *, uint32_t, uint32_t, uint32_t, uint64_t, const tsc_time *, uint64_t *);
+void other_tsc_free(tsc_store *);
 
 static _Alignas(16) unsigned char room[1 << 20];
 static size_t used;
@@ -41,7 +41,7 @@ void *realloc(void *at, size_t size) {
 }
 
 int main(void) {
-    static tsc_place mine, others;
+    static tsc_store mine, others;
     uint64_t n;
     tsc_time low = {5, 0};
     long before = held, first, second;

@@ -136,7 +136,7 @@ fn together(threads: u64, work: &(dyn Fn(u64) + Sync)) -> u128 {
 /// Lookups on one and on four threads.
 fn on_threads(nodes: u64, places: &[[u8; 8]]) -> Result<(), Error> {
     let map = map(nodes);
-    let (_shared, seats) = Shared::open(&config(nodes), 4, 1 << 40)?;
+    let (_shared, seats) = Shared::open(&config(nodes), 4, u64::MAX)?;
     let seats: Vec<_> = seats.into_iter().map(Mutex::new).collect();
     for place in 0..nodes {
         seats[0].lock().unwrap().add(

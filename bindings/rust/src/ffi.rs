@@ -14,7 +14,7 @@ pub const NO_TIME: u32 = 18;
 
 #[repr(C)]
 #[derive(Debug)]
-pub struct Place {
+pub struct Store {
     pub at: *mut c_void,
 }
 
@@ -53,17 +53,17 @@ pub struct Span {
 
 extern "C" {
     pub fn tsc_open(
-        place: *mut Place,
+        store: *mut Store,
         page_first: u32,
         page_max: u32,
         min_pages: u32,
         retention: u64,
         low_water: *const Time,
-        number: *mut u64,
+        handle: *mut u64,
     ) -> u32;
     pub fn tsc_add(
-        place: *mut Place,
-        number: u64,
+        store: *mut Store,
+        handle: u64,
         from: *const u8,
         from_len: usize,
         to: *const u8,
@@ -74,8 +74,8 @@ extern "C" {
         out: *mut Added,
     ) -> u32;
     pub fn tsc_add_all(
-        place: *mut Place,
-        number: u64,
+        store: *mut Store,
+        handle: u64,
         keys: *const u8,
         keys_len: usize,
         marks: *const Mark,
@@ -84,8 +84,8 @@ extern "C" {
         out: *mut Added,
     ) -> u32;
     pub fn tsc_get_max(
-        place: *mut Place,
-        number: u64,
+        store: *mut Store,
+        handle: u64,
         from: *const u8,
         from_len: usize,
         to: *const u8,
@@ -94,8 +94,8 @@ extern "C" {
         out: *mut Value,
     ) -> u32;
     pub fn tsc_earliest_write(
-        place: *mut Place,
-        number: u64,
+        store: *mut Store,
+        handle: u64,
         keys: *const u8,
         keys_len: usize,
         spans: *const Span,
@@ -104,8 +104,8 @@ extern "C" {
         out: *mut Time,
     ) -> u32;
     pub fn tsc_may_write(
-        place: *mut Place,
-        number: u64,
+        store: *mut Store,
+        handle: u64,
         keys: *const u8,
         keys_len: usize,
         spans: *const Span,
@@ -114,8 +114,8 @@ extern "C" {
         out: *mut bool,
     ) -> u32;
     pub fn tsc_summary(
-        place: *mut Place,
-        number: u64,
+        store: *mut Store,
+        handle: u64,
         from: *const u8,
         from_len: usize,
         to: *const u8,
@@ -127,24 +127,24 @@ extern "C" {
         len: *mut usize,
     ) -> u32;
     pub fn tsc_apply(
-        place: *mut Place,
-        number: u64,
+        store: *mut Store,
+        handle: u64,
         summary: *const u8,
         summary_len: usize,
         now: *const Time,
         out: *mut Added,
     ) -> u32;
-    pub fn tsc_low_water(place: *mut Place, number: u64, out: *mut Time) -> u32;
-    pub fn tsc_figures_of(place: *mut Place, number: u64, out: *mut Figures) -> u32;
-    pub fn tsc_free(place: *mut Place);
+    pub fn tsc_low_water(store: *mut Store, handle: u64, out: *mut Time) -> u32;
+    pub fn tsc_figures_of(store: *mut Store, handle: u64, out: *mut Figures) -> u32;
+    pub fn tsc_free(store: *mut Store);
     pub fn tsc_move(
-        place: *mut Place,
-        number: u64,
-        other: *mut Place,
-        other_number: *mut u64,
+        store: *mut Store,
+        handle: u64,
+        other: *mut Store,
+        other_handle: *mut u64,
     ) -> u32;
     pub fn tsc_open_shared(
-        place: *mut Place,
+        store: *mut Store,
         page_first: u32,
         page_max: u32,
         min_pages: u32,
@@ -152,10 +152,10 @@ extern "C" {
         low_water: *const Time,
         seats: u32,
         limit: u64,
-        number: *mut u64,
+        handle: *mut u64,
     ) -> u32;
     pub fn tsc_seat_add(
-        place: *mut Place,
+        store: *mut Store,
         seat: u64,
         from: *const u8,
         from_len: usize,
@@ -169,7 +169,7 @@ extern "C" {
         out: *mut Added,
     ) -> u32;
     pub fn tsc_seat_add_all(
-        place: *mut Place,
+        store: *mut Store,
         seat: u64,
         keys: *const u8,
         keys_len: usize,
@@ -181,7 +181,7 @@ extern "C" {
         out: *mut Added,
     ) -> u32;
     pub fn tsc_seat_get_max(
-        place: *mut Place,
+        store: *mut Store,
         seat: u64,
         from: *const u8,
         from_len: usize,
@@ -192,7 +192,7 @@ extern "C" {
         out: *mut Value,
     ) -> u32;
     pub fn tsc_seat_earliest_write(
-        place: *mut Place,
+        store: *mut Store,
         seat: u64,
         keys: *const u8,
         keys_len: usize,
@@ -203,7 +203,7 @@ extern "C" {
         out: *mut Time,
     ) -> u32;
     pub fn tsc_seat_may_write(
-        place: *mut Place,
+        store: *mut Store,
         seat: u64,
         keys: *const u8,
         keys_len: usize,
@@ -213,14 +213,14 @@ extern "C" {
         seen: *mut u64,
         out: *mut bool,
     ) -> u32;
-    pub fn tsc_seat_low_water(place: *mut Place, seat: u64, seen: *mut u64, out: *mut Time) -> u32;
+    pub fn tsc_seat_low_water(store: *mut Store, seat: u64, seen: *mut u64, out: *mut Time) -> u32;
     pub fn tsc_seat_figures_of(
-        place: *mut Place,
+        store: *mut Store,
         seat: u64,
         seen: *mut u64,
         out: *mut Figures,
     ) -> u32;
-    pub fn tsc_close_shared(place: *mut Place, number: u64, length: *mut u64) -> u32;
+    pub fn tsc_close_shared(store: *mut Store, handle: u64, length: *mut u64) -> u32;
     pub fn tsc_replay(
         trace: *const u8,
         trace_len: usize,

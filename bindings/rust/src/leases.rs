@@ -36,8 +36,8 @@ impl Cache {
         // reference
         let (code, bytes) = with_room(|out, len| unsafe {
             ffi::tsc_summary(
-                &mut self.place,
-                self.number,
+                &mut self.store,
+                self.handle,
                 from.as_ptr(),
                 from.len(),
                 to.as_ptr(),
@@ -79,8 +79,8 @@ impl Cache {
         // SAFETY: as of the other calls
         done(unsafe {
             ffi::tsc_apply(
-                &mut self.place,
-                self.number,
+                &mut self.store,
+                self.handle,
                 summary.as_ptr(),
                 summary.len(),
                 &now,

@@ -307,7 +307,7 @@ impl From<ffi::Added> for Added {
     }
 }
 
-/// The keys of some marks, one behind the other, and the marks with their places there.
+/// The keys of some marks, one behind the other, and the marks with where theirs lie.
 fn flat(marks: &[Mark<'_>]) -> (Vec<u8>, Vec<ffi::Mark>) {
     let mut keys = Vec::new();
     let mut asked = Vec::with_capacity(marks.len());
@@ -328,7 +328,7 @@ fn flat(marks: &[Mark<'_>]) -> (Vec<u8>, Vec<ffi::Mark>) {
     (keys, asked)
 }
 
-/// A timestamp cache, in a place of its own.
+/// A timestamp cache, in a store of its own.
 ///
 /// It may go to another thread, and is used by one at a time:
 ///
@@ -341,20 +341,20 @@ fn flat(marks: &[Mark<'_>]) -> (Vec<u8>, Vec<ffi::Mark>) {
 /// fn moved<T: Send>() {}
 /// moved::<tscache::Cache>();
 /// ```
-// Each call writes to its place, so those that threads use at once lie in different lines of the
+// Each call writes to its store, so those that threads use at once lie in different lines of the
 // processor's caches, and not beside each other.
 #[derive(Debug)]
 #[repr(align(128))]
 pub struct Cache {
-    place: ffi::Place,
-    number: u64,
+    store: ffi::Store,
+    handle: u64,
 }
 
-// SAFETY: the library proves of its place that what it owns may go to another thread, and each
+// SAFETY: the library proves of its store that what it owns may go to another thread, and each
 // call takes `&mut self`.
 unsafe impl Send for Cache {}
 
-// SAFETY, of each call below: the place began as null and only these calls change it; it is behind
+// SAFETY, of each call below: the store began as null and only these calls change it; it is behind
 // `&mut` and so used by one call at a time; it is never copied; each pointer comes from a
 // reference or a slice that lives through the call, and what is written to is a local of its own,
 // which a call writes as a whole wherever it answers 0.
@@ -366,17 +366,17 @@ impl Cache {
     /// assert_eq!(Cache::open(&Config { page_first: 63, ..Config::default() }).err(), Some(Error::PageSize));
     /// ```
     pub fn open(config: &Config) -> Result<Cache, Error> {
-        let mut cache = Cache { place: ffi::Place { at: null_mut::<c_void>() }, number: 0 };
+        let mut cache = Cache { store: ffi::Store { at: null_mut::<c_void>() }, handle: 0 };
         let Config { page_first, page_max, min_pages, retention, low_water } = *config;
         done(unsafe {
             ffi::tsc_open(
-                &mut cache.place,
+                &mut cache.store,
                 page_first,
                 page_max,
                 min_pages,
                 retention,
                 &low_water,
-                &mut cache.number,
+                &mut cache.handle,
             )
         })?;
         Ok(cache)
@@ -389,8 +389,8 @@ impl Cache {
         let mut added = MaybeUninit::<ffi::Added>::uninit();
         done(unsafe {
             ffi::tsc_add(
-                &mut self.place,
-                self.number,
+                &mut self.store,
+                self.handle,
                 from.as_ptr(),
                 from.len(),
                 to.as_ptr(),
@@ -422,8 +422,8 @@ impl Cache {
         let mut added = MaybeUninit::<ffi::Added>::uninit();
         done(unsafe {
             ffi::tsc_add_all(
-                &mut self.place,
-                self.number,
+                &mut self.store,
+                self.handle,
                 keys.as_ptr(),
                 keys.len(),
                 asked.as_ptr(),
@@ -442,11 +442,11 @@ impl Cache {
     pub fn get_max(&mut self, span: &Span<'_>) -> Value {
         let (from, to, ends) = span.parts();
         let mut found = MaybeUninit::<ffi::Value>::uninit();
-        // it is refused only where the number names no cache, or there are no such ends
+        // it is refused only where the handle names no cache, or there are no such ends
         answered(unsafe {
             ffi::tsc_get_max(
-                &mut self.place,
-                self.number,
+                &mut self.store,
+                self.handle,
                 from.as_ptr(),
                 from.len(),
                 to.as_ptr(),
@@ -462,8 +462,8 @@ impl Cache {
     #[inline]
     pub fn low_water(&mut self) -> Time {
         let mut floor = MaybeUninit::uninit();
-        // it is refused only where the number names no cache
-        answered(unsafe { ffi::tsc_low_water(&mut self.place, self.number, floor.as_mut_ptr()) });
+        // it is refused only where the handle names no cache
+        answered(unsafe { ffi::tsc_low_water(&mut self.store, self.handle, floor.as_mut_ptr()) });
         unsafe { floor.assume_init() }
     }
 
@@ -471,9 +471,9 @@ impl Cache {
     #[inline]
     pub fn figures(&mut self) -> Figures {
         let mut figures = MaybeUninit::uninit();
-        // it is refused only where the number names no cache
+        // it is refused only where the handle names no cache
         answered(unsafe {
-            ffi::tsc_figures_of(&mut self.place, self.number, figures.as_mut_ptr())
+            ffi::tsc_figures_of(&mut self.store, self.handle, figures.as_mut_ptr())
         });
         unsafe { figures.assume_init() }
     }
@@ -481,7 +481,7 @@ impl Cache {
 
 impl Drop for Cache {
     fn drop(&mut self) {
-        unsafe { ffi::tsc_free(&mut self.place) }
+        unsafe { ffi::tsc_free(&mut self.store) }
     }
 }
 
@@ -507,15 +507,15 @@ impl Drop for Cache {
 /// ```
 #[derive(Debug)]
 pub struct Shared {
-    place: ffi::Place,
-    number: u64,
+    store: ffi::Store,
+    handle: u64,
 }
 
-/// A seat of a [shared](Shared) cache, in a place of its own. It is handed in where it is dropped.
+/// A seat of a [shared](Shared) cache, in a store of its own. It is handed in where it is dropped.
 ///
-/// There is one history of all Adds of the cache, and what a seat has seen are the first so many
-/// of it. So a lookup that tells more of them than the place of an Add counts that Add, whichever
-/// seat made it, and so does each later lookup of its seat.
+/// All Adds of the cache form one history, and a seat has seen a beginning of it. A lookup that
+/// returns more Adds than the place of an Add counts that Add, whichever seat made it, and so does
+/// each later lookup of its seat.
 ///
 /// It may go to another thread, and is used by one at a time:
 ///
@@ -533,11 +533,11 @@ pub struct Shared {
 #[derive(Debug)]
 #[repr(align(128))]
 pub struct Seat {
-    place: ffi::Place,
-    number: u64,
+    store: ffi::Store,
+    handle: u64,
 }
 
-// SAFETY: as of `Cache`; and places with seats of one cache may be used at once.
+// SAFETY: as of `Cache`; and stores with seats of one cache may be used at once.
 unsafe impl Send for Shared {}
 
 // SAFETY: as of `Shared`.
@@ -547,11 +547,11 @@ impl Shared {
     /// A cache to which nothing was added, and its seats, 1 to 64 of them. There may be `limit` Adds:
     /// take `u64::MAX`, which is never reached, since a smaller limit is for tests.
     pub fn open(config: &Config, seats: u32, limit: u64) -> Result<(Shared, Vec<Seat>), Error> {
-        let mut shared = Shared { place: ffi::Place { at: null_mut::<c_void>() }, number: 0 };
+        let mut shared = Shared { store: ffi::Store { at: null_mut::<c_void>() }, handle: 0 };
         let Config { page_first, page_max, min_pages, retention, low_water } = *config;
         done(unsafe {
             ffi::tsc_open_shared(
-                &mut shared.place,
+                &mut shared.store,
                 page_first,
                 page_max,
                 min_pages,
@@ -559,7 +559,7 @@ impl Shared {
                 &low_water,
                 seats,
                 limit,
-                &mut shared.number,
+                &mut shared.handle,
             )
         })?;
         let seats = (1..=u64::from(seats)).map(|i| shared.seat(i)).collect::<Result<_, _>>()?;
@@ -567,9 +567,9 @@ impl Shared {
     }
 
     fn seat(&mut self, i: u64) -> Result<Seat, Error> {
-        let mut seat = Seat { place: ffi::Place { at: null_mut::<c_void>() }, number: 0 };
+        let mut seat = Seat { store: ffi::Store { at: null_mut::<c_void>() }, handle: 0 };
         done(unsafe {
-            ffi::tsc_move(&mut self.place, self.number + i, &mut seat.place, &mut seat.number)
+            ffi::tsc_move(&mut self.store, self.handle + i, &mut seat.store, &mut seat.handle)
         })?;
         Ok(seat)
     }
@@ -578,7 +578,7 @@ impl Shared {
     /// back.
     pub fn close(mut self) -> Result<u64, Shared> {
         let mut length = 0;
-        match unsafe { ffi::tsc_close_shared(&mut self.place, self.number, &mut length) } {
+        match unsafe { ffi::tsc_close_shared(&mut self.store, self.handle, &mut length) } {
             0 => Ok(length),
             _ => Err(self),
         }
@@ -587,16 +587,15 @@ impl Shared {
 
 impl Drop for Shared {
     fn drop(&mut self) {
-        unsafe { ffi::tsc_free(&mut self.place) }
+        unsafe { ffi::tsc_free(&mut self.store) }
     }
 }
 
 // SAFETY, of each call below: as of those of `Cache`.
 impl Seat {
-    /// Adds a span that was read, and tells which place the Add has among all of the cache, counted
-    /// from 0. It waits for nobody: where others are in the way at each of so many tries it is refused
-    /// as [`Error::Busy`]. Take 64 tries; where it is refused call `std::thread::yield_now`, and try
-    /// again.
+    /// Adds a span that was read, and returns the Add's place among all of the cache, counted from
+    /// 0. It waits for nobody: if others are in the way at each of its tries, it is refused as
+    /// [`Error::Busy`]. Take 64 tries; if it is refused, call `std::thread::yield_now` and try again.
     #[inline]
     pub fn add(
         &mut self,
@@ -609,8 +608,8 @@ impl Seat {
         let (mut place, mut added) = (0, MaybeUninit::<ffi::Added>::uninit());
         done(unsafe {
             ffi::tsc_seat_add(
-                &mut self.place,
-                self.number,
+                &mut self.store,
+                self.handle,
                 from.as_ptr(),
                 from.len(),
                 to.as_ptr(),
@@ -637,8 +636,8 @@ impl Seat {
         let (mut place, mut added) = (0, MaybeUninit::<ffi::Added>::uninit());
         done(unsafe {
             ffi::tsc_seat_add_all(
-                &mut self.place,
-                self.number,
+                &mut self.store,
+                self.handle,
                 keys.as_ptr(),
                 keys.len(),
                 asked.as_ptr(),
@@ -658,11 +657,11 @@ impl Seat {
     pub fn get_max(&mut self, span: &Span<'_>) -> (Value, u64) {
         let (from, to, ends) = span.parts();
         let (mut seen, mut found) = (0, MaybeUninit::<ffi::Value>::uninit());
-        // it is refused only where the number names no seat, or there are no such ends
+        // it is refused only where the handle names no seat, or there are no such ends
         answered(unsafe {
             ffi::tsc_seat_get_max(
-                &mut self.place,
-                self.number,
+                &mut self.store,
+                self.handle,
                 from.as_ptr(),
                 from.len(),
                 to.as_ptr(),
@@ -679,9 +678,9 @@ impl Seat {
     #[inline]
     pub fn low_water(&mut self) -> (Time, u64) {
         let (mut seen, mut floor) = (0, MaybeUninit::uninit());
-        // it is refused only where the number names no seat
+        // it is refused only where the handle names no seat
         answered(unsafe {
-            ffi::tsc_seat_low_water(&mut self.place, self.number, &mut seen, floor.as_mut_ptr())
+            ffi::tsc_seat_low_water(&mut self.store, self.handle, &mut seen, floor.as_mut_ptr())
         });
         (unsafe { floor.assume_init() }, seen)
     }
@@ -690,9 +689,9 @@ impl Seat {
     #[inline]
     pub fn figures(&mut self) -> (Figures, u64) {
         let (mut seen, mut figures) = (0, MaybeUninit::uninit());
-        // it is refused only where the number names no seat
+        // it is refused only where the handle names no seat
         answered(unsafe {
-            ffi::tsc_seat_figures_of(&mut self.place, self.number, &mut seen, figures.as_mut_ptr())
+            ffi::tsc_seat_figures_of(&mut self.store, self.handle, &mut seen, figures.as_mut_ptr())
         });
         (unsafe { figures.assume_init() }, seen)
     }
@@ -700,7 +699,7 @@ impl Seat {
 
 impl Drop for Seat {
     fn drop(&mut self) {
-        unsafe { ffi::tsc_free(&mut self.place) }
+        unsafe { ffi::tsc_free(&mut self.store) }
     }
 }
 
@@ -724,6 +723,18 @@ mod tests {
             low_water: Time::new(5, 0),
         })
         .unwrap()
+    }
+
+    #[test]
+    fn the_default_is_what_it_says() {
+        let said = Config {
+            page_first: 131_072,
+            page_max: 33_554_432,
+            min_pages: 2,
+            retention: 10_000_000_000,
+            low_water: Time::new(0, 0),
+        };
+        assert_eq!(Config::default(), said);
     }
 
     #[test]
@@ -937,6 +948,61 @@ mod tests {
     }
 
     /// What threads use at once lies apart.
+    /// Each of the sixteen bytes of a transaction goes in and comes out at its own place.
+    #[test]
+    fn a_transaction_keeps_its_bytes() {
+        let one: [u8; 16] = std::array::from_fn(|i| i as u8 * 0x11);
+        let (key, time) = (Span::Point(b"a"), Time::new(20, 0));
+        let value = Value { time, owner: Some(one) };
+        let marks = [Mark { span: Span::Point(b"b"), value }];
+        let mut cache = Cache::open(&Config::default()).unwrap();
+        let (_shared, mut seats) = Shared::open(&Config::default(), 1, 9).unwrap();
+        let seat = &mut seats[0];
+        cache.add(&key, value, time).unwrap();
+        cache.add_all(&marks, time).unwrap();
+        seat.add(&key, value, time, 64).unwrap();
+        seat.add_all(&marks, time, 64).unwrap();
+        for span in [key, marks[0].span] {
+            assert_eq!((cache.get_max(&span), seat.get_max(&span).0), (value, value));
+            assert!(cache.may_write(&span, time, one) && seat.may_write(&span, time, one));
+            for i in 0..16 {
+                let mut other = one;
+                other[i] ^= 1;
+                let later = Some(Time::new(20, 1));
+                assert!(!cache.may_write(&span, time, other), "{i}");
+                assert!(!seat.may_write(&span, time, other), "{i}");
+                assert_eq!(cache.earliest_write(&[span], time, other), later, "{i}");
+                assert_eq!(seat.earliest_write(&[span], time, other), later, "{i}");
+            }
+        }
+    }
+
+    /// No Add is refused as busy that tries so often as no other can be in its way.
+    #[test]
+    fn an_add_tries_as_often_as_it_is_told() {
+        let (_shared, seats) = Shared::open(&Config::default(), 4, u64::MAX).unwrap();
+        std::thread::scope(|scope| {
+            for mut seat in seats {
+                scope.spawn(move || {
+                    let (value, now) = (at(20, ONE), Time::new(20, 0));
+                    let marks = [Mark { span: Span::Point(b"b"), value }];
+                    for _ in 0..2_000 {
+                        seat.add(&Span::Point(b"a"), value, now, u32::MAX).unwrap();
+                        seat.add_all(&marks, now, u32::MAX).unwrap();
+                    }
+                });
+            }
+        });
+    }
+
+    #[test]
+    fn a_lookup_that_is_refused_ends_the_program() {
+        for code in 1..256 {
+            assert!(std::panic::catch_unwind(|| answered(code)).is_err(), "{code}");
+        }
+        answered(0);
+    }
+
     #[test]
     fn seats_lie_apart() {
         assert!(std::mem::align_of::<Cache>() >= 128 && std::mem::align_of::<Seat>() >= 128);

@@ -92,8 +92,8 @@ impl Cache {
         // SAFETY: as of the other calls.
         let code = flat(spans, |keys, asked| unsafe {
             ffi::tsc_may_write(
-                &mut self.place,
-                self.number,
+                &mut self.store,
+                self.handle,
                 keys.as_ptr(),
                 keys.len(),
                 asked.as_ptr(),
@@ -127,8 +127,8 @@ impl Cache {
         // SAFETY: as of the other calls.
         let code = flat(spans, |keys, asked| unsafe {
             ffi::tsc_earliest_write(
-                &mut self.place,
-                self.number,
+                &mut self.store,
+                self.handle,
                 keys.as_ptr(),
                 keys.len(),
                 asked.as_ptr(),
@@ -161,8 +161,8 @@ impl Seat {
         // SAFETY: as of the other calls.
         let code = flat(spans, |keys, asked| unsafe {
             ffi::tsc_seat_may_write(
-                &mut self.place,
-                self.number,
+                &mut self.store,
+                self.handle,
                 keys.as_ptr(),
                 keys.len(),
                 asked.as_ptr(),
@@ -182,8 +182,8 @@ impl Seat {
         // SAFETY: as of the other calls.
         let code = flat(spans, |keys, asked| unsafe {
             ffi::tsc_seat_earliest_write(
-                &mut self.place,
-                self.number,
+                &mut self.store,
+                self.handle,
                 keys.as_ptr(),
                 keys.len(),
                 asked.as_ptr(),

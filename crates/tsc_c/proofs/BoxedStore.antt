@@ -1,4 +1,5 @@
--- The box of a store, as calls of the standard library's functions take it: its types at the layouts that a call passes, and what lets go of them.
+-- The box of a store, as calls of the standard library's functions take it: its types at the
+-- layouts that a call passes, and what lets go of them.
 use Rattle.std.proofs.Common.{List, [], ◌∷◌, refl, sym, ap, subst}
 use lib.Dec.{T}
 use base.Fraction.{full_share}
@@ -35,7 +36,9 @@ abbrev pub heap_layout : Ty
 heap_layout = ty_struct [] (tcons (ty_struct [] (tcons ty_unit tnil)) tnil)
 
 abbrev pub store_layout : Ty
-store_layout = ty_struct [] (tcons (ty_struct [] (tcons ty_ptr (tcons (ty_int w64) (tcons (ty_int w64) (tcons heap_layout tnil))))) tnil)
+store_layout = ty_struct [] (tcons
+    (ty_struct [] (tcons ty_ptr (tcons (ty_int w64) (tcons (ty_int w64) (tcons heap_layout tnil)))))
+    tnil)
 
 abbrev pub Passed : RattleType
 Passed = arg store_layout no Kept
@@ -54,7 +57,11 @@ abbrev pub heap_drop : Dict
 heap_drop = impl (stays_there.symbol ∷ []) (tcons heap_layout tnil) dnil
 
 abbrev pub E : Bx
-E = record { row = Passed; laws = passed_laws; al = record { row = Heap; laws = heap_passed_laws; g = ghosts; d = dict; drops = heap_drop } }
+E = record {
+  row = Passed;
+  laws = passed_laws;
+  al = record { row = Heap; laws = heap_passed_laws; g = ghosts; d = dict; drops = heap_drop };
+}
 
 -- both live as long as one likes
 pub store_lives : [] ⊑ Kept.lives
@@ -79,18 +86,28 @@ abbrev pub named : {M : Type 1} {𝓤 : Ura M} → Item 𝓤
 named = ‵ (flft [] full_share) ⊛ ‵ (flft [] full_share) ⊛ ‵ ftrue
 
 abbrev pub Asked : {M : Type 1} {𝓤 : Ura M} → Fml → Fml → Item 𝓤
-Asked {𝓤 = 𝓤} args more = (named ⊛ ‵ args) ⊛ (raw (fact 𝓤 ([] ⊑ Kept.lives)) ⊛ raw (fact 𝓤 ([] ⊑ heap.the_row.lives)) ⊛ ‵ more)
+Asked {𝓤 = 𝓤} args more = (named ⊛ ‵ args) ⊛
+    (raw (fact 𝓤 ([] ⊑ Kept.lives)) ⊛ raw (fact 𝓤 ([] ⊑ heap.the_row.lives)) ⊛ ‵ more)
 
-module _ {M : Type 1} {𝓤 : Ura M} {𝓛 : Logic 𝓤} {K : Type 0} {Γ : List (Item 𝓤)} {G : Goal 𝓤 𝓛.H} where
+module _ {M : Type 1} {𝓤 : Ura M} {𝓛 : Logic 𝓤} {K : Type 0} {Γ : List (Item 𝓤)}
+    {G : Goal 𝓤 𝓛.H} where
   -- so a call may have its arguments, and whatever more it asks
   pub asks : K → (args more : Fml) → Step K 𝓛 (Asked args more ∷ Γ) G (‵ args ∷ ‵ more ∷ Γ) G
   asks t args more = step (λ s. move t (1 ∷ []) $
-      use0 𝓛 (raw (fact 𝓤 ([] ⊑ heap.the_row.lives))) (fact_i 𝓤 ([] ⊑ heap.the_row.lives) (emp 𝓤) heap_lives) $ join t $
-      use0 𝓛 (raw (fact 𝓤 ([] ⊑ Kept.lives))) (fact_i 𝓤 ([] ⊑ Kept.lives) (emp 𝓤) store_lives) $ join t $
-      nothing t $ use0 𝓛 (‵ (flft [] full_share)) (𝓛.lfts.lft-nil full_share) $ join t $ use0 𝓛 (‵ (flft [] full_share)) (𝓛.lfts.lft-nil full_share) $ join t $
+      use0 𝓛 (raw (fact 𝓤 ([] ⊑ heap.the_row.lives)))
+      (fact_i 𝓤 ([] ⊑ heap.the_row.lives) (emp 𝓤) heap_lives) $ join t $
+      use0 𝓛 (raw (fact 𝓤 ([] ⊑ Kept.lives))) (fact_i 𝓤 ([] ⊑ Kept.lives) (emp 𝓤) store_lives) $
+      join t $
+      nothing t $ use0 𝓛 (‵ (flft [] full_share)) (𝓛.lfts.lft-nil full_share) $ join t $ use0 𝓛
+      (‵ (flft [] full_share)) (𝓛.lfts.lft-nil full_share) $ join t $
       move t (0 ∷ 2 ∷ []) $ join t $ join t $ s)
 
   -- what a box owns has the form of a box
-  pub box_shows : K → (d : D E) (u : Val) → (T (has_ty (box_ty E) u) × WT u → Seq K 𝓛 (‵ ((B E).own_val d (u ∷ [])) ∷ Γ) G) → Seq K 𝓛 (‵ ((B E).own_val d (u ∷ [])) ∷ Γ) G
-  box_shows t d u k = box_out E t d (u ∷ []) (λ b o h e us fits. box_in E t d b o d.value e refl $ rewrite t 0 (λ (vs : List Val). ‵ ((B E).own_val d vs)) (sym us) refl $
-      k (subst (λ (v : Val). T (has_ty (box_ty E) v) × WT v) (sym (ap only us)) (box_typed E h b o fits)))
+  pub box_shows : K → (d : D E) (u : Val) →
+      (T (has_ty (box_ty E) u) × WT u → Seq K 𝓛 (‵ ((B E).own_val d (u ∷ [])) ∷ Γ) G) →
+      Seq K 𝓛 (‵ ((B E).own_val d (u ∷ [])) ∷ Γ) G
+  box_shows t d u k = box_out E t d (u ∷ [])
+      (λ b o h e us fits. box_in E t d b o d.value e refl $ rewrite t 0
+      (λ (vs : List Val). ‵ ((B E).own_val d vs)) (sym us) refl $
+      k (subst (λ (v : Val). T (has_ty (box_ty E) v) × WT v) (sym (ap only us))
+      (box_typed E h b o fits)))

@@ -34,7 +34,10 @@ module _ {M : Type 1} (𝓤 : Ura M) (𝓛 : Logic 𝓤) (𝓜 : Model 𝓤 𝓛
   W = record { M = M; 𝓤 = 𝓤; 𝓛 = 𝓛; 𝓜 = 𝓜; 𝓡 = 𝓡 }
 
   pub store_goes : Wired 𝓡.env goes.code → Met 𝓛 𝓜 𝓡 𝓡.env Passed store_drop
-  store_goes w = glue_by Passed passed_laws W store_drop 𝓡.env (λ κs a. Lasts Goes tt a) (λ κs a. lasts Goes tt a)
-      (λ κs a x ws. Fit Goes (stays kinds.ps) tt a ws × reads.Learnt tt a x (at_exit Goes tt a ws)) (λ κs a. reads.Asked tt a) 0 tt (λ κs a h. tt)
-      (λ κs bd a vss qs. method_Known 0 kinds.ps kinds.r reads.requires reads.ensures reads.Asked reads.Learnt reads.known W goes.name let_go
+  store_goes w = glue_by Passed passed_laws W store_drop 𝓡.env (λ κs a. Lasts Goes tt a)
+      (λ κs a. lasts Goes tt a)
+      (λ κs a x ws. Fit Goes (stays kinds.ps) tt a ws × reads.Learnt tt a x (at_exit Goes tt a ws))
+      (λ κs a. reads.Asked tt a) 0 tt (λ κs a h. tt)
+      (λ κs bd a vss qs. method_Known 0 kinds.ps kinds.r reads.requires reads.ensures reads.Asked
+      reads.Learnt reads.known W goes.name let_go
       (goes.as_method 𝓡.env w let_go refl) (going.met 𝓤 𝓛 𝓜 𝓡 w) ((tt, qs, tt, a, vss), tt))

@@ -1,4 +1,5 @@
--- What a pointer in the memory of a program in C owns: nothing at null, and else the box of a store.
+-- What a pointer in the memory of a program in C owns: nothing at null, and else the box of a
+-- store.
 use Rattle.std.specs.Prelude.{◌≡◌}
 use base.Fml.{Fml, ftrue, fsep, fex}
 use mir.Syntax.{Ty}
@@ -27,4 +28,5 @@ boxed = box_owns freeable Kept
 
 abbrev pub ptr_owns : Ptr → Option Kept.Denot → Fml
 ptr_owns null_ptr c = fex (c ≡ None) (λ _. ftrue)
-ptr_owns (block_ptr b o) c = fex Kept.Denot (λ x. fsep (fex (c ≡ Some x) (λ _. ftrue)) (boxed (block_ptr b o) x))
+ptr_owns (block_ptr b o) c = fex Kept.Denot
+    (λ x. fsep (fex (c ≡ Some x) (λ _. ftrue)) (boxed (block_ptr b o) x))

@@ -1,4 +1,5 @@
-//! What is said of bytes, with room for it and without, and what the buffer holds then. `scripts/test-c-library` tests more of it, from C.
+//! What is said of bytes, with room for it and without, and what the buffer holds then.
+//! `scripts/test-c-library` tests more of it, from C.
 
 use crate::texts::{tsc_check, tsc_replay};
 use crate::version::tsc_version;
@@ -9,7 +10,8 @@ const TRACE: &str =
 
 const LOG: &str = "0 0 add 0 1 0 0\n0 1 get 1 20.0 none\n";
 
-/// A trace; a log, where it is checked against the trace; the code where there is room, and the text.
+/// A trace; a log, where it is checked against the trace; the code where there is room, and the
+/// text.
 type Row = (&'static str, Option<&'static str>, u32, &'static str);
 
 static ROWS: [Row; 6] = [
@@ -21,7 +23,8 @@ static ROWS: [Row; 6] = [
     ("[", Some(LOG), 16, "trace refused: fault 1"),
 ];
 
-/// Whether a buffer of sevens was told so: it begins with the text where that fits, and is as before where it doesn't.
+/// Whether a buffer of sevens was told so: it begins with the text where that fits, and is as
+/// before where it doesn't.
 fn is_told(text: &str, wanted: u32, out: &[u8], code: u32, len: usize) -> bool {
     let put = if code == 17 { "" } else { text };
     let fits = text.len() <= out.len();
@@ -49,7 +52,8 @@ fn holds(alloc: Global, row: &Row, room: usize) -> Result<bool, AllocError> {
     Ok(is_told(text, wanted, out.as_slice(), code, len))
 }
 
-/// The number of the first row, from 0, that is told otherwise in a buffer of two bytes less than its text, up to one more.
+/// The number of the first row, from 0, that is told otherwise in a buffer of two bytes less than
+/// its text, up to one more.
 fn first_wrong(alloc: Global, rows: &[Row]) -> Result<Option<usize>, AllocError> {
     for (i, row) in rows.iter().enumerate() {
         for more in 0..4 {

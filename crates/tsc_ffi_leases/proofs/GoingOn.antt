@@ -16,7 +16,8 @@ the_same : {a b : Summary} {r : Read Summary} → r ≡ Ok a → r ≡ Ok b → 
 the_same {a} {b} {r} first second = let same : Ok a ≡ Ok b = sym first ∙ second in cc
 
 pub leases_go_on : LeasesGoOn
-leases_go_on former next after last settings others h later s asked applied added inner by at was told
+leases_go_on former next after last settings others h later s asked applied added inner by at
+    was told
     took is within clear =
     let same : told.told ≡ took.told = the_same told.read_back took.read in
     let tells : TellsOf (state_of settings h) took.told =

@@ -74,7 +74,8 @@ fn put_in(
 
 /// The bytes of a summary of a cache.
 fn bytes_in(cache: &Cache, alloc: Global, args: &SummaryArgs<'_>) -> Result<Vec<u8>, Refusal>
-    ensures told { IfOk result (λ bytes. TellsSummary cache.now (asked_summary args.now) bytes.items) }
+    ensures told { IfOk result (λ bytes. TellsSummary cache.now (asked_summary args.now)
+        bytes.items) }
     ensures refused { IfErr result (λ why. RefusesSummary why (asked_summary args.now)) }
 {
     let span = added_span(alloc, &args.span)?;
@@ -94,7 +95,8 @@ fn apply_in(
     args: &ApplyArgs<'_>,
     out: &mut TscAdded,
 ) -> Result<(), Refusal>
-    ensures added { IfOk result (λ _. AppliesIn cache.old cache.new (asked_apply args.now) (added_of out.new)) }
+    ensures added { IfOk result (λ _. AppliesIn cache.old cache.new (asked_apply args.now)
+        (added_of out.new)) }
     ensures refused { IfErr result (λ why. RefusesApply why cache.old (asked_apply args.now)) }
     ensures unchanged { OnErr result (cache.new ≡ cache.old) }
     ensures kept { OnErr result (out.new ≡ out.old) }

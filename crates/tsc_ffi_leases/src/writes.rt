@@ -112,7 +112,8 @@ fn write_at(
     seen: &mut u64,
     out: &mut TscTime,
 ) -> Result<(), Refusal>
-    ensures answers { AnswersSeatWrite (asked_write args.now) seen.new (time_of out.new) seat.old seat.new result }
+    ensures answers { AnswersSeatWrite (asked_write args.now) seen.new (time_of out.new) seat.old
+        seat.new result }
     ensures kept { OnErr result ((seen.new ≡ seen.old) × (out.new ≡ out.old)) }
 {
     match earliest_at(seat, args)? {
@@ -143,7 +144,8 @@ fn may_at(
     seen: &mut u64,
     out: &mut bool,
 ) -> Result<(), Refusal>
-    ensures answers { AnswersSeatMayWrite (asked_write args.now) seen.new out.new seat.old seat.new result }
+    ensures answers { AnswersSeatMayWrite (asked_write args.now) seen.new out.new seat.old seat.new
+        result }
     ensures kept { OnErr result ((seen.new ≡ seen.old) × (out.new ≡ out.old)) }
 {
     let at = value_time(args.write)?;
@@ -202,7 +204,7 @@ fn later_in(
     ensures { TellsLater cache.now span.now by time result }
 {
     match time {
-        Some(time) => earliest_clear_of(cache.get_max_in(span), time, by),
+        Some(time) => earliest_clear_of(cache.get_max_ref(span), time, by),
         None => None,
     }
 }
@@ -217,7 +219,7 @@ fn later_at(
     ensures { AsksLater seat.old seat.new span.now by time result }
 {
     match time {
-        Some(time) => earliest_clear_of(seat.get_max_in(span).value, time, by),
+        Some(time) => earliest_clear_of(seat.get_max_ref(span).value, time, by),
         None => None,
     }
 }

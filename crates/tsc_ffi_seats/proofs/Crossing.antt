@@ -1,4 +1,5 @@
--- A seat handle and an owner can go to another thread, and what they share can be used from several.
+-- A seat handle and an owner can go to another thread, and what they share can be used from
+-- several.
 use denote.Param.Send.{IsSend, IsSync, sendable, view_send}
 use denote.Param.SendFields.{declared_send, declared_sync, as_row_send, as_row_sync}
 use Rattle.std.proofs.Crossing.{crosses}
@@ -10,13 +11,39 @@ use Rattle.tsc_ffi_seats.specs.contracts.owner.Owner.{the_row as owner}
 use Rattle.tsc_ffi_seats.specs.contracts.handle.SeatHandle.{the_row as handle}
 
 shared_sends : IsSend shared
-shared_sends = search (sendable, declared_send, as_row_send, table_sends, seat_sends, shared_cache_sends, crosses) depth 20
+shared_sends = search (
+  sendable,
+  declared_send,
+  as_row_send,
+  table_sends,
+  seat_sends,
+  shared_cache_sends,
+  crosses,
+) depth 20
 
 shared_syncs : IsSync shared
-shared_syncs = search (sendable, declared_sync, as_row_sync, table_syncs, seat_sends, shared_cache_syncs, crosses) depth 20
+shared_syncs = search (
+  sendable,
+  declared_sync,
+  as_row_sync,
+  table_syncs,
+  seat_sends,
+  shared_cache_syncs,
+  crosses,
+) depth 20
 
 pub owner_sends : IsSend owner
-owner_sends = search (sendable, declared_send, as_row_send, shared_sends, shared_syncs, seat_keyless, seat_sends, crosses) depth 20
+owner_sends = search (
+  sendable,
+  declared_send,
+  as_row_send,
+  shared_sends,
+  shared_syncs,
+  seat_keyless,
+  seat_sends,
+  crosses,
+) depth 20
 
 pub handle_sends : IsSend handle
-handle_sends = search (sendable, shared_sends, shared_syncs, seat_keyless, seat_sends, crosses) depth 20
+handle_sends = search (sendable, shared_sends, shared_syncs, seat_keyless, seat_sends, crosses)
+    depth 20

@@ -17,7 +17,8 @@ first v = dealing v.from (v.from + 1) 0
 
 -- A token takes its slot.
 abbrev pub takes_slot : Step Returned → At → ℕ → At → Type 0
-takes_slot st me found me' = (x : Returned) × (me' ≡ (record me.0 { taken = true }, (me.0.from, x) ∷ []))
+takes_slot st me found me' = (x : Returned) ×
+    (me' ≡ (record me.0 { taken = true }, (me.0.from, x) ∷ []))
 
 -- A seat is returned.
 abbrev pub returns_seat : Step Returned → At → ℕ → At → Type 0
@@ -27,6 +28,6 @@ returns_seat st me found me' = Unit {0}
 abbrev pub seen_returned : Known → ℕ → Known
 seen_returned v found = if found == 1 then record v { returned = v.returned + 1 } else v
 
--- It is seen whether the next seat is returned.
+-- a look at whether the next seat is returned
 abbrev pub sees_returned : Step Returned → At → ℕ → At → Type 0
 sees_returned st me found me' = me' ≡ (seen_returned me.0 found, [])

@@ -16,14 +16,16 @@ pub record IsSized (table : TableId) (seats : ℕ) : Type 0 where
   pub slots : table.slots ≡ seats
 
 -- A seat of this cache, and its token for this table.
-pub record Sits (shared : SharedHandleView) (seat : SeatView) (table : TableId) (me : At) : Type 0 where
+pub record Sits (shared : SharedHandleView) (seat : SeatView) (table : TableId) (me : At) : Type
+    0 where
   pub cache : seat.cache ≡ shared.cache
   pub its_table : table ≡ shared.table
   pub low : seat.number < shared.cache.seats
   pub token : me ≡ (token seat.number, [])
 
 -- The keeper's token knows that so many seats are returned.
-pub record Keeps (shared : SharedHandleView) (table : TableId) (me : At) (seats returned : ℕ) : Type 0 where
+pub record Keeps (shared : SharedHandleView) (table : TableId) (me : At) (seats returned : ℕ) : Type
+    0 where
   pub its_table : table ≡ shared.table
   pub all : seats ≡ shared.cache.seats
   pub known : me ≡ (keeping seats returned, [])

@@ -21,8 +21,8 @@ use tsc_shared::{Answer, LowWater, Receipt, Seat, SeatFigures, TryAddFault};
 use tsc_span::{Span, SpanRef};
 use tsc_time::{NoMemory, Timestamp, Value};
 
-/// A seat of a shared cache, with all that it takes to add and to look there. It may go to another thread.
-/// [`close`](SeatHandle::close) returns it.
+/// A seat of a shared cache, with all that it takes to add and to look there. It may go to another
+/// thread. [`close`](SeatHandle::close) returns it.
 #[derive(Drop)]
 pub struct SeatHandle {
     shared: Arc<SharedHandle>,
@@ -53,19 +53,20 @@ impl SeatHandle {
     }
 
     /// The latest time on a span over keys that lie elsewhere, as
-    /// [`SharedCache::get_max_in`](tsc_shared::SharedCache::get_max_in) answers.
-    pub fn get_max_in(&mut self, span: &SpanRef<'_>) -> Answer
+    /// [`SharedCache::get_max_ref`](tsc_shared::SharedCache::get_max_ref) answers.
+    pub fn get_max_ref(&mut self, span: &SpanRef<'_>) -> Answer
         ensures looked { Looks self.old self.new span.now result }
         ensures above { IsAbove self.new span.now result.value }
         ensures whole { TellsNoPart self.new span.now result.value }
     {
-        match self.shared.cache.get_max_in(&mut self.seat, span) {
+        match self.shared.cache.get_max_ref(&mut self.seat, span) {
             Ok(answer) => answer,
             Err(_) => unreachable!(),
         }
     }
 
-    /// Where the floor stands, as [`SharedCache::low_water`](tsc_shared::SharedCache::low_water) answers.
+    /// Where the floor stands, as [`SharedCache::low_water`](tsc_shared::SharedCache::low_water)
+    /// answers.
     pub fn low_water(&mut self) -> LowWater
         ensures { ReadsFloor self.old self.new result }
     {
@@ -75,7 +76,8 @@ impl SeatHandle {
         }
     }
 
-    /// What can be counted of the cache, as [`SharedCache::figures`](tsc_shared::SharedCache::figures) answers.
+    /// What can be counted of the cache, as
+    /// [`SharedCache::figures`](tsc_shared::SharedCache::figures) answers.
     pub fn figures(&mut self) -> SeatFigures
         ensures { ReadsFigures self.old self.new result }
     {
@@ -85,7 +87,8 @@ impl SeatHandle {
         }
     }
 
-    /// Adds a span with its value, as [`SharedCache::try_add`](tsc_shared::SharedCache::try_add) does.
+    /// Adds a span with its value, as [`SharedCache::try_add`](tsc_shared::SharedCache::try_add)
+    /// does.
     pub fn try_add(
         &mut self,
         span: &Span,
@@ -93,31 +96,39 @@ impl SeatHandle {
         now: Timestamp,
         tries: u32,
     ) -> Result<Receipt, TryAddFault>
-        ensures accepted { IfOk result (λ receipt. Accepts self.old self.new (record { span = span.now; value = value } ∷ []) now receipt) }
+        ensures accepted { IfOk result
+            (λ receipt. Accepts self.old self.new (record { span = span.now; value = value } ∷ [])
+            now receipt) }
         ensures seat { GoesOn self.old self.new }
         ensures refused { OnErr result (Refuses self.old self.new) }
         ensures why { IfErr result (λ fault. TryRefusedFor self.old self.new fault) }
-        ensures too_large { IsErrOf result (tried.Refused told.TooLarge) ↔ (fits self.old.cache.config span.now ≡ false) }
-        ensures no_tries { tries ≡ 0 → fits self.old.cache.config span.now ≡ true → IsErrOf result tried.DeskBusy }
+        ensures too_large { IsErrOf result (tried.Refused told.TooLarge) ↔
+            (fits self.old.cache.config span.now ≡ false) }
+        ensures no_tries { tries ≡ 0 → fits self.old.cache.config span.now ≡ true →
+            IsErrOf result tried.DeskBusy }
     {
         self.shared
             .cache
             .try_add(&mut self.seat, span, value, now, tries)
     }
 
-    /// Adds several marks as one Add, as [`SharedCache::try_add_all`](tsc_shared::SharedCache::try_add_all) does.
+    /// Adds several marks as one Add, as
+    /// [`SharedCache::try_add_all`](tsc_shared::SharedCache::try_add_all) does.
     pub fn try_add_all(
         &mut self,
         marks: &[Mark],
         now: Timestamp,
         tries: u32,
     ) -> Result<Receipt, TryAddFault>
-        ensures accepted { IfOk result (λ receipt. Accepts self.old self.new marks.now now receipt) }
+        ensures accepted { IfOk result
+            (λ receipt. Accepts self.old self.new marks.now now receipt) }
         ensures seat { GoesOn self.old self.new }
         ensures refused { OnErr result (Refuses self.old self.new) }
         ensures why { IfErr result (λ fault. TryRefusedFor self.old self.new fault) }
-        ensures too_large { IsErrOf result (tried.Refused told.TooLarge) ↔ (all_fit self.old.cache.config marks.now ≡ false) }
-        ensures no_tries { tries ≡ 0 → all_fit self.old.cache.config marks.now ≡ true → IsErrOf result tried.DeskBusy }
+        ensures too_large { IsErrOf result (tried.Refused told.TooLarge) ↔
+            (all_fit self.old.cache.config marks.now ≡ false) }
+        ensures no_tries { tries ≡ 0 → all_fit self.old.cache.config marks.now ≡ true →
+            IsErrOf result tried.DeskBusy }
     {
         self.shared
             .cache
@@ -152,7 +163,8 @@ pub(crate) fn seat_all(
     requires dealer { dealer.old.me ≡ (dealing 0 seats 0, []) }
     ensures table { IfOk result (λ _. dealer.new.table_id ≡ dealer.old.table_id) }
     ensures dealt { IfOk result (λ _. dealer.new.me ≡ (keeping seats 0, [])) }
-    ensures handles { IfOk result (λ handles. handles.items ≡ new_seats (arc_value shared.now).cache 0 seats) }
+    ensures handles { IfOk result (λ handles. handles.items ≡ new_seats (arc_value shared.now).cache
+        0 seats) }
 {
     let mut handles = Vec::with_capacity(alloc, seats as usize)?;
     for seat in all {
@@ -171,10 +183,12 @@ fn seat_one(
     requires cache { seat.cache ≡ (arc_value shared.now).cache }
     requires table { dealer.old.table_id ≡ (arc_value shared.now).table }
     requires sized { IsSized (arc_value shared.now).table (arc_value shared.now).cache.seats }
-    requires dealer { dealer.old.me ≡ (dealing seat.number (arc_value shared.now).cache.seats 0, []) }
+    requires dealer { dealer.old.me ≡
+        (dealing seat.number (arc_value shared.now).cache.seats 0, []) }
     requires low { seat.number < (arc_value shared.now).cache.seats }
     ensures table { dealer.new.table_id ≡ dealer.old.table_id }
-    ensures dealt { IfOk result (λ _. dealer.new.me ≡ (dealing (seat.number + 1) (arc_value shared.now).cache.seats 0, [])) }
+    ensures dealt { IfOk result (λ _. dealer.new.me ≡
+        (dealing (seat.number + 1) (arc_value shared.now).cache.seats 0, [])) }
     ensures handle { IfOk result (λ handle. handle ≡ seat) }
 {
     let clone = Arc::try_clone(shared)?;

@@ -33,7 +33,8 @@ impl Model for SharedHandle {
 
     ghost view = { λ h. record { cache = h.cache; table = h.slots.shared.table_id } };
 
-    ghost invariant = { λ h. (h.slots.shared.key ≡ h.cache) × IsSized h.slots.shared.table_id h.cache.seats };
+    ghost invariant = { λ h. (h.slots.shared.key ≡ h.cache) ×
+        IsSized h.slots.shared.table_id h.cache.seats };
 }
 
 /// A shared cache for who opened it, and may close it.
@@ -58,19 +59,21 @@ impl Model for Owner {
 
     ghost view = { λ h. (arc_value h.shared).cache };
 
-    ghost invariant = { λ h. Keeps (arc_value h.shared) h.keeper.table_id h.keeper.me h.seats h.returned × (h.room.items ≡ []) × (h.seats ≤ vec_capacity h.room) };
+    ghost invariant = { λ h. Keeps (arc_value h.shared) h.keeper.table_id h.keeper.me h.seats
+        h.returned × (h.room.items ≡ []) × (h.seats ≤ vec_capacity h.room) };
 }
 
 impl Owner {
-    /// A cache to which nothing was added, and a handle for each of its seats, in the order of their numbers, as
-    /// [`SharedCache::open`] opens one.
+    /// A cache to which nothing was added, and a handle for each of its seats, in the order of
+    /// their numbers, as [`SharedCache::open`] opens one.
     pub fn open(
         alloc: Global,
         config: Config,
         seats: u32,
         history_limit: u64,
     ) -> Result<(Owner, Vec<SeatHandle>), OpenFault>
-        ensures opened { IfOk result (λ opened. Opens config seats history_limit opened.0 opened.1.items) }
+        ensures opened { IfOk result
+            (λ opened. Opens config seats history_limit opened.0 opened.1.items) }
         ensures refused { IfErr result (λ fault. fault ≡ open_fault seats) }
     {
         let (cache, all) = SharedCache::open(alloc, config, seats, history_limit)?;
@@ -88,12 +91,14 @@ impl Owner {
         Ok((owner, handles))
     }
 
-    /// Ends the cache if all its seats are returned and nobody else has it, and gives what it holds. Otherwise it hands
-    /// itself back. A handle that was dropped, and not [closed](SeatHandle::close), is missing for good.
+    /// Ends the cache if all its seats are returned and nobody else has it, and gives what it
+    /// holds. Otherwise it hands itself back. A handle that was dropped, and not
+    /// [closed](SeatHandle::close), is missing for good.
     ///
     /// It takes no memory, and does not wait.
     pub fn close(mut self) -> Result<Closed, Owner>
-        ensures closed { IfOk result (λ closed. (seats : List SeatView) × Closes self seats closed) }
+        ensures closed { IfOk result
+            (λ closed. (seats : List SeatView) × Closes self seats closed) }
         ensures still_out { IfErr result (λ owner. owner ≡ self) }
     {
         let Owner {

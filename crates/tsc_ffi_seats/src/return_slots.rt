@@ -1,8 +1,9 @@
 //! The slots in which the seats of a cache are returned.
 //!
-//! They are a table with a word and a slot for each seat of the cache. Each seat has a *slot token*, which alone may take
-//! the slot of that number. A return has three steps: the token takes the slot, lays the seat there, and gives the slot
-//! back as the word becomes 1. The keeper reads the words one after another, and counts the seats that are returned.
+//! They are a table with a word and a slot for each seat of the cache. Each seat has a *slot
+//! token*, which alone may take the slot of that number. A return has three steps: the token takes
+//! the slot, lays the seat there, and gives the slot back as the word becomes 1. The keeper reads
+//! the words one after another, and counts the seats that are returned.
 ghost use Rattle.std.specs.Prelude.{◌≡◌, [], ◌<◌, ◌≤◌, ◌+◌, length, All, IfOk, true};
 ghost use Rattle.std.specs.Vec.{vec_len, vec_capacity};
 ghost use Rattle.tsc_ffi_seats.specs.ReturnSlots.{first_known, dealing, keeping, token, spent};
@@ -14,8 +15,8 @@ use std::alloc::Global;
 use tsc_shared::{Seat, SharedCache};
 use tsc_time::NoMemory;
 
-/// What a token knows: which slots it alone may take, whether it has taken them, and how many seats from 0 on are returned.
-/// No value of it is made.
+/// What a token knows: which slots it alone may take, whether it has taken them, and how many seats
+/// from 0 on are returned. No value of it is made.
 pub struct Known {
     pub from: u32,
     pub to: u32,
@@ -81,15 +82,18 @@ impl Play<Option<Seat>, Known> for SeeReturned {
     ghost then = { sees_returned };
 }
 
-/// Slots for the seats of a cache, none of which is returned, and the token from which all others are dealt.
+/// Slots for the seats of a cache, none of which is returned, and the token from which all others
+/// are dealt.
 pub(crate) fn new_return_slots(
     alloc: Global,
     cache: &SharedCache,
     seats: u32,
 ) -> Result<(ReturnSlots, SlotToken), NoMemory>
     requires seats { seats ≡ cache.now.seats }
-    ensures slots { IfOk result (λ made. IsSized made.0.shared.table_id seats × (made.0.shared.key ≡ cache.now)) }
-    ensures dealer { IfOk result (λ made. (made.1.table_id ≡ made.0.shared.table_id) × (made.1.me ≡ (dealing 0 seats 0, []))) }
+    ensures slots { IfOk result (λ made. IsSized made.0.shared.table_id seats ×
+        (made.0.shared.key ≡ cache.now)) }
+    ensures dealer { IfOk result (λ made. (made.1.table_id ≡ made.0.shared.table_id) ×
+        (made.1.me ≡ (dealing 0 seats 0, []))) }
 {
     let words = vec![in alloc; 0; seats as usize]?;
     match Table::vacant(alloc, words.as_slice(), seats as usize, cache) {

@@ -3,7 +3,7 @@ use Rattle.std.proofs.Common.{◌≡◌, ◌∙◌, sym, ap, subst, List, Some}
 use Rattle.tsc_time.specs.Time.{Time}
 use Rattle.tsc_time.specs.OwnedTime.{OwnedTime}
 use Rattle.tsc_span.specs.Span.{Interval}
-use Rattle.tsc_page_base.specs.Page.{Mark}
+use Rattle.tsc_page_nodes.specs.Page.{Mark}
 use Rattle.tsc_cache.specs.declared.added.Added.{Added}
 use Rattle.tsc_cache.specs.Settings.{Settings}
 use Rattle.tsc_cache.specs.State.{CacheState, step_all}
@@ -17,25 +17,34 @@ use Rattle.tsc_ffi_store.specs.Marks.{AreMarks}
 use Rattle.tsc_ffi_store.specs.CacheCalls.{AddsAllIn}
 use Rattle.tsc_ffi_store.specs.SeatCalls.{SeatLooks}
 
-pub adds_all_in : (cache after : CacheView) (asked : AskedBatch) (marks : List Mark) (now : Time) (added told : Added) → AreMarks asked.keys asked.marks marks → now ≡ asked.moment → added ≡ told
+pub adds_all_in : (cache after : CacheView) (asked : AskedBatch) (marks : List Mark) (now : Time)
+    (added told : Added) → AreMarks asked.keys asked.marks marks → now ≡ asked.moment → added ≡ told
     → AddsAll cache after marks now added
-    → ((settings : Settings) (s : CacheState) → StandsForState cache settings s → StandsForState after settings (step_all settings s marks now).state)
-    → ((settings : Settings) (s : CacheState) → StandsForState cache settings s → added ≡ (step_all settings s marks now).added)
+    → ((settings : Settings) (s : CacheState) → StandsForState cache settings s →
+    StandsForState after settings (step_all settings s marks now).state)
+    → ((settings : Settings) (s : CacheState) → StandsForState cache settings s →
+    added ≡ (step_all settings s marks now).added)
     → AddsAllIn cache after asked told
 adds_all_in cache after asked marks now added told are moment tells adds stands says = record {
   marks = marks;
   asked_for = are;
-  adds = subst (λ (a : Added). AddsAll cache after marks asked.moment a) tells (subst (λ (t : Time). AddsAll cache after marks t added) moment adds);
-  stands = λ settings s is. subst (λ (t : Time). StandsForState after settings (step_all settings s marks t).state) moment (stands settings s is);
-  tells = λ settings s is. sym tells ∙ says settings s is ∙ ap (λ (t : Time). (step_all settings s marks t).added) moment;
+  adds = subst (λ (a : Added). AddsAll cache after marks asked.moment a) tells
+      (subst (λ (t : Time). AddsAll cache after marks t added) moment adds);
+  stands = λ settings s is. subst (λ (t : Time). StandsForState after settings
+      (step_all settings s marks t).state) moment (stands settings s is);
+  tells = λ settings s is. sym tells ∙ says settings s is ∙
+      ap (λ (t : Time). (step_all settings s marks t).added) moment;
 }
 
-pub seat_looks : (old new : SeatView) (asked : AskedSpan) (span : Interval) (answer : Answer) (v : OwnedTime) → lookup_span asked ≡ Some span → answer.value ≡ v
-    → Looks old new span answer → IsAbove new span answer.value → TellsNoPart new span answer.value → SeatLooks old new asked answer.front v
+pub seat_looks : (old new : SeatView) (asked : AskedSpan) (span : Interval) (answer : Answer)
+    (v : OwnedTime) → lookup_span asked ≡ Some span → answer.value ≡ v
+    → Looks old new span answer → IsAbove new span answer.value →
+    TellsNoPart new span answer.value → SeatLooks old new asked answer.front v
 seat_looks old new asked span answer v is told looks above whole = record {
   span = span;
   asked_for = is;
-  looks = subst (λ (w : OwnedTime). Looks old new span (record { value = w; front = answer.front })) told looks;
+  looks = subst (λ (w : OwnedTime). Looks old new span (record { value = w; front = answer.front }))
+      told looks;
   above = subst (λ (w : OwnedTime). IsAbove new span w) told above;
   whole = subst (λ (w : OwnedTime). TellsNoPart new span w) told whole;
 }

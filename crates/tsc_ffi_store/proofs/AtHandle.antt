@@ -1,4 +1,5 @@
--- What a call makes of the slot at a handle is what it makes of the store there, and nothing else changes.
+-- What a call makes of the slot at a handle is what it makes of the store there, and nothing else
+-- changes.
 use Rattle.std.proofs.Common.{◌≡◌, refl, sym, ap, ◌∙◌, subst, ℕ, zero, suc, ◌<◌, ◌≤◌, List, [], ◌∷◌, length, get_or, set, rules}
 use Rattle.std.proofs.lemmas.List.{length-set, set-get_or, get_or-set_same}
 use Rattle.std.proofs.lemmas.Option.{slice_get-get_or, slice_get_read, slice_get_past}
@@ -9,14 +10,19 @@ use Rattle.tsc_ffi_store.specs.declared.store.Slot.TheVariants.{Own}
 use Rattle.tsc_ffi_store.specs.declared.refusal.Refusal.{Refusal}
 use Rattle.tsc_ffi_store.specs.Store.{cache_in, cache_at, seat_in, seat_at, shared_in, shared_at, Keeps}
 
-pub there : (items : List Slot) (n : ℕ) (e : Slot) → n < length items → e ≡ get_or items n e → slice_get items n ≡ Some e
+pub there : (items : List Slot) (n : ℕ) (e : Slot) → n < length items → e ≡ get_or items n e →
+    slice_get items n ≡ Some e
 there items n e lt at = slice_get_read items (length items) n e refl lt at
 
-comes : (items : List Slot) (n : ℕ) (after : Slot) → n < length items → slice_get (slice_set items n after) n ≡ Some after
+comes : (items : List Slot) (n : ℕ) (after : Slot) → n < length items →
+    slice_get (slice_set items n after) n ≡ Some after
 comes items n after lt =
-    slice_get-get_or (set items n after) n after (subst (λ (m : ℕ). n < m) (sym (length-set items n after)) lt) ∙ ap Some (get_or-set_same items n after after lt)
+    slice_get-get_or (set items n after) n after
+    (subst (λ (m : ℕ). n < m) (sym (length-set items n after)) lt) ∙
+    ap Some (get_or-set_same items n after after lt)
 
-stays : (items : List Slot) (n other : ℕ) (after : Slot) → other ≢ n → slice_get (slice_set items n after) other ≡ slice_get items other
+stays : (items : List Slot) (n other : ℕ) (after : Slot) → other ≢ n →
+    slice_get (slice_set items n after) other ≡ slice_get items other
 stays [] n other after ne = refl
 stays (x ∷ xs) zero zero after ne = absurd (ne refl)
 stays (x ∷ xs) zero (suc other) after ne = refl
@@ -24,13 +30,16 @@ stays (x ∷ xs) (suc n) zero after ne = refl
 stays (x ∷ xs) (suc n) (suc other) after ne = stays xs n other after (λ e. ne (ap suc e))
 
 -- what holds of the slot before and after holds of what is at the handle
-pub at_handle : (Q : Option Slot → Option Slot → Type 0) (items : List Slot) (n : ℕ) (e after : Slot) → n < length items → e ≡ get_or items n e
+pub at_handle : (Q : Option Slot → Option Slot → Type 0) (items : List Slot) (n : ℕ)
+    (e after : Slot) → n < length items → e ≡ get_or items n e
     → Q (Some e) (Some after) → Q (slice_get items n) (slice_get (slice_set items n after) n)
 at_handle Q items n e after lt at holds =
-    subst (λ (x : Option Slot). Q x (slice_get (slice_set items n after) n)) (sym (there items n e lt at))
+    subst (λ (x : Option Slot). Q x (slice_get (slice_set items n after) n))
+    (sym (there items n e lt at))
     (subst (λ (x : Option Slot). Q (Some e) x) (sym (comes items n after lt)) holds)
 
-pub keeps_others : (items : List Slot) (n : ℕ) (after : Slot) → Keeps items (slice_set items n after) n
+pub keeps_others : (items : List Slot) (n : ℕ) (after : Slot) →
+    Keeps items (slice_set items n after) n
 keeps_others items n after = record {
   given = length-set items n after;
   others = λ other ne. ap cache_in (stays items n other after ne);
@@ -38,18 +47,25 @@ keeps_others items n after = record {
 }
 
 pub keeps_all : (items : List Slot) (n : ℕ) → Keeps items items n
-keeps_all items n = record { given = refl; others = λ other ne. refl; all_others = λ other ne. refl }
+keeps_all items n = record {
+  given = refl;
+  others = λ other ne. refl;
+  all_others = λ other ne. refl;
+}
 
-pub set_again : (items : List Slot) (n : ℕ) (e : Slot) → e ≡ get_or items n e → slice_set items n e ≡ items
+pub set_again : (items : List Slot) (n : ℕ) (e : Slot) → e ≡ get_or items n e →
+    slice_set items n e ≡ items
 set_again items n e at = ap (set items n) at ∙ set-get_or items n e
 
-pub unchanged_there : {A : Type 0} (items : List Slot) (n : ℕ) (e after : Slot) (did : Result A Refusal) → e ≡ get_or items n e
+pub unchanged_there : {A : Type 0} (items : List Slot) (n : ℕ) (e after : Slot)
+    (did : Result A Refusal) → e ≡ get_or items n e
     → OnErr did (after ≡ e) → OnErr did (slice_set items n after ≡ items)
 unchanged_there items n e after (Ok a) at same = tt
 unchanged_there items n e after (Err why) at same = ap (set items n) same ∙ set_again items n e at
 
 -- what is laid where a cache was is there then
-lies_there : (items : List Slot) (n : ℕ) (cache : CacheView) (after : Slot) → cache_at items n ≡ Some cache → slice_get (slice_set items n after) n ≡ Some after
+lies_there : (items : List Slot) (n : ℕ) (cache : CacheView) (after : Slot) →
+    cache_at items n ≡ Some cache → slice_get (slice_set items n after) n ≡ Some after
 lies_there [] n cache after held = absurd (no_cache cache held)
   where
     no_cache : (cache : CacheView) → None ≡ Some cache → ⊥
@@ -57,8 +73,11 @@ lies_there [] n cache after held = absurd (no_cache cache held)
 lies_there (x ∷ xs) zero cache after held = refl
 lies_there (x ∷ xs) (suc n) cache after held = lies_there xs n cache after held
 
-pub cache_left : (items items' : List Slot) (n : ℕ) (cache after : CacheView) → cache_at items n ≡ Some cache → items' ≡ slice_set items n (Own after) → cache_at items' n ≡ Some after
-cache_left items items' n cache after held is = ap (λ (l : List Slot). cache_at l n) is ∙ ap cache_in (lies_there items n cache (Own after) held)
+pub cache_left : (items items' : List Slot) (n : ℕ) (cache after : CacheView) →
+    cache_at items n ≡ Some cache → items' ≡ slice_set items n (Own after) →
+    cache_at items' n ≡ Some after
+cache_left items items' n cache after held is = ap (λ (l : List Slot). cache_at l n) is ∙
+    ap cache_in (lies_there items n cache (Own after) held)
 
 pub if_some : {T : Type 0} {P : Type 0} (o : Option T) → P → OnSome o P
 if_some None p = tt

@@ -1,6 +1,7 @@
--- From call to call: what was opened, added and looked up at a handle goes together into one history.
+-- From call to call: what was opened, added and looked up at a handle goes together into one
+-- history.
 use Rattle.std.proofs.Common.{◌≡◌, sym, ap, ◌∙◌, subst, ℕ, List, [], ◌∷◌, ◌++◌, Option, Some, None}
-use Rattle.tsc_page_base.specs.Page.{Mark}
+use Rattle.tsc_page_nodes.specs.Page.{Mark}
 use Rattle.tsc_time.specs.Time.{Time}
 use Rattle.tsc_cache.specs.Settings.{Settings}
 use Rattle.tsc_cache.specs.State.{step_all}
@@ -22,31 +23,50 @@ unfolding or_else
 the_same {X} {a} {b} e f = ap (or_else a) (sym e ∙ f)
 
 -- what is held once more stands for the state that is a step further
-pushed : (old new : Option CacheView) (cache after : CacheView) (settings : Settings) (h : History) (marks : List Mark) (now : Time)
+pushed : (old new : Option CacheView) (cache after : CacheView) (settings : Settings) (h : History)
+    (marks : List Mark) (now : Time)
     → HoldsHistory old settings h → old ≡ Some cache → new ≡ Some after
-    → (StandsForState cache settings (state_of settings h) → StandsForState after settings (step_all settings (state_of settings h) marks now).state)
+    → (StandsForState cache settings (state_of settings h) →
+    StandsForState after settings (step_all settings (state_of settings h) marks now).state)
     → HoldsHistory new settings (h ++ next_entry h marks now ∷ [])
 pushed old new cache after settings h marks now k was is stands =
     record {
       cache = after;
       holds = is;
-      stands = subst (StandsForState after settings) (sym (state_of-push settings h (next_entry h marks now)))
-          (stands (subst (λ (c : CacheView). StandsForState c settings (state_of settings h)) (the_same k.holds was) k.stands));
+      stands = subst (StandsForState after settings)
+          (sym (state_of-push settings h (next_entry h marks now)))
+          (stands (subst (λ (c : CacheView). StandsForState c settings (state_of settings h))
+          (the_same k.holds was) k.stands));
     }
 
-holds : (handle : ℕ) (opened slots : List Slot) (settings : Settings) (h : History) → AddsUp handle opened slots h → (before : Option CacheView) → Opens before (cache_at opened handle) settings
+holds : (handle : ℕ) (opened slots : List Slot) (settings : Settings) (h : History) →
+    AddsUp handle opened slots h → (before : Option CacheView) →
+    Opens before (cache_at opened handle) settings
     → HoldsHistory (cache_at slots handle) settings h
-holds handle opened slots settings h (nothing_yet same) before o = record { cache = o.cache; holds = o.holds; stands = o.stands }
+holds handle opened slots settings h (nothing_yet same) before o =
+    record { cache = o.cache; holds = o.holds; stands = o.stands }
 holds handle opened slots settings h (one_more first old new g asked told up w) before o =
-    pushed (cache_at old handle) (cache_at new handle) w.cache w.after settings g (record { span = w.works.added.span; value = asked.value } ∷ []) asked.moment (holds handle first old settings g up before o) w.holds
-    (cache_left old new handle w.cache w.after w.holds w.leaves) (w.works.added.stands settings (state_of settings g))
+    pushed (cache_at old handle) (cache_at new handle) w.cache w.after settings g
+    (record { span = w.works.added.span; value = asked.value } ∷ []) asked.moment
+    (holds handle first old settings g up before o) w.holds
+    (cache_left old new handle w.cache w.after w.holds w.leaves)
+    (w.works.added.stands settings (state_of settings g))
 holds handle opened slots settings h (several_more first old new g asked told up w) before o =
-    pushed (cache_at old handle) (cache_at new handle) w.cache w.after settings g w.works.added.marks asked.moment (holds handle first old settings g up before o) w.holds
-    (cache_left old new handle w.cache w.after w.holds w.leaves) (w.works.added.stands settings (state_of settings g))
+    pushed (cache_at old handle) (cache_at new handle) w.cache w.after settings g
+    w.works.added.marks asked.moment (holds handle first old settings g up before o) w.holds
+    (cache_left old new handle w.cache w.after w.holds w.leaves)
+    (w.works.added.stands settings (state_of settings g))
 holds handle opened slots settings h (left first old new g up e) before o =
-    subst (λ (c : Option CacheView). HoldsHistory c settings g) (sym e) (holds handle first old settings g up before o)
+    subst (λ (c : Option CacheView). HoldsHistory c settings g) (sym e)
+    (holds handle first old settings g up before o)
 
 pub answers_all_added : AnswersAllAdded
 answers_all_added handle before opened slots settings h asked v o up l =
-    let k = holds handle opened slots settings h up (cache_at before handle) o in let looked = l.reads.looked in
-    (looked.span, looked.asked_for, looked.stands settings (state_of settings h) (subst (λ (c : CacheView). StandsForState c settings (state_of settings h)) (the_same k.holds l.holds) k.stands))
+    let k = holds handle opened slots settings h up (cache_at before handle) o in let looked =
+    l.reads.looked in (
+      looked.span,
+      looked.asked_for,
+      looked.stands settings (state_of settings h)
+          (subst (λ (c : CacheView). StandsForState c settings (state_of settings h))
+          (the_same k.holds l.holds) k.stands),
+    )

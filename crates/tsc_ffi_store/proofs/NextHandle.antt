@@ -17,13 +17,16 @@ there_then : (items : List Slot) (e : Slot) → slice_get (items ++ e ∷ []) (l
 there_then [] e = refl
 there_then (x ∷ items) e = there_then items e
 
-as_before : (items : List Slot) (e : Slot) (other : ℕ) → other ≢ length items → slice_get (items ++ e ∷ []) other ≡ slice_get items other
+as_before : (items : List Slot) (e : Slot) (other : ℕ) → other ≢ length items →
+    slice_get (items ++ e ∷ []) other ≡ slice_get items other
 as_before [] e zero ne = absurd (ne refl)
 as_before [] e (suc other) ne = refl
 as_before (x ∷ items) e zero ne = refl
 as_before (x ∷ items) e (suc other) ne = as_before items e other (λ same. ne (ap suc same))
 
-pub opens_next : (items more : List Slot) (n : ℕ) (cache : CacheView) (settings : Settings) → n ≡ length items → more ≡ items ++ Own cache ∷ [] → StandsForState cache settings (opening settings)
+pub opens_next : (items more : List Slot) (n : ℕ) (cache : CacheView) (settings : Settings) →
+    n ≡ length items → more ≡ items ++ Own cache ∷ [] →
+    StandsForState cache settings (opening settings)
     → Opens (cache_at items n) (cache_at more n) settings
 opens_next items more n cache settings handle laid stands = rw (handle, laid) record {
   cache = cache;
@@ -32,7 +35,8 @@ opens_next items more n cache settings handle laid stands = rw (handle, laid) re
   stands = stands;
 }
 
-pub gives_next : (items more : List Slot) (n : ℕ) (e : Slot) → n ≡ length items → more ≡ items ++ e ∷ [] → GivesNext items more n
+pub gives_next : (items more : List Slot) (n : ℕ) (e : Slot) → n ≡ length items →
+    more ≡ items ++ e ∷ [] → GivesNext items more n
 gives_next items more n e handle laid = rw (handle, laid) record {
   next = refl;
   given = length-append items (e ∷ []);

@@ -3,7 +3,7 @@ use Rattle.std.specs.Prelude.{◌≡◌, ◌⊎◌, ℕ, List, false, Option, So
 use Rattle.tsc_time.specs.Time.{Time}
 use Rattle.tsc_time.specs.OwnedTime.{OwnedTime}
 use Rattle.tsc_span.specs.Span.{Interval}
-use Rattle.tsc_page_base.specs.Page.{Mark}
+use Rattle.tsc_page_nodes.specs.Page.{Mark}
 use Rattle.tsc_cache.specs.declared.added.Added.{Added}
 use Rattle.tsc_cache.specs.Settings.{Settings, fits}
 use Rattle.tsc_cache.specs.State.{CacheState, opening, step, step_all, look}
@@ -30,8 +30,10 @@ abbrev pub RefusesOpen : Refusal → AskedConfig → Type 0
 RefusesOpen why asked = RefusesConfig why asked ⊎ (why ≡ refusal.NoMemory)
 
 -- What a call does that opens a cache, at the next handle.
-pub record AnswersOpen {A : Type 0} (asked : AskedConfig) (handle : ℕ) (old new : List Slot) (did : Result A Refusal) : Type 0 where
-  pub opened : IfOk did (λ _. (settings : Settings) × (settings_asked asked ≡ Ok settings) × Opens (cache_at old handle) (cache_at new handle) settings)
+pub record AnswersOpen {A : Type 0} (asked : AskedConfig) (handle : ℕ) (old new : List Slot)
+    (did : Result A Refusal) : Type 0 where
+  pub opened : IfOk did (λ _. (settings : Settings) × (settings_asked asked ≡ Ok settings) ×
+      Opens (cache_at old handle) (cache_at new handle) settings)
   pub given : IfOk did (λ _. GivesNext old new handle)
   pub refused : IfErr did (λ why. RefusesOpen why asked)
   pub unchanged : OnErr did (new ≡ old)
@@ -41,25 +43,30 @@ pub record LooksIn (cache : CacheView) (asked : AskedSpan) (v : OwnedTime) : Typ
   pub span : Interval
   pub asked_for : lookup_span asked ≡ Some span
   pub value : v ≡ cache_answer cache span
-  pub stands : (settings : Settings) (s : CacheState) → StandsForState cache settings s → v ≡ look s span
+  pub stands : (settings : Settings) (s : CacheState) → StandsForState cache settings s →
+      v ≡ look s span
 
 -- What a lookup in a cache answers.
-pub record AnswersLookup {A : Type 0} (asked : AskedSpan) (v : OwnedTime) (cache : CacheView) (did : Result A Refusal) : Type 0 where
+pub record AnswersLookup {A : Type 0} (asked : AskedSpan) (v : OwnedTime) (cache : CacheView)
+    (did : Result A Refusal) : Type 0 where
   pub looked : IfOk did (λ _. LooksIn cache asked v)
   pub refused : IfErr did (λ why. RefusesEnds why asked.ends)
 
 -- Where the floor of a cache stands.
 pub record StandsAt (cache : CacheView) (floor : Time) : Type 0 where
   pub value : floor ≡ cache.floor
-  pub stands : (settings : Settings) (s : CacheState) → StandsForState cache settings s → floor ≡ s.floor
+  pub stands : (settings : Settings) (s : CacheState) → StandsForState cache settings s →
+      floor ≡ s.floor
 
 -- The figures of a cache.
 pub record Counts (cache : CacheView) (figures : TscFigures) : Type 0 where
   pub value : figures ≡ figures_told (figures_seen cache)
-  pub stands : (settings : Settings) (s : CacheState) → StandsForState cache settings s → figures ≡ figures_told (figures_of s)
+  pub stands : (settings : Settings) (s : CacheState) → StandsForState cache settings s →
+      figures ≡ figures_told (figures_of s)
 
 -- What a call answers that no cache refuses.
-pub record AnswersAlways {A : Type 0} (Told : CacheView → Type 0) (cache : CacheView) (did : Result A Refusal) : Type 0 where
+pub record AnswersAlways {A : Type 0} (Told : CacheView → Type 0) (cache : CacheView)
+    (did : Result A Refusal) : Type 0 where
   pub told : Told cache
   pub done : IsOk did
 
@@ -69,7 +76,8 @@ pub record AddsIn (cache after : CacheView) (asked : AskedAdd) (added : Added) :
   pub asked_for : add_span asked.span ≡ Some span
   pub adds : Adds cache after (record { span = span; value = asked.value }) asked.moment added
   pub stands : (settings : Settings) (s : CacheState) → StandsForState cache settings s
-      → StandsForState after settings (step settings s (record { span = span; value = asked.value }) asked.moment).state
+      → StandsForState after settings
+      (step settings s (record { span = span; value = asked.value }) asked.moment).state
   pub tells : (settings : Settings) (s : CacheState) → StandsForState cache settings s
       → added ≡ (step settings s (record { span = span; value = asked.value }) asked.moment).added
 
@@ -83,10 +91,12 @@ pub record IsTooLarge (why : Refusal) (cache : CacheView) (asked : AskedSpan) : 
 -- Why a cache refused an Add.
 abbrev pub RefusesAdd : Refusal → CacheView → AskedAdd → Type 0
 RefusesAdd why cache asked =
-    RefusesTime why asked.value.time ⊎ RefusesTime why asked.moment ⊎ RefusesAddSpan why asked.span ⊎ IsTooLarge why cache asked.span ⊎ (why ≡ refusal.NoMemory)
+    RefusesTime why asked.value.time ⊎ RefusesTime why asked.moment ⊎
+    RefusesAddSpan why asked.span ⊎ IsTooLarge why cache asked.span ⊎ (why ≡ refusal.NoMemory)
 
 -- What an Add to a cache does.
-pub record AnswersAdd {A : Type 0} (asked : AskedAdd) (told : Added) (cache after : CacheView) (did : Result A Refusal) : Type 0 where
+pub record AnswersAdd {A : Type 0} (asked : AskedAdd) (told : Added) (cache after : CacheView)
+    (did : Result A Refusal) : Type 0 where
   pub added : IfOk did (λ _. AddsIn cache after asked told)
   pub refused : IfErr did (λ why. RefusesAdd why cache asked)
   pub unchanged : OnErr did (after ≡ cache)
@@ -96,8 +106,10 @@ pub record AddsAllIn (cache after : CacheView) (asked : AskedBatch) (added : Add
   pub marks : List Mark
   pub asked_for : AreMarks asked.keys asked.marks marks
   pub adds : AddsAll cache after marks asked.moment added
-  pub stands : (settings : Settings) (s : CacheState) → StandsForState cache settings s → StandsForState after settings (step_all settings s marks asked.moment).state
-  pub tells : (settings : Settings) (s : CacheState) → StandsForState cache settings s → added ≡ (step_all settings s marks asked.moment).added
+  pub stands : (settings : Settings) (s : CacheState) → StandsForState cache settings s →
+      StandsForState after settings (step_all settings s marks asked.moment).state
+  pub tells : (settings : Settings) (s : CacheState) → StandsForState cache settings s →
+      added ≡ (step_all settings s marks asked.moment).added
 
 -- The span of a mark that was named costs more than the largest page may have.
 pub record AreTooLarge (why : Refusal) (cache : CacheView) (asked : AskedBatch) : Type 0 where
@@ -108,10 +120,12 @@ pub record AreTooLarge (why : Refusal) (cache : CacheView) (asked : AskedBatch) 
 
 -- Why a cache refused an Add of several marks.
 abbrev pub RefusesAddAll : Refusal → CacheView → AskedBatch → Type 0
-RefusesAddAll why cache asked = RefusesTime why asked.moment ⊎ RefusesMarks why asked.keys asked.marks ⊎ AreTooLarge why cache asked ⊎ (why ≡ refusal.NoMemory)
+RefusesAddAll why cache asked = RefusesTime why asked.moment ⊎
+    RefusesMarks why asked.keys asked.marks ⊎ AreTooLarge why cache asked ⊎ (why ≡ refusal.NoMemory)
 
 -- What an Add of several marks to a cache does.
-pub record AnswersAddAll {A : Type 0} (asked : AskedBatch) (told : Added) (cache after : CacheView) (did : Result A Refusal) : Type 0 where
+pub record AnswersAddAll {A : Type 0} (asked : AskedBatch) (told : Added) (cache after : CacheView)
+    (did : Result A Refusal) : Type 0 where
   pub added : IfOk did (λ _. AddsAllIn cache after asked told)
   pub refused : IfErr did (λ why. RefusesAddAll why cache asked)
   pub unchanged : OnErr did (after ≡ cache)

@@ -1,9 +1,10 @@
--- From call to call: what was opened, added and looked up at a handle goes together into one history.
+-- From call to call: what was opened, added and looked up at a handle goes together into one
+-- history.
 use Rattle.std.specs.Prelude.{◌≡◌, ℕ, List, [], ◌∷◌, ◌++◌, length, Option, Some, Ok}
 use Rattle.tsc_time.specs.Time.{Time}
 use Rattle.tsc_time.specs.OwnedTime.{OwnedTime}
 use Rattle.tsc_span.specs.Span.{Interval}
-use Rattle.tsc_page_base.specs.Page.{Mark}
+use Rattle.tsc_page_nodes.specs.Page.{Mark}
 use Rattle.tsc_cache.specs.declared.added.Added.{Added}
 use Rattle.tsc_cache.specs.Settings.{Settings}
 use Rattle.tsc_cache.specs.State.{look}
@@ -19,16 +20,23 @@ use Rattle.tsc_ffi_store.specs.Store.{cache_at, ReadsCache, WorksOnCache}
 abbrev pub next_entry : History → List Mark → Time → Entry
 next_entry h marks now = record { seat = 0; number = length h; marks = marks; now = now }
 
--- What a handle names becomes what it names later by Adds, whose history this is: none at first, then one Add or one of several marks after another. A call that leaves the cache as it is adds no entry.
+-- What a handle names becomes what it names later by Adds, whose history this is: none at first,
+-- then one Add or one of several marks after another. A call that leaves the cache as it is adds no
+-- entry.
 pub data AddsUp (handle : ℕ) : List Slot → List Slot → History → Type 0 where
   nothing_yet : (slots : List Slot) → AddsUp handle slots slots []
   one_more : (opened old new : List Slot) (h : History) (asked : AskedAdd) (told : Added)
-      → AddsUp handle opened old h → (w : WorksOnCache (AnswersAdd asked told) old new handle (Ok (tt {0})))
-      → AddsUp handle opened new (h ++ next_entry h (record { span = w.works.added.span; value = asked.value } ∷ []) asked.moment ∷ [])
+      → AddsUp handle opened old h →
+      (w : WorksOnCache (AnswersAdd asked told) old new handle (Ok (tt {0})))
+      → AddsUp handle opened new (h ++
+      next_entry h (record { span = w.works.added.span; value = asked.value } ∷ [])
+      asked.moment ∷ [])
   several_more : (opened old new : List Slot) (h : History) (asked : AskedBatch) (told : Added)
-      → AddsUp handle opened old h → (w : WorksOnCache (AnswersAddAll asked told) old new handle (Ok (tt {0})))
+      → AddsUp handle opened old h →
+      (w : WorksOnCache (AnswersAddAll asked told) old new handle (Ok (tt {0})))
       → AddsUp handle opened new (h ++ next_entry h w.works.added.marks asked.moment ∷ [])
-  left : (opened old new : List Slot) (h : History) → AddsUp handle opened old h → cache_at new handle ≡ cache_at old handle → AddsUp handle opened new h
+  left : (opened old new : List Slot) (h : History) → AddsUp handle opened old h →
+      cache_at new handle ≡ cache_at old handle → AddsUp handle opened new h
 
 -- What is held stands for the state that a history leaves.
 pub record HoldsHistory (held : Option CacheView) (settings : Settings) (h : History) : Type 0 where
@@ -39,6 +47,8 @@ pub record HoldsHistory (held : Option CacheView) (settings : Settings) (h : His
 -- A lookup in what was opened and added to answers what the state of all that was added does.
 abbrev pub AnswersAllAdded : Type 0
 AnswersAllAdded =
-    (handle : ℕ) (before opened slots : List Slot) (settings : Settings) (h : History) (asked : AskedSpan) (v : OwnedTime)
-    → Opens (cache_at before handle) (cache_at opened handle) settings → AddsUp handle opened slots h → ReadsCache (AnswersLookup asked v) slots handle (Ok (tt {0}))
+    (handle : ℕ) (before opened slots : List Slot) (settings : Settings) (h : History)
+    (asked : AskedSpan) (v : OwnedTime)
+    → Opens (cache_at before handle) (cache_at opened handle) settings →
+    AddsUp handle opened slots h → ReadsCache (AnswersLookup asked v) slots handle (Ok (tt {0}))
     → (span : Interval) × (lookup_span asked ≡ Some span) × (v ≡ look (state_of settings h) span)

@@ -1,4 +1,5 @@
--- The numbers by which C knows why a call was refused. Zero is none of them: it says that a call did what was asked.
+-- The numbers by which C knows why a call was refused. Zero is none of them: it says that a call
+-- did what was asked.
 use Rattle.std.specs.Prelude.{◌≡◌, ℕ, Result, Ok, Err, OnErr}
 use Rattle.tsc_ffi_store.specs.declared.refusal.Refusal.{Refusal}
 use Rattle.tsc_ffi_store.specs.declared.refusal.Refusal.TheVariants as refusal
@@ -30,8 +31,10 @@ abbrev pub code_for : {A : Type 0} → Result A Refusal → ℕ
 code_for (Ok done) = 0
 code_for (Err why) = code_of why
 
--- A number tells of a call that did what it answers. Of a refused one, all that could be told is kept.
-pub record Tells (Answers : Result (Unit {0}) Refusal → Type 0) (Kept : Type 0) (code : ℕ) : Type 0 where
+-- A number tells of a call that did what it answers. Of a refused one, all that could be told is
+-- kept.
+pub record Tells (Answers : Result (Unit {0}) Refusal → Type 0) (Kept : Type 0) (code : ℕ) : Type
+    0 where
   pub did : Result (Unit {0}) Refusal
   pub code_is : code ≡ code_for did
   pub answers : Answers did

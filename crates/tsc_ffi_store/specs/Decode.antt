@@ -29,7 +29,10 @@ time_of words = record { wall = words.wall; logical = words.logical }
 
 -- the value of some words: sixteen zero bytes name no owner
 abbrev pub value_of : TscValue → OwnedTime
-value_of words = record { time = record { wall = words.wall; logical = words.logical }; owner = owner_of words.owner }
+value_of words = record {
+  time = record { wall = words.wall; logical = words.logical };
+  owner = owner_of words.owner;
+}
 
 -- what an Add did, by the words that tell it
 abbrev pub added_of : TscAdded → Added
@@ -37,7 +40,12 @@ added_of words = record { kept = words.kept; rotated = words.rotated; evicted = 
 
 -- the words that tell figures: all but the floor
 abbrev pub figures_told : Figures → TscFigures
-figures_told figures = record { pages = figures.pages; rotations = figures.rotations; nodes = figures.nodes; bytes = figures.bytes }
+figures_told figures = record {
+  pages = figures.pages;
+  rotations = figures.rotations;
+  nodes = figures.nodes;
+  bytes = figures.bytes;
+}
 
 -- What a call says of a span: two keys, and a number for its ends.
 pub record AskedSpan : Type 0 where
@@ -58,7 +66,11 @@ pub record AskedAdd : Type 0 where
   pub moment : Time
 
 abbrev pub add_asked : AskedSpan → TscValue → TscTime → AskedAdd
-add_asked span value moment = record { span = span; value = value_of value; moment = time_of moment }
+add_asked span value moment = record {
+  span = span;
+  value = value_of value;
+  moment = time_of moment;
+}
 
 abbrev pub asked_add : AddArgs → AskedAdd
 asked_add args = add_asked (asked_span args.span) args.value.now args.moment.now
@@ -85,20 +97,29 @@ pub record AskedConfig : Type 0 where
 
 abbrev pub config_asked : ℕ → ℕ → ℕ → ℕ → TscTime → AskedConfig
 config_asked page_first page_max min_pages retention low_water =
-    record { page_first = page_first; page_max = page_max; min_pages = min_pages; retention = retention; low_water = time_of low_water }
+    record {
+      page_first = page_first;
+      page_max = page_max;
+      min_pages = min_pages;
+      retention = retention;
+      low_water = time_of low_water;
+    }
 
 abbrev pub asked_config : ConfigArgs → AskedConfig
-asked_config args = config_asked args.page_first args.page_max args.min_pages args.retention args.low_water.now
+asked_config args = config_asked args.page_first args.page_max args.min_pages args.retention
+    args.low_water.now
 
 -- the settings that a call names
 abbrev pub settings_asked : AskedConfig → Result Settings ConfigFault
-settings_asked asked = settings_of asked.page_first asked.page_max asked.min_pages asked.retention asked.low_water
+settings_asked asked = settings_of asked.page_first asked.page_max asked.min_pages asked.retention
+    asked.low_water
 
 -- a range, and which of its ends are excluded
 abbrev pub ranged : Bool → Bool → Form
 ranged from to = Range (record { exclude_from = from; exclude_to = to })
 
--- What a number says of the ends of a span: one excludes the first key, two the second, four means that there is no end, and eight the first key alone.
+-- What a number says of the ends of a span: one excludes the first key, two the second, four means
+-- that there is no end, and eight the first key alone.
 abbrev pub form_of : ℕ → Option Form
 form_of ends =
     if ends == 0 then Some (ranged false false)
@@ -110,25 +131,27 @@ form_of ends =
     else if ends == 8 then Some Point
     else None
 
--- The span to be added that two keys name in a form. The second key is passed over where the form has none.
+-- The span to be added that two keys name in a form. The second key is passed over where the form
+-- has none.
 abbrev pub formed_to_add : KeyBytes → KeyBytes → Option Form → Option Interval
 formed_to_add from to None = None
 formed_to_add from to (Some Point) = Some (point from)
 formed_to_add from to (Some (Range ends)) = range from to ends.exclude_from ends.exclude_to
 formed_to_add from to (Some (Onward excluded)) = Some (onward from excluded)
 
--- the same of a span to be looked up, in which an inverted range is the empty span
+-- the span of a form that is to be looked up, in which an inverted range is the empty span
 abbrev pub formed_to_look_up : KeyBytes → KeyBytes → Option Form → Option Interval
 formed_to_look_up from to None = None
 formed_to_look_up from to (Some Point) = Some (point from)
-formed_to_look_up from to (Some (Range ends)) = Some (range_for_lookup from to ends.exclude_from ends.exclude_to)
+formed_to_look_up from to (Some (Range ends)) =
+    Some (range_for_lookup from to ends.exclude_from ends.exclude_to)
 formed_to_look_up from to (Some (Onward excluded)) = Some (onward from excluded)
 
 -- the span to be added that a call names
 abbrev pub add_span : AskedSpan → Option Interval
 add_span asked = formed_to_add asked.from asked.to (form_of asked.ends)
 
--- and the span to be looked up
+-- the span to be looked up
 abbrev pub lookup_span : AskedSpan → Option Interval
 lookup_span asked = formed_to_look_up asked.from asked.to (form_of asked.ends)
 
@@ -142,7 +165,8 @@ RefusesEnds why ends = (why ≡ refusal.Ends) × (form_of ends ≡ None)
 
 -- Why a key was refused.
 abbrev pub RefusesKey : Refusal → KeyBytes → Type 0
-RefusesKey why key = ((why ≡ refusal.KeyTooLong) × (longest_key < length key)) ⊎ (why ≡ refusal.NoMemory)
+RefusesKey why key = ((why ≡ refusal.KeyTooLong) × (longest_key < length key)) ⊎
+    (why ≡ refusal.NoMemory)
 
 -- Why two keys were refused.
 abbrev pub RefusesKeys : Refusal → KeyBytes → KeyBytes → Type 0
@@ -150,27 +174,36 @@ RefusesKeys why from to = RefusesKey why from ⊎ RefusesKey why to
 
 -- Why two keys were refused for a range.
 abbrev pub RefusesRange : Refusal → KeyBytes → KeyBytes → Ends → Type 0
-RefusesRange why from to ends = RefusesKeys why from to ⊎ ((why ≡ refusal.Inverted) × (range from to ends.exclude_from ends.exclude_to ≡ None))
+RefusesRange why from to ends = RefusesKeys why from to ⊎
+    ((why ≡ refusal.Inverted) × (range from to ends.exclude_from ends.exclude_to ≡ None))
 
 -- Why a second key was refused, which only a range has.
 abbrev pub RefusesSecondKey : Refusal → KeyBytes → ℕ → Type 0
-RefusesSecondKey why to ends = (excluded : Ends) × (form_of ends ≡ Some (Range excluded)) × RefusesKey why to
+RefusesSecondKey why to ends = (excluded : Ends) × (form_of ends ≡ Some (Range excluded)) ×
+    RefusesKey why to
 
 -- Why a call names no span to be added.
 abbrev pub RefusesAddSpan : Refusal → AskedSpan → Type 0
 RefusesAddSpan why asked =
-    RefusesEnds why asked.ends ⊎ RefusesKey why asked.from ⊎ RefusesSecondKey why asked.to asked.ends ⊎ ((why ≡ refusal.Inverted) × (add_span asked ≡ None))
+    RefusesEnds why asked.ends ⊎ RefusesKey why asked.from ⊎
+    RefusesSecondKey why asked.to asked.ends ⊎
+    ((why ≡ refusal.Inverted) × (add_span asked ≡ None))
 
 -- Why settings were refused.
 abbrev pub RefusesSettings : Refusal → ConfigFault → Type 0
-RefusesSettings why f = ((why ≡ refusal.PageSize) × (f ≡ fault.PageSize)) ⊎ ((why ≡ refusal.MinPages) × (f ≡ fault.MinPages)) ⊎ ((why ≡ refusal.Retention) × (f ≡ fault.Retention))
+RefusesSettings why f = ((why ≡ refusal.PageSize) × (f ≡ fault.PageSize)) ⊎
+    ((why ≡ refusal.MinPages) × (f ≡ fault.MinPages)) ⊎
+    ((why ≡ refusal.Retention) × (f ≡ fault.Retention))
 
 -- Settings of these numbers were refused.
-pub record RefusesNumbers (why : Refusal) (page_first page_max min_pages retention : ℕ) (low_water : Time) : Type 0 where
+pub record RefusesNumbers (why : Refusal) (page_first page_max min_pages retention : ℕ)
+    (low_water : Time) : Type 0 where
   pub fault : ConfigFault
   pub refused : settings_of page_first page_max min_pages retention low_water ≡ Err fault
   pub told : RefusesSettings why fault
 
 -- Why a configuration was refused.
 abbrev pub RefusesConfig : Refusal → AskedConfig → Type 0
-RefusesConfig why asked = RefusesTime why asked.low_water ⊎ RefusesNumbers why asked.page_first asked.page_max asked.min_pages asked.retention asked.low_water
+RefusesConfig why asked = RefusesTime why asked.low_water ⊎
+    RefusesNumbers why asked.page_first asked.page_max asked.min_pages asked.retention
+    asked.low_water

@@ -9,12 +9,18 @@ use Rattle.tsc_ffi_store.specs.contracts.store.Store.{the_row}
 use Rattle.tsc_ffi_store.specs.declared.store.Slot.TheVariants.{Own, Seat}
 use Rattle.tsc_ffi_store.specs.declared.store.Store.{Store}
 
--- The handle names the last cache behind the reference, if it named one. Otherwise the slots end as they were.
+-- The handle names the last cache behind the reference, if it named one. Otherwise the slots end as
+-- they were.
 abbrev pub LendsCacheAt : MutBor Store → ℕ → Option (MutBor CacheView) → Fml
 LendsCacheAt store handle r =
-    LendsSo the_row cache_row store r (λ n w. OnSome r (n.slots.items ≡ slice_set store.now.slots.items handle (Own w))) (λ n. n.slots.items ≡ store.now.slots.items)
+    LendsSo the_row cache_row store r
+    (λ n w. OnSome r (n.slots.items ≡ slice_set store.now.slots.items handle (Own w)))
+    (λ n. n.slots.items ≡ store.now.slots.items)
 
--- The handle names the last seat behind the reference, if it named one. Otherwise the slots end as they were.
+-- The handle names the last seat behind the reference, if it named one. Otherwise the slots end as
+-- they were.
 abbrev pub LendsSeatAt : MutBor Store → ℕ → Option (MutBor SeatView) → Fml
 LendsSeatAt store handle r =
-    LendsSo the_row seat_row store r (λ n w. OnSome r (n.slots.items ≡ slice_set store.now.slots.items handle (Seat w))) (λ n. n.slots.items ≡ store.now.slots.items)
+    LendsSo the_row seat_row store r
+    (λ n w. OnSome r (n.slots.items ≡ slice_set store.now.slots.items handle (Seat w)))
+    (λ n. n.slots.items ≡ store.now.slots.items)

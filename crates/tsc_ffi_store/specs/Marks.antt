@@ -2,17 +2,19 @@
 use Rattle.std.specs.Prelude.{◌≡◌, ◌⊎◌, ◌-◌, ◌&&◌, ℕ, List, [], ◌∷◌, length, take, drop, nat_le, Option, Some, None, if◌then◌else◌}
 use Rattle.std.specs.List.{Contains}
 use Rattle.tsc_span.specs.Span.{KeyBytes}
-use Rattle.tsc_page_base.specs.Page.{Mark}
+use Rattle.tsc_page_nodes.specs.Page.{Mark}
 use Rattle.tsc_ffi_store.specs.declared.ctypes.TscMark.{TscMark}
 use Rattle.tsc_ffi_store.specs.declared.refusal.Refusal.{Refusal}
 use Rattle.tsc_ffi_store.specs.declared.refusal.Refusal.TheVariants as refusal
 use Rattle.tsc_ffi_store.specs.Decode.{value_of, add_span, RefusesTime, RefusesAddSpan}
 
--- so many of some bytes, from an index on, where there are so many
+-- a part of some bytes, from an index on and of a length, where it lies within them
 abbrev pub part_of : List ℕ → ℕ → ℕ → Option KeyBytes
-part_of keys at len = if nat_le at (length keys) && nat_le len (length keys - at) then Some (take len (drop at keys)) else None
+part_of keys at len = if nat_le at (length keys) &&
+    nat_le len (length keys - at) then Some (take len (drop at keys)) else None
 
--- A mark is the one that some words ask for: both of its keys are parts of the bytes, and its span and its value are those of the words.
+-- A mark is the one that some words ask for: both of its keys are parts of the bytes, and its span
+-- and its value are those of the words.
 pub record IsMark (keys : List ℕ) (words : TscMark) (m : Mark) : Type 0 where
   pub from : KeyBytes
   pub to : KeyBytes
@@ -43,8 +45,11 @@ pub record RefusesMarkSpan (why : Refusal) (keys : List ℕ) (words : TscMark) :
 -- Why a mark was refused.
 abbrev pub RefusesMark : Refusal → List ℕ → TscMark → Type 0
 RefusesMark why keys words =
-    RefusesTime why (value_of words.value).time ⊎ RefusesPart why keys words.from_at words.from_len ⊎ RefusesPart why keys words.to_at words.to_len ⊎ RefusesMarkSpan why keys words
+    RefusesTime why (value_of words.value).time ⊎
+    RefusesPart why keys words.from_at words.from_len ⊎
+    RefusesPart why keys words.to_at words.to_len ⊎ RefusesMarkSpan why keys words
 
 -- Why an array of marks was refused: one of them is, or there was no memory for all.
 abbrev pub RefusesMarks : Refusal → List ℕ → List TscMark → Type 0
-RefusesMarks why keys ws = (why ≡ refusal.NoMemory) ⊎ ((w : TscMark) × Contains ws w × RefusesMark why keys w)
+RefusesMarks why keys ws = (why ≡ refusal.NoMemory) ⊎
+    ((w : TscMark) × Contains ws w × RefusesMark why keys w)

@@ -15,6 +15,7 @@ pub record IsShort (text : List ℕ) (code : ℕ) (old new : List ℕ) (len : �
   pub long : len ≡ length text
   pub same : new ≡ old
 
--- What becomes of a buffer into which a text is to go, and what is told then: the answer, and how long the text is.
+-- What becomes of a buffer into which a text is to go, and what is told then: the answer, and how
+-- long the text is.
 abbrev pub Puts : ℕ → List ℕ → ℕ → List ℕ → List ℕ → ℕ → Type 0
 Puts told text code old new len = Stands told text code old new len ⊎ IsShort text code old new len

@@ -3,7 +3,7 @@ use Rattle.std.specs.Prelude.{◌≡◌, ◌≢◌, ◌⊎◌, ◌++◌, ◌∷�
 use Rattle.tsc_time.specs.Time.{Time}
 use Rattle.tsc_time.specs.OwnedTime.{OwnedTime}
 use Rattle.tsc_span.specs.Span.{Interval}
-use Rattle.tsc_page_base.specs.Page.{Mark}
+use Rattle.tsc_page_nodes.specs.Page.{Mark}
 use Rattle.tsc_cache.specs.declared.added.Added.{Added}
 use Rattle.tsc_cache.specs.declared.figures.Figures.{Figures}
 use Rattle.tsc_cache.specs.Settings.{Settings, fits}
@@ -24,8 +24,10 @@ use Rattle.tsc_ffi_store.specs.Decode.{AskedSpan, AskedAdd, AskedBatch, AskedCon
 use Rattle.tsc_ffi_store.specs.Marks.{AreMarks, RefusesMarks}
 use Rattle.tsc_ffi_store.specs.Store.{cache_at, shared_at, seat_at}
 
--- A shared cache is opened at the next handle, and its seats, which nobody has used, at the handles behind it, in their order. All that was given stays.
-pub record OpensShared (old new : List Slot) (handle : ℕ) (settings : Settings) (count limit : ℕ) : Type 0 where
+-- A shared cache is opened at the next handle, and its seats, which nobody has used, at the handles
+-- behind it, in their order. All that was given stays.
+pub record OpensShared (old new : List Slot) (handle : ℕ) (settings : Settings) (count limit : ℕ) :
+    Type 0 where
   pub cache : SharedView
   pub next : handle ≡ length old
   pub given : new ≡ old ++ Shared cache ∷ map (λ s. Seat s) (new_seats cache 0 count)
@@ -42,13 +44,18 @@ abbrev pub RefusesRoom : Refusal → ℕ → Type 0
 RefusesRoom why count = (why ≡ refusal.NoMemory) × (is_seat_count count ≡ true)
 
 -- What a call does that opens a shared cache, at the next handle.
-pub record AnswersOpenShared {A : Type 0} (asked : AskedConfig) (count limit handle : ℕ) (old new : List Slot) (did : Result A Refusal) : Type 0 where
-  pub opened : IfOk did (λ _. (settings : Settings) × (settings_asked asked ≡ Ok settings) × OpensShared old new handle settings count limit)
-  pub refused : IfErr did (λ why. RefusesConfig why asked ⊎ RefusesSeats why count ⊎ RefusesRoom why count)
+pub record AnswersOpenShared {A : Type 0} (asked : AskedConfig) (count limit handle : ℕ)
+    (old new : List Slot) (did : Result A Refusal) : Type 0 where
+  pub opened : IfOk did (λ _. (settings : Settings) × (settings_asked asked ≡ Ok settings) ×
+      OpensShared old new handle settings count limit)
+  pub refused : IfErr did (λ why. RefusesConfig why asked ⊎ RefusesSeats why count ⊎
+      RefusesRoom why count)
   pub unchanged : OnErr did (new ≡ old)
 
--- What the cache of a seat answers to the span that a call names: by all that the seat has seen then, which are so many Adds.
-pub record SeatLooks (old new : SeatView) (asked : AskedSpan) (seen : ℕ) (v : OwnedTime) : Type 0 where
+-- What the cache of a seat answers to the span that a call names: by all that the seat has seen
+-- then, which are so many Adds.
+pub record SeatLooks (old new : SeatView) (asked : AskedSpan) (seen : ℕ) (v : OwnedTime) : Type
+    0 where
   pub span : Interval
   pub asked_for : lookup_span asked ≡ Some span
   pub looks : Looks old new span (record { value = v; front = seen })
@@ -56,25 +63,29 @@ pub record SeatLooks (old new : SeatView) (asked : AskedSpan) (seen : ℕ) (v : 
   pub whole : TellsNoPart new span v
 
 -- What a lookup at a seat answers.
-pub record AnswersSeatLookup {A : Type 0} (asked : AskedSpan) (seen : ℕ) (v : OwnedTime) (old new : SeatView) (did : Result A Refusal) : Type 0 where
+pub record AnswersSeatLookup {A : Type 0} (asked : AskedSpan) (seen : ℕ) (v : OwnedTime)
+    (old new : SeatView) (did : Result A Refusal) : Type 0 where
   pub looked : IfOk did (λ _. SeatLooks old new asked seen v)
   pub refused : IfErr did (λ why. RefusesEnds why asked.ends)
   pub unchanged : OnErr did (new ≡ old)
 
 -- Where the floor of the cache of a seat stands, after all that the seat has seen then.
-pub record AnswersSeatLowWater {A : Type 0} (seen : ℕ) (floor : Time) (old new : SeatView) (did : Result A Refusal) : Type 0 where
+pub record AnswersSeatLowWater {A : Type 0} (seen : ℕ) (floor : Time) (old new : SeatView)
+    (did : Result A Refusal) : Type 0 where
   pub reads : ReadsFloor old new (record { time = floor; front = seen })
   pub done : IsOk did
 
 -- The figures of the cache of a seat, after all that the seat has seen then.
-pub record AnswersSeatFigures {A : Type 0} (seen : ℕ) (figures : TscFigures) (old new : SeatView) (did : Result A Refusal) : Type 0 where
+pub record AnswersSeatFigures {A : Type 0} (seen : ℕ) (figures : TscFigures) (old new : SeatView)
+    (did : Result A Refusal) : Type 0 where
   pub counted : Figures
   pub told : figures ≡ figures_told counted
   pub reads : ReadsFigures old new (record { figures = counted; front = seen })
   pub done : IsOk did
 
 -- An Add of some marks at a seat, which has this place in the history of its cache, and did this.
-pub record SeatAccepts (old new : SeatView) (marks : List Mark) (now : Time) (place : ℕ) (added : Added) : Type 0 where
+pub record SeatAccepts (old new : SeatView) (marks : List Mark) (now : Time) (place : ℕ)
+    (added : Added) : Type 0 where
   pub receipt : Receipt
   pub accepts : Accepts old new marks now receipt
   pub goes_on : GoesOn old new
@@ -82,13 +93,16 @@ pub record SeatAccepts (old new : SeatView) (marks : List Mark) (now : Time) (pl
   pub added_is : added ≡ receipt.added
 
 -- What an Add of the span that a call names makes of a seat.
-pub record SeatAdds (old new : SeatView) (asked : AskedAdd) (place : ℕ) (added : Added) : Type 0 where
+pub record SeatAdds (old new : SeatView) (asked : AskedAdd) (place : ℕ) (added : Added) : Type
+    0 where
   pub span : Interval
   pub asked_for : add_span asked.span ≡ Some span
-  pub accepted : SeatAccepts old new (record { span = span; value = asked.value } ∷ []) asked.moment place added
+  pub accepted : SeatAccepts old new (record { span = span; value = asked.value } ∷ []) asked.moment
+      place added
 
 -- What an Add of the marks that a call names makes of a seat.
-pub record SeatAddsAll (old new : SeatView) (asked : AskedBatch) (place : ℕ) (added : Added) : Type 0 where
+pub record SeatAddsAll (old new : SeatView) (asked : AskedBatch) (place : ℕ) (added : Added) : Type
+    0 where
   pub marks : List Mark
   pub asked_for : AreMarks asked.keys asked.marks marks
   pub accepted : SeatAccepts old new marks asked.moment place added
@@ -105,9 +119,11 @@ Spares old new = (new ≡ old) ⊎ IsSpared old new
 abbrev pub IsFull : Refusal → SeatView → SeatView → Type 0
 IsFull why old new = (why ≡ refusal.Full) × (length new.seen ≡ old.cache.limit)
 
--- Why a cache refused an Add that fits a page of it: it did not wait for others, or it came to its turn, and its history was full or memory was refused. Without tries it never comes to its turn.
+-- Why a cache refused an Add that fits a page of it: it did not wait for others, or it came to its
+-- turn, and its history was full or memory was refused. Without tries it never comes to its turn.
 abbrev pub RefusesTried : Refusal → SeatView → SeatView → ℕ → Type 0
-RefusesTried why old new tries = (why ≡ refusal.Busy) ⊎ ((tries ≢ 0) × (IsFull why old new ⊎ (why ≡ refusal.NoMemory)))
+RefusesTried why old new tries = (why ≡ refusal.Busy) ⊎
+    ((tries ≢ 0) × (IsFull why old new ⊎ (why ≡ refusal.NoMemory)))
 
 -- what a cache says of an Add that it refused, and what C is told
 abbrev pub IsCodeOf : TryAddFault → Refusal → Type 0
@@ -128,16 +144,20 @@ pub record IsSeatTooLarge (why : Refusal) (old new : SeatView) (asked : AskedSpa
 -- Why an Add at a seat was refused.
 abbrev pub RefusesSeatAdd : Refusal → SeatView → SeatView → AskedAdd → ℕ → Type 0
 RefusesSeatAdd why old new asked tries =
-    RefusesTime why asked.value.time ⊎ RefusesTime why asked.moment ⊎ RefusesAddSpan why asked.span ⊎ IsSeatTooLarge why old new asked.span ⊎ RefusesTried why old new tries
+    RefusesTime why asked.value.time ⊎ RefusesTime why asked.moment ⊎
+    RefusesAddSpan why asked.span ⊎ IsSeatTooLarge why old new asked.span ⊎
+    RefusesTried why old new tries
 
 -- What an Add at a seat does.
-pub record AnswersSeatAdd {A : Type 0} (asked : AskedAdd) (tries place : ℕ) (told : Added) (old new : SeatView) (did : Result A Refusal) : Type 0 where
+pub record AnswersSeatAdd {A : Type 0} (asked : AskedAdd) (tries place : ℕ) (told : Added)
+    (old new : SeatView) (did : Result A Refusal) : Type 0 where
   pub added : IfOk did (λ _. SeatAdds old new asked place told)
   pub tried : IfOk did (λ _. tries ≢ 0)
   pub refused : IfErr did (λ why. RefusesSeatAdd why old new asked tries)
   pub spared : OnErr did (Spares old new)
 
--- The span of a mark that was named costs more than the largest page may have. The seat is as it was.
+-- The span of a mark that was named costs more than the largest page may have. The seat is as it
+-- was.
 pub record AreSeatTooLarge (why : Refusal) (old new : SeatView) (asked : AskedBatch) : Type 0 where
   pub marks : List Mark
   pub asked_for : AreMarks asked.keys asked.marks marks
@@ -147,10 +167,13 @@ pub record AreSeatTooLarge (why : Refusal) (old new : SeatView) (asked : AskedBa
 
 -- Why an Add of several marks at a seat was refused.
 abbrev pub RefusesSeatAddAll : Refusal → SeatView → SeatView → AskedBatch → ℕ → Type 0
-RefusesSeatAddAll why old new asked tries = RefusesTime why asked.moment ⊎ RefusesMarks why asked.keys asked.marks ⊎ AreSeatTooLarge why old new asked ⊎ RefusesTried why old new tries
+RefusesSeatAddAll why old new asked tries =
+    RefusesTime why asked.moment ⊎ RefusesMarks why asked.keys asked.marks ⊎
+    AreSeatTooLarge why old new asked ⊎ RefusesTried why old new tries
 
 -- What an Add of several marks at a seat does.
-pub record AnswersSeatAddAll {A : Type 0} (asked : AskedBatch) (tries place : ℕ) (told : Added) (old new : SeatView) (did : Result A Refusal) : Type 0 where
+pub record AnswersSeatAddAll {A : Type 0} (asked : AskedBatch) (tries place : ℕ) (told : Added)
+    (old new : SeatView) (did : Result A Refusal) : Type 0 where
   pub added : IfOk did (λ _. SeatAddsAll old new asked place told)
   pub tried : IfOk did (λ _. tries ≢ 0)
   pub refused : IfErr did (λ why. RefusesSeatAddAll why old new asked tries)
@@ -160,7 +183,8 @@ pub record AnswersSeatAddAll {A : Type 0} (asked : AskedBatch) (tries place : �
 abbrev pub IsNoSeat : Refusal → Option SeatView → Type 0
 IsNoSeat why held = (why ≡ refusal.Closed) × (held ≡ None)
 
--- What a handle names in one store goes to the next handle of another. The handle names nothing from then on.
+-- What a handle names in one store goes to the next handle of another. The handle names nothing
+-- from then on.
 pub record Moves (from to from' to' : List Slot) (handle m : ℕ) : Type 0 where
   pub slot : Slot
   pub held : slice_get from handle ≡ Some slot
@@ -171,13 +195,16 @@ pub record Moves (from to from' to' : List Slot) (handle m : ℕ) : Type 0 where
 
 -- A handle names nothing.
 abbrev pub NamesNone : List Slot → ℕ → Type 0
-NamesNone slots handle = (cache_at slots handle ≡ None) × (shared_at slots handle ≡ None) × (seat_at slots handle ≡ None)
+NamesNone slots handle = (cache_at slots handle ≡ None) × (shared_at slots handle ≡ None) ×
+    (seat_at slots handle ≡ None)
 
 -- Why nothing was moved.
 abbrev pub RefusesMove : Refusal → List Slot → ℕ → Type 0
-RefusesMove why slots handle = ((why ≡ refusal.Closed) × NamesNone slots handle) ⊎ (why ≡ refusal.NoMemory)
+RefusesMove why slots handle = ((why ≡ refusal.Closed) × NamesNone slots handle) ⊎
+    (why ≡ refusal.NoMemory)
 
--- A shared cache is closed. All its seats were handed in, and what all of them saw was a beginning of one history, which has so many Adds.
+-- A shared cache is closed. All its seats were handed in, and what all of them saw was a beginning
+-- of one history, which has so many Adds.
 pub record ClosesShared (held after : Option SharedView) (adds : ℕ) : Type 0 where
   pub cache : SharedView
   pub holds : held ≡ Some cache
@@ -189,4 +216,5 @@ pub record ClosesShared (held after : Option SharedView) (adds : ℕ) : Type 0 w
 
 -- Why a shared cache was not closed: there is none, or a seat is still out.
 abbrev pub RefusesCloseShared : Refusal → Option SharedView → Type 0
-RefusesCloseShared why held = ((why ≡ refusal.Closed) × (held ≡ None)) ⊎ ((why ≡ refusal.StillOut) × (held ≢ None))
+RefusesCloseShared why held = ((why ≡ refusal.Closed) × (held ≡ None)) ⊎
+    ((why ≡ refusal.StillOut) × (held ≢ None))

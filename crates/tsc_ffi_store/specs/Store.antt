@@ -59,7 +59,8 @@ pub record Keeps (old new : List Slot) (handle : ℕ) : Type 0 where
   pub others : (other : ℕ) → other ≢ handle → cache_at new other ≡ cache_at old other
   pub all_others : (other : ℕ) → other ≢ handle → slice_get new other ≡ slice_get old other
 
--- A handle is given, which is how many were given before. Whatever another handle names is as before.
+-- A handle is given, which is how many were given before. Whatever another handle names is as
+-- before.
 pub record GivesNext (old new : List Slot) (handle : ℕ) : Type 0 where
   pub next : handle ≡ length old
   pub given : length new ≡ length old + 1
@@ -67,22 +68,27 @@ pub record GivesNext (old new : List Slot) (handle : ℕ) : Type 0 where
   pub all_others : (other : ℕ) → other ≢ handle → slice_get new other ≡ slice_get old other
 
 -- A handle names no cache, so a call is refused.
-pub record NamesNoCache {A : Type 0} (slots : List Slot) (handle : ℕ) (did : Result A Refusal) : Type 0 where
+pub record NamesNoCache {A : Type 0} (slots : List Slot) (handle : ℕ) (did : Result A Refusal) :
+    Type 0 where
   pub none : cache_at slots handle ≡ None
   pub closed : did ≡ Err refusal.Closed
 
 -- A call reads the cache that a handle names.
-pub record ReadsCache {A : Type 0} (Reads : CacheView → Result A Refusal → Type 0) (slots : List Slot) (handle : ℕ) (did : Result A Refusal) : Type 0 where
+pub record ReadsCache {A : Type 0} (Reads : CacheView → Result A Refusal → Type 0)
+    (slots : List Slot) (handle : ℕ) (did : Result A Refusal) : Type 0 where
   pub cache : CacheView
   pub holds : cache_at slots handle ≡ Some cache
   pub reads : Reads cache did
 
 -- What a call answers that reads a cache by its handle.
-abbrev pub AnswersOfCache : {A : Type 0} → (CacheView → Result A Refusal → Type 0) → List Slot → ℕ → Result A Refusal → Type 0
-AnswersOfCache Reads slots handle did = NamesNoCache slots handle did ⊎ ReadsCache Reads slots handle did
+abbrev pub AnswersOfCache : {A : Type 0} → (CacheView → Result A Refusal → Type 0) → List Slot → ℕ →
+    Result A Refusal → Type 0
+AnswersOfCache Reads slots handle did =
+    NamesNoCache slots handle did ⊎ ReadsCache Reads slots handle did
 
 -- A call works on the cache that a handle names. What the other handles name is as before.
-pub record WorksOnCache {A : Type 0} (Works : CacheView → CacheView → Result A Refusal → Type 0) (old new : List Slot) (handle : ℕ) (did : Result A Refusal) : Type 0 where
+pub record WorksOnCache {A : Type 0} (Works : CacheView → CacheView → Result A Refusal → Type 0)
+    (old new : List Slot) (handle : ℕ) (did : Result A Refusal) : Type 0 where
   pub cache : CacheView
   pub after : CacheView
   pub holds : cache_at old handle ≡ Some cache
@@ -90,16 +96,20 @@ pub record WorksOnCache {A : Type 0} (Works : CacheView → CacheView → Result
   pub works : Works cache after did
 
 -- What a call does that works on a cache by its handle.
-abbrev pub DoesToCache : {A : Type 0} → (CacheView → CacheView → Result A Refusal → Type 0) → List Slot → List Slot → ℕ → Result A Refusal → Type 0
-DoesToCache Works old new handle did = (NamesNoCache old handle did × (new ≡ old)) ⊎ WorksOnCache Works old new handle did
+abbrev pub DoesToCache : {A : Type 0} → (CacheView → CacheView → Result A Refusal → Type 0) →
+    List Slot → List Slot → ℕ → Result A Refusal → Type 0
+DoesToCache Works old new handle did =
+    (NamesNoCache old handle did × (new ≡ old)) ⊎ WorksOnCache Works old new handle did
 
 -- A handle names no seat, so a call is refused.
-pub record NamesNoSeat {A : Type 0} (slots : List Slot) (handle : ℕ) (did : Result A Refusal) : Type 0 where
+pub record NamesNoSeat {A : Type 0} (slots : List Slot) (handle : ℕ) (did : Result A Refusal) : Type
+    0 where
   pub none : seat_at slots handle ≡ None
   pub closed : did ≡ Err refusal.Closed
 
 -- A call works on the seat that a handle names. What the other handles name is as before.
-pub record WorksOnSeat {A : Type 0} (Works : SeatView → SeatView → Result A Refusal → Type 0) (old new : List Slot) (handle : ℕ) (did : Result A Refusal) : Type 0 where
+pub record WorksOnSeat {A : Type 0} (Works : SeatView → SeatView → Result A Refusal → Type 0)
+    (old new : List Slot) (handle : ℕ) (did : Result A Refusal) : Type 0 where
   pub seat : SeatView
   pub after : SeatView
   pub holds : seat_at old handle ≡ Some seat
@@ -107,10 +117,13 @@ pub record WorksOnSeat {A : Type 0} (Works : SeatView → SeatView → Result A 
   pub works : Works seat after did
 
 -- What a call does that works on a seat by its handle.
-abbrev pub DoesToSeat : {A : Type 0} → (SeatView → SeatView → Result A Refusal → Type 0) → List Slot → List Slot → ℕ → Result A Refusal → Type 0
-DoesToSeat Works old new handle did = (NamesNoSeat old handle did × (new ≡ old)) ⊎ WorksOnSeat Works old new handle did
+abbrev pub DoesToSeat : {A : Type 0} → (SeatView → SeatView → Result A Refusal → Type 0) →
+    List Slot → List Slot → ℕ → Result A Refusal → Type 0
+DoesToSeat Works old new handle did =
+    (NamesNoSeat old handle did × (new ≡ old)) ⊎ WorksOnSeat Works old new handle did
 
--- the slots of the store that a pointer of C owns; one that owns none is like one with an empty store
+-- the slots of the store that a pointer of C owns; one that owns none is like one with an empty
+-- store
 abbrev pub slots_of : Option Store → List Slot
 slots_of None = []
 slots_of (Some store) = store.slots.items

@@ -3,7 +3,8 @@
 ghost use Rattle.std.specs.Prelude.{◌≡◌};
 ghost use Rattle.tsc_ffi_store.specs.Puts.{Puts};
 
-/// What a call answers that has put into the buffer why bytes were refused. It is the number of no `Refusal`.
+/// What a call answers that has put into the buffer why bytes were refused. It is the number of no
+/// `Refusal`.
 pub const REFUSED: u32 = 16;
 
 /// What a call answers whose text is longer than the buffer. It is the number of no `Refusal`.

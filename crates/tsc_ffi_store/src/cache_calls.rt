@@ -11,7 +11,7 @@ use crate::ctypes::{
     AddArgs, BatchArgs, ConfigArgs, SpanArgs, TscAdded, TscFigures, TscTime, TscValue,
 };
 use crate::decode::{
-    POINT, added_span, config, key, looked_up_span, time, value, words_of, words_of_added,
+    POINT, added_span, config, looked_up_span, time, value, words_of, words_of_added,
     words_of_figures, words_of_time,
 };
 use crate::marks::marks;
@@ -20,7 +20,7 @@ use crate::store::{Slot, Store};
 use std::alloc::Global;
 use std::mem::replace;
 use tsc_cache::{Cache, CacheFault, Config, TimestampCache};
-use tsc_span::{Span, SpanRef};
+use tsc_span::{KeyRef, SpanRef};
 
 impl Slot {
     /// Lets the cache that is held go.
@@ -53,7 +53,8 @@ impl Store {
         args: &ConfigArgs<'_>,
         handle: &mut u64,
     ) -> Result<(), Refusal>
-        ensures answers { AnswersOpen (asked_config args.now) handle.new self.old.slots.items self.new.slots.items result }
+        ensures answers { AnswersOpen (asked_config args.now) handle.new self.old.slots.items
+            self.new.slots.items result }
         ensures kept { OnErr result (handle.new ≡ handle.old) }
     {
         let config = config(args)?;
@@ -63,8 +64,11 @@ impl Store {
 
     /// Opens a cache of this configuration, and gives its handle.
     fn open_with(&mut self, alloc: Global, config: Config) -> Result<u64, Refusal>
-        ensures opened { IfOk result (λ handle. Opens (cache_at self.old.slots.items handle) (cache_at self.new.slots.items handle) config) }
-        ensures given { IfOk result (λ handle. GivesNext self.old.slots.items self.new.slots.items handle) }
+        ensures opened { IfOk result
+            (λ handle. Opens (cache_at self.old.slots.items handle)
+            (cache_at self.new.slots.items handle) config) }
+        ensures given { IfOk result
+            (λ handle. GivesNext self.old.slots.items self.new.slots.items handle) }
         ensures refused { IfErr result (λ why. why ≡ NoMemory) }
         ensures unchanged { OnErr result (self.new.slots.items ≡ self.old.slots.items) }
     {
@@ -85,7 +89,8 @@ impl Store {
         span: &SpanArgs<'_>,
         out: &mut TscValue,
     ) -> Result<(), Refusal>
-        ensures answers { AnswersOfCache (AnswersLookup (asked_span span.now) (value_of out.new)) self.now.slots.items handle result }
+        ensures answers { AnswersOfCache (AnswersLookup (asked_span span.now) (value_of out.new))
+            self.now.slots.items handle result }
         ensures kept { OnErr result (out.new ≡ out.old) }
     {
         match self.cache(handle) {
@@ -96,7 +101,8 @@ impl Store {
 
     /// Writes where the floor stands.
     pub fn low_water(&self, handle: u64, out: &mut TscTime) -> Result<(), Refusal>
-        ensures answers { AnswersOfCache (AnswersAlways (λ cache. StandsAt cache (time_of out.new))) self.now.slots.items handle result }
+        ensures answers { AnswersOfCache (AnswersAlways (λ cache. StandsAt cache (time_of out.new)))
+            self.now.slots.items handle result }
         ensures kept { OnErr result (out.new ≡ out.old) }
     {
         match self.cache(handle) {
@@ -110,7 +116,8 @@ impl Store {
 
     /// Writes what can be counted of a cache.
     pub fn figures(&self, handle: u64, out: &mut TscFigures) -> Result<(), Refusal>
-        ensures answers { AnswersOfCache (AnswersAlways (λ cache. Counts cache out.new)) self.now.slots.items handle result }
+        ensures answers { AnswersOfCache (AnswersAlways (λ cache. Counts cache out.new))
+            self.now.slots.items handle result }
         ensures kept { OnErr result (out.new ≡ out.old) }
     {
         match self.cache(handle) {
@@ -130,7 +137,8 @@ impl Store {
         args: &AddArgs<'_>,
         out: &mut TscAdded,
     ) -> Result<(), Refusal>
-        ensures answers { DoesToCache (AnswersAdd (asked_add args.now) (added_of out.new)) self.old.slots.items self.new.slots.items handle result }
+        ensures answers { DoesToCache (AnswersAdd (asked_add args.now) (added_of out.new))
+            self.old.slots.items self.new.slots.items handle result }
         ensures kept { OnErr result (out.new ≡ out.old) }
     {
         match self.cache_mut(handle) {
@@ -147,7 +155,8 @@ impl Store {
         args: &BatchArgs<'_>,
         out: &mut TscAdded,
     ) -> Result<(), Refusal>
-        ensures answers { DoesToCache (AnswersAddAll (asked_batch args.now) (added_of out.new)) self.old.slots.items self.new.slots.items handle result }
+        ensures answers { DoesToCache (AnswersAddAll (asked_batch args.now) (added_of out.new))
+            self.old.slots.items self.new.slots.items handle result }
         ensures kept { OnErr result (out.new ≡ out.old) }
     {
         match self.cache_mut(handle) {
@@ -160,7 +169,8 @@ impl Store {
     pub fn close(&mut self, handle: u64) -> Result<(), Refusal>
         ensures closed { cache_at self.new.slots.items handle ≡ None }
         ensures others { Keeps self.old.slots.items self.new.slots.items handle }
-        ensures refused { IfErr result (λ why. IsClosed why (cache_at self.old.slots.items handle)) }
+        ensures refused { IfErr result
+            (λ why. IsClosed why (cache_at self.old.slots.items handle)) }
         ensures done { IfOk result (λ _. cache_at self.old.slots.items handle ≢ None) }
         ensures unchanged { OnErr result (self.new.slots.items ≡ self.old.slots.items) }
     {
@@ -188,7 +198,7 @@ fn look_in(cache: &Cache, span: &SpanArgs<'_>, out: &mut TscValue) -> Result<(),
     if span.ends != POINT {
         return look_formed(cache, span, out);
     }
-    *out = words_of(cache.get_max_in(&SpanRef::point(span.from)));
+    *out = words_of(cache.get_max_ref(&SpanRef::point(span.from)));
     Ok(())
 }
 
@@ -200,22 +210,23 @@ fn look_formed(cache: &Cache, span: &SpanArgs<'_>, out: &mut TscValue) -> Result
     ensures refused { IfErr result (λ why. RefusesEnds why span.now.ends) }
 {
     let span = looked_up_span(span)?;
-    *out = words_of(cache.get_max_in(&span));
+    *out = words_of(cache.get_max_ref(&span));
     Ok(())
 }
 
 /// Adds a span to a cache, and writes what that did.
 ///
-/// Most Adds are of a single key. Its span is made here, where it is lent: what a function returns would be copied, and
-/// what is written for the other forms would be written for this one too. The value and the moment are read last, and the
-/// answer is written where it is wanted: what is known across a call has to be put somewhere until then.
+/// Most Adds are of a single key, which is lent to the cache where it lies: a known key is never
+/// copied. The other forms have a function of their own, so that what is written for them is not
+/// written for this one too.
 fn add_in(
     alloc: Global,
     cache: &mut Cache,
     args: &AddArgs<'_>,
     out: &mut TscAdded,
 ) -> Result<(), Refusal>
-    ensures added { IfOk result (λ _. AddsIn cache.old cache.new (asked_add args.now) (added_of out.new)) }
+    ensures added { IfOk result (λ _. AddsIn cache.old cache.new (asked_add args.now)
+        (added_of out.new)) }
     ensures refused { IfErr result (λ why. RefusesAdd why cache.old (asked_add args.now)) }
     ensures unchanged { OnErr result (cache.new ≡ cache.old) }
     ensures kept { OnErr result (out.new ≡ out.old) }
@@ -223,8 +234,10 @@ fn add_in(
     if args.span.ends != POINT {
         return add_formed(alloc, cache, args, out);
     }
-    let span = Span::point(key(alloc, args.span.from)?);
-    match cache.add(&span, value(args.value)?, time(args.moment)?) {
+    let Ok(key) = KeyRef::new(args.span.from) else {
+        return Err(Refusal::KeyTooLong);
+    };
+    match cache.add_key(&key, value(args.value)?, time(args.moment)?) {
         Ok(added) => {
             *out = words_of_added(added);
             Ok(())
@@ -241,7 +254,8 @@ fn add_formed(
     args: &AddArgs<'_>,
     out: &mut TscAdded,
 ) -> Result<(), Refusal>
-    ensures added { IfOk result (λ _. AddsIn cache.old cache.new (asked_add args.now) (added_of out.new)) }
+    ensures added { IfOk result (λ _. AddsIn cache.old cache.new (asked_add args.now)
+        (added_of out.new)) }
     ensures refused { IfErr result (λ why. RefusesAdd why cache.old (asked_add args.now)) }
     ensures unchanged { OnErr result (cache.new ≡ cache.old) }
     ensures kept { OnErr result (out.new ≡ out.old) }
@@ -263,7 +277,8 @@ fn add_all_in(
     args: &BatchArgs<'_>,
     out: &mut TscAdded,
 ) -> Result<(), Refusal>
-    ensures added { IfOk result (λ _. AddsAllIn cache.old cache.new (asked_batch args.now) (added_of out.new)) }
+    ensures added { IfOk result (λ _. AddsAllIn cache.old cache.new (asked_batch args.now)
+        (added_of out.new)) }
     ensures refused { IfErr result (λ why. RefusesAddAll why cache.old (asked_batch args.now)) }
     ensures unchanged { OnErr result (cache.new ≡ cache.old) }
     ensures kept { OnErr result (out.new ≡ out.old) }

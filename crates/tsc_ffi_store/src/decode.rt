@@ -39,7 +39,8 @@ pub fn time(words: &TscTime) -> Result<Timestamp, Refusal>
 /// The time of a wall time and a logical count.
 fn time_of_parts(wall: u64, logical: u32) -> Result<Timestamp, Refusal>
     ensures value { IfOk result (λ time. time ≡ record { wall = wall; logical = logical }) }
-    ensures refused { IfErr result (λ refusal. RefusesTime refusal (record { wall = wall; logical = logical })) }
+    ensures refused { IfErr result
+        (λ refusal. RefusesTime refusal (record { wall = wall; logical = logical })) }
 {
     match Timestamp::new(wall, logical) {
         Some(time) => Ok(time),
@@ -108,10 +109,15 @@ pub fn words_of_added(added: Added) -> TscAdded
     }
 }
 
-/// The owner's bytes, and zeros where nobody owns the value. They are copied by halves, as a lookup leaves them: to read at once what was just
-/// written as two words, a processor waits until both are in its cache.
+/// The owner's bytes, and zeros where nobody owns the value. They are copied by halves, as a lookup
+/// leaves them: to read at once what was just written as two words, a processor waits until both
+/// are in its cache.
 fn owner_of(value: Value) -> [u8; 16]
-    ensures { value ≡ value_of (record { wall = value.time.wall; logical = value.time.logical; owner = result }) }
+    ensures { value ≡ value_of (record {
+      wall = value.time.wall;
+      logical = value.time.logical;
+      owner = result;
+    }) }
 {
     match value.owner() {
         Some(owner) => by_halves(owner.into_bytes()),
@@ -119,7 +125,7 @@ fn owner_of(value: Value) -> [u8; 16]
     }
 }
 
-/// These bytes, copied in two halves.
+/// A copy of bytes, made in two halves.
 fn by_halves(bytes: [u8; 16]) -> [u8; 16]
     ensures { result ≡ bytes }
 {
@@ -176,7 +182,8 @@ pub fn added_span(alloc: Global, args: &SpanArgs<'_>) -> Result<Span, Refusal>
 
 /// The range between two keys that is to be added. An inverted one is refused.
 fn added_range(alloc: Global, from: &[u8], to: &[u8], ends: Ends) -> Result<Span, Refusal>
-    ensures value { IfOk result (λ span. range from.now to.now ends.exclude_from ends.exclude_to ≡ Some span) }
+    ensures value { IfOk result (λ span. range from.now to.now ends.exclude_from ends.exclude_to ≡
+        Some span) }
     ensures refused { IfErr result (λ refusal. RefusesRange refusal from.now to.now ends) }
 {
     let from = key(alloc, from)?;
@@ -187,7 +194,8 @@ fn added_range(alloc: Global, from: &[u8], to: &[u8], ends: Ends) -> Result<Span
     }
 }
 
-/// The span to be looked up that a call names. It is over the keys where they lie, which may be of any length.
+/// The span to be looked up that a call names. It is over the keys where they lie, which may be of
+/// any length.
 pub fn looked_up_span<'a>(args: &SpanArgs<'a>) -> Result<SpanRef<'a>, Refusal>
     ensures value { IfOk result (λ span. lookup_span (asked_span args.now) ≡ Some span) }
     ensures refused { IfErr result (λ refusal. RefusesEnds refusal args.now.ends) }
@@ -222,8 +230,10 @@ fn config_of(
     retention: u64,
     low_water: Timestamp,
 ) -> Result<Config, Refusal>
-    ensures value { IfOk result (λ config. settings_of page_first page_max min_pages retention low_water ≡ Made config) }
-    ensures refused { IfErr result (λ why. RefusesNumbers why page_first page_max min_pages retention low_water) }
+    ensures value { IfOk result (λ config. settings_of page_first page_max min_pages retention
+        low_water ≡ Made config) }
+    ensures refused { IfErr result
+        (λ why. RefusesNumbers why page_first page_max min_pages retention low_water) }
 {
     match Config::new(page_first, page_max, min_pages, retention, low_water) {
         Ok(config) => Ok(config),

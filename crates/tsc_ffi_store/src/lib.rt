@@ -1,7 +1,8 @@
 //! The store behind a pointer of a program in C: caches, shared caches and their seats, by handles.
 //!
-//! [`Store`] has a method for each request. It takes what C hands over, as C lays it out ([`SpanArgs`] and its like), and
-//! either does all that is asked, or says by a [`Refusal`] why it did nothing.
+//! [`Store`] has a method for each request. It takes what C hands over, as C lays it out
+//! ([`SpanArgs`] and its like), and either does all that is asked, or says by a [`Refusal`] why it
+//! did nothing.
 #![tactic(auto)]
 
 mod buffer;

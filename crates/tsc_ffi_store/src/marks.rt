@@ -10,7 +10,7 @@ use crate::refusal::Refusal;
 use std::alloc::Global;
 use tsc_cache::Mark;
 
-/// So many of these bytes, from one of them on.
+/// `len` of these bytes, from the one at `at` on.
 pub fn part(keys: &[u8], at: usize, len: usize) -> Result<&[u8], Refusal>
     ensures value { IfOk result (λ part. part_of keys.now at len ≡ Some part.now) }
     ensures refused { IfErr result (λ why. RefusesPart why keys.now at len) }

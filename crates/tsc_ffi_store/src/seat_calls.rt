@@ -35,7 +35,8 @@ fn may_seat(seats: u32) -> bool
 
 /// Refuses what [`Store::open_shared`] does, but for want of memory.
 pub fn may_open_shared(args: &ConfigArgs<'_>, seats: u32) -> Result<(), Refusal>
-    ensures refused { IfErr result (λ why. RefusesConfig why (asked_config args.now) ⊎ RefusesSeats why seats) }
+    ensures refused { IfErr result
+        (λ why. RefusesConfig why (asked_config args.now) ⊎ RefusesSeats why seats) }
     ensures seats { IfOk result (λ _. is_seat_count seats ≡ true) }
 {
     may_open(args)?;
@@ -72,7 +73,8 @@ impl Slot {
 
     /// Closes the shared cache that is held, and tells how many Adds its history has.
     fn close_shared(&mut self) -> Result<u64, Refusal>
-        ensures closed { IfOk result (λ adds. ClosesShared (shared_of self.old) (shared_of self.new) adds) }
+        ensures closed { IfOk result
+            (λ adds. ClosesShared (shared_of self.old) (shared_of self.new) adds) }
         ensures refused { IfErr result (λ why. RefusesCloseShared why (shared_of self.old)) }
         ensures unchanged { OnErr result (self.new ≡ self.old) }
     {
@@ -107,7 +109,8 @@ impl Store {
         limit: u64,
         handle: &mut u64,
     ) -> Result<(), Refusal>
-        ensures answers { AnswersOpenShared (asked_config args.now) seats limit handle.new self.old.slots.items self.new.slots.items result }
+        ensures answers { AnswersOpenShared (asked_config args.now) seats limit handle.new
+            self.old.slots.items self.new.slots.items result }
         ensures kept { OnErr result (handle.new ≡ handle.old) }
     {
         let config = config(args)?;
@@ -123,7 +126,9 @@ impl Store {
         seats: u32,
         limit: u64,
     ) -> Result<u64, Refusal>
-        ensures opened { IfOk result (λ handle. OpensShared self.old.slots.items self.new.slots.items handle config seats limit) }
+        ensures opened { IfOk result
+            (λ handle. OpensShared self.old.slots.items self.new.slots.items handle config seats
+            limit) }
         ensures refused { IfErr result (λ why. RefusesSeats why seats ⊎ RefusesRoom why seats) }
         ensures unchanged { OnErr result (self.new.slots.items ≡ self.old.slots.items) }
     {
@@ -151,7 +156,9 @@ impl Store {
         seen: &mut u64,
         out: &mut TscValue,
     ) -> Result<(), Refusal>
-        ensures answers { DoesToSeat (AnswersSeatLookup (asked_span span.now) seen.new (value_of out.new)) self.old.slots.items self.new.slots.items handle result }
+        ensures answers { DoesToSeat
+            (AnswersSeatLookup (asked_span span.now) seen.new (value_of out.new))
+            self.old.slots.items self.new.slots.items handle result }
         ensures kept { OnErr result ((seen.new ≡ seen.old) × (out.new ≡ out.old)) }
     {
         match self.seat_mut(handle) {
@@ -160,14 +167,16 @@ impl Store {
         }
     }
 
-    /// Writes where the floor of the cache of a seat stands, and how many Adds the seat has seen then.
+    /// Writes where the floor of the cache of a seat stands, and how many Adds the seat has seen
+    /// then.
     pub fn seat_low_water(
         &mut self,
         handle: u64,
         seen: &mut u64,
         out: &mut TscTime,
     ) -> Result<(), Refusal>
-        ensures answers { DoesToSeat (AnswersSeatLowWater seen.new (time_of out.new)) self.old.slots.items self.new.slots.items handle result }
+        ensures answers { DoesToSeat (AnswersSeatLowWater seen.new (time_of out.new))
+            self.old.slots.items self.new.slots.items handle result }
         ensures kept { OnErr result ((seen.new ≡ seen.old) × (out.new ≡ out.old)) }
     {
         match self.seat_mut(handle) {
@@ -188,7 +197,8 @@ impl Store {
         seen: &mut u64,
         out: &mut TscFigures,
     ) -> Result<(), Refusal>
-        ensures answers { DoesToSeat (AnswersSeatFigures seen.new out.new) self.old.slots.items self.new.slots.items handle result }
+        ensures answers { DoesToSeat (AnswersSeatFigures seen.new out.new) self.old.slots.items
+            self.new.slots.items handle result }
         ensures kept { OnErr result ((seen.new ≡ seen.old) × (out.new ≡ out.old)) }
     {
         match self.seat_mut(handle) {
@@ -212,7 +222,9 @@ impl Store {
         place: &mut u64,
         out: &mut TscAdded,
     ) -> Result<(), Refusal>
-        ensures answers { DoesToSeat (AnswersSeatAdd (asked_add args.now) tries place.new (added_of out.new)) self.old.slots.items self.new.slots.items handle result }
+        ensures answers { DoesToSeat
+            (AnswersSeatAdd (asked_add args.now) tries place.new (added_of out.new))
+            self.old.slots.items self.new.slots.items handle result }
         ensures kept { OnErr result ((place.new ≡ place.old) × (out.new ≡ out.old)) }
     {
         match self.seat_mut(handle) {
@@ -231,7 +243,9 @@ impl Store {
         place: &mut u64,
         out: &mut TscAdded,
     ) -> Result<(), Refusal>
-        ensures answers { DoesToSeat (AnswersSeatAddAll (asked_batch args.now) tries place.new (added_of out.new)) self.old.slots.items self.new.slots.items handle result }
+        ensures answers { DoesToSeat
+            (AnswersSeatAddAll (asked_batch args.now) tries place.new (added_of out.new))
+            self.old.slots.items self.new.slots.items handle result }
         ensures kept { OnErr result ((place.new ≡ place.old) × (out.new ≡ out.old)) }
     {
         match self.seat_mut(handle) {
@@ -256,9 +270,12 @@ impl Store {
 
     /// Closes a shared cache, and tells how many Adds its history has.
     pub fn close_shared(&mut self, handle: u64) -> Result<u64, Refusal>
-        ensures closed { IfOk result (λ adds. ClosesShared (shared_at self.old.slots.items handle) (shared_at self.new.slots.items handle) adds) }
+        ensures closed { IfOk result
+            (λ adds. ClosesShared (shared_at self.old.slots.items handle)
+            (shared_at self.new.slots.items handle) adds) }
         ensures others { Keeps self.old.slots.items self.new.slots.items handle }
-        ensures refused { IfErr result (λ why. RefusesCloseShared why (shared_at self.old.slots.items handle)) }
+        ensures refused { IfErr result
+            (λ why. RefusesCloseShared why (shared_at self.old.slots.items handle)) }
         ensures unchanged { OnErr result (self.new.slots.items ≡ self.old.slots.items) }
     {
         match self.slots.get_mut(handle as usize) {
@@ -278,7 +295,9 @@ impl Store {
 
     /// What a handle names goes to the next handle of another store.
     pub fn move_to(&mut self, handle: u64, other: &mut Store) -> Result<u64, Refusal>
-        ensures moved { IfOk result (λ m. Moves self.old.slots.items other.old.slots.items self.new.slots.items other.new.slots.items handle m) }
+        ensures moved { IfOk result
+            (λ m. Moves self.old.slots.items other.old.slots.items self.new.slots.items
+            other.new.slots.items handle m) }
         ensures refused { IfErr result (λ why. RefusesMove why self.old.slots.items handle) }
         ensures unchanged { OnErr result (self.new.slots.items ≡ self.old.slots.items) }
         ensures other_unchanged { OnErr result (other.new.slots.items ≡ other.old.slots.items) }
@@ -296,7 +315,8 @@ impl Store {
 /// Lays a shared cache and its seats behind what there is, for which there is room.
 fn put(slots: &mut Vec<Slot>, owner: Owner, handles: Vec<SeatHandle>)
     requires room { vec_len slots.old + 1 + length handles.items ≤ vec_capacity slots.old }
-    ensures { slots.new.items ≡ slots.old.items ++ kinds.Shared owner ∷ map (λ s. kinds.Seat s) handles.items }
+    ensures { slots.new.items ≡ slots.old.items ++ kinds.Shared owner ∷
+        map (λ s. kinds.Seat s) handles.items }
 {
     let Ok(()) = slots.push(Slot::Shared(owner)) else {
         unreachable!()
@@ -315,13 +335,14 @@ fn look_at(
     seen: &mut u64,
     out: &mut TscValue,
 ) -> Result<(), Refusal>
-    ensures looked { IfOk result (λ _. SeatLooks seat.old seat.new (asked_span span.now) seen.new (value_of out.new)) }
+    ensures looked { IfOk result (λ _. SeatLooks seat.old seat.new (asked_span span.now) seen.new
+        (value_of out.new)) }
     ensures refused { IfErr result (λ why. RefusesEnds why span.now.ends) }
     ensures unchanged { OnErr result (seat.new ≡ seat.old) }
     ensures kept { OnErr result ((seen.new ≡ seen.old) × (out.new ≡ out.old)) }
 {
     let span = looked_up_span(span)?;
-    let answer = seat.get_max_in(&span);
+    let answer = seat.get_max_ref(&span);
     *seen = answer.front;
     *out = words_of(answer.value);
     Ok(())
@@ -336,9 +357,11 @@ fn add_at(
     place: &mut u64,
     out: &mut TscAdded,
 ) -> Result<(), Refusal>
-    ensures added { IfOk result (λ _. SeatAdds seat.old seat.new (asked_add args.now) place.new (added_of out.new)) }
+    ensures added { IfOk result (λ _. SeatAdds seat.old seat.new (asked_add args.now) place.new
+        (added_of out.new)) }
     ensures tried { IfOk result (λ _. tries ≢ 0) }
-    ensures refused { IfErr result (λ why. RefusesSeatAdd why seat.old seat.new (asked_add args.now) tries) }
+    ensures refused { IfErr result
+        (λ why. RefusesSeatAdd why seat.old seat.new (asked_add args.now) tries) }
     ensures spared { OnErr result (Spares seat.old seat.new) }
     ensures kept { OnErr result ((place.new ≡ place.old) × (out.new ≡ out.old)) }
 {
@@ -362,9 +385,11 @@ fn add_all_at(
     place: &mut u64,
     out: &mut TscAdded,
 ) -> Result<(), Refusal>
-    ensures added { IfOk result (λ _. SeatAddsAll seat.old seat.new (asked_batch args.now) place.new (added_of out.new)) }
+    ensures added { IfOk result (λ _. SeatAddsAll seat.old seat.new (asked_batch args.now) place.new
+        (added_of out.new)) }
     ensures tried { IfOk result (λ _. tries ≢ 0) }
-    ensures refused { IfErr result (λ why. RefusesSeatAddAll why seat.old seat.new (asked_batch args.now) tries) }
+    ensures refused { IfErr result
+        (λ why. RefusesSeatAddAll why seat.old seat.new (asked_batch args.now) tries) }
     ensures spared { OnErr result (Spares seat.old seat.new) }
     ensures kept { OnErr result ((place.new ≡ place.old) × (out.new ≡ out.old)) }
 {

@@ -41,7 +41,8 @@ impl Slot {
 
     /// The cache that is held, to be changed.
     pub(crate) fn cache_mut(&mut self) -> Option<&mut Cache>
-        ensures* writes_back { sem 𝓛 (LendsIf the_row cache_row self.entry result kinds.Own self.old) }
+        ensures* writes_back { sem 𝓛
+            (LendsIf the_row cache_row self.entry result kinds.Own self.old) }
         ensures value { option_map (λ c. c.now) result ≡ cache_of self.old }
     {
         match self {
@@ -52,7 +53,8 @@ impl Slot {
 
     /// The seat that is held.
     pub(crate) fn seat_mut(&mut self) -> Option<&mut SeatHandle>
-        ensures* writes_back { sem 𝓛 (LendsIf the_row seat_row self.entry result kinds.Seat self.old) }
+        ensures* writes_back { sem 𝓛
+            (LendsIf the_row seat_row self.entry result kinds.Seat self.old) }
         ensures value { option_map (λ s. s.now) result ≡ seat_of self.old }
     {
         match self {
@@ -63,7 +65,8 @@ impl Slot {
 
     /// What is held, in whose stead nothing is left.
     fn take(&mut self) -> Option<Slot>
-        ensures taken { IfSome result (λ s. (s ≡ self.old) × (s ≢ kinds.Closed) × (self.new ≡ kinds.Closed)) }
+        ensures taken { IfSome result
+            (λ s. (s ≡ self.old) × (s ≢ kinds.Closed) × (self.new ≡ kinds.Closed)) }
         ensures none { IfNone result ((self.old ≡ kinds.Closed) × (self.new ≡ self.old)) }
     {
         match replace(self, Slot::Closed) {
@@ -129,7 +132,9 @@ impl Store {
 
     /// What a handle names, which names nothing from then on.
     pub(crate) fn take(&mut self, handle: u64) -> Option<Slot>
-        ensures taken { IfSome result (λ s. (slice_get self.old.slots.items handle ≡ Some s) × (s ≢ kinds.Closed) × (self.new.slots.items ≡ slice_set self.old.slots.items handle kinds.Closed)) }
+        ensures taken { IfSome result
+            (λ s. (slice_get self.old.slots.items handle ≡ Some s) × (s ≢ kinds.Closed) ×
+            (self.new.slots.items ≡ slice_set self.old.slots.items handle kinds.Closed)) }
         ensures no_cache { IfNone result (cache_at self.old.slots.items handle ≡ None) }
         ensures no_shared { IfNone result (shared_at self.old.slots.items handle ≡ None) }
         ensures no_seat { IfNone result (seat_at self.old.slots.items handle ≡ None) }

@@ -13,7 +13,11 @@ returns-in-Some c = record {
   answers = record {
     did = c.add.result;
     code_is = c.code.ensures;
-    answers = in_store (λ o n. DoesToCache (AnswersAdd (add_asked (span_asked c.args.from.now c.args.to.now c.args.ends) c.args.value.now c.args.moment.now) (added_of c.add.new.out)) o n c.args.handle c.add.result) c.args.store.now.owned (Some c.add.new.self) c.in-Some.held.now c.add.new.self (search rules) (search rules) c.add.ensures.answers;
+    answers = in_store (λ o n. DoesToCache
+        (AnswersAdd (add_asked (span_asked c.args.from.now c.args.to.now c.args.ends)
+        c.args.value.now c.args.moment.now) (added_of c.add.new.out)) o n c.args.handle
+        c.add.result) c.args.store.now.owned (Some c.add.new.self) c.in-Some.held.now c.add.new.self
+        (search rules) (search rules) c.add.ensures.answers;
     kept = c.add.ensures.kept;
   };
 }
@@ -23,7 +27,10 @@ returns-in-None c = record {
   answers = record {
     did = Err refusal.Closed;
     code_is = search rules;
-    answers = no_cache (AnswersAdd (add_asked (span_asked c.args.from.now c.args.to.now c.args.ends) c.args.value.now c.args.moment.now) (added_of c.args.out.now)) c.args.store.now.owned c.args.store.now.owned c.args.handle (search rules) (search rules);
+    answers = no_cache (AnswersAdd
+        (add_asked (span_asked c.args.from.now c.args.to.now c.args.ends) c.args.value.now
+        c.args.moment.now) (added_of c.args.out.now)) c.args.store.now.owned c.args.store.now.owned
+        c.args.handle (search rules) (search rules);
     kept = search rules;
   };
 }

@@ -13,7 +13,11 @@ returns-in-Some c = record {
   answers = record {
     did = c.add_all.result;
     code_is = c.code.ensures;
-    answers = in_store (λ o n. DoesToCache (AnswersAddAll (batch_asked c.args.keys.now c.args.marks.now c.args.moment.now) (added_of c.add_all.new.out)) o n c.args.handle c.add_all.result) c.args.store.now.owned (Some c.add_all.new.self) c.in-Some.held.now c.add_all.new.self (search rules) (search rules) c.add_all.ensures.answers;
+    answers = in_store (λ o n. DoesToCache
+        (AnswersAddAll (batch_asked c.args.keys.now c.args.marks.now c.args.moment.now)
+        (added_of c.add_all.new.out)) o n c.args.handle c.add_all.result) c.args.store.now.owned
+        (Some c.add_all.new.self) c.in-Some.held.now c.add_all.new.self (search rules)
+        (search rules) c.add_all.ensures.answers;
     kept = c.add_all.ensures.kept;
   };
 }
@@ -23,7 +27,9 @@ returns-in-None c = record {
   answers = record {
     did = Err refusal.Closed;
     code_is = search rules;
-    answers = no_cache (AnswersAddAll (batch_asked c.args.keys.now c.args.marks.now c.args.moment.now) (added_of c.args.out.now)) c.args.store.now.owned c.args.store.now.owned c.args.handle (search rules) (search rules);
+    answers = no_cache (AnswersAddAll
+        (batch_asked c.args.keys.now c.args.marks.now c.args.moment.now) (added_of c.args.out.now))
+        c.args.store.now.owned c.args.store.now.owned c.args.handle (search rules) (search rules);
     kept = search rules;
   };
 }

@@ -7,5 +7,8 @@ use Rattle.tsc_c.proofs.seat_calls.tsc_close_shared.Goals as goal
 
 pub returns-in-None-clause-refused : goal.returns-in-None-clause-refused
 returns-in-None-clause-refused c = λ refused.
-    let none : c.args.store.now.owned ≡ None = search rules in
-    (refusal.Closed, search rules, inl (refl, ap (λ (o : Option Store). shared_at (slots_of o) c.args.handle) none))
+    let none : c.args.store.now.owned ≡ None = search rules in (
+      refusal.Closed,
+      search rules,
+      inl (refl, ap (λ (o : Option Store). shared_at (slots_of o) c.args.handle) none),
+    )

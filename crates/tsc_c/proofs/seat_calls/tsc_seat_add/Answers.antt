@@ -13,7 +13,12 @@ returns-in-Some c = record {
   answers = record {
     did = c.seat_add.result;
     code_is = c.code.ensures;
-    answers = in_store (λ o n. DoesToSeat (AnswersSeatAdd (add_asked (span_asked c.args.from.now c.args.to.now c.args.ends) c.args.value.now c.args.moment.now) c.args.tries c.seat_add.new.place (added_of c.seat_add.new.out)) o n c.args.handle c.seat_add.result) c.args.store.now.owned (Some c.seat_add.new.self) c.in-Some.held.now c.seat_add.new.self (search rules) (search rules) c.seat_add.ensures.answers;
+    answers = in_store (λ o n. DoesToSeat
+        (AnswersSeatAdd (add_asked (span_asked c.args.from.now c.args.to.now c.args.ends)
+        c.args.value.now c.args.moment.now) c.args.tries c.seat_add.new.place
+        (added_of c.seat_add.new.out)) o n c.args.handle c.seat_add.result) c.args.store.now.owned
+        (Some c.seat_add.new.self) c.in-Some.held.now c.seat_add.new.self (search rules)
+        (search rules) c.seat_add.ensures.answers;
     kept = c.seat_add.ensures.kept;
   };
 }
@@ -23,7 +28,10 @@ returns-in-None c = record {
   answers = record {
     did = Err refusal.Closed;
     code_is = search rules;
-    answers = no_seat (AnswersSeatAdd (add_asked (span_asked c.args.from.now c.args.to.now c.args.ends) c.args.value.now c.args.moment.now) c.args.tries c.args.place.now (added_of c.args.out.now)) c.args.store.now.owned c.args.store.now.owned c.args.handle (search rules) (search rules);
+    answers = no_seat (AnswersSeatAdd
+        (add_asked (span_asked c.args.from.now c.args.to.now c.args.ends) c.args.value.now
+        c.args.moment.now) c.args.tries c.args.place.now (added_of c.args.out.now))
+        c.args.store.now.owned c.args.store.now.owned c.args.handle (search rules) (search rules);
     kept = search rules;
   };
 }

@@ -13,7 +13,12 @@ returns-in-Some c = record {
   answers = record {
     did = c.seat_add_all.result;
     code_is = c.code.ensures;
-    answers = in_store (λ o n. DoesToSeat (AnswersSeatAddAll (batch_asked c.args.keys.now c.args.marks.now c.args.moment.now) c.args.tries c.seat_add_all.new.place (added_of c.seat_add_all.new.out)) o n c.args.handle c.seat_add_all.result) c.args.store.now.owned (Some c.seat_add_all.new.self) c.in-Some.held.now c.seat_add_all.new.self (search rules) (search rules) c.seat_add_all.ensures.answers;
+    answers = in_store (λ o n. DoesToSeat
+        (AnswersSeatAddAll (batch_asked c.args.keys.now c.args.marks.now c.args.moment.now)
+        c.args.tries c.seat_add_all.new.place (added_of c.seat_add_all.new.out)) o n c.args.handle
+        c.seat_add_all.result) c.args.store.now.owned (Some c.seat_add_all.new.self)
+        c.in-Some.held.now c.seat_add_all.new.self (search rules) (search rules)
+        c.seat_add_all.ensures.answers;
     kept = c.seat_add_all.ensures.kept;
   };
 }
@@ -23,7 +28,10 @@ returns-in-None c = record {
   answers = record {
     did = Err refusal.Closed;
     code_is = search rules;
-    answers = no_seat (AnswersSeatAddAll (batch_asked c.args.keys.now c.args.marks.now c.args.moment.now) c.args.tries c.args.place.now (added_of c.args.out.now)) c.args.store.now.owned c.args.store.now.owned c.args.handle (search rules) (search rules);
+    answers = no_seat (AnswersSeatAddAll
+        (batch_asked c.args.keys.now c.args.marks.now c.args.moment.now) c.args.tries
+        c.args.place.now (added_of c.args.out.now)) c.args.store.now.owned c.args.store.now.owned
+        c.args.handle (search rules) (search rules);
     kept = search rules;
   };
 }

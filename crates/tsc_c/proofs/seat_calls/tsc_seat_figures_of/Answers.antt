@@ -12,7 +12,11 @@ returns-in-Some c = record {
   answers = record {
     did = c.seat_figures.result;
     code_is = c.code.ensures;
-    answers = in_store (λ o n. DoesToSeat (AnswersSeatFigures c.seat_figures.new.seen c.seat_figures.new.out) o n c.args.handle c.seat_figures.result) c.args.store.now.owned (Some c.seat_figures.new.self) c.in-Some.held.now c.seat_figures.new.self (search rules) (search rules) c.seat_figures.ensures.answers;
+    answers = in_store (λ o n. DoesToSeat
+        (AnswersSeatFigures c.seat_figures.new.seen c.seat_figures.new.out) o n c.args.handle
+        c.seat_figures.result) c.args.store.now.owned (Some c.seat_figures.new.self)
+        c.in-Some.held.now c.seat_figures.new.self (search rules) (search rules)
+        c.seat_figures.ensures.answers;
     kept = c.seat_figures.ensures.kept;
   };
 }
@@ -22,7 +26,8 @@ returns-in-None c = record {
   answers = record {
     did = Err refusal.Closed;
     code_is = search rules;
-    answers = no_seat (AnswersSeatFigures c.args.seen.now c.args.out.now) c.args.store.now.owned c.args.store.now.owned c.args.handle (search rules) (search rules);
+    answers = no_seat (AnswersSeatFigures c.args.seen.now c.args.out.now) c.args.store.now.owned
+        c.args.store.now.owned c.args.handle (search rules) (search rules);
     kept = search rules;
   };
 }

@@ -13,7 +13,12 @@ returns-in-Some c = record {
   answers = record {
     did = c.seat_get_max.result;
     code_is = c.code.ensures;
-    answers = in_store (λ o n. DoesToSeat (AnswersSeatLookup (span_asked c.args.from.now c.args.to.now c.args.ends) c.seat_get_max.new.seen (value_of c.seat_get_max.new.out)) o n c.args.handle c.seat_get_max.result) c.args.store.now.owned (Some c.seat_get_max.new.self) c.in-Some.held.now c.seat_get_max.new.self (search rules) (search rules) c.seat_get_max.ensures.answers;
+    answers = in_store (λ o n. DoesToSeat
+        (AnswersSeatLookup (span_asked c.args.from.now c.args.to.now c.args.ends)
+        c.seat_get_max.new.seen (value_of c.seat_get_max.new.out)) o n c.args.handle
+        c.seat_get_max.result) c.args.store.now.owned (Some c.seat_get_max.new.self)
+        c.in-Some.held.now c.seat_get_max.new.self (search rules) (search rules)
+        c.seat_get_max.ensures.answers;
     kept = c.seat_get_max.ensures.kept;
   };
 }
@@ -23,7 +28,9 @@ returns-in-None c = record {
   answers = record {
     did = Err refusal.Closed;
     code_is = search rules;
-    answers = no_seat (AnswersSeatLookup (span_asked c.args.from.now c.args.to.now c.args.ends) c.args.seen.now (value_of c.args.out.now)) c.args.store.now.owned c.args.store.now.owned c.args.handle (search rules) (search rules);
+    answers = no_seat (AnswersSeatLookup (span_asked c.args.from.now c.args.to.now c.args.ends)
+        c.args.seen.now (value_of c.args.out.now)) c.args.store.now.owned c.args.store.now.owned
+        c.args.handle (search rules) (search rules);
     kept = search rules;
   };
 }

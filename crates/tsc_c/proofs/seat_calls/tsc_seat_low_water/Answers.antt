@@ -13,7 +13,11 @@ returns-in-Some c = record {
   answers = record {
     did = c.seat_low_water.result;
     code_is = c.code.ensures;
-    answers = in_store (λ o n. DoesToSeat (AnswersSeatLowWater c.seat_low_water.new.seen (time_of c.seat_low_water.new.out)) o n c.args.handle c.seat_low_water.result) c.args.store.now.owned (Some c.seat_low_water.new.self) c.in-Some.held.now c.seat_low_water.new.self (search rules) (search rules) c.seat_low_water.ensures.answers;
+    answers = in_store (λ o n. DoesToSeat
+        (AnswersSeatLowWater c.seat_low_water.new.seen (time_of c.seat_low_water.new.out)) o n
+        c.args.handle c.seat_low_water.result) c.args.store.now.owned
+        (Some c.seat_low_water.new.self) c.in-Some.held.now c.seat_low_water.new.self (search rules)
+        (search rules) c.seat_low_water.ensures.answers;
     kept = c.seat_low_water.ensures.kept;
   };
 }
@@ -23,7 +27,8 @@ returns-in-None c = record {
   answers = record {
     did = Err refusal.Closed;
     code_is = search rules;
-    answers = no_seat (AnswersSeatLowWater c.args.seen.now (time_of c.args.out.now)) c.args.store.now.owned c.args.store.now.owned c.args.handle (search rules) (search rules);
+    answers = no_seat (AnswersSeatLowWater c.args.seen.now (time_of c.args.out.now))
+        c.args.store.now.owned c.args.store.now.owned c.args.handle (search rules) (search rules);
     kept = search rules;
   };
 }

@@ -7,4 +7,5 @@ use Rattle.tsc_ffi_leases.proofs.writes.earliest_at.Given as goal
 abbrev pub invariant-loop-words : goal.invariant-loop-words
 invariant-loop-words l =
     let asked = asked_write l.args in
-    HasAsked l.fn.seat l.seat asked.keys asked.spans (drop l.words-index asked.spans) asked.by asked.time l.time
+    HasAsked l.fn.seat l.seat asked.keys asked.spans (drop l.words-index asked.spans) asked.by
+    asked.time l.time

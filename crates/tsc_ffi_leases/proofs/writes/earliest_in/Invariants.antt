@@ -7,4 +7,5 @@ use Rattle.tsc_ffi_leases.proofs.writes.earliest_in.Given as goal
 abbrev pub invariant-loop-words : goal.invariant-loop-words
 invariant-loop-words l =
     let asked = asked_write l.args in
-    HasTold l.cache asked.keys asked.spans (drop l.words-index asked.spans) asked.by asked.time l.time
+    HasTold l.cache asked.keys asked.spans (drop l.words-index asked.spans) asked.by
+    asked.time l.time

@@ -5,6 +5,6 @@ use Rattle.tsc_ffi_leases.proofs.writes.later_at.Goals as goal
 pub returns-in-Some : goal.returns-in-Some
 returns-in-Some c =
     rw c.in-Some.is
-    (asks_earliest c.args.seat.now c.get_max_in.new.self c.args.span.now c.args.by c.in-Some.time
-    c.get_max_in.result c.earliest_clear_of.result c.get_max_in.ensures.looked
-    c.get_max_in.ensures.above c.earliest_clear_of.ensures)
+    (asks_earliest c.args.seat.now c.get_max_ref.new.self c.args.span.now c.args.by c.in-Some.time
+    c.get_max_ref.result c.earliest_clear_of.result c.get_max_ref.ensures.looked
+    c.get_max_ref.ensures.above c.earliest_clear_of.ensures)

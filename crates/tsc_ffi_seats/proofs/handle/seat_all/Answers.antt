@@ -7,12 +7,17 @@ use Rattle.tsc_ffi_seats.proofs.handle.seat_all.Goals as goal
 
 pub loop-seat-preserved : goal.loop-seat-preserved
 loop-seat-preserved c =
-    let left : into_iter_items c.loop-seat.seat-iterator ≡ c.in-Some.seat ∷ into_iter_items c.next.new.self = search rules in
-    let pushed : c.push.new.self.items ≡ c.loop-seat.handles.items ++ c.in-Some.seat ∷ [] = search rules in
+    let left : into_iter_items c.loop-seat.seat-iterator ≡ c.in-Some.seat ∷
+    into_iter_items c.next.new.self = search rules in
+    let pushed : c.push.new.self.items ≡ c.loop-seat.handles.items ++ c.in-Some.seat ∷ [] =
+    search rules in
     let same = c.requires.seats in (
       search rules,
       search rules,
       c.seat_one.ensures.table ∙ c.loop-seat.invariant.2,
-      next_dealt (arc_value c.args.shared.now).cache c.args.seats c.loop-seat.dealer.me c.seat_one.new.dealer.me c.loop-seat.handles.items c.push.new.self.items (into_iter_items c.loop-seat.seat-iterator) (into_iter_items c.next.new.self) c.in-Some.seat
+      next_dealt (arc_value c.args.shared.now).cache c.args.seats c.loop-seat.dealer.me
+          c.seat_one.new.dealer.me c.loop-seat.handles.items c.push.new.self.items
+          (into_iter_items c.loop-seat.seat-iterator) (into_iter_items c.next.new.self)
+          c.in-Some.seat
           c.loop-seat.invariant.3 left pushed (search rules),
     )

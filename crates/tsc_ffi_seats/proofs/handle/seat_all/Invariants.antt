@@ -12,4 +12,5 @@ invariant-loop-seat l =
     (goal.iterator-loop-seat).can_next l.seat-iterator ×
     (goal.iterator-loop-seat).is_finite l.seat-iterator ×
     (l.dealer.table_id ≡ l.initial.dealer.table_id) ×
-    Dealing (arc_value l.shared).cache l.seats l.dealer.me l.handles.items (into_iter_items l.seat-iterator)
+    Dealing (arc_value l.shared).cache l.seats l.dealer.me l.handles.items
+    (into_iter_items l.seat-iterator)

@@ -10,5 +10,8 @@ load-requires c =
     let words = c.requires.sized.words in let low = c.loop-returned-test.true in (
       c.loop-returned.invariant.0 ∙ c.requires.table,
       omega (arith, words, low),
-      look_at c.args.slots.now.key c.args.slots.now.table_id.slots (step c.args.slots.now.table_id.slots c.loop-returned.returned 0 0 maybe.none) c.loop-returned.keeper.id c.args.seats c.loop-returned.returned c.loop-returned.keeper.me c.loop-returned.invariant.1,
+      look_at c.args.slots.now.key c.args.slots.now.table_id.slots
+          (step c.args.slots.now.table_id.slots c.loop-returned.returned 0 0 maybe.none)
+          c.loop-returned.keeper.id c.args.seats c.loop-returned.returned c.loop-returned.keeper.me
+          c.loop-returned.invariant.1,
     )

@@ -4,7 +4,8 @@ use Rattle.tsc_ffi_seats.specs.ReturnSlots.{keeping}
 use Rattle.tsc_ffi_seats.proofs.return_slots.are_all_returned.Given as goal
 
 abbrev pub invariant-loop-returned : goal.invariant-loop-returned
-invariant-loop-returned l = (l.keeper.table_id ≡ l.initial.keeper.table_id) × (l.keeper.me ≡ (keeping l.seats l.returned, [])) × (l.returned ≤ l.seats)
+invariant-loop-returned l = (l.keeper.table_id ≡ l.initial.keeper.table_id) ×
+    (l.keeper.me ≡ (keeping l.seats l.returned, [])) × (l.returned ≤ l.seats)
 
 abbrev pub decreases-loop-returned : goal.decreases-loop-returned
 decreases-loop-returned l = l.seats - l.returned

@@ -6,6 +6,9 @@ use Rattle.std.specs.Vec.{vec_len, vec_capacity}
 use Rattle.tsc_ffi_seats.proofs.return_slots.collect_seats.Given as goal
 
 abbrev pub invariant-loop-slot : goal.invariant-loop-slot
-invariant-loop-slot l = Filled (slots_filled l.closed.slots) l.slot (slots_len l.closed.slots) × ((k : ℕ) → k < l.slot → get_or (slots_filled l.closed.slots) k false ≡ false)
-    × (slots_items l.closed.slots ≡ slots_items l.initial.closed.slots) × (slots_len l.closed.slots ≡ slots_len l.initial.closed.slots)
-    × All (λ seat. seat.cache ≡ l.fn.slots.shared.key) l.room.items × (length l.room.items ≡ l.slot) × (l.seats ≤ vec_capacity l.room)
+invariant-loop-slot l = Filled (slots_filled l.closed.slots) l.slot (slots_len l.closed.slots) ×
+    ((k : ℕ) → k < l.slot → get_or (slots_filled l.closed.slots) k false ≡ false)
+    × (slots_items l.closed.slots ≡ slots_items l.initial.closed.slots) ×
+    (slots_len l.closed.slots ≡ slots_len l.initial.closed.slots)
+    × All (λ seat. seat.cache ≡ l.fn.slots.shared.key) l.room.items ×
+    (length l.room.items ≡ l.slot) × (l.seats ≤ vec_capacity l.room)

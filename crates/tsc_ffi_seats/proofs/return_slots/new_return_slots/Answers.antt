@@ -9,5 +9,8 @@ use Rattle.tsc_ffi_seats.proofs.return_slots.new_return_slots.Goals as goal
 pub vacant-requires : goal.vacant-requires
 vacant-requires c =
     let blank : c.in_ok-words.words.items ≡ replicate c.args.seats 0 = search rules in
-    subst (λ (n : ℕ). IsKept c.args.cache.now (opening c.as_slice.result.now (replicate n None) (first_known c.args.cache.now))) (sym c.requires.seats)
-    (opens c.args.cache.now c.as_slice.result.now (c.as_slice.ensures.value ∙ blank ∙ ap (λ (n : ℕ). replicate n 0) c.requires.seats))
+    subst (λ (n : ℕ). IsKept c.args.cache.now
+    (opening c.as_slice.result.now (replicate n None) (first_known c.args.cache.now)))
+    (sym c.requires.seats)
+    (opens c.args.cache.now c.as_slice.result.now
+    (c.as_slice.ensures.value ∙ blank ∙ ap (λ (n : ℕ). replicate n 0) c.requires.seats))

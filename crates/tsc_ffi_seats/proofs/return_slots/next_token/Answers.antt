@@ -8,5 +8,6 @@ pub split_seat-requires : goal.split_seat-requires
 split_seat-requires c = (
   c.requires.table,
   c.requires.words,
-  deal_at c.args.slots.now.key c.args.dealer.now.id c.args.dealer.now.me.0 (ap (λ (me : At). me.0) c.requires.dealer) c.requires.some,
+  deal_at c.args.slots.now.key c.args.dealer.now.id c.args.dealer.now.me.0
+      (ap (λ (me : At). me.0) c.requires.dealer) c.requires.some,
 )

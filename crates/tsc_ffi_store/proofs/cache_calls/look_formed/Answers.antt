@@ -6,4 +6,5 @@ use Rattle.tsc_ffi_store.proofs.cache_calls.look_formed.Goals as goal
 
 pub returns-clause-looked : goal.returns-clause-looked
 returns-clause-looked c =
-    subst (λ v. LooksIn c.args.cache.now (asked_span c.args.span.now) v) c.words_of.ensures (search rules)
+    subst (λ v. LooksIn c.args.cache.now (asked_span c.args.span.now) v) c.words_of.ensures
+    (search rules)

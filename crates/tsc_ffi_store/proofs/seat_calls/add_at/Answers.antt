@@ -4,9 +4,18 @@ use Rattle.tsc_ffi_store.proofs.Trying.{accepted_tried, why_refused}
 use Rattle.tsc_ffi_store.proofs.seat_calls.add_at.Goals as goal
 
 pub returns-in-Ok-clause-tried : goal.returns-in-Ok-clause-tried
-returns-in-Ok-clause-tried c = accepted_tried _ _ c.in-Ok.receipt (record { too_large = c.in-Ok.ensures.too_large; no_tries = c.in-Ok.ensures.no_tries })
+returns-in-Ok-clause-tried c = accepted_tried _ _ c.in-Ok.receipt
+    (record { too_large = c.in-Ok.ensures.too_large; no_tries = c.in-Ok.ensures.no_tries })
 
 pub returns-clause-refused : goal.returns-clause-refused
-returns-clause-refused c = inr (inr (inr (why_refused c.of_fault.result c.args.seat.now c.try_add.new.self c.args.tries _ c.in-Err.fault c.of_fault.ensures c.in-Err.ensures.why
+returns-clause-refused c = inr (inr
+    (inr (why_refused c.of_fault.result c.args.seat.now c.try_add.new.self c.args.tries _
+    c.in-Err.fault c.of_fault.ensures c.in-Err.ensures.why
     (record { too_large = c.in-Err.ensures.too_large; no_tries = c.in-Err.ensures.no_tries })
-    (λ large told same. record { span = c.in_ok-span.span; asked_for = c.in_ok-span.ensures.value; too_large = large; told = told; same = same }))))
+    (λ large told same. record {
+      span = c.in_ok-span.span;
+      asked_for = c.in_ok-span.ensures.value;
+      too_large = large;
+      told = told;
+      same = same;
+    }))))

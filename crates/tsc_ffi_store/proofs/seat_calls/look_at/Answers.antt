@@ -5,5 +5,8 @@ use Rattle.tsc_ffi_store.proofs.seat_calls.look_at.Goals as goal
 
 pub returns-clause-looked : goal.returns-clause-looked
 returns-clause-looked c =
-    seat_looks c.args.seat.now c.get_max_in-answer.new.self (asked_span c.args.span.now) c.in_ok-span.span c.get_max_in-answer.result (value_of c.words_of.result) c.in_ok-span.ensures.value c.words_of.ensures
-    c.get_max_in-answer.ensures.looked c.get_max_in-answer.ensures.above c.get_max_in-answer.ensures.whole
+    seat_looks c.args.seat.now c.get_max_ref-answer.new.self (asked_span c.args.span.now)
+    c.in_ok-span.span c.get_max_ref-answer.result (value_of c.words_of.result)
+    c.in_ok-span.ensures.value c.words_of.ensures
+    c.get_max_ref-answer.ensures.looked c.get_max_ref-answer.ensures.above
+    c.get_max_ref-answer.ensures.whole

@@ -9,5 +9,6 @@ abbrev pub invariant-loop-seat : goal.invariant-loop-seat
 invariant-loop-seat l =
     (goal.iterator-loop-seat).can_next l.seat-iterator ×
     (goal.iterator-loop-seat).is_finite l.seat-iterator ×
-    (l.slots.items ++ map (λ s. Seat s) (into_iter_items l.seat-iterator) ≡ l.initial.slots.items ++ map (λ s. Seat s) (into_iter_items l.initial.seat-iterator)) ×
+    (l.slots.items ++ map (λ s. Seat s) (into_iter_items l.seat-iterator) ≡ l.initial.slots.items ++
+    map (λ s. Seat s) (into_iter_items l.initial.seat-iterator)) ×
     (vec_len l.slots + length (into_iter_items l.seat-iterator) ≤ vec_capacity l.slots)

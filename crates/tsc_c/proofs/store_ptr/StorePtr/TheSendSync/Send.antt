@@ -15,7 +15,15 @@ use Rattle.tsc_ffi_store.specs.contracts.store.Slot.{the_row as entry}
 use Rattle.tsc_c.specs.contracts.store_ptr.StorePtr.{the_row, the_type}
 
 slot_sends : IsSend entry
-slot_sends = search (sendable, crosses, variants_send, as_row_send, cache_sends, owner_sends, handle_sends) depth 20
+slot_sends = search (
+  sendable,
+  crosses,
+  variants_send,
+  as_row_send,
+  cache_sends,
+  owner_sends,
+  handle_sends,
+) depth 20
 
 store_sends : IsSend Kept
 store_sends = search (sendable, crosses, declared_send, as_row_send, slot_sends) depth 20
@@ -23,7 +31,13 @@ store_sends = search (sendable, crosses, declared_send, as_row_send, slot_sends)
 -- what a pointer owns is tied to no thread: nothing at null, and else the box of a store
 keyless : (p : Ptr) (c : Option Kept.Denot) → Keyless (ptr_owns p c)
 keyless null_ptr c = λ e. tt
-keyless (block_ptr b o) c = λ x. ((λ e. tt), (part_keyless Kept store_sends full_share x b o, frees.frees heap (raw (lone Kept.mir)) (block_ptr b o)))
+keyless (block_ptr b o) c = λ x. (
+  (λ e. tt),
+  (
+    part_keyless Kept store_sends full_share x b o,
+    frees.frees heap (raw (lone Kept.mir)) (block_ptr b o),
+  ),
+)
 
 pub send : IsSend the_row
 send = owning_send the_type (search sendable, tt) (λ ptr. keyless ptr.at ptr.owned) (λ k ptr w. tt)

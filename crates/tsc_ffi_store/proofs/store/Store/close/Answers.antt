@@ -9,17 +9,20 @@ use Rattle.tsc_ffi_store.proofs.store.Store.close.Goals as goal
 pub returns-in-Some-clause-closed : goal.returns-in-Some-clause-closed
 returns-in-Some-clause-closed c =
     at_handle (λ held then. cache_in then ≡ None)
-    c.args.self.now.slots.items c.args.handle c.in-Some.slot.now c.close.new.self c.in-Some.ensures.item.3.0 c.in-Some.ensures.value c.close.ensures.closed
+    c.args.self.now.slots.items c.args.handle c.in-Some.slot.now c.close.new.self
+    c.in-Some.ensures.item.3.0 c.in-Some.ensures.value c.close.ensures.closed
 
 pub returns-in-Some-clause-done : goal.returns-in-Some-clause-done
 returns-in-Some-clause-done c =
     at_handle (λ held then. IfOk c.close.result (λ _. cache_in held ≢ None))
-    c.args.self.now.slots.items c.args.handle c.in-Some.slot.now c.close.new.self c.in-Some.ensures.item.3.0 c.in-Some.ensures.value c.close.ensures.done
+    c.args.self.now.slots.items c.args.handle c.in-Some.slot.now c.close.new.self
+    c.in-Some.ensures.item.3.0 c.in-Some.ensures.value c.close.ensures.done
 
 pub returns-in-Some-clause-refused : goal.returns-in-Some-clause-refused
 returns-in-Some-clause-refused c =
     at_handle (λ held then. IfErr c.close.result (λ why. IsClosed why (cache_in held)))
-    c.args.self.now.slots.items c.args.handle c.in-Some.slot.now c.close.new.self c.in-Some.ensures.item.3.0 c.in-Some.ensures.value c.close.ensures.refused
+    c.args.self.now.slots.items c.args.handle c.in-Some.slot.now c.close.new.self
+    c.in-Some.ensures.item.3.0 c.in-Some.ensures.value c.close.ensures.refused
 
 pub returns-in-Some-clause-others : goal.returns-in-Some-clause-others
 returns-in-Some-clause-others c =
@@ -27,7 +30,8 @@ returns-in-Some-clause-others c =
 
 pub returns-in-Some-clause-unchanged : goal.returns-in-Some-clause-unchanged
 returns-in-Some-clause-unchanged c =
-    unchanged_there c.args.self.now.slots.items c.args.handle c.in-Some.slot.now c.close.new.self c.close.result c.in-Some.ensures.value c.close.ensures.unchanged
+    unchanged_there c.args.self.now.slots.items c.args.handle c.in-Some.slot.now c.close.new.self
+    c.close.result c.in-Some.ensures.value c.close.ensures.unchanged
 
 pub returns-in-None-clause-others : goal.returns-in-None-clause-others
 returns-in-None-clause-others c =
@@ -35,10 +39,12 @@ returns-in-None-clause-others c =
 
 pub returns-in-None-clause-closed : goal.returns-in-None-clause-closed
 returns-in-None-clause-closed c =
-    let past : length c.args.self.now.slots.items ≤ c.args.handle = grind (arith, c.in-None.ensures.variant, c.in-None.ensures.item) in
+    let past : length c.args.self.now.slots.items ≤ c.args.handle =
+    grind (arith, c.in-None.ensures.variant, c.in-None.ensures.item) in
     no_cache_there c.args.self.now.slots.items c.args.handle past
 
 pub returns-in-None-clause-refused : goal.returns-in-None-clause-refused
 returns-in-None-clause-refused c =
-    let past : length c.args.self.now.slots.items ≤ c.args.handle = grind (arith, c.in-None.ensures.variant, c.in-None.ensures.item) in
+    let past : length c.args.self.now.slots.items ≤ c.args.handle =
+    grind (arith, c.in-None.ensures.variant, c.in-None.ensures.item) in
     (refl, no_cache_there c.args.self.now.slots.items c.args.handle past)

@@ -7,6 +7,7 @@ pub put-requires : goal.put-requires
 put-requires c = record {
   room =
       let all = c.in-Ok.ensures.opened in
-      let long : length c.in-Ok.handles.items ≡ c.args.seats = ap length all.in_order ∙ new_seats_long c.in-Ok.owner 0 c.args.seats in
+      let long : length c.in-Ok.handles.items ≡ c.args.seats = ap length all.in_order ∙
+      new_seats_long c.in-Ok.owner 0 c.args.seats in
       search rules;
 }

@@ -8,9 +8,16 @@ returns-in-Some-clause-answers c = inr (record {
   seat = c.in-Some.seat.now;
   after = c.add_all_at.new.seat;
   holds = search rules;
-  leaves = when_some c.seat_mut.result c.in-Some.seat c.in-Some.is (c.seat_mut.follows.holds c.add_all_at.new.seat);
-  works = record { added = c.add_all_at.ensures.added; tried = c.add_all_at.ensures.tried; refused = c.add_all_at.ensures.refused; spared = c.add_all_at.ensures.spared };
+  leaves = when_some c.seat_mut.result c.in-Some.seat c.in-Some.is
+      (c.seat_mut.follows.holds c.add_all_at.new.seat);
+  works = record {
+    added = c.add_all_at.ensures.added;
+    tried = c.add_all_at.ensures.tried;
+    refused = c.add_all_at.ensures.refused;
+    spared = c.add_all_at.ensures.spared;
+  };
 })
 
 pub returns-in-None-clause-answers : goal.returns-in-None-clause-answers
-returns-in-None-clause-answers c = inl (record { none = search rules; closed = search rules }, search rules)
+returns-in-None-clause-answers c =
+    inl (record { none = search rules; closed = search rules }, search rules)

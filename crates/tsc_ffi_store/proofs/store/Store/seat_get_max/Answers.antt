@@ -8,9 +8,15 @@ returns-in-Some-clause-answers c = inr (record {
   seat = c.in-Some.seat.now;
   after = c.look_at.new.seat;
   holds = search rules;
-  leaves = when_some c.seat_mut.result c.in-Some.seat c.in-Some.is (c.seat_mut.follows.holds c.look_at.new.seat);
-  works = record { looked = c.look_at.ensures.looked; refused = c.look_at.ensures.refused; unchanged = c.look_at.ensures.unchanged };
+  leaves = when_some c.seat_mut.result c.in-Some.seat c.in-Some.is
+      (c.seat_mut.follows.holds c.look_at.new.seat);
+  works = record {
+    looked = c.look_at.ensures.looked;
+    refused = c.look_at.ensures.refused;
+    unchanged = c.look_at.ensures.unchanged;
+  };
 })
 
 pub returns-in-None-clause-answers : goal.returns-in-None-clause-answers
-returns-in-None-clause-answers c = inl (record { none = search rules; closed = search rules }, search rules)
+returns-in-None-clause-answers c =
+    inl (record { none = search rules; closed = search rules }, search rules)

@@ -8,9 +8,11 @@ returns-in-Some-clause-answers c = inr (record {
   seat = c.in-Some.seat.now;
   after = c.low_water-answer.new.self;
   holds = search rules;
-  leaves = when_some c.seat_mut.result c.in-Some.seat c.in-Some.is (c.seat_mut.follows.holds c.low_water-answer.new.self);
+  leaves = when_some c.seat_mut.result c.in-Some.seat c.in-Some.is
+      (c.seat_mut.follows.holds c.low_water-answer.new.self);
   works = record { reads = search rules; done = refl };
 })
 
 pub returns-in-None-clause-answers : goal.returns-in-None-clause-answers
-returns-in-None-clause-answers c = inl (record { none = search rules; closed = search rules }, search rules)
+returns-in-None-clause-answers c =
+    inl (record { none = search rules; closed = search rules }, search rules)
