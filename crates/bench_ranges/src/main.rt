@@ -19,7 +19,7 @@ const FEW: u64 = 300;
 /// How many calls of a kind a round makes.
 const MANY_CALLS: u64 = 1000;
 
-/// And in a short run.
+/// The number of calls in a short run.
 const FEW_CALLS: u64 = 10;
 
 /// What is measured.

@@ -42,10 +42,9 @@ fn config() -> Result<Config> {
 impl Store {
     /// A range whose keys have a version each.
     pub fn open(alloc: Global, keys: u64) -> Result<Store> {
-        let span = Span::of(key(alloc, 0)?, key(alloc, keys.saturating_add(1))?)?;
         let mut store = Store {
             alloc,
-            range: Range::open(alloc, span, config()?)?,
+            range: Range::open(alloc, Span::all(alloc), config()?)?,
             keys: keys.max(1),
             clock: 0,
         };

@@ -46,8 +46,8 @@ pub fn all_opened(alloc: Global) -> Result<Span> {
 }
 
 /// All accounts.
-pub fn all(alloc: Global) -> Result<Span> {
-    Ok(Span::of(Key::new(alloc, b"a")?, Key::new(alloc, b"z")?)?)
+pub fn all(alloc: Global) -> Span {
+    Span::all(alloc)
 }
 
 /// A kind of account and a digit.

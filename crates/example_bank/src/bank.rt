@@ -25,7 +25,7 @@ impl Bank {
     pub fn open<R: Wait>(rt: &R, alloc: Global) -> Result<Bank> {
         let bank = Bank {
             alloc,
-            range: SharedRange::open(alloc, accounts::all(alloc)?, config()?)?,
+            range: SharedRange::open(alloc, accounts::all(alloc), config()?)?,
             clock: AtomicU64::new(1),
         };
         let mut first = bank.begin();

@@ -90,7 +90,7 @@ impl Contents {
         let mut range = range;
         let last = Timestamp::MAX;
         let mut reader = Transaction::new(self.alloc, last, Uuid::from_u128(0));
-        range.read(&mut reader, &accounts::all(self.alloc)?, last)?;
+        range.read(&mut reader, &accounts::all(self.alloc), last)?;
         Ok(self.has_all(reader.reads()))
     }
 

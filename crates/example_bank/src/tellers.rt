@@ -150,7 +150,7 @@ fn transfer<R: Wait>(
 
 /// Adds up all accounts, among them those that others open meanwhile.
 fn audit<R: Wait>(rt: &R, bank: &Bank, transaction: &mut Transaction) -> Result<Option<Tally>> {
-    let Some(all) = bank.rows(rt, transaction, &accounts::all(bank.alloc)?)? else {
+    let Some(all) = bank.rows(rt, transaction, &accounts::all(bank.alloc))? else {
         return Ok(None);
     };
     thread::yield_now();

@@ -1,48 +1,8 @@
 -- Old versions that are dropped: what is kept of a key says the same from a time on.
-use Rattle.std.proofs.Common.{
-  ◌≡◌,
-  ◌⊎◌,
-  ◌∙◌,
-  ap,
-  sym,
-  refl,
-  subst,
-  inl,
-  inr,
-  ℕ,
-  zero,
-  suc,
-  ◌+◌,
-  ◌≤◌,
-  take,
-  length,
-  List,
-  [],
-  ◌∷◌,
-  ◌++◌,
-  append-nil,
-  append_assoc,
-  add-one,
-  Bool,
-  true,
-  false,
-  not,
-  ◌==◌,
-  if◌then◌else◌,
-  Some,
-  None,
-  arith,
-}
-use Rattle.std.specs.Prelude.{cond, unwrap_or}
+use Rattle.std.proofs.Common.{◌≡◌, ◌∙◌, ap, sym, refl, subst, inl, inr, List, [], ◌∷◌, Bool, true, false, not, if◌then◌else◌, Some, None}
 use Rattle.std.specs.List.{AllByRecursion}
-use Rattle.std.specs.Map.{keys_of}
-use Rattle.std.specs.Map.Calls.{RetainsPairs}
-use Rattle.std.specs.Ordering.{is_eq}
 use Rattle.std.specs.Str.{bytes_eq}
 use Rattle.std.proofs.lemmas.Bool.{cases_Bool, both_ways}
-use Rattle.std.proofs.lemmas.Bool.Decides.{nat_tests}
-use Rattle.std.proofs.lemmas.Slice.Eq.{bytes_eq-Decides}
-use Rattle.std.proofs.lemmas.Map.Keys.{sorted_tail}
 use Rattle.tsc_time.specs.Time.{later}
 use Rattle.tsc_time.proofs.TimeOrder.{
   is_before-itself,
@@ -51,21 +11,8 @@ use Rattle.tsc_time.proofs.TimeOrder.{
   no_earlier-transitive,
   later-tells,
 }
-use Rattle.tsc_span.specs.Span.{key_cmp}
 use Rattle.timestamp_cache.specs.Words.{Time, is_before, Owner, KeyBytes}
-use Rattle.mvcc_versions.specs.Versions.{
-  Content,
-  Version,
-  Write,
-  Chains,
-  chain_of,
-  after_writes,
-  laid,
-  kept_from,
-  unless_deletion,
-  newest_time,
-  IsAfter,
-}
+use Rattle.mvcc_versions.specs.Versions.{Content, Version, Write, after_writes, laid, kept_from, unless_deletion, newest_time, IsAfter}
 use Rattle.mvcc_versions.proofs.Lists.{each}
 use Rattle.mvcc_range.proofs.Placing.{found, found_laid, upto}
 use Rattle.mvcc_range.proofs.Laying.{AreNewestFirst}

@@ -4,20 +4,7 @@ use Rattle.std.specs.Prelude.{◌↔◌, Result, Ok, Err, IsErrOf}
 use Rattle.tsc_time.proofs.RatchetOrder.{IsAtMost-transitive}
 use Rattle.tsc_cache.specs.State.{opening, step_all}
 use Rattle.tsc_cache.proofs.StatesSeen.{answers_look}
-use Rattle.timestamp_cache.specs.Words.{
-  Time,
-  IsAtMost,
-  KeyBytes,
-  Interval,
-  point,
-  Settings,
-  CacheState,
-  look,
-  Entry,
-  CacheView,
-  StandsForState,
-  cache_answer,
-}
+use Rattle.timestamp_cache.specs.Words.{Time, IsAtMost, Interval, point, Settings, CacheState, look, Entry, CacheView, StandsForState}
 use Rattle.timestamp_cache.specs.HandOver.{
   Summary,
   summary_answer,
@@ -48,7 +35,8 @@ taken old made new span config most told now sums opened stands learns =
           subst (IsWithin (point k)) (sym sums.span) (summaries_tell_no_less.keys span k c) in
           subst (IsAtMost (look s (point k))) (sym (answers_look new config next (point k) is))
           (IsAtMost-transitive (look s (point k)) (summary_answer told (point k))
-          (look next (point k)) (summaries_tell_no_less.no_less s told (point k) (sums.answers others s was) within)
+          (look next (point k)) (summaries_tell_no_less.no_less s told (point k)
+          (sums.answers others s was) within)
           ((learns config (opening config) opened).learned (point k) within));
     }
 

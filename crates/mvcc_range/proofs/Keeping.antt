@@ -1,28 +1,6 @@
 -- What stays so, whatever calls are made of a range, and the laws that follow.
-use Rattle.std.proofs.Common.{
-  ◌≡◌,
-  ◌⊎◌,
-  ◌∙◌,
-  ap,
-  sym,
-  refl,
-  subst,
-  inl,
-  inr,
-  List,
-  [],
-  ◌∷◌,
-  ◌++◌,
-  map,
-  Bool,
-  true,
-  false,
-  not,
-  if◌then◌else◌,
-  Some,
-  None,
-}
-use Rattle.std.specs.List.{All, AllByRecursion, Contains}
+use Rattle.std.proofs.Common.{◌≡◌, ◌∙◌, ap, sym, refl, subst, inl, inr, List, [], ◌∷◌, ◌++◌, map, Bool, true, false, not, if◌then◌else◌, Some, None}
+use Rattle.std.specs.List.{AllByRecursion, Contains}
 use Rattle.std.proofs.lemmas.Bool.{cases_Bool, both_ways}
 use Rattle.std.proofs.lemmas.List.Elements.{
   All-from_recursion,
@@ -38,26 +16,7 @@ use Rattle.tsc_cache.proofs.Histories.{clear_below}
 use Rattle.tsc_cache.specs.CacheView.{StandsAfterAll}
 use Rattle.timestamp_cache.proofs.Rising.{answers_rise, stands_longer}
 use Rattle.tsc_cache.proofs.StatesSeen.{answers_look}
-use Rattle.timestamp_cache.specs.Words.{
-  Time,
-  is_before,
-  Owner,
-  OwnedTime,
-  owner_of,
-  IsAtMost,
-  KeyBytes,
-  Interval,
-  point,
-  Mark,
-  Settings,
-  CacheView,
-  StandsForState,
-  look,
-  History,
-  Entry,
-  state_of,
-  cache_answer,
-}
+use Rattle.timestamp_cache.specs.Words.{Time, is_before, Owner, OwnedTime, owner_of, IsAtMost, KeyBytes, Interval, point, Mark, Settings, CacheView, StandsForState, History, state_of, cache_answer}
 use Rattle.timestamp_cache.specs.Clear.{IsClearOf}
 use Rattle.uuid.specs.Parts.{is_nil_bytes}
 use Rattle.mvcc_versions.specs.Versions.{
@@ -76,7 +35,7 @@ use Rattle.mvcc_versions.specs.Versions.{
   IsAfter,
   Matches,
 }
-use Rattle.mvcc_range.specs.Serial.{Transaction, empty, executed_all, IsSerial, serial_order}
+use Rattle.mvcc_range.specs.Serial.{Transaction, empty, IsSerial, serial_order}
 use Rattle.mvcc_range.specs.Steps.{
   RangeView,
   mark_of,

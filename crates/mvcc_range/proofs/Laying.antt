@@ -1,25 +1,6 @@
 -- The versions of a key, as transactions lay them down.
-use Rattle.std.proofs.Common.{
-  ◌≡◌,
-  ◌⊎◌,
-  ◌∙◌,
-  ap,
-  sym,
-  refl,
-  subst,
-  inl,
-  inr,
-  List,
-  [],
-  ◌∷◌,
-  Bool,
-  true,
-  false,
-  if◌then◌else◌,
-  Some,
-  None,
-}
-use Rattle.std.specs.List.{All, AllByRecursion}
+use Rattle.std.proofs.Common.{◌≡◌, ◌∙◌, ap, sym, refl, subst, inl, inr, List, [], ◌∷◌, Bool, true, false, if◌then◌else◌}
+use Rattle.std.specs.List.{AllByRecursion}
 use Rattle.std.specs.Str.{bytes_eq}
 use Rattle.std.proofs.lemmas.Bool.{cases_Bool, both_ways}
 use Rattle.tsc_time.proofs.TimeOrder.{is_before-itself, is_before-opposite, no_earlier-transitive}

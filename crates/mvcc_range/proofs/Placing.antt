@@ -1,32 +1,12 @@
 -- A transaction that takes its place among others: which of them it disturbs, and what each key
 -- then has.
-use Rattle.std.proofs.Common.{
-  ◌≡◌,
-  ◌⊎◌,
-  ◌∙◌,
-  ap,
-  sym,
-  refl,
-  subst,
-  inl,
-  inr,
-  List,
-  [],
-  ◌∷◌,
-  Bool,
-  true,
-  false,
-  not,
-  if◌then◌else◌,
-  Some,
-  None,
-}
-use Rattle.std.specs.List.{All, AllByRecursion}
+use Rattle.std.proofs.Common.{◌≡◌, ◌∙◌, ap, sym, refl, subst, inl, inr, List, [], ◌∷◌, Bool, true, false, not, if◌then◌else◌, None}
+use Rattle.std.specs.List.{AllByRecursion}
 use Rattle.std.specs.Str.{bytes_eq}
 use Rattle.std.proofs.lemmas.Bool.{cases_Bool, both_ways}
 use Rattle.std.proofs.lemmas.Slice.Eq.{bytes_eq-Decides}
 use Rattle.tsc_span.specs.Span.{covers}
-use Rattle.tsc_time.proofs.TimeOrder.{is_before-itself, is_before-opposite, no_earlier-transitive}
+use Rattle.tsc_time.proofs.TimeOrder.{is_before-opposite, no_earlier-transitive}
 use Rattle.timestamp_cache.specs.Words.{Time, is_before, Owner, KeyBytes}
 use Rattle.mvcc_versions.specs.Versions.{
   is_written,
@@ -42,15 +22,7 @@ use Rattle.mvcc_versions.specs.Versions.{
   Matches,
 }
 use Rattle.mvcc_versions.proofs.Lists.{each}
-use Rattle.mvcc_range.specs.Serial.{
-  Transaction,
-  empty,
-  executed,
-  executed_all,
-  IsSerial,
-  placed,
-  serial_order,
-}
+use Rattle.mvcc_range.specs.Serial.{Transaction, executed, executed_all, IsSerial, placed, serial_order}
 
 -- ---- lists
 

@@ -1,40 +1,10 @@
 -- The earliest time that is free for writes.
-use Rattle.std.proofs.Common.{
-  ◌≡◌,
-  ◌∙◌,
-  sym,
-  subst,
-  ℕ,
-  ◌+◌,
-  ◌<◌,
-  ◌≤◌,
-  take,
-  List,
-  [],
-  ◌∷◌,
-  ◌++◌,
-  length,
-  get_or,
-  true,
-  false,
-  Some,
-  None,
-  Option,
-}
+use Rattle.std.proofs.Common.{◌≡◌, sym, subst, ℕ, ◌+◌, ◌<◌, ◌≤◌, take, List, [], ◌∷◌, ◌++◌, length, get_or, true, false, Some, None, Option}
 use Rattle.std.specs.List.{All, AllByRecursion}
 use Rattle.std.proofs.lemmas.List.{take_all}
 use Rattle.std.proofs.lemmas.List.Elements.{All-from_recursion, recursion_from_All, All-take}
 use Rattle.tsc_time.proofs.TimeOrder.{is_before-itself}
-use Rattle.timestamp_cache.specs.Words.{
-  Time,
-  is_in_range,
-  is_before,
-  Owner,
-  OwnedTime,
-  point,
-  CacheView,
-  cache_answer,
-}
+use Rattle.timestamp_cache.specs.Words.{Time, is_in_range, is_before, Owner, point, CacheView, cache_answer}
 use Rattle.timestamp_cache.specs.Clear.{IsClearOf}
 use Rattle.timestamp_cache.specs.Earliest.{IsEarliest, TellsEarliest}
 use Rattle.timestamp_cache.proofs.Earliest.{one_more, none_more, clear_later}

@@ -1,7 +1,7 @@
 -- Transactions that are executed one after another.
 use Rattle.std.specs.Prelude.{List, [], ◌∷◌, None, if◌then◌else◌}
 use Rattle.std.specs.List.{AllByRecursion}
-use Rattle.timestamp_cache.specs.Words.{Time, is_before, Owner, KeyBytes}
+use Rattle.timestamp_cache.specs.Words.{Time, is_before, Owner}
 use Rattle.mvcc_versions.specs.Versions.{Contents, Write, Read, after_writes, Matches}
 
 -- a transaction: its time, at which it reads or commits, who it is, what it read, and what it
@@ -24,7 +24,7 @@ empty k = None
 abbrev pub executed : Contents → Transaction → Contents
 executed there t k = after_writes k (there k) t.writes
 
--- and once several are, one after another
+-- what is there once several transactions are executed, one after another
 abbrev pub executed_all : Contents → List Transaction → Contents
 executed_all there [] = there
 executed_all there (t ∷ ts) = executed_all (executed there t) ts

@@ -117,7 +117,7 @@ pub record LaysDown (old new : RangeView) (t : Transaction) (now : Time) : Type 
   pub chains : (k : KeyBytes) → chain_of new.chains k ≡ laid k t.at t.by t.writes
       (chain_of old.chains k)
 
--- It may commit, and does.
+-- A transaction may commit, and does.
 pub record Commits (old new : RangeView) (t : Transaction) (now : Time) : Type 0 where
   pub may : MayCommit old t
   pub does : LaysDown old new t now

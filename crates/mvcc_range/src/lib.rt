@@ -10,8 +10,6 @@
 mod error;
 pub mod laws;
 mod range;
-#[cfg(test)]
-mod tests;
 mod transaction;
 
 pub use error::RangeError;

@@ -81,16 +81,16 @@ impl Model for Range {
 /// What becomes of a transaction that is to commit.
 #[derive(Clone, Copy, Debug, PartialEq, Eq)]
 pub enum Outcome {
-    /// It committed at this time.
+    /// The transaction committed at this time.
     Committed(Timestamp),
-    /// It didn't, and has to begin again at a later time.
+    /// The transaction did not commit, and has to begin again at a later time.
     Restart(Reason),
 }
 
 /// Why a transaction has to restart.
 #[derive(Clone, Copy, Debug, PartialEq, Eq)]
 pub enum Reason {
-    /// It was pushed to this time, and what it read isn't so any more then.
+    /// The transaction was pushed to this time, at which something it read has changed.
     Changed(Timestamp),
     /// No time is free for its writes, since the last one of all is taken.
     NoTime,
@@ -410,7 +410,7 @@ fn clear_time(cache: &Cache, key: &Key, from: Timestamp, by: Uuid) -> Option<Tim
     ensures { TellsEarliest (λ t. IsClearOf (cache_answer cache.now (point key.now)) by t) from
         result }
 {
-    let read = cache.get_max_in(&SpanRef::point(key.bytes()));
+    let read = cache.get_max_ref(&SpanRef::point(key.bytes()));
     earliest_clear_of(read, from, by)
 }
 

@@ -1,5 +1,5 @@
 -- Each call on a range under a lock is one step more of an execution.
-use Rattle.std.proofs.Common.{◌≡◌, ◌∙◌, ap, refl, sym, subst, List, [], ◌∷◌, ◌++◌}
+use Rattle.std.proofs.Common.{◌≡◌, ◌∙◌, ap, refl, sym, subst, List, [], ◌∷◌}
 use Rattle.std.specs.Prelude.{reverse, Result, Ok, Err, OnOk, OnErr}
 use Rattle.std.proofs.lemmas.List.{reverse-append}
 use Rattle.timestamp_cache.specs.Words.{Time, Interval}

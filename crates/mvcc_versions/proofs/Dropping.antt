@@ -1,71 +1,17 @@
 -- Old versions that are dropped: how many of a key are kept, and what each key has then.
-use Rattle.std.proofs.Common.{
-  ◌≡◌,
-  ◌⊎◌,
-  ◌∙◌,
-  ap,
-  sym,
-  refl,
-  subst,
-  inl,
-  inr,
-  ℕ,
-  zero,
-  suc,
-  ◌+◌,
-  ◌≤◌,
-  take,
-  length,
-  List,
-  [],
-  ◌∷◌,
-  ◌++◌,
-  append-nil,
-  append_assoc,
-  add-one,
-  Bool,
-  true,
-  false,
-  not,
-  ◌==◌,
-  if◌then◌else◌,
-  Some,
-  None,
-  arith,
-}
-use Rattle.std.specs.Prelude.{cond, unwrap_or}
+use Rattle.std.proofs.Common.{◌≡◌, ◌∙◌, ap, sym, refl, subst, inl, inr, ℕ, zero, suc, ◌+◌, take, length, List, [], ◌∷◌, ◌++◌, append-nil, append_assoc, add-one, Bool, true, false, not, ◌==◌, Some, None, arith}
+use Rattle.std.specs.Prelude.{cond}
 use Rattle.std.specs.List.{AllByRecursion}
 use Rattle.std.specs.Map.{keys_of}
 use Rattle.std.specs.Map.Calls.{RetainsPairs}
 use Rattle.std.specs.Ordering.{is_eq}
-use Rattle.std.specs.Str.{bytes_eq}
-use Rattle.std.proofs.lemmas.Bool.{cases_Bool, both_ways}
+use Rattle.std.proofs.lemmas.Bool.{cases_Bool}
 use Rattle.std.proofs.lemmas.Bool.Decides.{nat_tests}
 use Rattle.std.proofs.lemmas.Slice.Eq.{bytes_eq-Decides}
 use Rattle.std.proofs.lemmas.Map.Keys.{sorted_tail}
-use Rattle.tsc_time.specs.Time.{later}
-use Rattle.tsc_time.proofs.TimeOrder.{
-  is_before-itself,
-  is_before-opposite,
-  is_before-transitive,
-  no_earlier-transitive,
-  later-tells,
-}
 use Rattle.tsc_span.specs.Span.{key_cmp}
-use Rattle.timestamp_cache.specs.Words.{Time, is_before, Owner, KeyBytes}
-use Rattle.mvcc_versions.specs.Versions.{
-  Content,
-  Version,
-  Write,
-  Chains,
-  chain_of,
-  after_writes,
-  laid,
-  kept_from,
-  unless_deletion,
-  newest_time,
-  IsAfter,
-}
+use Rattle.timestamp_cache.specs.Words.{Time, is_before, KeyBytes}
+use Rattle.mvcc_versions.specs.Versions.{Content, Version, Chains, chain_of, kept_from, unless_deletion}
 use Rattle.mvcc_versions.proofs.RowsAsOf.{lower, above_other, is_at-same, AreSorted, above_first}
 
 -- ---- how many are kept
@@ -78,13 +24,13 @@ take_next (suc n) (x ∷ vs) rest v is = let tail : take n vs ++ v ∷ rest ≡ 
     ap (λ (xs : List Version). x ∷ xs) (take_next n vs rest v tail)
 
 -- one version more is kept, where it is not earlier
-pub counted_on : (vs rest next : List Version) (v : Version) (count : ℕ) (from : Time)
+pub saturating_inc : (vs rest next : List Version) (v : Version) (count : ℕ) (from : Time)
     → rest ≡ v ∷ next → is_before v.at from ≡ false
     → count + length rest ≡ length vs → take count vs ++ rest ≡ vs → take count vs
     ++ kept_from from rest ≡ kept_from from vs
     → (count + 1 + length next ≡ length vs) × (take (count + 1) vs ++ next ≡ vs)
     × (take (count + 1) vs ++ kept_from from next ≡ kept_from from vs)
-counted_on vs rest next v count from e late counted parts kept =
+saturating_inc vs rest next v count from e late counted parts kept =
     let whole : take count vs ++ v ∷ next ≡ vs = subst (λ (xs : List Version). take count vs
     ++ xs ≡ vs) e parts in
     let step : take (count + 1) vs ≡ take count vs ++ v ∷ [] =

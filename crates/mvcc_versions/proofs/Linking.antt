@@ -1,41 +1,5 @@
 -- Versions that are put at the front of chains in a map.
-use Rattle.std.proofs.Common.{
-  ◌≡◌,
-  ◌⊎◌,
-  ◌∙◌,
-  ap,
-  sym,
-  refl,
-  subst,
-  inl,
-  inr,
-  ℕ,
-  zero,
-  suc,
-  ◌+◌,
-  ◌^◌,
-  ◌<◌,
-  ◌≤◌,
-  map,
-  take,
-  drop,
-  List,
-  [],
-  ◌∷◌,
-  ◌++◌,
-  length,
-  get_or,
-  Bool,
-  true,
-  false,
-  ◌&&◌,
-  if◌then◌else◌,
-  Some,
-  None,
-  Option,
-  arith,
-  length-append,
-}
+use Rattle.std.proofs.Common.{◌≡◌, ◌∙◌, ap, sym, subst, inl, inr, ℕ, suc, ◌+◌, ◌^◌, ◌<◌, drop, List, [], ◌∷◌, ◌++◌, length, get_or, Bool, true, false, if◌then◌else◌, Some, None, Option, arith, length-append}
 use Rattle.std.specs.Prelude.{
   unwrap_or,
   cond,
@@ -48,17 +12,15 @@ use Rattle.std.specs.Prelude.{
   MatchOption,
 }
 use Rattle.std.proofs.Common.{add-one, drop-cons}
-use Rattle.std.specs.List.{All, AllByRecursion}
-use Rattle.std.specs.BTreeMap.{BTreeMap, get, is_at, Updates, IsUnchanged}
+use Rattle.std.specs.BTreeMap.{BTreeMap, get, Updates, IsUnchanged}
 use Rattle.std.specs.Ordering.{is_eq}
 use Rattle.std.specs.Str.{bytes_eq}
-use Rattle.std.proofs.lemmas.Bool.{cases_Bool, both_ways}
+use Rattle.std.proofs.lemmas.Bool.{cases_Bool}
 use Rattle.std.proofs.lemmas.Slice.Eq.{bytes_eq-Decides}
-use Rattle.std.proofs.lemmas.List.Elements.{All-from_recursion}
-use Rattle.tsc_span.specs.Span.{Interval, covers, key_cmp}
+use Rattle.tsc_span.specs.Span.{key_cmp}
 use Rattle.timestamp_cache.specs.Words.{Time, Owner, KeyBytes}
-use Rattle.mvcc_versions.specs.Versions.{Version, Write, Read, laid, Chains, chain_of, are_within}
-use Rattle.mvcc_versions.specs.Maps.{IsRoom, HasRoom, HaveRoom, nodes_of}
+use Rattle.mvcc_versions.specs.Versions.{Version, Write, laid, Chains, chain_of}
+use Rattle.mvcc_versions.specs.Maps.{IsRoom, HasRoom, HaveRoom}
 use Rattle.mvcc_versions.proofs.RowsAsOf.{is_at-key}
 
 abbrev Map : Type 0
@@ -90,7 +52,8 @@ pub added_room : (m n : Map) (key : KeyBytes) (count : ℕ) → count < 2 ^ 63
 added_room m n key count few u = subst (IsRoom count) (sym u.1) (omega (arith, few))
 
 pub added_keeps : (m n : Map) (key : KeyBytes) (count : ℕ) → count < 2 ^ 63
-    → Updates key_cmp m n key (Some []) → (k : KeyBytes) → HasRoom count m.entries k → HasRoom count n.entries k
+    → Updates key_cmp m n key (Some []) → (k : KeyBytes) → HasRoom count m.entries k →
+    HasRoom count n.entries k
 added_keeps m n key count few u k room = elim (cases_Bool (bytes_eq key k)) [
   | inl same ↦ subst (λ (q : KeyBytes). HasRoom count n.entries q) ((bytes_eq-Decides key k).0 same)
       (added_room m n key count few u)
@@ -190,7 +153,8 @@ one_version at by w = record { at = at; by = by; content = w.content } ∷ []
 
 pub room_on : (ws : List Write) (i : ℕ) (w : Write) (m next : Map) → drop i ws ≡ w ∷ drop (i + 1) ws
     → ((k : KeyBytes) (n : ℕ) → HasRoom (n + 1) m.entries k → HasRoom n next.entries k)
-    → HaveRoom (length (drop i ws)) m.entries ws → HaveRoom (length (drop (i + 1) ws)) next.entries ws
+    → HaveRoom (length (drop i ws)) m.entries ws →
+    HaveRoom (length (drop (i + 1) ws)) next.entries ws
 room_on ws i w m next d keeps room =
     let j : ℕ = length (drop (i + 1) ws) in
     let long : length (drop i ws) ≡ j + 1 = ap (λ (xs : List Write). length xs) d

@@ -1,34 +1,6 @@
 -- Rows with writes put over them are what is there after the writes.
-use Rattle.std.proofs.Common.{
-  ◌≡◌,
-  ◌⊎◌,
-  ◌∙◌,
-  ap,
-  sym,
-  refl,
-  subst,
-  inl,
-  inr,
-  ℕ,
-  suc,
-  ◌<◌,
-  ◌≤◌,
-  List,
-  [],
-  ◌∷◌,
-  ◌++◌,
-  append-nil,
-  length,
-  get_or,
-  Bool,
-  true,
-  false,
-  if◌then◌else◌,
-  Some,
-  None,
-  arith,
-}
-use Rattle.std.specs.List.{All, AllByRecursion, insert, remove}
+use Rattle.std.proofs.Common.{◌≡◌, ◌∙◌, ap, sym, refl, subst, inl, inr, ℕ, suc, ◌<◌, ◌≤◌, List, [], ◌∷◌, ◌++◌, append-nil, length, get_or, Bool, true, false, if◌then◌else◌, Some, None, arith}
+use Rattle.std.specs.List.{AllByRecursion, insert, remove}
 use Rattle.std.specs.Str.{bytes_eq}
 use Rattle.std.proofs.lemmas.Bool.{cases_Bool, both_ways}
 use Rattle.std.proofs.lemmas.Slice.Eq.{bytes_eq-Decides}

@@ -1,41 +1,10 @@
 -- The rows of a span, one key after another, and that they are what is there.
-use Rattle.std.proofs.Common.{
-  ◌≡◌,
-  ◌⊎◌,
-  ◌∙◌,
-  ap,
-  ap₂,
-  sym,
-  refl,
-  subst,
-  inl,
-  inr,
-  ℕ,
-  zero,
-  suc,
-  List,
-  [],
-  ◌∷◌,
-  ◌++◌,
-  append-nil,
-  append_assoc,
-  length,
-  Bool,
-  true,
-  false,
-  not,
-  ◌&&◌,
-  if◌then◌else◌,
-  Some,
-  None,
-  Option,
-  arith,
-}
-use Rattle.std.specs.Prelude.{◌↔◌, unwrap_or, slice_get, cond, map}
-use Rattle.std.specs.List.{All, AllByRecursion, filter}
+use Rattle.std.proofs.Common.{◌≡◌, ◌∙◌, ap, ap₂, sym, refl, subst, inl, inr, ℕ, List, [], ◌∷◌, ◌++◌, Bool, true, false, not, ◌&&◌, if◌then◌else◌, Some, None, Option}
+use Rattle.std.specs.Prelude.{◌↔◌, unwrap_or, slice_get}
+use Rattle.std.specs.List.{AllByRecursion, filter}
 use Rattle.std.specs.List.Sorted.{IsStrictlySortedBy}
 use Rattle.std.specs.Map.{lookup, keys_of}
-use Rattle.std.specs.BTreeMap.{BTreeMap, is_at}
+use Rattle.std.specs.BTreeMap.{is_at}
 use Rattle.std.specs.BTreeMap.Range.{range_contains, entries_between}
 use Rattle.std.specs.declared.ops.Bound.TheVariants.{Included, Unbounded}
 use Rattle.std.specs.Ordering.{is_lt, is_le, is_eq, ordering_reverse, ordering_then}
@@ -47,38 +16,11 @@ use Rattle.std.proofs.lemmas.Slice.Eq.{bytes_eq-Decides}
 use Rattle.std.proofs.lemmas.List.Elements.{All-from_recursion, recursion_from_All}
 use Rattle.std.proofs.lemmas.Map.Keys.{sorted_head, sorted_tail}
 use Rattle.std.proofs.lemmas.List.Kept.{IsStrictlySortedBy-filter}
-use Rattle.tsc_span.specs.Span.{
-  Cut,
-  before,
-  after,
-  last,
-  nothing,
-  between,
-  point,
-  covers,
-  key_cmp,
-  is_below,
-  end_keys,
-  different_keys,
-  key_of_cut,
-}
+use Rattle.tsc_span.specs.Span.{before, after, last, nothing, between, point, covers, key_cmp, is_below, end_keys, different_keys, key_of_cut}
 use Rattle.tsc_span.proofs.CutOrder.{key_cmp_back, key_cmp-same}
-use Rattle.tsc_span.proofs.Overlaps.{is_below-opposite, no_lower-transitive, is_below-transitive}
+use Rattle.tsc_span.proofs.Overlaps.{is_below-opposite, is_below-transitive}
 use Rattle.timestamp_cache.specs.Words.{Time, KeyBytes, Interval}
-use Rattle.mvcc_versions.specs.Versions.{
-  Content,
-  Contents,
-  Version,
-  Read,
-  Row,
-  content_as_of,
-  as_of,
-  row_of,
-  AreInKeyOrder,
-  Matches,
-  Chains,
-  chain_of,
-}
+use Rattle.mvcc_versions.specs.Versions.{Content, Contents, Version, Row, content_as_of, as_of, row_of, AreInKeyOrder, Matches, Chains}
 use Rattle.mvcc_versions.specs.RowsIn.{row_for, row_in, rows_in, stops_before}
 use Rattle.mvcc_versions.proofs.Lists.{each}
 
@@ -516,7 +458,8 @@ pub key_matches : (q : KeyBytes) (c : Content) (there : Contents) → c ≡ ther
 key_matches q c there is = record {
   rows = λ k inside. let same : k ≡ q = covers_one q k inside in
       subst (λ (x : KeyBytes). row_of x (row_for q c) ≡ there x) (sym same) (own c ∙ is);
-  within = All-from_recursion (λ (r : Row). covers (point q) r.key ≡ true) (row_for q c) (each_within c);
+  within = All-from_recursion (λ (r : Row). covers (point q) r.key ≡ true) (row_for q c)
+      (each_within c);
   order = ordered c;
 }
   where

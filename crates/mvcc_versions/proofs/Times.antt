@@ -1,56 +1,10 @@
 -- The earliest time after a key's last write.
-use Rattle.std.proofs.Common.{
-  ◌≡◌,
-  ◌∙◌,
-  ap,
-  sym,
-  refl,
-  subst,
-  inl,
-  inr,
-  ℕ,
-  map,
-  ◌+◌,
-  ◌<◌,
-  ◌≤◌,
-  take,
-  List,
-  [],
-  ◌∷◌,
-  ◌++◌,
-  length,
-  get_or,
-  true,
-  false,
-  Some,
-  None,
-  Option,
-  arith,
-}
-use Rattle.std.specs.List.{All, AllByRecursion}
+use Rattle.std.proofs.Common.{◌≡◌, inl, inr, true, false, Some, None, Option}
 use Rattle.std.proofs.lemmas.Bool.{cases_Bool, both_ways}
-use Rattle.std.proofs.lemmas.List.{take_more, take_all}
-use Rattle.std.proofs.lemmas.List.Elements.{
-  All-from_recursion,
-  recursion_from_All,
-  All-take,
-  All-map,
-}
 use Rattle.tsc_time.proofs.TimeOrder.{is_before-itself, is_before-opposite, no_earlier-transitive}
-use Rattle.timestamp_cache.specs.Words.{
-  Time,
-  is_in_range,
-  is_before,
-  Owner,
-  Interval,
-  point,
-  CacheView,
-  cache_answer,
-}
-use Rattle.timestamp_cache.specs.Clear.{IsClearOf, IsClearOfAnswers}
-use Rattle.timestamp_cache.specs.Earliest.{IsEarliest, TellsEarliest}
-use Rattle.timestamp_cache.proofs.Earliest.{one_more, none_more}
-use Rattle.mvcc_versions.specs.Versions.{Chains, chain_of, Write, newest_time, IsAfter}
+use Rattle.timestamp_cache.specs.Words.{Time, is_in_range, is_before}
+use Rattle.timestamp_cache.specs.Earliest.{TellsEarliest}
+use Rattle.mvcc_versions.specs.Versions.{IsAfter}
 
 -- ---- one key
 

@@ -16,7 +16,7 @@ IsRoom n (Some vs) = length vs + n < 2 ^ 63
 abbrev pub HasRoom : ℕ → Chains → KeyBytes → Type 0
 HasRoom n chains k = IsRoom n (lookup (is_at (key_cmp k)) chains)
 
--- So has each key that is written.
+-- each key that is written has room in its chain
 abbrev pub HaveRoom : ℕ → Chains → List Write → Type 0
 HaveRoom n chains writes = AllByRecursion (λ w. HasRoom n chains w.key) writes
 

@@ -23,11 +23,11 @@ put_row [] k c = row_for k c
 put_row (r ∷ rs) k c = if is_lt (key_cmp r.key k) then r ∷ put_row rs k c
     else if bytes_eq r.key k then row_for k c ++ rs else row_for k c ++ r ∷ rs
 
--- the same for a write, where its key lies in the span
+-- rows with a write put over them, where its key lies in the span
 abbrev pub put_write : Interval → List Row → Write → List Row
 put_write span rs w = if covers span w.key then put_row rs w.key w.content else rs
 
--- and for several
+-- rows with several writes put over them, one after another
 abbrev pub put_writes : Interval → List Row → List Write → List Row
 put_writes span rs [] = rs
 put_writes span rs (w ∷ ws) = put_writes span (put_write span rs w) ws

@@ -1,18 +1,5 @@
 -- The rows of a span in a list of chains, one key after another.
-use Rattle.std.specs.Prelude.{
-  ℕ,
-  List,
-  [],
-  ◌∷◌,
-  ◌++◌,
-  Bool,
-  true,
-  false,
-  Option,
-  Some,
-  None,
-  if◌then◌else◌,
-}
+use Rattle.std.specs.Prelude.{List, [], ◌∷◌, ◌++◌, Bool, true, Some, None, if◌then◌else◌}
 use Rattle.tsc_span.specs.Span.{Interval, nothing, between, after, is_below, covers}
 use Rattle.timestamp_cache.specs.Words.{Time, KeyBytes}
 use Rattle.mvcc_versions.specs.Versions.{Content, Version, Row, content_as_of}

@@ -199,7 +199,8 @@ fn make_room_for(
 ) -> Result<(), NoMemory>
     ensures same { (k : KeyBytes) → chain_of chains.new.entries k ≡ chain_of chains.old.entries k }
     ensures room { OnOk result (HasRoom count chains.new.entries write.now.key) }
-    ensures keeps { (k : KeyBytes) → HasRoom count chains.old.entries k → HasRoom count chains.new.entries k }
+    ensures keeps { (k : KeyBytes) → HasRoom count chains.old.entries k →
+        HasRoom count chains.new.entries k }
 {
     make_chain(alloc, chains, &write.key, count)
 }
@@ -213,7 +214,8 @@ fn make_chain(
 ) -> Result<(), NoMemory>
     ensures same { (k : KeyBytes) → chain_of chains.new.entries k ≡ chain_of chains.old.entries k }
     ensures room { OnOk result (HasRoom count chains.new.entries key.now) }
-    ensures keeps { (k : KeyBytes) → HasRoom count chains.old.entries k → HasRoom count chains.new.entries k }
+    ensures keeps { (k : KeyBytes) → HasRoom count chains.old.entries k →
+        HasRoom count chains.new.entries k }
 {
     match chains.get(key) {
         Some(chain) => check_room(chain, count),
@@ -242,7 +244,8 @@ fn add_chain(
     requires { get key_cmp chains.old key.now ≡ None }
     ensures same { (k : KeyBytes) → chain_of chains.new.entries k ≡ chain_of chains.old.entries k }
     ensures room { OnOk result (HasRoom count chains.new.entries key.now) }
-    ensures keeps { (k : KeyBytes) → HasRoom count chains.old.entries k → HasRoom count chains.new.entries k }
+    ensures keeps { (k : KeyBytes) → HasRoom count chains.old.entries k →
+        HasRoom count chains.new.entries k }
 {
     let chain = LinkedList::new(alloc);
     check_room(&chain, count)?;
@@ -283,7 +286,8 @@ fn link_write(
     ensures chains { (k : KeyBytes) → chain_of chains.new.entries k
         ≡ (if bytes_eq write.now.key k then node ++ chain_of chains.old.entries k else
         chain_of chains.old.entries k) }
-    ensures room { (k : KeyBytes) (n : ℕ) → HasRoom (n + 1) chains.old.entries k → HasRoom n chains.new.entries k }
+    ensures room { (k : KeyBytes) (n : ℕ) → HasRoom (n + 1) chains.old.entries k →
+        HasRoom n chains.new.entries k }
 {
     link(chains, &write.key, node);
 }
@@ -294,7 +298,8 @@ fn link(chains: &mut BTreeMap<Key, LinkedList<Version>>, key: &Key, mut node: Li
     requires room { HasRoom 1 chains.old.entries key.now }
     ensures chains { (k : KeyBytes) → chain_of chains.new.entries k ≡ (if bytes_eq key.now k then
         node ++ chain_of chains.old.entries k else chain_of chains.old.entries k) }
-    ensures room { (k : KeyBytes) (n : ℕ) → HasRoom (n + 1) chains.old.entries k → HasRoom n chains.new.entries k }
+    ensures room { (k : KeyBytes) (n : ℕ) → HasRoom (n + 1) chains.old.entries k →
+        HasRoom n chains.new.entries k }
 {
     if let Some(chain) = chains.get_mut(key) {
         // The older ones follow it.

@@ -1,7 +1,8 @@
 //! The versions of keys, what a span has as of a time, and how writes become versions.
 //!
-//! A [`VersionMap`] keeps the versions of each key, the newest first. A read as of a time passes over
-//! those that are later, and [`rows_after`] puts a transaction's own writes over what it finds.
+//! A [`VersionMap`] keeps the versions of each key, the newest first. A read as of a time passes
+//! over those that are later, and [`rows_after`] puts a transaction's own writes over what it
+//! finds.
 #![tactic(auto)]
 
 mod chains;

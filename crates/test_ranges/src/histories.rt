@@ -17,14 +17,14 @@ pub trait Store: Drop {
     /// A transaction begins, and has the next number.
     fn begin(&mut self, name: Name) -> Result<(), Fail>;
 
-    /// It reads the keys from one up to another, and sees its own writes. None where its time is
-    /// too early.
+    /// The transaction reads the keys from one up to another, and sees its own writes. None where
+    /// its time is too early.
     fn read(&mut self, number: usize, from: usize, to: usize) -> Result<Option<Contents>, Fail>;
 
-    /// It writes a key.
+    /// The transaction writes a key.
     fn write(&mut self, number: usize, write: KeyWrite) -> Result<(), Fail>;
 
-    /// It commits, or has to restart, as where its time is too early.
+    /// The transaction commits, or has to restart, as where its time is too early.
     fn commit(&mut self, number: usize) -> Result<Option<u64>, Fail>;
 
     /// The store is handed on, in at most so many marks.

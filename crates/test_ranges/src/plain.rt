@@ -7,11 +7,11 @@ use std::test::Fail;
 /// What a store does.
 #[derive(Clone, Copy)]
 pub struct Steps {
-    /// It compares reads once more as of the time at which their transaction commits.
+    /// Whether reads are compared once more as of the time at which their transaction commits.
     pub refreshes: bool,
-    /// It remembers reads.
+    /// Whether reads are remembered.
     pub remembers: bool,
-    /// It puts no write at or below a version.
+    /// Whether no write goes at or below a version.
     pub minds_versions: bool,
     /// A transaction sees its own writes.
     pub sees_own: bool,

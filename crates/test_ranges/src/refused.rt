@@ -11,8 +11,8 @@ use timestamp_cache::{Key, Span, Timestamp, Uuid};
 enum Step {
     /// A transaction of this id begins, at a time.
     Begin(u8, u64),
-    /// A transaction reads from one key up to another.
-    Read(usize, usize, usize, Contents),
+    /// A transaction reads from one key up to another. 0 stands for a key that has nothing.
+    Read(usize, usize, usize, [u32; KEYS]),
     /// A read is too early.
     ReadRefused(usize, usize, usize),
     /// A transaction writes a key, or deletes it.
@@ -29,18 +29,18 @@ use Step::{Begin, Collect, Commit, HandOn, Put, Read, ReadRefused};
 
 /// A transaction is pushed by a later read, and one by what a new lease was told. A deletion is
 /// committed, and versions are dropped.
-const STEPS: [Step; 26] = [
+static STEPS: [Step; 26] = [
     Begin(1, 10),
     Put(0, 0, Some(1)),
     Put(0, 1, Some(2)),
     Put(0, 3, Some(4)),
     Commit(0, 10_000),
     Begin(2, 20),
-    Read(1, 0, 6, [Some(1), Some(2), None, Some(4), None, None]),
+    Read(1, 0, 6, [1, 2, 0, 4, 0, 0]),
     Put(1, 1, Some(5)),
-    Read(1, 0, 2, [Some(1), Some(5), None, None, None, None]),
+    Read(1, 0, 2, [1, 5, 0, 0, 0, 0]),
     Begin(3, 30),
-    Read(2, 1, 3, [None, Some(2), None, None, None, None]),
+    Read(2, 1, 3, [0, 2, 0, 0, 0, 0]),
     Commit(1, 30_001),
     HandOn(1),
     Begin(4, 25),
@@ -50,12 +50,12 @@ const STEPS: [Step; 26] = [
     Begin(5, 24),
     ReadRefused(4, 0, 6),
     Begin(6, 40),
-    Read(5, 0, 6, [Some(1), Some(5), Some(9), Some(4), None, None]),
+    Read(5, 0, 6, [1, 5, 9, 4, 0, 0]),
     Put(5, 0, None),
-    Read(5, 0, 1, [None, None, None, None, None, None]),
+    Read(5, 0, 1, [0, 0, 0, 0, 0, 0]),
     Commit(5, 40_000),
     Begin(7, 50),
-    Read(6, 0, 6, [None, Some(5), Some(9), Some(4), None, None]),
+    Read(6, 0, 6, [0, 5, 9, 4, 0, 0]),
 ];
 
 /// A range, and the transactions that have begun there.
@@ -98,7 +98,8 @@ fn open(alloc: Global) -> Result<Played, Fail> {
     })
 }
 
-/// Reads a span, and once more if that is refused and the transaction has no more reads than before.
+/// Reads a span, and once more if that is refused and the transaction has no more reads than
+/// before.
 fn read_rows(
     range: &mut Range,
     transaction: &mut Transaction,
@@ -184,10 +185,10 @@ fn hand_on(range: &mut Range, most: usize) -> Result<(), Fail> {
     Ok(())
 }
 
-/// Whether some contents are the same.
-fn are_same(some: &Contents, others: &Contents) -> bool {
-    for (one, other) in some.iter().zip(others.iter()) {
-        if *one != *other {
+/// Whether contents are these.
+fn are_same(contents: &Contents, wanted: &[u32; KEYS]) -> bool {
+    for (one, other) in contents.iter().zip(wanted.iter()) {
+        if one.unwrap_or(0) != *other {
             return false;
         }
     }
@@ -200,7 +201,7 @@ fn reads(
     number: usize,
     from: usize,
     to: usize,
-    wanted: &Contents,
+    wanted: &[u32; KEYS],
 ) -> Result<bool, Fail> {
     match read(played, number, from, to)? {
         Some(contents) => Ok(are_same(&contents, wanted)),

@@ -62,7 +62,7 @@ fn ranges_are_serializable(rt: HostRuntime) -> Result<(), Fail> {
 }
 
 /// What a plain store leaves out, and whether the executor finds a violation then.
-const ROWS: [(&str, Steps, bool); 5] = [
+static ROWS: [(&str, Steps, bool); 5] = [
     (
         "all steps",
         Steps {
@@ -117,9 +117,9 @@ const ROWS: [(&str, Steps, bool); 5] = [
 
 #[test]
 fn violations_are_found(rt: HostRuntime) -> Result<(), Fail> {
-    for (name, steps, found) in ROWS {
-        let total = of_plain(rt.alloc(), steps, 1_000)?;
-        assert_eq!(rt; total.violations > 0, found, "{name}");
+    for (name, steps, found) in &ROWS {
+        let total = of_plain(rt.alloc(), *steps, 1_000)?;
+        assert_eq!(rt; total.violations > 0, *found, "{name}");
     }
     Ok(())
 }

@@ -14,33 +14,51 @@ use Rattle.timestamp_cache.proofs.Earliest.{clear_later}
 
 -- ---- reads
 
--- What is clear of the reads of a history is clear of those of each beginning, and stays so at each later time.
-clear_still : (h start : History) (span : Interval) (by : Owner) (at later : Time) → BeginsWith h start → is_before later at ≡ false → IsClearOfReads h span by at → IsClearOfReads start span by later
-clear_still h start span by at later begins on clear e m there own over = clear_later m.value by at later on (clear e m (begins_entries h start e begins there) own over)
+-- What is clear of the reads of a history is clear of those of each beginning, and stays so at each
+-- later time.
+clear_still : (h start : History) (span : Interval) (by : Owner) (at later : Time) →
+    BeginsWith h start → is_before later at ≡ false → IsClearOfReads h span by at →
+    IsClearOfReads start span by later
+clear_still h start span by at later begins on clear e m there own over =
+    clear_later m.value by at later on (clear e m (begins_entries h start e begins there) own over)
 
 -- so it is with several spans
-clear_first : (h start : History) (span : Interval) (others : List Interval) (by : Owner) (t : Time) → BeginsWith h start → IsClearOfReads start span by t → IsClearOfAllReads h others by t → IsClearOfAllReads start (span ∷ others) by t
+clear_first : (h start : History) (span : Interval) (others : List Interval) (by : Owner) (t : Time)
+    → BeginsWith h start → IsClearOfReads start span by t → IsClearOfAllReads h others by t →
+    IsClearOfAllReads start (span ∷ others) by t
 clear_first h start span others by t begins first rest zero d below = first
-clear_first h start span others by t begins first rest (suc k) d below = λ e m there own over. rest k d (omega (arith, below)) e m (begins_entries h start e begins there) own over
+clear_first h start span others by t begins first rest (suc k) d below =
+    λ e m there own over. rest k d (omega (arith, below)) e m
+    (begins_entries h start e begins there) own over
 
 -- What is clear of each span in turn is clear of the last one in the end.
-last_clear : (by : Owner) (t : Time) (h end : History) (spans : List Interval) → IsClearInTurn by t h spans end → IsClearOfLast end spans by t
+last_clear : (by : Owner) (t : Time) (h end : History) (spans : List Interval) →
+    IsClearInTurn by t h spans end → IsClearOfLast end spans by t
 last_clear by t h end spans (all_clear seen) = tt
-last_clear by t h end spans (one_clear before seen last span others begins clear (all_clear s)) = clear
-last_clear by t h end spans (one_clear before seen last span others begins clear (one_clear b s l next more on again rest)) =
+last_clear by t h end spans (one_clear before seen last span others begins clear (all_clear s))
+    = clear
+last_clear by t h end spans (one_clear before seen last span others begins clear
+    (one_clear b s l next more on again rest)) =
     last_clear by t seen last (next ∷ more) (one_clear b s l next more on again rest)
 
-last_of : (by : Owner) (h end : History) (spans : List Interval) (told : Option Time) → IfSome told (λ t. IsClearInTurn by t h spans end) → IfSome told (λ t. IsClearOfLast end spans by t)
+last_of : (by : Owner) (h end : History) (spans : List Interval) (told : Option Time) →
+    IfSome told (λ t. IsClearInTurn by t h spans end) →
+    IfSome told (λ t. IsClearOfLast end spans by t)
 last_of by h end spans None clear = tt
 last_of by h end spans (Some t) clear = last_clear by t h end spans clear
 
 -- and of all in the beginning
-first_clear : (by : Owner) (t : Time) (h end : History) (spans : List Interval) → IsClearInTurn by t h spans end → IsClearOfAllReads h spans by t
+first_clear : (by : Owner) (t : Time) (h end : History) (spans : List Interval) →
+    IsClearInTurn by t h spans end → IsClearOfAllReads h spans by t
 first_clear by t h end spans (all_clear seen) = λ k d below. absurd (omega (arith, below))
 first_clear by t h end spans (one_clear before seen last span others begins clear rest) =
-    clear_first seen before span others by t begins (λ e m there own over. clear e m (begins_entries seen before e begins there) own over) (first_clear by t seen last others rest)
+    clear_first seen before span others by t begins
+    (λ e m there own over. clear e m (begins_entries seen before e begins there) own over)
+    (first_clear by t seen last others rest)
 
-first_of : (by : Owner) (h end : History) (spans : List Interval) (told : Option Time) → IfSome told (λ t. IsClearInTurn by t h spans end) → IfSome told (λ t. IsClearOfAllReads h spans by t)
+first_of : (by : Owner) (h end : History) (spans : List Interval) (told : Option Time) →
+    IfSome told (λ t. IsClearInTurn by t h spans end) →
+    IfSome told (λ t. IsClearOfAllReads h spans by t)
 first_of by h end spans None clear = tt
 first_of by h end spans (Some t) clear = first_clear by t h end spans clear
 
@@ -56,8 +74,12 @@ goes_further old next new first second = record {
 -- ---- all that is told
 
 -- all of it, from what is told in turn
-told_all : (old new : SeatView) (spans : List Interval) (by : Owner) (from : Time) (told : Option Time) → GoesOn old new → new.count ≡ old.count → AsksInTurn by old new spans from told
-    → IfSome told (λ t. is_before t from ≡ false) → IfSome told (λ t. IsClearInTurn by t old.seen spans new.seen) → AsksOfAllAt old new spans by from told
+told_all : (old new : SeatView) (spans : List Interval) (by : Owner) (from : Time)
+    (told : Option Time) → GoesOn old new → new.count ≡ old.count →
+    AsksInTurn by old new spans from told
+    → IfSome told (λ t. is_before t from ≡ false) →
+    IfSome told (λ t. IsClearInTurn by t old.seen spans new.seen) →
+    AsksOfAllAt old new spans by from told
 told_all old new spans by from told on count turn later clear = record {
   goes_on = on;
   count = count;
@@ -69,70 +91,110 @@ told_all old new spans by from told on count turn later clear = record {
 }
 
 -- one span more in front
-ahead : (old next new : SeatView) (span : Interval) (others : List Interval) (by : Owner) (from at : Time) (told : Option Time) → AsksEarliestAt old next span by from (Some at) → AsksOfAllAt next new others by at told
+ahead : (old next new : SeatView) (span : Interval) (others : List Interval) (by : Owner)
+    (from at : Time) (told : Option Time) → AsksEarliestAt old next span by from (Some at) →
+    AsksOfAllAt next new others by at told
     → AsksOfAllAt old new (span ∷ others) by from told
 ahead old next new span others by from at told asks all =
-    told_all old new (span ∷ others) by from told (goes_further old next new asks.goes_on all.goes_on) (all.count ∙ asks.count) (one_told old next new span others from at told asks all.in_turn)
+    told_all old new (span ∷ others) by from told
+    (goes_further old next new asks.goes_on all.goes_on) (all.count ∙ asks.count)
+    (one_told old next new span others from at told asks all.in_turn)
     (no_earlier told all.from_on) (clear_there told all.from_on all.each)
   where
-    no_earlier : (o : Option Time) → IfSome o (λ t. is_before t at ≡ false) → IfSome o (λ t. is_before t from ≡ false)
+    no_earlier : (o : Option Time) → IfSome o (λ t. is_before t at ≡ false) →
+        IfSome o (λ t. is_before t from ≡ false)
     no_earlier None on = tt
     no_earlier (Some t) on = no_earlier-transitive from at t asks.earliest.from_on on
 
-    clear_there : (o : Option Time) → IfSome o (λ t. is_before t at ≡ false) → IfSome o (λ t. IsClearInTurn by t next.seen others new.seen) → IfSome o (λ t. IsClearInTurn by t old.seen (span ∷ others) new.seen)
+    clear_there : (o : Option Time) → IfSome o (λ t. is_before t at ≡ false) →
+        IfSome o (λ t. IsClearInTurn by t next.seen others new.seen) →
+        IfSome o (λ t. IsClearInTurn by t old.seen (span ∷ others) new.seen)
     clear_there None on clear = tt
-    clear_there (Some t) on clear = one_clear old.seen next.seen new.seen span others asks.goes_on.begins (clear_still next.seen next.seen span by at t (begins_itself next.seen) on asks.reads) clear
+    clear_there (Some t) on clear =
+        one_clear old.seen next.seen new.seen span others asks.goes_on.begins
+        (clear_still next.seen next.seen span by at t (begins_itself next.seen) on asks.reads) clear
 
 -- What a seat is told of spans in turn is all that it asks for.
-pub asks_all : (by : Owner) (old new : SeatView) (spans : List Interval) (from : Time) (told : Option Time) → IsSeat old → AsksInTurn by old new spans from told → AsksOfAllAt old new spans by from told
+pub asks_all : (by : Owner) (old new : SeatView) (spans : List Interval) (from : Time)
+    (told : Option Time) → IsSeat old → AsksInTurn by old new spans from told →
+    AsksOfAllAt old new spans by from told
 asks_all by old new spans from told is (all_asked seat at) =
-    told_all seat seat [] by at (Some at) (record { cache = refl; number = refl; begins = begins_itself seat.seen; is_seat = is }) refl (all_asked seat at) (is_before-itself at) (all_clear seat.seen)
+    told_all seat seat [] by at (Some at)
+    (record { cache = refl; number = refl; begins = begins_itself seat.seen; is_seat = is })
+    refl (all_asked seat at) (is_before-itself at) (all_clear seat.seen)
 asks_all by old new spans from told is (none_told first last span others at asks) =
-    told_all first last (span ∷ others) by at None asks.goes_on asks.count (none_told first last span others at asks) tt tt
-asks_all by old new spans from told is (one_told first next last span others at later end asks rest) =
-    ahead first next last span others by at later end asks (asks_all by next last others later end asks.goes_on.is_seat rest)
+    told_all first last (span ∷ others) by at None asks.goes_on asks.count
+    (none_told first last span others at asks) tt tt
+asks_all by old new spans from told is
+    (one_told first next last span others at later end asks rest) =
+    ahead first next last span others by at later end asks
+    (asks_all by next last others later end asks.goes_on.is_seat rest)
 
 -- ---- one after another
 
 -- So far: whatever the spans that are left tell from here on, all of them tell from the beginning.
-pub record HasAsked (old now : SeatView) (spans left : List Interval) (by : Owner) (from at : Time) : Type 0 where
+pub record HasAsked (old now : SeatView) (spans left : List Interval) (by : Owner) (from at : Time)
+    : Type 0 where
   pub cache : now.cache ≡ old.cache
-  pub goes_on : (new : SeatView) (told : Option Time) → AsksInTurn by now new left at told → AsksInTurn by old new spans from told
+  pub goes_on : (new : SeatView) (told : Option Time) → AsksInTurn by now new left at told →
+      AsksInTurn by old new spans from told
 
-pub asked_none : (seat : SeatView) (spans : List Interval) (by : Owner) (from : Time) → HasAsked seat seat spans (drop 0 spans) by from from
+pub asked_none : (seat : SeatView) (spans : List Interval) (by : Owner) (from : Time) →
+    HasAsked seat seat spans (drop 0 spans) by from from
 asked_none seat spans by from = record { cache = refl; goes_on = λ new told turn. turn }
 
-left_from : (spans : List Interval) (i : ℕ) (s : Interval) → i < length spans → get_or spans i s ≡ s → drop i spans ≡ s ∷ drop (i + 1) spans
-left_from spans i s there is = drop-cons spans i s there ∙ ap (λ x. x ∷ drop (suc i) spans) is ∙ ap (λ n. s ∷ drop n spans) (sym (add-one i))
+left_from : (spans : List Interval) (i : ℕ) (s : Interval) → i < length spans →
+    get_or spans i s ≡ s → drop i spans ≡ s ∷ drop (i + 1) spans
+left_from spans i s there is = drop-cons spans i s there ∙ ap (λ x. x ∷ drop (suc i) spans) is ∙
+    ap (λ n. s ∷ drop n spans) (sym (add-one i))
 
 -- one more
-pub asked_more : (old now next : SeatView) (spans : List Interval) (i : ℕ) (s : Interval) (by : Owner) (from at later : Time) → i < length spans → get_or spans i s ≡ s
-    → HasAsked old now spans (drop i spans) by from at → AsksEarliestAt now next s by at (Some later) → HasAsked old next spans (drop (i + 1) spans) by from later
+pub asked_more : (old now next : SeatView) (spans : List Interval) (i : ℕ) (s : Interval)
+    (by : Owner) (from at later : Time) → i < length spans → get_or spans i s ≡ s
+    → HasAsked old now spans (drop i spans) by from at →
+    AsksEarliestAt now next s by at (Some later) →
+    HasAsked old next spans (drop (i + 1) spans) by from later
 asked_more old now next spans i s by from at later there is so_far asks = record {
   cache = asks.goes_on.cache ∙ so_far.cache;
   goes_on = λ new told turn. so_far.goes_on new told
-      (subst (λ (left : List Interval). AsksInTurn by now new left at told) (sym (left_from spans i s there is)) (one_told now next new s (drop (i + 1) spans) at later told asks turn));
+      (subst (λ (left : List Interval). AsksInTurn by now new left at told)
+      (sym (left_from spans i s there is))
+      (one_told now next new s (drop (i + 1) spans) at later told asks turn));
 }
 
 -- where there is no time for one more, there is none for all
-pub asked_last : (old now new : SeatView) (spans : List Interval) (i : ℕ) (s : Interval) (by : Owner) (from at : Time) → IsSeat old → i < length spans → get_or spans i s ≡ s
-    → HasAsked old now spans (drop i spans) by from at → AsksEarliestAt now new s by at None → AsksOfAllAt old new spans by from None
+pub asked_last : (old now new : SeatView) (spans : List Interval) (i : ℕ) (s : Interval)
+    (by : Owner) (from at : Time) → IsSeat old → i < length spans → get_or spans i s ≡ s
+    → HasAsked old now spans (drop i spans) by from at → AsksEarliestAt now new s by at None →
+    AsksOfAllAt old new spans by from None
 asked_last old now new spans i s by from at seat there is so_far asks =
     asks_all by old new spans from None seat (so_far.goes_on new None
-    (subst (λ (left : List Interval). AsksInTurn by now new left at None) (sym (left_from spans i s there is)) (none_told now new s (drop (i + 1) spans) at asks)))
+    (subst (λ (left : List Interval). AsksInTurn by now new left at None)
+    (sym (left_from spans i s there is)) (none_told now new s (drop (i + 1) spans) at asks)))
 
 -- until none is left
-pub asked_all : (old new : SeatView) (spans : List Interval) (i : ℕ) (by : Owner) (from at : Time) → IsSeat old → length spans ≤ i → HasAsked old new spans (drop i spans) by from at → AsksOfAllAt old new spans by from (Some at)
+pub asked_all : (old new : SeatView) (spans : List Interval) (i : ℕ) (by : Owner) (from at : Time) →
+    IsSeat old → length spans ≤ i → HasAsked old new spans (drop i spans) by from at →
+    AsksOfAllAt old new spans by from (Some at)
 asked_all old new spans i by from at seat past so_far =
-    asks_all by old new spans from (Some at) seat (so_far.goes_on new (Some at) (subst (λ (left : List Interval). AsksInTurn by new new left at (Some at)) (sym (drop_of_length-le spans past)) (all_asked new at)))
+    asks_all by old new spans from (Some at) seat
+    (so_far.goes_on new (Some at)
+    (subst (λ (left : List Interval). AsksInTurn by new new left at (Some at))
+    (sym (drop_of_length-le spans past)) (all_asked new at)))
 
 -- ---- of one span
 
--- Who asks of one span alone is told the earliest time from the one on that is clear of the answer from all that the seat has seen then.
-pub asked_of_one : (old new : SeatView) (span : Interval) (by : Owner) (from : Time) (told : Option Time) → AsksInTurn by old new (span ∷ []) from told → AsksEarliestAt old new span by from told
+-- Who asks of one span alone is told the earliest time from the one on that is clear of the answer
+-- from all that the seat has seen then.
+pub asked_of_one : (old new : SeatView) (span : Interval) (by : Owner) (from : Time)
+    (told : Option Time) → AsksInTurn by old new (span ∷ []) from told →
+    AsksEarliestAt old new span by from told
 asked_of_one old new span by from told (none_told first last s others at asks) = asks
-asked_of_one old new span by from told (one_told first next last s others at later end asks rest) = no_more next last by later end first s at asks rest
+asked_of_one old new span by from told (one_told first next last s others at later end asks rest) =
+    no_more next last by later end first s at asks rest
   where
-    no_more : (next last : SeatView) (by : Owner) (later : Time) (end : Option Time) (first : SeatView) (s : Interval) (at : Time) → AsksEarliestAt first next s by at (Some later) → AsksInTurn by next last [] later end
+    no_more : (next last : SeatView) (by : Owner) (later : Time) (end : Option Time)
+        (first : SeatView) (s : Interval) (at : Time) →
+        AsksEarliestAt first next s by at (Some later) → AsksInTurn by next last [] later end
         → AsksEarliestAt first last s by at end
     no_more next last by later end first s at asks (all_asked seat t) = asks

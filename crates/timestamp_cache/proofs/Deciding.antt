@@ -16,18 +16,28 @@ is_owned_by None by = false
 is_owned_by (Some owner) by = bytes_eq owner by
 
 pub is_owned_by-Decides : (o : Option Owner) (by : Owner) → Decides (is_owned_by o by) (o ≡ Some by)
-is_owned_by-Decides None by = (λ e. absurd (true≢false (sym e)), λ e. absurd (let none_is_some : None ≡ Some by = e in cc))
-is_owned_by-Decides (Some owner) by = (λ e. ap Some ((bytes_eq-Decides owner by).0 e), λ e. (bytes_eq-Decides owner by).1 (let same : Some owner ≡ Some by = e in cc))
+is_owned_by-Decides None by = (
+  λ e. absurd (true≢false (sym e)),
+  λ e. absurd (let none_is_some : None ≡ Some by = e in cc),
+)
+is_owned_by-Decides (Some owner) by = (
+  λ e. ap Some ((bytes_eq-Decides owner by).0 e),
+  λ e. (bytes_eq-Decides owner by).1 (let same : Some owner ≡ Some by = e in cc),
+)
 
 -- whether a write is clear
 abbrev pub is_clear : OwnedTime → Owner → Time → Bool
-is_clear read by at = is_before read.time at || (is_same_time read.time at && is_owned_by read.owner by)
+is_clear read by at = is_before read.time at ||
+    (is_same_time read.time at && is_owned_by read.owner by)
 
-pub is_clear-Decides : (read : OwnedTime) (by : Owner) (at : Time) → Decides (is_clear read by at) (IsClearOf read by at)
-is_clear-Decides read by at = Decides-or _ _ (λ e. e, λ e. e) (Decides-and _ _ (is_same_time-Decides read.time at) (is_owned_by-Decides read.owner by))
+pub is_clear-Decides : (read : OwnedTime) (by : Owner) (at : Time) →
+    Decides (is_clear read by at) (IsClearOf read by at)
+is_clear-Decides read by at = Decides-or _ _ (λ e. e, λ e. e)
+    (Decides-and _ _ (is_same_time-Decides read.time at) (is_owned_by-Decides read.owner by))
 
 -- it is or it isn't
-pub clear_or_not : (read : OwnedTime) (by : Owner) (at : Time) → IsClearOf read by at ⊎ (IsClearOf read by at → ⊥)
+pub clear_or_not : (read : OwnedTime) (by : Owner) (at : Time) →
+    IsClearOf read by at ⊎ (IsClearOf read by at → ⊥)
 clear_or_not read by at = elim (cases_Bool (is_clear read by at)) [
   | inl h ↦ inl ((is_clear-Decides read by at).0 h)
   | inr h ↦ inr (λ clear. true≢false (sym ((is_clear-Decides read by at).1 clear) ∙ h))

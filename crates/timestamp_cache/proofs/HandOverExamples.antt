@@ -11,7 +11,8 @@ use Rattle.timestamp_cache.specs.Stretches.{stretch_end, told_more}
 -- ---- a cache with a read of a key and one of a range, and what is told of it
 
 abbrev two_reads : CacheState
-two_reads = state_after usual (add (point (codes "b")) (of_first twenty) twenty ∷ add (without_end (codes "d") (codes "f")) (of_second (at 22 7)) (at 22 7) ∷ [])
+two_reads = state_after usual (add (point (codes "b")) (of_first twenty) twenty ∷
+    add (without_end (codes "d") (codes "f")) (of_second (at 22 7)) (at 22 7) ∷ [])
 
 -- nothing yet
 abbrev begun : Summary
@@ -19,7 +20,11 @@ begun = record { span = without_end (codes "a") (codes "z"); floor = at 5 0; mar
 
 -- all of it
 abbrev all_told : Summary
-all_told = record begun { marks = mark (point (codes "b")) (of_first twenty) ∷ mark (point (codes "d")) (of_second (at 22 7)) ∷ mark (without_ends (codes "d") (codes "f")) (of_second (at 22 7)) ∷ [] }
+all_told = record begun {
+  marks = mark (point (codes "b")) (of_first twenty) ∷
+      mark (point (codes "d")) (of_second (at 22 7)) ∷
+      mark (without_ends (codes "d") (codes "f")) (of_second (at 22 7)) ∷ [];
+}
 
 -- with room for one mark
 abbrev one_told : Summary
@@ -41,10 +46,12 @@ a_span_without_anything_does_not w = w
 
 -- ---- where stretches stop
 
-pub at_a_key_it_goes_up_to_behind_it : stretch_end (before (codes "b")) (Some (codes "b")) ≡ after (codes "b")
+pub at_a_key_it_goes_up_to_behind_it : stretch_end (before (codes "b")) (Some (codes "b")) ≡
+    after (codes "b")
 at_a_key_it_goes_up_to_behind_it = refl
 
-pub behind_a_key_it_goes_up_to_the_next : stretch_end (after (codes "b")) (Some (codes "d")) ≡ before (codes "d")
+pub behind_a_key_it_goes_up_to_the_next : stretch_end (after (codes "b")) (Some (codes "d")) ≡
+    before (codes "d")
 behind_a_key_it_goes_up_to_the_next = refl
 
 pub without_a_key_it_goes_on : stretch_end (after (codes "f")) None ≡ last
@@ -52,13 +59,17 @@ without_a_key_it_goes_on = refl
 
 -- ---- one stretch more
 
-pub a_stretch_at_the_floor_is_not_told : told_more 1 begun (between (before (codes "a")) (before (codes "b"))) (unowned (at 5 0)) ≡ begun
+pub a_stretch_at_the_floor_is_not_told : told_more 1 begun
+    (between (before (codes "a")) (before (codes "b"))) (unowned (at 5 0)) ≡ begun
 a_stretch_at_the_floor_is_not_told = refl
 
-pub a_stretch_above_it_is_a_mark : told_more 1 begun (point (codes "b")) (of_first twenty) ≡ record begun { marks = mark (point (codes "b")) (of_first twenty) ∷ [] }
+pub a_stretch_above_it_is_a_mark : told_more 1 begun (point (codes "b")) (of_first twenty) ≡
+    record begun { marks = mark (point (codes "b")) (of_first twenty) ∷ [] }
 a_stretch_above_it_is_a_mark = refl
 
-pub without_room_the_floor_is_raised : told_more 1 (told_more 1 begun (point (codes "b")) (of_first twenty)) (point (codes "d")) (of_second (at 22 7)) ≡ one_told
+pub without_room_the_floor_is_raised : told_more 1
+    (told_more 1 begun (point (codes "b")) (of_first twenty)) (point (codes "d"))
+    (of_second (at 22 7)) ≡ one_told
 without_room_the_floor_is_raised = refl
 
 -- ---- what is told is what the cache answers, raised to the floor
@@ -66,19 +77,23 @@ without_room_the_floor_is_raised = refl
 pub a_key_is_told_with_its_owner : summary_answer all_told (point (codes "b")) ≡ of_first twenty
 a_key_is_told_with_its_owner = refl
 
-pub a_key_inside_a_range_is_told : summary_answer all_told (point (codes "e")) ≡ look two_reads (point (codes "e"))
+pub a_key_inside_a_range_is_told : summary_answer all_told (point (codes "e")) ≡
+    look two_reads (point (codes "e"))
 unfolding next_size
 a_key_inside_a_range_is_told = refl
 
-pub the_end_of_a_range_is_not : summary_answer all_told (point (codes "f")) ≡ look two_reads (point (codes "f"))
+pub the_end_of_a_range_is_not : summary_answer all_told (point (codes "f")) ≡
+    look two_reads (point (codes "f"))
 unfolding next_size
 the_end_of_a_range_is_not = refl
 
-pub a_range_over_several_stretches_is : summary_answer all_told (without_end (codes "c") (codes "e")) ≡ look two_reads (without_end (codes "c") (codes "e"))
+pub a_range_over_several_stretches_is : summary_answer all_told
+    (without_end (codes "c") (codes "e")) ≡ look two_reads (without_end (codes "c") (codes "e"))
 unfolding next_size
 a_range_over_several_stretches_is = refl
 
-pub what_was_left_out_is_at_the_floor : summary_answer one_told (point (codes "e")) ≡ joint_above (at 22 7) (look two_reads (point (codes "e")) ∷ [])
+pub what_was_left_out_is_at_the_floor : summary_answer one_told (point (codes "e")) ≡
+    joint_above (at 22 7) (look two_reads (point (codes "e")) ∷ [])
 unfolding next_size
 what_was_left_out_is_at_the_floor = refl
 
@@ -88,19 +103,26 @@ and_nobody_owns_it = refl
 -- ---- another cache takes it over
 
 abbrev other : CacheState
-other = state_after (record usual { low_water = at 3 0 }) (add (point (codes "b")) (of_second twenty) twenty ∷ [])
+other = state_after (record usual { low_water = at 3 0 })
+    (add (point (codes "b")) (of_second twenty) twenty ∷ [])
 
-pub what_is_added : marks_told one_told ≡ mark begun.span (unowned (at 22 7)) ∷ mark (point (codes "b")) (of_first twenty) ∷ []
+pub what_is_added : marks_told one_told ≡ mark begun.span (unowned (at 22 7)) ∷
+    mark (point (codes "b")) (of_first twenty) ∷ []
 what_is_added = refl
 
-pub two_readers_at_one_time_leave_no_owner : look (step_all usual other (marks_told all_told) (at 23 0)).state (point (codes "b")) ≡ unowned twenty
+pub two_readers_at_one_time_leave_no_owner : look
+    (step_all usual other (marks_told all_told) (at 23 0)).state (point (codes "b")) ≡
+    unowned twenty
 unfolding next_size
 two_readers_at_one_time_leave_no_owner = refl
 
-pub elsewhere_in_the_span_its_floor_holds : look (step_all usual other (marks_told all_told) (at 23 0)).state (point (codes "c")) ≡ unowned (at 5 0)
+pub elsewhere_in_the_span_its_floor_holds : look
+    (step_all usual other (marks_told all_told) (at 23 0)).state (point (codes "c")) ≡
+    unowned (at 5 0)
 unfolding next_size
 elsewhere_in_the_span_its_floor_holds = refl
 
-pub outside_nothing_changes : look (step_all usual other (marks_told all_told) (at 23 0)).state (point (codes "z")) ≡ unowned (at 3 0)
+pub outside_nothing_changes : look (step_all usual other (marks_told all_told) (at 23 0)).state
+    (point (codes "z")) ≡ unowned (at 3 0)
 unfolding next_size
 outside_nothing_changes = refl

@@ -15,34 +15,22 @@ use Rattle.std.proofs.Common.{
   ◌&&◌,
   refl,
 }
-use Rattle.std.specs.List.{Contains}
 use Rattle.std.proofs.lemmas.List.Elements.{Contains-push}
 use Rattle.tsc_time.specs.Time.{Time}
 use Rattle.tsc_time.specs.OwnedTime.{OwnedTime}
 use Rattle.tsc_time.specs.Joint.{IsAtMost}
-use Rattle.tsc_span.specs.Span.{
-  KeyBytes,
-  Interval,
-  nothing,
-  between,
-  before,
-  after,
-  is_below,
-  point,
-  overlaps,
-  covers,
-}
+use Rattle.tsc_span.specs.Span.{KeyBytes, Interval, nothing, between, before, after, is_below, point, covers}
 use Rattle.tsc_span.proofs.CutOrder.{sides_in_order}
-use Rattle.tsc_page_base.specs.Page.{Mark}
+use Rattle.tsc_page_nodes.specs.Page.{Mark}
 use Rattle.tsc_cache.specs.Settings.{Settings}
-use Rattle.tsc_cache.specs.State.{CacheState, look}
+use Rattle.tsc_cache.specs.State.{look}
 use Rattle.tsc_cache.specs.declared.history.Entry.{Entry}
 use Rattle.tsc_cache.specs.History.{History, state_of}
 use Rattle.tsc_cache.specs.CacheView.{CacheView, StandsForState, StandsAfterAll, cache_answer}
 use Rattle.tsc_cache.proofs.FloorJoints.{above_each}
 use Rattle.tsc_cache.proofs.Histories.{state_of-push, kept_up, rising}
 use Rattle.tsc_cache.proofs.StatesSeen.{answers_look}
-use Rattle.timestamp_cache.specs.HandOver.{Summary, summary_answer, IsWithin, TellsOf}
+use Rattle.timestamp_cache.specs.HandOver.{IsWithin}
 use Rattle.timestamp_cache.specs.Laws.{AnswersRise, SummariesTellNoLess}
 
 -- ---- answers

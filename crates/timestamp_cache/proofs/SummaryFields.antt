@@ -1,6 +1,6 @@
 -- The parts of a summary, each as it is written and read.
 use Rattle.std.proofs.Common.{arith, ◌≡◌, ℕ, zero, suc, ◌^◌, ◌<◌, ◌≤◌, Bool, true, false, cond, ltb}
-use Rattle.std.proofs.Common.{List, [], ◌∷◌, ◌++◌, length, Option, Some, None, Result, Ok, Err}
+use Rattle.std.proofs.Common.{List, [], ◌∷◌, ◌++◌, length, Option, Some, None, Ok, Err}
 use Rattle.std.proofs.Common.{refl, sym, ap, subst, ◌∙◌, append_assoc, inl, inr}
 use Rattle.std.specs.Prelude.{replicate}
 use Rattle.std.specs.List.{All}
@@ -12,14 +12,14 @@ use Rattle.std.proofs.lemmas.Slice.Eq.{bytes_eq-Decides}
 use Rattle.uuid.specs.Parts.{is_nil_bytes, zero_bytes}
 use Rattle.tsc_time.specs.Time.{Time, is_in_range}
 use Rattle.tsc_time.specs.OwnedTime.{Owner, OwnedTime, owner_of, IsMadeOwner, IsMadeValue}
-use Rattle.tsc_span.specs.Span.{longest_key, fits_key, KeyBytes, Cut, before, after, last, is_below}
+use Rattle.tsc_span.specs.Span.{longest_key, KeyBytes, Cut, before, after, last, is_below}
 use Rattle.tsc_span.specs.Span.{Interval, nothing, between}
 use Rattle.tsc_span.specs.MadeSpan.{IsKey, IsMadeCut, IsMadeSpan}
-use Rattle.tsc_page_base.specs.Page.{Mark}
+use Rattle.tsc_page_nodes.specs.Page.{Mark}
 use Rattle.timestamp_cache.specs.declared.summary_fault.SummaryFault.TheVariants.{Form}
 use Rattle.timestamp_cache.specs.SummaryBytes.{key_bytes, cut_bytes, span_bytes, time_bytes}
 use Rattle.timestamp_cache.specs.SummaryBytes.{owner_bytes, value_bytes, mark_bytes, IsMadeMark}
-use Rattle.timestamp_cache.specs.SummaryReading.{Read, Part, ◌>>=◌, byte_at, bytes_at, number_at}
+use Rattle.timestamp_cache.specs.SummaryReading.{Part, ◌>>=◌, bytes_at, number_at}
 use Rattle.timestamp_cache.specs.SummaryReading.{key_at, cut_by, cut_at, between_of, between_at}
 use Rattle.timestamp_cache.specs.SummaryReading.{span_by, span_at, time_of, time_at, value_at}
 use Rattle.timestamp_cache.specs.SummaryReading.{mark_at}

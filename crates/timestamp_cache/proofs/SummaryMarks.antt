@@ -1,6 +1,6 @@
 -- Marks, one behind the other, and what is told as a whole.
-use Rattle.std.proofs.Common.{arith, ◌≡◌, ℕ, zero, suc, ◌+◌, ◌-◌, ◌^◌, ◌<◌, ◌≤◌, Bool, true, cond}
-use Rattle.std.proofs.Common.{eqb, List, [], ◌∷◌, ◌++◌, length, get_or, drop, Result, Ok, Err, refl}
+use Rattle.std.proofs.Common.{arith, ◌≡◌, ℕ, zero, suc, ◌+◌, ◌-◌, ◌^◌, ◌<◌, ◌≤◌, true, cond}
+use Rattle.std.proofs.Common.{eqb, List, [], ◌∷◌, ◌++◌, length, get_or, drop, Ok, Err, refl}
 use Rattle.std.proofs.Common.{sym, ap, subst, ◌∙◌, append_assoc}
 use Rattle.std.specs.List.{flat_map, AllByRecursion}
 use Rattle.std.specs.Int.{w64, to_be_bytes}
@@ -11,14 +11,14 @@ use Rattle.std.proofs.lemmas.List.Concat.{flat_map-cons}
 use Rattle.tsc_time.specs.Time.{Time, is_in_range}
 use Rattle.tsc_span.specs.Span.{Interval}
 use Rattle.tsc_span.specs.MadeSpan.{IsMadeSpan}
-use Rattle.tsc_page_base.specs.Page.{Mark}
+use Rattle.tsc_page_nodes.specs.Page.{Mark}
 use Rattle.timestamp_cache.specs.declared.summary_fault.SummaryFault.{SummaryFault}
 use Rattle.timestamp_cache.specs.declared.summary_fault.SummaryFault.TheVariants as faults
 use Rattle.timestamp_cache.specs.declared.summary_fault.SummaryFault.TheVariants.{Form}
 use Rattle.timestamp_cache.specs.HandOver.{Summary}
 use Rattle.timestamp_cache.specs.SummaryBytes.{span_bytes, time_bytes, mark_bytes, marks_bytes}
 use Rattle.timestamp_cache.specs.SummaryBytes.{content_bytes, IsMadeMark, IsMadeSummary}
-use Rattle.timestamp_cache.specs.SummaryReading.{Read, Part, ◌>>=◌, Fails, number_at, span_at}
+use Rattle.timestamp_cache.specs.SummaryReading.{Part, ◌>>=◌, Fails, number_at, span_at}
 use Rattle.timestamp_cache.specs.SummaryReading.{time_at, mark_at, marks_at, counted_at, reads_at}
 use Rattle.timestamp_cache.specs.SummaryReading.{told_at, told_by}
 use Rattle.timestamp_cache.proofs.SummaryParts.{AreBytes, bind_ok, test_ok, ok, same_ok, Takes}

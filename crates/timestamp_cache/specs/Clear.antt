@@ -4,7 +4,7 @@ use Rattle.std.specs.List.{Contains}
 use Rattle.tsc_time.specs.Time.{Time, is_before}
 use Rattle.tsc_time.specs.OwnedTime.{Owner}
 use Rattle.tsc_span.specs.Span.{Interval, overlaps}
-use Rattle.tsc_page_base.specs.Page.{Mark}
+use Rattle.tsc_page_nodes.specs.Page.{Mark}
 use Rattle.tsc_cache.specs.State.{look}
 use Rattle.tsc_cache.specs.declared.history.Entry.{Entry}
 use Rattle.tsc_cache.specs.History.{History, state_of, BeginsWith}
@@ -16,9 +16,10 @@ use Rattle.timestamp_cache.specs.Earliest.{TellsEarliest}
 
 -- A write is clear of each read of a history on a span.
 abbrev pub IsClearOfReads : History → Interval → Owner → Time → Type 0
-IsClearOfReads h span by at = (e : Entry) (m : Mark) → Contains h e → Contains e.marks m → overlaps m.span span ≡ true → IsClearOf m.value by at
+IsClearOfReads h span by at = (e : Entry) (m : Mark) → Contains h e → Contains e.marks m →
+    overlaps m.span span ≡ true → IsClearOf m.value by at
 
--- It is so of each read on any of some spans.
+-- a write at a time is clear of each read of a history on any of some spans
 abbrev pub IsClearOfAllReads : History → List Interval → Owner → Time → Type 0
 IsClearOfAllReads h spans by at = All (λ span. IsClearOfReads h span by at) spans
 
@@ -26,32 +27,45 @@ IsClearOfAllReads h spans by at = All (λ span. IsClearOfReads h span by at) spa
 abbrev pub IsClearOfAnswers : CacheView → List Interval → Owner → Time → Type 0
 IsClearOfAnswers cache spans by at = All (λ span. IsClearOf (cache_answer cache span) by at) spans
 
--- A seat asks whether a write is clear: it is told so just where that is clear of the answer from all that the seat has seen then, and where it is told so, that is clear of each read on the span there.
-pub record AsksAt (old new : SeatView) (span : Interval) (by : Owner) (at : Time) (clear : Bool) : Type 0 where
+-- A seat asks whether a write is clear: it is told so just where that is clear of the answer from
+-- all that the seat has seen then, and where it is told so, that is clear of each read on the span
+-- there.
+pub record AsksAt (old new : SeatView) (span : Interval) (by : Owner) (at : Time) (clear : Bool) :
+    Type 0 where
   pub goes_on : GoesOn old new
   pub count : new.count ≡ old.count
   pub value : IsTrue clear ↔ IsClearOf (look (state_of old.cache.config new.seen) span) by at
   pub reads : IsTrue clear → IsClearOfReads new.seen span by at
 
--- A seat asks for the earliest time, from one on, at which a write is clear: it is told the earliest at which that is clear of the answer from all that the seat has seen then, and there it is clear of each read on the span in that.
-pub record AsksEarliestAt (old new : SeatView) (span : Interval) (by : Owner) (from : Time) (told : Option Time) : Type 0 where
+-- A seat asks for the earliest time, from one on, at which a write is clear: it is told the
+-- earliest at which that is clear of the answer from all that the seat has seen then, and there it
+-- is clear of each read on the span in that.
+pub record AsksEarliestAt (old new : SeatView) (span : Interval) (by : Owner) (from : Time)
+    (told : Option Time) : Type 0 where
   pub goes_on : GoesOn old new
   pub count : new.count ≡ old.count
-  pub earliest : TellsEarliest (λ t. IsClearOf (look (state_of old.cache.config new.seen) span) by t) from told
+  pub earliest : TellsEarliest (λ t. IsClearOf (look (state_of old.cache.config new.seen) span) by
+      t) from told
   pub reads : IfSome told (λ t. IsClearOfReads new.seen span by t)
 
--- A seat asks of some spans in turn, of each from the time on that it was told of the one before it. Where it is told none, it asks no further.
-pub data AsksInTurn (by : Owner) : SeatView → SeatView → List Interval → Time → Option Time → Type 0 where
+-- A seat asks of some spans in turn, of each from the time on that it was told of the one before
+-- it. Where it is told none, it asks no further.
+pub data AsksInTurn (by : Owner) : SeatView → SeatView → List Interval → Time → Option Time →
+    Type 0 where
   all_asked : (seat : SeatView) (at : Time) → AsksInTurn by seat seat [] at (Some at)
-  none_told : (old new : SeatView) (span : Interval) (others : List Interval) (from : Time) → AsksEarliestAt old new span by from None → AsksInTurn by old new (span ∷ others) from None
-  one_told : (old next new : SeatView) (span : Interval) (others : List Interval) (from at : Time) (told : Option Time)
-      → AsksEarliestAt old next span by from (Some at) → AsksInTurn by next new others at told → AsksInTurn by old new (span ∷ others) from told
+  none_told : (old new : SeatView) (span : Interval) (others : List Interval) (from : Time) →
+      AsksEarliestAt old new span by from None → AsksInTurn by old new (span ∷ others) from None
+  one_told : (old next new : SeatView) (span : Interval) (others : List Interval) (from at : Time)
+      (told : Option Time)
+      → AsksEarliestAt old next span by from (Some at) → AsksInTurn by next new others at told →
+      AsksInTurn by old new (span ∷ others) from told
 
 -- A write is clear of each read on some spans, of each in the history that was seen when it was
 -- asked of. Each history begins with the one before it.
 pub data IsClearInTurn (by : Owner) (at : Time) : History → List Interval → History → Type 0 where
   all_clear : (seen : History) → IsClearInTurn by at seen [] seen
-  one_clear : (before seen last : History) (span : Interval) (others : List Interval) → BeginsWith seen before → IsClearOfReads seen span by at
+  one_clear : (before seen last : History) (span : Interval) (others : List Interval) →
+      BeginsWith seen before → IsClearOfReads seen span by at
       → IsClearInTurn by at seen others last → IsClearInTurn by at before (span ∷ others) last
 
 -- A write is clear of each read of a history on the last of some spans.
@@ -63,7 +77,8 @@ IsClearOfLast h (span ∷ next ∷ others) by at = IsClearOfLast h (next ∷ oth
 -- A seat asks for the earliest time, from one on, at which a write of all of some spans is clear:
 -- it asks of them in turn. A time that it is told is not before the one from which it asked. There
 -- the write is clear:
-pub record AsksOfAllAt (old new : SeatView) (spans : List Interval) (by : Owner) (from : Time) (told : Option Time) : Type 0 where
+pub record AsksOfAllAt (old new : SeatView) (spans : List Interval) (by : Owner) (from : Time)
+    (told : Option Time) : Type 0 where
   pub goes_on : GoesOn old new
   pub count : new.count ≡ old.count
   pub in_turn : AsksInTurn by old new spans from told
@@ -72,5 +87,5 @@ pub record AsksOfAllAt (old new : SeatView) (spans : List Interval) (by : Owner)
   pub each : IfSome told (λ t. IsClearInTurn by t old.seen spans new.seen)
   -- so of each read on the last span that the seat has seen in the end
   pub last : IfSome told (λ t. IsClearOfLast new.seen spans by t)
-  -- and of each read on any of them that it had seen when it was called
+  -- the write is clear of each read on any span that the seat had seen when it was called
   pub reads : IfSome told (λ t. IsClearOfAllReads old.seen spans by t)

@@ -1,11 +1,12 @@
--- What is told of the reads of a span to whoever takes its lease over: the read summaries of CockroachDB's pkg/kv/kvserver/readsummary.
+-- What is told of the reads of a span to whoever takes its lease over: the read summaries of
+-- CockroachDB's pkg/kv/kvserver/readsummary.
 use Rattle.std.specs.Prelude.{◌≡◌, ◌⊎◌, ℕ, ◌≤◌, List, [], ◌∷◌, length, true, false}
 use Rattle.std.specs.List.{Contains}
 use Rattle.tsc_time.specs.Time.{Time, is_before}
 use Rattle.tsc_time.specs.OwnedTime.{OwnedTime, unowned}
 use Rattle.tsc_time.specs.Joint.{joint, joint_above, IsAtMost}
 use Rattle.tsc_span.specs.Span.{Interval, nothing, between, is_below}
-use Rattle.tsc_page_base.specs.Page.{Mark, values_on}
+use Rattle.tsc_page_nodes.specs.Page.{Mark, values_on}
 use Rattle.tsc_cache.specs.Settings.{Settings}
 use Rattle.tsc_cache.specs.State.{CacheState, look}
 use Rattle.tsc_cache.specs.CacheView.{CacheView, StandsForState}
@@ -24,15 +25,19 @@ summary_answer told span = joint_above told.floor (values_on span told.marks)
 abbrev pub IsWithin : Interval → Interval → Type 0
 IsWithin nothing outer = ⊥
 IsWithin (between first end) nothing = ⊥
-IsWithin (between first end) (between from to) = (is_below first end ≡ true) × (is_below first from ≡ false) × (is_below to end ≡ false)
+IsWithin (between first end) (between from to) = (is_below first end ≡ true) ×
+    (is_below first from ≡ false) × (is_below to end ≡ false)
 
--- A summary tells of a state: of each span within its own it tells the state's answer, raised to the summary's floor. So it tells no less than the state answers, just that where the floors are the same, and just that too wherever the answer is above the summary's floor.
+-- A summary tells of a state: of each span within its own it tells the state's answer, raised to
+-- the summary's floor. So it tells no less than the state answers, just that where the floors are
+-- the same, and just that too wherever the answer is above the summary's floor.
 abbrev pub TellsOf : CacheState → Summary → Type 0
-TellsOf s told = (inner : Interval) → IsWithin inner told.span → summary_answer told inner ≡ joint_above told.floor (look s inner ∷ [])
+TellsOf s told = (inner : Interval) → IsWithin inner told.span →
+    summary_answer told inner ≡ joint_above told.floor (look s inner ∷ [])
 
 -- A summary of a cache on a span, with so many marks at the most.
 pub record Summarizes (cache : CacheView) (of : Interval) (most : ℕ) (told : Summary) : Type 0 where
-  -- it is of that span
+  -- the summary is of that span
   pub span : told.span ≡ of
   -- its floor is no lower than the cache's
   pub floor : is_before told.floor cache.floor ≡ false
@@ -40,16 +45,24 @@ pub record Summarizes (cache : CacheView) (of : Interval) (most : ℕ) (told : S
   -- the floor is raised only where there is no room for one mark more
   pub left_out : (told.floor ≡ cache.floor) ⊎ (length told.marks ≡ most)
   -- each mark lies within the span, and above the cache's floor
-  pub marks : (m : Mark) → Contains told.marks m → IsWithin m.span of × (is_before cache.floor m.value.time ≡ true)
-  -- it tells of whatever state the cache stands for
-  pub answers : (settings : Settings) (s : CacheState) → StandsForState cache settings s → TellsOf s told
+  pub marks : (m : Mark) → Contains told.marks m → IsWithin m.span of ×
+      (is_before cache.floor m.value.time ≡ true)
+  -- the summary tells of whatever state the cache stands for
+  pub answers : (settings : Settings) (s : CacheState) → StandsForState cache settings s →
+      TellsOf s told
 
--- what is added where a summary is applied: its whole span at its floor, without an owner, and then its marks
+-- what is added where a summary is applied: its whole span at its floor, without an owner, and then
+-- its marks
 abbrev pub marks_told : Summary → List Mark
 marks_told told = record { span = told.span; value = unowned told.floor } ∷ told.marks
 
--- One state takes over from another what a summary tells: each answer within the summary's span is no less than what the summary tells, no answer sinks, and where an answer is above the floor it is what the old answer and the summary come to together.
+-- One state takes over from another what a summary tells: each answer within the summary's span is
+-- no less than what the summary tells, no answer sinks, and where an answer is above the floor it
+-- is what the old answer and the summary come to together.
 pub record TakesOver (old new : CacheState) (told : Summary) : Type 0 where
-  pub learned : (inner : Interval) → IsWithin inner told.span → IsAtMost (summary_answer told inner) (look new inner)
+  pub learned : (inner : Interval) → IsWithin inner told.span →
+      IsAtMost (summary_answer told inner) (look new inner)
   pub kept : (inner : Interval) → IsAtMost (look old inner) (look new inner)
-  pub exact : (inner : Interval) → IsWithin inner told.span → is_before new.floor (look new inner).time ≡ true → look new inner ≡ joint (look old inner) (summary_answer told inner ∷ [])
+  pub exact : (inner : Interval) → IsWithin inner told.span →
+      is_before new.floor (look new inner).time ≡ true →
+      look new inner ≡ joint (look old inner) (summary_answer told inner ∷ [])

@@ -1,11 +1,11 @@
 -- What follows from the definitions, for every configuration, history and span.
-use Rattle.std.specs.Prelude.{◌≡◌, ◌↔◌, ℕ, List, true, false, Some}
+use Rattle.std.specs.Prelude.{◌≡◌, ◌↔◌, ◌&&◌, ◌++◌, ◌∷◌, [], ℕ, List, Bool, true, false, Some, None}
 use Rattle.std.specs.List.{Contains}
 use Rattle.tsc_time.specs.Time.{Time, is_before, time_minus}
 use Rattle.tsc_time.specs.OwnedTime.{Owner, OwnedTime}
 use Rattle.tsc_time.specs.Joint.{IsAtMost}
 use Rattle.tsc_span.specs.Span.{KeyBytes, Interval, point, overlaps, covers}
-use Rattle.tsc_page_base.specs.Page.{Mark}
+use Rattle.tsc_page_nodes.specs.Page.{Mark}
 use Rattle.tsc_cache.specs.Settings.{Settings}
 use Rattle.tsc_cache.specs.State.{CacheState, step_all, look}
 use Rattle.tsc_cache.specs.CacheView.{CacheView, StandsForState, StandsAfterAll, cache_answer}
@@ -15,10 +15,13 @@ use Rattle.tsc_shared.specs.declared.answers.Receipt.{Receipt}
 use Rattle.tsc_shared.specs.Seats.{SeatView, FrontView}
 use Rattle.tsc_shared.specs.Answers.{Accepts, Learns, GoesOn, IsAbove}
 use Rattle.timestamp_cache.specs.Clear.{IsClearOf, IsClearOfReads}
+use Rattle.timestamp_cache.specs.Earliest.{IsEarliest, TellsEarliest, Stays}
 use Rattle.timestamp_cache.specs.HandOver.{Summary, summary_answer, IsWithin, TellsOf, marks_told}
 
--- An Add on one seat, and a lookup on another that had learned a front of it: the front has what the first seat had seen behind that Add, or more.
-pub record Carries (adder added guest told later : SeatView) (ms : List Mark) (span : Interval) (answer : OwnedTime) : Type 0 where
+-- An Add on one seat, and a lookup on another that had learned a front of it: the front has what
+-- the first seat had seen behind that Add, or more.
+pub record Carries (adder added guest told later : SeatView) (ms : List Mark) (span : Interval)
+    (answer : OwnedTime) : Type 0 where
   pub now : Time
   pub receipt : Receipt
   pub front : FrontView
@@ -29,21 +32,28 @@ pub record Carries (adder added guest told later : SeatView) (ms : List Mark) (s
   pub goes_on : GoesOn told later
   pub above : IsAbove later span answer
 
--- What was added on the span is then at most what the lookup answers, and a write that is clear of the answer is clear of it.
+-- What was added on the span is then at most what the lookup answers, and a write that is clear of
+-- the answer is clear of it.
 pub record ReadsAreCarried : Type 0 where
-  pub bounded : (adder added guest told later : SeatView) (ms : List Mark) (span : Interval) (answer : OwnedTime) (m : Mark) → Carries adder added guest told later ms span answer
+  pub bounded : (adder added guest told later : SeatView) (ms : List Mark) (span : Interval)
+      (answer : OwnedTime) (m : Mark) → Carries adder added guest told later ms span answer
       → Contains ms m → overlaps m.span span ≡ true → IsAtMost m.value answer
-  pub clear : (adder added guest told later : SeatView) (ms : List Mark) (span : Interval) (answer : OwnedTime) (m : Mark) (by : Owner) (at : Time) → Carries adder added guest told later ms span answer
-      → Contains ms m → overlaps m.span span ≡ true → IsClearOf answer by at → IsClearOf m.value by at
+  pub clear : (adder added guest told later : SeatView) (ms : List Mark) (span : Interval)
+      (answer : OwnedTime) (m : Mark) (by : Owner) (at : Time) →
+      Carries adder added guest told later ms span answer
+      → Contains ms m → overlaps m.span span ≡ true → IsClearOf answer by at →
+      IsClearOf m.value by at
 
 -- A cache answers to each span what each state answers that it stands for. So what is said of a
 -- cache's answers holds of a lookup in such a state.
 abbrev pub AnswersAreLookedUp : Type 0
-AnswersAreLookedUp = (cache : CacheView) (settings : Settings) (s : CacheState) (span : Interval) → StandsForState cache settings s → cache_answer cache span ≡ look s span
+AnswersAreLookedUp = (cache : CacheView) (settings : Settings) (s : CacheState) (span : Interval) →
+    StandsForState cache settings s → cache_answer cache span ≡ look s span
 
 -- A time is no earlier than the moment of any entry less the retention, where there is such a time.
 abbrev pub IsRetained : Settings → History → Time → Type 0
-IsRetained settings h at = (e : Entry) (limit : Time) → Contains h e → time_minus e.now settings.retention ≡ Some limit → is_before at limit ≡ false
+IsRetained settings h at = (e : Entry) (limit : Time) → Contains h e →
+    time_minus e.now settings.retention ≡ Some limit → is_before at limit ≡ false
 
 -- A read of a history on a span that a write isn't clear of.
 pub record Pushes (h : History) (span : Interval) (by : Owner) (at : Time) : Type 0 where
@@ -54,20 +64,27 @@ pub record Pushes (h : History) (span : Interval) (by : Owner) (at : Time) : Typ
   pub over : overlaps mark.span span ≡ true
   pub not_clear : IsClearOf mark.value by at → ⊥
 
--- A write above the low-water time of the settings, at a time that is retained, that isn't clear of what a lookup answers, is pushed by a read.
+-- A write above the low-water time of the settings, at a time that is retained, that isn't clear of
+-- what a lookup answers, is pushed by a read.
 abbrev pub PushedByReadsAlone : Type 0
-PushedByReadsAlone = (settings : Settings) (h : History) (span : Interval) (by : Owner) (at : Time) → IsRetained settings h at → is_before settings.low_water at ≡ true
+PushedByReadsAlone = (settings : Settings) (h : History) (span : Interval) (by : Owner) (at : Time)
+    → IsRetained settings h at → is_before settings.low_water at ≡ true
     → (IsClearOf (look (state_of settings h) span) by at → ⊥) → Pushes h span by at
 
 -- A write is clear of a read just where the read is at most the write's own time and owner.
 abbrev pub ClearIsAtMost : Type 0
-ClearIsAtMost = (read : OwnedTime) (by : Owner) (at : Time) → IsClearOf read by at ↔ IsAtMost read (record { time = at; owner = Some by })
+ClearIsAtMost = (read : OwnedTime) (by : Owner) (at : Time) →
+    IsClearOf read by at ↔ IsAtMost read (record { time = at; owner = Some by })
 
--- A summary tells of the state that a history left, and is applied to some other state, which goes on with whatever entries. A write that is clear of what that one answers then, on a span within the summary's, is clear of each read of the history there.
+-- A summary tells of the state that a history left, and is applied to some other state, which goes
+-- on with whatever entries. A write that is clear of what that one answers then, on a span within
+-- the summary's, is clear of each read of the history there.
 abbrev pub ReadsAreHandedOn : Type 0
-ReadsAreHandedOn = (settings others : Settings) (h later : History) (s : CacheState) (told : Summary) (now : Time) (inner : Interval) (by : Owner) (at : Time)
+ReadsAreHandedOn = (settings others : Settings) (h later : History) (s : CacheState)
+    (told : Summary) (now : Time) (inner : Interval) (by : Owner) (at : Time)
     → TellsOf (state_of settings h) told → IsWithin inner told.span
-    → IsClearOf (look (state_from others (step_all others s (marks_told told) now).state later) inner) by at → IsClearOfReads h inner by at
+    → IsClearOf (look (state_from others (step_all others s (marks_told told) now).state later)
+    inner) by at → IsClearOfReads h inner by at
 
 -- Whatever is added to a cache that stands for the state of some history, no answer sinks, and each
 -- mark that is added is at most what is answered on its span then.
@@ -91,3 +108,37 @@ pub record SummariesTellNoLess : Type 0 where
   pub no_less : (s : CacheState) (told : Summary) (inner : Interval) → TellsOf s told
       → IsWithin inner told.span → IsAtMost (look s inner) (summary_answer told inner)
   pub keys : (span : Interval) (k : KeyBytes) → covers span k ≡ true → IsWithin (point k) span
+
+-- A cache to which marks are added stands for the history before with one entry more.
+abbrev pub AddsAreEntries : Type 0
+AddsAreEntries = (old new : CacheView) (settings : Settings) (h : History) (ms : List Mark)
+    (now : Time) → StandsForState old settings (state_of settings h)
+    → StandsAfterAll old new ms now → StandsForState new settings
+    (state_of settings (h ++ record { seat = 0; number = 0; marks = ms; now = now } ∷ []))
+
+-- What is clear of a read is clear of each that is at most that.
+abbrev pub ClearOfLess : Type 0
+ClearOfLess = (less read : OwnedTime) (by : Owner) (at : Time) → IsAtMost less read
+    → IsClearOf read by at → IsClearOf less by at
+
+-- Times are in a total order.
+pub record IsOrderOfTimes : Type 0 where
+  pub itself : (t : Time) → is_before t t ≡ false
+  pub opposite : (t u : Time) → is_before t u ≡ true → is_before u t ≡ false
+  pub transitive : (t u v : Time) → is_before t u ≡ true → is_before u v ≡ true
+      → is_before t v ≡ true
+  pub no_earlier : (t u v : Time) → is_before u t ≡ false → is_before v u ≡ false
+      → is_before v t ≡ false
+  pub same : (t u : Time) → is_before t u ≡ false → is_before u t ≡ false → t ≡ u
+
+-- Two tests of times, of which the first stays passed: the earliest time that passes both is found
+-- in turn. It is the earliest that passes the second, from the earliest on that passes the first.
+-- If none passes the second from there on, none passes both.
+pub record EarliestInTurn : Type 0 where
+  pub both : (first second : Time → Bool) (from at next : Time) → Stays (λ t. first t ≡ true)
+      → IsEarliest (λ t. first t ≡ true) from at → IsEarliest (λ t. second t ≡ true) at next
+      → IsEarliest (λ t. (first t && second t) ≡ true) from next
+  pub none : (first second : Time → Bool) (from at : Time)
+      → IsEarliest (λ t. first t ≡ true) from at
+      → TellsEarliest (λ t. second t ≡ true) at None
+      → TellsEarliest (λ t. (first t && second t) ≡ true) from None

@@ -3,7 +3,7 @@ use Rattle.std.specs.Prelude.{◌≡◌, ◌⊎◌, ℕ, List, [], ◌∷◌, �
 use Rattle.tsc_time.specs.Time.{is_before}
 use Rattle.tsc_time.specs.OwnedTime.{OwnedTime}
 use Rattle.tsc_span.specs.Span.{KeyBytes, Cut, before, after, last, is_below, Interval}
-use Rattle.tsc_page_base.specs.PageView.{is_in}
+use Rattle.tsc_page_nodes.specs.PageView.{is_in}
 use Rattle.timestamp_cache.specs.HandOver.{Summary}
 
 -- whether a cut is the place after a key
@@ -12,7 +12,8 @@ is_after (before k) = false
 is_after (after k) = true
 is_after last = false
 
--- where a stretch from a cut on stops, with the least key above it: before the key, or after it where the cut is right before it
+-- where a stretch from a cut on stops, with the least key above it: before the key, or after it
+-- where the cut is right before it
 abbrev pub stretch_end : Cut → Option KeyBytes → Cut
 stretch_end at None = last
 stretch_end at (Some k) = if is_below at (before k) then before k else after k
@@ -21,18 +22,26 @@ stretch_end at (Some k) = if is_below at (before k) then before k else after k
 abbrev pub IsBeside : Cut → Cut → Cut → Type 0
 IsBeside at end c = is_below at c ≡ true → is_below c end ≡ false
 
--- A stretch from one cut up to another, which is no higher than a third: neither side of any of some keys lies between the two, and it goes up to the third or to a side of one of the keys.
+-- A stretch from one cut up to another, which is no higher than a third: neither side of any of
+-- some keys lies between the two, and it goes up to the third or to a side of one of the keys.
 pub record IsStretch (keys : List KeyBytes) (at to end : Cut) : Type 0 where
   pub rises : is_below at end ≡ true
   pub stops : is_below to end ≡ false
-  pub whole : (k : KeyBytes) → is_in k keys ≡ true → IsBeside at end (before k) × IsBeside at end (after k)
-  pub goes_on : (end ≡ to) ⊎ ((k : KeyBytes) × (is_in k keys ≡ true) × ((end ≡ before k) ⊎ (end ≡ after k)))
+  pub whole : (k : KeyBytes) → is_in k keys ≡ true → IsBeside at end (before k) ×
+      IsBeside at end (after k)
+  pub goes_on : (end ≡ to) ⊎ ((k : KeyBytes) × (is_in k keys ≡ true) ×
+      ((end ≡ before k) ⊎ (end ≡ after k)))
 
--- What is told with one stretch more: the same where its value is not above the floor, one mark more where there is room, and else the floor is raised to it.
+-- What is told with one stretch more: the same where its value is not above the floor, one mark
+-- more where there is room, and else the floor is raised to it.
 abbrev pub told_more : ℕ → Summary → Interval → OwnedTime → Summary
 told_more most told span v =
     if is_before told.floor v.time
     then (if nat_lt (length told.marks) most
-    then record { span = told.span; floor = told.floor; marks = told.marks ++ record { span = span; value = v } ∷ [] }
+    then record {
+      span = told.span;
+      floor = told.floor;
+      marks = told.marks ++ record { span = span; value = v } ∷ [];
+    }
     else record { span = told.span; floor = v.time; marks = told.marks })
     else told

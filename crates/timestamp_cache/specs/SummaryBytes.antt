@@ -9,7 +9,7 @@ use Rattle.tsc_time.specs.Time.{Time, is_in_range}
 use Rattle.tsc_time.specs.OwnedTime.{Owner, OwnedTime, IsMadeValue}
 use Rattle.tsc_span.specs.Span.{KeyBytes, Cut, before, after, last, Interval, nothing, between}
 use Rattle.tsc_span.specs.MadeSpan.{IsMadeSpan}
-use Rattle.tsc_page_base.specs.Page.{Mark}
+use Rattle.tsc_page_nodes.specs.Page.{Mark}
 use Rattle.timestamp_cache.specs.HandOver.{Summary}
 
 -- a key: its length, and as many bytes

@@ -8,7 +8,7 @@ use Rattle.tsc_time.specs.Time.{Time, is_in_range}
 use Rattle.tsc_time.specs.OwnedTime.{OwnedTime, owner_of}
 use Rattle.tsc_span.specs.Span.{longest_key, KeyBytes, Cut, before, after, last, is_below, Interval}
 use Rattle.tsc_span.specs.Span.{nothing, between}
-use Rattle.tsc_page_base.specs.Page.{Mark}
+use Rattle.tsc_page_nodes.specs.Page.{Mark}
 use Rattle.timestamp_cache.specs.declared.summary_fault.SummaryFault.{SummaryFault}
 use Rattle.timestamp_cache.specs.declared.summary_fault.SummaryFault.TheVariants.{Version, Length}
 use Rattle.timestamp_cache.specs.declared.summary_fault.SummaryFault.TheVariants.{Checksum, Form}
@@ -49,7 +49,7 @@ abbrev pub byte_at : List ℕ → Part ℕ
 byte_at [] = Err Form
 byte_at (byte ∷ rest) = Ok (byte, rest)
 
--- so many bytes
+-- the next bytes, by their number
 abbrev pub bytes_at : ℕ → List ℕ → Part (List ℕ)
 bytes_at n bytes = if nat_lt (length bytes) n then Err Form else Ok (take n bytes, drop n bytes)
 
@@ -126,7 +126,7 @@ mark_at bytes = do
   value ← value_at span.1
   Ok (record { span = span.0; value = value.0 }, value.1)
 
--- so many marks
+-- the next marks, by their number
 unfoldable pub marks_at : ℕ → List ℕ → Part (List Mark)
 marks_at zero bytes = Ok ([], bytes)
 marks_at (suc n) bytes = do

@@ -6,21 +6,24 @@ use crate::next_time;
 use tsc_time::{Timestamp, Value};
 use uuid::Uuid;
 
-/// Whether a write of a transaction at some time is clear of a read, or of what a lookup answers: that one is
-/// earlier, or it is at the same time and the transaction's own.
+/// Whether a write of a transaction at some time is clear of a read, or of what a lookup answers:
+/// that one is earlier, or it is at the same time and the transaction's own.
 ///
-/// An own read that is later is not passed over: where it is a lookup's answer, an earlier read of another
-/// transaction may lie behind it. Nobody owns a read of the nil UUID, so a writer with that name has to be later than all.
+/// An own read that is later is not passed over: where it is a lookup's answer, an earlier read of
+/// another transaction may lie behind it. Nobody owns a read of the nil UUID, so a writer with that
+/// name has to be later than all.
 pub fn is_clear_of(read: Value, at: Timestamp, by: Uuid) -> bool
     ensures { IsTrue result ↔ IsClearOf read by at }
 {
     read.time() < at || (read.time() == at && read.owner() == Some(by))
 }
 
-/// The earliest time, not before `at`, at which a write of a transaction is clear of a read, or of what a lookup answers; `None`
-/// where there is none, since the read is at the last timestamp and not the transaction's own.
+/// The earliest time, not before `at`, at which a write of a transaction is clear of a read, or of
+/// what a lookup answers; `None` where there is none, since the read is at the last timestamp and
+/// not the transaction's own.
 ///
-/// It is `at` where that is clear, the time of an own read that is later, and else the timestamp after the read's.
+/// It is `at` where that is clear, the time of an own read that is later, and else the timestamp
+/// after the read's.
 pub fn earliest_clear_of(read: Value, at: Timestamp, by: Uuid) -> Option<Timestamp>
     ensures { TellsEarliest (λ t. IsClearOf read by t) at result }
 {

@@ -16,7 +16,8 @@ use tsc_cache::{Added, Cache, CacheFault, Mark, TimestampCache};
 use tsc_span::{Cut, Ends, Key, Span, SpanRef};
 use tsc_time::{NoMemory, Timestamp, Value};
 
-/// What is told of the reads of a span to whoever takes its lease over. How it is sent is the caller's.
+/// What is told of the reads of a span to whoever takes its lease over. How it is sent is the
+/// caller's.
 #[derive(Debug, Drop)]
 pub struct ReadSummary {
     /// What is told of.
@@ -37,10 +38,11 @@ impl Model for ReadSummary {
 
 /// What is told of the reads of a span by a cache, in no more than so many marks.
 ///
-/// It goes over the span from one end key of a mark to the next, and of each key and each gap between two keys it tells what
-/// [`get_max`](Cache::get_max) answers, where that is above the cache's floor. Where there are more of these than `most`, the first ones are told,
-/// and the floor is raised to the latest of the others. It costs a lookup for each of them, and a search in each page for each end key. It takes the memory
-/// of the span's keys and of the marks.
+/// It goes over the span from one end key of a mark to the next, and of each key and each gap
+/// between two keys it tells what [`get_max`](Cache::get_max) answers, where that is above the
+/// cache's floor. Where there are more of these than `most`, the first ones are told, and the floor
+/// is raised to the latest of the others. It costs a lookup for each of them, and a search in each
+/// page for each end key. It takes the memory of the span's keys and of the marks.
 ///
 /// It restates `tscache.Cache.Serialize` of CockroachDB's `pkg/kv/kvserver/tscache`.
 pub fn summary(
@@ -81,7 +83,7 @@ impl ReadSummary {
         let (mut at, to) = cuts;
         while at.is_below(to) {
             let end = stretch_end(cache, at, to);
-            let value = cache.get_max_in(&stretch(at, end));
+            let value = cache.get_max_ref(&stretch(at, end));
             told = told.with(alloc, (at, end), value, most)?;
             at = end;
         }
@@ -97,7 +99,8 @@ impl ReadSummary {
         most: usize,
     ) -> Result<ReadSummary, NoMemory>
         requires order { is_below (cut_of cuts.0) (cut_of cuts.1) ≡ true }
-        ensures { IfOk result (λ told. told ≡ told_more most self (between (cut_of cuts.entry.0) (cut_of cuts.entry.1)) value) }
+        ensures { IfOk result (λ told. told ≡ told_more most self
+            (between (cut_of cuts.entry.0) (cut_of cuts.entry.1)) value) }
     {
         if self.floor < value.time() {
             if self.marks.len() < most {
@@ -123,24 +126,34 @@ impl ReadSummary {
     }
 }
 
-/// Adds what a summary tells to a cache, at the moment `now`: all of it or nothing. From then on no answer on the summary's span is below what the summary
-/// tells there, so a write that is clear of an answer is clear of each read that the summary was made of.
+/// Adds what a summary tells to a cache, at the moment `now`: all of it or nothing. From then on no
+/// answer on the summary's span is below what the summary tells there, so a write that is clear of
+/// an answer is clear of each read that the summary was made of.
 ///
-/// It is one [`add_all`](Cache::add_all) of the whole span at the summary's floor, without an owner, and of the summary's marks, and is refused
-/// where that is. Where none of them is kept nothing changes, and no memory is taken; else it takes that of the marks once more.
+/// It is one [`add_all`](Cache::add_all) of the whole span at the summary's floor, without an
+/// owner, and of the summary's marks, and is refused where that is. Where none of them is kept
+/// nothing changes, and no memory is taken; else it takes that of the marks once more.
 ///
-/// It restates `applyReadSummaryToTimestampCache` of CockroachDB's `pkg/kv/kvserver/replica_tscache.go`.
+/// It restates `applyReadSummaryToTimestampCache` of CockroachDB's
+/// `pkg/kv/kvserver/replica_tscache.go`.
 pub fn apply(cache: &mut Cache, summary: &ReadSummary, now: Timestamp) -> Result<Added, CacheFault>
-    ensures stands { OnOk result ((settings : Settings) (s : CacheState) → StandsForState cache.old settings s
-        → StandsForState cache.new settings (step_all settings s (marks_told summary.now) now).state) }
-    ensures takes_over { OnOk result ((settings : Settings) (s : CacheState) → StandsForState cache.old settings s
+    ensures stands { OnOk result ((settings : Settings) (s : CacheState) →
+        StandsForState cache.old settings s
+        → StandsForState cache.new settings
+        (step_all settings s (marks_told summary.now) now).state) }
+    ensures takes_over { OnOk result
+        ((settings : Settings) (s : CacheState) → StandsForState cache.old settings s
         → TakesOver s (step_all settings s (marks_told summary.now) now).state summary.now) }
-    ensures added { IfOk result (λ added. (settings : Settings) (s : CacheState) → StandsForState cache.old settings s
+    ensures added { IfOk result (λ added. (settings : Settings) (s : CacheState) →
+        StandsForState cache.old settings s
         → added ≡ (step_all settings s (marks_told summary.now) now).added) }
-    ensures seen { IfOk result (λ added. AddsAll cache.old cache.new (marks_told summary.now) now added) }
-    ensures too_large { IsErrOf result CacheFault.TooLarge ↔ (all_fit cache.old.settings (marks_told summary.now) ≡ false) }
+    ensures seen { IfOk result (λ added. AddsAll cache.old cache.new (marks_told summary.now) now
+        added) }
+    ensures too_large { IsErrOf result CacheFault.TooLarge ↔
+        (all_fit cache.old.settings (marks_told summary.now) ≡ false) }
     ensures unchanged { OnErr result (cache.new ≡ cache.old) }
-    ensures memory { all_fit cache.old.settings (marks_told summary.now) ≡ true → is_any_kept cache.old.floor (marks_told summary.now) ≡ false → IsOk result }
+    ensures memory { all_fit cache.old.settings (marks_told summary.now) ≡ true →
+        is_any_kept cache.old.floor (marks_told summary.now) ≡ false → IsOk result }
 {
     if !fits_all(cache, summary) {
         return Err(CacheFault::TooLarge);
@@ -156,16 +169,19 @@ pub fn apply(cache: &mut Cache, summary: &ReadSummary, now: Timestamp) -> Result
     cache.add_all(&marks, now)
 }
 
-/// Where the stretch from a cut on stops: at the next side of an end key, or at a third cut if that is lower.
+/// Where the stretch from a cut on stops: at the next side of an end key, or at a third cut if that
+/// is lower.
 fn stretch_end<'a>(cache: &'a Cache, at: Cut<'a>, to: Cut<'a>) -> Cut<'a>
     requires { is_below (cut_of at) (cut_of to) ≡ true }
-    ensures { IsStretch (keys_seen cache.now.pages) (cut_of at.entry) (cut_of to.entry) (cut_of result) }
+    ensures { IsStretch (keys_seen cache.now.pages) (cut_of at.entry) (cut_of to.entry)
+        (cut_of result) }
 {
     let end = end_of(at, cache.key_above(at));
     if end.is_below(to) { end } else { to }
 }
 
-/// Where the stretch from a cut on stops by the least key above it: at the first side of the key that is above the cut.
+/// Where the stretch from a cut on stops by the least key above it: at the first side of the key
+/// that is above the cut.
 fn end_of<'a>(at: Cut<'a>, key: Option<&'a Key>) -> Cut<'a>
     ensures { cut_of result ≡ stretch_end (cut_of at.entry) (option_map (λ k. k.now) key.entry) }
 {

@@ -1,26 +1,33 @@
-//! A timestamp cache, for those who embed one in a store: all that a store's author uses, at one path.
+//! A timestamp cache, for those who embed one in a store: all that a store's author uses, at one
+//! path.
 //!
-//! Whoever holds the lease of a range keeps a [`Cache`] of its reads, or a [`SharedCache`] where several threads serve it. Each
-//! read adds its span, its time and its transaction. A write asks before it lays down anything: [`may_write`] says whether
-//! it is clear of the reads so far, and [`earliest_write`] to which time it has to be pushed, so that no read that was
-//! answered is made wrong behind its back. [`may_write_at`] and [`earliest_write_at`] ask for a seat of a shared cache.
+//! Whoever holds the lease of a range keeps a [`Cache`] of its reads, or a [`SharedCache`] where
+//! several threads serve it. Each read adds its span, its time and its transaction. A write asks
+//! before it lays down anything: [`may_write`] says whether it is clear of the reads so far, and
+//! [`earliest_write`] to which time it has to be pushed, so that no read that was answered is made
+//! wrong behind its back. [`may_write_at`] and [`earliest_write_at`] ask for a seat of a shared
+//! cache.
 //!
-//! Where the lease goes on to somebody else, [`summary`] tells what was read of a span, in as many marks as are to be sent, and [`apply`] adds it to the
-//! cache of the new holder.
+//! Where the lease goes on to somebody else, [`summary`] tells what was read of a span, in as many
+//! marks as are to be sent, and [`apply`] adds it to the cache of the new holder.
 //!
-//! A span that is sent is taken apart by its [`cuts`](Span::cuts), of which each [`Cut`] has a key or is above all keys. A [`Gate`] is told when an Add
-//! of a shared cache is about to be published, so that a test can hold it up; [`NoGate`] holds nobody up.
+//! A span that is sent is taken apart by its [`cuts`](Span::cuts), of which each [`Cut`] has a key
+//! or is above all keys. A [`Gate`] is told when an Add of a shared cache is about to be published,
+//! so that a test can hold it up; [`NoGate`] holds nobody up.
 //!
-//! The limits are [`LONGEST_KEY`], in bytes, [`LEAST_SIZE`] and [`MOST_SIZE`] of a page, [`LEAST_MIN_PAGES`] and [`MOST_MIN_PAGES`], and
-//! [`LONGEST_RETENTION`], in nanoseconds.
+//! The limits are [`LONGEST_KEY`], in bytes, [`LEAST_SIZE`] and [`MOST_SIZE`] of a page,
+//! [`LEAST_MIN_PAGES`] and [`MOST_MIN_PAGES`], and [`LONGEST_RETENTION`], in nanoseconds.
 //!
-//! For who runs it, [`Cache::figures`] tells how many pages there are, how often they rotated, how many end keys they hold and what these
-//! cost, and where the floor stands, as [`Figures`]; [`SharedCache::figures`] tells the same of what a seat was shown, as [`SeatFigures`].
+//! For who runs it, [`Cache::figures`] tells how many pages there are, how often they rotated, how
+//! many end keys they hold and what these cost, and where the floor stands, as [`Figures`];
+//! [`SharedCache::figures`] tells the same of what a seat was shown, as [`SeatFigures`].
 //!
-//! Contracts over this crate speak of keys, times, histories and seats by the definitions in `specs/`, of which `Words` has those of the crates below.
+//! Contracts over this crate speak of keys, times, histories and seats by the definitions in
+//! `specs/`, of which `Words` has those of the crates below.
 //!
-//! The rule is that of CockroachDB's `applyTimestampCache` (`pkg/kv/kvserver/replica_tscache.go`): a write goes above each read of its
-//! keys, save those of its own transaction. A write that is clear of what a lookup answers is clear of each read that was added.
+//! The rule is that of CockroachDB's `applyTimestampCache` (`pkg/kv/kvserver/replica_tscache.go`):
+//! a write goes above each read of its keys, save those of its own transaction. A write that is
+//! clear of what a lookup answers is clear of each read that was added.
 #![tactic(auto)]
 
 mod clear;
@@ -37,10 +44,10 @@ pub use hand_over::{ReadSummary, apply, summary};
 pub use next::next_time;
 pub use summary_fault::SummaryFault;
 pub use tsc_cache::{
-    Added, Cache, CacheFault, Config, ConfigFault, Figures, LEAST_MIN_PAGES, LONGEST_RETENTION,
-    MOST_MIN_PAGES, Mark, TimestampCache,
+    AddBetweenFault, Added, Cache, CacheFault, Config, ConfigFault, Figures, LEAST_MIN_PAGES,
+    LONGEST_RETENTION, MOST_MIN_PAGES, Mark, TimestampCache,
 };
-pub use tsc_page_base::{LEAST_SIZE, MOST_SIZE};
+pub use tsc_page_nodes::{LEAST_SIZE, MOST_SIZE};
 pub use tsc_shared::{
     AddFault, Answer, Closed, Front, Gate, Gone, LowWater, NoGate, OpenFault, Receipt, Seat,
     SeatFigures, SharedCache, StillOut, TryAddFault,

@@ -4,7 +4,8 @@ ghost use Rattle.timestamp_cache.specs.Earliest.{TellsEarliest};
 
 use tsc_time::Timestamp;
 
-/// The first timestamp after this one, or `None` after the last: `Timestamp.Next` of CockroachDB's `pkg/util/hlc`.
+/// The first timestamp after this one, or `None` after the last: `Timestamp.Next` of CockroachDB's
+/// `pkg/util/hlc`.
 ///
 /// It has one logical count more, or where that was the greatest the next nanosecond.
 pub fn next_time(time: Timestamp) -> Option<Timestamp>

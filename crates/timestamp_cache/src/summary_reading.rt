@@ -124,7 +124,7 @@ impl<'a> Reader<'a> {
         self.marks(alloc, count)
     }
 
-    /// So many marks.
+    /// The next `count` marks.
     fn marks(&mut self, alloc: Global, count: u64) -> Result<Vec<Mark>, SummaryFault>
         ensures { GivesPart (λ marks. marks.items) result self.new.rest.now
             (marks_at count self.old.rest.now) }
@@ -245,7 +245,7 @@ impl<'a> Reader<'a> {
         }
     }
 
-    /// So many bytes.
+    /// The next `len` bytes.
     fn bytes(&mut self, len: usize) -> Result<&'a [u8], SummaryFault>
         ensures { GivesPart (λ bytes. bytes.now) result self.new.rest.now
             (bytes_at len self.old.rest.now) }

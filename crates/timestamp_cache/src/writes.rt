@@ -12,19 +12,23 @@ use tsc_span::Span;
 use tsc_time::Timestamp;
 use uuid::Uuid;
 
-/// Whether a transaction may write a span at some time: whether that is clear of what a lookup of the span answers.
+/// Whether a transaction may write a span at some time: whether that is clear of what a lookup of
+/// the span answers.
 ///
-/// Then it is clear of each read on the span that was added so far, also of one whose page is gone. Where it isn't, the transaction
-/// may still be pushed, to the time that [`earliest_write`] tells. It costs a lookup, and takes no memory.
+/// Then it is clear of each read on the span that was added so far, also of one whose page is gone.
+/// Where it isn't, the transaction may still be pushed, to the time that [`earliest_write`] tells.
+/// It costs a lookup, and takes no memory.
 pub fn may_write(cache: &Cache, span: &Span, at: Timestamp, by: Uuid) -> bool
     ensures value { IsTrue result ↔ IsClearOf (cache_answer cache.now span.now) by at }
-    ensures reads { IsTrue result → (settings : Settings) (h : History) → StandsForState cache.now settings (state_of settings h) → IsClearOfReads h span.now by at }
+    ensures reads { IsTrue result → (settings : Settings) (h : History) →
+        StandsForState cache.now settings (state_of settings h) → IsClearOfReads h span.now by at }
 {
     is_clear_of(cache.get_max(span), at, by)
 }
 
-/// As [`may_write`], for a seat of a shared cache: whether the write is clear of what a lookup by the seat answers. The seat has
-/// then seen the history that is answered from, and the write is clear of each read on the span in it.
+/// As [`may_write`], for a seat of a shared cache: whether the write is clear of what a lookup by
+/// the seat answers. The seat has then seen the history that is answered from, and the write is
+/// clear of each read on the span in it.
 ///
 /// It waits for nobody, takes no memory, and is never [`Gone`].
 pub fn may_write_at(
@@ -42,13 +46,16 @@ pub fn may_write_at(
     Ok(is_clear_of(answer.value, at, by))
 }
 
-/// The earliest time, not before `at`, at which a transaction may write all of these spans: at which it is clear of what a lookup
-/// of each answers. It is `None` where no timestamp is.
+/// The earliest time, not before `at`, at which a transaction may write all of these spans: at
+/// which it is clear of what a lookup of each answers. It is `None` where no timestamp is.
 ///
-/// It is then clear of each read on one of the spans that was added so far. It costs a lookup for each span, and takes no memory.
+/// It is then clear of each read on one of the spans that was added so far. It costs a lookup for
+/// each span, and takes no memory.
 pub fn earliest_write(cache: &Cache, spans: &[Span], at: Timestamp, by: Uuid) -> Option<Timestamp>
     ensures earliest { TellsEarliest (λ t. IsClearOfAnswers cache.now spans.now by t) at result }
-    ensures reads { IfSome result (λ t. (settings : Settings) (h : History) → StandsForState cache.now settings (state_of settings h) → IsClearOfAllReads h spans.now by t) }
+    ensures reads { IfSome result (λ t. (settings : Settings) (h : History) →
+        StandsForState cache.now settings (state_of settings h) →
+        IsClearOfAllReads h spans.now by t) }
 {
     let mut time = at;
     for span in spans {
@@ -79,7 +86,8 @@ pub fn earliest_write_at(
     requires cache { seat.old.cache ≡ cache.now }
     ensures answered { IsOk result }
     ensures asked { IfOk result (λ told. AsksOfAllAt seat.old seat.new spans.now by at told) }
-    ensures reads { IfOk result (λ told. IfSome told (λ t. IsClearOfAllReads seat.old.seen spans.now by t)) }
+    ensures reads { IfOk result (λ told. IfSome told
+        (λ t. IsClearOfAllReads seat.old.seen spans.now by t)) }
 {
     let _number = seat.number();
     let mut time = at;
@@ -92,7 +100,8 @@ pub fn earliest_write_at(
     Ok(Some(time))
 }
 
-/// The earliest time, not before `at`, at which a write of one span is clear of what a lookup by the seat answers.
+/// The earliest time, not before `at`, at which a write of one span is clear of what a lookup by
+/// the seat answers.
 fn earliest_of_one(
     cache: &SharedCache,
     seat: &mut Seat,

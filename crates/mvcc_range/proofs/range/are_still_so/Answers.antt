@@ -1,3 +1,4 @@
+-- Proves the contract of `are_still_so`. Whether some reads are still what is there as of a time.
 use Rattle.std.proofs.Common.{◌≡◌, ◌+◌, refl, sym, subst, take, true, false}
 use Rattle.std.specs.List.{All}
 use Rattle.std.proofs.lemmas.Bool.{both_ways}

@@ -1,3 +1,5 @@
+-- Proves the loop invariants of `are_still_so`. Whether some reads are still what is there as of a
+-- time.
 use Rattle.std.proofs.Common.{take}
 use Rattle.std.specs.List.{All}
 use Rattle.mvcc_versions.specs.Versions.{as_of, Matches}

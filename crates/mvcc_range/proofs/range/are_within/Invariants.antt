@@ -1,3 +1,4 @@
+-- Proves the loop invariants of `are_within`. Whether each key that is written lies in a span.
 use Rattle.std.proofs.Common.{◌≡◌, drop}
 use Rattle.mvcc_versions.specs.Versions.{are_within}
 use Rattle.mvcc_range.proofs.range.are_within.Given as goal

@@ -1,3 +1,4 @@
+-- Proves the contract of `free_time`. The earliest time, from one on, that is free for writes.
 use Rattle.std.proofs.Common.{rules, sym}
 use Rattle.mvcc_range.proofs.Times.{none_yet, one_more_key, no_more_keys, all_keys}
 use Rattle.mvcc_range.proofs.range.free_time.Goals as goal

@@ -1,3 +1,5 @@
+-- Proves the loop invariants of `free_time`. The earliest time, from one on, that is free for
+-- writes.
 use Rattle.std.proofs.Common.{take}
 use Rattle.timestamp_cache.specs.Earliest.{IsEarliest}
 use Rattle.mvcc_range.proofs.Times.{AreFreeOf}

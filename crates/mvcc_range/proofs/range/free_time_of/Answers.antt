@@ -1,3 +1,5 @@
+-- Proves the contract of `free_time_of`. The earliest time, from one on, that is free of a key that
+-- is written.
 use Rattle.std.proofs.Common.{◌≡◌, ap, sym, subst}
 use Rattle.std.specs.Prelude.{option_map}
 use Rattle.timestamp_cache.specs.Words.{KeyBytes}

@@ -1,3 +1,4 @@
+-- Proves the contract of `add_chain`. Adds a chain without versions for a key that has none.
 use Rattle.std.proofs.Common.{subst, Some, List, []}
 use Rattle.std.specs.BTreeMap.{Updates}
 use Rattle.tsc_span.specs.Span.{key_cmp}

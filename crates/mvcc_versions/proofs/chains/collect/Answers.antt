@@ -1,3 +1,5 @@
+-- Proves the contract of `collect`. Drops the versions of each key that are of no use from a time
+-- on, and the keys that have none left.
 use Rattle.std.proofs.Common.{rules}
 use Rattle.mvcc_versions.proofs.Dropping.{retained}
 use Rattle.mvcc_versions.proofs.chains.collect.Goals as goal

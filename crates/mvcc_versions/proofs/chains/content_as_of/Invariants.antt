@@ -1,3 +1,4 @@
+-- Proves the loop invariants of `content_as_of`. What a key has as of a time, by its versions.
 use Rattle.std.proofs.Common.{◌≡◌}
 use Rattle.mvcc_versions.specs.Versions.{content_as_of}
 use Rattle.mvcc_versions.proofs.chains.content_as_of.Given as goal

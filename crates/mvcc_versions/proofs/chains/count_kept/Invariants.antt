@@ -1,3 +1,4 @@
+-- Proves the loop invariants of `count_kept`. How many versions of a key are of use from a time on.
 use Rattle.std.proofs.Common.{◌≡◌, ◌+◌, ◌++◌, take, length}
 use Rattle.mvcc_versions.specs.Versions.{kept_from}
 use Rattle.mvcc_versions.proofs.chains.count_kept.Given as goal

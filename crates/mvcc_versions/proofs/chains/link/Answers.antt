@@ -1,3 +1,4 @@
+-- Proves the contract of `link`. Puts a version at the front of a key's chain.
 use Rattle.std.proofs.Common.{◌≡◌, ◌++◌, refl, sym, subst, Some, List}
 use Rattle.std.specs.Prelude.{IsSome}
 use Rattle.std.specs.BTreeMap.{get, Updates}

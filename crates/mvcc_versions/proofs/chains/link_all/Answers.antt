@@ -1,3 +1,5 @@
+-- Proves the contract of `link_all`. Lays down versions that were made for writes, each at the
+-- front of its key's chain.
 use Rattle.std.proofs.Common.{◌≡◌, ◌∙◌, ◌∷◌, ◌+◌, ap, sym, subst, drop, [], Some, List}
 use Rattle.std.specs.BTreeMap.{BTreeMap}
 use Rattle.timestamp_cache.specs.Words.{KeyBytes}

@@ -1,3 +1,5 @@
+-- Proves the loop invariants of `link_all`. Lays down versions that were made for writes, each at
+-- the front of its key's chain.
 use Rattle.std.proofs.Common.{◌≡◌, drop, length}
 use Rattle.timestamp_cache.specs.Words.{KeyBytes}
 use Rattle.mvcc_versions.specs.Versions.{chain_of, laid}

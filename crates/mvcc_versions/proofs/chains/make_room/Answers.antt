@@ -1,3 +1,5 @@
+-- Proves the contract of `make_room`. Makes a chain, where there is none, for each key that is
+-- written, so that `link_all` needs no memory.
 use Rattle.std.proofs.Common.{◌∙◌, sym, subst, take, length, List}
 use Rattle.mvcc_versions.specs.Versions.{Write}
 use Rattle.mvcc_versions.specs.Maps.{HaveRoom}

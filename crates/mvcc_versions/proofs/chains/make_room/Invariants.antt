@@ -1,3 +1,5 @@
+-- Proves the loop invariants of `make_room`. Makes a chain, where there is none, for each key that
+-- is written, so that `link_all` needs no memory.
 use Rattle.std.proofs.Common.{◌≡◌, take, length}
 use Rattle.timestamp_cache.specs.Words.{KeyBytes}
 use Rattle.mvcc_versions.specs.Versions.{chain_of}

@@ -1,3 +1,5 @@
+-- Proves the loop invariants of `nodes_of`. The versions that writes lay down at a time, each as a
+-- chain of its own.
 use Rattle.std.proofs.Common.{◌≡◌, ◌++◌, drop}
 use Rattle.mvcc_versions.specs.Maps.{nodes_of}
 use Rattle.mvcc_versions.proofs.chains.nodes_of.Given as goal

@@ -1,3 +1,5 @@
+-- Proves the contract of `time_after`. The earliest time, from one on, that is later than the last
+-- write of a key.
 use Rattle.std.proofs.Common.{subst, Option}
 use Rattle.timestamp_cache.specs.Words.{Time}
 use Rattle.timestamp_cache.specs.Earliest.{TellsEarliest}

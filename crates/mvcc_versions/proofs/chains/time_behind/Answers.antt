@@ -1,3 +1,4 @@
+-- Proves the contract of `time_behind`. The earliest time, from one on, that is later than another.
 use Rattle.std.proofs.Common.{rules}
 use Rattle.mvcc_versions.proofs.Times.{already_after, after_next}
 use Rattle.mvcc_versions.proofs.chains.time_behind.Goals as goal

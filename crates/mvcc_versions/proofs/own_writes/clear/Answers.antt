@@ -1,3 +1,5 @@
+-- Proves the contract of `clear`. Takes a key's row away, if it has one, and answers where its
+-- place is.
 use Rattle.std.proofs.Common.{◌≡◌, ◌∙◌, ap, true, false, length, arith}
 use Rattle.std.specs.List.{remove}
 use Rattle.std.specs.Prelude.{None}

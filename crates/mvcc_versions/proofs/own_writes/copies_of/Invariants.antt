@@ -1,3 +1,4 @@
+-- Proves the loop invariants of `copies_of`. A copy of some rows.
 use Rattle.std.proofs.Common.{◌≡◌, ◌++◌, drop}
 use Rattle.mvcc_versions.proofs.own_writes.copies_of.Given as goal
 

@@ -1,3 +1,4 @@
+-- Proves the contract of `is_there`. Whether the row at a key's place is its own.
 use Rattle.std.proofs.Common.{◌<◌, ◌∙◌, sym, ap, ℕ, length, get_or, arith}
 use Rattle.std.specs.Str.{bytes_eq}
 use Rattle.mvcc_versions.specs.Versions.{Row}

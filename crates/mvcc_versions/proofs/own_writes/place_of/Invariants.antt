@@ -1,3 +1,4 @@
+-- Proves the loop invariants of `place_of`. How many rows have a lower key.
 use Rattle.std.proofs.Common.{◌≡◌, ◌+◌, ◌≤◌, drop}
 use Rattle.mvcc_versions.specs.OwnRows.{place_of}
 use Rattle.mvcc_versions.proofs.own_writes.place_of.Given as goal

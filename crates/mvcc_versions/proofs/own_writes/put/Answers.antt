@@ -1,3 +1,4 @@
+-- Proves the contract of `put`. Puts what a key has in place of what rows say of it.
 use Rattle.std.proofs.Common.{◌∙◌, sym, ap, ℕ, List}
 use Rattle.std.specs.Prelude.{None, option_map}
 use Rattle.std.specs.List.{insert}

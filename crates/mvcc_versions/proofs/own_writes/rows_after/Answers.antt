@@ -1,3 +1,5 @@
+-- Proves the contract of `rows_after`. The rows of a read with writes put over them, one after
+-- another.
 use Rattle.std.proofs.Common.{◌≡◌, ◌∙◌, ap, sym, subst, List}
 use Rattle.std.proofs.lemmas.Result.{IfOk-weaker}
 use Rattle.timestamp_cache.specs.Words.{Interval}

@@ -1,3 +1,4 @@
+-- Proves the loop invariants of `rows_over`. Some rows of a span with writes put over them.
 use Rattle.std.proofs.Common.{◌≡◌, drop}
 use Rattle.mvcc_versions.specs.OwnRows.{put_writes}
 use Rattle.mvcc_versions.proofs.own_writes.rows_over.Given as goal

@@ -1,3 +1,5 @@
+-- Proves the contract of `is_scan_still_so`. Whether a read of several keys is still what is there
+-- as of a time.
 use Rattle.std.proofs.Common.{◌≡◌, ◌∙◌, sym, subst, List}
 use Rattle.mvcc_versions.specs.Versions.{Row, Read, as_of, Matches}
 use Rattle.mvcc_versions.proofs.RowsAsOf.{matches_once}

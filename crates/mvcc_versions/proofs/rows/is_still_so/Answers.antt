@@ -1,4 +1,5 @@
-use Rattle.std.proofs.Common.{◌≡◌, ◌∙◌, sym, subst}
+-- Proves the contract of `is_still_so`. Whether a read is still what is there as of a time.
+use Rattle.std.proofs.Common.{◌∙◌, sym, subst}
 use Rattle.std.specs.Prelude.{option_map}
 use Rattle.mvcc_versions.specs.Versions.{Read, as_of, Matches}
 use Rattle.mvcc_versions.proofs.RowsAsOf.{key_still}

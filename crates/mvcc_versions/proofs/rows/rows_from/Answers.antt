@@ -1,3 +1,5 @@
+-- Proves the contract of `rows_from`. The rows of a span, whose first end key is given, as of a
+-- time.
 use Rattle.std.proofs.Common.{
   ◌≡◌,
   ◌∙◌,

@@ -1,3 +1,5 @@
+-- Proves the loop invariants of `rows_from`. The rows of a span, whose first end key is given, as
+-- of a time.
 use Rattle.std.proofs.Common.{◌≡◌, ◌++◌}
 use Rattle.mvcc_versions.specs.RowsIn.{rows_in}
 use Rattle.mvcc_versions.proofs.RowsAsOf.{AreSorted}

@@ -1,4 +1,5 @@
-use Rattle.std.proofs.Common.{◌≡◌, sym, subst, List}
+-- Proves the contract of `rows_of_key`. The row of a key as of a time, if it has something then.
+use Rattle.std.proofs.Common.{sym, subst, List}
 use Rattle.std.specs.Prelude.{option_map}
 use Rattle.timestamp_cache.specs.Words.{point}
 use Rattle.mvcc_versions.specs.Versions.{Row, as_of, Matches}

@@ -1,3 +1,4 @@
+-- Proves the loop invariants of `same_rows`. Whether some rows are the same.
 use Rattle.std.proofs.Common.{◌≡◌, take}
 use Rattle.mvcc_versions.proofs.rows.same_rows.Given as goal
 

@@ -1,6 +1,6 @@
 -- Where no mark is kept nothing changes, and else all that is told is added at once.
 use Rattle.std.proofs.Common.{◌≡◌, subst, List, false, IfOk, OnOk, rules}
-use Rattle.tsc_page_base.specs.Page.{Mark}
+use Rattle.tsc_page_nodes.specs.Page.{Mark}
 use Rattle.tsc_cache.specs.declared.added.Added.{Added}
 use Rattle.tsc_cache.specs.Settings.{Settings}
 use Rattle.tsc_cache.specs.State.{CacheState, step_all, not_kept}
@@ -13,31 +13,42 @@ use Rattle.timestamp_cache.proofs.hand_over.apply.Goals as goal
 
 pub returns-then-not-is_any_kept-clause-seen : goal.returns-then-not-is_any_kept-clause-seen
 returns-then-not-is_any_kept-clause-seen c =
-    let none : is_any_kept c.args.cache.now.floor (marks_told c.args.summary.now) ≡ false = search rules in
+    let none : is_any_kept c.args.cache.now.floor (marks_told c.args.summary.now) ≡ false =
+    search rules in
     none_adds c.args.cache.now (marks_told c.args.summary.now) c.args.now none
 
 pub returns-then-not-is_any_kept-clause-stands : goal.returns-then-not-is_any_kept-clause-stands
 returns-then-not-is_any_kept-clause-stands c settings s stands =
-    (adds_all_stands c.args.cache.now c.args.cache.now (marks_told c.args.summary.now) c.args.now not_kept (returns-then-not-is_any_kept-clause-seen c) settings s stands).0
+    (adds_all_stands c.args.cache.now c.args.cache.now (marks_told c.args.summary.now) c.args.now
+    not_kept (returns-then-not-is_any_kept-clause-seen c) settings s stands).0
 
 pub returns-then-not-is_any_kept-clause-added : goal.returns-then-not-is_any_kept-clause-added
 returns-then-not-is_any_kept-clause-added c settings s stands =
-    (adds_all_stands c.args.cache.now c.args.cache.now (marks_told c.args.summary.now) c.args.now not_kept (returns-then-not-is_any_kept-clause-seen c) settings s stands).1
+    (adds_all_stands c.args.cache.now c.args.cache.now (marks_told c.args.summary.now) c.args.now
+    not_kept (returns-then-not-is_any_kept-clause-seen c) settings s stands).1
 
-pub returns-then-not-is_any_kept-clause-takes_over : goal.returns-then-not-is_any_kept-clause-takes_over
-returns-then-not-is_any_kept-clause-takes_over c settings s stands = takes_over settings s c.args.summary.now c.args.now
+pub returns-then-not-is_any_kept-clause-takes_over :
+    goal.returns-then-not-is_any_kept-clause-takes_over
+returns-then-not-is_any_kept-clause-takes_over c settings s stands =
+    takes_over settings s c.args.summary.now c.args.now
 
 pub returns-clause-takes_over : goal.returns-clause-takes_over
-returns-clause-takes_over c = where_ok c.add_all.result _ (λ settings s stands. takes_over settings s c.args.summary.now c.args.now)
+returns-clause-takes_over c = where_ok c.add_all.result _
+    (λ settings s stands. takes_over settings s c.args.summary.now c.args.now)
 
 pub returns-clause-stands : goal.returns-clause-stands
 returns-clause-stands c =
     let all : c.deref.result.now ≡ marks_told c.args.summary.now = search rules in
-    subst (λ (ms : List Mark). OnOk c.add_all.result ((settings : Settings) (s : CacheState) → StandsForState c.args.cache.now settings s → StandsForState c.add_all.new.self settings (step_all settings s ms c.args.now).state)) all
+    subst (λ (ms : List Mark). OnOk c.add_all.result
+    ((settings : Settings) (s : CacheState) → StandsForState c.args.cache.now settings s →
+    StandsForState c.add_all.new.self settings (step_all settings s ms c.args.now).state)) all
     c.add_all.ensures.stands
 
 pub returns-clause-added : goal.returns-clause-added
 returns-clause-added c =
     let all : c.deref.result.now ≡ marks_told c.args.summary.now = search rules in
-    subst (λ (ms : List Mark). IfOk c.add_all.result (λ (a : Added). (settings : Settings) (s : CacheState) → StandsForState c.args.cache.now settings s → a ≡ (step_all settings s ms c.args.now).added)) all
+    subst (λ (ms : List Mark). IfOk c.add_all.result
+    (λ (a : Added). (settings : Settings) (s : CacheState) →
+    StandsForState c.args.cache.now settings s →
+    a ≡ (step_all settings s ms c.args.now).added)) all
     c.add_all.ensures.added

@@ -6,4 +6,5 @@ use Rattle.timestamp_cache.proofs.hand_over.fits_all.Given as goal
 
 abbrev pub invariant-loop-mark : goal.invariant-loop-mark
 invariant-loop-mark l =
-    all_fit l.cache.settings (drop l.mark-index l.summary.marks) ≡ all_fit l.cache.settings (marks_told l.summary)
+    all_fit l.cache.settings (drop l.mark-index l.summary.marks) ≡ all_fit l.cache.settings
+    (marks_told l.summary)

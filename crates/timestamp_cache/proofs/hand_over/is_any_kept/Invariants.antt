@@ -5,4 +5,5 @@ use Rattle.timestamp_cache.specs.HandOver.{marks_told}
 use Rattle.timestamp_cache.proofs.hand_over.is_any_kept.Given as goal
 
 abbrev pub invariant-loop-mark : goal.invariant-loop-mark
-invariant-loop-mark l = is_any_kept l.floor (drop l.mark-index l.summary.marks) ≡ is_any_kept l.floor (marks_told l.summary)
+invariant-loop-mark l = is_any_kept l.floor (drop l.mark-index l.summary.marks) ≡
+    is_any_kept l.floor (marks_told l.summary)

@@ -6,4 +6,5 @@ use Rattle.timestamp_cache.proofs.Within.{none_above_last}
 use Rattle.timestamp_cache.proofs.hand_over.start_of.Goals as goal
 
 pub unreachable-requires : goal.unreachable-requires
-unreachable-requires c = both_ways (is_below last (cut_of c.args.to)) (none_above_last (cut_of c.args.to)) (rw c.in-Last.is at c.requires)
+unreachable-requires c = both_ways (is_below last (cut_of c.args.to))
+    (none_above_last (cut_of c.args.to)) (rw c.in-Last.is at c.requires)

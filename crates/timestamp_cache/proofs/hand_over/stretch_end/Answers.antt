@@ -7,10 +7,14 @@ use Rattle.timestamp_cache.proofs.hand_over.stretch_end.Goals as goal
 
 pub returns-then-is_below : goal.returns-then-is_below
 returns-then-is_below c =
-    stretch_to_key (keys_seen c.args.cache.now.pages) (cut_of c.args.at) (cut_of c.args.to) (cut_of c.end_of-end.result) (option_map (λ k. k.now) c.key_above.result)
-    c.requires c.key_above.ensures.value c.end_of-end.ensures (sym c.is_below.ensures ∙ c.if-is_below.true)
+    stretch_to_key (keys_seen c.args.cache.now.pages) (cut_of c.args.at) (cut_of c.args.to)
+    (cut_of c.end_of-end.result) (option_map (λ k. k.now) c.key_above.result)
+    c.requires c.key_above.ensures.value c.end_of-end.ensures
+    (sym c.is_below.ensures ∙ c.if-is_below.true)
 
 pub returns-else-is_below : goal.returns-else-is_below
 returns-else-is_below c =
-    stretch_to_third (keys_seen c.args.cache.now.pages) (cut_of c.args.at) (cut_of c.args.to) (cut_of c.end_of-end.result) (option_map (λ k. k.now) c.key_above.result)
-    c.requires c.key_above.ensures.value c.end_of-end.ensures (sym c.is_below.ensures ∙ c.if-is_below.false)
+    stretch_to_third (keys_seen c.args.cache.now.pages) (cut_of c.args.at) (cut_of c.args.to)
+    (cut_of c.end_of-end.result) (option_map (λ k. k.now) c.key_above.result)
+    c.requires c.key_above.ensures.value c.end_of-end.ensures
+    (sym c.is_below.ensures ∙ c.if-is_below.false)

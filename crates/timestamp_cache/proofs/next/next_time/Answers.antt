@@ -1,3 +1,4 @@
+-- Proves the contract of `next_time`. The first timestamp after this one, or `None` after the last.
 use Rattle.std.proofs.Common.{rules}
 use Rattle.timestamp_cache.proofs.next.next_time.Goals as goal
 

@@ -1,3 +1,4 @@
+-- Proves the contract of `put_cut`. Appends a place between keys.
 use Rattle.std.proofs.Common.{rules}
 use Rattle.timestamp_cache.proofs.summary_writing.put_cut.Goals as goal
 

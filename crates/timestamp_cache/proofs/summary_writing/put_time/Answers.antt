@@ -1,3 +1,4 @@
+-- Proves the contract of `put_time`. Appends a time.
 use Rattle.std.proofs.Common.{◌≡◌, ◌++◌, rules}
 use Rattle.std.specs.Int.{w32, w64, to_be_bytes}
 use Rattle.timestamp_cache.proofs.SummaryMarks.{in_two}

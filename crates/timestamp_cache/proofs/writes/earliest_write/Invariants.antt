@@ -4,4 +4,5 @@ use Rattle.timestamp_cache.proofs.Earliest.{ClearOfFirst}
 use Rattle.timestamp_cache.proofs.writes.earliest_write.Given as goal
 
 abbrev pub invariant-loop-span : goal.invariant-loop-span
-invariant-loop-span l = IsEarliest (λ t. ClearOfFirst l.cache l.spans l.span-index l.by t) l.fn.at l.time
+invariant-loop-span l = IsEarliest (λ t. ClearOfFirst l.cache l.spans l.span-index l.by t)
+    l.fn.at l.time

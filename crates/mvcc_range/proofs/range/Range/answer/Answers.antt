@@ -1,3 +1,5 @@
+-- Proves the contract of `Range::answer`. Remembers a read that was answered, and gives it to its
+-- transaction.
 use Rattle.std.proofs.Common.{◌≡◌, ◌∙◌, ap, subst}
 use Rattle.tsc_cache.specs.CacheView.{StandsAfter}
 use Rattle.timestamp_cache.specs.Words.{OwnedTime, owner_of, Interval, CacheView}

@@ -1,3 +1,5 @@
+-- Proves the contract of `Range::commit`. Commits a transaction at the earliest time, from the one
+-- on at which it reads, that is free for its writes.
 use Rattle.std.proofs.Common.{◌≡◌, ◌∙◌, ap, subst, List, Option}
 use Rattle.std.specs.List.{All}
 use Rattle.tsc_time.proofs.TimeOrder.{no_earlier-transitive}

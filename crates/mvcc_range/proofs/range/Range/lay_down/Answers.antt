@@ -1,3 +1,5 @@
+-- Proves the contract of `Range::lay_down`. Remembers the reads of a transaction at a time, and
+-- lays down its writes as versions of it.
 use Rattle.std.proofs.Common.{◌≡◌, ◌∙◌, ap, sym, subst, map, List}
 use Rattle.std.proofs.lemmas.Result.{on_ok_weaker}
 use Rattle.tsc_cache.specs.Batch.{all_fit}

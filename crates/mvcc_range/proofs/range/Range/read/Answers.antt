@@ -1,3 +1,5 @@
+-- Proves the contract of `Range::read`. Answers a read of a transaction as of its time, and
+-- remembers that.
 use Rattle.std.proofs.Common.{◌≡◌, ◌∙◌, ap, subst, List}
 use Rattle.timestamp_cache.specs.Words.{Time, Interval}
 use Rattle.mvcc_versions.specs.Versions.{Contents, Write, Matches, as_of, after_writes}

@@ -1,3 +1,5 @@
+-- Proves the contract of `Served::collect_garbage`. Drops old versions, as `Range::collect_garbage`
+-- does.
 use Rattle.mvcc_shared.proofs.Serving.{served, was_collected}
 use Rattle.mvcc_shared.proofs.served.Served.collect_garbage.Goals as goal
 

@@ -1,3 +1,4 @@
+-- Proves the contract of `Served::commit`. Commits a transaction, as `Range::commit` does.
 use Rattle.std.proofs.Common.{subst, List}
 use Rattle.mvcc_range.specs.Serial.{Transaction}
 use Rattle.mvcc_shared.specs.Served.{IsLogged}

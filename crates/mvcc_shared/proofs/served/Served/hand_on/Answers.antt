@@ -1,3 +1,5 @@
+-- Proves the contract of `Served::hand_on`. Hands the range on to a new lease, as `Range::hand_on`
+-- does.
 use Rattle.mvcc_shared.proofs.Serving.{served, handing_ended}
 use Rattle.mvcc_shared.proofs.served.Served.hand_on.Goals as goal
 

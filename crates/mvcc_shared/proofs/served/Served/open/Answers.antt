@@ -1,3 +1,4 @@
+-- Proves the contract of `Served::open`. A range of keys that have nothing yet, and an empty log.
 use Rattle.std.proofs.Common.{sym, subst, List}
 use Rattle.mvcc_range.specs.Serial.{Transaction}
 use Rattle.mvcc_shared.specs.Served.{WasServed}

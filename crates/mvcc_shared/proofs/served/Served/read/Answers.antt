@@ -1,3 +1,4 @@
+-- Proves the contract of `Served::read`. Answers a read of a transaction, as `Range::read` does.
 use Rattle.mvcc_shared.proofs.Serving.{served, read_ended}
 use Rattle.mvcc_shared.proofs.served.Served.read.Goals as goal
 

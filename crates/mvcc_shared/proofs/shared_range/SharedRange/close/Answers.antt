@@ -1,3 +1,5 @@
+-- Proves the contract of `SharedRange::close`. The range and its log, once no thread shares it any
+-- more.
 use Rattle.std.specs.Prelude.{reverse}
 use Rattle.mvcc_range.proofs.Keeping.{serializable}
 use Rattle.mvcc_shared.proofs.shared_range.SharedRange.close.Goals as goal

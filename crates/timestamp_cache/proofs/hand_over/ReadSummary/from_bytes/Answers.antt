@@ -1,5 +1,5 @@
 -- What is read was written.
-use Rattle.std.proofs.Common.{arith, ◌≡◌, rules}
+use Rattle.std.proofs.Common.{arith, rules}
 use Rattle.timestamp_cache.specs.SummaryReading.{Gives, summary_of}
 use Rattle.timestamp_cache.specs.HandOver.{Summary}
 use Rattle.timestamp_cache.proofs.SummaryFrame.{is_written}

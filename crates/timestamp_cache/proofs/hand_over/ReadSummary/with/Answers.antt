@@ -1,3 +1,4 @@
+-- Proves the contract of `ReadSummary::with`. Tells of one stretch more.
 use Rattle.std.proofs.Common.{rules}
 use Rattle.timestamp_cache.proofs.hand_over.ReadSummary.with.Goals as goal
 

@@ -1,5 +1,4 @@
 -- One mark more, or the fault of one.
-use Rattle.std.proofs.Common.{◌≡◌}
 use Rattle.std.proofs.lemmas.Result.{err_from_is_err_and}
 use Rattle.timestamp_cache.specs.SummaryReading.{marks_at}
 use Rattle.timestamp_cache.proofs.SummaryMarks.{goes_on, fails, all_read}
