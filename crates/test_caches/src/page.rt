@@ -1,4 +1,5 @@
-//! Tests of times, spans and pages, through their public calls. Those of pages are tables of steps, which one function takes (`steps`).
+//! Tests of times, spans and pages, through their public calls. Those of pages are tables of steps,
+//! which one function takes (`steps`).
 
 mod filled;
 mod full;

@@ -36,7 +36,8 @@ fn add(text: &mut Vec<u8>, piece: &str, times: u32) -> Result<(), AllocError> {
     Ok(())
 }
 
-/// The text that a row stands for. It is cut by `¦`, a part that ends with `×N` comes N times, and `¶` is a line feed.
+/// The text that a row stands for. It is cut by `¦`, a part that ends with `×N` comes N times, and
+/// `¶` is a line feed.
 pub(crate) fn unfolded(alloc: Global, row: &str) -> Result<Vec<u8>, AllocError> {
     let mut text = Vec::new(alloc);
     for part in row.split('¦') {

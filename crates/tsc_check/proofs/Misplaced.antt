@@ -14,8 +14,10 @@ use Rattle.tsc_check.proofs.Places.{tested}
 use Rattle.tsc_check.proofs.FirstOther.{none_from_least, least_at}
 use Rattle.tsc_check.proofs.Slots.{reach_of_add, reach_of_lookup}
 
-above_wrong : (n : ℕ) (earlier : List Line) (thread : ℕ) (s : Said) → reaches_above thread (front_of s) earlier ≡ true → is_misplaced n earlier thread s ≡ true
-above_wrong n earlier thread s e = rw e (or_true (nat_lt n (reach s) || (is_add s && has_add_at (front_of s) earlier)))
+above_wrong : (n : ℕ) (earlier : List Line) (thread : ℕ) (s : Said) →
+    reaches_above thread (front_of s) earlier ≡ true → is_misplaced n earlier thread s ≡ true
+above_wrong n earlier thread s e =
+    rw e (or_true (nat_lt n (reach s) || (is_add s && has_add_at (front_of s) earlier)))
   where
     or_true : (b : Bool) → (b || true) ≡ true
     or_true true = refl
@@ -38,13 +40,19 @@ past_bound n x = elim (tested (nat_le n x)) [
     before : (n x : ℕ) → nat_le n x ≡ false → nat_lt n (suc x) ≡ false
     before n x e = grind (arith, nat_tests)
 
-add_wrong : (n : ℕ) (earlier : List Line) (thread : ℕ) (s : Said) → is_add s ≡ true → reaches_above thread (front_of s) earlier ≡ false → is_misplaced n earlier thread s ≡ (nat_le n (front_of s) || has_add_at (front_of s) earlier)
+add_wrong : (n : ℕ) (earlier : List Line) (thread : ℕ) (s : Said) → is_add s ≡ true →
+    reaches_above thread (front_of s) earlier ≡ false →
+    is_misplaced n earlier thread s ≡ (nat_le n (front_of s) || has_add_at (front_of s) earlier)
 add_wrong n earlier thread s add e =
-    rw (e, reach_of_add s add, add, past_bound n (front_of s)) (or_false (nat_le n (front_of s) || has_add_at (front_of s) earlier))
+    rw (e, reach_of_add s add, add, past_bound n (front_of s))
+    (or_false (nat_le n (front_of s) || has_add_at (front_of s) earlier))
 
-lookup_wrong : (n : ℕ) (earlier : List Line) (thread : ℕ) (s : Said) → is_add s ≡ false → reaches_above thread (front_of s) earlier ≡ false → is_misplaced n earlier thread s ≡ nat_lt n (front_of s)
+lookup_wrong : (n : ℕ) (earlier : List Line) (thread : ℕ) (s : Said) → is_add s ≡ false →
+    reaches_above thread (front_of s) earlier ≡ false →
+    is_misplaced n earlier thread s ≡ nat_lt n (front_of s)
 lookup_wrong n earlier thread s look e =
-    rw (e, reach_of_lookup s look, look) (or_false (nat_lt n (front_of s) || false) ∙ or_false (nat_lt n (front_of s)))
+    rw (e, reach_of_lookup s look, look)
+    (or_false (nat_lt n (front_of s) || false) ∙ or_false (nat_lt n (front_of s)))
 
 at_most : (a b : ℕ) → b ≤ a → nat_lt a b ≡ false
 at_most a b e = grind (arith, nat_tests)
@@ -53,11 +61,13 @@ below : (a b : ℕ) → a < b → nat_lt a b ≡ true
 below a b e = grind (arith, nat_tests)
 
 -- an Add stands at a place among the first lines where there is a last one
-pub has_last : (lines : List Line) (p i : ℕ) → i ≤ length lines → has_add_at p (take i lines) ≡ is_some (last_below (adds_there lines p) i)
+pub has_last : (lines : List Line) (p i : ℕ) → i ≤ length lines →
+    has_add_at p (take i lines) ≡ is_some (last_below (adds_there lines p) i)
 has_last [] p zero low = refl
 has_last (l ∷ ls) p zero low = refl
 has_last lines p (suc i) low =
-    ap (λ k. has_add_at p (take k lines)) (sym (add-one i)) ∙ more lines (omega (arith, low)) (has_last lines p i (omega (arith, low)))
+    ap (λ k. has_add_at p (take k lines)) (sym (add-one i)) ∙
+    more lines (omega (arith, low)) (has_last lines p i (omega (arith, low)))
   where
     kept : (b : Bool) (o : Option ℕ) → (is_some o || b) ≡ is_some (if b then Some i else o)
     kept true None = refl
@@ -65,59 +75,90 @@ has_last lines p (suc i) low =
     kept false None = refl
     kept false (Some j) = refl
 
-    more : (ls : List Line) → i < length ls → has_add_at p (take i ls) ≡ is_some (last_below (adds_there ls p) i) → has_add_at p (take (i + 1) ls) ≡ is_some (last_below (adds_there ls p) (suc i))
+    more : (ls : List Line) → i < length ls →
+        has_add_at p (take i ls) ≡ is_some (last_below (adds_there ls p) i) →
+        has_add_at p (take (i + 1) ls) ≡ is_some (last_below (adds_there ls p) (suc i))
     more [] within before = absurd (omega (arith, within))
     more (x ∷ xs) within before =
         let line = get_or (x ∷ xs) i x in
         list_any_more (λ (l : Line). is_add_at p l.said) (x ∷ xs) i x within
         ∙ ap (λ b. b || is_add_at p line.said) before
         ∙ kept (is_add_at p line.said) (last_below (adds_there (x ∷ xs) p) i)
-        ∙ ap (λ b. is_some (if b then Some i else last_below (adds_there (x ∷ xs) p) i)) (sym (ap (holds_at (λ l. is_add_at p l.said)) (slice_get-get_or (x ∷ xs) i x within)))
+        ∙ ap (λ b. is_some (if b then Some i else last_below (adds_there (x ∷ xs) p) i))
+        (sym (ap (holds_at (λ l. is_add_at p l.said)) (slice_get-get_or (x ∷ xs) i x within)))
 
-at_it : (lines : List Line) (i : ℕ) (line : Line) → slice_get lines i ≡ Some line → is_wrong_place lines i ≡ is_misplaced (adds_in lines) (take i lines) line.thread line.said
+at_it : (lines : List Line) (i : ℕ) (line : Line) → slice_get lines i ≡ Some line →
+    is_wrong_place lines i ≡ is_misplaced (adds_in lines) (take i lines) line.thread line.said
 at_it lines i line at = ap (is_misplaced_line (adds_in lines) (take i lines)) at
 
-pub known_above : (adds lookups earlier : List (Option ℕ)) (reached : List ℕ) (lines : List Line) (i : ℕ) (line : Line) → ArePlaced adds lookups earlier reached lines i → slice_get lines i ≡ Some line
-    → nat_lt (front_of line.said) (get_or reached line.thread 0) ≡ true → true ≡ is_wrong_place lines i
+pub known_above : (adds lookups earlier : List (Option ℕ)) (reached : List ℕ) (lines : List Line)
+    (i : ℕ) (line : Line) → ArePlaced adds lookups earlier reached lines i →
+    slice_get lines i ≡ Some line
+    → nat_lt (front_of line.said) (get_or reached line.thread 0) ≡ true →
+    true ≡ is_wrong_place lines i
 known_above adds lookups earlier reached lines i line a at more =
-    sym (at_it lines i line at ∙ above_wrong (adds_in lines) (take i lines) line.thread line.said (a.reached_at line.thread (front_of line.said) 0 (a.of_lists i line at) ∙ more))
+    sym (at_it lines i line at ∙ above_wrong (adds_in lines) (take i lines) line.thread line.said
+    (a.reached_at line.thread (front_of line.said) 0 (a.of_lists i line at) ∙ more))
 
-known_not : (adds lookups earlier : List (Option ℕ)) (reached : List ℕ) (lines : List Line) (i : ℕ) (line : Line) → ArePlaced adds lookups earlier reached lines i → slice_get lines i ≡ Some line
-    → nat_lt (front_of line.said) (get_or reached line.thread 0) ≡ false → reaches_above line.thread (front_of line.said) (take i lines) ≡ false
-known_not adds lookups earlier reached lines i line a at less = a.reached_at line.thread (front_of line.said) 0 (a.of_lists i line at) ∙ less
+known_not : (adds lookups earlier : List (Option ℕ)) (reached : List ℕ) (lines : List Line) (i : ℕ)
+    (line : Line) → ArePlaced adds lookups earlier reached lines i → slice_get lines i ≡ Some line
+    → nat_lt (front_of line.said) (get_or reached line.thread 0) ≡ false →
+    reaches_above line.thread (front_of line.said) (take i lines) ≡ false
+known_not adds lookups earlier reached lines i line a at less =
+    a.reached_at line.thread (front_of line.said) 0 (a.of_lists i line at) ∙ less
 
-pub place_wrong : (adds lookups earlier : List (Option ℕ)) (reached : List ℕ) (lines : List Line) (i : ℕ) (line : Line) → ArePlaced adds lookups earlier reached lines i → slice_get lines i ≡ Some line
-    → nat_lt (front_of line.said) (get_or reached line.thread 0) ≡ false → is_add line.said ≡ true → is_wrong_place lines i ≡ (nat_le (adds_in lines) (front_of line.said) || has_add_at (front_of line.said) (take i lines))
+pub place_wrong : (adds lookups earlier : List (Option ℕ)) (reached : List ℕ) (lines : List Line)
+    (i : ℕ) (line : Line) → ArePlaced adds lookups earlier reached lines i →
+    slice_get lines i ≡ Some line
+    → nat_lt (front_of line.said) (get_or reached line.thread 0) ≡ false → is_add line.said ≡ true →
+    is_wrong_place lines i ≡ (nat_le (adds_in lines) (front_of line.said) ||
+    has_add_at (front_of line.said) (take i lines))
 place_wrong adds lookups earlier reached lines i line a at less add =
-    at_it lines i line at ∙ add_wrong (adds_in lines) (take i lines) line.thread line.said add (known_not adds lookups earlier reached lines i line a at less)
+    at_it lines i line at ∙ add_wrong (adds_in lines) (take i lines) line.thread line.said add
+    (known_not adds lookups earlier reached lines i line a at less)
 
-pub past_last : (adds lookups earlier : List (Option ℕ)) (reached : List ℕ) (lines : List Line) (i : ℕ) (line : Line) → ArePlaced adds lookups earlier reached lines i → slice_get lines i ≡ Some line
-    → nat_lt (front_of line.said) (get_or reached line.thread 0) ≡ false → is_add line.said ≡ true → nat_le (adds_in lines) (front_of line.said) ≡ true → true ≡ is_wrong_place lines i
+pub past_last : (adds lookups earlier : List (Option ℕ)) (reached : List ℕ) (lines : List Line)
+    (i : ℕ) (line : Line) → ArePlaced adds lookups earlier reached lines i →
+    slice_get lines i ≡ Some line
+    → nat_lt (front_of line.said) (get_or reached line.thread 0) ≡ false → is_add line.said ≡ true →
+    nat_le (adds_in lines) (front_of line.said) ≡ true → true ≡ is_wrong_place lines i
 past_last adds lookups earlier reached lines i line a at less add past =
     sym (place_wrong adds lookups earlier reached lines i line a at less add ∙ rw past refl)
 
-pub taken : (adds lookups earlier : List (Option ℕ)) (reached : List ℕ) (lines : List Line) (i : ℕ) (line : Line) → ArePlaced adds lookups earlier reached lines i → slice_get lines i ≡ Some line → i < length lines
-    → nat_lt (front_of line.said) (get_or reached line.thread 0) ≡ false → is_add line.said ≡ true → nat_le (adds_in lines) (front_of line.said) ≡ false
+pub taken : (adds lookups earlier : List (Option ℕ)) (reached : List ℕ) (lines : List Line) (i : ℕ)
+    (line : Line) → ArePlaced adds lookups earlier reached lines i → slice_get lines i ≡ Some line →
+    i < length lines
+    → nat_lt (front_of line.said) (get_or reached line.thread 0) ≡ false → is_add line.said ≡ true →
+    nat_le (adds_in lines) (front_of line.said) ≡ false
     → is_some (get_or adds (front_of line.said) None) ≡ is_wrong_place lines i
 taken adds lookups earlier reached lines i line a at within less add low =
     let front = front_of line.said in
     let lower : front ≤ adds_in lines = under front (adds_in lines) low in
-    sym (place_wrong adds lookups earlier reached lines i line a at less add ∙ rw low (has_last lines front i (omega (arith, within)) ∙ ap is_some (sym (a.adds_at front None lower))))
+    sym (place_wrong adds lookups earlier reached lines i line a at less add ∙
+    rw low (has_last lines front i (omega (arith, within)) ∙
+    ap is_some (sym (a.adds_at front None lower))))
   where
     under : (x n : ℕ) → nat_le n x ≡ false → x ≤ n
     under x n e = grind (arith, nat_tests)
 
-pub front_wrong : (adds lookups earlier : List (Option ℕ)) (reached : List ℕ) (lines : List Line) (i : ℕ) (line : Line) → ArePlaced adds lookups earlier reached lines i → slice_get lines i ≡ Some line
-    → nat_lt (front_of line.said) (get_or reached line.thread 0) ≡ false → is_add line.said ≡ false → nat_lt (adds_in lines) (front_of line.said) ≡ is_wrong_place lines i
+pub front_wrong : (adds lookups earlier : List (Option ℕ)) (reached : List ℕ) (lines : List Line)
+    (i : ℕ) (line : Line) → ArePlaced adds lookups earlier reached lines i →
+    slice_get lines i ≡ Some line
+    → nat_lt (front_of line.said) (get_or reached line.thread 0) ≡ false →
+    is_add line.said ≡ false →
+    nat_lt (adds_in lines) (front_of line.said) ≡ is_wrong_place lines i
 front_wrong adds lookups earlier reached lines i line a at less look =
-    sym (at_it lines i line at ∙ lookup_wrong (adds_in lines) (take i lines) line.thread line.said look (known_not adds lookups earlier reached lines i line a at less))
+    sym (at_it lines i line at ∙ lookup_wrong (adds_in lines) (take i lines) line.thread line.said
+    look (known_not adds lookups earlier reached lines i line a at less))
 
 -- ---- one more line
 
-pub none_so_far : (test : ℕ → Bool) (i : ℕ) → least test i ≡ None → test i ≡ false → least test (i + 1) ≡ None
+pub none_so_far : (test : ℕ → Bool) (i : ℕ) → least test i ≡ None → test i ≡ false →
+    least test (i + 1) ≡ None
 none_so_far test i none e = ap (least test) (add-one i) ∙ rw (none, e) refl
 
-pub found_here : (test : ℕ → Bool) (n i : ℕ) → least test i ≡ None → i < n → test i ≡ true → Some i ≡ least test n
+pub found_here : (test : ℕ → Bool) (n i : ℕ) → least test i ≡ None → i < n → test i ≡ true →
+    Some i ≡ least test n
 found_here test n i none low e = sym (least_at test n i (low, e, none_from_least test i none))
 
 -- ---- no lines
@@ -131,7 +172,9 @@ nothing_reached : (t n : ℕ) (lines : List Line) → reaches_above t n (take 0 
 nothing_reached t n [] = refl
 nothing_reached t n (l ∷ ls) = refl
 
-pub none_placed : (lists : ℕ) (lines : List Line) → AreOfLists lists lines → (slots : ℕ) → slots ≡ adds_in lines + 1 → ArePlaced (replicate slots None) (replicate slots None) [] (replicate lists 0) lines 0
+pub none_placed : (lists : ℕ) (lines : List Line) → AreOfLists lists lines → (slots : ℕ) →
+    slots ≡ adds_in lines + 1 → ArePlaced (replicate slots None) (replicate slots None) []
+    (replicate lists 0) lines 0
 none_placed lists lines of slots size =
     let more : slots ≡ suc (adds_in lines) = omega (arith, size) in
     record {
@@ -142,5 +185,7 @@ none_placed lists lines of slots size =
       adds_at = λ p d low. get_or-replicate slots p None d (omega (arith, low, more));
       lookups_at = λ f d low. get_or-replicate slots f None d (omega (arith, low, more));
       earlier_at = λ j l d low there. absurd (omega (arith, low));
-      reached_at = λ t n d low. nothing_reached t n lines ∙ sym (ap (nat_lt n) (get_or-replicate lists t 0 d (omega (arith, low, length-replicate lists zero))) ∙ at_most n 0 (omega arith));
+      reached_at = λ t n d low. nothing_reached t n lines ∙
+          sym (ap (nat_lt n) (get_or-replicate lists t 0 d
+          (omega (arith, low, length-replicate lists zero))) ∙ at_most n 0 (omega arith));
     }

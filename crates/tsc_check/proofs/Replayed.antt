@@ -4,9 +4,9 @@ use Rattle.std.proofs.lemmas.List.Sums.{sum_by-cons}
 use Rattle.tsc_cache.specs.Settings.{Settings}
 use Rattle.tsc_cache.specs.History.{History, BeginsWith}
 use Rattle.tsc_cache.proofs.Beginnings.{begins_itself, begins_on}
-use Rattle.tsc_trace_json.specs.Calls.{addition_of, adds}
-use Rattle.tsc_trace_json.specs.declared.trace.Call.{Call}
-use Rattle.tsc_trace_json.specs.Traces.{Trace}
+use Rattle.tsc_trace_format.specs.Calls.{addition_of, adds}
+use Rattle.tsc_trace_format.specs.declared.trace.Call.{Call}
+use Rattle.tsc_trace_format.specs.Traces.{Trace}
 use Rattle.tsc_trace.specs.Log.{said_after, after_call, after_calls, lines_of_list, lines_of_lists, log_of}
 use Rattle.tsc_check.specs.declared.verdict.Verdict.TheVariants.{Right}
 use Rattle.tsc_check.specs.Verdict.{is_add, reach, verdict_of}
@@ -22,53 +22,104 @@ abbrev pub after_lists : ℕ → History → List (List Call) → History
 after_lists thread g [] = g
 after_lists thread g (calls ∷ lists) = after_lists (suc thread) (after_calls thread g calls) lists
 
-calls_begin : (thread : ℕ) (g : History) (calls : List Call) → BeginsWith (after_calls thread g calls) g
+calls_begin : (thread : ℕ) (g : History) (calls : List Call) →
+    BeginsWith (after_calls thread g calls) g
 calls_begin thread g [] = begins_itself g
-calls_begin thread g (call ∷ calls) = begins_on (after_calls thread g (call ∷ calls)) (after_call thread g call) g (calls_begin thread (after_call thread g call) calls) (addition_begins thread g (addition_of call))
+calls_begin thread g (call ∷ calls) =
+    begins_on (after_calls thread g (call ∷ calls)) (after_call thread g call) g
+    (calls_begin thread (after_call thread g call) calls)
+    (addition_begins thread g (addition_of call))
 
-lists_begin : (thread : ℕ) (g : History) (lists : List (List Call)) → BeginsWith (after_lists thread g lists) g
+lists_begin : (thread : ℕ) (g : History) (lists : List (List Call)) →
+    BeginsWith (after_lists thread g lists) g
 lists_begin thread g [] = begins_itself g
-lists_begin thread g (calls ∷ lists) = begins_on (after_lists thread g (calls ∷ lists)) (after_calls thread g calls) g (lists_begin (suc thread) (after_calls thread g calls) lists) (calls_begin thread g calls)
+lists_begin thread g (calls ∷ lists) =
+    begins_on (after_lists thread g (calls ∷ lists)) (after_calls thread g calls) g
+    (lists_begin (suc thread) (after_calls thread g calls) lists) (calls_begin thread g calls)
 
-reach_within : (settings : Settings) (thread : ℕ) (g : History) (call : Call) → reach (said_after settings g call) ≤ length (after_call thread g call)
+reach_within : (settings : Settings) (thread : ℕ) (g : History) (call : Call) →
+    reach (said_after settings g call) ≤ length (after_call thread g call)
 reach_within settings thread g call =
     let s = said_after settings g call in
-    let longer : length (after_call thread g call) ≡ length g + cond (is_add s) 1 0 = addition_length thread g (addition_of call) ∙ ap {B = ℕ} (λ b. length g + cond b 1 0) (sym (adds_said settings g call)) in
+    let longer : length (after_call thread g call) ≡ length g + cond (is_add s) 1 0 =
+    addition_length thread g (addition_of call) ∙
+    ap {B = ℕ} (λ b. length g + cond b 1 0) (sym (adds_said settings g call)) in
     elim (tested (is_add s)) [
-      | inl e ↦ omega (arith, reach_of_add s e, front_said settings g call, longer, ap {B = ℕ} (λ b. cond b 1 0) e)
-      | inr e ↦ omega (arith, reach_of_lookup s e, front_said settings g call, longer, ap {B = ℕ} (λ b. cond b 1 0) e)
+      | inl e ↦ omega (
+        arith,
+        reach_of_add s e,
+        front_said settings g call,
+        longer,
+        ap {B = ℕ} (λ b. cond b 1 0) e,
+      )
+      | inr e ↦ omega (
+        arith,
+        reach_of_lookup s e,
+        front_said settings g call,
+        longer,
+        ap {B = ℕ} (λ b. cond b 1 0) e,
+      )
     ]
 
-list_is_true : (settings : Settings) (h : History) (thread index reached : ℕ) (g : History) (calls : List Call) → BeginsWith h (after_calls thread g calls) → reached ≤ length g → AreTrueLines settings h thread index reached calls (lines_of_list settings thread index g calls)
+list_is_true : (settings : Settings) (h : History) (thread index reached : ℕ) (g : History)
+    (calls : List Call) → BeginsWith h (after_calls thread g calls) → reached ≤ length g →
+    AreTrueLines settings h thread index reached calls (lines_of_list settings thread index g calls)
 list_is_true settings h thread index reached g [] b r = tt
 list_is_true settings h thread index reached g (call ∷ calls) b r = (
-  record { before = g; told = refl; part = begins_on h (after_calls thread (after_call thread g call) calls) (after_call thread g call) b (calls_begin thread (after_call thread g call) calls); later = r },
-  list_is_true settings h thread (suc index) (reach (said_after settings g call)) (after_call thread g call) calls b (reach_within settings thread g call),
+  record {
+    before = g;
+    told = refl;
+    part = begins_on h (after_calls thread (after_call thread g call) calls)
+        (after_call thread g call) b (calls_begin thread (after_call thread g call) calls);
+    later = r;
+  },
+  list_is_true settings h thread (suc index) (reach (said_after settings g call))
+      (after_call thread g call) calls b (reach_within settings thread g call),
 )
 
-lists_are_true : (settings : Settings) (h : History) (thread : ℕ) (g : History) (lists : List (List Call)) → BeginsWith h (after_lists thread g lists) → AreTrueLists settings h thread lists (lines_of_lists settings thread g lists)
+lists_are_true : (settings : Settings) (h : History) (thread : ℕ) (g : History)
+    (lists : List (List Call)) → BeginsWith h (after_lists thread g lists) →
+    AreTrueLists settings h thread lists (lines_of_lists settings thread g lists)
 lists_are_true settings h thread g [] b = refl
 lists_are_true settings h thread g (calls ∷ lists) b = (
   lines_of_list settings thread 0 g calls,
   lines_of_lists settings (suc thread) (after_calls thread g calls) lists,
   refl,
-  list_is_true settings h thread 0 0 g calls (begins_on h (after_lists (suc thread) (after_calls thread g calls) lists) (after_calls thread g calls) b (lists_begin (suc thread) (after_calls thread g calls) lists)) (omega arith),
+  list_is_true settings h thread 0 0 g calls
+      (begins_on h (after_lists (suc thread) (after_calls thread g calls) lists)
+      (after_calls thread g calls) b (lists_begin (suc thread) (after_calls thread g calls) lists))
+      (omega arith),
   lists_are_true settings h (suc thread) (after_calls thread g calls) lists b,
 )
 
-calls_length : (thread : ℕ) (g : History) (calls : List Call) → length (after_calls thread g calls) ≡ length g + adds_of_list calls
+calls_length : (thread : ℕ) (g : History) (calls : List Call) →
+    length (after_calls thread g calls) ≡ length g + adds_of_list calls
 calls_length thread g [] = omega arith
-calls_length thread g (call ∷ calls) = omega (arith, calls_length thread (after_call thread g call) calls, addition_length thread g (addition_of call), sum_by-cons (λ c. cond (adds c) 1 0) call calls)
+calls_length thread g (call ∷ calls) =
+    omega (
+      arith,
+      calls_length thread (after_call thread g call) calls,
+      addition_length thread g (addition_of call),
+      sum_by-cons (λ c. cond (adds c) 1 0) call calls,
+    )
 
-lists_length : (thread : ℕ) (g : History) (lists : List (List Call)) → length (after_lists thread g lists) ≡ length g + adds_of_lists lists
+lists_length : (thread : ℕ) (g : History) (lists : List (List Call)) →
+    length (after_lists thread g lists) ≡ length g + adds_of_lists lists
 lists_length thread g [] = omega arith
-lists_length thread g (calls ∷ lists) = omega (arith, lists_length (suc thread) (after_calls thread g calls) lists, calls_length thread g calls)
+lists_length thread g (calls ∷ lists) =
+    omega (
+      arith,
+      lists_length (suc thread) (after_calls thread g calls) lists,
+      calls_length thread g calls,
+    )
 
 pub replay_is_run : (trace : Trace) → IsRunOf trace (log_of trace) (after_lists 0 [] trace.threads)
 replay_is_run trace = record {
   size = omega (arith, lists_length 0 [] trace.threads);
-  lines_are_true = lists_are_true trace.config (after_lists 0 [] trace.threads) 0 [] trace.threads (begins_itself (after_lists 0 [] trace.threads));
+  lines_are_true = lists_are_true trace.config (after_lists 0 [] trace.threads) 0 [] trace.threads
+      (begins_itself (after_lists 0 [] trace.threads));
 }
 
 pub replays_are_right : (trace : Trace) → verdict_of trace (log_of trace) ≡ Right
-replays_are_right trace = run_is_right trace (log_of trace) (after_lists 0 [] trace.threads) (replay_is_run trace)
+replays_are_right trace = run_is_right trace (log_of trace) (after_lists 0 [] trace.threads)
+    (replay_is_run trace)

@@ -1,7 +1,7 @@
 -- What a check from two readers to a writer reads and writes, and why it may end early.
 use Rattle.std.specs.Prelude.{◌≡◌, ◌≢◌, ◌++◌, ◌∷◌, [], ◌⊎◌, List, ℕ, Err, codes, decimal}
-use Rattle.tsc_trace_io.specs.Stream.{KnownReader, KnownWriter, HasRead, CouldNotRead, HasReadTooMuch, RanOutReading, HasWritten, CouldNotWrite}
-use Rattle.tsc_trace_json.specs.Traces.{Trace}
+use Rattle.tsc_stream.specs.Stream.{KnownReader, KnownWriter, HasRead, CouldNotRead, HasReadTooMuch, RanOutReading, HasWritten, CouldNotWrite}
+use Rattle.tsc_trace_format.specs.Traces.{Trace}
 use Rattle.tsc_trace.specs.LogText.{line_feed}
 use Rattle.tsc_trace.specs.LogReading.{IsTextOf, ReadsAs}
 use Rattle.tsc_trace.specs.Replay.{HasReadTrace, NotRead, TooMuchRead, RefusedAs, OutOfMemory, fault_text as stream_text}
@@ -22,7 +22,7 @@ verdict_text (WrongCall i) = codes "wrong call " ++ decimal i
 verdict_text (WrongPlace i) = codes "wrong place " ++ decimal i
 verdict_text (WrongAnswer i) = codes "wrong answer " ++ decimal i
 
--- and its line
+-- the line of a verdict
 abbrev pub verdict_line : Verdict → List ℕ
 verdict_line verdict = verdict_text verdict ++ line_feed ∷ []
 
@@ -49,8 +49,10 @@ StopsReadingLog (Stream NoMemory) log log' = RanOutReading log log'
 StopsReadingLog (Text number) log log' = HasReadNoLog (log_fault.Text number) log log'
 StopsReadingLog Length log log' = HasReadNoLog log_fault.Length log log'
 
--- All of a trace and of a log was read, and the line of the verdict on them was written, and nothing else.
-pub record Checked (verdict : Verdict) (reader reader' log log' : KnownReader) (writer writer' : KnownWriter) : Type 0 where
+-- All of a trace and of a log was read, and the line of the verdict on them was written, and
+-- nothing else.
+pub record Checked (verdict : Verdict) (reader reader' log log' : KnownReader)
+    (writer writer' : KnownWriter) : Type 0 where
   pub trace : Trace
   pub read : HasReadTrace reader reader' trace
   pub lines : List Line
@@ -58,8 +60,10 @@ pub record Checked (verdict : Verdict) (reader reader' log log' : KnownReader) (
   pub is_verdict : verdict ≡ verdict_of trace lines
   pub wrote : HasWritten writer writer' (verdict_line verdict)
 
--- All of a trace and of a log was read, and a write failed, where a part of the line of the verdict on them was written.
-pub record VerdictNotWritten (reader reader' log log' : KnownReader) (writer writer' : KnownWriter) : Type 0 where
+-- All of a trace and of a log was read, and a write failed, where a part of the line of the verdict
+-- on them was written.
+pub record VerdictNotWritten (reader reader' log log' : KnownReader) (writer writer' : KnownWriter)
+    : Type 0 where
   pub trace : Trace
   pub read : HasReadTrace reader reader' trace
   pub lines : List Line
@@ -67,21 +71,26 @@ pub record VerdictNotWritten (reader reader' log log' : KnownReader) (writer wri
   pub wrote : CouldNotWrite writer writer' (verdict_line (verdict_of trace lines))
 
 -- All of a trace was read, and then a read of the log failed. Nothing was written.
-pub record LogNotRead (reader reader' log log' : KnownReader) (writer writer' : KnownWriter) : Type 0 where
+pub record LogNotRead (reader reader' log log' : KnownReader) (writer writer' : KnownWriter) : Type
+    0 where
   pub trace : Trace
   pub read : HasReadTrace reader reader' trace
   pub read_log : CouldNotRead log log'
   pub silent : writer' ≡ writer
 
--- All of a trace was read, and there was more of the log than an input may have. Nothing was written.
-pub record TooMuchLog (reader reader' log log' : KnownReader) (writer writer' : KnownWriter) : Type 0 where
+-- All of a trace was read, and there was more of the log than an input may have. Nothing was
+-- written.
+pub record TooMuchLog (reader reader' log log' : KnownReader) (writer writer' : KnownWriter) : Type
+    0 where
   pub trace : Trace
   pub read : HasReadTrace reader reader' trace
   pub read_log : HasReadTooMuch log log'
   pub silent : writer' ≡ writer
 
--- All of a trace was read, and all that the other reader had is the text of no log, for this reason. Nothing was written.
-pub record LogRefusedAs (fault : LogFault) (reader reader' log log' : KnownReader) (writer writer' : KnownWriter) : Type 0 where
+-- All of a trace was read, and all that the other reader had is the text of no log, for this
+-- reason. Nothing was written.
+pub record LogRefusedAs (fault : LogFault) (reader reader' log log' : KnownReader)
+    (writer writer' : KnownWriter) : Type 0 where
   pub trace : Trace
   pub read : HasReadTrace reader reader' trace
   pub input : List ℕ
@@ -91,24 +100,30 @@ pub record LogRefusedAs (fault : LogFault) (reader reader' log log' : KnownReade
   pub silent : writer' ≡ writer
 
 -- All of a trace was read, and then memory was wanting. No read failed, and nothing was written.
-pub record OutOfMemoryAfterTrace (reader reader' log log' : KnownReader) (writer writer' : KnownWriter) : Type 0 where
+pub record OutOfMemoryAfterTrace (reader reader' log log' : KnownReader)
+    (writer writer' : KnownWriter) : Type 0 where
   pub trace : Trace
   pub read : HasReadTrace reader reader' trace
   pub read_log : RanOutReading log log'
   pub silent : writer' ≡ writer
 
--- how a check with this fault ended: the log's reader stays as it was unless all of a trace was read
-abbrev pub StopsCheck : CheckFault → KnownReader → KnownReader → KnownReader → KnownReader → KnownWriter → KnownWriter → Type 0
+-- how a check with this fault ended: the log's reader stays as it was unless all of a trace was
+-- read
+abbrev pub StopsCheck : CheckFault → KnownReader → KnownReader → KnownReader → KnownReader →
+    KnownWriter → KnownWriter → Type 0
 StopsCheck (Stream Read) reader reader' log log' writer writer' =
-    (NotRead reader reader' writer writer' × (log' ≡ log)) ⊎ LogNotRead reader reader' log log' writer writer'
+    (NotRead reader reader' writer writer' × (log' ≡ log)) ⊎
+    LogNotRead reader reader' log log' writer writer'
 StopsCheck (Stream TooLong) reader reader' log log' writer writer' =
-    (TooMuchRead reader reader' writer writer' × (log' ≡ log)) ⊎ TooMuchLog reader reader' log log' writer writer'
+    (TooMuchRead reader reader' writer writer' × (log' ≡ log)) ⊎
+    TooMuchLog reader reader' log log' writer writer'
 StopsCheck (Stream (Refused fault)) reader reader' log log' writer writer' =
     RefusedAs fault reader reader' writer writer' × (log' ≡ log)
 StopsCheck (Stream Write) reader reader' log log' writer writer' =
     VerdictNotWritten reader reader' log log' writer writer'
 StopsCheck (Stream NoMemory) reader reader' log log' writer writer' =
-    (OutOfMemory reader reader' writer writer' × (log' ≡ log)) ⊎ OutOfMemoryAfterTrace reader reader' log log' writer writer'
+    (OutOfMemory reader reader' writer writer' × (log' ≡ log)) ⊎
+    OutOfMemoryAfterTrace reader reader' log log' writer writer'
 StopsCheck (Text number) reader reader' log log' writer writer' =
     LogRefusedAs (log_fault.Text number) reader reader' log log' writer writer'
 StopsCheck Length reader reader' log log' writer writer' =

@@ -1,7 +1,9 @@
-//! Replays of recorded traces, and checks of logs, from bytes to bytes: for those who have the bytes at hand, and no streams.
+//! Replays of recorded traces, and checks of logs, from bytes to bytes: for those who have the
+//! bytes at hand, and no streams.
 //!
-//! [`replay_bytes`] and [`check_bytes`] say what the commands of the program write, over the same readers and the same
-//! replay and check. A trace and a log have 16,777,216 bytes at the most, as there.
+//! [`replay_bytes`] and [`check_bytes`] say what the commands of the program write, over the same
+//! readers and the same replay and check. A trace and a log have 16,777,216 bytes at the most, as
+//! there.
 
 mod checks;
 mod replays;
@@ -14,6 +16,7 @@ pub use replays::replay_bytes;
 pub enum Outcome {
     /// What was asked for: the text of a log, or the line of a verdict.
     Text(Vec<u8>),
-    /// Why the bytes were refused, as the program tells it on standard error, without the line feed.
+    /// Why the bytes were refused, as the program tells it on standard error, without the line
+    /// feed.
     Refused(Vec<u8>),
 }

@@ -1,6 +1,6 @@
 //! Which line is not that of its call.
 ghost use Rattle.std.specs.Prelude.{◌≡◌, ◌≤◌, ◌+◌, ◌++◌, length, drop, List, Option, Some, None, MatchOption, IfNone, IfSome, ◌<◌, ◌^◌};
-ghost use Rattle.tsc_trace_json.specs.Limits.{most_calls};
+ghost use Rattle.tsc_trace_format.specs.Limits.{most_calls};
 ghost use Rattle.tsc_check.specs.Verdict.{PlacedCall, calls_of, calls_of_list, is_of_kind, is_line_of};
 ghost use Rattle.tsc_check.specs.CheckParts.{first_other};
 
@@ -15,7 +15,8 @@ fn is_of_kind(call: &Call, said: Said) -> bool
 
 /// Whether a line is that of the call of this list and this index.
 fn is_line_of(line: &Line, thread: usize, index: usize, call: &Call) -> bool
-    ensures { result ≡ is_line_of (record { thread = thread; index = index; call = call.now }) line.now }
+    ensures { result ≡ is_line_of (record { thread = thread; index = index; call = call.now })
+        line.now }
 {
     line.thread as usize == thread && line.index as usize == index && is_of_kind(call, line.said)
 }
@@ -26,7 +27,8 @@ fn other_in_list(thread: usize, calls: &[Call], lines: &[Line], from: usize) -> 
     ensures first { (rest : List PlacedCall) → MatchOption result
         (first_other from (calls_of_list thread 0 calls.now ++ rest) (drop from lines.now)
         ≡ first_other (from + length calls.now) rest (drop (from + length calls.now) lines.now))
-        (λ i. first_other from (calls_of_list thread 0 calls.now ++ rest) (drop from lines.now) ≡ Some i) }
+        (λ i. first_other from (calls_of_list thread 0 calls.now ++ rest) (drop from lines.now) ≡
+        Some i) }
     ensures within { IfNone result (from + length calls.now ≤ length lines.now) }
 {
     let mut i = from;

@@ -7,9 +7,9 @@ use crate::order::Order;
 use crate::sweep::least_untrue;
 use crate::verdict::Verdict;
 use std::alloc::Global;
+use tsc_stream::{NoProgress, Progress};
 use tsc_time::NoMemory;
 use tsc_trace::{Log, Trace};
-use tsc_trace_io::{NoProgress, Progress};
 
 /// The verdict on answers, by the least line whose answer is wrong.
 fn verdict_on_answers(wrong: Option<usize>) -> Verdict
@@ -24,8 +24,8 @@ fn verdict_on_answers(wrong: Option<usize>) -> Verdict
 
 /// The verdict on a log beside the trace that it is of.
 ///
-/// One pass over a cache answers each line after as many of the Adds as its place or its front tells. The
-/// memory is that of the cache's pages, and some words for each line.
+/// One pass over a cache answers each line after as many of the Adds as its place or its front
+/// tells. The memory is that of the cache's pages, and some words for each line.
 pub fn check(alloc: Global, trace: &Trace, log: &Log) -> Result<Verdict, NoMemory>
     ensures { IfOk result (λ verdict. verdict ≡ verdict_of trace.now log.now.lines) }
 {

@@ -1,6 +1,7 @@
 //! Laws of verdicts.
 //!
-//! No program needs to call these functions: their contracts are the laws, for every trace and every log.
+//! No program needs to call these functions: their contracts are the laws, for every trace and
+//! every log.
 ghost use Rattle.tsc_check.specs.TrueLog.{ReplaysAreRight, RightAreRuns, RunsAreRight};
 
 /// The verdict on the log of a run is right.

@@ -1,4 +1,5 @@
-//! The check of a log against its trace: whether the log can be that of a run on threads. Over streams and over bytes.
+//! The check of a log against its trace: whether the log can be that of a run on threads. Over
+//! streams and over bytes.
 #![tactic(auto)]
 
 mod bytes;

@@ -1,6 +1,6 @@
 //! The lines of a log in the order of the Adds.
 ghost use Rattle.std.specs.Prelude.{◌≡◌, ◌<◌, ◌≤◌, ◌+◌, ◌^◌, ℕ, nat_lt, suc, length, get_or, is_some, false, None, IfOk, OnOk, IfNone};
-ghost use Rattle.tsc_trace_json.specs.Limits.{most_calls};
+ghost use Rattle.tsc_trace_format.specs.Limits.{most_calls};
 ghost use Rattle.tsc_trace.specs.Sayings.{front_of};
 ghost use Rattle.tsc_check.specs.Verdict.{adds_in, is_add, is_wrong_place, least, reach};
 ghost use Rattle.tsc_check.specs.CheckParts.{AreOfLists, HasPlaced};
@@ -87,7 +87,8 @@ impl Order {
         self.adds[place].is_some()
     }
 
-    /// Whether the place or the front of the line with this number is wrong after the lines that are there.
+    /// Whether the place or the front of the line with this number is wrong after the lines that
+    /// are there.
     fn misplaces(&self, lines: &[Line], i: usize) -> bool
         requires index { i < length lines.now }
         requires placed { HasPlaced self.now lines.now i }
@@ -129,8 +130,10 @@ impl Order {
     /// Adds lines up to the first one whose place or front is wrong, and gives its number, from 0.
     pub fn put_all(&mut self, lines: &[Line]) -> Result<Option<usize>, NoMemory>
         requires { HasPlaced self.old lines.now 0 }
-        ensures wrong { IfOk result (λ wrong. wrong ≡ least (is_wrong_place lines.now) (length lines.now)) }
-        ensures placed { IfOk result (λ wrong. IfNone wrong (HasPlaced self.new lines.now (length lines.now))) }
+        ensures wrong { IfOk result
+            (λ wrong. wrong ≡ least (is_wrong_place lines.now) (length lines.now)) }
+        ensures placed { IfOk result
+            (λ wrong. IfNone wrong (HasPlaced self.new lines.now (length lines.now))) }
     {
         for i in 0..lines.len() {
             if self.misplaces(lines, i) {

@@ -1,6 +1,6 @@
 //! Checks of a log against its trace, both from readers, with the verdict to a writer.
 ghost use Rattle.std.specs.Prelude.{◌≡◌, ◌++◌, Some, IfOk, IfErr, OnOk, OnErr};
-ghost use Rattle.tsc_trace_io.specs.Stream.{CouldNotWrite, HasWritten};
+ghost use Rattle.tsc_stream.specs.Stream.{CouldNotWrite, HasWritten};
 ghost use Rattle.tsc_trace.specs.Replay.{fault_of_input};
 ghost use Rattle.tsc_trace.specs.declared.replays.ReplayFault.TheVariants as replay_fault;
 ghost use Rattle.tsc_check.specs.Checking.{Checked, HasReadLog, StopsCheck, StopsReadingLog, fault_of_log, fault_text};
@@ -12,19 +12,20 @@ use itoa::Buffer;
 use std::alloc::Global;
 use std::error::Error;
 use std::fmt;
-use tsc_time::NoMemory;
-use tsc_trace::{Log, LogFault, ReplayFault, read_log, read_trace_from};
-use tsc_trace_io::{
+use tsc_stream::{
     InputFault, Progress, Sink, Source, WriteFailed, read_input, write_both, write_output,
 };
+use tsc_time::NoMemory;
+use tsc_trace::{Log, LogFault, ReplayFault, read_log, read_trace_from};
 
 /// Why a check ended without a verdict. Only a failed write comes after a written byte.
 #[derive(Clone, Copy, Debug, PartialEq, Eq)]
 pub enum CheckFault {
-    /// Reading the trace or the log, the trace itself, writing, or want of memory, as a replay ends.
+    /// Reading the trace or the log, the trace itself, writing, or want of memory, as a replay
+    /// ends.
     Stream(ReplayFault),
-    /// A line is not of the form of a log's, or has no line feed. The number is that of the first such line, counted
-    /// from 1.
+    /// A line is not of the form of a log's, or has no line feed. The number is that of the first
+    /// such line, counted from 1.
     Text(u64),
     /// Bytes follow the 65,536 lines that a log has at the most.
     Length,
@@ -33,8 +34,10 @@ pub enum CheckFault {
 impl CheckFault {
     /// Writes the text of the fault. It takes no memory.
     pub fn tell<W: Sink>(self, writer: &mut W) -> Result<(), WriteFailed>
-        ensures ok { OnOk result (HasWritten (W.known writer.old) (W.known writer.new) (fault_text self)) }
-        ensures err { OnErr result (CouldNotWrite (W.known writer.old) (W.known writer.new) (fault_text self)) }
+        ensures ok { OnOk result (HasWritten (W.known writer.old) (W.known writer.new)
+            (fault_text self)) }
+        ensures err { OnErr result
+            (CouldNotWrite (W.known writer.old) (W.known writer.new) (fault_text self)) }
     {
         match self {
             CheckFault::Stream(fault) => fault.tell(writer),
@@ -109,7 +112,8 @@ impl From<WriteFailed> for CheckFault {
 /// Reads a log to the end of a reader. The input is freed when it returns.
 fn read_log_from<L: Source>(alloc: Global, log: &mut L) -> Result<Log, CheckFault>
     ensures ok { IfOk result (λ read. HasReadLog (L.known log.old) (L.known log.new) read.lines) }
-    ensures err { IfErr result (λ fault. StopsReadingLog fault (L.known log.old) (L.known log.new)) }
+    ensures err { IfErr result (λ fault. StopsReadingLog fault (L.known log.old)
+        (L.known log.new)) }
 {
     let input = read_input(alloc, log)?;
     Ok(read_log(alloc, &input)?)
@@ -117,9 +121,9 @@ fn read_log_from<L: Source>(alloc: Global, log: &mut L) -> Result<Log, CheckFaul
 
 /// Reads a trace to its end and then a log, and writes the verdict on the log as one line.
 ///
-/// The log's reader is called only once the trace is read and accepted. Both inputs are freed before the check
-/// begins, and nothing is written before the verdict is known. Each call is told as it is made once more. Once a read or a write has failed, no later call
-/// makes up for it.
+/// The log's reader is called only once the trace is read and accepted. Both inputs are freed
+/// before the check begins, and nothing is written before the verdict is known. Each call is told
+/// as it is made once more. Once a read or a write has failed, no later call makes up for it.
 pub fn check_stream<R: Source, L: Source, W: Sink, P: Progress>(
     alloc: Global,
     trace: &mut R,

@@ -3,7 +3,7 @@ ghost use Rattle.std.specs.Prelude.{◌≡◌, ◌⊎◌, ◌<◌, ◌≤◌, �
 ghost use Rattle.tsc_cache.specs.Settings.{Settings};
 ghost use Rattle.tsc_cache.specs.History.{History, state_of};
 ghost use Rattle.tsc_cache.specs.CacheView.{StandsForState};
-ghost use Rattle.tsc_trace_json.specs.Calls.{call_fits, is_same_kind};
+ghost use Rattle.tsc_trace_format.specs.Calls.{call_fits, is_same_kind};
 ghost use Rattle.tsc_trace.specs.Log.{said_after, after_call};
 ghost use Rattle.tsc_trace.specs.Sayings.{kind_of_said, told_of};
 ghost use Rattle.tsc_check.specs.Verdict.{adds_in, is_add, is_of_kind, is_same_answer, is_same_value, is_wrong_answer, least};
@@ -12,9 +12,9 @@ ghost use Rattle.tsc_check.specs.CheckParts.{AreInOrder, HasPlaced, Lowers, Lowe
 use crate::order::Order;
 use std::alloc::Global;
 use tsc_cache::{Added, Cache, TimestampCache};
+use tsc_stream::Progress;
 use tsc_time::{NoMemory, Value};
 use tsc_trace::{Call, Line, Said, Trace, add_all_fitting, add_fitting};
-use tsc_trace_io::Progress;
 
 /// Whether two values are not the same.
 fn differ(value: Value, other: Value) -> bool
@@ -25,7 +25,8 @@ fn differ(value: Value, other: Value) -> bool
 
 /// Whether the answer of a lookup is another than the cache gives.
 fn is_other_value(cache: &Cache, call: &Call, said: Said) -> bool
-    ensures { (settings : Settings) (h : History) → StandsForState cache.now settings (state_of settings h) → is_add said ≡ false
+    ensures { (settings : Settings) (h : History) →
+        StandsForState cache.now settings (state_of settings h) → is_add said ≡ false
         → result ≡ not (is_same_answer said (said_after settings h call.now)) }
 {
     match (call, said) {
@@ -37,8 +38,10 @@ fn is_other_value(cache: &Cache, call: &Call, said: Said) -> bool
 
 /// Whether an answer tells of another addition than one of its kind that did this.
 fn is_other_added(said: Said, made: Added) -> bool
-    ensures { (answer : Said) (place : ℕ) → is_same_kind (kind_of_said answer) (kind_of_said said) ≡ true
-        → told_of answer ≡ Some (record { place = place; added = made }) → result ≡ not (is_same_answer said answer) }
+    ensures { (answer : Said) (place : ℕ) →
+        is_same_kind (kind_of_said answer) (kind_of_said said) ≡ true
+        → told_of answer ≡ Some (record { place = place; added = made }) →
+        result ≡ not (is_same_answer said answer) }
 {
     match said.told() {
         Some(told) => told.added != made,
@@ -49,9 +52,12 @@ fn is_other_added(said: Said, made: Added) -> bool
 /// Makes an Add or a batch, and tells whether its answer is another.
 fn is_other_add(cache: &mut Cache, call: &Call, said: Said) -> Result<bool, NoMemory>
     requires { call_fits cache.old.settings call.now ≡ true }
-    ensures other { IfOk result (λ other. (settings : Settings) (h : History) → StandsForState cache.old settings (state_of settings h) → is_add said ≡ true
-        → is_of_kind call.now said ≡ true → other ≡ not (is_same_answer said (said_after settings h call.now))) }
-    ensures stands { OnOk result ((settings : Settings) (thread : ℕ) (h : History) → StandsForState cache.old settings (state_of settings h)
+    ensures other { IfOk result (λ other. (settings : Settings) (h : History) →
+        StandsForState cache.old settings (state_of settings h) → is_add said ≡ true
+        → is_of_kind call.now said ≡ true →
+        other ≡ not (is_same_answer said (said_after settings h call.now))) }
+    ensures stands { OnOk result ((settings : Settings) (thread : ℕ) (h : History) →
+        StandsForState cache.old settings (state_of settings h)
         → StandsForState cache.new settings (state_of settings (after_call thread h call.now))) }
 {
     match call {
@@ -69,7 +75,8 @@ fn is_other_add(cache: &mut Cache, call: &Call, said: Said) -> Result<bool, NoMe
 
 /// The call of a line. All that it adds fits.
 fn call_of<'a>(trace: &'a Trace, line: &Line) -> Option<&'a Call>
-    ensures value { option_map (λ call. call.now) result ≡ call_in (slice_get trace.now.threads line.now.thread) line.now.index }
+    ensures value { option_map (λ call. call.now) result ≡
+        call_in (slice_get trace.now.threads line.now.thread) line.now.index }
     ensures fits { IfSome result (λ call. call_fits trace.now.config call.now ≡ true) }
 {
     trace
@@ -91,7 +98,8 @@ fn lower(i: usize, wrong: bool, least: usize) -> usize
 fn look_up(cache: &Cache, trace: &Trace, lines: &[Line], i: usize, least: usize) -> usize
     requires index { i < length lines.now }
     requires order { AreInOrder trace.now lines.now }
-    ensures { (front : ℕ) → looks_up_there lines.now front i ≡ true → StandsForState cache.now trace.now.config (state_at trace.now lines.now front)
+    ensures { (front : ℕ) → looks_up_there lines.now front i ≡ true →
+        StandsForState cache.now trace.now.config (state_at trace.now lines.now front)
         → LowersAt (is_wrong_answer trace.now lines.now) i least result }
 {
     let line = lines[i];
@@ -101,7 +109,8 @@ fn look_up(cache: &Cache, trace: &Trace, lines: &[Line], i: usize, least: usize)
     }
 }
 
-/// Makes the Add of a line, and lowers a line number to that of this line where its answer is another.
+/// Makes the Add of a line, and lowers a line number to that of this line where its answer is
+/// another.
 fn make_add(
     cache: &mut Cache,
     trace: &Trace,
@@ -112,9 +121,11 @@ fn make_add(
     requires index { i < length lines.now }
     requires order { AreInOrder trace.now lines.now }
     requires settings { cache.old.settings ≡ trace.now.config }
-    ensures lowers { IfOk result (λ new. (place : ℕ) → adds_there lines.now place i ≡ true → StandsForState cache.old trace.now.config (state_at trace.now lines.now place)
+    ensures lowers { IfOk result (λ new. (place : ℕ) → adds_there lines.now place i ≡ true →
+        StandsForState cache.old trace.now.config (state_at trace.now lines.now place)
         → LowersAt (is_wrong_answer trace.now lines.now) i least new) }
-    ensures stands { OnOk result ((place : ℕ) → adds_there lines.now place i ≡ true → StandsForState cache.old trace.now.config (state_at trace.now lines.now place)
+    ensures stands { OnOk result ((place : ℕ) → adds_there lines.now place i ≡ true →
+        StandsForState cache.old trace.now.config (state_at trace.now lines.now place)
         → StandsForState cache.new trace.now.config (state_at trace.now lines.now (suc place))) }
 {
     let line = lines[i];
@@ -124,7 +135,8 @@ fn make_add(
     }
 }
 
-/// Lowers a line number to the least of a lookup with this front whose answer is another than the cache gives.
+/// Lowers a line number to the least of a lookup with this front whose answer is another than the
+/// cache gives.
 fn look_up_all<P: Progress>(
     cache: &Cache,
     trace: &Trace,
@@ -134,11 +146,13 @@ fn look_up_all<P: Progress>(
     least: usize,
     progress: &P,
 ) -> usize
-    requires stands { StandsForState cache.now trace.now.config (state_at trace.now lines.now front) }
+    requires stands { StandsForState cache.now trace.now.config
+        (state_at trace.now lines.now front) }
     requires order { AreInOrder trace.now lines.now }
     requires placed { HasPlaced order.now lines.now (length lines.now) }
     requires front { front ≤ adds_in lines.now }
-    ensures { Lowers (is_wrong_answer trace.now lines.now) (looks_up_there lines.now front) least result }
+    ensures { Lowers (is_wrong_answer trace.now lines.now) (looks_up_there lines.now front) least
+        result }
 {
     let mut lowest = least;
     let mut next = order.lookups[front];
@@ -160,12 +174,15 @@ fn pass<P: Progress>(
     least: usize,
     progress: &P,
 ) -> Result<usize, NoMemory>
-    requires stands { StandsForState cache.old trace.now.config (state_at trace.now lines.now front) }
+    requires stands { StandsForState cache.old trace.now.config
+        (state_at trace.now lines.now front) }
     requires order { AreInOrder trace.now lines.now }
     requires placed { HasPlaced order.now lines.now (length lines.now) }
     requires front { front ≤ adds_in lines.now }
-    ensures lowers { IfOk result (λ new. Lowers (is_wrong_answer trace.now lines.now) (λ j. looks_up_there lines.now front j || adds_there lines.now front j) least new) }
-    ensures stands { OnOk result (StandsForState cache.new trace.now.config (state_at trace.now lines.now (suc front))) }
+    ensures lowers { IfOk result (λ new. Lowers (is_wrong_answer trace.now lines.now)
+        (λ j. looks_up_there lines.now front j || adds_there lines.now front j) least new) }
+    ensures stands { OnOk result (StandsForState cache.new trace.now.config
+        (state_at trace.now lines.now (suc front))) }
 {
     let least = look_up_all(cache, trace, lines, order, front, least, progress);
     match order.adds[front] {
@@ -187,7 +204,8 @@ pub fn least_untrue<P: Progress>(
 ) -> Result<Option<usize>, NoMemory>
     requires order { AreInOrder trace.now lines.now }
     requires placed { HasPlaced order.now lines.now (length lines.now) }
-    ensures { IfOk result (λ wrong. wrong ≡ least (is_wrong_answer trace.now lines.now) (length lines.now)) }
+    ensures { IfOk result (λ wrong. wrong ≡ least (is_wrong_answer trace.now lines.now)
+        (length lines.now)) }
 {
     let mut cache = Cache::new(alloc, trace.config)?;
     let mut lowest = lines.len();

@@ -1,18 +1,18 @@
 ghost use Rattle.std.specs.Prelude.{◌≡◌, ◌++◌, Some, OnOk, OnErr};
 ghost use Rattle.tsc_check.specs.Checking.{verdict_line, verdict_text};
-ghost use Rattle.tsc_trace_io.specs.Stream.{CouldNotWrite, HasWritten};
+ghost use Rattle.tsc_stream.specs.Stream.{CouldNotWrite, HasWritten};
 
 use itoa::Buffer;
 use std::fmt;
-use tsc_trace_io::{Sink, WriteFailed, write_both, write_output};
+use tsc_stream::{Sink, WriteFailed, write_both, write_output};
 
 /// What a check says of a log. Lines are counted from 1.
 #[derive(Clone, Copy, Debug, PartialEq, Eq)]
 pub enum Verdict {
     /// Each line is true.
     Right,
-    /// The least line that is not that of its call: there is no such call or no such line, or its list, its
-    /// index or its kind is another.
+    /// The least line that is not that of its call: there is no such call or no such line, or its
+    /// list, its index or its kind is another.
     WrongCall(u64),
     /// The least line whose place or front cannot be.
     WrongPlace(u64),
@@ -23,8 +23,10 @@ pub enum Verdict {
 impl Verdict {
     /// Writes the text of the verdict and a line feed. It takes no memory.
     pub fn write_line<W: Sink>(self, writer: &mut W) -> Result<(), WriteFailed>
-        ensures ok { OnOk result (HasWritten (W.known writer.old) (W.known writer.new) (verdict_line self)) }
-        ensures err { OnErr result (CouldNotWrite (W.known writer.old) (W.known writer.new) (verdict_line self)) }
+        ensures ok { OnOk result (HasWritten (W.known writer.old) (W.known writer.new)
+            (verdict_line self)) }
+        ensures err { OnErr result
+            (CouldNotWrite (W.known writer.old) (W.known writer.new) (verdict_line self)) }
     {
         let mut digits = Buffer::new();
         let (text, number) = self.parts(&mut digits);

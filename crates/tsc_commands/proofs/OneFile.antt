@@ -19,25 +19,33 @@ module _ (name : Word) where
   abbrev pub one_yet : Word → Bool → Walk
   one_yet file is_trailing = at [] (Some (codes "file", file ∷ [])) 2 is_trailing
 
-  pub one_then : (file : Word) (rest : List Word) → OneAgrees (one_yet file true) rest (lone (Some (file ∷ rest)))
+  pub one_then : (file : Word) (rest : List Word) →
+      OneAgrees (one_yet file true) rest (lone (Some (file ∷ rest)))
   unfolding walk_fault walked defaults_fault
   one_then file [] = accepted _ _ _ refl refl
-  one_then file (u ∷ us) = leaf_refused one_leaf (first_of (codes "file")) (one_yet file true) u us _ refl tt
+  one_then file (u ∷ us) = leaf_refused one_leaf (first_of (codes "file")) (one_yet file true) u us
+      _ refl tt
 
   pub none_then : (rest : List Word) → OneAgrees (none_yet true) rest (lone (Some rest))
   unfolding walk_fault walked defaults_fault
   none_then [] = refused _ _ _ refl tt
-  none_then (v ∷ rest) = leaf_next one_leaf (first_of (codes "file")) (none_yet true) (one_yet v true) v rest _ refl refl (one_then v rest)
+  none_then (v ∷ rest) = leaf_next one_leaf (first_of (codes "file")) (none_yet true)
+      (one_yet v true) v rest _ refl refl (one_then v rest)
 
-  pub one_found : (file : Word) (rest : List Word) → OneAgrees (one_yet file false) rest (lone (option_map (λ more. file ∷ more) (operands rest)))
+  pub one_found : (file : Word) (rest : List Word) →
+      OneAgrees (one_yet file false) rest (lone (option_map (λ more. file ∷ more) (operands rest)))
   unfolding walk_fault walked defaults_fault
   one_found file [] = accepted _ _ _ refl refl
-  one_found file (u ∷ us) = leaf_word one_leaf (first_of (codes "file")) (λ _. refl) (λ _. refl) [] (Some (codes "file", file ∷ [])) 2 u us
+  one_found file (u ∷ us) = leaf_word one_leaf (first_of (codes "file")) (λ _. refl) (λ _. refl) []
+      (Some (codes "file", file ∷ [])) 2 u us
       (λ o. lone (option_map (λ more. file ∷ more) o)) refl (one_then file us)
-      (λ turn _. leaf_refused one_leaf (first_of (codes "file")) (one_yet file false) u us _ (two_are_not_one file u (operands us)) (subst Fails (sym turn) tt))
+      (λ turn _. leaf_refused one_leaf (first_of (codes "file")) (one_yet file false) u us _
+      (two_are_not_one file u (operands us)) (subst Fails (sym turn) tt))
 
   pub none_found : (rest : List Word) → OneAgrees (none_yet false) rest (lone (operands rest))
   unfolding walk_fault walked defaults_fault
   none_found [] = refused _ _ _ refl tt
-  none_found (v ∷ rest) = leaf_word one_leaf (first_of (codes "file")) (λ _. refl) (λ _. refl) [] None 1 v rest lone refl (none_then rest)
-      (λ turn walk. leaf_next one_leaf (first_of (codes "file")) (none_yet false) (one_yet v false) v rest _ turn walk (one_found v rest))
+  none_found (v ∷ rest) = leaf_word one_leaf (first_of (codes "file")) (λ _. refl) (λ _. refl) []
+      None 1 v rest lone refl (none_then rest)
+      (λ turn walk. leaf_next one_leaf (first_of (codes "file")) (none_yet false) (one_yet v false)
+      v rest _ turn walk (one_found v rest))

@@ -3,8 +3,8 @@ use Rattle.std.proofs.Common.{◌≡◌, ◌==◌, ◌++◌, ◌⊎◌, ◌∙�
 use Rattle.tsc_trace.specs.LogText.{line_feed}
 use Rattle.tsc_trace.specs.Replay.{StopsReplay}
 use Rattle.tsc_trace.specs.declared.replays.ReplayFault.TheVariants.{Read}
-use Rattle.tsc_trace_io.proofs.Reliable.{fresh_is_reliable, reliable_reads_do_not_fail}
-use Rattle.tsc_trace_io.specs.Stream.{KnownReader, KnownWriter, no_trouble}
+use Rattle.tsc_stream.proofs.Reliable.{fresh_is_reliable, reliable_reads_do_not_fail}
+use Rattle.tsc_stream.specs.Stream.{KnownReader, KnownWriter, no_trouble}
 use Rattle.tsc_commands.specs.Check.{EndsCheck}
 use Rattle.tsc_commands.specs.Place.{KnownFile, Opening, fresh_file}
 use Rattle.tsc_commands.specs.Replay.{EndsReplay}
@@ -32,30 +32,40 @@ module _ (bytes : Word → List ℕ) (words : List Word) (status : ℕ) (w w' e 
   abbrev Runs : Type 0
   Runs = RunsProgram (Ok words) (at_hand bytes) status w w' e e'
 
-  over_its_file : (command : Ends) (file : Word) → GoesOver command (at_hand bytes file) status w w' e e' → GoesOverFile command (in_memory (bytes file)) status w w' e e'
-  over_its_file command file went = subst (λ (o : Opening). GoesOverOpening command o status w w' e e') went.opened went.ends
+  over_its_file : (command : Ends) (file : Word) →
+      GoesOver command (at_hand bytes file) status w w' e e' →
+      GoesOverFile command (in_memory (bytes file)) status w w' e e'
+  over_its_file command file went =
+      subst (λ (o : Opening). GoesOverOpening command o status w w' e e') went.opened went.ends
 
   -- Where something is asked for, it is done, unless memory is wanting for the words.
-  what_is_asked_is_done : (request : Request) → request_in words ≡ Some request → Runs → DoesAsked (Ok request) (at_hand bytes) status w w' e e' ⊎ Tells NoMemory 5
+  what_is_asked_is_done : (request : Request) → request_in words ≡ Some request → Runs →
+      DoesAsked (Ok request) (at_hand bytes) status w w' e e' ⊎ Tells NoMemory 5
   what_is_asked_is_done request is ran = go ran.asked ran.is_asked ran.ends
     where
       request_of : Option Request → Request
       request_of (Some other) = other
       request_of None = request
 
-      go : (asked : Result Request WordsFault) → AskFor (Ok words) asked → DoesAsked asked (at_hand bytes) status w w' e e' → DoesAsked (Ok request) (at_hand bytes) status w w' e e' ⊎ Tells NoMemory 5
-      go (Ok other) same ends = inl (subst (λ (r : Request). DoesAsked (Ok r) (at_hand bytes) status w w' e e') (ap request_of (sym same ∙ is)) ends)
+      go : (asked : Result Request WordsFault) → AskFor (Ok words) asked →
+          DoesAsked asked (at_hand bytes) status w w' e e' →
+          DoesAsked (Ok request) (at_hand bytes) status w w' e e' ⊎ Tells NoMemory 5
+      go (Ok other) same ends = inl
+          (subst (λ (r : Request). DoesAsked (Ok r) (at_hand bytes) status w w' e e')
+          (ap request_of (sym same ∙ is)) ends)
       go (Err Wrong) none ends = absurd (true≢false (subst IsNone is none))
       go (Err NoMemory) any ends = inr ends
 
   -- Where a file is asked for, the command goes over its bytes.
-  pub asked_file_is_replayed : (file : Word) → request_in words ≡ Some (replay file) → Runs → GoesOverFile EndsReplay (in_memory (bytes file)) status w w' e e' ⊎ Tells NoMemory 5
+  pub asked_file_is_replayed : (file : Word) → request_in words ≡ Some (replay file) → Runs →
+      GoesOverFile EndsReplay (in_memory (bytes file)) status w w' e e' ⊎ Tells NoMemory 5
   asked_file_is_replayed file is ran = elim (what_is_asked_is_done (replay file) is ran) [
     | inl ends ↦ inl (over_its_file EndsReplay file ends)
     | inr told ↦ inr told
   ]
 
-  pub asked_file_is_run : (file : Word) → request_in words ≡ Some (run file) → Runs → GoesOverFile EndsRun (in_memory (bytes file)) status w w' e e' ⊎ Tells NoMemory 5
+  pub asked_file_is_run : (file : Word) → request_in words ≡ Some (run file) → Runs →
+      GoesOverFile EndsRun (in_memory (bytes file)) status w w' e e' ⊎ Tells NoMemory 5
   asked_file_is_run file is ran = elim (what_is_asked_is_done (run file) is ran) [
     | inl ends ↦ inl (over_its_file EndsRun file ends)
     | inr told ↦ inr told
@@ -65,69 +75,97 @@ module _ (bytes : Word → List ℕ) (words : List Word) (status : ℕ) (w w' e 
   pub record ChecksBytes (trace log : Word) : Type 0 where
     pub trace' : KnownReader
     pub log' : KnownReader
-    pub ends : EndsCheck status (fresh_file (in_memory (bytes trace))) trace' (fresh_file (in_memory (bytes log))) log' w w' e e'
+    pub ends : EndsCheck status (fresh_file (in_memory (bytes trace))) trace'
+        (fresh_file (in_memory (bytes log))) log' w w' e e'
 
-  pub asked_log_is_checked : (trace log : Word) → request_in words ≡ Some (check trace log) → Runs → ChecksBytes trace log ⊎ Tells NoMemory 5
+  pub asked_log_is_checked : (trace log : Word) → request_in words ≡ Some (check trace log) → Runs →
+      ChecksBytes trace log ⊎ Tells NoMemory 5
   asked_log_is_checked trace log is ran = elim (what_is_asked_is_done (check trace log) is ran) [
     | inl ends ↦ inl (over_both (over_its_file (EndsCheckOf (at_hand bytes log)) trace ends))
     | inr told ↦ inr told
   ]
     where
-      over_both : GoesOverFile (EndsCheckOf (at_hand bytes log)) (in_memory (bytes trace)) status w w' e e' → ChecksBytes trace log
+      over_both : GoesOverFile (EndsCheckOf (at_hand bytes log)) (in_memory (bytes trace)) status w
+          w' e e' → ChecksBytes trace log
       over_both over =
-          let over_log = over_its_file (λ ended read read'. EndsCheck ended (fresh_file (in_memory (bytes trace))) over.reader' read read') log over.ends in
+          let over_log = over_its_file
+          (λ ended read read'. EndsCheck ended (fresh_file (in_memory (bytes trace)))
+          over.reader' read read') log over.ends in
           record { trace' = over.reader'; log' = over_log.reader'; ends = over_log.ends }
 
   -- Where nothing is asked for, the usage is told, unless memory is wanting for the words.
-  pub nothing_asked_tells_the_usage : request_in words ≡ None → Runs → Tells Wrong 2 ⊎ Tells NoMemory 5
+  pub nothing_asked_tells_the_usage : request_in words ≡ None → Runs →
+      Tells Wrong 2 ⊎ Tells NoMemory 5
   nothing_asked_tells_the_usage is ran = go ran.asked ran.is_asked ran.ends
     where
-      go : (asked : Result Request WordsFault) → AskFor (Ok words) asked → DoesAsked asked (at_hand bytes) status w w' e e' → Tells Wrong 2 ⊎ Tells NoMemory 5
-      go (Ok request) same ends = absurd (true≢false (subst IsNone same (subst IsNone (sym is) refl)))
+      go : (asked : Result Request WordsFault) → AskFor (Ok words) asked →
+          DoesAsked asked (at_hand bytes) status w w' e e' → Tells Wrong 2 ⊎ Tells NoMemory 5
+      go (Ok request) same ends = absurd
+          (true≢false (subst IsNone same (subst IsNone (sym is) refl)))
       go (Err Wrong) none ends = inl ends
       go (Err NoMemory) any ends = inr ends
 
 -- ---- a trace that is not opened
 
 -- It is told, whatever opening the log may come to.
-pub an_unopened_trace_is_told : (opens : Word → Opening → Type 0) (trace log : Word) (status : ℕ) (w w' e e' : KnownWriter)
-    → ((opening : Opening) → opens trace opening → opening ≡ Err Unopened) → DoesAsked (Ok (check trace log)) opens status w w' e e'
+pub an_unopened_trace_is_told : (opens : Word → Opening → Type 0) (trace log : Word) (status : ℕ)
+    (w w' e e' : KnownWriter)
+    → ((opening : Opening) → opens trace opening → opening ≡ Err Unopened) →
+    DoesAsked (Ok (check trace log)) opens status w w' e e'
     → OnlyTells (codes "read failed" ++ line_feed ∷ []) 4 status w w' e e'
 an_unopened_trace_is_told opens trace log status w w' e e' unopened went =
-    subst (λ (o : Opening). GoesOverOpening (EndsCheckOf (opens log)) o status w w' e e') (unopened went.opening went.opened) went.ends
+    subst (λ (o : Opening). GoesOverOpening (EndsCheckOf (opens log)) o status w w' e e')
+    (unopened went.opening went.opened) went.ends
 
 -- ---- four calls
 
-pub the_named_file_is_replayed : (bytes : Word → List ℕ) (name : Word) (first : ℕ) (rest : List ℕ) (status : ℕ) (w w' e e' : KnownWriter) → (first == 45) ≡ false
-    → RunsProgram (Ok (name ∷ codes "replay" ∷ (first ∷ rest) ∷ [])) (at_hand bytes) status w w' e e'
-    → GoesOverFile EndsReplay (in_memory (bytes (first ∷ rest))) status w w' e e' ⊎ OnlyTells (codes "out of memory" ++ line_feed ∷ []) 5 status w w' e e'
+pub the_named_file_is_replayed : (bytes : Word → List ℕ) (name : Word) (first : ℕ) (rest : List ℕ)
+    (status : ℕ) (w w' e e' : KnownWriter) → (first == 45) ≡ false
+    → RunsProgram (Ok (name ∷ codes "replay" ∷ (first ∷ rest) ∷ [])) (at_hand bytes) status w
+    w' e e'
+    → GoesOverFile EndsReplay (in_memory (bytes (first ∷ rest))) status w w' e e' ⊎
+    OnlyTells (codes "out of memory" ++ line_feed ∷ []) 5 status w w' e e'
 the_named_file_is_replayed bytes name first rest status w w' e e' plain ran =
-    asked_file_is_replayed bytes _ status w w' e e' (first ∷ rest) (a_named_file_is_replayed name first rest plain) ran
+    asked_file_is_replayed bytes _ status w w' e e' (first ∷ rest)
+    (a_named_file_is_replayed name first rest plain) ran
 
-pub the_named_file_is_run : (bytes : Word → List ℕ) (name : Word) (first : ℕ) (rest : List ℕ) (status : ℕ) (w w' e e' : KnownWriter) → (first == 45) ≡ false
+pub the_named_file_is_run : (bytes : Word → List ℕ) (name : Word) (first : ℕ) (rest : List ℕ)
+    (status : ℕ) (w w' e e' : KnownWriter) → (first == 45) ≡ false
     → RunsProgram (Ok (name ∷ codes "run" ∷ (first ∷ rest) ∷ [])) (at_hand bytes) status w w' e e'
-    → GoesOverFile EndsRun (in_memory (bytes (first ∷ rest))) status w w' e e' ⊎ OnlyTells (codes "out of memory" ++ line_feed ∷ []) 5 status w w' e e'
+    → GoesOverFile EndsRun (in_memory (bytes (first ∷ rest))) status w w' e e' ⊎
+    OnlyTells (codes "out of memory" ++ line_feed ∷ []) 5 status w w' e e'
 the_named_file_is_run bytes name first rest status w w' e e' plain ran =
-    asked_file_is_run bytes _ status w w' e e' (first ∷ rest) (a_named_file_is_run name first rest plain) ran
+    asked_file_is_run bytes _ status w w' e e' (first ∷ rest)
+    (a_named_file_is_run name first rest plain) ran
 
-pub the_named_log_is_checked : (bytes : Word → List ℕ) (name : Word) (first second : ℕ) (rest more : List ℕ) (status : ℕ) (w w' e e' : KnownWriter)
+pub the_named_log_is_checked : (bytes : Word → List ℕ) (name : Word) (first second : ℕ)
+    (rest more : List ℕ) (status : ℕ) (w w' e e' : KnownWriter)
     → (first == 45) ≡ false → (second == 45) ≡ false
-    → RunsProgram (Ok (name ∷ codes "check" ∷ (first ∷ rest) ∷ (second ∷ more) ∷ [])) (at_hand bytes) status w w' e e'
-    → ChecksBytes bytes (name ∷ codes "check" ∷ (first ∷ rest) ∷ (second ∷ more) ∷ []) status w w' e e' (first ∷ rest) (second ∷ more)
+    → RunsProgram (Ok (name ∷ codes "check" ∷ (first ∷ rest) ∷ (second ∷ more) ∷ []))
+    (at_hand bytes) status w w' e e'
+    → ChecksBytes bytes (name ∷ codes "check" ∷ (first ∷ rest) ∷ (second ∷ more) ∷ []) status w w' e
+    e' (first ∷ rest) (second ∷ more)
     ⊎ OnlyTells (codes "out of memory" ++ line_feed ∷ []) 5 status w w' e e'
 the_named_log_is_checked bytes name first second rest more status w w' e e' plain also ran =
-    asked_log_is_checked bytes _ status w w' e e' (first ∷ rest) (second ∷ more) (a_named_log_is_checked name first second rest more plain also) ran
+    asked_log_is_checked bytes _ status w w' e e' (first ∷ rest) (second ∷ more)
+    (a_named_log_is_checked name first second rest more plain also) ran
 
-pub a_word_too_many_tells_the_usage : (bytes : Word → List ℕ) (name : Word) (first second : ℕ) (rest more : List ℕ) (status : ℕ) (w w' e e' : KnownWriter)
+pub a_word_too_many_tells_the_usage : (bytes : Word → List ℕ) (name : Word) (first second : ℕ)
+    (rest more : List ℕ) (status : ℕ) (w w' e e' : KnownWriter)
     → (first == 45) ≡ false → (second == 45) ≡ false
-    → RunsProgram (Ok (name ∷ codes "replay" ∷ (first ∷ rest) ∷ (second ∷ more) ∷ [])) (at_hand bytes) status w w' e e'
-    → OnlyTells (codes "usage: tscache replay FILE, run FILE or check FILE LOG" ++ line_feed ∷ []) 2 status w w' e e'
+    → RunsProgram (Ok (name ∷ codes "replay" ∷ (first ∷ rest) ∷ (second ∷ more) ∷ []))
+    (at_hand bytes) status w w' e e'
+    → OnlyTells (codes "usage: tscache replay FILE, run FILE or check FILE LOG" ++ line_feed ∷ []) 2
+    status w w' e e'
     ⊎ OnlyTells (codes "out of memory" ++ line_feed ∷ []) 5 status w w' e e'
 a_word_too_many_tells_the_usage bytes name first second rest more status w w' e e' plain also ran =
-    nothing_asked_tells_the_usage bytes _ status w w' e e' (two_files_ask_for_nothing name first second rest more plain also) ran
+    nothing_asked_tells_the_usage bytes _ status w w' e e'
+    (two_files_ask_for_nothing name first second rest more plain also) ran
 
 -- ---- bytes in memory
 
 -- They are read, or there are too many of them, or memory is wanting: no read fails.
-pub bytes_in_memory_are_read : (bytes : List ℕ) (reader' : KnownReader) (w w' : KnownWriter) → StopsReplay Read (fresh_file (in_memory bytes)) reader' w w' → ⊥
-bytes_in_memory_are_read bytes reader' w w' stopped = reliable_reads_do_not_fail _ reader' (fresh_is_reliable (Some bytes)) stopped.read
+pub bytes_in_memory_are_read : (bytes : List ℕ) (reader' : KnownReader) (w w' : KnownWriter) →
+    StopsReplay Read (fresh_file (in_memory bytes)) reader' w w' → ⊥
+bytes_in_memory_are_read bytes reader' w w' stopped =
+    reliable_reads_do_not_fail _ reader' (fresh_is_reliable (Some bytes)) stopped.read

@@ -15,7 +15,8 @@ one_file_shape name = (with_rule (new_app name) (file_rule (codes "file"))).top
 
 -- a subcommand that takes a trace and a log
 abbrev pub trace_and_log_shape : Word → Shape
-trace_and_log_shape name = (with_rule (with_rule (new_app name) (file_rule (codes "trace"))) (file_rule (codes "log"))).top
+trace_and_log_shape name = (with_rule (with_rule (new_app name) (file_rule (codes "trace")))
+    (file_rule (codes "log"))).top
 
 -- the program, without its subcommands
 abbrev pub bare_shape : Shape
@@ -25,7 +26,7 @@ bare_shape = record (new_shape (codes "tscache")) {
   disable_help_subcommand = true;
 }
 
--- and the same as what clap walks over
+-- the program's words, as what clap walks over
 abbrev pub bare_app : App
 bare_app = record { top = bare_shape; subs = [] }
 

@@ -1,9 +1,10 @@
--- What the program does: what its words ask for, what that comes to, its exit status, and what it tells.
+-- What the program does: what its words ask for, what that comes to, its exit status, and what it
+-- tells.
 use Rattle.std.specs.Prelude.{◌≡◌, ◌++◌, ℕ, List, [], ◌∷◌, map, Result, Ok, Err, Vec, string_bytes}
 use Rattle.std.specs.declared.string.String.{String}
 use Rattle.std.specs.declared.alloc.Global.{Global}
 use Rattle.tsc_trace.specs.LogText.{line_feed}
-use Rattle.tsc_trace_io.specs.Stream.{KnownReader, KnownWriter}
+use Rattle.tsc_stream.specs.Stream.{KnownReader, KnownWriter}
 use Rattle.tsc_trace.specs.declared.replays.ReplayFault.{ReplayFault}
 use Rattle.tsc_trace.specs.declared.replays.ReplayFault.TheVariants.{Read, NoMemory}
 use Rattle.tsc_commands.specs.Check.{EndsCheck}
@@ -26,7 +27,8 @@ AskFor (Ok words) asked = Answers (λ request. request) (request_in words) asked
 AskFor (Err fault) asked = asked ≡ Err fault
 
 -- Nothing was written, and one line was told, with this exit status.
-pub record OnlyTells (line : List ℕ) (wanted status : ℕ) (writer writer' errors errors' : KnownWriter) : Type 0 where
+pub record OnlyTells (line : List ℕ) (wanted status : ℕ)
+    (writer writer' errors errors' : KnownWriter) : Type 0 where
   pub is_status : status ≡ wanted
   pub told : Tells line errors errors'
   pub silent : writer' ≡ writer
@@ -36,23 +38,31 @@ abbrev pub fault_of_open : OpenFault → ReplayFault
 fault_of_open open_fault.Unopened = Read
 fault_of_open open_fault.NoMemory = NoMemory
 
--- how a command ends, by its exit status and what is known before and after of its reader, its writer and its stream for faults
+-- how a command ends, by its exit status and what is known before and after of its reader, its
+-- writer and its stream for faults
 abbrev pub Ends : Type 1
-Ends = ℕ → KnownReader → KnownReader → KnownWriter → KnownWriter → KnownWriter → KnownWriter → Type 0
+Ends = ℕ → KnownReader → KnownReader → KnownWriter → KnownWriter → KnownWriter →
+    KnownWriter → Type 0
 
 -- A command went over a file of which this is known, from its first byte on.
-pub record GoesOverFile (command : Ends) (file : KnownFile) (status : ℕ) (writer writer' errors errors' : KnownWriter) : Type 0 where
+pub record GoesOverFile (command : Ends) (file : KnownFile) (status : ℕ)
+    (writer writer' errors errors' : KnownWriter) : Type 0 where
   pub reader' : KnownReader
   pub ends : command status (fresh_file file) reader' writer writer' errors errors'
 
 -- how a command over a file ends, by what opening the file came to
-abbrev pub GoesOverOpening : Ends → Opening → ℕ → KnownWriter → KnownWriter → KnownWriter → KnownWriter → Type 0
-GoesOverOpening command (Ok file) status writer writer' errors errors' = GoesOverFile command file status writer writer' errors errors'
+abbrev pub GoesOverOpening : Ends → Opening → ℕ → KnownWriter → KnownWriter → KnownWriter →
+    KnownWriter → Type 0
+GoesOverOpening command (Ok file) status writer writer' errors errors' =
+    GoesOverFile command file status writer writer' errors errors'
 GoesOverOpening command (Err fault) status writer writer' errors errors' =
-    OnlyTells (fault_line (fault_of_open fault)) (status_of (fault_of_open fault)) status writer writer' errors errors'
+    OnlyTells (fault_line (fault_of_open fault)) (status_of (fault_of_open fault)) status writer
+    writer' errors errors'
 
--- A file was opened, or was not, and a command ended by that. What opening it may come to is for the place.
-pub record GoesOver (command : Ends) (may_be : Opening → Type 0) (status : ℕ) (writer writer' errors errors' : KnownWriter) : Type 0 where
+-- A file was opened, or was not, and a command ended by that. What opening it may come to is for
+-- the place.
+pub record GoesOver (command : Ends) (may_be : Opening → Type 0) (status : ℕ)
+    (writer writer' errors errors' : KnownWriter) : Type 0 where
   pub opening : Opening
   pub opened : may_be opening
   pub ends : GoesOverOpening command opening status writer writer' errors errors'
@@ -60,20 +70,27 @@ pub record GoesOver (command : Ends) (may_be : Opening → Type 0) (status : ℕ
 -- how a check ends whose trace was opened, by what opening its log may come to
 abbrev pub EndsCheckOf : (Opening → Type 0) → Ends
 EndsCheckOf may_be status trace trace' writer writer' errors errors' =
-    GoesOver (λ ended log log'. EndsCheck ended trace trace' log log') may_be status writer writer' errors errors'
+    GoesOver (λ ended log log'. EndsCheck ended trace trace' log log') may_be status writer writer'
+    errors errors'
 
--- How the program ends, by what it is asked to do: to replay or to run the file of a name, to check the log in a file against the trace in
+-- How the program ends, by what it is asked to do: to replay or to run the file of a name, to check
+-- the log in a file against the trace in
 -- another, which is opened first, or nothing.
-abbrev pub DoesAsked : Result Request WordsFault → (Word → Opening → Type 0) → ℕ → KnownWriter → KnownWriter → KnownWriter → KnownWriter → Type 0
-DoesAsked (Ok (replay file)) opens status writer writer' errors errors' = GoesOver EndsReplay (opens file) status writer writer' errors errors'
-DoesAsked (Ok (run file)) opens status writer writer' errors errors' = GoesOver EndsRun (opens file) status writer writer' errors errors'
+abbrev pub DoesAsked : Result Request WordsFault → (Word → Opening → Type 0) → ℕ → KnownWriter →
+    KnownWriter → KnownWriter → KnownWriter → Type 0
+DoesAsked (Ok (replay file)) opens status writer writer' errors errors' =
+    GoesOver EndsReplay (opens file) status writer writer' errors errors'
+DoesAsked (Ok (run file)) opens status writer writer' errors errors' =
+    GoesOver EndsRun (opens file) status writer writer' errors errors'
 DoesAsked (Ok (check trace log)) opens status writer writer' errors errors' =
     GoesOver (EndsCheckOf (opens log)) (opens trace) status writer writer' errors errors'
 DoesAsked (Err fault) opens status writer writer' errors errors' =
-    OnlyTells (refusal_text fault ++ line_feed ∷ []) (refusal_status fault) status writer writer' errors errors'
+    OnlyTells (refusal_text fault ++ line_feed ∷ []) (refusal_status fault) status writer writer'
+    errors errors'
 
 -- The program did what its words ask for, with what opening the file of a name may come to.
-pub record RunsProgram (words : Result (List Word) WordsFault) (opens : Word → Opening → Type 0) (status : ℕ) (writer writer' errors errors' : KnownWriter) : Type 0 where
+pub record RunsProgram (words : Result (List Word) WordsFault) (opens : Word → Opening → Type 0)
+    (status : ℕ) (writer writer' errors errors' : KnownWriter) : Type 0 where
   pub asked : Result Request WordsFault
   pub is_asked : AskFor words asked
   pub ends : DoesAsked asked opens status writer writer' errors errors'

@@ -2,8 +2,8 @@
 use Rattle.std.specs.Prelude.{◌≡◌, ◌++◌, ℕ, List, ◌⊎◌, ◌∷◌, []}
 use Rattle.tsc_trace.specs.LogText.{line_feed}
 use Rattle.tsc_trace.specs.Replay.{Done, StopsReplay, fault_text}
-use Rattle.tsc_trace_io.specs.Stream.{KnownReader, KnownWriter, HasWritten, CouldNotWrite}
-use Rattle.tsc_trace_json.specs.declared.read.TraceFault.TheVariants as trace_fault
+use Rattle.tsc_stream.specs.Stream.{KnownReader, KnownWriter, HasWritten, CouldNotWrite}
+use Rattle.tsc_trace_format.specs.declared.read.TraceFault.TheVariants as trace_fault
 use Rattle.tsc_trace.specs.declared.replays.ReplayFault.{ReplayFault}
 use Rattle.tsc_trace.specs.declared.replays.ReplayFault.TheVariants.{Read, TooLong, Trace as Refused, Write, NoMemory}
 
@@ -32,19 +32,23 @@ abbrev pub Tells : List ℕ → KnownWriter → KnownWriter → Type 0
 Tells line errors errors' = HasWritten errors errors' line ⊎ CouldNotWrite errors errors' line
 
 -- The replay was done, with exit status 0, and nothing was told.
-pub record Succeeds (status : ℕ) (reader reader' : KnownReader) (writer writer' errors errors' : KnownWriter) : Type 0 where
+pub record Succeeds (status : ℕ) (reader reader' : KnownReader)
+    (writer writer' errors errors' : KnownWriter) : Type 0 where
   pub done : Done reader reader' writer writer'
   pub is_status : status ≡ 0
   pub quiet : errors' ≡ errors
 
 -- The replay ended early, and its fault was told, with the exit status of that fault.
-pub record Fails (status : ℕ) (reader reader' : KnownReader) (writer writer' errors errors' : KnownWriter) : Type 0 where
+pub record Fails (status : ℕ) (reader reader' : KnownReader)
+    (writer writer' errors errors' : KnownWriter) : Type 0 where
   pub fault : ReplayFault
   pub stopped : StopsReplay fault reader reader' writer writer'
   pub is_status : status ≡ status_of fault
   pub told : Tells (fault_line fault) errors errors'
 
 -- how the command ends
-abbrev pub EndsReplay : ℕ → KnownReader → KnownReader → KnownWriter → KnownWriter → KnownWriter → KnownWriter → Type 0
+abbrev pub EndsReplay : ℕ → KnownReader → KnownReader → KnownWriter → KnownWriter → KnownWriter →
+    KnownWriter → Type 0
 EndsReplay status reader reader' writer writer' errors errors' =
-    Succeeds status reader reader' writer writer' errors errors' ⊎ Fails status reader reader' writer writer' errors errors'
+    Succeeds status reader reader' writer writer' errors errors' ⊎
+    Fails status reader reader' writer writer' errors errors'

@@ -1,7 +1,8 @@
--- How the command that runs a trace on threads ends: what it did, its exit status, and what it tells.
+-- How the command that runs a trace on threads ends: what it did, its exit status, and what it
+-- tells.
 use Rattle.std.specs.Prelude.{◌≡◌, ◌++◌, ℕ, List, ◌⊎◌, ◌∷◌, []}
 use Rattle.tsc_trace.specs.LogText.{line_feed}
-use Rattle.tsc_trace_io.specs.Stream.{KnownReader, KnownWriter}
+use Rattle.tsc_stream.specs.Stream.{KnownReader, KnownWriter}
 use Rattle.tsc_run.specs.Ending.{Ran, StopsRun, stop_text}
 use Rattle.tsc_run.specs.declared.streams.RunStop.{RunStop}
 use Rattle.tsc_run.specs.declared.streams.RunStop.TheVariants.{Stream, NoView, NoPlace, HistoryFull, NoThread}
@@ -20,19 +21,23 @@ abbrev pub stop_line : RunStop → List ℕ
 stop_line stop = stop_text stop ++ line_feed ∷ []
 
 -- The run was done, with exit status 0, and nothing was told.
-pub record SucceedsRun (status : ℕ) (reader reader' : KnownReader) (writer writer' errors errors' : KnownWriter) : Type 0 where
+pub record SucceedsRun (status : ℕ) (reader reader' : KnownReader)
+    (writer writer' errors errors' : KnownWriter) : Type 0 where
   pub ran : Ran reader reader' writer writer'
   pub is_status : status ≡ 0
   pub quiet : errors' ≡ errors
 
 -- The run ended early, and that was told, with its exit status.
-pub record FailsRun (status : ℕ) (reader reader' : KnownReader) (writer writer' errors errors' : KnownWriter) : Type 0 where
+pub record FailsRun (status : ℕ) (reader reader' : KnownReader)
+    (writer writer' errors errors' : KnownWriter) : Type 0 where
   pub stop : RunStop
   pub stopped : StopsRun stop reader reader' writer writer'
   pub is_status : status ≡ stop_status stop
   pub told : Tells (stop_line stop) errors errors'
 
 -- how the command ends
-abbrev pub EndsRun : ℕ → KnownReader → KnownReader → KnownWriter → KnownWriter → KnownWriter → KnownWriter → Type 0
+abbrev pub EndsRun : ℕ → KnownReader → KnownReader → KnownWriter → KnownWriter → KnownWriter →
+    KnownWriter → Type 0
 EndsRun status reader reader' writer writer' errors errors' =
-    SucceedsRun status reader reader' writer writer' errors errors' ⊎ FailsRun status reader reader' writer writer' errors errors'
+    SucceedsRun status reader reader' writer writer' errors errors' ⊎
+    FailsRun status reader reader' writer writer' errors errors'

@@ -61,16 +61,24 @@ pub record Subcommand : Type 0 where
 
 -- a subcommand that takes one file
 abbrev pub with_file : Word → (Word → Request) → Subcommand
-with_file name request = record { name = name; asked = λ rest. option_map request (lone (operands rest)) }
+with_file name request = record {
+  name = name;
+  asked = λ rest. option_map request (lone (operands rest));
+}
 
 -- a subcommand that takes two files
 abbrev pub with_two_files : Word → (Word → Word → Request) → Subcommand
 with_two_files name request =
-    record { name = name; asked = λ rest. option_map (λ files. request files.0 files.1) (pair (operands rest)) }
+    record {
+      name = name;
+      asked = λ rest. option_map (λ files. request files.0 files.1)
+          (pair (operands rest));
+    }
 
 -- the program's subcommands
 abbrev pub subcommands : List Subcommand
-subcommands = with_file (codes "replay") replay ∷ with_file (codes "run") run ∷ with_two_files (codes "check") check ∷ []
+subcommands = with_file (codes "replay") replay ∷ with_file (codes "run") run ∷
+    with_two_files (codes "check") check ∷ []
 
 -- what the subcommand of this name asks, with the words after it
 abbrev pub request_by : List Subcommand → Word → List Word → Option Request
@@ -87,7 +95,8 @@ request_after (name ∷ rest) = request_by subcommands name rest
 abbrev pub request_in : List Word → Option Request
 request_in words = request_after (drop 1 words)
 
--- why there is nothing to answer: nothing was asked for, or memory was wanting, whatever was asked for
+-- why there is nothing to answer: nothing was asked for, or memory was wanting, whatever was asked
+-- for
 abbrev pub Explains : {A : Type 0} → Option A → WordsFault → Type 0
 Explains wanted Wrong = IsNone wanted
 Explains wanted NoMemory = Unit {0}

@@ -1,12 +1,13 @@
-//! The commands of the timestamp cache's program, from readers to writers, and the program over any words and any place
-//! of files.
+//! The commands of the timestamp cache's program, from readers to writers, and the program over any
+//! words and any place of files.
 //!
-//! [`program::program`] reads the words, opens the files that they name in a [`Place`], and hands them to a command:
-//! [`replay_command`] makes the calls of a trace on one thread, [`run_command`] those of each list on a thread of its own,
-//! and [`check_command`] holds a log against its trace. Each gives the exit status, and tells a fault by one line.
-//! [`words::words`] tells what words ask for. [`SystemFiles`] and [`fetch_words`] are the files and the words of the system,
-//! and [`standard_output`] and [`standard_errors`] where the program writes. A [`Meter`] tells at a terminal how far a
-//! command is.
+//! [`program::program`] reads the words, opens the files that they name in a [`Place`], and hands
+//! them to a command: [`replay_command`] makes the calls of a trace on one thread, [`run_command`]
+//! those of each list on a thread of its own, and [`check_command`] holds a log against its trace.
+//! Each gives the exit status, and tells a fault by one line. [`words::words`] tells what words ask
+//! for. [`SystemFiles`] and [`fetch_words`] are the files and the words of the system, and
+//! [`standard_output`] and [`standard_errors`] where the program writes. A [`Meter`] tells at a
+//! terminal how far a command is.
 #![tactic(auto)]
 
 mod check;

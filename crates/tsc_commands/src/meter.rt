@@ -3,7 +3,7 @@ use std::io::{IsTerminal, Stderr, Write};
 use std::sync::atomic::{AtomicU64, Ordering};
 use std::time::{Clock, Instant};
 use tsc_shared::Gate;
-use tsc_trace_io::Progress;
+use tsc_stream::Progress;
 
 /// A command is silent for so many seconds.
 const SILENT: u64 = 2;
@@ -11,8 +11,8 @@ const SILENT: u64 = 2;
 /// One of so many calls looks at the clock.
 const CALLS: u64 = 64;
 
-/// Tells on standard error every two seconds how many calls of a trace were made, where that is a terminal. Else it tells
-/// nothing.
+/// Tells on standard error every two seconds how many calls of a trace were made, where that is a
+/// terminal. Else it tells nothing.
 #[derive(Drop)]
 pub struct Meter<'a, C> {
     clock: &'a C,

@@ -2,12 +2,12 @@
 ghost use Rattle.std.specs.Prelude.{ℕ, List};
 ghost use Rattle.tsc_commands.specs.Place.{IsOpening, Opening};
 
-use tsc_trace_io::Source;
+use tsc_stream::Source;
 
 /// Why a file was not opened.
 #[derive(Clone, Copy, Debug, PartialEq, Eq)]
 pub enum OpenFault {
-    /// It could not be opened.
+    /// The file could not be opened.
     Unopened,
     /// A growth was refused.
     NoMemory,

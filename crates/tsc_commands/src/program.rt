@@ -17,15 +17,16 @@ use std::process::ExitCode;
 use std::sync::Wait;
 use std::thread::Threads;
 use tsc_shared::Gate;
+use tsc_stream::{Progress, Sink, Source, write_output};
 use tsc_trace::ReplayFault;
-use tsc_trace_io::{Progress, Sink, Source, write_output};
 
-/// Does what the program's words ask for, and gives the code with which the process is to end, whose number is the
-/// exit status.
+/// Does what the program's words ask for, and gives the code with which the process is to end,
+/// whose number is the exit status.
 ///
-/// `words` are the words, its own name first, or why they are not to be had. Only a log or a verdict goes
-/// to the output. A fault is told by one line on `errors`, and telling it changes no status. `rt` starts the
-/// threads of a run, for whose end the call waits. `meter` is told of each call that a command makes.
+/// `words` are the words, its own name first, or why they are not to be had. Only a log or a
+/// verdict goes to the output. A fault is told by one line on `errors`, and telling it changes no
+/// status. `rt` starts the threads of a run, for whose end the call waits. `meter` is told of each
+/// call that a command makes.
 pub fn program<T: Threads + Wait + Sync, P: Place, W: Sink, E: Sink, M: Progress + Gate + Sync>(
     rt: &T,
     alloc: Global,
@@ -36,7 +37,8 @@ pub fn program<T: Threads + Wait + Sync, P: Place, W: Sink, E: Sink, M: Progress
     meter: &M,
 ) -> ExitCode
     ensures { RunsProgram (texts_of words) (P.opens place.now) (exit_status result)
-        (W.known output.old.writer) (W.known output.new.writer) (E.known errors.old.writer) (E.known errors.new.writer) }
+        (W.known output.old.writer) (W.known output.new.writer) (E.known errors.old.writer)
+        (E.known errors.new.writer) }
 {
     let status = do_asked(
         rt,
@@ -120,8 +122,8 @@ fn run_file<T: Threads + Wait + Sync, P: Place, W: Sink, E: Sink, M: Gate + Sync
     }
 }
 
-/// Checks the log in the file of a name against the trace in that of another, which is opened first. Neither
-/// is read before both are opened.
+/// Checks the log in the file of a name against the trace in that of another, which is opened
+/// first. Neither is read before both are opened.
 fn check_files<P: Place, W: Sink, E: Sink, M: Progress>(
     alloc: Global,
     place: &P,
@@ -131,7 +133,8 @@ fn check_files<P: Place, W: Sink, E: Sink, M: Progress>(
     errors: &mut E,
     meter: &M,
 ) -> u8
-    ensures { GoesOver (EndsCheckOf (P.opens place.now log.now)) (P.opens place.now trace.now) result
+    ensures { GoesOver (EndsCheckOf (P.opens place.now log.now))
+        (P.opens place.now trace.now) result
         (W.known writer.old) (W.known writer.new) (E.known errors.old) (E.known errors.new) }
 {
     match place.open(trace) {
@@ -140,8 +143,8 @@ fn check_files<P: Place, W: Sink, E: Sink, M: Progress>(
     }
 }
 
-/// Checks the log in the file of a name against the trace of a reader, which is called only once that file is
-/// opened.
+/// Checks the log in the file of a name against the trace of a reader, which is called only once
+/// that file is opened.
 fn check_file<R: Source, P: Place, W: Sink, E: Sink, M: Progress>(
     alloc: Global,
     trace: &mut R,
@@ -163,7 +166,8 @@ fn check_file<R: Source, P: Place, W: Sink, E: Sink, M: Progress>(
 /// Tells why a file was not opened, and gives the exit status.
 fn end_unopened<E: Sink>(errors: &mut E, fault: OpenFault) -> u8
     ensures status { result ≡ status_of (fault_of_open fault) }
-    ensures told { Tells (fault_line (fault_of_open fault)) (E.known errors.old) (E.known errors.new) }
+    ensures told { Tells (fault_line (fault_of_open fault)) (E.known errors.old)
+        (E.known errors.new) }
 {
     let fault = ending_of(fault);
     tell_fault(errors, fault);

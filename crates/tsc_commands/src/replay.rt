@@ -1,16 +1,16 @@
 //! The command that replays a trace from a reader to a writer, and tells how it ended.
 ghost use Rattle.std.specs.Prelude.{◌≡◌, OnOk, OnErr};
-ghost use Rattle.tsc_trace_io.specs.Stream.{CouldNotWrite, HasWritten};
+ghost use Rattle.tsc_stream.specs.Stream.{CouldNotWrite, HasWritten};
 ghost use Rattle.tsc_commands.specs.Replay.{EndsReplay, Tells, fault_line, status_of};
 
 use std::alloc::Global;
+use tsc_stream::{NoProgress, Progress, Sink, Source, WriteFailed, write_output};
 use tsc_trace::{ReplayFault, TraceFault, replay_stream_with_progress};
-use tsc_trace_io::{NoProgress, Progress, Sink, Source, WriteFailed, write_output};
 
 /// Replays a trace from a reader to a writer, tells a fault on `errors`, and gives the exit status.
 ///
-/// The status is 0 for a replay, 1 for a trace that was refused, 4 where reading or writing failed and
-/// 5 where a growth was refused. A fault is told by one line, and telling it changes no status.
+/// The status is 0 for a replay, 1 for a trace that was refused, 4 where reading or writing failed
+/// and 5 where a growth was refused. A fault is told by one line, and telling it changes no status.
 pub fn replay_command<R: Source, W: Sink, E: Sink>(
     alloc: Global,
     reader: &mut R,
@@ -63,8 +63,10 @@ pub fn tell_fault<E: Sink>(errors: &mut E, fault: ReplayFault)
 
 /// Writes the line that tells a fault. It takes no memory.
 fn write_fault<E: Sink>(errors: &mut E, fault: ReplayFault) -> Result<(), WriteFailed>
-    ensures ok { OnOk result (HasWritten (E.known errors.old) (E.known errors.new) (fault_line fault)) }
-    ensures err { OnErr result (CouldNotWrite (E.known errors.old) (E.known errors.new) (fault_line fault)) }
+    ensures ok { OnOk result (HasWritten (E.known errors.old) (E.known errors.new)
+        (fault_line fault)) }
+    ensures err { OnErr result (CouldNotWrite (E.known errors.old) (E.known errors.new)
+        (fault_line fault)) }
 {
     fault.tell(errors)?;
     write_output(errors, b"\n")

@@ -1,6 +1,6 @@
 //! The command that runs a trace on threads, from a reader to a writer, and tells how it ended.
 ghost use Rattle.std.specs.Prelude.{◌≡◌, OnOk, OnErr};
-ghost use Rattle.tsc_trace_io.specs.Stream.{CouldNotWrite, HasWritten};
+ghost use Rattle.tsc_stream.specs.Stream.{CouldNotWrite, HasWritten};
 ghost use Rattle.tsc_commands.specs.Replay.{Tells};
 ghost use Rattle.tsc_commands.specs.Run.{EndsRun, stop_line, stop_status};
 
@@ -10,14 +10,14 @@ use std::sync::Wait;
 use std::thread::Threads;
 use tsc_run::{RunStop, run_stream};
 use tsc_shared::Gate;
-use tsc_trace_io::{Sink, Source, WriteFailed, write_output};
+use tsc_stream::{Sink, Source, WriteFailed, write_output};
 
-/// Runs a trace from a reader on threads, writes its log, tells a fault on `errors`, and gives the exit
-/// status.
+/// Runs a trace from a reader on threads, writes its log, tells a fault on `errors`, and gives the
+/// exit status.
 ///
-/// The status is 0 for a run, 1 for a trace that was refused, 4 where reading or writing failed or a thread
-/// could not be started, and 5 where a growth was refused. A fault is told by one line, and telling it
-/// changes no status.
+/// The status is 0 for a run, 1 for a trace that was refused, 4 where reading or writing failed or
+/// a thread could not be started, and 5 where a growth was refused. A fault is told by one line,
+/// and telling it changes no status.
 pub fn run_command<T: Threads + Wait + Sync, R: Source, W: Sink, E: Sink, G: Gate + Sync>(
     rt: &T,
     alloc: Global,
@@ -57,8 +57,10 @@ pub fn tell_stop<E: Sink>(errors: &mut E, stop: RunStop)
 
 /// Writes the line that tells why a run ended. It takes no memory.
 fn write_stop<E: Sink>(errors: &mut E, stop: RunStop) -> Result<(), WriteFailed>
-    ensures ok { OnOk result (HasWritten (E.known errors.old) (E.known errors.new) (stop_line stop)) }
-    ensures err { OnErr result (CouldNotWrite (E.known errors.old) (E.known errors.new) (stop_line stop)) }
+    ensures ok { OnOk result (HasWritten (E.known errors.old) (E.known errors.new)
+        (stop_line stop)) }
+    ensures err { OnErr result (CouldNotWrite (E.known errors.old) (E.known errors.new)
+        (stop_line stop)) }
 {
     stop.tell(errors)?;
     write_output(errors, b"\n")

@@ -1,7 +1,8 @@
-//! What the program takes from the system: its words, the files that they name, and where it writes.
+//! What the program takes from the system: its words, the files that they name, and where it
+//! writes.
 //!
-//! The contracts of `std` say nothing of these. Tests show that these are the words of the call, and that a
-//! file is read beyond its first bytes.
+//! The contracts of `std` say nothing of these. Tests show that these are the words of the call,
+//! and that a file is read beyond its first bytes.
 ghost use Rattle.std.specs.Prelude.{◌≡◌, ◌↔◌};
 ghost use Rattle.tsc_commands.specs.Place.{says_nothing};
 
@@ -12,7 +13,7 @@ use std::env::Env;
 use std::io::{ErrorKind, Stderr, Stdout};
 use std::rt::Files;
 use std::{env, fs};
-use tsc_trace_io::{AnyTrouble, Metered};
+use tsc_stream::{AnyStreamFault, Limited};
 
 /// The program's words, of which the first is its own name. A word that is no text is wrong.
 pub fn fetch_words<R: Env + AllocGlobal>(rt: &R) -> Result<Vec<String>, WordsFault> {
@@ -33,16 +34,16 @@ fn words_fault(kind: ErrorKind) -> WordsFault
 }
 
 /// Standard output, which takes the logs and the verdicts.
-pub fn standard_output(stdout: Stdout) -> Output<Metered<AnyTrouble<Stdout>>> {
+pub fn standard_output(stdout: Stdout) -> Output<Limited<AnyStreamFault<Stdout>>> {
     Output {
-        writer: Metered::new(AnyTrouble(stdout)),
+        writer: Limited::new(AnyStreamFault(stdout)),
     }
 }
 
 /// Standard error, on which faults are told.
-pub fn standard_errors(stderr: Stderr) -> Errors<Metered<AnyTrouble<Stderr>>> {
+pub fn standard_errors(stderr: Stderr) -> Errors<Limited<AnyStreamFault<Stderr>>> {
     Errors {
-        writer: Metered::new(AnyTrouble(stderr)),
+        writer: Limited::new(AnyStreamFault(stderr)),
     }
 }
 
@@ -59,13 +60,13 @@ impl<'a, R> SystemFiles<'a, R> {
 }
 
 impl<R: Files> Place for SystemFiles<'_, R> {
-    type File = Metered<AnyTrouble<R::File>>;
+    type File = Limited<AnyStreamFault<R::File>>;
 
     ghost opens = { says_nothing };
 
-    fn open(&self, name: &str) -> Result<Metered<AnyTrouble<R::File>>, OpenFault> {
+    fn open(&self, name: &str) -> Result<Limited<AnyStreamFault<R::File>>, OpenFault> {
         match fs::open(self.runtime, name) {
-            Ok(file) => Ok(Metered::new(AnyTrouble(file))),
+            Ok(file) => Ok(Limited::new(AnyStreamFault(file))),
             Err(error) => Err(open_fault(error.kind())),
         }
     }

@@ -63,7 +63,8 @@ impl From<AllocError> for WordsFault {
 
 /// Reads the program's words, of which the first is its own name. An `Err` holds the exit status.
 pub fn words(alloc: Global, words: &[String]) -> Result<Asked, u8>
-    ensures ok { IfOk result (λ asked. request_in (map string_bytes words.now) ≡ Some (asks asked)) }
+    ensures ok { IfOk result (λ asked. request_in (map string_bytes words.now) ≡
+        Some (asks asked)) }
     ensures err { IfErr result (λ status. (fault : WordsFault) × (status ≡ refusal_status fault)
         × Explains (request_in (map string_bytes words.now)) fault) }
 {
@@ -122,7 +123,8 @@ fn with_replay<'a>(alloc: Global) -> Result<Command<'a>, AllocError>
     bare_command(alloc).subcommand(one_file(alloc, "replay")?)
 }
 
-/// The program without its subcommands. It takes no call for help: one line tells how the program is called.
+/// The program without its subcommands. It takes no call for help: one line tells how the program
+/// is called.
 fn bare_command<'a>(alloc: Global) -> Command<'a>
     ensures { app_of result ≡ bare_app }
 {

@@ -5,7 +5,7 @@ use Rattle.std.proofs.Crossing.{crosses}
 use Rattle.tsc_time.specs.contracts.timestamp.Timestamp.{the_row as timestamp}
 use Rattle.tsc_time.specs.contracts.value.Value.{the_row as value}
 use Rattle.tsc_cache.proofs.Crossing.{span_syncs}
-use Rattle.tsc_trace_json.specs.contracts.trace.Call.{the_row as call}
+use Rattle.tsc_trace_format.specs.contracts.trace.Call.{the_row as call}
 use Rattle.tsc_trace.specs.contracts.log.Said.{the_row as said}
 use Rattle.tsc_trace.specs.contracts.log.Line.{the_row as line}
 use Rattle.tsc_shared.proofs.Crossing.{seat_sends}
@@ -37,4 +37,12 @@ fault_sends : IsSend fault
 fault_sends = search sendable depth 20
 
 pub list_run_sends : IsSend list_run
-list_run_sends = search (sendable, crosses, declared_send, as_row_send, seat_sends, line_sends, fault_sends) depth 20
+list_run_sends = search (
+  sendable,
+  crosses,
+  declared_send,
+  as_row_send,
+  seat_sends,
+  line_sends,
+  fault_sends,
+) depth 20

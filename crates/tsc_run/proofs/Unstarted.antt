@@ -1,6 +1,6 @@
 -- Where a run ends for want of a thread, one was not started.
 use Rattle.std.proofs.Common.{◌≡◌, ◌≢◌, refl, List}
-use Rattle.tsc_trace_json.specs.declared.trace.Call.{Call}
+use Rattle.tsc_trace_format.specs.declared.trace.Call.{Call}
 use Rattle.tsc_shared.specs.Seats.{SharedView, SeatView}
 use Rattle.tsc_shared.specs.declared.answers.OpenFault.TheVariants as open_fault
 use Rattle.tsc_run.specs.Ending.{stop_of_run}
@@ -10,7 +10,8 @@ use Rattle.tsc_run.specs.declared.fault.RunFault.TheVariants as fault
 use Rattle.tsc_run.specs.declared.streams.RunStop.TheVariants as stop
 
 -- No run of a list ends so.
-pub is_started : (why : RunFault) (cache : SharedView) (lists : List (List Call)) (seats : List SeatView) → StopsLists why cache lists seats → why ≢ fault.NoThread
+pub is_started : (why : RunFault) (cache : SharedView) (lists : List (List Call))
+    (seats : List SeatView) → StopsLists why cache lists seats → why ≢ fault.NoThread
 is_started fault.NoThread cache lists seats stopped is = stopped
 is_started fault.HistoryFull cache lists seats stopped is = cc
 is_started fault.NoMemory cache lists seats stopped is = cc

@@ -3,8 +3,8 @@ use Rattle.std.specs.Prelude.{◌≡◌, List, ℕ, codes}
 use Rattle.tsc_shared.specs.declared.answers.OpenFault.TheVariants as open_fault
 use Rattle.tsc_trace.specs.LogText.{log_text}
 use Rattle.tsc_trace.specs.Replay.{HasReadTrace, RefusedAs, NotRead, TooMuchRead, OutOfMemory, fault_text as stream_text}
-use Rattle.tsc_trace_io.specs.Stream.{KnownReader, KnownWriter, HasWritten, CouldNotWrite}
-use Rattle.tsc_trace_json.specs.Traces.{Trace}
+use Rattle.tsc_stream.specs.Stream.{KnownReader, KnownWriter, HasWritten, CouldNotWrite}
+use Rattle.tsc_trace_format.specs.Traces.{Trace}
 use Rattle.tsc_trace.specs.declared.log.Line.{Line}
 use Rattle.tsc_trace.specs.declared.replays.ReplayFault.TheVariants.{Read, TooLong, Trace as Refused, Write, NoMemory}
 use Rattle.tsc_check.specs.Verdict.{verdict_of}
@@ -14,7 +14,8 @@ use Rattle.tsc_run.specs.declared.fault.RunFault.TheVariants as run_fault
 use Rattle.tsc_run.specs.declared.streams.RunStop.{RunStop}
 use Rattle.tsc_run.specs.declared.streams.RunStop.TheVariants.{Stream, NoView, NoPlace, HistoryFull, NoThread}
 
--- All of a trace was read, and the text of a log was written, of which the verdict is right, and nothing else.
+-- All of a trace was read, and the text of a log was written, of which the verdict is right, and
+-- nothing else.
 pub record Ran (reader reader' : KnownReader) (writer writer' : KnownWriter) : Type 0 where
   pub trace : Trace
   pub read : HasReadTrace reader reader' trace
@@ -23,7 +24,8 @@ pub record Ran (reader reader' : KnownReader) (writer writer' : KnownWriter) : T
   pub wrote : HasWritten writer writer' (log_text lines)
 
 -- All of a trace was read, and a write failed, where a part of the text of such a log was written.
-pub record LogNotWritten (reader reader' : KnownReader) (writer writer' : KnownWriter) : Type 0 where
+pub record LogNotWritten (reader reader' : KnownReader) (writer writer' : KnownWriter) : Type
+    0 where
   pub trace : Trace
   pub read : HasReadTrace reader reader' trace
   pub lines : List Line
@@ -36,7 +38,9 @@ pub record NotRun (reader reader' : KnownReader) (writer writer' : KnownWriter) 
   pub read : HasReadTrace reader reader' trace
   pub silent : writer' ≡ writer
 
--- What a run can end with in place of a log: a growth was refused, or a thread was not started. It has seats enough for all lists and a place for each, each lookup is answered, and there may be as many Adds as the lists have.
+-- What a run can end with in place of a log: a growth was refused, or a thread was not started. It
+-- has seats enough for all lists and a place for each, each lookup is answered, and there may be as
+-- many Adds as the lists have.
 abbrev pub CanEndRun : RunFault → Type 0
 CanEndRun (run_fault.Open why) = why ≡ open_fault.NoMemory
 CanEndRun run_fault.NoMemory = Unit {0}
@@ -48,7 +52,8 @@ CanEndRun run_fault.NoThread = Unit {0}
 abbrev pub StopsRun : RunStop → KnownReader → KnownReader → KnownWriter → KnownWriter → Type 0
 StopsRun (Stream Read) reader reader' writer writer' = NotRead reader reader' writer writer'
 StopsRun (Stream TooLong) reader reader' writer writer' = TooMuchRead reader reader' writer writer'
-StopsRun (Stream (Refused fault)) reader reader' writer writer' = RefusedAs fault reader reader' writer writer'
+StopsRun (Stream (Refused fault)) reader reader' writer writer' =
+    RefusedAs fault reader reader' writer writer'
 StopsRun (Stream Write) reader reader' writer writer' = LogNotWritten reader reader' writer writer'
 StopsRun (Stream NoMemory) reader reader' writer writer' = OutOfMemory reader reader' writer writer'
 StopsRun NoView reader reader' writer writer' = ⊥

@@ -5,9 +5,9 @@ use Rattle.std.specs.declared.alloc.Global.{Global}
 use Rattle.tsc_shared.specs.Seats.{SharedView, SeatView, FrontView, new_seat}
 use Rattle.tsc_shared.specs.Answers.{GoesOn, Accepts, Looks, ReadsFloor}
 use Rattle.tsc_cache.specs.declared.added.Added.{Added}
-use Rattle.tsc_trace_json.specs.Calls.{Addition, adds, one_mark, several_marks}
-use Rattle.tsc_trace_json.specs.declared.trace.Call.{Call}
-use Rattle.tsc_trace_json.specs.declared.trace.Call.TheVariants.{Add, Batch, Get, Low}
+use Rattle.tsc_trace_format.specs.Calls.{Addition, adds, one_mark, several_marks}
+use Rattle.tsc_trace_format.specs.declared.trace.Call.{Call}
+use Rattle.tsc_trace_format.specs.declared.trace.Call.TheVariants.{Add, Batch, Get, Low}
 use Rattle.tsc_trace.specs.declared.log.Line.{Line}
 use Rattle.tsc_trace.specs.declared.log.Said.{Said}
 use Rattle.tsc_trace.specs.declared.log.Said.TheVariants as said
@@ -17,48 +17,67 @@ use Rattle.tsc_run.specs.declared.fault.RunFault.TheVariants as fault
 
 -- An addition is accepted at this place, and does this.
 abbrev pub AcceptsAs : SeatView → SeatView → Addition → ℕ → Added → Type 0
-AcceptsAs old new a place added = (front : FrontView) × Accepts old new a.marks a.now (record { place = place; added = added; front = front })
+AcceptsAs old new a place added = (front : FrontView) ×
+    Accepts old new a.marks a.now (record { place = place; added = added; front = front })
 
--- What is said of a call is what the shared cache answered, where the seat was as the first before and is as the second then.
+-- What is said of a call is what the shared cache answered, where the seat was as the first before
+-- and is as the second then.
 abbrev pub Says : SeatView → SeatView → Call → Said → Type 0
-Says old new (Add span value now) (said.Add place added) = AcceptsAs old new (one_mark span value now) place added
-Says old new (Batch marks now) (said.Batch place added) = AcceptsAs old new (several_marks marks now) place added
-Says old new (Get span) (said.Get front value) = Looks old new span (record { value = value; front = front })
+Says old new (Add span value now) (said.Add place added) =
+    AcceptsAs old new (one_mark span value now) place added
+Says old new (Batch marks now) (said.Batch place added) =
+    AcceptsAs old new (several_marks marks now) place added
+Says old new (Get span) (said.Get front value) =
+    Looks old new span (record { value = value; front = front })
 Says old new Low (said.Low front time) = ReadsFloor old new (record { time = time; front = front })
 Says old new call said = ⊥
 
--- Why a call was not answered, where the seat was as the first before and is as the second then: it is an Add, and the seat has seen as many Adds as there may be; or it is said that memory was refused, and it has seen fewer. The seat counts as many as before.
+-- Why a call was not answered, where the seat was as the first before and is as the second then: it
+-- is an Add, and the seat has seen as many Adds as there may be; or it is said that memory was
+-- refused, and it has seen fewer. The seat counts as many as before.
 abbrev pub IsRefusedAs : RunFault → Call → SeatView → SeatView → Type 0
-IsRefusedAs fault.HistoryFull call old new = (adds call ≡ true) × (new.count ≡ old.count) × (length new.seen ≡ old.cache.limit)
-IsRefusedAs fault.NoMemory call old new = (new.count ≡ old.count) × (length new.seen < old.cache.limit)
+IsRefusedAs fault.HistoryFull call old new = (adds call ≡ true) × (new.count ≡ old.count) ×
+    (length new.seen ≡ old.cache.limit)
+IsRefusedAs fault.NoMemory call old new = (new.count ≡ old.count) ×
+    (length new.seen < old.cache.limit)
 IsRefusedAs other call old new = ⊥
 
--- A list's run: its calls were made at one seat, one after another, and each line says what was answered. The lines have the seat's number, and are numbered from a place in the list on.
+-- A list's run: its calls were made at one seat, one after another, and each line says what was
+-- answered. The lines have the seat's number, and are numbered from a place in the list on.
 abbrev pub Runs : SeatView → ℕ → List Call → List Line → SeatView → Type 0
 Runs old index [] [] new = new ≡ old
 Runs old index (call ∷ calls) (line ∷ lines) new =
-    (line.thread ≡ old.number) × (line.index ≡ index) × (mid : SeatView) × GoesOn old mid × Says old mid call line.said × Runs mid (suc index) calls lines new
+    (line.thread ≡ old.number) × (line.index ≡ index) × (mid : SeatView) × GoesOn old mid ×
+    Says old mid call line.said × Runs mid (suc index) calls lines new
 Runs old index calls lines new = ⊥
 
--- The runs of lists, from the list with this number on, each at a new seat of the cache: their lines in a row, and how they leave their seats.
+-- The runs of lists, from the list with this number on, each at a new seat of the cache: their
+-- lines in a row, and how they leave their seats.
 abbrev pub RunsAll : SharedView → ℕ → List (List Call) → List Line → List SeatView → Type 0
 RunsAll cache thread [] lines [] = lines ≡ []
 RunsAll cache thread (calls ∷ lists) lines (seat ∷ seats) =
-    (first : List Line) × (others : List Line) × (lines ≡ first ++ others) × Runs (new_seat cache thread) 0 calls first seat × RunsAll cache (suc thread) lists others seats
+    (first : List Line) × (others : List Line) × (lines ≡ first ++ others) ×
+    Runs (new_seat cache thread) 0 calls first seat ×
+    RunsAll cache (suc thread) lists others seats
 RunsAll cache thread lists lines seats = ⊥
 
 -- what a run comes to: its lines, or why it ended early
 abbrev pub Told : Type 0
 Told = Result (Vec Line Global) RunFault
 
--- Why a list's run ended early, where its seat was as the first before and is as the second then: one of its Adds found the history full, which the seat has seen; or it is said that memory was refused.
+-- Why a list's run ended early, where its seat was as the first before and is as the second then:
+-- one of its Adds found the history full, which the seat has seen; or it is said that memory was
+-- refused.
 abbrev pub StopsList : RunFault → SeatView → List Call → SeatView → Type 0
-StopsList fault.HistoryFull old calls new = (new.count < old.count + adds_of_list calls) × (length new.seen ≡ old.cache.limit)
+StopsList fault.HistoryFull old calls new = (new.count < old.count + adds_of_list calls) ×
+    (length new.seen ≡ old.cache.limit)
 StopsList fault.NoMemory old calls new = Unit {0}
 StopsList other old calls new = ⊥
 
--- How a list's run ends: its seat is of the same cache and has at most the list's Adds, whatever it comes to.
-pub record EndsList (old : SeatView) (calls : List Call) (told : Told) (new : SeatView) : Type 0 where
+-- How a list's run ends: its seat is of the same cache and has at most the list's Adds, whatever it
+-- comes to.
+pub record EndsList (old : SeatView) (calls : List Call) (told : Told) (new : SeatView) : Type
+    0 where
   pub cache : new.cache ≡ old.cache
   pub few : new.count ≤ old.count + adds_of_list calls
   pub ran : IfOk told (λ lines. Runs old 0 calls lines.items new)
@@ -68,8 +87,10 @@ pub record EndsList (old : SeatView) (calls : List Call) (told : Told) (new : Se
 abbrev pub counted : List SeatView → ℕ
 counted seats = sum_by (λ (seat : SeatView). seat.count) seats
 
--- One of some seats has seen as many Adds as there may be, and together they count fewer than the lists have.
-pub record IsFullEarly (cache : SharedView) (lists : List (List Call)) (seats : List SeatView) : Type 0 where
+-- One of some seats has seen as many Adds as there may be, and together they count fewer than the
+-- lists have.
+pub record IsFullEarly (cache : SharedView) (lists : List (List Call)) (seats : List SeatView) :
+    Type 0 where
   pub seat : SeatView
   pub there : Contains seats seat
   pub full : length seat.seen ≡ cache.limit
@@ -81,15 +102,18 @@ StopsLists fault.HistoryFull cache lists seats = IsFullEarly cache lists seats
 StopsLists fault.NoMemory cache lists seats = Unit {0}
 StopsLists other cache lists seats = ⊥
 
--- How the runs of lists end, each at a new seat of the cache: all seats come back, with at most the lists' Adds, whatever the runs come to.
-pub record EndsLists (cache : SharedView) (lists : List (List Call)) (told : Told) (seats : List SeatView) : Type 0 where
+-- How the runs of lists end, each at a new seat of the cache: all seats come back, with at most the
+-- lists' Adds, whatever the runs come to.
+pub record EndsLists (cache : SharedView) (lists : List (List Call)) (told : Told)
+    (seats : List SeatView) : Type 0 where
   pub of_cache : All (λ (seat : SeatView). seat.cache ≡ cache) seats
   pub as_many : length seats ≡ length lists
   pub few : counted seats ≤ adds_of_lists lists
   pub ran : IfOk told (λ lines. RunsAll cache 0 lists lines.items seats)
   pub stopped : IfErr told (λ why. StopsLists why cache lists seats)
 
--- What some runs and one more come to together: all lines in a row, or why one of them ended early, or want of memory.
+-- What some runs and one more come to together: all lines in a row, or why one of them ended early,
+-- or want of memory.
 abbrev pub Joins : Told → Told → Told → Type 0
 Joins (Ok lines) (Ok more) (Ok all) = all.items ≡ lines.items ++ more.items
 Joins (Ok lines) (Ok more) (Err why) = why ≡ fault.NoMemory

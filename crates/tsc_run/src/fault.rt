@@ -6,8 +6,8 @@ use tsc_time::NoMemory;
 /// Why there is no log of a run.
 #[derive(Clone, Copy, Debug, PartialEq, Eq, Error)]
 pub enum RunFault {
-    /// The shared cache was not opened, for want of memory alone: there are seats for each trace's lists, and a
-    /// place for each seat.
+    /// The shared cache was not opened, for want of memory alone: there are seats for each trace's
+    /// lists, and a place for each seat.
     #[error("{0}")]
     Open(OpenFault),
     /// A growth was refused.

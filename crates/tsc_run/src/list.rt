@@ -1,8 +1,8 @@
 //! One list of a trace, at a seat of the shared cache.
 ghost use Rattle.std.specs.Prelude.{◌≡◌, ◌≢◌, ◌≤◌, true, IfOk, IfErr, length};
-ghost use Rattle.tsc_trace_json.specs.Calls.{adds, call_fits};
-ghost use Rattle.tsc_trace_json.specs.Traces.{EachFits};
-ghost use Rattle.tsc_trace_json.specs.Limits.{most_calls};
+ghost use Rattle.tsc_trace_format.specs.Calls.{adds, call_fits};
+ghost use Rattle.tsc_trace_format.specs.Traces.{EachFits};
+ghost use Rattle.tsc_trace_format.specs.Limits.{most_calls};
 ghost use Rattle.tsc_shared.specs.Seats.{SeatView};
 ghost use Rattle.tsc_shared.specs.Answers.{GoesOn, RefusedFor, Refuses};
 ghost use Rattle.tsc_shared.specs.declared.answers.AddFault.TheVariants.{TooLarge};
@@ -24,7 +24,8 @@ pub(crate) struct ListRun {
 /// How a refused Add ends a run. All that the calls of a trace add fits a page.
 fn refused(fault: AddFault) -> RunFault
     requires { fault ≢ TooLarge }
-    ensures { (old new : SeatView) → Refuses old new → RefusedFor old new fault → (call : Call) → adds call ≡ true → IsRefusedAs result call old new }
+    ensures { (old new : SeatView) → Refuses old new → RefusedFor old new fault → (call : Call) →
+        adds call ≡ true → IsRefusedAs result call old new }
 {
     match fault {
         AddFault::HistoryFull(_) => RunFault::HistoryFull,
@@ -33,8 +34,8 @@ fn refused(fault: AddFault) -> RunFault
     }
 }
 
-/// Makes a call at this seat, which fits a page, and gives its answer. The gate is told before an Add or a batch is
-/// published.
+/// Makes a call at this seat, which fits a page, and gives its answer. The gate is told before an
+/// Add or a batch is published.
 fn answer<R: Wait, G: Gate>(
     rt: &R,
     cache: &SharedCache,
@@ -84,8 +85,8 @@ fn answer<R: Wait, G: Gate>(
     }
 }
 
-/// Makes the calls of a list, one after another, and tells the gate of each: before it, and when it was answered
-/// or refused. The list has the number of its seat.
+/// Makes the calls of a list, one after another, and tells the gate of each: before it, and when it
+/// was answered or refused. The list has the number of its seat.
 fn make_calls<R: Wait, G: Gate>(
     rt: &R,
     alloc: Global,

@@ -1,6 +1,6 @@
 ghost use Rattle.std.specs.Prelude.{◌≡◌, ◌≤◌, Err, IfOk, IfErr, length, map};
 ghost use Rattle.std.specs.List.{sum_by};
-ghost use Rattle.tsc_trace_json.specs.Limits.{most_calls};
+ghost use Rattle.tsc_trace_format.specs.Limits.{most_calls};
 ghost use Rattle.tsc_cache.specs.History.{History};
 ghost use Rattle.tsc_check.specs.Verdict.{verdict_of};
 ghost use Rattle.tsc_check.specs.declared.verdict.Verdict.TheVariants.{Right};
@@ -43,13 +43,13 @@ fn count_all_adds(lists: &[Vec<Call>]) -> u64
     adds
 }
 
-/// The log of a trace on threads: each list runs on a thread of its own, over one shared cache, at a seat of
-/// its own.
+/// The log of a trace on threads: each list runs on a thread of its own, over one shared cache, at
+/// a seat of its own.
 ///
-/// The gate is told before and after each call, also one that was refused, and before each accepted Add is
-/// published, from the thread of its list. Where a thread cannot be started, those that were started run to their
-/// end first. Else each list is run, and the cache is closed with all seats before a fault is told: so it is known then
-/// that no Add found the history full.
+/// The gate is told before and after each call, also one that was refused, and before each accepted
+/// Add is published, from the thread of its list. Where a thread cannot be started, those that were
+/// started run to their end first. Else each list is run, and the cache is closed with all seats
+/// before a fault is told: so it is known then that no Add found the history full.
 pub fn run_trace<R: RefusesThreads + Threads + Wait + Sync, G: Gate + Sync>(
     rt: &R,
     alloc: Global,

@@ -1,7 +1,7 @@
 //! The thread of one list.
 ghost use Rattle.std.specs.Prelude.{◌≡◌, ◌≤◌, IfOk, length};
-ghost use Rattle.tsc_trace_json.specs.Traces.{EachFits};
-ghost use Rattle.tsc_trace_json.specs.Limits.{most_calls};
+ghost use Rattle.tsc_trace_format.specs.Traces.{EachFits};
+ghost use Rattle.tsc_trace_format.specs.Limits.{most_calls};
 ghost use Rattle.tsc_run.specs.Runs.{EndsList};
 ghost use Rattle.tsc_run.specs.declared.fault.RunFault.TheVariants.{NoThread};
 
@@ -22,9 +22,10 @@ pub struct NotStarted {
 
 /// What threads are started by, and may refuse to start one.
 ///
-/// A run is proved for whatever this may be, and knows no more of it: so it cannot answer that a thread
-/// could not be started but for a [`NotStarted`], and of these there is one only where a start was refused.
-/// To a caller with a runtime of `std` it says nothing, since `std` tells nothing of why no thread is started.
+/// A run is proved for whatever this may be, and knows no more of it: so it cannot answer that a
+/// thread could not be started but for a [`NotStarted`], and of these there is one only where a
+/// start was refused. To a caller with a runtime of `std` it says nothing, since `std` tells
+/// nothing of why no thread is started.
 pub trait RefusesThreads {
     /// The start of a thread was refused.
     ghost HasRefused: { Self → Type 0 };
@@ -81,7 +82,8 @@ pub(crate) fn start_list<'s, E, R: Threads + Wait + Sync, G: Gate + Sync>(
         .spawn_with(
             promise,
             move || -> ListRun
-                requires { (seat.cache ≡ cache.now) × (length calls.now ≤ most_calls) × EachFits cache.now.config calls.now }
+                requires { (seat.cache ≡ cache.now) × (length calls.now ≤ most_calls) ×
+                    EachFits cache.now.config calls.now }
                 ensures { EndsList seat calls.entry.now result.told result.seat }
             { run_list(rt, alloc, cache, seat, calls, gate) },
         )

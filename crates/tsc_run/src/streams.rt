@@ -1,6 +1,6 @@
 //! Runs of recorded traces from a reader to a writer.
 ghost use Rattle.std.specs.Prelude.{◌≡◌, Some, Err, IfErr, OnOk, OnErr};
-ghost use Rattle.tsc_trace_io.specs.Stream.{CouldNotWrite, HasWritten};
+ghost use Rattle.tsc_stream.specs.Stream.{CouldNotWrite, HasWritten};
 ghost use Rattle.tsc_trace.specs.Replay.{fault_of_output};
 ghost use Rattle.tsc_run.specs.Ending.{Ran, StopsRun, stop_of_run, stop_text};
 ghost use Rattle.tsc_run.specs.declared.streams.RunStop.TheVariants.{Stream};
@@ -14,8 +14,8 @@ use std::fmt;
 use std::sync::Wait;
 use std::thread::Threads;
 use tsc_shared::{Gate, OpenFault};
+use tsc_stream::{Sink, Source, WriteFailed, write_output};
 use tsc_trace::{OutFault, ReplayFault, read_trace_from, write_log};
-use tsc_trace_io::{Sink, Source, WriteFailed, write_output};
 
 /// Why a run ended early. Only a failed write comes after a written byte.
 #[derive(Clone, Copy, Debug, PartialEq, Eq)]
@@ -35,8 +35,10 @@ pub enum RunStop {
 impl RunStop {
     /// Writes the text of why the run ended. It takes no memory.
     pub fn tell<W: Sink>(self, writer: &mut W) -> Result<(), WriteFailed>
-        ensures ok { OnOk result (HasWritten (W.known writer.old) (W.known writer.new) (stop_text self)) }
-        ensures err { OnErr result (CouldNotWrite (W.known writer.old) (W.known writer.new) (stop_text self)) }
+        ensures ok { OnOk result (HasWritten (W.known writer.old) (W.known writer.new)
+            (stop_text self)) }
+        ensures err { OnErr result
+            (CouldNotWrite (W.known writer.old) (W.known writer.new) (stop_text self)) }
     {
         match self {
             RunStop::Stream(fault) => fault.tell(writer),
@@ -83,8 +85,8 @@ impl From<OutFault> for RunStop {
 impl From<RunFault> for RunStop {
     ghost from_gives = { λ fault given. given ≡ stop_of_run fault };
 
-    /// A trace has no more lists than a cache may have seats, so a cache that was not opened is want of memory, or of
-    /// a place.
+    /// A trace has no more lists than a cache may have seats, so a cache that was not opened is
+    /// want of memory, or of a place.
     fn from(fault: RunFault) -> RunStop {
         match fault {
             RunFault::Open(OpenFault::NoPlace) => RunStop::NoPlace,
@@ -98,8 +100,8 @@ impl From<RunFault> for RunStop {
 
 /// Reads a trace to its end, runs it on threads, and writes the text of the log.
 ///
-/// The input is freed before the run begins, and the log is whole before any of it is written. Once a read
-/// or a write has failed, no later call makes up for it.
+/// The input is freed before the run begins, and the log is whole before any of it is written. Once
+/// a read or a write has failed, no later call makes up for it.
 pub fn run_stream<T: RefusesThreads + Threads + Wait + Sync, R: Source, W: Sink, G: Gate + Sync>(
     rt: &T,
     alloc: Global,
@@ -107,7 +109,8 @@ pub fn run_stream<T: RefusesThreads + Threads + Wait + Sync, R: Source, W: Sink,
     writer: &mut W,
     gate: &G,
 ) -> Result<(), RunStop>
-    ensures ok { OnOk result (Ran (R.known reader.old) (R.known reader.new) (W.known writer.old) (W.known writer.new)) }
+    ensures ok { OnOk result (Ran (R.known reader.old) (R.known reader.new) (W.known writer.old)
+        (W.known writer.new)) }
     ensures err { IfErr result (λ stop. StopsRun stop (R.known reader.old) (R.known reader.new)
         (W.known writer.old) (W.known writer.new)) }
     ensures no_thread { result ≡ Err RunStop.NoThread → T.HasRefused rt.now }

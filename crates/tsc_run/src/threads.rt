@@ -1,8 +1,8 @@
 //! A thread for each list.
 ghost use Rattle.std.specs.Prelude.{◌≡◌, ◌≤◌, ◌++◌, ◌∷◌, [], IfOk, IfErr, IfSome, IfNone, length, map, vec_capacity};
 ghost use Rattle.std.specs.List.{sum_by};
-ghost use Rattle.tsc_trace_json.specs.Traces.{AllFit};
-ghost use Rattle.tsc_trace_json.specs.Limits.{most_calls};
+ghost use Rattle.tsc_trace_format.specs.Traces.{AllFit};
+ghost use Rattle.tsc_trace_format.specs.Limits.{most_calls};
 ghost use Rattle.tsc_shared.specs.Seats.{new_seats};
 ghost use Rattle.tsc_run.specs.Runs.{EndsLists, Joins};
 
@@ -16,14 +16,16 @@ use std::thread::{Scope, Threads};
 use tsc_shared::{Gate, Seat, SharedCache};
 use tsc_trace::{Call, Line};
 
-/// What the runs of some lists leave: their seats, and their lines in a row, or why one of them ended early.
+/// What the runs of some lists leave: their seats, and their lines in a row, or why one of them
+/// ended early.
 #[derive(Drop)]
 pub(crate) struct AllRuns {
     pub seats: Vec<Seat>,
     pub told: Result<Vec<Line>, RunFault>,
 }
 
-/// The lines of some lists with those of one more behind them, or why one of these runs ended early.
+/// The lines of some lists with those of one more behind them, or why one of these runs ended
+/// early.
 fn joined(
     told: Result<Vec<Line>, RunFault>,
     more: Result<Vec<Line>, RunFault>,
@@ -38,7 +40,8 @@ fn joined(
 
 /// The last of some lists, and those before it.
 fn split_last(lists: &[Vec<Call>]) -> Option<(&[Call], &[Vec<Call>])>
-    ensures some { IfSome result (λ p. map (λ calls. calls.items) lists.now ≡ map (λ calls. calls.items) p.1.now ++ p.0.now ∷ []) }
+    ensures some { IfSome result (λ p. map (λ calls. calls.items) lists.now ≡
+        map (λ calls. calls.items) p.1.now ++ p.0.now ∷ []) }
     ensures none { IfNone result (lists.now ≡ []) }
 {
     let (last, others) = lists.split_last()?;
@@ -58,7 +61,8 @@ fn run_in<'s, E, R: Threads + Wait + Sync, G: Gate + Sync>(
     requires seats { seats.items ≡ new_seats cache.now 0 (length lists.now) }
     requires calls { sum_by length (map (λ calls. calls.items) lists.now) ≤ most_calls }
     requires fits { AllFit cache.now.config (map (λ calls. calls.items) lists.now) }
-    ensures runs { IfOk result (λ runs. EndsLists cache.now (map (λ calls. calls.items) lists.now) runs.told runs.seats.items) }
+    ensures runs { IfOk result (λ runs. EndsLists cache.now (map (λ calls. calls.items) lists.now)
+        runs.told runs.seats.items) }
     ensures room { IfOk result (λ runs. vec_capacity seats ≤ vec_capacity runs.seats) }
 {
     let Some(seat) = seats.pop() else {
@@ -96,15 +100,19 @@ pub(crate) fn run_lists<R: RefusesThreads + Threads + Wait + Sync, G: Gate + Syn
     requires seats { seats.items ≡ new_seats cache.now 0 (length lists.now) }
     requires calls { sum_by length (map (λ calls. calls.items) lists.now) ≤ most_calls }
     requires fits { AllFit cache.now.config (map (λ calls. calls.items) lists.now) }
-    ensures runs { IfOk result (λ runs. EndsLists cache.now (map (λ calls. calls.items) lists.now) runs.told runs.seats.items) }
+    ensures runs { IfOk result (λ runs. EndsLists cache.now (map (λ calls. calls.items) lists.now)
+        runs.told runs.seats.items) }
     ensures why { IfErr result (λ why. (why ≡ RunFault.NoThread) × R.HasRefused rt.now) }
 {
     let ended = thread::scope(
         thread::scope_env(),
         rt,
         |scope| -> Result<AllRuns, NotStarted>
-            requires { (seats.items ≡ new_seats cache.now 0 (length lists.now)) × (sum_by length (map (λ calls. calls.items) lists.now) ≤ most_calls) × AllFit cache.now.config (map (λ calls. calls.items) lists.now) }
-            ensures { IfOk result (λ runs. EndsLists cache.entry.now (map (λ calls. calls.items) lists.entry.now) runs.told runs.seats.items) }
+            requires { (seats.items ≡ new_seats cache.now 0 (length lists.now)) ×
+                (sum_by length (map (λ calls. calls.items) lists.now) ≤ most_calls) ×
+                AllFit cache.now.config (map (λ calls. calls.items) lists.now) }
+            ensures { IfOk result (λ runs. EndsLists cache.entry.now
+                (map (λ calls. calls.items) lists.entry.now) runs.told runs.seats.items) }
         { run_in(scope, rt, alloc, cache, seats, lists, gate) },
     );
     match ended {

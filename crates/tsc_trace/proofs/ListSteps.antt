@@ -5,64 +5,100 @@ use Rattle.std.proofs.lemmas.Option.{slice_get_within, get_or_from_slice_get, sl
 use Rattle.std.proofs.Math.ListN.{drop_of_length-le}
 use Rattle.tsc_cache.specs.Settings.{Settings}
 use Rattle.tsc_trace.specs.Play.{Standing, said_at, next, next_all, played, played_lists}
-use Rattle.tsc_trace_json.specs.declared.trace.Call.{Call}
+use Rattle.tsc_trace_format.specs.declared.trace.Call.{Call}
 use Rattle.tsc_trace.specs.declared.log.Line.{Line}
 use Rattle.tsc_trace.specs.declared.log.Said.{Said}
 use Rattle.tsc_trace.specs.declared.player.Player.{Player}
 use Rattle.tsc_trace.specs.PlayerParts.{StandsAt}
 
 -- what is left from a place on begins with what stands there
-left_from : {X : Type 0} (xs : List X) (i : ℕ) (x : X) → slice_get xs i ≡ Some x → drop i xs ≡ x ∷ drop (i + 1) xs
+left_from : {X : Type 0} (xs : List X) (i : ℕ) (x : X) → slice_get xs i ≡ Some x →
+    drop i xs ≡ x ∷ drop (i + 1) xs
 left_from xs i x at =
-    drop-cons xs i x (slice_get_within xs i x at) ∙ ap (λ y. y ∷ drop (suc i) xs) (get_or_from_slice_get xs i x x at)
+    drop-cons xs i x (slice_get_within xs i x at) ∙
+    ap (λ y. y ∷ drop (suc i) xs) (get_or_from_slice_get xs i x x at)
     ∙ ap (λ n. x ∷ drop n xs) (sym (add-one i))
 
 -- the lines with those of the list, and those of the lists after it
-pub told_with_list : (settings : Settings) (thread : ℕ) (at : Standing) (lines more whole : List Line) (calls : List Call) (lists : List (List Call)) → slice_get lists thread ≡ Some calls → more ≡ lines ++ played settings thread 0 at calls → lines ++ played_lists settings thread at (drop thread lists) ≡ whole → more ++ played_lists settings (thread + 1) (next_all settings at calls) (drop (thread + 1) lists) ≡ whole
+pub told_with_list : (settings : Settings) (thread : ℕ) (at : Standing)
+    (lines more whole : List Line) (calls : List Call) (lists : List (List Call)) →
+    slice_get lists thread ≡ Some calls → more ≡ lines ++ played settings thread 0 at calls →
+    lines ++ played_lists settings thread at (drop thread lists) ≡ whole →
+    more ++ played_lists settings (thread + 1) (next_all settings at calls)
+    (drop (thread + 1) lists) ≡ whole
 told_with_list settings thread at lines more whole calls lists here added told =
-    ap (λ ls. ls ++ played_lists settings (thread + 1) (next_all settings at calls) (drop (thread + 1) lists)) added
-    ∙ append_assoc lines (played settings thread 0 at calls) (played_lists settings (thread + 1) (next_all settings at calls) (drop (thread + 1) lists))
-    ∙ ap (λ n. lines ++ (played settings thread 0 at calls ++ played_lists settings n (next_all settings at calls) (drop (thread + 1) lists))) (add-one thread)
-    ∙ ap (λ ls. lines ++ played_lists settings thread at ls) (sym (left_from lists thread calls here))
+    ap (λ ls. ls ++ played_lists settings (thread + 1) (next_all settings at calls)
+    (drop (thread + 1) lists)) added
+    ∙ append_assoc lines (played settings thread 0 at calls)
+    (played_lists settings (thread + 1) (next_all settings at calls) (drop (thread + 1) lists))
+    ∙ ap (λ n. lines ++ (played settings thread 0 at calls ++
+    played_lists settings n (next_all settings at calls) (drop (thread + 1) lists)))
+    (add-one thread)
+    ∙ ap (λ ls. lines ++ played_lists settings thread at ls)
+    (sym (left_from lists thread calls here))
     ∙ told
 
--- A replay in the midst of a list: what it has told, with what the calls that are left tell, is what it told before with what all of them tell; and they lead to where all of them lead.
-pub record IsUnderWay (old new : Player) (settings : Settings) (thread index : ℕ) (calls left : List Call) (from : Standing) : Type 0 where
+-- A replay in the midst of a list: what it has told, with what the calls that are left tell, is
+-- what it told before with what all of them tell; and they lead to where all of them lead.
+pub record IsUnderWay (old new : Player) (settings : Settings) (thread index : ℕ)
+    (calls left : List Call) (from : Standing) : Type 0 where
   pub at : Standing
   pub stands : StandsAt new settings at
-  pub told : new.lines.items ++ played settings thread index at left ≡ old.lines.items ++ played settings thread 0 from calls
+  pub told : new.lines.items ++ played settings thread index at left ≡ old.lines.items ++
+      played settings thread 0 from calls
   pub leads : next_all settings at left ≡ next_all settings from calls
 
 -- One more call of the list is answered, and its line is told.
-pub one_more_call : (old mid new : Player) (settings : Settings) (thread index : ℕ) (calls : List Call) (call : Call) (said : Said) (from : Standing) → index < length calls → call ≡ get_or calls index call
-    → ((settings : Settings) (at : Standing) → StandsAt mid settings at → said ≡ said_at settings at call)
-    → ((settings : Settings) (at : Standing) → StandsAt mid settings at → StandsAt new settings (next settings at call))
-    → new.lines.items ≡ mid.lines.items ++ record { thread = thread; index = index; said = said } ∷ []
-    → IsUnderWay old mid settings thread index calls (drop index calls) from → IsUnderWay old new settings thread (index + 1) calls (drop (index + 1) calls) from
+pub one_more_call : (old mid new : Player) (settings : Settings) (thread index : ℕ)
+    (calls : List Call) (call : Call) (said : Said) (from : Standing) → index < length calls →
+    call ≡ get_or calls index call
+    → ((settings : Settings) (at : Standing) → StandsAt mid settings at →
+    said ≡ said_at settings at call)
+    → ((settings : Settings) (at : Standing) → StandsAt mid settings at →
+    StandsAt new settings (next settings at call))
+    → new.lines.items ≡ mid.lines.items ++
+    record { thread = thread; index = index; said = said } ∷ []
+    → IsUnderWay old mid settings thread index calls (drop index calls) from →
+    IsUnderWay old new settings thread (index + 1) calls (drop (index + 1) calls) from
 one_more_call old mid new settings thread index calls call said from lt is says stands lines u =
-    let here : drop index calls ≡ call ∷ drop (index + 1) calls = left_from calls index call (slice_get_read calls (length calls) index call refl lt is) in
+    let here : drop index calls ≡ call ∷ drop (index + 1) calls =
+    left_from calls index call (slice_get_read calls (length calls) index call refl lt is) in
     let after = next settings u.at call in
     let left = drop (index + 1) calls in
-    let line : record { thread = thread; index = index; said = said } ∷ played settings thread (index + 1) after left ≡ played settings thread index u.at (drop index calls)
-    = ap (λ (s : Said). record { thread = thread; index = index; said = s } ∷ played settings thread (index + 1) after left) (says settings u.at u.stands)
-    ∙ ap (λ n. record { thread = thread; index = index; said = said_at settings u.at call } ∷ played settings thread n after left) (add-one index)
+    let line : record { thread = thread; index = index; said = said } ∷
+    played settings thread (index + 1) after left ≡ played settings thread index u.at
+    (drop index calls)
+    = ap (λ (s : Said). record { thread = thread; index = index; said = s } ∷
+    played settings thread (index + 1) after left) (says settings u.at u.stands)
+    ∙ ap (λ n. record { thread = thread; index = index; said = said_at settings u.at call } ∷
+    played settings thread n after left) (add-one index)
     ∙ sym (ap (played settings thread index u.at) here) in
     record {
       at = after;
       stands = stands settings u.at u.stands;
       told = ap (λ ls. ls ++ played settings thread (index + 1) after left) lines
-          ∙ append_assoc mid.lines.items (record { thread = thread; index = index; said = said } ∷ []) (played settings thread (index + 1) after left)
+          ∙ append_assoc mid.lines.items
+          (record { thread = thread; index = index; said = said } ∷ [])
+          (played settings thread (index + 1) after left)
           ∙ ap (λ ls. mid.lines.items ++ ls) line ∙ u.told;
       leads = sym (ap (next_all settings u.at) here) ∙ u.leads;
     }
 
 -- Where no call is left, all lines of the list are told.
-pub all_told : (old new : Player) (settings : Settings) (thread index : ℕ) (calls : List Call) (from : Standing) → length calls ≤ index → IsUnderWay old new settings thread index calls (drop index calls) from
+pub all_told : (old new : Player) (settings : Settings) (thread index : ℕ) (calls : List Call)
+    (from : Standing) → length calls ≤ index →
+    IsUnderWay old new settings thread index calls (drop index calls) from
     → new.lines.items ≡ old.lines.items ++ played settings thread 0 from calls
 all_told old new settings thread index calls from le u =
-    sym (append-nil new.lines.items) ∙ ap (λ cs. new.lines.items ++ played settings thread index u.at cs) (sym (drop_of_length-le calls le)) ∙ u.told
+    sym (append-nil new.lines.items) ∙
+    ap (λ cs. new.lines.items ++ played settings thread index u.at cs)
+    (sym (drop_of_length-le calls le)) ∙ u.told
 
 -- And the replay stands where all calls lead.
-pub all_made : (old new : Player) (settings : Settings) (thread index : ℕ) (calls : List Call) (from : Standing) → length calls ≤ index → IsUnderWay old new settings thread index calls (drop index calls) from
+pub all_made : (old new : Player) (settings : Settings) (thread index : ℕ) (calls : List Call)
+    (from : Standing) → length calls ≤ index →
+    IsUnderWay old new settings thread index calls (drop index calls) from
     → StandsAt new settings (next_all settings from calls)
-all_made old new settings thread index calls from le u = subst (StandsAt new settings) (sym (ap (next_all settings u.at) (drop_of_length-le calls le)) ∙ u.leads) u.stands
+all_made old new settings thread index calls from le u =
+    subst (StandsAt new settings) (sym (ap (next_all settings u.at) (drop_of_length-le calls le)) ∙
+    u.leads) u.stands

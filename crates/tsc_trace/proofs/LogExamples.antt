@@ -3,11 +3,11 @@ use Rattle.std.specs.Prelude.{◌≡◌, ℕ, List, [], ◌∷◌, ◌++◌, tru
 use Rattle.tsc_time.specs.OwnedTime.{unowned}
 use Rattle.tsc_span.specs.Span.{point}
 use Rattle.tsc_cache.proofs.ExampleSettings.{at, of_first, of_second, usual, twenty, added}
-use Rattle.tsc_trace_json.proofs.ExampleTraces.{ended, example_trace}
+use Rattle.tsc_trace_format.proofs.ExampleTraces.{ended, example_trace}
 use Rattle.tsc_trace.specs.Log.{log_of}
 use Rattle.tsc_trace.specs.LogText.{log_text}
-use Rattle.tsc_trace_json.specs.declared.trace.Call.TheVariants.{Add, Batch, Get, Low}
-use Rattle.tsc_trace_json.specs.Traces.{Trace}
+use Rattle.tsc_trace_format.specs.declared.trace.Call.TheVariants.{Add, Batch, Get, Low}
+use Rattle.tsc_trace_format.specs.Traces.{Trace}
 use Rattle.tsc_trace.specs.declared.log.Line.{Line}
 use Rattle.tsc_trace.specs.declared.log.Said.TheVariants as said
 use Rattle.std.specs.Fmt.{digits}
@@ -59,7 +59,8 @@ pub lists_are_played_one_after_another :
     ∷ []
 lists_are_played_one_after_another = refl
 
-pub a_trace_of_one_empty_list_has_no_lines : log_of (record { config = usual; threads = [] ∷ [] }) ≡ []
+pub a_trace_of_one_empty_list_has_no_lines : log_of
+    (record { config = usual; threads = [] ∷ [] }) ≡ []
 a_trace_of_one_empty_list_has_no_lines = refl
 
 -- ---- batches
@@ -68,7 +69,8 @@ a_trace_of_one_empty_list_has_no_lines = refl
 abbrev pub batches : Trace
 batches = record {
   config = usual;
-  threads = (Batch (record { span = point (codes "a"); value = of_first twenty } ∷ record { span = point (codes "a"); value = of_second twenty } ∷ []) twenty
+  threads = (Batch (record { span = point (codes "a"); value = of_first twenty } ∷
+      record { span = point (codes "a"); value = of_second twenty } ∷ []) twenty
       ∷ Get (point (codes "a"))
       ∷ Batch [] twenty
       ∷ Low
@@ -84,6 +86,8 @@ pub a_batch_counts_as_one :
     ∷ []
 a_batch_counts_as_one = refl
 
-pub the_text_of_a_batch : log_text (record { thread = 0; index = 0; said = said.Batch 0 (added true false 0) } ∷ []) ≡ ended (codes "0 0 batch 0 1 0 0")
+pub the_text_of_a_batch : log_text
+    (record { thread = 0; index = 0; said = said.Batch 0 (added true false 0) } ∷ []) ≡
+    ended (codes "0 0 batch 0 1 0 0")
 unfolding digits by_index
 the_text_of_a_batch = refl

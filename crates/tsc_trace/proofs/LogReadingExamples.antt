@@ -6,23 +6,35 @@ use Rattle.tsc_cache.proofs.ExampleSettings.{at}
 use Rattle.tsc_trace.specs.declared.log.Line.{Line}
 use Rattle.tsc_trace.specs.declared.log.Said.TheVariants as said
 use Rattle.tsc_trace.specs.LogReading.{IsWritable, ReadsAs}
-use Rattle.tsc_trace_json.proofs.ExampleTraces.{ended}
+use Rattle.tsc_trace_format.proofs.ExampleTraces.{ended}
 
 -- the empty text is the log without lines
 pub the_empty_log_is_read : ReadsAs [] (Ok (record { lines = [] }))
-the_empty_log_is_read = record { text = refl; is_log = record { writable = All-nil IsWritable; within = omega arith } }
+the_empty_log_is_read = record {
+  text = refl;
+  is_log = record { writable = All-nil IsWritable; within = omega arith };
+}
 
 abbrev pub floor_line : Line
 floor_line = record { thread = 0; index = 0; said = said.Low 0 (at 5 0) }
 
 floor_line_is_writable : IsWritable floor_line
-floor_line_is_writable = record { thread = omega arith; index = omega arith; said = (omega arith, refl) }
+floor_line_is_writable = record {
+  thread = omega arith;
+  index = omega arith;
+  said = (omega arith, refl);
+}
 
 -- a log of one line
-pub one_line_is_read : ReadsAs (ended (codes "0 0 low 0 5.0")) (Ok (record { lines = floor_line ∷ [] }))
+pub one_line_is_read : ReadsAs (ended (codes "0 0 low 0 5.0"))
+    (Ok (record { lines = floor_line ∷ [] }))
 unfolding digits
 one_line_is_read =
     record {
       text = refl;
-      is_log = record { writable = All-cons IsWritable floor_line [] floor_line_is_writable (All-nil IsWritable); within = omega arith };
+      is_log = record {
+        writable = All-cons IsWritable floor_line [] floor_line_is_writable
+            (All-nil IsWritable);
+        within = omega arith;
+      };
     }

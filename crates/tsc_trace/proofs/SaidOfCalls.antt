@@ -2,11 +2,11 @@
 use Rattle.std.proofs.Common.{◌≡◌, ◌∙◌, refl, sym, ap, ℕ, Bool, true, false, true≢false, is_some, option_map}
 use Rattle.tsc_cache.specs.Settings.{Settings}
 use Rattle.tsc_cache.specs.State.{CacheState}
-use Rattle.tsc_trace_json.specs.Calls.{kind_of, is_same_kind, addition_of, adds}
-use Rattle.tsc_trace_json.specs.declared.trace.Call.{Call}
-use Rattle.tsc_trace_json.specs.declared.trace.Call.TheVariants.{Add, Batch, Get, Low}
-use Rattle.tsc_trace_json.specs.declared.trace.Kind.{Kind}
-use Rattle.tsc_trace_json.specs.declared.trace.Kind.TheVariants as kind
+use Rattle.tsc_trace_format.specs.Calls.{kind_of, is_same_kind, addition_of, adds}
+use Rattle.tsc_trace_format.specs.declared.trace.Call.{Call}
+use Rattle.tsc_trace_format.specs.declared.trace.Call.TheVariants.{Add, Batch, Get, Low}
+use Rattle.tsc_trace_format.specs.declared.trace.Kind.{Kind}
+use Rattle.tsc_trace_format.specs.declared.trace.Kind.TheVariants as kind
 use Rattle.tsc_trace.specs.Log.{made, said_in}
 use Rattle.tsc_trace.specs.Sayings.{kind_of_said, told_of, front_of}
 use Rattle.tsc_trace.specs.declared.log.Said.{Said}
@@ -47,30 +47,37 @@ said_adds (said.Get front value) = refl
 said_adds (said.Low front time) = refl
 
 -- an answer of a call's kind tells of an addition just where the call adds
-pub tells_where_adds : (call : Call) (s : Said) → is_same_kind (kind_of call) (kind_of_said s) ≡ true → is_some (told_of s) ≡ adds call
-tells_where_adds call s same = said_adds s ∙ ap adds_by_kind (sym (one_kind (kind_of call) (kind_of_said s) same)) ∙ sym (call_adds call)
+pub tells_where_adds : (call : Call) (s : Said) →
+    is_same_kind (kind_of call) (kind_of_said s) ≡ true → is_some (told_of s) ≡ adds call
+tells_where_adds call s same = said_adds s ∙
+    ap adds_by_kind (sym (one_kind (kind_of call) (kind_of_said s) same)) ∙ sym (call_adds call)
 
 -- ---- what a call answers
 
-pub kind_in : (settings : Settings) (s : CacheState) (front : ℕ) (call : Call) → kind_of_said (said_in settings s front call) ≡ kind_of call
+pub kind_in : (settings : Settings) (s : CacheState) (front : ℕ) (call : Call) →
+    kind_of_said (said_in settings s front call) ≡ kind_of call
 kind_in settings s front (Add span value now) = refl
 kind_in settings s front (Batch marks now) = refl
 kind_in settings s front (Get span) = refl
 kind_in settings s front Low = refl
 
-pub front_in : (settings : Settings) (s : CacheState) (front : ℕ) (call : Call) → front_of (said_in settings s front call) ≡ front
+pub front_in : (settings : Settings) (s : CacheState) (front : ℕ) (call : Call) →
+    front_of (said_in settings s front call) ≡ front
 front_in settings s front (Add span value now) = refl
 front_in settings s front (Batch marks now) = refl
 front_in settings s front (Get span) = refl
 front_in settings s front Low = refl
 
-pub tells_in : (settings : Settings) (s : CacheState) (front : ℕ) (call : Call) → is_some (told_of (said_in settings s front call)) ≡ adds call
+pub tells_in : (settings : Settings) (s : CacheState) (front : ℕ) (call : Call) →
+    is_some (told_of (said_in settings s front call)) ≡ adds call
 tells_in settings s front (Add span value now) = refl
 tells_in settings s front (Batch marks now) = refl
 tells_in settings s front (Get span) = refl
 tells_in settings s front Low = refl
 
-pub told_in : (settings : Settings) (s : CacheState) (front : ℕ) (call : Call) → told_of (said_in settings s front call) ≡ option_map (λ a. record { place = front; added = (made settings s a).added }) (addition_of call)
+pub told_in : (settings : Settings) (s : CacheState) (front : ℕ) (call : Call) →
+    told_of (said_in settings s front call) ≡
+    option_map (λ a. record { place = front; added = (made settings s a).added }) (addition_of call)
 told_in settings s front (Add span value now) = refl
 told_in settings s front (Batch marks now) = refl
 told_in settings s front (Get span) = refl

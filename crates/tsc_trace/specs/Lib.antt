@@ -7,5 +7,5 @@ pub mod ReadingBack
 pub mod Play
 pub mod PlayerParts
 pub mod Replay
-pub use Rattle.tsc_trace_json.specs.TraceText
-pub use Rattle.tsc_trace_io.specs.Stream
+pub use Rattle.tsc_trace_format.specs.TraceText
+pub use Rattle.tsc_stream.specs.Stream

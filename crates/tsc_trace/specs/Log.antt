@@ -4,10 +4,10 @@ use Rattle.tsc_cache.specs.Settings.{Settings}
 use Rattle.tsc_cache.specs.State.{CacheState, Stepped, step_all, look}
 use Rattle.tsc_cache.specs.declared.history.Entry.{Entry}
 use Rattle.tsc_cache.specs.History.{History, own_count, state_of}
-use Rattle.tsc_trace_json.specs.Calls.{Addition, one_mark, several_marks, addition_of}
-use Rattle.tsc_trace_json.specs.declared.trace.Call.{Call}
-use Rattle.tsc_trace_json.specs.declared.trace.Call.TheVariants.{Add, Batch, Get, Low}
-use Rattle.tsc_trace_json.specs.Traces.{Trace}
+use Rattle.tsc_trace_format.specs.Calls.{Addition, one_mark, several_marks, addition_of}
+use Rattle.tsc_trace_format.specs.declared.trace.Call.{Call}
+use Rattle.tsc_trace_format.specs.declared.trace.Call.TheVariants.{Add, Batch, Get, Low}
+use Rattle.tsc_trace_format.specs.Traces.{Trace}
 use Rattle.tsc_trace.specs.declared.log.Line.{Line}
 use Rattle.tsc_trace.specs.declared.log.Said.{Said}
 use Rattle.tsc_trace.specs.declared.log.Said.TheVariants as said
@@ -18,8 +18,10 @@ made settings s a = step_all settings s a.marks a.now
 
 -- what a call answers in a state, where so many Adds came before
 abbrev pub said_in : Settings → CacheState → ℕ → Call → Said
-said_in settings s front (Add span value now) = said.Add front (made settings s (one_mark span value now)).added
-said_in settings s front (Batch marks now) = said.Batch front (made settings s (several_marks marks now)).added
+said_in settings s front (Add span value now) =
+    said.Add front (made settings s (one_mark span value now)).added
+said_in settings s front (Batch marks now) =
+    said.Batch front (made settings s (several_marks marks now)).added
 said_in settings s front (Get span) = said.Get front (look s span)
 said_in settings s front Low = said.Low front s.floor
 
@@ -29,7 +31,12 @@ said_after settings h call = said_in settings (state_of settings h) (length h) c
 
 -- the entry that an addition makes after a history, by the list with this number, which is its seat
 abbrev pub entry_after : ℕ → History → Addition → Entry
-entry_after thread h a = record { seat = thread; number = own_count thread h; marks = a.marks; now = a.now }
+entry_after thread h a = record {
+  seat = thread;
+  number = own_count thread h;
+  marks = a.marks;
+  now = a.now;
+}
 
 -- a history with the entry of what may be added
 abbrev pub with_addition : ℕ → History → Option Addition → History
@@ -49,13 +56,15 @@ after_calls thread h (call ∷ calls) = after_calls thread (after_call thread h 
 abbrev pub lines_of_list : Settings → ℕ → ℕ → History → List Call → List Line
 lines_of_list settings thread index h [] = []
 lines_of_list settings thread index h (call ∷ calls) =
-    record { thread = thread; index = index; said = said_after settings h call } ∷ lines_of_list settings thread (suc index) (after_call thread h call) calls
+    record { thread = thread; index = index; said = said_after settings h call } ∷
+    lines_of_list settings thread (suc index) (after_call thread h call) calls
 
 -- the lines of the lists, from the list with this number on
 abbrev pub lines_of_lists : Settings → ℕ → History → List (List Call) → List Line
 lines_of_lists settings thread h [] = []
 lines_of_lists settings thread h (calls ∷ lists) =
-    lines_of_list settings thread 0 h calls ++ lines_of_lists settings (suc thread) (after_calls thread h calls) lists
+    lines_of_list settings thread 0 h calls ++
+    lines_of_lists settings (suc thread) (after_calls thread h calls) lists
 
 -- the log of a trace
 abbrev pub log_of : Trace → List Line

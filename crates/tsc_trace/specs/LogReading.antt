@@ -1,4 +1,5 @@
--- What the bytes of a log read as: the lines whose text they are, or where they stop being the text of lines.
+-- What the bytes of a log read as: the lines whose text they are, or where they stop being the text
+-- of lines.
 use Rattle.std.specs.Prelude.{◌≡◌, ◌≢◌, ℕ, suc, ◌<◌, ◌≤◌, ◌^◌, List, [], ◌∷◌, ◌++◌, length, All, true, Result, Ok, Err}
 use Rattle.tsc_time.specs.Time.{is_in_range}
 use Rattle.tsc_time.specs.OwnedTime.{IsMadeValue}
@@ -36,9 +37,11 @@ pub record IsTextOf (bytes : List ℕ) (lines : List Line) : Type 0 where
 
 -- The bytes do not begin with a line and its line feed.
 abbrev pub HasNoLine : List ℕ → Type 0
-HasNoLine bytes = (line : Line) (after : List ℕ) → IsWritable line → bytes ≢ line_text line ++ line_feed ∷ after
+HasNoLine bytes = (line : Line) (after : List ℕ) → IsWritable line →
+    bytes ≢ line_text line ++ line_feed ∷ after
 
--- After the text of the lines before this one, counted from 1, there is more, and it does not begin with a line.
+-- After the text of the lines before this one, counted from 1, there is more, and it does not begin
+-- with a line.
 pub record IsWrongAt (bytes : List ℕ) (number : ℕ) : Type 0 where
   pub before : List Line
   pub rest : List ℕ
@@ -67,14 +70,17 @@ ReadsAs bytes (Err NoMemory) = Unit {0}
 
 -- No bytes read as two things.
 abbrev pub OneReading : Type 0
-OneReading = (bytes : List ℕ) (a b : Result Log LogFault) → a ≢ Err NoMemory → b ≢ Err NoMemory → ReadsAs bytes a → ReadsAs bytes b → a ≡ b
+OneReading = (bytes : List ℕ) (a b : Result Log LogFault) → a ≢ Err NoMemory → b ≢ Err NoMemory →
+    ReadsAs bytes a → ReadsAs bytes b → a ≡ b
 
 -- The text of a log reads as this log, and as nothing else.
 abbrev pub ReadsBackLogs : Type 0
 ReadsBackLogs = (log : Log) → IsLog log.lines → ReadsAs (log_text log.lines) (Ok log)
-    × ((read : Result Log LogFault) → read ≢ Err NoMemory → ReadsAs (log_text log.lines) read → read ≡ Ok log)
+    × ((read : Result Log LogFault) → read ≢ Err NoMemory → ReadsAs (log_text log.lines) read →
+    read ≡ Ok log)
 
--- What the text of these lines reads as: a log of just these lines, or too many of them. Want of memory says nothing of them.
+-- What the text of these lines reads as: a log of just these lines, or too many of them. Want of
+-- memory says nothing of them.
 abbrev pub ReadsAgain : List Line → Result Log LogFault → Type 0
 ReadsAgain lines (Ok log) = (log.lines ≡ lines) × (length lines ≤ most_lines)
 ReadsAgain lines (Err (Text number)) = ⊥

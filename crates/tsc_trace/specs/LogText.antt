@@ -36,15 +36,21 @@ owner_text (Some uuid) = hyphenated_text lower uuid
 -- an answer: its fields with one space between each two
 abbrev pub said_text : Said → List ℕ
 said_text (said.Add place added) =
-    join_with_byte space (codes "add" ∷ decimal place ∷ bit_text added.kept ∷ bit_text added.rotated ∷ decimal added.evicted ∷ [])
+    join_with_byte space (codes "add" ∷ decimal place ∷ bit_text added.kept ∷
+    bit_text added.rotated ∷ decimal added.evicted ∷ [])
 said_text (said.Batch place added) =
-    join_with_byte space (codes "batch" ∷ decimal place ∷ bit_text added.kept ∷ bit_text added.rotated ∷ decimal added.evicted ∷ [])
-said_text (said.Get front value) = join_with_byte space (codes "get" ∷ decimal front ∷ time_text value.time ∷ owner_text value.owner ∷ [])
-said_text (said.Low front time) = join_with_byte space (codes "low" ∷ decimal front ∷ time_text time ∷ [])
+    join_with_byte space (codes "batch" ∷ decimal place ∷ bit_text added.kept ∷
+    bit_text added.rotated ∷ decimal added.evicted ∷ [])
+said_text (said.Get front value) =
+    join_with_byte space (codes "get" ∷ decimal front ∷ time_text value.time ∷
+    owner_text value.owner ∷ [])
+said_text (said.Low front time) = join_with_byte space
+    (codes "low" ∷ decimal front ∷ time_text time ∷ [])
 
 -- a line without its line feed: its list, its place in it, and its answer
 abbrev pub line_text : Line → List ℕ
-line_text line = join_with_byte space (decimal line.thread ∷ decimal line.index ∷ said_text line.said ∷ [])
+line_text line = join_with_byte space
+    (decimal line.thread ∷ decimal line.index ∷ said_text line.said ∷ [])
 
 -- the lines, each ended by a line feed
 abbrev pub log_text : List Line → List ℕ

@@ -2,8 +2,8 @@
 use Rattle.std.specs.Prelude.{ℕ, suc, List, [], ◌∷◌, ◌++◌, Option, Some, None}
 use Rattle.tsc_cache.specs.Settings.{Settings}
 use Rattle.tsc_cache.specs.State.{CacheState}
-use Rattle.tsc_trace_json.specs.Calls.{Addition, addition_of}
-use Rattle.tsc_trace_json.specs.declared.trace.Call.{Call}
+use Rattle.tsc_trace_format.specs.Calls.{Addition, addition_of}
+use Rattle.tsc_trace_format.specs.declared.trace.Call.{Call}
 use Rattle.tsc_trace.specs.Log.{made, said_in}
 use Rattle.tsc_trace.specs.declared.log.Line.{Line}
 use Rattle.tsc_trace.specs.declared.log.Said.{Said}
@@ -20,7 +20,10 @@ said_at settings at call = said_in settings at.state at.adds call
 -- where the replay stands with what may be added
 abbrev pub with_made : Settings → Standing → Option Addition → Standing
 with_made settings at None = at
-with_made settings at (Some a) = record { state = (made settings at.state a).state; adds = suc at.adds }
+with_made settings at (Some a) = record {
+  state = (made settings at.state a).state;
+  adds = suc at.adds;
+}
 
 -- after a call
 abbrev pub next : Settings → Standing → Call → Standing
@@ -35,10 +38,12 @@ next_all settings at (call ∷ calls) = next_all settings (next settings at call
 abbrev pub played : Settings → ℕ → ℕ → Standing → List Call → List Line
 played settings thread index at [] = []
 played settings thread index at (call ∷ calls) =
-    record { thread = thread; index = index; said = said_at settings at call } ∷ played settings thread (suc index) (next settings at call) calls
+    record { thread = thread; index = index; said = said_at settings at call } ∷
+    played settings thread (suc index) (next settings at call) calls
 
 -- the lines of lists, from the list with this number on
 abbrev pub played_lists : Settings → ℕ → Standing → List (List Call) → List Line
 played_lists settings thread at [] = []
 played_lists settings thread at (calls ∷ lists) =
-    played settings thread 0 at calls ++ played_lists settings (suc thread) (next_all settings at calls) lists
+    played settings thread 0 at calls ++
+    played_lists settings (suc thread) (next_all settings at calls) lists

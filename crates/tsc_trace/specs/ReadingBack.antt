@@ -26,10 +26,15 @@ pub record AddsLine (text : List ℕ) (old new : List Line) : Type 0 where
 -- If the text is that of a value in bounds, this value was read.
 abbrev pub ReadsBack : {X : Type 0} → (X → Type 0) → (X → List ℕ) → List ℕ → Option X → Type 0
 ReadsBack {X} InBounds written text None = (x : X) → InBounds x → text ≢ written x
-ReadsBack {X} InBounds written text (Some y) = InBounds y × ((x : X) → InBounds x → text ≡ written x → y ≡ x)
+ReadsBack {X} InBounds written text (Some y) =
+    InBounds y × ((x : X) → InBounds x → text ≡ written x → y ≡ x)
 
--- If the text begins with that of a value in bounds and a space, this value was read, and what follows the space.
-abbrev pub ReadsField : {X : Type 0} → (X → Type 0) → (X → List ℕ) → List ℕ → Option (X × List ℕ) → Type 0
-ReadsField {X} InBounds written text None = (x : X) (rest : List ℕ) → InBounds x → text ≢ written x ++ space ∷ rest
+-- If the text begins with that of a value in bounds and a space, this value was read, and what
+-- follows the space.
+abbrev pub ReadsField : {X : Type 0} → (X → Type 0) → (X → List ℕ) → List ℕ →
+    Option (X × List ℕ) → Type 0
+ReadsField {X} InBounds written text None = (x : X) (rest : List ℕ) → InBounds x →
+    text ≢ written x ++ space ∷ rest
 ReadsField {X} InBounds written text (Some field) =
-    InBounds field.0 × ((x : X) (rest : List ℕ) → InBounds x → text ≡ written x ++ space ∷ rest → (field.0 ≡ x) × (field.1 ≡ rest))
+    InBounds field.0 × ((x : X) (rest : List ℕ) → InBounds x → text ≡ written x ++ space ∷ rest →
+    (field.0 ≡ x) × (field.1 ≡ rest))

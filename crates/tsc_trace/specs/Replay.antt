@@ -1,14 +1,14 @@
 -- What a replay reads and writes, and why it may end early.
 use Rattle.std.specs.Prelude.{◌≡◌, ◌≢◌, ◌++◌, List, ℕ, Ok, Err, codes, decimal}
-use Rattle.tsc_trace_json.specs.TraceText.{trace_of_bytes}
+use Rattle.tsc_trace_format.specs.TraceText.{trace_of_bytes}
 use Rattle.tsc_trace.specs.Log.{log_of}
 use Rattle.tsc_trace.specs.LogText.{log_text}
-use Rattle.tsc_trace_io.specs.Stream.{KnownReader, KnownWriter, HasRead, CouldNotRead, HasReadTooMuch, RanOutReading, HasWritten, CouldNotWrite}
-use Rattle.tsc_trace_json.specs.Traces.{Trace}
-use Rattle.tsc_trace_json.specs.declared.read.TraceFault.{TraceFault}
-use Rattle.tsc_trace_json.specs.declared.read.TraceFault.TheVariants as trace_fault
-use Rattle.tsc_trace_io.specs.declared.input.InputFault.{InputFault}
-use Rattle.tsc_trace_io.specs.declared.input.InputFault.TheVariants as input_fault
+use Rattle.tsc_stream.specs.Stream.{KnownReader, KnownWriter, HasRead, CouldNotRead, HasReadTooMuch, RanOutReading, HasWritten, CouldNotWrite}
+use Rattle.tsc_trace_format.specs.Traces.{Trace}
+use Rattle.tsc_trace_format.specs.declared.read.TraceFault.{TraceFault}
+use Rattle.tsc_trace_format.specs.declared.read.TraceFault.TheVariants as trace_fault
+use Rattle.tsc_stream.specs.declared.input.InputFault.{InputFault}
+use Rattle.tsc_stream.specs.declared.input.InputFault.TheVariants as input_fault
 use Rattle.tsc_trace.specs.declared.replays.OutFault.{OutFault}
 use Rattle.tsc_trace.specs.declared.replays.OutFault.TheVariants as out_fault
 use Rattle.tsc_trace.specs.declared.replays.ReplayFault.{ReplayFault}
@@ -51,7 +51,8 @@ StopsReadingTrace Write reader reader' = ⊥
 StopsReadingTrace NoMemory reader reader' = RanOutReading reader reader'
 
 -- A reader told its end, and all that it had is no trace, for this reason. Nothing was written.
-pub record RefusedAs (fault : TraceFault) (reader reader' : KnownReader) (writer writer' : KnownWriter) : Type 0 where
+pub record RefusedAs (fault : TraceFault) (reader reader' : KnownReader)
+    (writer writer' : KnownWriter) : Type 0 where
   pub input : List ℕ
   pub read : HasRead reader reader' input
   pub is_none : trace_of_bytes input ≡ Err fault
@@ -74,16 +75,19 @@ pub record NotWritten (reader reader' : KnownReader) (writer writer' : KnownWrit
   pub read : HasReadTrace reader reader' trace
   pub wrote : CouldNotWrite writer writer' (replay_text trace)
 
--- Memory was wanting, while a trace was read or after that. No read failed, and nothing was written.
+-- Memory was wanting, while a trace was read or after that. No read failed, and nothing was
+-- written.
 pub record OutOfMemory (reader reader' : KnownReader) (writer writer' : KnownWriter) : Type 0 where
   pub read : RanOutReading reader reader'
   pub silent : writer' ≡ writer
 
 -- how a replay with this fault ended
-abbrev pub StopsReplay : ReplayFault → KnownReader → KnownReader → KnownWriter → KnownWriter → Type 0
+abbrev pub StopsReplay : ReplayFault → KnownReader → KnownReader → KnownWriter →
+    KnownWriter → Type 0
 StopsReplay Read reader reader' writer writer' = NotRead reader reader' writer writer'
 StopsReplay TooLong reader reader' writer writer' = TooMuchRead reader reader' writer writer'
-StopsReplay (Refused fault) reader reader' writer writer' = RefusedAs fault reader reader' writer writer'
+StopsReplay (Refused fault) reader reader' writer writer' =
+    RefusedAs fault reader reader' writer writer'
 StopsReplay Write reader reader' writer writer' = NotWritten reader reader' writer writer'
 StopsReplay NoMemory reader reader' writer writer' = OutOfMemory reader reader' writer writer'
 
@@ -115,13 +119,19 @@ abbrev pub fault_text : ReplayFault → List ℕ
 fault_text Read = codes "read failed"
 fault_text TooLong = codes "input too long"
 fault_text (Refused trace_fault.NotJson) = codes "trace refused: fault 1"
-fault_text (Refused (trace_fault.Shape call)) = codes "trace refused: fault 2 at call " ++ decimal call
-fault_text (Refused (trace_fault.Number call)) = codes "trace refused: fault 3 at call " ++ decimal call
-fault_text (Refused (trace_fault.Hex call)) = codes "trace refused: fault 4 at call " ++ decimal call
-fault_text (Refused (trace_fault.Uuid call)) = codes "trace refused: fault 5 at call " ++ decimal call
-fault_text (Refused (trace_fault.Span call)) = codes "trace refused: fault 6 at call " ++ decimal call
+fault_text (Refused (trace_fault.Shape call)) =
+    codes "trace refused: fault 2 at call " ++ decimal call
+fault_text (Refused (trace_fault.Number call)) =
+    codes "trace refused: fault 3 at call " ++ decimal call
+fault_text (Refused (trace_fault.Hex call)) =
+    codes "trace refused: fault 4 at call " ++ decimal call
+fault_text (Refused (trace_fault.Uuid call)) =
+    codes "trace refused: fault 5 at call " ++ decimal call
+fault_text (Refused (trace_fault.Span call)) =
+    codes "trace refused: fault 6 at call " ++ decimal call
 fault_text (Refused trace_fault.Config) = codes "trace refused: fault 7"
 fault_text (Refused trace_fault.NoMemory) = codes "out of memory"
-fault_text (Refused (trace_fault.TooLarge call)) = codes "trace refused: fault 9 at call " ++ decimal call
+fault_text (Refused (trace_fault.TooLarge call)) =
+    codes "trace refused: fault 9 at call " ++ decimal call
 fault_text Write = codes "write failed"
 fault_text NoMemory = codes "out of memory"

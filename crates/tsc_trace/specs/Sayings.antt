@@ -1,7 +1,8 @@
--- What the answer in a line says: of what kind of call it is, how many Adds came before, and what was added.
+-- What the answer in a line says: of what kind of call it is, how many Adds came before, and what
+-- was added.
 use Rattle.std.specs.Prelude.{ℕ, Option, Some, None}
-use Rattle.tsc_trace_json.specs.declared.trace.Kind.{Kind}
-use Rattle.tsc_trace_json.specs.declared.trace.Kind.TheVariants as kind
+use Rattle.tsc_trace_format.specs.declared.trace.Kind.{Kind}
+use Rattle.tsc_trace_format.specs.declared.trace.Kind.TheVariants as kind
 use Rattle.tsc_trace.specs.declared.log.Said.{Said}
 use Rattle.tsc_trace.specs.declared.log.Said.TheVariants as said
 use Rattle.tsc_trace.specs.declared.log.Told.{Told}

@@ -1,10 +1,10 @@
 //! Recorded traces of the timestamp cache, the logs of what a run answered, and replays.
 //!
-//! A [`Trace`] is a configuration and lists of calls. [`read_trace`] reads one, [`play`] makes its calls one
-//! after another over a [`Cache`](tsc_cache::Cache), and [`log_text`] is the text of the [`Log`] of their
-//! answers. [`replay_stream`] does all three, from a reader to a writer. [`read_log`] reads the text of a
-//! log back. Which trace bytes are is `tsc_trace_json`, how they are read
-//! `tsc_trace_reader`, and what readers and writers promise `tsc_trace_io`.
+//! A [`Trace`] is a configuration and lists of calls. [`read_trace`] reads one, [`play`] makes its
+//! calls one after another over a [`Cache`](tsc_cache::Cache), and [`log_text`] is the text of the
+//! [`Log`] of their answers. [`replay_stream`] does all three, from a reader to a writer.
+//! [`read_log`] reads the text of a log back. Which trace bytes are is `tsc_trace_format`, how they
+//! are read `tsc_trace_fast`, and what readers and writers promise `tsc_stream`.
 #![tactic(auto)]
 
 mod log;
@@ -21,6 +21,6 @@ pub use replays::{
     OutFault, ReplayFault, read_trace_from, replay, replay_stream, replay_stream_with_progress,
     write_log,
 };
-pub use tsc_trace_io::{AnyTrouble, Metered, MeteredRead, MeteredWrite, Sink, Source};
-pub use tsc_trace_json::{Call, Kind, Lists, Marks, Trace, TraceFault};
-pub use tsc_trace_reader::read_trace;
+pub use tsc_stream::{AnyStreamFault, Limited, LimitedRead, LimitedWrite, Sink, Source};
+pub use tsc_trace_fast::read_trace;
+pub use tsc_trace_format::{Call, Kind, Lists, Marks, Trace, TraceFault};

@@ -9,7 +9,7 @@ use std::fmt;
 use std::marker::Model;
 use tsc_cache::Added;
 use tsc_time::{NoMemory, Timestamp, Value};
-use tsc_trace_json::Kind;
+use tsc_trace_format::Kind;
 use uuid::Uuid;
 
 /// What a call answered.
@@ -25,7 +25,8 @@ pub enum Said {
     Low { front: u64, time: Timestamp },
 }
 
-/// What the answer of an Add or a batch says: its place among all Adds, counted from 0, and what it did.
+/// What the answer of an Add or a batch says: its place among all Adds, counted from 0, and what it
+/// did.
 #[derive(Clone, Copy, Debug, PartialEq, Eq)]
 pub struct Told {
     pub place: u64,
@@ -93,7 +94,7 @@ impl Model for Lines {
 }
 
 impl Lines {
-    /// These lines.
+    /// A log of these lines.
     pub fn of(lines: Vec<Line>) -> Lines
         ensures { result ≡ lines.items }
     {
@@ -195,8 +196,8 @@ impl fmt::Display for Line {
 
 /// The text of a log: its lines, each ended by a line feed. The text of no lines is empty.
 ///
-/// The text is made whole in memory, and the time is linear in it. Whoever has a text also learns here that
-/// each line is one that a log can hold.
+/// The text is made whole in memory, and the time is linear in it. Whoever has a text also learns
+/// here that each line is one that a log can hold.
 pub fn log_text(alloc: Global, log: &Log) -> Result<Vec<u8>, NoMemory>
     ensures value { IfOk result (λ text. text.items ≡ log_text log.now.lines) }
     ensures writable { IfOk result (λ _. All IsWritable log.now.lines) }

@@ -1,6 +1,7 @@
 //! Laws of the texts of logs.
 //!
-//! No program needs to call these functions: their contracts are the laws, for every text and every log.
+//! No program needs to call these functions: their contracts are the laws, for every text and every
+//! log.
 ghost use Rattle.tsc_trace.specs.LogReading.{OneReading, ReadsAgain, ReadsBackLogs};
 
 use crate::log::{Log, log_text};
@@ -18,8 +19,8 @@ pub fn reads_back_what_is_written()
     ensures { ReadsBackLogs }
 {}
 
-/// Any log that a program holds reads back from its text, but for want of memory. A log of more than 65,536
-/// lines is told as too long.
+/// Any log that a program holds reads back from its text, but for want of memory. A log of more
+/// than 65,536 lines is told as too long.
 pub fn reads_again(alloc: Global, log: &Log) -> Result<Log, LogFault>
     ensures { ReadsAgain log.now.lines result }
 {

@@ -18,8 +18,8 @@ const MOST_LINES: u64 = 65_536;
 /// Why bytes are not the text of a log.
 #[derive(Clone, Copy, Debug, PartialEq, Eq, Error)]
 pub enum LogFault {
-    /// A line is not of the form that `log_text` writes, or has no line feed. The number is that of the
-    /// first such line, counted from 1.
+    /// A line is not of the form that `log_text` writes, or has no line feed. The number is that of
+    /// the first such line, counted from 1.
     #[error("line {0} is not a line of a log")]
     Text(u64),
     /// Bytes follow the 65,536 lines that a log has at the most.
@@ -56,7 +56,8 @@ struct Reader {
 impl Reader {
     /// Adds the line that has just this text, and stands at this number.
     fn add_line(&mut self, number: u64, text: &[u8]) -> Result<(), LogFault>
-        ensures { MatchResult result (λ _. AddsLine text.now self.old.lines.items self.new.lines.items)
+        ensures { MatchResult result
+            (λ _. AddsLine text.now self.old.lines.items self.new.lines.items)
             (λ fault. (fault ≡ LogFault.NoMemory)
             ⊎ ((fault ≡ LogFault.Text number) × IsNoLineText text.now)) }
     {
@@ -77,8 +78,8 @@ impl Reader {
 
 /// The log whose text these bytes are, as `log_text` writes it.
 ///
-/// The empty text is the log without lines. The time is linear in the bytes, and the memory is that of
-/// the lines and of the text of one line.
+/// The empty text is the log without lines. The time is linear in the bytes, and the memory is that
+/// of the lines and of the text of one line.
 pub fn read_log(alloc: Global, bytes: &[u8]) -> Result<Log, LogFault>
     ensures { ReadsAs bytes.now result }
 {
@@ -118,7 +119,8 @@ fn loose_line(text: &[u8]) -> Option<Line>
     read_line(str::from_utf8(text).ok()?)
 }
 
-/// The line that has just this text, and stands at this number. What `printer` holds doesn't matter.
+/// The line that has just this text, and stands at this number. What `printer` holds doesn't
+/// matter.
 fn exact_line(number: u64, text: &[u8], printer: &mut Printer) -> Result<Line, LogFault>
     ensures { MatchResult result (λ line. IsWritable line × (text.now ≡ line_text line)) (λ fault.
         (fault ≡ LogFault.NoMemory) ⊎ ((fault ≡ LogFault.Text number) × IsNoLineText text.now)) }

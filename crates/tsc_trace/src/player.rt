@@ -3,9 +3,9 @@ ghost use Rattle.tsc_cache.specs.Settings.{Settings, fits};
 ghost use Rattle.tsc_cache.specs.Batch.{all_fit};
 ghost use Rattle.tsc_cache.specs.State.{CacheState};
 ghost use Rattle.tsc_cache.specs.CacheView.{StandsForState};
-ghost use Rattle.tsc_trace_json.specs.Calls.{call_fits, one_mark, several_marks};
-ghost use Rattle.tsc_trace_json.specs.Traces.{EachFits};
-ghost use Rattle.tsc_trace_json.specs.Limits.{most_calls};
+ghost use Rattle.tsc_trace_format.specs.Calls.{call_fits, one_mark, several_marks};
+ghost use Rattle.tsc_trace_format.specs.Traces.{EachFits};
+ghost use Rattle.tsc_trace_format.specs.Limits.{most_calls};
 ghost use Rattle.tsc_trace.specs.Log.{log_of, made};
 ghost use Rattle.tsc_trace.specs.Play.{Standing, said_at, next, next_all, played};
 
@@ -13,12 +13,12 @@ use crate::log::{Line, Lines, Log, Said};
 use std::alloc::Global;
 use tsc_cache::{Added, Cache, CacheFault, Mark, TimestampCache};
 use tsc_span::Span;
+use tsc_stream::{NoProgress, Progress};
 use tsc_time::{NoMemory, Timestamp, Value};
-use tsc_trace_io::{NoProgress, Progress};
-use tsc_trace_json::{Call, Trace};
+use tsc_trace_format::{Call, Trace};
 
-/// Adds a span that fits the cache's pages, as each does that a call of a [`Trace`] adds. So memory alone may be
-/// wanting, and then the cache is as before.
+/// Adds a span that fits the cache's pages, as each does that a call of a [`Trace`] adds. So memory
+/// alone may be wanting, and then the cache is as before.
 pub fn add_fitting(
     cache: &mut Cache,
     span: &Span,
@@ -26,9 +26,11 @@ pub fn add_fitting(
     now: Timestamp,
 ) -> Result<Added, NoMemory>
     requires { fits cache.old.settings span.now ≡ true }
-    ensures added { IfOk result (λ added. (settings : Settings) (s : CacheState) → StandsForState cache.old settings s
+    ensures added { IfOk result (λ added. (settings : Settings) (s : CacheState) →
+        StandsForState cache.old settings s
         → added ≡ (made settings s (one_mark span.now value now)).added) }
-    ensures stands { OnOk result ((settings : Settings) (s : CacheState) → StandsForState cache.old settings s
+    ensures stands { OnOk result ((settings : Settings) (s : CacheState) →
+        StandsForState cache.old settings s
         → StandsForState cache.new settings (made settings s (one_mark span.now value now)).state) }
     ensures settings { OnOk result (cache.new.settings ≡ cache.old.settings) }
     ensures unchanged { OnErr result (cache.new ≡ cache.old) }
@@ -40,13 +42,15 @@ pub fn add_fitting(
     }
 }
 
-/// Adds marks that fit the cache's pages, one after another, as each batch of a [`Trace`] does. So memory alone may be
-/// wanting, and then none of them is added.
+/// Adds marks that fit the cache's pages, one after another, as each batch of a [`Trace`] does. So
+/// memory alone may be wanting, and then none of them is added.
 pub fn add_all_fitting(cache: &mut Cache, marks: &[Mark], now: Timestamp) -> Result<Added, NoMemory>
     requires { all_fit cache.old.settings marks.now ≡ true }
-    ensures added { IfOk result (λ added. (settings : Settings) (s : CacheState) → StandsForState cache.old settings s
+    ensures added { IfOk result (λ added. (settings : Settings) (s : CacheState) →
+        StandsForState cache.old settings s
         → added ≡ (made settings s (several_marks marks.now now)).added) }
-    ensures stands { OnOk result ((settings : Settings) (s : CacheState) → StandsForState cache.old settings s
+    ensures stands { OnOk result ((settings : Settings) (s : CacheState) →
+        StandsForState cache.old settings s
         → StandsForState cache.new settings (made settings s (several_marks marks.now now)).state) }
     ensures settings { OnOk result (cache.new.settings ≡ cache.old.settings) }
     ensures unchanged { OnErr result (cache.new ≡ cache.old) }
@@ -73,9 +77,11 @@ impl Player {
     fn answer(&mut self, call: &Call) -> Result<Said, NoMemory>
         requires count { self.old.adds + 1 < 2 ^ 64 }
         requires fits { call_fits self.old.cache.settings call.now ≡ true }
-        ensures said { IfOk result (λ said. (settings : Settings) (at : Standing) → StandsAt self.old settings at
+        ensures said { IfOk result
+            (λ said. (settings : Settings) (at : Standing) → StandsAt self.old settings at
             → said ≡ said_at settings at call.now) }
-        ensures stands { OnOk result ((settings : Settings) (at : Standing) → StandsAt self.old settings at
+        ensures stands { OnOk result
+            ((settings : Settings) (at : Standing) → StandsAt self.old settings at
             → StandsAt self.new settings (next settings at call.now)) }
         ensures count { OnOk result (self.new.adds ≤ self.old.adds + 1) }
         ensures settings { OnOk result (self.new.cache.settings ≡ self.old.cache.settings) }
@@ -118,9 +124,12 @@ impl Player {
         requires count { self.old.adds + length calls.now < 2 ^ 64 }
         requires index { length calls.now ≤ most_calls }
         requires fits { EachFits self.old.cache.settings calls.now }
-        ensures lines { OnOk result ((settings : Settings) (at : Standing) → StandsAt self.old settings at
-            → self.new.lines.items ≡ self.old.lines.items ++ played settings thread 0 at calls.now) }
-        ensures stands { OnOk result ((settings : Settings) (at : Standing) → StandsAt self.old settings at
+        ensures lines { OnOk result
+            ((settings : Settings) (at : Standing) → StandsAt self.old settings at
+            → self.new.lines.items ≡ self.old.lines.items ++
+            played settings thread 0 at calls.now) }
+        ensures stands { OnOk result
+            ((settings : Settings) (at : Standing) → StandsAt self.old settings at
             → StandsAt self.new settings (next_all settings at calls.now)) }
         ensures count { OnOk result (self.new.adds ≤ self.old.adds + length calls.now) }
         ensures settings { OnOk result (self.new.cache.settings ≡ self.old.cache.settings) }

@@ -1,7 +1,7 @@
 //! The text of a line, written from its last byte to its first.
 //!
-//! The digits of a number come from the last to the first, so a text that grows at its front takes each of them
-//! once, and no memory is asked for.
+//! The digits of a number come from the last to the first, so a text that grows at its front takes
+//! each of them once, and no memory is asked for.
 ghost use Rattle.std.specs.Prelude.{◌≡◌, ◌+◌, ◌≤◌, [], ◌∷◌, ◌++◌, length, codes, decimal};
 ghost use Rattle.tsc_trace.specs.LogText.{bit_text, dot, line_feed, line_text, owner_text, said_text, space, time_text};
 
@@ -113,7 +113,8 @@ impl Printer {
     /// Puts what an Add or a batch did before the text, and its place, and this word.
     fn put_added(&mut self, word: &[u8], place: u64, added: &Added)
         requires { (length word.now ≤ 5) × (length self.old ≤ 1) }
-        ensures text { self.new ≡ word.now ++ space ∷ decimal place ++ space ∷ bit_text added.now.kept
+        ensures text { self.new ≡ word.now ++ space ∷ decimal place ++ space ∷
+            bit_text added.now.kept
             ++ space ∷ bit_text added.now.rotated ++ space ∷ decimal added.now.evicted ++ self.old }
         ensures room { length self.new ≤ 51 + length self.old }
     {

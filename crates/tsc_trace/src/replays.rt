@@ -2,7 +2,7 @@
 ghost use Rattle.std.specs.Prelude.{◌≡◌, ◌++◌, Some, IfOk, IfErr, OnOk, OnErr};
 ghost use Rattle.tsc_trace.specs.LogText.{log_text};
 ghost use Rattle.tsc_trace.specs.Replay.{Done, HasReadTrace, StopsReadingTrace, StopsReplay, StopsWriting, fault_of_input, fault_of_output, fault_of_trace, fault_text, replay_text};
-ghost use Rattle.tsc_trace_io.specs.Stream.{CouldNotWrite, HasWritten};
+ghost use Rattle.tsc_stream.specs.Stream.{CouldNotWrite, HasWritten};
 ghost use Rattle.tsc_trace.specs.declared.replays.OutFault.TheVariants as out_fault;
 ghost use Rattle.tsc_trace.specs.declared.replays.ReplayFault.TheVariants as replay_fault;
 
@@ -13,19 +13,19 @@ use std::alloc::Global;
 use std::error::Error;
 use std::fmt;
 use thiserror::Error;
-use tsc_time::NoMemory;
-use tsc_trace_io::{
+use tsc_stream::{
     InputFault, NoProgress, Progress, Sink, Source, WriteFailed, read_input, write_both,
     write_output,
 };
-use tsc_trace_json::{Trace, TraceFault};
-use tsc_trace_reader::read_trace;
+use tsc_time::NoMemory;
+use tsc_trace_fast::read_trace;
+use tsc_trace_format::{Trace, TraceFault};
 
 /// Why a log was not written.
 #[derive(Clone, Copy, Debug, PartialEq, Eq, Error)]
 pub enum OutFault {
-    /// A write failed or took nothing, or there was no end after 33,554,432 writes. How much went out is
-    /// not told.
+    /// A write failed or took nothing, or there was no end after 33,554,432 writes. How much went
+    /// out is not told.
     #[error("write failed")]
     Write,
     /// A growth was refused. Nothing was written.
@@ -67,8 +67,10 @@ pub enum ReplayFault {
 impl ReplayFault {
     /// Writes the text of the fault. It takes no memory.
     pub fn tell<W: Sink>(self, writer: &mut W) -> Result<(), WriteFailed>
-        ensures ok { OnOk result (HasWritten (W.known writer.old) (W.known writer.new) (fault_text self)) }
-        ensures err { OnErr result (CouldNotWrite (W.known writer.old) (W.known writer.new) (fault_text self)) }
+        ensures ok { OnOk result (HasWritten (W.known writer.old) (W.known writer.new)
+            (fault_text self)) }
+        ensures err { OnErr result
+            (CouldNotWrite (W.known writer.old) (W.known writer.new) (fault_text self)) }
     {
         let mut digits = Buffer::new();
         let (text, number) = self.parts(&mut digits);
@@ -181,7 +183,8 @@ impl From<WriteFailed> for ReplayFault {
 
 /// Writes the text of a log. The text is made whole in memory before any of it is written.
 pub fn write_log<W: Sink>(alloc: Global, log: &Log, writer: &mut W) -> Result<(), OutFault>
-    ensures ok { OnOk result (HasWritten (W.known writer.old) (W.known writer.new) (log_text log.now.lines)) }
+    ensures ok { OnOk result (HasWritten (W.known writer.old) (W.known writer.new)
+        (log_text log.now.lines)) }
     ensures err { IfErr result (λ fault.
         StopsWriting fault (W.known writer.old) (W.known writer.new) (log_text log.now.lines)) }
 {
@@ -196,10 +199,11 @@ fn replayed<P: Progress>(alloc: Global, trace: &Trace, progress: &P) -> Result<V
     log_text(alloc, &play_with_progress(alloc, trace, progress)?)
 }
 
-/// Replays a trace on one thread, and writes the text of its log. The text is made whole in memory before
-/// any of it is written.
+/// Replays a trace on one thread, and writes the text of its log. The text is made whole in memory
+/// before any of it is written.
 pub fn replay<W: Sink>(alloc: Global, trace: &Trace, writer: &mut W) -> Result<(), OutFault>
-    ensures ok { OnOk result (HasWritten (W.known writer.old) (W.known writer.new) (replay_text trace.now)) }
+    ensures ok { OnOk result (HasWritten (W.known writer.old) (W.known writer.new)
+        (replay_text trace.now)) }
     ensures err { IfErr result (λ fault.
         StopsWriting fault (W.known writer.old) (W.known writer.new) (replay_text trace.now)) }
 {
@@ -211,8 +215,10 @@ pub fn replay<W: Sink>(alloc: Global, trace: &Trace, writer: &mut W) -> Result<(
 ///
 /// The input is freed when it returns. Once a read has failed, no later call makes up for it.
 pub fn read_trace_from<R: Source>(alloc: Global, reader: &mut R) -> Result<Trace, ReplayFault>
-    ensures ok { IfOk result (λ trace. HasReadTrace (R.known reader.old) (R.known reader.new) trace) }
-    ensures err { IfErr result (λ fault. StopsReadingTrace fault (R.known reader.old) (R.known reader.new)) }
+    ensures ok { IfOk result (λ trace. HasReadTrace (R.known reader.old) (R.known reader.new)
+        trace) }
+    ensures err { IfErr result (λ fault. StopsReadingTrace fault (R.known reader.old)
+        (R.known reader.new)) }
 {
     let input = read_input(alloc, reader)?;
     Ok(read_trace(alloc, &input)?)
@@ -220,8 +226,8 @@ pub fn read_trace_from<R: Source>(alloc: Global, reader: &mut R) -> Result<Trace
 
 /// Reads a trace to its end, and writes the text of the log of its replay on one thread.
 ///
-/// The input is freed before the replay begins. Once a read or a write has failed, no later call makes up
-/// for it.
+/// The input is freed before the replay begins. Once a read or a write has failed, no later call
+/// makes up for it.
 pub fn replay_stream<R: Source, W: Sink>(
     alloc: Global,
     reader: &mut R,

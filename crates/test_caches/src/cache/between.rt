@@ -1,20 +1,23 @@
-//! Lookups by the bytes of a start and an end.
+//! Lookups and Adds by the bytes of a start and an end.
 use super::marks::{at, config, value};
-use super::rows::{AT_20, FIRST, FLOOR, NOBODY, RETENTION};
+use super::rows::{AT_20, FIRST, FLOOR, Limits, NOBODY, RETENTION};
 use std::alloc::Global;
 use std::test::Fail;
-use tsc_cache::{Cache, TimestampCache};
+use tsc_cache::{AddBetweenFault, Added, Cache, CacheFault, TimestampCache};
 use tsc_span::{Ends, Key, Span, SpanFault, SpanRef};
 use tsc_time::Value;
 
-/// How many bytes the keys have, each of which is the beginning of the next one. The last is too long for an Add.
+/// How many bytes the keys have, each of which is the beginning of the next one. The last is too
+/// long for an Add.
 static LENGTHS: [usize; 6] = [0, 1, 24, 25, 4096, 4097];
 
-/// Added is each of the other keys by itself, and what lies behind it up to the next one. The marks have places from 0 to this one in
-/// the order of keys, and what lies behind the longest key that fits has no end.
+/// Added is each of the other keys by itself, and what lies behind it up to the next one. The marks
+/// have places from 0 to this one in the order of keys, and what lies behind the longest key that
+/// fits has no end.
 const LAST: u32 = 9;
 
-/// How many lookups there are: from each key to each key or without an end, with all choices of ends.
+/// How many lookups there are: from each key to each key or without an end, with all choices of
+/// ends.
 const LOOKS: u32 = 168;
 
 /// A lookup by the places of its keys in `LENGTHS`.
@@ -60,7 +63,8 @@ impl Look {
         }
     }
 
-    /// The places of the first and of the last mark that the lookup overlaps; `None` where it is of the empty span.
+    /// The places of the first and of the last mark that the lookup overlaps; `None` where it is of
+    /// the empty span.
     fn places(self) -> Option<(u32, u32)> {
         let start = self.start.min(LAST);
         let first = 2 * start + u32::from(self.ends.exclude_from);
@@ -121,7 +125,7 @@ fn span_over<'a>(start: &'a [u8], end: Option<&'a [u8]>, ends: Ends) -> SpanRef<
 fn answers(cache: &Cache, look: Look, told: Value) -> bool {
     let (start, end) = (key(look.start), look.end_key());
     let by_bytes = cache.get_max_between(start, end, look.ends) == told;
-    by_bytes && cache.get_max_in(&span_over(start, end, look.ends)) == told
+    by_bytes && cache.get_max_ref(&span_over(start, end, look.ends)) == told
 }
 
 /// Whether a lookup is answered this by a span that is made of its keys.
@@ -140,7 +144,8 @@ fn add(alloc: Global, cache: &mut Cache, place: u32, rises: bool) -> Result<(), 
     Ok(())
 }
 
-/// The number of the first lookup that is answered otherwise than it has to be, where times rise or fall.
+/// The number of the first lookup that is answered otherwise than it has to be, where times rise or
+/// fall.
 fn first_wrong(alloc: Global, cache: &mut Cache, rises: bool) -> Result<Option<u32>, Fail> {
     for place in 0..LAST + 1 {
         add(alloc, cache, place, rises)?;
@@ -170,6 +175,86 @@ fn by_bytes_as_by_spans(rt: HostRuntime) -> Result<(), Fail> {
             None,
             "times rise: {rises}; the number of the lookup"
         );
+    }
+    Ok(())
+}
+
+/// The same fault of an Add by bytes.
+fn by_bytes(fault: CacheFault) -> AddBetweenFault {
+    match fault {
+        CacheFault::TooLarge => AddBetweenFault::TooLarge,
+        CacheFault::NoMemory => AddBetweenFault::NoMemory,
+    }
+}
+
+/// Why an Add over the keys of a lookup is refused, whatever the cache.
+fn refusal(look: Look) -> Option<AddBetweenFault> {
+    match look.end {
+        _ if look.has_longest() => Some(AddBetweenFault::KeyTooLong),
+        Some(end) if end < look.start => Some(AddBetweenFault::Inverted),
+        _ => None,
+    }
+}
+
+/// What an Add of the span over the keys of a lookup answers.
+fn add_made(
+    alloc: Global,
+    cache: &mut Cache,
+    look: Look,
+    value: Value,
+) -> Result<Result<Added, AddBetweenFault>, SpanFault> {
+    if let Some(fault) = refusal(look) {
+        return Ok(Err(fault));
+    }
+    match cache.add(&span(alloc, look)?, value, value.time()) {
+        Ok(added) => Ok(Ok(added)),
+        Err(fault) => Ok(Err(by_bytes(fault))),
+    }
+}
+
+/// Whether two caches answer each lookup alike, and count the same.
+fn are_alike(cache: &Cache, other: &Cache) -> bool {
+    let mut alike = cache.figures() == other.figures();
+    for number in 0..LOOKS {
+        let look = Look::of(number);
+        let (start, end) = (key(look.start), look.end_key());
+        alike &= cache.get_max_between(start, end, look.ends)
+            == other.get_max_between(start, end, look.ends);
+    }
+    alike
+}
+
+/// The number of the first Add by bytes that answers or leaves anything else than one by a span
+/// does.
+fn first_other(alloc: Global, limits: Limits) -> Result<Option<u32>, Fail> {
+    let mut cache = Cache::new(alloc, config(limits)?)?;
+    let mut beside = Cache::new(alloc, config(limits)?)?;
+    for number in 0..LOOKS {
+        let look = Look::of(number);
+        let value = value((10 + u64::from(number.wrapping_mul(37) % LOOKS), 0), FIRST);
+        let made = add_made(alloc, &mut beside, look, value)?;
+        let (start, end) = (key(look.start), look.end_key());
+        let added = cache.add_between(start, end, look.ends, value, value.time());
+        if added != made || !are_alike(&cache, &beside) {
+            return Ok(Some(number));
+        }
+    }
+    Ok(None)
+}
+
+/// A large page; pages of one short key or two, which rotate; and pages that all but the longest
+/// keys fit.
+static PAGES: [Limits; 3] = [
+    (1_048_576, 1_048_576, 2, RETENTION),
+    (64, 66, 2, RETENTION),
+    (64, 4128, 3, 1000),
+];
+
+#[test]
+fn adds_by_bytes_as_by_spans(rt: HostRuntime) -> Result<(), Fail> {
+    for limits in PAGES {
+        let other = first_other(rt.alloc(), limits)?;
+        assert_eq!(rt; other, None, "pages: {limits:?}; the number of the Add");
     }
     Ok(())
 }

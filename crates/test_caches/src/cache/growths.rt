@@ -1,6 +1,6 @@
-//! How many growths a call asks for, and for how many bytes. Each test makes one call again where it
-//! is refused memory, and nothing else, so as many runs of it pass as that call asks for growths:
-//! `scripts/refuse-each-growth` counts them, and their bytes.
+//! How many growths a call asks for, and for how many bytes. Each test makes one call again where
+//! it is refused memory, and nothing else, so as many runs of it pass as that call asks for
+//! growths: `scripts/refuse-each-growth` counts them, and their bytes.
 use super::player::play;
 use super::rows::Does::{
     Add, Apply, Begin, Known, Look, Open, Read, Stand, Tell, Told, Version, With,
@@ -71,6 +71,17 @@ const KNOWN_ON_LARGE: Row = (
         (Stand(1, 0, FLOOR), NONE, FLOOR, NOBODY),
         (Known, OF_LARGE, AT_30, NOBODY),
         (Look, OF_LARGE, AT_30, NOBODY),
+    ],
+);
+
+const KNOWN_KEY_ON_LARGE: Row = (
+    "a known key on a large page, in place, and ranges that are not kept",
+    &[
+        (Read, b"#\x14\x00", AT_20, NOBODY),
+        (Known, b"\x00\x00\x02\x01", AT_30, NOBODY),
+        (Look, b"\x00\x00\x02\x01", AT_30, NOBODY),
+        (Known, OF_LARGE, FLOOR, NOBODY),
+        (Stand(1, 0, FLOOR), NONE, FLOOR, NOBODY),
     ],
 );
 
@@ -162,6 +173,10 @@ static NEW_OF_MANY: [Table; 1] = [(LARGE, &[Call::Add], NONE, &[NEW_ON_LARGE])];
 
 static NEW_BY_BYTES: [Table; 1] = [(LARGE, &[Call::AddKey], NONE, &[NEW_ON_LARGE])];
 
+static BETWEEN_OF_MANY: [Table; 1] = [(LARGE, &[Call::AddBetween], NONE, &[KNOWN_KEY_ON_LARGE])];
+
+static NEW_BETWEEN: [Table; 1] = [(LARGE, &[Call::AddBetween], NONE, &[NEW_ON_LARGE])];
+
 static NEXT_OF_MANY: [Table; 1] = [(LARGE, &[Call::Next], NONE, &[NEXT_ON_LARGE])];
 
 static BATCH_OF_2: [Table; 1] = [(SMALL, &[Call::NextAll], NONE, &[BATCH_ON_2])];
@@ -208,6 +223,16 @@ fn a_new_key_of_a_large_page(rt: HostRuntime) -> Result<(), Fail> {
 #[test]
 fn a_new_key_by_bytes(rt: HostRuntime) -> Result<(), Fail> {
     play(&rt, rt.alloc(), &NEW_BY_BYTES)
+}
+
+#[test]
+fn a_known_key_between(rt: HostRuntime) -> Result<(), Fail> {
+    play(&rt, rt.alloc(), &BETWEEN_OF_MANY)
+}
+
+#[test]
+fn a_new_key_between(rt: HostRuntime) -> Result<(), Fail> {
+    play(&rt, rt.alloc(), &NEW_BETWEEN)
 }
 
 #[test]

@@ -22,7 +22,8 @@ pub fn config(limits: Limits) -> Result<Config, ConfigFault> {
     Config::new(page_first, page_max, min_pages, retention, at(FLOOR))
 }
 
-/// What comes before the first such byte of a text and what comes after it, or `None` where there is none.
+/// What comes before the first such byte of a text and what comes after it, or `None` where there
+/// is none.
 fn split_at(text: &[u8], mark: u8) -> Option<(&[u8], &[u8])> {
     for (place, byte) in text.iter().enumerate() {
         if *byte == mark {
@@ -64,7 +65,8 @@ fn span(alloc: Global, text: &[u8]) -> Result<Span, Fail> {
     range(alloc, from, to, ends)
 }
 
-/// Adds a mark of each of so many numbers to a list, each at another logical count than its neighbours.
+/// Adds a mark of each of so many numbers to a list, each at another logical count than its
+/// neighbours.
 fn push_many(alloc: Global, marks: &mut Vec<Mark>, count: u16, wall: u64) -> Result<(), Fail> {
     for number in 0..u32::from(count) {
         let value = Value::unowned(at((wall, number % 7)));

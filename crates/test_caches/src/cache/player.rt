@@ -1,7 +1,8 @@
-//! Plays rows on caches: one to which marks are added by some call, and one beside it to which they are added one by one.
+//! Plays rows on caches: one to which marks are added by some call, and one beside it to which they
+//! are added one by one.
 //!
-//! A call that is refused memory has to leave all as it was, but for `add_each_until_refused`, which leaves
-//! some of its marks. It is then made again.
+//! A call that is refused memory has to leave all as it was, but for `add_each_until_refused`,
+//! which leaves some of its marks. It is then made again.
 use super::marks::{at, config, push, value};
 use super::rows::{
     Call, Does, FIRST, FLOOR, Limits, NOBODY, RETENTION, Row, Step, Table, Text, Time, Told,
@@ -11,10 +12,10 @@ use std::mem;
 use std::process::Abort;
 use std::test::Fail;
 use timestamp_cache::{
-    Added, Cache, CacheFault, Config, Cut, Key, KeyRef, Mark, NoMemory, ReadSummary, Span,
+    Added, Cache, CacheFault, Config, Cut, Ends, Key, KeyRef, Mark, NoMemory, ReadSummary, Span,
     Timestamp, TimestampCache, Uuid, Value, apply, earliest_write, may_write, next_time, summary,
 };
-use tsc_cache::PlainCache;
+use tsc_cache::{AddBetweenFault, PlainCache};
 
 /// How many pages there are, how often they rotated, and where the floor stands.
 type Stand = (usize, u64, Timestamp);
@@ -56,8 +57,8 @@ fn stand_of(cache: &Cache) -> Stand {
     (cache.pages(), cache.rotations(), cache.low_water())
 }
 
-/// Whether two caches tell the same of a mark: what its span is answered, how many pages that looks into, no more than there are, and
-/// whether an Add of it would rotate them.
+/// Whether two caches tell the same of a mark: what its span is answered, how many pages that looks
+/// into, no more than there are, and whether an Add of it would rotate them.
 fn tell_alike(cache: &Cache, other: &Cache, mark: &Mark) -> bool {
     let (value, pages) = cache.get_max_counted(&mark.span);
     let rotates = cache.would_rotate(&mark.span, mark.value);
@@ -76,7 +77,8 @@ fn are_alike(cache: &Cache, other: &Cache, marks: &[Mark]) -> bool {
     alike
 }
 
-/// Whether a plain cache stands as another one, and answers the same to the span of each of some marks.
+/// Whether a plain cache stands as another one, and answers the same to the span of each of some
+/// marks.
 fn is_alike(plain: &PlainCache, other: &Cache, marks: &[Mark]) -> bool {
     let mut alike = (plain.pages(), plain.rotations(), plain.low_water()) == stand_of(other);
     for mark in marks {
@@ -106,7 +108,8 @@ fn first_above<'m>(marks: &'m [Mark], place: &[u8], after: bool) -> Option<&'m K
     None
 }
 
-/// Whether a cache tells the first of the keys of marks that lies above the place right before another key, or right after it.
+/// Whether a cache tells the first of the keys of marks that lies above the place right before
+/// another key, or right after it.
 fn tells_key(cache: &Cache, marks: &[Mark], place: &[u8], after: bool) -> bool {
     let cut = if after {
         Cut::After(place)
@@ -160,6 +163,53 @@ fn add_by_bytes(cache: &mut Cache, mark: &Mark, now: Timestamp) -> Result<Added,
             Err(_) => Err(CacheFault::TooLarge),
         },
         None => cache.add(&mark.span, mark.value, now),
+    }
+}
+
+/// The key of a cut, and whether the cut lies right behind it. The last cut has none.
+fn key_of(cut: Cut<'_>) -> Option<(&[u8], bool)> {
+    match cut {
+        Cut::Before(key) => Some((key, false)),
+        Cut::After(key) => Some((key, true)),
+        Cut::Last => None,
+    }
+}
+
+/// The same fault of an Add of a span.
+fn of_bytes(fault: AddBetweenFault) -> CacheFault {
+    match fault {
+        AddBetweenFault::NoMemory => CacheFault::NoMemory,
+        _ => CacheFault::TooLarge,
+    }
+}
+
+/// The bytes of a span's start and of its end, where it has one.
+fn bytes_of(span: &Span) -> (&[u8], Option<&[u8]>, Ends) {
+    let (mut start, mut end): (&[u8], Option<&[u8]>) = (b"", Some(b""));
+    let mut ends = Ends {
+        exclude_from: true,
+        exclude_to: true,
+    };
+    if let Some((from, to)) = span.cuts() {
+        if let Some((key, behind)) = key_of(from) {
+            start = key;
+            ends.exclude_from = behind;
+        }
+        end = None;
+        if let Some((key, behind)) = key_of(to) {
+            end = Some(key);
+            ends.exclude_to = !behind;
+        }
+    }
+    (start, end, ends)
+}
+
+/// Adds a mark by the bytes of its start and its end.
+fn add_between(cache: &mut Cache, mark: &Mark, now: Timestamp) -> Result<Added, CacheFault> {
+    let (start, end, ends) = bytes_of(&mark.span);
+    match cache.add_between(start, end, ends, mark.value, now) {
+        Ok(added) => Ok(added),
+        Err(fault) => Err(of_bytes(fault)),
     }
 }
 
@@ -232,6 +282,7 @@ impl Player {
     fn call_in_place(&mut self, mark: &Mark, now: Timestamp) -> Result<Added, CacheFault> {
         match self.call {
             Call::AddKey => add_by_bytes(&mut self.cache, mark, now),
+            Call::AddBetween => add_between(&mut self.cache, mark, now),
             _ => self.cache.add(&mark.span, mark.value, now),
         }
     }
@@ -254,14 +305,16 @@ impl Player {
     /// Adds marks by the call.
     fn call(&mut self, marks: &[Mark], now: Timestamp) -> Result<Added, CacheFault> {
         match (self.call, marks.first()) {
-            (Call::Add | Call::AddKey | Call::Next | Call::PlainAdd, Some(mark)) => {
-                self.call_one(mark, now)
-            }
+            (
+                Call::Add | Call::AddKey | Call::AddBetween | Call::Next | Call::PlainAdd,
+                Some(mark),
+            ) => { self.call_one(mark, now) }
             _ => self.call_all(marks, now),
         }
     }
 
-    /// Whether the cache stands and answers as the one beside it, and the version before as that one before.
+    /// Whether the cache stands and answers as the one beside it, and the version before as that
+    /// one before.
     fn agrees_on(&self, marks: &[Mark]) -> bool {
         if self.is_plain() {
             return is_alike(&self.plain, &self.beside, marks);
@@ -324,7 +377,8 @@ impl Player {
         Ok(())
     }
 
-    /// Adds marks, once more where memory is refused. It tells how many were left by a call that was refused, and what the last one told.
+    /// Adds marks, once more where memory is refused. It tells how many were left by a call that
+    /// was refused, and what the last one told.
     fn call_again(
         &mut self,
         marks: &[Mark],
@@ -432,7 +486,8 @@ impl Player {
         }
     }
 
-    /// Whether the version that was kept answers as it did. What the cache answers now is kept then.
+    /// Whether the version that was kept answers as it did. What the cache answers now is kept
+    /// then.
     pub fn keeps(&mut self) -> bool {
         let alike = self.recalls(self.kept_at, &self.kept);
         for mark in &mut self.kept {
@@ -477,12 +532,14 @@ impl Player {
         Ok(true)
     }
 
-    /// The same, for which no memory is asked, and says whether each is kept in place.
+    /// The same, for which no memory is asked, and says whether each above the floor is kept in
+    /// place, and no other is kept.
     fn read_known(&mut self, marks: &[Mark]) -> bool {
+        let floor = self.cache.low_water();
         let mut all = true;
         for mark in marks {
             all &= match self.call_in_place(mark, mark.value.time()) {
-                Ok(added) => added.kept && !added.rotated,
+                Ok(added) => added.kept == (floor < mark.value.time()) && !added.rotated,
                 Err(_) => false,
             };
         }

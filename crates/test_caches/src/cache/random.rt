@@ -12,7 +12,8 @@ use tsc_time::{Timestamp, Value};
 const SPANS: Text =
     b"[,|(,|[,]|[,)|(,]|(,)|[,a]|[,a)|(,a]|(,a)|[,a\x00]|[,a\x00)|(,a\x00]|(,a\x00)|[,b]|[,b)|(,b]|(,b)|[,c]|[,c)|(,c]|(,c)|[,\xff]|[,\xff)|(,\xff]|(,\xff)|[a,|(a,|[a,]|[a,)|(a,]|(a,)|[a,a]|[a,a)|(a,a]|(a,a)|[a,a\x00]|[a,a\x00)|(a,a\x00]|(a,a\x00)|[a,b]|[a,b)|(a,b]|(a,b)|[a,c]|[a,c)|(a,c]|(a,c)|[a,\xff]|[a,\xff)|(a,\xff]|(a,\xff)|[a\x00,|(a\x00,|[a\x00,]|[a\x00,)|(a\x00,]|(a\x00,)|[a\x00,a]|[a\x00,a)|(a\x00,a]|(a\x00,a)|[a\x00,a\x00]|[a\x00,a\x00)|(a\x00,a\x00]|(a\x00,a\x00)|[a\x00,b]|[a\x00,b)|(a\x00,b]|(a\x00,b)|[a\x00,c]|[a\x00,c)|(a\x00,c]|(a\x00,c)|[a\x00,\xff]|[a\x00,\xff)|(a\x00,\xff]|(a\x00,\xff)|[b,|(b,|[b,]|[b,)|(b,]|(b,)|[b,a]|[b,a)|(b,a]|(b,a)|[b,a\x00]|[b,a\x00)|(b,a\x00]|(b,a\x00)|[b,b]|[b,b)|(b,b]|(b,b)|[b,c]|[b,c)|(b,c]|(b,c)|[b,\xff]|[b,\xff)|(b,\xff]|(b,\xff)|[c,|(c,|[c,]|[c,)|(c,]|(c,)|[c,a]|[c,a)|(c,a]|(c,a)|[c,a\x00]|[c,a\x00)|(c,a\x00]|(c,a\x00)|[c,b]|[c,b)|(c,b]|(c,b)|[c,c]|[c,c)|(c,c]|(c,c)|[c,\xff]|[c,\xff)|(c,\xff]|(c,\xff)|[\xff,|(\xff,|[\xff,]|[\xff,)|(\xff,]|(\xff,)|[\xff,a]|[\xff,a)|(\xff,a]|(\xff,a)|[\xff,a\x00]|[\xff,a\x00)|(\xff,a\x00]|(\xff,a\x00)|[\xff,b]|[\xff,b)|(\xff,b]|(\xff,b)|[\xff,c]|[\xff,c)|(\xff,c]|(\xff,c)|[\xff,\xff]|[\xff,\xff)|(\xff,\xff]|(\xff,\xff)";
 
-/// Limits, the calls, how many times marks are added to new caches by each of them, and how many marks there are at the most.
+/// Limits, the calls, how many times marks are added to new caches by each of them, and how many
+/// marks there are at the most.
 type Run = (Limits, &'static [Call], u64, u32);
 
 static RUNS: [Run; 9] = [
@@ -80,7 +81,8 @@ impl Sequence {
     }
 }
 
-/// Adds marks in some turn, and says whether all is alike. Every ten turns it looks at the version of ten turns before.
+/// Adds marks in some turn, and says whether all is alike. Every ten turns it looks at the version
+/// of ten turns before.
 fn is_alike(
     player: &mut Player,
     sequence: &mut Sequence,

@@ -1,5 +1,7 @@
-//! Calls that are refused memory, on caches whose pages rotate and on pages of several leaves: a cache then shows all that it showed
-//! before, and the same call succeeds. `scripts/refuse-each-growth tests test_caches cache::refused::..` refuses each growth of a test in turn.
+//! Calls that are refused memory, on caches whose pages rotate and on pages of several leaves: a
+//! cache then shows all that it showed before, and the same call succeeds.
+//! `scripts/refuse-each-growth tests test_caches cache::refused::..` refuses each growth of a test
+//! in turn.
 use super::player::play;
 use super::rows::Does::{Add, Begin, With};
 use super::rows::{
@@ -26,7 +28,8 @@ const SINGLE: Row = (
     ],
 );
 
-/// Points alone: the fifth rotates the pages, and nothing is dropped; the ninth rotates them again, and drops the first page.
+/// Points alone: the fifth rotates the pages, and nothing is dropped; the ninth rotates them again,
+/// and drops the first page.
 const POINTS: Row = (
     "points",
     &[
@@ -64,11 +67,12 @@ const BATCHES: Row = (
     ],
 );
 
-/// As many keys as make two leaves.
+/// Enough keys to make two leaves.
 const KEYS: Text =
     b"\x80|\x81|\x82|\x83|\x84|\x85|\x86|\x87|\x88|\x89|\x8a|\x8b|\x8c|\x8d|\x8e|\x8f|\x90|\x91|\x92|\x93|\x94|\x95|\x96|\x97|\x98|\x99|\x9a|\x9b|\x9c|\x9d|\x9e|\x9f|\xa0|\xa1|\xa2|\xa3|\xa4|\xa5|\xa6|\xa7|\xa8|\xa9|\xaa|\xab|\xac|\xad|\xae|\xaf|\xb0|\xb1|\xb2|\xb3|\xb4|\xb5|\xb6|\xb7|\xb8|\xb9|\xba|\xbb|\xbc|\xbd|\xbe|\xbf|\xc0|\xc1";
 
-/// Marks on a page of two leaves: on known keys, over both leaves, and with new keys in one or in both.
+/// Marks on a page of two leaves: on known keys, over both leaves, and with new keys in one or in
+/// both.
 const LEAVES: Row = (
     "two leaves",
     &[

@@ -3,22 +3,24 @@
 /// A wall time with its logical count.
 pub type Time = (u64, u32);
 
-/// Spans such as `a`, `[a,c)` or `(m,`, with `|` between them, or `NONE`. A key of four bytes of which the first is `*` stands for one of so many
-/// bytes: their number in two bytes, and the byte. A span of three bytes of which the first is `#` stands for so many keys of four
-/// bytes, each of them a number.
+/// Spans such as `a`, `[a,c)` or `(m,`, with `|` between them, or `NONE`. A key of four bytes of
+/// which the first is `*` stands for one of so many bytes: their number in two bytes, and the byte.
+/// A span of three bytes of which the first is `#` stands for so many keys of four bytes, each of
+/// them a number.
 pub type Text = &'static [u8];
 
 /// No spans.
 pub const NONE: Text = b"-";
 
-/// Whether marks are kept, whether the pages rotate, and how many are dropped; `None` where one is too large.
+/// Whether marks are kept, whether the pages rotate, and how many are dropped; `None` where one is
+/// too large.
 pub type Told = Option<(bool, bool, u64)>;
 
 /// What is done with marks.
 pub enum Does {
-    /// They are kept for the next step.
+    /// The marks are kept for the next step.
     With,
-    /// They are added together at a moment, and tell this.
+    /// The marks are added together at a moment, with this outcome.
     Add(Time, Told),
     /// Each is added by itself, and tells this.
     Each(Time, Told),
@@ -31,13 +33,15 @@ pub enum Does {
     Counted(u64),
     /// There are so many pages, which rotated so often, and the floor stands here.
     Stand(usize, u64, Time),
-    /// The version after so many Adds, where versions are kept, has so many pages and its floor here, and answers each.
+    /// The version after so many Adds, where versions are kept, has so many pages and its floor
+    /// here, and answers each.
     Version(usize, usize, Time),
-    /// So many end keys with so many bytes are counted, where the cache tells that.
+    /// The cache counts this number of end keys and of their bytes, where it counts any.
     Hold(u64, u64),
     /// Their keys are the end keys of all pages, one after another, where the cache tells that.
     Keys,
-    /// What comes of the cache after an Add of the first, which is not kept, is kept as a version: it shares all pages.
+    /// What comes of the cache after an Add of the first, which is not kept, is kept as a version:
+    /// it shares all pages.
     Share,
     /// The last version is gone on with, and the cache is kept in its place.
     Swap,
@@ -47,11 +51,13 @@ pub enum Does {
     Read,
     /// The same, and no memory is asked for.
     Known,
-    /// Somebody may write all of the spans from a time on at this one at the earliest, and each of them alone just where that is at once.
+    /// Somebody may write all of the spans from a time on at this one at the earliest, and each of
+    /// them alone just where that is at once.
     Write(Time, u128, Option<Time>),
     /// A time is followed by this one.
     Next(Time, Option<Time>),
-    /// What was read of the first span is told, in so many marks; once more where memory is refused.
+    /// What was read of the first span is told, in so many marks; once more where memory is
+    /// refused.
     Tell(usize),
     /// The floor is here in what was told, and the marks are these.
     Told(Time),
@@ -71,6 +77,8 @@ pub enum Call {
     Add,
     /// Single keys by their bytes, and all else as `Add`.
     AddKey,
+    /// All by the bytes of a start and an end.
+    AddBetween,
     Next,
     PlainAdd,
     AddAll,
@@ -82,13 +90,15 @@ pub enum Call {
 /// The size of the first page and of the largest one, the least number of pages, and the retention.
 pub type Limits = (u32, u32, u32, u64);
 
-/// Limits, the calls by which each row is played, the spans that all have to answer alike after each Add, and rows.
+/// Limits, the calls by which each row is played, the spans that all have to answer alike after
+/// each Add, and rows.
 pub type Table = (Limits, &'static [Call], Text, &'static [Row]);
 
 /// All calls.
 pub const ALL: &[Call] = &[
     Call::Add,
     Call::AddKey,
+    Call::AddBetween,
     Call::Next,
     Call::PlainAdd,
     Call::AddAll,
@@ -97,10 +107,16 @@ pub const ALL: &[Call] = &[
     Call::AddEach,
 ];
 
-/// Those that add a mark.
-pub const SINGLE: &[Call] = &[Call::Add, Call::AddKey, Call::Next, Call::PlainAdd];
+/// The calls that add a mark.
+pub const SINGLE: &[Call] = &[
+    Call::Add,
+    Call::AddKey,
+    Call::AddBetween,
+    Call::Next,
+    Call::PlainAdd,
+];
 
-/// Those that add several marks.
+/// The calls that add several marks.
 pub const TOGETHER: &[Call] = &[
     Call::AddAll,
     Call::NextAll,

@@ -1,4 +1,5 @@
-//! Pages that are filled with ranges in several orders, whose keys all begin alike or not, beside plain ones.
+//! Pages that are filled with ranges in several orders, whose keys all begin alike or not, beside
+//! plain ones.
 use super::pages::ALIKE;
 use super::steps::{Order, Step, With, play_steps};
 use std::test::Fail;

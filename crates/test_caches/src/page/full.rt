@@ -3,8 +3,9 @@ use super::pages::{FIRST, Over};
 use super::steps::{Order, Step, With, play_steps};
 use std::test::Fail;
 
-/// Pages that are filled in rising order: each is full, shows its leaves, is copied, and goes its own way. In the first one the leaves are in
-/// 63 lists. In the second the 65th list has just come, so the lists are cut into two.
+/// Pages that are filled in rising order: each is full, shows its leaves, is copied, and goes its
+/// own way. In the first one the leaves are in 63 lists. In the second the 65th list has just come,
+/// so the lists are cut into two.
 static FULL: [Step; 36] = [
     Step::Filled(Order::Rising, 65536, With::Own(1, false), 0),
     Step::Many(65536, 2047),
@@ -51,9 +52,9 @@ fn a_full_page(rt: HostRuntime) -> Result<(), Fail> {
     play_steps(&rt, rt.alloc(), &FULL)
 }
 
-/// A full page, and known keys to which values are then added in place: in one leaf of 32 keys, over
-/// several, and up to where a leaf begins. The leaves are in lists of 1,024 keys: over one such list,
-/// over two, and up to where one begins.
+/// A full page, and known keys to which values are then added in place: in one leaf of 32 keys,
+/// over several, and up to where a leaf begins. The leaves are in lists of 1,024 keys: over one
+/// such list, over two, and up to where one begins.
 static KNOWN: [Step; 8] = [
     Step::Filled(Order::Rising, 2081, With::Own(1, false), 0),
     Step::Known(Over::Through(40, 40), 70000),
@@ -65,8 +66,8 @@ static KNOWN: [Step; 8] = [
     Step::Known(Over::Through(0, 2080), 70006),
 ];
 
-/// For `scripts/refuse-each-growth`, as the test of this name in `tree`. Nothing takes memory behind
-/// the Adds.
+/// For `scripts/refuse-each-growth`, as the test of this name in `tree`. Nothing takes memory
+/// behind the Adds.
 #[test]
 fn known_keys_take_no_memory(rt: HostRuntime) -> Result<(), Fail> {
     play_steps(&rt, rt.alloc(), &KNOWN)
@@ -98,13 +99,15 @@ static NEW: [Step; 3] = [
     Step::InPlace(Over::UpTo(137, 139), 99),
 ];
 
-/// As many runs of it pass as the Adds ask for growths: `scripts/refuse-each-growth` counts them.
+/// The number of runs that pass is the number of growths that the Adds ask for:
+/// `scripts/refuse-each-growth` counts them.
 #[test]
 fn new_keys_in_place_of_many(rt: HostRuntime) -> Result<(), Fail> {
     play_steps(&rt, rt.alloc(), &NEW)
 }
 
-/// More leaves than one list has: each key's own time, then one value, and then another one beside a copy that doesn't tell it.
+/// More leaves than one list has: each key's own time, then one value, and then another one beside
+/// a copy that doesn't tell it.
 static SEVERAL: [Step; 10] = [
     Step::Filled(Order::Mixed, 4096, With::Own(1, false), 0),
     Step::Many(4096, 104),

@@ -80,10 +80,10 @@ const NAMED: u32 = 1 << 28;
 /// The number of the empty key.
 pub(crate) const EMPTY: u32 = NAMED;
 
-/// That of the next key after `a`.
+/// The number of the next key after `a`.
 pub(crate) const NEXT: u32 = NAMED + 1;
 
-/// Those of two of the longest keys, which differ in their last byte.
+/// The first number of two of the longest keys, which differ in their last byte.
 pub(crate) const LONG: u32 = NAMED + 2;
 
 pub(crate) const LONGER: u32 = NAMED + 3;
@@ -199,7 +199,8 @@ pub(crate) fn add_to_plain(
     }
 }
 
-/// Adds the sizes of all leaves of a page, and what it answers to each of some spans with whether it has room for that.
+/// Adds the sizes of all leaves of a page, and what it answers to each of some spans with whether
+/// it has room for that.
 fn push_shown(shown: &mut Vec<(Value, u32)>, page: &Page, looks: &[Span]) -> bool {
     let mut all = true;
     for place in 0..page.nodes() / 32 + 1 {
@@ -214,8 +215,9 @@ fn push_shown(shown: &mut Vec<(Value, u32)>, page: &Page, looks: &[Span]) -> boo
     all
 }
 
-/// What a page shows: its top with how many nodes it has, its size with what they cost, the sizes of all its leaves, and what it
-/// answers to each of some spans with whether it has room for that. `None` where memory is refused.
+/// What a page shows: its top with how many nodes it has, its size with what they cost, the sizes
+/// of all its leaves, and what it answers to each of some spans with whether it has room for that.
+/// `None` where memory is refused.
 pub(crate) fn shown(alloc: Global, page: &Page, looks: &[Span]) -> Option<Vec<(Value, u32)>> {
     let mut shown = Vec::with_capacity(alloc, looks.len().saturating_add(8)).ok()?;
     let top = (Value::unowned(page.top()), page.nodes());
@@ -278,7 +280,8 @@ impl Pages {
         }
     }
 
-    /// Adds a value to a span, and says whether there was room. The plain page is left out where `alone`.
+    /// Adds a value to a span, and says whether there was room. The plain page is left out where
+    /// `alone`.
     pub(crate) fn add(&mut self, span: &Span, value: Value, alone: bool) -> Result<bool, NoMemory> {
         Ok(
             add_to(&mut self.page, span, value)?
@@ -286,7 +289,8 @@ impl Pages {
         )
     }
 
-    /// Whether there is room for a span, or there is not, as Adds of a value find: to the page, and to the plain one where `both`.
+    /// Whether there is room for a span, or there is not, as Adds of a value find: to the page, and
+    /// to the plain one where `both`.
     pub(crate) fn find_room(
         &mut self,
         span: &Span,

@@ -1,4 +1,5 @@
-//! Calls that may be refused memory, and are then made again. One that is refused once more leaves its step wrong.
+//! Calls that may be refused memory, and are then made again. One that is refused once more leaves
+//! its step wrong.
 use super::pages::{A, B, C, D, E, EMPTY, F, FIRST, G, LONG, NEXT, NOBODY, Over, SECOND};
 use super::steps::{Step, play_steps};
 use std::test::Fail;

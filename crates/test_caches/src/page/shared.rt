@@ -53,15 +53,16 @@ static LOOKS: [Step; 36] = [
     Step::Leaves(&[32, 32, 32, 34]),
 ];
 
-/// An Add over leaves of a page of which a copy shares all but one: the copy answers as before. And one over
-/// leaves that nobody else holds, with a new key in the last.
+/// An Add over leaves of a page of which a copy shares all but one: the copy answers as before. And
+/// one over leaves that nobody else holds, with a new key in the last.
 #[test]
 fn an_add_over_shared_leaves(rt: HostRuntime) -> Result<(), Fail> {
     play_steps(&rt, rt.alloc(), &LOOKS)
 }
 
-/// What is added to pages of three leaves whose copies share them: first to the copies or to the pages, so that one leaf of
-/// the pages is theirs alone, or each; and then over all leaves of the pages.
+/// What is added to pages of three leaves whose copies share them: first to the copies or to the
+/// pages, so that one leaf of the pages is theirs alone, or each; and then over all leaves of the
+/// pages.
 static OVER_LEAVES: [Step; 57] = [
     Step::Between(&[6, 10, 11, 62, 64, 128, 180, 181]),
     // first to the page, so that one leaf is its own

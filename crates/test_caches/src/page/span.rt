@@ -49,7 +49,8 @@ enum Way {
     Onward(bool),
 }
 
-/// A constructor with the keys that it is given. A single key and a span without end leave the second out.
+/// A constructor with the keys that it is given. A single key and a span without end leave the
+/// second out.
 type Made = (Way, &'static [u8], &'static [u8]);
 
 /// Keys of `PROBES` that a span covers, and the keys at its ends.
@@ -224,7 +225,8 @@ fn is_key(key: Option<&Key>, bytes: Option<&[u8]>) -> bool {
     }
 }
 
-/// Whether these are the end keys of a span, it costs what they do, and it is empty where it has none, and else overlaps itself.
+/// Whether these are the end keys of a span, it costs what they do, and it is empty where it has
+/// none, and else overlaps itself.
 fn has_ends(span: &Span, ends: &[&[u8]]) -> bool {
     let (first, second) = span.end_keys();
     let known = is_key(first, ends.first().copied()) && is_key(second, ends.get(1).copied());
@@ -235,7 +237,8 @@ fn has_ends(span: &Span, ends: &[&[u8]]) -> bool {
         && span.overlaps(span) != is_empty
 }
 
-/// Whether a span has these end keys, covers these keys of `PROBES` alone, and overlaps just the single keys that it covers.
+/// Whether a span has these end keys, covers these keys of `PROBES` alone, and overlaps just the
+/// single keys that it covers.
 fn is_known(alloc: Global, span: &Span, (covered, ends): Known) -> Result<bool, SpanFault> {
     let mut known = has_ends(span, ends);
     for probe in &PROBES {
@@ -377,8 +380,8 @@ fn key_again(alloc: Global, bytes: &[u8]) -> Result<Key, Fail> {
     }
 }
 
-/// Whether a key can be copied. Where memory is refused it still has these bytes, and the same call then
-/// succeeds.
+/// Whether a key can be copied. Where memory is refused it still has these bytes, and the same call
+/// then succeeds.
 fn copies_key(key: &Key, bytes: &[u8]) -> bool {
     match key.try_copy() {
         Ok(copy) => copy == *key,
@@ -408,8 +411,8 @@ fn sample(alloc: Global, (way, from, to): Made) -> Result<Span, Fail> {
     Ok(span_of(way, from, key_again(alloc, to)?)?)
 }
 
-/// Whether a span can be copied. Where memory is refused it is still as this other one, and the same call
-/// then succeeds.
+/// Whether a span can be copied. Where memory is refused it is still as this other one, and the
+/// same call then succeeds.
 fn copies_sample(alloc: Global, sampled: Made, same: &Span) -> Result<bool, Fail> {
     let span = sample(alloc, sampled)?;
     Ok(match span.try_copy() {

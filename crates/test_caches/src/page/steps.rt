@@ -25,7 +25,8 @@ pub(crate) enum With {
     Ranges(u32),
     /// The single keys of the numbers 4, 8, 12, ..
     Fourths,
-    /// The single keys of 0 and the multiples of a number, each with a time of its own: with the plain page, or the page alone.
+    /// The single keys of 0 and the multiples of a number, each with a time of its own: with the
+    /// plain page, or the page alone.
     Own(u32, bool),
     /// The single keys of each fourth number from one on, at one wall time.
     Late(u32, u64),
@@ -33,14 +34,14 @@ pub(crate) enum With {
     Bytes,
 }
 
-/// What is done with two pages, a [`Page`] and a [`PlainPage`], or what they then show. A value is a wall time, a logical count and an
-/// owner.
+/// What is done with two pages, a [`Page`] and a [`PlainPage`], or what they then show. A value is
+/// a wall time, a logical count and an owner.
 #[derive(Clone, Copy)]
 pub(crate) enum Step {
     /// Goes on with empty pages of so many bytes, with this base.
     New(u32, u64),
-    /// Goes on with pages that are filled with so many keys or ranges in an order, and have room for so many more, and then looks up
-    /// ranges all over them.
+    /// Goes on with pages that are filled with so many keys or ranges in an order, and have room
+    /// for so many more, and then looks up ranges all over them.
     Filled(Order, u32, With, u32),
     /// Adds so many keys in rising order.
     Fill(u32, With),
@@ -48,9 +49,11 @@ pub(crate) enum Step {
     Adds(u32, With),
     /// From here on looks up each span between two of these keys, and from one of them on.
     Between(&'static [u32]),
-    /// From here on looks up the key of each second number below this one, and the gap between it and the next.
+    /// From here on looks up the key of each second number below this one, and the gap between it
+    /// and the next.
     Seconds(u32),
-    /// From here on both pages have to show the same, and to have room for the same, or to answer alike alone.
+    /// From here on both pages have to show the same, and to have room for the same, or to answer
+    /// alike alone.
     Strict(bool),
     /// Makes copies, which show the same, and keeps them beside the pages, or lets them go.
     Copy(bool),
@@ -60,7 +63,8 @@ pub(crate) enum Step {
     LetGo,
     /// Adds a value to a span. The pages beside stay as they are.
     Add(Over, u64, u32, u128),
-    /// Makes a page with one more value beside the page, which stays as it is, and goes on with that.
+    /// Makes a page with one more value beside the page, which stays as it is, and goes on with
+    /// that.
     Added(Over, u64, u32, u128),
     /// Adds a value to a span, for which no memory is asked.
     Known(Over, u64),
@@ -81,9 +85,11 @@ pub(crate) enum Step {
     /// Each single key from one number up to another is answered this wall time, or its own, and
     /// this owner.
     Each(u32, u32, Option<u64>, u128),
-    /// Each key, or each of so many, is told its own time, but from one up to another it is told a later one.
+    /// Each key, or each of so many, is told its own time, but from one up to another it is told a
+    /// later one.
     Own(usize, u32, u32, u64),
-    /// The end keys are those of the numbers 4, 8, 12, .., as each place from a number on tells, so many of them.
+    /// The end keys are those of the numbers 4, 8, 12, .., as each place from a number on tells, so
+    /// many of them.
     Keys(u32, u32),
 }
 
@@ -177,7 +183,8 @@ fn are_alike(filled: &[PlainPage], pages: &Pages, looks: &[Span]) -> bool {
     alike
 }
 
-/// Whether this is the key of the first of the numbers 4, 8, 12, .., so many of them, that is at least a number, or none where none is.
+/// Whether this is the key of the first of the numbers 4, 8, 12, .., so many of them, that is at
+/// least a number, or none where none is.
 fn is_first_from(key: Option<&Key>, count: u32, least: u32) -> bool {
     let first = least.max(1).div_ceil(4).saturating_mul(4);
     match key {
@@ -186,8 +193,9 @@ fn is_first_from(key: Option<&Key>, count: u32, least: u32) -> bool {
     }
 }
 
-/// Whether a page that has the keys of so many of these numbers tells the first key above the places right before that of each number from
-/// one on, and right after it, and none above all keys.
+/// Whether a page that has the keys of so many of these numbers tells the first key above the
+/// places right before that of each number from one on, and right after it, and none above all
+/// keys.
 fn tells_keys(page: &Page, first: u32, numbers: u32) -> bool {
     let count = page.nodes();
     let mut alike = page.key_above(Cut::Last).is_none();
@@ -230,7 +238,8 @@ struct Player {
     alone: bool,
     /// Others that are kept beside them.
     others: Option<Pages>,
-    /// Plain pages that have together what all were filled with; what was added to them since is on their own plain pages.
+    /// Plain pages that have together what all were filled with; what was added to them since is on
+    /// their own plain pages.
     filled: Vec<PlainPage>,
     /// What is looked up, and whether ranges at the ends of each step are added to it.
     looks: Vec<Span>,
@@ -239,7 +248,8 @@ struct Player {
     /// What the page showed before a step, and the one beside it.
     before: Vec<(Value, u32)>,
     others_before: Vec<(Value, u32)>,
-    /// Whether memory was refused to a call that is not made again: what was told since says nothing.
+    /// Whether memory was refused to a call that is not made again: what was told since says
+    /// nothing.
     refused: bool,
 }
 
@@ -297,8 +307,8 @@ impl Player {
         all
     }
 
-    /// Adds ranges of several lengths from a number on: the first is the key itself, the second the gap after it, and the last goes on behind
-    /// all keys.
+    /// Adds ranges of several lengths from a number on: the first is the key itself, the second the
+    /// gap after it, and the last goes on behind all keys.
     fn push_ranges(&mut self, at: u32) -> bool {
         let (next, far) = (at.saturating_add(1), at.saturating_add(50_000));
         let (near, wide) = (at.saturating_add(40), at.saturating_add(150));
@@ -411,8 +421,9 @@ impl Player {
         self.is_told(added) || span.is_empty()
     }
 
-    /// Adds what all steps add. A plain page compares each end key with all others to see whether there is room, so it gets only so many,
-    /// and the next one goes on. One that gets all is looked at by itself too.
+    /// Adds what all steps add. A plain page compares each end key with all others to see whether
+    /// there is room, so it gets only so many, and the next one goes on. One that gets all is
+    /// looked at by itself too.
     fn fill(&mut self, order: Order, count: u32, with: With, again: bool) -> bool {
         let each = match with {
             With::Ranges(_) => 129,
@@ -445,8 +456,8 @@ impl Player {
         self.push_between(first, first.saturating_add(numbers), stride)
     }
 
-    /// Goes on with pages that are filled. A range's two keys cost at most 60 each, a single key 36,
-    /// and one of one byte 33.
+    /// Goes on with pages that are filled. A range's two keys cost at most 60 each, a single key
+    /// 36, and one of one byte 33.
     fn refill(&mut self, order: Order, count: u32, with: With, more: u32) -> bool {
         let cost = match with {
             With::Ranges(_) => 60,
@@ -459,7 +470,8 @@ impl Player {
         made && self.fill(order, count, with, false)
     }
 
-    /// Goes on to look up other spans: those between two of some keys, or each second key below a number and the gap after it.
+    /// Goes on to look up other spans: those between two of some keys, or each second key below a
+    /// number and the gap after it.
     fn look_up(&mut self, numbers: &[u32], end: u32) -> bool {
         self.looks.clear();
         self.ranges = false;
@@ -519,8 +531,8 @@ impl Player {
         }
     }
 
-    /// Adds a value to a span of the plain page, to which the same is not added yet: an Add that is refused memory leaves it as it was, and
-    /// the same Add then succeeds.
+    /// Adds a value to a span of the plain page, to which the same is not added yet: an Add that is
+    /// refused memory leaves it as it was, and the same Add then succeeds.
     fn add_plain(&mut self, span: &Span, value: Value) -> bool {
         match add_to_plain(&mut self.pages.plain, span, value) {
             Err(NoMemory) => {
@@ -531,7 +543,8 @@ impl Player {
         }
     }
 
-    /// Adds a value to a span of the page. An Add that is refused memory leaves it as it was, and the same Add then succeeds.
+    /// Adds a value to a span of the page. An Add that is refused memory leaves it as it was, and
+    /// the same Add then succeeds.
     fn add_page(&mut self, span: &Span, value: Value) -> bool {
         match add_to(&mut self.pages.page, span, value) {
             Err(NoMemory) => {
@@ -582,7 +595,8 @@ impl Player {
         }
     }
 
-    /// Goes on with a page that was made beside this one, which stays as it is. It shows what an Add leaves in a copy.
+    /// Goes on with a page that was made beside this one, which stays as it is. It shows what an
+    /// Add leaves in a copy.
     fn add_beside(&mut self, span: &Span, value: Value) -> bool {
         self.copy(true)
             && self.add_to_others(span, value)
@@ -592,7 +606,8 @@ impl Player {
             && self.swap()
     }
 
-    /// Makes copies, which show the same and are kept or let go. The call is made again where it is refused memory.
+    /// Makes copies, which show the same and are kept or let go. The call is made again where it is
+    /// refused memory.
     fn copy(&mut self, keep: bool) -> bool {
         self.others = self.pages.copy_again();
         self.others.is_some()
@@ -602,7 +617,8 @@ impl Player {
             && (keep || self.is_right() && self.let_others_go())
     }
 
-    /// Adds a value to a span in place, once more where that is refused memory, if it may ask for some.
+    /// Adds a value to a span in place, once more where that is refused memory, if it may ask for
+    /// some.
     fn add_in_place(&mut self, span: &Span, value: Value, again: bool) -> bool {
         if span.is_empty() {
             return false;
@@ -632,7 +648,8 @@ impl Player {
         }
     }
 
-    /// Whether the page has room for each of its keys that is looked up, and tells its own time of it, or a later one in a range.
+    /// Whether the page has room for each of its keys that is looked up, and tells its own time of
+    /// it, or a later one in a range.
     fn tells_own(&mut self, stride: usize, (from, to): (u32, u32), wall: u64) -> bool {
         let mut alike = true;
         for at in (0..self.pages.page.nodes()).step_by(stride.max(1)) {
@@ -696,7 +713,8 @@ impl Player {
         self.is_told(found)
     }
 
-    /// Whether there is room for a span, or there is not, as both pages tell and as Adds find: one to a copy, or one that changes nothing.
+    /// Whether there is room for a span, or there is not, as both pages tell and as Adds find: one
+    /// to a copy, or one that changes nothing.
     fn tells_room(&mut self, span: &Span, room: bool) -> bool {
         let told = self.pages.page.room(span) == room;
         if span.is_empty() || (room && self.others.is_some()) {
@@ -803,7 +821,8 @@ impl Player {
         }
     }
 
-    /// Takes a step, and says whether the page shows what it tells, and all pages answer alike then.
+    /// Takes a step, and says whether the page shows what it tells, and all pages answer alike
+    /// then.
     fn plays(&mut self, step: Step) -> bool {
         match self.looks(step) {
             Some(told) => told,

@@ -21,7 +21,8 @@ enum Told {
     Minus(Time, u64, Time),
     /// There are too few to take so many.
     TooFew(Time, u64),
-    /// An old value and a new one, what the ratchet makes of them, and whether it says that this differs from the old one.
+    /// An old value and a new one, what the ratchet makes of them, and whether it says that this
+    /// differs from the old one.
     Ratchet(Parts, Parts, Parts, bool),
 }
 

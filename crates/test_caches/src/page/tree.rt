@@ -1,14 +1,17 @@
-//! Tests of how a page keeps its nodes as a tree: leaves and lists of leaves that are cut, values that are still to be ratcheted into all
-//! that lies below, and copies that share all but what one of them changed. A page is filled with the keys of the numbers 4, 8, 12, ..: those
-//! between are new.
+//! Tests of how a page keeps its nodes as a tree: leaves and lists of leaves that are cut, values
+//! that are still to be ratcheted into all that lies below, and copies that share all but what one
+//! of them changed. A page is filled with the keys of the numbers 4, 8, 12, ..: those between are
+//! new.
 
 use super::pages::{LATER, Over};
 use super::steps::{Order, Step, With, play_steps};
 use std::test::Fail;
 
-/// Pages of a few leaves. Filled rising, 130 keys make leaves from 4, 132, 260 and 388 on; falling, from 4, 260 and 392 on.
+/// Pages of a few leaves. Filled rising, 130 keys make leaves from 4, 132, 260 and 388 on; falling,
+/// from 4, 260 and 392 on.
 static FEW_LEAVES: [Step; 106] = [
-    // a leaf is cut as soon as it has 65 nodes: behind the last key, below the first one, and in the middle
+    // a leaf is cut as soon as it has 65 nodes: behind the last key, below the first one, and in
+    // the middle
     Step::Filled(Order::Rising, 64, With::Fourths, 1),
     Step::Leaves(&[64]),
     Step::Add(Over::At(260), 60, 0, LATER),
@@ -21,7 +24,8 @@ static FEW_LEAVES: [Step; 106] = [
     Step::Leaves(&[64]),
     Step::Add(Over::At(129), 60, 0, LATER),
     Step::Leaves(&[32, 33]),
-    // over exactly one leaf, up to where the next one begins: keys within, a new one, and as many as cut it
+    // over exactly one leaf, up to where the next one begins: keys within, a new one, and as many
+    // as cut it
     Step::Filled(Order::Rising, 130, With::Fourths, 40),
     Step::Leaves(&[32, 32, 32, 34]),
     Step::Add(Over::UpTo(132, 260), 70, 0, LATER),
@@ -33,7 +37,8 @@ static FEW_LEAVES: [Step; 106] = [
     Step::Leaves(&[32, 64, 32, 34]),
     Step::Add(Over::At(135), 60, 0, LATER),
     Step::Leaves(&[32, 32, 33, 32, 34]),
-    // from the last key of the leaf before it to the first one of the leaf behind it, and once more over it all
+    // from the last key of the leaf before it to the first one of the leaf behind it, and once more
+    // over it all
     Step::Filled(Order::Rising, 130, With::Fourths, 40),
     Step::Add(Over::Through(128, 260), 70, 0, LATER),
     Step::Add(Over::Through(4, 520), 65, 0, LATER),
@@ -94,7 +99,8 @@ static FEW_LEAVES: [Step; 106] = [
     Step::Leaves(&[32, 33, 33, 33]),
     Step::Fill(32, With::Late(262, 60)),
     Step::Leaves(&[32, 33, 32, 33, 33]),
-    // by pages that are made beside: in one leaf, over several, a leaf that is cut, and a new first and a new last key
+    // by pages that are made beside: in one leaf, over several, a leaf that is cut, and a new first
+    // and a new last key
     Step::Filled(Order::Falling, 130, With::Fourths, 40),
     Step::Leaves(&[64, 33, 33]),
     Step::Added(Over::At(200), 65, 0, LATER),
@@ -253,7 +259,8 @@ static KNOWN: [Step; 22] = [
     Step::Known(Over::Through(128, 132), 63),
     Step::Known(Over::Through(4, 520), 64),
     Step::Known(Over::At(264), 65),
-    // up to where a leaf begins: from that of the leaf before it, from the middle of that, and from the leaves before
+    // up to where a leaf begins: from that of the leaf before it, from the middle of that, and from
+    // the leaves before
     Step::Known(Over::UpTo(132, 260), 66),
     Step::Known(Over::UpTo(200, 260), 67),
     Step::Known(Over::UpTo(128, 260), 68),
@@ -272,14 +279,16 @@ static KNOWN: [Step; 22] = [
     Step::Known(Over::From(128), 64),
 ];
 
-/// Adds of known keys ask for no memory, also over several leaves: `scripts/refuse-each-growth tests test_caches page::..` shows it, which
-/// takes any error of a test but want of memory for a failure.
+/// Adds of known keys ask for no memory, also over several leaves: `scripts/refuse-each-growth
+/// tests test_caches page::..` shows it, which takes any error of a test but want of memory for a
+/// failure.
 #[test]
 fn known_keys_take_no_memory(rt: HostRuntime) -> Result<(), Fail> {
     play_steps(&rt, rt.alloc(), &KNOWN)
 }
 
-/// Adds of new keys after which a leaf has 64 nodes, or the page no room: of one key, of both ends of a range, and of one end of it.
+/// Adds of new keys after which a leaf has 64 nodes, or the page no room: of one key, of both ends
+/// of a range, and of one end of it.
 static NEW: [Step; 12] = [
     Step::Filled(Order::Rising, 63, With::Fourths, 40),
     Step::InPlace(Over::At(130), 99),
@@ -295,7 +304,8 @@ static NEW: [Step; 12] = [
     Step::InPlace(Over::UpTo(262, 392), 99),
 ];
 
-/// As many runs of it pass as the Adds ask for growths: `scripts/refuse-each-growth` counts them. In place an Add asks for fewer than in a copy.
+/// The number of runs that pass is the number of growths that the Adds ask for:
+/// `scripts/refuse-each-growth` counts them. In place an Add asks for fewer than in a copy.
 #[test]
 fn new_keys_in_place(rt: HostRuntime) -> Result<(), Fail> {
     play_steps(&rt, rt.alloc(), &NEW)

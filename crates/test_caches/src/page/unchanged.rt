@@ -1,5 +1,5 @@
-//! Calls over a page of several leaves that are refused memory: the page then shows all that it showed before. A call that is refused once more
-//! leaves its step wrong.
+//! Calls over a page of several leaves that are refused memory: the page then shows all that it
+//! showed before. A call that is refused once more leaves its step wrong.
 use super::pages::{Over, SECOND};
 use super::steps::{Order, Step, With, play_steps};
 use std::test::Fail;
@@ -56,7 +56,8 @@ static STEPS: [Step; 45] = [
     Step::Leaves(&[36, 32, 32, 35]),
 ];
 
-/// `scripts/refuse-each-growth tests test_caches page::unchanged::..` refuses each growth of this test in turn.
+/// `scripts/refuse-each-growth tests test_caches page::unchanged::..` refuses each growth of this
+/// test in turn.
 #[test]
 fn refused_calls_leave_a_page_of_leaves(rt: HostRuntime) -> Result<(), Fail> {
     play_steps(&rt, rt.alloc(), &STEPS)

@@ -1,4 +1,5 @@
-//! Checks over memory: of logs whose verdicts are known, and with readers and writers whose calls go wrong.
+//! Checks over memory: of logs whose verdicts are known, and with readers and writers whose calls
+//! go wrong.
 use crate::commands::memory::Command::Check;
 use crate::commands::memory::{CALM, CALMLY, Calls, Troubled, end_with, ends, play_troubled};
 use crate::commands::traces::{
@@ -9,7 +10,7 @@ use std::alloc::{AllocError, Global};
 use std::sync::Wait;
 use std::thread::Threads;
 use tsc_shared::NoGate;
-use tsc_trace_io::fakes::Mishap;
+use tsc_stream::fault_injection::FaultPlan;
 
 /// A log of `RACE`.
 const RACE_LOG: &str =
@@ -71,7 +72,8 @@ static ROWS: [Checked; 13] = [
     ("{}", "", 1, "trace refused: fault 2 at call 0\n"),
 ];
 
-/// Logs that are held against `RACE`, a row a line: the verdict, and behind the bar the log, as `unfolded` has it. A `#` begins a remark.
+/// Logs that are held against `RACE`, a row a line: the verdict, and behind the bar the log, as
+/// `unfolded` has it. A `#` begins a remark.
 static RACE_LOGS: &str =
     "right|0 0 add 0 1 0 0¶1 0 add 1 1 0 0¶2 0 get 1 20.0 11111111-1111-4111-8111-111111111111¶
 # The places change places.
@@ -90,10 +92,10 @@ wrong call 4|0 0 add 0 1 0 0¶1 0 add 1 1 0 0¶2 0 get 1 20.0 11111111-1111-4111
 wrong call 1|1 0 add 1 1 0 0¶0 0 add 0 1 0 0¶2 0 get 1 20.0 11111111-1111-4111-8111-111111111111¶";
 
 /// Calls that move a byte, and none of which goes wrong.
-const SLOW: Calls = (1, Mishap::Never);
+const SLOW: Calls = (1, FaultPlan::Never);
 
 /// Calls the first of which fails.
-const FAILING: Calls = (65_536, Mishap::FailsAt(0));
+const FAILING: Calls = (65_536, FaultPlan::FailsAt(0));
 
 static MISHAPS: [Troubled; 12] = [
     (
@@ -113,7 +115,7 @@ static MISHAPS: [Troubled; 12] = [
         (Check, RACE, RACE_LOG, 4, "", "read failed\n"),
     ),
     (
-        (CALM, (1, Mishap::FailsAt(9)), CALM, CALM),
+        (CALM, (1, FaultPlan::FailsAt(9)), CALM, CALM),
         (Check, RACE, RACE_LOG, 4, "", "read failed\n"),
     ),
     // A log that is not read cannot fail.
@@ -131,7 +133,7 @@ static MISHAPS: [Troubled; 12] = [
         (Check, RACE, RACE_LOG, 4, "", "write failed\n"),
     ),
     (
-        (CALM, CALM, (1, Mishap::FailsAt(12)), CALM),
+        (CALM, CALM, (1, FaultPlan::FailsAt(12)), CALM),
         (Check, RACE, "", 4, "wrong call 1", "write failed\n"),
     ),
     // The status stays where the fault cannot be told, or only a part of its line.
@@ -140,7 +142,7 @@ static MISHAPS: [Troubled; 12] = [
         (Check, RACE, RACE_LOG, 4, "", ""),
     ),
     (
-        (CALM, CALM, CALM, (1, Mishap::FailsAt(29))),
+        (CALM, CALM, CALM, (1, FaultPlan::FailsAt(29))),
         (Check, RACE, "x", 1, "", "log refused: fault 1 at line "),
     ),
     (
@@ -202,8 +204,8 @@ fn first_wrong_log<R: Threads + Wait + Sync>(
     None
 }
 
-/// Of each line of the log of `OVERLAPPING_READS`: what is written where it and those behind it are missing, and what is told where a
-/// part of it is there.
+/// Of each line of the log of `OVERLAPPING_READS`: what is written where it and those behind it are
+/// missing, and what is told where a part of it is there.
 static CUT: [(&str, &str); 6] = [
     ("wrong call 1\n", "log refused: fault 1 at line 1\n"),
     ("wrong call 2\n", "log refused: fault 1 at line 2\n"),

@@ -1,5 +1,5 @@
-//! Commands over bytes that are no trace or no log: each beginning of a trace, a byte that is no text,
-//! and inputs at their limits and one beyond them.
+//! Commands over bytes that are no trace or no log: each beginning of a trace, a byte that is no
+//! text, and inputs at their limits and one beyond them.
 use crate::commands::check::NO_CALLS;
 use crate::commands::memory::Command::{Check, Replay, Run};
 use crate::commands::memory::{CALMLY, Call, Command, end_with, ends};

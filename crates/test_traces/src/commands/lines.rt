@@ -4,8 +4,8 @@ use std::alloc::Global;
 use tsc_check::CheckFault;
 use tsc_commands::{status_of_check_fault, tell_check_fault, tell_fault, tell_stop};
 use tsc_run::RunStop;
+use tsc_stream::Sink;
 use tsc_trace::{ReplayFault, TraceFault};
-use tsc_trace_io::Sink;
 
 /// Why a command failed.
 enum Fault {

@@ -5,14 +5,14 @@ use std::sync::Wait;
 use std::thread::Threads;
 use tsc_commands::{check_command, replay_command, run_command};
 use tsc_shared::{Gate, NoGate};
-use tsc_trace_io::Metered;
-use tsc_trace_io::fakes::{Faulty, Mishap};
+use tsc_stream::Limited;
+use tsc_stream::fault_injection::{FaultPlan, FaultyStream};
 
 /// How many bytes a call moves, and which calls go wrong.
-pub(crate) type Calls = (usize, Mishap);
+pub(crate) type Calls = (usize, FaultPlan);
 
 /// Calls that move all bytes, and none of which goes wrong.
-pub(crate) const CALM: Calls = (65_536, Mishap::Never);
+pub(crate) const CALM: Calls = (65_536, FaultPlan::Never);
 
 /// How the trace and the log are read, the output written and a fault told.
 pub(crate) type Ways = (Calls, Calls, Calls, Calls);
@@ -59,17 +59,17 @@ pub(crate) struct Came {
 }
 
 /// A reader of bytes.
-pub(crate) fn reader_of(bytes: &[u8], calls: Calls) -> Metered<Faulty<&[u8]>> {
-    Metered::new(Faulty::new(bytes, calls.0, calls.1))
+pub(crate) fn reader_of(bytes: &[u8], calls: Calls) -> Limited<FaultyStream<&[u8]>> {
+    Limited::new(FaultyStream::new(bytes, calls.0, calls.1))
 }
 
 /// A writer that keeps what was written.
-pub(crate) fn new_writer(alloc: Global, calls: Calls) -> Metered<Faulty<Vec<u8>>> {
-    Metered::new(Faulty::new(Vec::new(alloc), calls.0, calls.1))
+pub(crate) fn new_writer(alloc: Global, calls: Calls) -> Limited<FaultyStream<Vec<u8>>> {
+    Limited::new(FaultyStream::new(Vec::new(alloc), calls.0, calls.1))
 }
 
 /// What was written.
-pub(crate) fn written(writer: Metered<Faulty<Vec<u8>>>) -> Vec<u8> {
+pub(crate) fn written(writer: Limited<FaultyStream<Vec<u8>>>) -> Vec<u8> {
     writer.into_inner().inner
 }
 
@@ -110,7 +110,8 @@ pub(crate) fn ends<R: Threads + Wait + Sync, G: Gate + Sync>(
     came.status == end.0 && came.written.as_slice() == end.1 && came.told.as_slice() == end.2
 }
 
-/// How a command ends that writes this, with a status of one that did what it was asked for, or that fails and tells this.
+/// How a command ends that writes this, with a status of one that did what it was asked for, or
+/// that fails and tells this.
 pub(crate) fn end_with(status: u8, said: &str) -> End {
     if status == 0 || status == 3 {
         (status, said.as_bytes(), b"")
@@ -133,7 +134,8 @@ pub(crate) fn holds<R: Threads + Wait + Sync, G: Gate + Sync>(
     ends(rt, alloc, gate, of, ways, end)
 }
 
-/// The trace and the log of the first row whose command ends otherwise, where it is called in these ways.
+/// The trace and the log of the first row whose command ends otherwise, where it is called in these
+/// ways.
 fn first_wrong<R: Threads + Wait + Sync>(
     rt: &R,
     alloc: Global,
@@ -158,7 +160,8 @@ pub(crate) fn play<R: Abort + Threads + Wait + Sync>(
     assert_eq!(rt; first_wrong(rt, alloc, ways, rows), None);
 }
 
-/// The trace and the log of the first row whose command ends otherwise, where its readers and writers go wrong.
+/// The trace and the log of the first row whose command ends otherwise, where its readers and
+/// writers go wrong.
 fn first_wrong_troubled<R: Threads + Wait + Sync>(
     rt: &R,
     alloc: Global,

@@ -1,4 +1,5 @@
-//! Each command with a reader or a writer that goes wrong: at each of its calls in turn, or at all of them.
+//! Each command with a reader or a writer that goes wrong: at each of its calls in turn, or at all
+//! of them.
 use crate::commands::memory::Command::{Check, Replay, Run};
 use crate::commands::memory::{
     CALM, Calls, Command, End, READ_FAILED, Troubled, WRITE_FAILED, Ways, ends, play_troubled,
@@ -8,7 +9,7 @@ use std::alloc::Global;
 use std::sync::Wait;
 use std::thread::Threads;
 use tsc_shared::NoGate;
-use tsc_trace_io::fakes::Mishap;
+use tsc_stream::fault_injection::FaultPlan;
 
 /// A reader or a writer of a command.
 enum Stream {
@@ -18,8 +19,8 @@ enum Stream {
     Errors,
 }
 
-/// A reader or a writer, of which each call moves a byte and fails in turn; the command, its trace and its log; and what is read or
-/// written there where none fails.
+/// A reader or a writer, of which each call moves a byte and fails in turn; the command, its trace
+/// and its log; and what is read or written there where none fails.
 type Failing = (Stream, Command, &'static str, &'static str, &'static str);
 
 static FAILING: [Failing; 10] = [
@@ -73,7 +74,7 @@ static FAILING: [Failing; 10] = [
 
 /// How the streams of a command are called, of which one fails at a call.
 fn ways_of(stream: &Stream, at: u64) -> Ways {
-    let failing = (1, Mishap::FailsAt(at));
+    let failing = (1, FaultPlan::FailsAt(at));
     match stream {
         Stream::Trace => (failing, CALM, CALM, CALM),
         Stream::Log => (CALM, failing, CALM, CALM),
@@ -82,7 +83,8 @@ fn ways_of(stream: &Stream, at: u64) -> Ways {
     }
 }
 
-/// How a command ends then, where this was read or written before. Of a stream for faults it is one whose trace is refused.
+/// How a command ends then, where this was read or written before. Of a stream for faults it is one
+/// whose trace is refused.
 fn end_of<'a>(stream: &Stream, moved: &'a [u8]) -> End<'a> {
     match stream {
         Stream::Trace | Stream::Log => (4, b"", READ_FAILED.as_bytes()),
@@ -99,7 +101,8 @@ fn count_calls(stream: &Stream, text: &str) -> usize {
     }
 }
 
-/// The number of the first call of a row's stream, from 0, after whose failure the command ends otherwise.
+/// The number of the first call of a row's stream, from 0, after whose failure the command ends
+/// otherwise.
 fn first_wrong_call<R: Threads + Wait + Sync>(
     rt: &R,
     alloc: Global,
@@ -142,28 +145,28 @@ fn first_wrong<R: Threads + Wait + Sync>(
 static ENDS_BEFORE: [Troubled; 3] = [
     (
         (
-            (1, Mishap::FailsAt(OVERLAPPING_READS.len() as u64 + 1)),
+            (1, FaultPlan::FailsAt(OVERLAPPING_READS.len() as u64 + 1)),
             CALM,
-            (1, Mishap::FailsAt(OVERLAPPING_READS_LOG.len() as u64)),
-            (1, Mishap::FailsAt(0)),
+            (1, FaultPlan::FailsAt(OVERLAPPING_READS_LOG.len() as u64)),
+            (1, FaultPlan::FailsAt(0)),
         ),
         (Replay, OVERLAPPING_READS, "", 0, OVERLAPPING_READS_LOG, ""),
     ),
     (
         (
-            (1, Mishap::FailsAt(OVERLAPPING_READS.len() as u64 + 1)),
+            (1, FaultPlan::FailsAt(OVERLAPPING_READS.len() as u64 + 1)),
             CALM,
-            (1, Mishap::FailsAt(OVERLAPPING_READS_LOG.len() as u64)),
-            (1, Mishap::FailsAt(0)),
+            (1, FaultPlan::FailsAt(OVERLAPPING_READS_LOG.len() as u64)),
+            (1, FaultPlan::FailsAt(0)),
         ),
         (Run, OVERLAPPING_READS, "", 0, OVERLAPPING_READS_LOG, ""),
     ),
     (
         (
-            (1, Mishap::FailsAt(OVERLAPPING_READS.len() as u64 + 1)),
+            (1, FaultPlan::FailsAt(OVERLAPPING_READS.len() as u64 + 1)),
             CALM,
-            (1, Mishap::FailsAt(6)),
-            (1, Mishap::FailsAt(0)),
+            (1, FaultPlan::FailsAt(6)),
+            (1, FaultPlan::FailsAt(0)),
         ),
         (
             Check,
@@ -183,10 +186,10 @@ fn each_call_fails_in_turn(rt: HostRuntime) {
 }
 
 /// Calls each of which is interrupted.
-const INTERRUPTED: Calls = (1, Mishap::AlwaysInterrupted);
+const INTERRUPTED: Calls = (1, FaultPlan::AlwaysInterrupted);
 
 /// Writes that take nothing.
-const TAKING_NOTHING: Calls = (0, Mishap::Never);
+const TAKING_NOTHING: Calls = (0, FaultPlan::Never);
 
 /// A write that takes nothing fails.
 static WITHOUT_ROOM: [Troubled; 6] = [
@@ -290,8 +293,8 @@ fn writes_that_take_nothing(rt: HostRuntime) {
     play_troubled(&rt, rt.alloc(), &WITHOUT_ROOM);
 }
 
-/// Of each reader and writer all 33,554,432 calls are made that there may be. That takes two seconds in all once it is built, and has no
-/// answer in a trial.
+/// Of each reader and writer all 33,554,432 calls are made that there may be. That takes two
+/// seconds in all once it is built, and has no answer in a trial.
 #[test]
 fn calls_that_are_always_interrupted(rt: HostRuntime) {
     play_troubled(&rt, rt.alloc(), &WITHOUT_END);

@@ -12,8 +12,8 @@ use tsc_commands::program::program;
 use tsc_commands::{
     Errors, NoMeter, OpenFault, Output, Place, SystemFiles, WordsFault, fetch_words,
 };
-use tsc_trace_io::Metered;
-use tsc_trace_io::fakes::Mishap;
+use tsc_stream::Limited;
+use tsc_stream::fault_injection::FaultPlan;
 
 const USAGE: &str = "usage: tscache replay FILE, run FILE or check FILE LOG\n";
 
@@ -31,15 +31,15 @@ type Held = (&'static str, Result<&'static str, OpenFault>);
 struct Shelf(&'static [Held]);
 
 impl Place for Shelf {
-    type File = Metered<&'static [u8]>;
+    type File = Limited<&'static [u8]>;
 
     ghost opens = { says_nothing };
 
-    fn open(&self, name: &str) -> Result<Metered<&'static [u8]>, OpenFault> {
+    fn open(&self, name: &str) -> Result<Limited<&'static [u8]>, OpenFault> {
         for (held, file) in self.0 {
             if *held == name {
                 let text = (*file)?;
-                return Ok(Metered::new(text.as_bytes()));
+                return Ok(Limited::new(text.as_bytes()));
             }
         }
         Err(OpenFault::Unopened)
@@ -165,7 +165,8 @@ static ROWS: [Row; 45] = [
         "tscache|check|two_readers.log|two_readers.json",
         End::NoJson,
     ),
-    // The trace is opened first, then the log, and only then is the trace read, and the log behind it.
+    // The trace is opened first, then the log, and only then is the trace read, and the log behind
+    // it.
     ("tscache|check|missing.json|large.json", End::Unread),
     ("tscache|check|large.json|missing.log", End::NoMemory),
     ("tscache|check|missing.json|two_readers.log", End::Unread),
@@ -188,8 +189,8 @@ static ROWS: [Row; 45] = [
     ("", End::Usage),
 ];
 
-/// Files of the system: none, also where a name is empty, blank or a hyphen, an empty one, one that cannot be read
-/// and one without end.
+/// Files of the system: none, also where a name is empty, blank or a hyphen, an empty one, one that
+/// cannot be read and one without end.
 static SYSTEM_ROWS: [Row; 16] = [
     ("tscache|replay|", End::Unread),
     ("tscache|replay| ", End::Unread),
@@ -227,7 +228,7 @@ fn comes_to<R: Threads + Wait + Sync, P: Place>(
     alloc: Global,
     place: &P,
     words: Result<Vec<String>, WordsFault>,
-    telling: Mishap,
+    telling: FaultPlan,
     wanted: (u8, &str, &str),
 ) -> bool {
     let mut output = Output {
@@ -242,7 +243,8 @@ fn comes_to<R: Threads + Wait + Sync, P: Place>(
         && written(errors.writer).as_slice() == wanted.2.as_bytes()
 }
 
-/// The number of the first row, from 0, with whose words the program comes to something else, also where no fault can be told.
+/// The number of the first row, from 0, with whose words the program comes to something else, also
+/// where no fault can be told.
 fn first_wrong<R: Threads + Wait + Sync, P: Place>(
     rt: &R,
     alloc: Global,
@@ -252,7 +254,7 @@ fn first_wrong<R: Threads + Wait + Sync, P: Place>(
 ) -> Option<usize> {
     for (i, (words, end)) in rows.iter().enumerate() {
         let (status, log, line) = told_by(end);
-        for (telling, told) in [(Mishap::Never, line), (Mishap::FailsAt(0), "")] {
+        for (telling, told) in [(FaultPlan::Never, line), (FaultPlan::FailsAt(0), "")] {
             let fetched = words_of(alloc, words, is_garbled);
             if !comes_to(rt, alloc, place, fetched, telling, (status, log, told)) {
                 return Some(i);
@@ -292,7 +294,7 @@ fn a_call_without_memory_for_its_words(rt: HostRuntime) {
             rt.alloc(),
             &Shelf(&FILES),
             refused,
-            Mishap::Never,
+            FaultPlan::Never,
             wanted
         )
     );

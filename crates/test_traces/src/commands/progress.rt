@@ -1,11 +1,12 @@
-//! What is told of how far a command is: each call of a trace once, by a replay as it is made, and by a check as it is made once more.
+//! What is told of how far a command is: each call of a trace once, by a replay as it is made, and
+//! by a check as it is made once more.
 use crate::commands::memory::{CALM, new_writer, reader_of};
 use crate::commands::traces::{OVERLAPPING_READS, OVERLAPPING_READS_LOG};
 use std::alloc::Global;
 use std::sync::atomic::{AtomicU64, Ordering};
 use std::test::Fail;
 use tsc_commands::{check_with_progress, replay_with_progress};
-use tsc_trace_io::Progress;
+use tsc_stream::Progress;
 
 /// Counts the calls that it is told of.
 #[derive(Drop)]

@@ -6,51 +6,66 @@ use std::alloc::Global;
 use std::sync::Wait;
 use std::thread::Threads;
 use tsc_shared::NoGate;
-use tsc_trace_io::fakes::Mishap;
+use tsc_stream::fault_injection::FaultPlan;
 
 static MISHAPS: [Troubled; 10] = [
     // A byte at a time.
     (
-        ((1, Mishap::Never), CALM, (1, Mishap::Never), CALM),
+        ((1, FaultPlan::Never), CALM, (1, FaultPlan::Never), CALM),
         (Replay, OVERLAPPING_READS, "", 0, OVERLAPPING_READS_LOG, ""),
     ),
     // A writer whose first call fails.
     (
-        (CALM, CALM, (9, Mishap::FailsAt(0)), CALM),
+        (CALM, CALM, (9, FaultPlan::FailsAt(0)), CALM),
         (Replay, OVERLAPPING_READS, "", 4, "", "write failed\n"),
     ),
     // A reader whose second call fails, and readers that fail at other calls.
     (
-        ((100, Mishap::FailsAt(1)), CALM, CALM, CALM),
+        ((100, FaultPlan::FailsAt(1)), CALM, CALM, CALM),
         (Replay, OVERLAPPING_READS, "", 4, "", READ_FAILED),
     ),
     (
-        ((1, Mishap::FailsAt(0)), CALM, CALM, CALM),
+        ((1, FaultPlan::FailsAt(0)), CALM, CALM, CALM),
         (Replay, "abc", "", 4, "", READ_FAILED),
     ),
     (
-        ((1, Mishap::FailsAt(3)), CALM, CALM, CALM),
+        ((1, FaultPlan::FailsAt(3)), CALM, CALM, CALM),
         (Replay, "abc", "", 4, "", READ_FAILED),
     ),
     // The status stays where the fault cannot be told, or only a part of its line.
     (
-        ((1, Mishap::FailsAt(0)), CALM, CALM, (0, Mishap::Never)),
+        (
+            (1, FaultPlan::FailsAt(0)),
+            CALM,
+            CALM,
+            (0, FaultPlan::Never),
+        ),
         (Replay, "abc", "", 4, "", ""),
     ),
     (
-        ((1, Mishap::FailsAt(0)), CALM, CALM, (1, Mishap::FailsAt(3))),
+        (
+            (1, FaultPlan::FailsAt(0)),
+            CALM,
+            CALM,
+            (1, FaultPlan::FailsAt(3)),
+        ),
         (Replay, "abc", "", 4, "", "rea"),
     ),
     (
-        (CALM, CALM, CALM, (9, Mishap::FailsAt(0))),
+        (CALM, CALM, CALM, (9, FaultPlan::FailsAt(0))),
         (Replay, "abc", "", 1, "", ""),
     ),
     (
-        (CALM, CALM, CALM, (1, Mishap::FailsAt(3))),
+        (CALM, CALM, CALM, (1, FaultPlan::FailsAt(3))),
         (Replay, "abc", "", 1, "", "tra"),
     ),
     (
-        (CALM, CALM, (9, Mishap::FailsAt(0)), (9, Mishap::FailsAt(0))),
+        (
+            CALM,
+            CALM,
+            (9, FaultPlan::FailsAt(0)),
+            (9, FaultPlan::FailsAt(0)),
+        ),
         (Replay, OVERLAPPING_READS, "", 4, "", ""),
     ),
 ];

@@ -95,8 +95,9 @@ const TURNS: u32 = 10_000_000;
 /// Holds calls up. It counts what it is told, and the threads that saw what they waited for.
 #[derive(Drop)]
 struct Held {
-    /// Whether each of two lists is held up before its first call, until the other has come there too. Else each Add is, before it
-    /// can be seen, until the first call of the second list is done, and that one until an Add is held up.
+    /// Whether each of two lists is held up before its first call, until the other has come there
+    /// too. Else each Add is, before it can be seen, until the first call of the second list is
+    /// done, and that one until an Add is held up.
     is_together: bool,
     started: AtomicU64,
     published: AtomicU64,
@@ -184,7 +185,8 @@ static ADD_AND_GET: Row = (
     "",
 );
 
-/// Whether a row's run ends as it says where its lists are held up, and both saw what they waited for.
+/// Whether a row's run ends as it says where its lists are held up, and both saw what they waited
+/// for.
 fn is_held<R: Threads + Wait + Sync>(rt: &R, alloc: Global, is_together: bool, row: &Row) -> bool {
     let gate = Held::new(is_together);
     holds(rt, alloc, &gate, CALMLY, row) && gate.met.load(Ordering::SeqCst) == 2

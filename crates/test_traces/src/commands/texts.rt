@@ -1,4 +1,5 @@
-//! Replays and checks from bytes to bytes: what is said of a trace and its log, and of bytes that are neither.
+//! Replays and checks from bytes to bytes: what is said of a trace and its log, and of bytes that
+//! are neither.
 use std::alloc::Global;
 use tsc_check::{Outcome, check_bytes, replay_bytes};
 use tsc_time::NoMemory;
@@ -11,7 +12,8 @@ const LOG: &str = "0 0 add 0 1 0 0\n0 1 get 1 20.0 none\n";
 /// A text, with blanks behind it up to so many bytes.
 type Bytes = (&'static str, usize);
 
-/// A trace; the log, where it is held against the trace; whether that is said which was asked for, and what is said.
+/// A trace; the log, where it is held against the trace; whether that is said which was asked for,
+/// and what is said.
 type Row = (Bytes, Option<Bytes>, bool, &'static str);
 
 /// How many bytes a trace or a log has at the most.

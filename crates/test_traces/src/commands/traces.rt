@@ -1,6 +1,7 @@
 //! Traces, each with what comes of its replay.
 
-/// Two transactions read overlapping spans at one time. It is the trace of the program's stored run.
+/// Two transactions read overlapping spans at one time. It is the trace of the program's stored
+/// run.
 pub(crate) const OVERLAPPING_READS: &str =
     r#"{"page_first":132,"page_max":132,"min_pages":2,"retention":10,"low_water":[5,0],"threads":[[
 {"op":"add","span":{"start":"61","end":"63"},"time":[20,0],"owner":"11111111-1111-4111-8111-111111111111","now":[20,0]},
@@ -292,7 +293,7 @@ static ROWS: [Replayed; 21] = [
     ),
 ];
 
-/// These rows. Whatever names a table has all its texts to prove.
+/// The rows of all commands. Whatever names a table has all its texts to prove.
 pub(crate) fn rows() -> &'static [Replayed] {
     &ROWS
 }

@@ -21,15 +21,17 @@ enum Rule {
     Together(u64),
     /// The first call of each list, until as many calls are done as there are lists before it.
     InTurn,
-    /// Each Add before it can be seen, until the first call of the second list is done; and that one, until an Add is held up.
+    /// Each Add before it can be seen, until the first call of the second list is done; and that
+    /// one, until an Add is held up.
     Unseen,
 }
 
-/// The threads that saw what they waited for; what was told of the first list, of the second and of all others; and the Adds.
+/// The threads that saw what they waited for; what was told of the first list, of the second and of
+/// all others; and the Adds.
 type Told = (u64, u64, u64, u64, u64);
 
-/// What threads wait for, how many runs there are, the lists, the logs that each run may have, and what is told. A call is told of
-/// when it starts, and when it is done.
+/// What threads wait for, how many runs there are, the lists, the logs that each run may have, and
+/// what is told. A call is told of when it starts, and when it is done.
 type Row = (Rule, u32, &'static str, &'static [&'static str], Told);
 
 /// The head of each trace, up to its lists.
@@ -177,13 +179,14 @@ static UNSEEN: [Row; 2] = [
 
 static COUNTED: [Row; 1] = [(Rule::Free, 1, THREE_EACH, &[], (0, 6, 6, 0, 3))];
 
-/// As many lists as there may be.
+/// The greatest number of lists.
 static MANY: Row = (Rule::Together(64), 1, "", &[], (64, 6, 6, 372, 64));
 
 /// How often a thread looks whether what it waits for has come.
 const TURNS: u32 = 10_000_000;
 
-/// Holds threads up, and counts what it is told: of a list a call is started at an even count, and done at the next one.
+/// Holds threads up, and counts what it is told: of a list a call is started at an even count, and
+/// done at the next one.
 #[derive(Drop)]
 struct Watch {
     rule: Rule,
@@ -305,7 +308,8 @@ fn is_right(alloc: Global, trace: &Trace, log: &Log, logs: &[&str]) -> Result<bo
     Ok(is_one_of(&text, logs) && check(alloc, trace, log)? == Verdict::Right)
 }
 
-/// Whether what a run came to is as its row says. The end of each call is told, also where the run is refused its memory.
+/// Whether what a run came to is as its row says. The end of each call is told, also where the run
+/// is refused its memory.
 fn is_as_wanted(
     alloc: Global,
     trace: &Trace,
@@ -368,8 +372,8 @@ fn an_add_is_not_seen_before_its_gate_was_told(rt: HostRuntime) -> Result<(), Fa
     Ok(())
 }
 
-/// `scripts/refuse-each-growth tests test_traces run::run::..` refuses each growth of this test in turn: a call that was refused
-/// its memory is done too, and the last one of its list.
+/// `scripts/refuse-each-growth tests test_traces run::run::..` refuses each growth of this test in
+/// turn: a call that was refused its memory is done too, and the last one of its list.
 #[test]
 fn a_gate_is_told_of_each_call_in_its_order(rt: HostRuntime) -> Result<(), Fail> {
     none(&rt, first_wrong(&rt, rt.alloc(), &COUNTED)?);

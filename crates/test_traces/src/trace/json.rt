@@ -4,7 +4,7 @@ use std::alloc::Global;
 use tsc_span::Span;
 use tsc_time::{Timestamp, Value};
 use tsc_trace::read_trace;
-use tsc_trace_json::{Call, Trace, TraceFault};
+use tsc_trace_format::{Call, Trace, TraceFault};
 
 const NOT_JSON: Told = Err(TraceFault::NotJson);
 
@@ -28,7 +28,8 @@ const SPAN: Told = Err(TraceFault::Span(1));
 
 const TOO_LARGE: Told = Err(TraceFault::TooLarge(1));
 
-/// What stands before a piece and behind it, how many calls stand before it, and how many in all beside it.
+/// What stands before a piece and behind it, how many calls stand before it, and how many in all
+/// beside it.
 struct Place {
     before: &'static str,
     behind: &'static str,
@@ -346,7 +347,8 @@ static CALLS: [Piece; 45] = [
     (r#"{"op":"get","span":{"start":"6","onward":"]"}}"#, SHAPE),
 ];
 
-/// A batch that is the only call of a trace. The least fault of all its marks is told, and of the moment.
+/// A batch that is the only call of a trace. The least fault of all its marks is told, and of the
+/// moment.
 static BATCHES: [Piece; 28] = [
     (r#"{"op":"batch","marks":[],"now":[20,0]}"#, Ok(1)),
     (
@@ -552,7 +554,8 @@ static LONG_TRACES: [Long; 16] = [
     ),
 ];
 
-/// Calls that cost as much as the largest of small pages, or more. What else is wrong with a call comes first.
+/// Calls that cost as much as the largest of small pages, or more. What else is wrong with a call
+/// comes first.
 static LARGE_SPANS: [Long; 16] = [
     (
         r#"[[{"op":"add","span":{"start":""#,

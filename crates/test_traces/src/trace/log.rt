@@ -2,8 +2,9 @@ use crate::rows::unfolded;
 use std::alloc::Global;
 use tsc_trace::{Log, LogFault, log_text, read_log};
 
-/// Texts, a row a line: how many lines are read, or the number of the first that is no line of a log, or that there are too many; and
-/// behind the bar the text, as `unfolded` has it. A `#` begins a remark.
+/// Texts, a row a line: how many lines are read, or the number of the first that is no line of a
+/// log, or that there are too many; and behind the bar the text, as `unfolded` has it. A `#` begins
+/// a remark.
 static TEXTS: &str = "# No lines.
 reads 0|
 # One list of six calls.

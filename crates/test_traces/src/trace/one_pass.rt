@@ -1,6 +1,7 @@
 //! What is read in one pass, and that it is what the reader of JSON values gives.
 //!
-//! No contract says that anything is read in one pass: that always none is given would keep each. So it is counted here.
+//! No contract says that anything is read in one pass: that always none is given would keep each.
+//! So it is counted here.
 use crate::rows::{none, unfolded};
 use crate::trace::examples::EXAMPLES;
 use crate::trace::readers::{OnePass, read_once};
@@ -10,7 +11,8 @@ use std::alloc::{AllocError, Global};
 const HEAD: &str =
     r#"{"page_first":66,"page_max":264,"min_pages":2,"retention":10,"low_water":[5,0],"threads":"#;
 
-/// Traces without a fault, a row a line, as `unfolded` has it. One that begins with its lists has `HEAD` before it.
+/// Traces without a fault, a row a line, as `unfolded` has it. One that begins with its lists has
+/// `HEAD` before it.
 static FAULTLESS: &str = r#"[¦[],×63¦[]]}
 [[¦{"op":"low"},×110¦{"op":"low"}]]}
 [[{"op":"get","span":{"start":"¦61×4096¦"}}]]}

@@ -78,7 +78,8 @@ static OBJECTS: [Object; 7] = [
     },
 ];
 
-/// The members in the order that a number stands for: each is put at a place among those before it, which is a digit of the number.
+/// The members in the order that a number stands for: each is put at a place among those before it,
+/// which is a digit of the number.
 fn in_order<'m>(
     alloc: Global,
     members: &[&'m str],

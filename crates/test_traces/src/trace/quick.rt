@@ -1,6 +1,7 @@
 //! Texts of which both readers of traces have to tell the same, whatever it is.
 //!
-//! Each table of pieces is tried at each of some places. What is to be told of a text stands in the tables of `json`.
+//! Each table of pieces is tried at each of some places. What is to be told of a text stands in the
+//! tables of `json`.
 
 use crate::rows::{Part, none, text_of};
 use crate::trace::readers::{Told, told, told_of};
@@ -376,7 +377,8 @@ static ORDERS: [&str; 14] = [
     r#"{"now":[20,0],"marks":[{"time":[20,0]}],"op":"low"}"#,
 ];
 
-/// Where a call stands: alone, before others and behind them, and before one with a fault and behind one.
+/// Where a call stands: alone, before others and behind them, and before one with a fault and
+/// behind one.
 static CALL_PLACES: [Place; 5] = [
     (
         r#"{"page_first":132,"page_max":8256,"min_pages":2,"retention":10,"low_water":[5,0],"threads":[["#,
@@ -436,7 +438,7 @@ fn both_readers_tell_the_same_of_pieces(rt: HostRuntime) {
 /// Bytes that are put in the place of another.
 static BYTES: [&[u8]; 8] = [b"", b"\"", b"\\", b"}", b"]", b",", b"0", b"\xff"];
 
-/// These bytes with others in the place of the one there.
+/// A copy of bytes with others in the place of one.
 fn changed(alloc: Global, bytes: &[u8], at: usize, other: &[u8]) -> Result<Vec<u8>, AllocError> {
     let (before, rest) = bytes.split_at(at.min(bytes.len()));
     let mut all = Vec::from_slice(alloc, before)?;
@@ -453,7 +455,8 @@ fn told_when_changed(alloc: Global, bytes: &[u8], at: usize, other: &[u8]) -> Op
     }
 }
 
-/// The first place in these bytes at which a change makes the readers tell different things, or the first that cuts them so.
+/// The first place in these bytes at which a change makes the readers tell different things, or the
+/// first that cuts them so.
 fn first_apart_when_changed(alloc: Global, bytes: &[u8], others: &[&[u8]]) -> Option<usize> {
     for at in 0..bytes.len() {
         if told(alloc, &bytes[..at]).is_none() {

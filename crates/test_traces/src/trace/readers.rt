@@ -2,13 +2,14 @@
 
 use crate::rows::text_of;
 use std::alloc::Global;
-use tsc_trace_json::{Call, Marks, Trace, TraceFault};
-use tsc_trace_reader::quick_trace;
+use tsc_trace_fast::quick_trace;
+use tsc_trace_format::{Call, Marks, Trace, TraceFault};
 
 /// What reading tells: how many calls there are, or the fault.
 pub(crate) type Told = Result<usize, TraceFault>;
 
-/// What the reader tells that takes a trace from its tokens where it can. Where memory is refused it is asked once more.
+/// What the reader tells that takes a trace from its tokens where it can. Where memory is refused
+/// it is asked once more.
 fn read_quickly(alloc: Global, bytes: &[u8]) -> Result<Trace, TraceFault> {
     match tsc_trace::read_trace(alloc, bytes) {
         Err(TraceFault::NoMemory) => tsc_trace::read_trace(alloc, bytes),
@@ -18,8 +19,8 @@ fn read_quickly(alloc: Global, bytes: &[u8]) -> Result<Trace, TraceFault> {
 
 /// What the reader of JSON values tells, in the same way.
 fn read_by_values(alloc: Global, bytes: &[u8]) -> Result<Trace, TraceFault> {
-    match tsc_trace_json::read_trace(alloc, bytes) {
-        Err(TraceFault::NoMemory) => tsc_trace_json::read_trace(alloc, bytes),
+    match tsc_trace_format::read_trace(alloc, bytes) {
+        Err(TraceFault::NoMemory) => tsc_trace_format::read_trace(alloc, bytes),
         read => read,
     }
 }
@@ -69,7 +70,7 @@ pub(crate) fn read_once(alloc: Global, bytes: &[u8]) -> OnePass {
     let Some(trace) = quick_trace(alloc, bytes) else {
         return OnePass::None;
     };
-    match tsc_trace_json::read_trace(alloc, bytes) {
+    match tsc_trace_format::read_trace(alloc, bytes) {
         Ok(wanted) if is_same_trace(&trace, &wanted) => OnePass::Same,
         _ => OnePass::Other,
     }

@@ -2,10 +2,10 @@ use crate::commands::traces::OVERLAPPING_READS_LOG;
 use crate::rows::none;
 use std::alloc::Global;
 use std::test::Fail;
+use tsc_stream::fault_injection::{FaultPlan, FaultyStream};
 use tsc_time::NoMemory;
 use tsc_trace::log_laws::reads_again;
 use tsc_trace::*;
-use tsc_trace_io::fakes::{Faulty, Mishap};
 
 /// The head of most traces, up to their lists.
 const HEAD: &str =
@@ -113,7 +113,8 @@ static REPLAYS: [(&str, &str); 13] = [
 0 3 get 1 5.0 none
 ",
     ),
-    // the pages rotate within a batch; one without marks, and one of which no mark is kept, count as Adds too
+    // the pages rotate within a batch; one without marks, and one of which no mark is kept, count
+    // as Adds too
     (
         r#"[[{"op":"batch","marks":[{"span":{"start":"61"},"time":[20,0],"owner":"11111111-1111-4111-8111-111111111111"},
 {"span":{"start":"62"},"time":[20,0],"owner":"11111111-1111-4111-8111-111111111111"},
@@ -185,9 +186,10 @@ static FOUR_CALLS: [(&str, &str); 1] = [(
 )];
 
 /// How many bytes a call moves, and which calls go wrong.
-type Calls = (usize, Mishap);
+type Calls = (usize, FaultPlan);
 
-/// How a trace's text is read and a log written, and whether a call that is refused memory is made again, and then succeeds.
+/// How a trace's text is read and a log written, and whether a call that is refused memory is made
+/// again, and then succeeds.
 struct Way {
     calls: Calls,
     again: bool,
@@ -195,25 +197,25 @@ struct Way {
 
 /// A byte at a time, with an interruption now and then.
 static SLOWLY: Way = Way {
-    calls: (1, Mishap::InterruptedNowAndThen),
+    calls: (1, FaultPlan::InterruptedNowAndThen),
     again: false,
 };
 
 /// All bytes at once, so that nothing is written by a call that is refused memory.
 static AGAIN: Way = Way {
-    calls: (65_536, Mishap::Never),
+    calls: (65_536, FaultPlan::Never),
     again: true,
 };
 
 /// A writer that keeps what was written.
-type Output = Metered<Faulty<Vec<u8>>>;
+type Output = Limited<FaultyStream<Vec<u8>>>;
 
-fn reader_of(text: &str, calls: Calls) -> Metered<Faulty<&[u8]>> {
-    Metered::new(Faulty::new(text.as_bytes(), calls.0, calls.1))
+fn reader_of(text: &str, calls: Calls) -> Limited<FaultyStream<&[u8]>> {
+    Limited::new(FaultyStream::new(text.as_bytes(), calls.0, calls.1))
 }
 
 fn new_writer(alloc: Global, calls: Calls) -> Output {
-    Metered::new(Faulty::new(Vec::new(alloc), calls.0, calls.1))
+    Limited::new(FaultyStream::new(Vec::new(alloc), calls.0, calls.1))
 }
 
 /// A trace and the log of its replay.
@@ -314,7 +316,8 @@ fn write(
     }
 }
 
-/// Whether this is written. A call that is refused memory has written nothing, nor has one whose writer was refused.
+/// Whether this is written. A call that is refused memory has written nothing, nor has one whose
+/// writer was refused.
 fn is_written(
     alloc: Global,
     way: &Way,
@@ -328,7 +331,7 @@ fn is_written(
         return writer.into_inner().inner.as_slice() == want.as_bytes();
     }
     // A writer that has failed takes nothing more.
-    let mut again = Metered::new(writer.into_inner());
+    let mut again = Limited::new(writer.into_inner());
     if !way.again || !write(alloc, what, text, played, way.calls, &mut again) {
         return false;
     }
@@ -358,30 +361,30 @@ fn first_wrong(alloc: Global, way: &Way, rows: &[(&str, &str)]) -> Result<Option
 }
 
 /// How a reader and a writer go wrong, how the replay ends, and how much is written.
-type End = (Mishap, Mishap, Option<ReplayFault>, usize);
+type End = (FaultPlan, FaultPlan, Option<ReplayFault>, usize);
 
 static ENDS: [End; 4] = [
     (
-        Mishap::Never,
-        Mishap::Never,
+        FaultPlan::Never,
+        FaultPlan::Never,
         None,
         OVERLAPPING_READS_LOG.len(),
     ),
     (
-        Mishap::FailsAt(1),
-        Mishap::Never,
+        FaultPlan::FailsAt(1),
+        FaultPlan::Never,
         Some(ReplayFault::Read),
         0,
     ),
     (
-        Mishap::Never,
-        Mishap::FailsAt(0),
+        FaultPlan::Never,
+        FaultPlan::FailsAt(0),
         Some(ReplayFault::Write),
         0,
     ),
     (
-        Mishap::Never,
-        Mishap::FailsAt(1),
+        FaultPlan::Never,
+        FaultPlan::FailsAt(1),
         Some(ReplayFault::Write),
         100,
     ),
@@ -402,7 +405,7 @@ fn wrong_end(alloc: Global, text: &str, rows: &[End]) -> Option<usize> {
 
 /// How a replay of bytes in memory ends. It is proved that no read of them fails.
 fn replay_in_memory(alloc: Global, bytes: &[u8], writer: &mut Output) -> Result<(), ReplayFault> {
-    match replay_stream(alloc, &mut Metered::new(bytes), writer) {
+    match replay_stream(alloc, &mut Limited::new(bytes), writer) {
         Err(ReplayFault::Read) => unreachable!(),
         ended => ended,
     }

@@ -3,70 +3,98 @@ use crate::rows::none;
 use std::alloc::{AllocError, Global};
 use std::io;
 use std::io::Read;
-use tsc_trace_io::fakes::{Faulty, Mishap};
-use tsc_trace_io::{
-    AnyTrouble, InputFault, Metered, Sink, Source, Trouble, WriteFailed, read_input, write_output,
+use tsc_stream::fault_injection::{FaultPlan, FaultyStream};
+use tsc_stream::{
+    AnyStreamFault, InputFault, Limited, Sink, Source, StreamFault, WriteFailed, read_input,
+    write_output,
 };
 
 /// How often a reader is read at the most, and a writer written to.
 const MOST_TURNS: u32 = 33_554_432;
 
-/// How many bytes a call moves, what goes wrong, how many calls there may be, how reading `abc` ends, and
-/// after how many calls.
-type Reading = (usize, Mishap, u32, Option<InputFault>, u64);
+/// How many bytes a call moves, what goes wrong, how many calls there may be, how reading `abc`
+/// ends, and after how many calls.
+type Reading = (usize, FaultPlan, u32, Option<InputFault>, u64);
 
 /// Three reads of a byte, and one that meets the end.
 static READINGS: [Reading; 13] = [
-    (1, Mishap::Never, MOST_TURNS, None, 4),
-    (9, Mishap::Never, MOST_TURNS, None, 2),
-    (1, Mishap::InterruptedNowAndThen, MOST_TURNS, None, 8),
-    (1, Mishap::FailsAt(0), MOST_TURNS, Some(InputFault::Read), 1),
-    (1, Mishap::FailsAt(1), MOST_TURNS, Some(InputFault::Read), 2),
-    (1, Mishap::FailsAt(2), MOST_TURNS, Some(InputFault::Read), 3),
-    (1, Mishap::FailsAt(3), MOST_TURNS, Some(InputFault::Read), 4),
-    (1, Mishap::FailsAt(4), MOST_TURNS, None, 4),
-    (1, Mishap::Never, 0, Some(InputFault::Read), 0),
-    (1, Mishap::Never, 3, Some(InputFault::Read), 3),
-    (1, Mishap::Never, 4, None, 4),
+    (1, FaultPlan::Never, MOST_TURNS, None, 4),
+    (9, FaultPlan::Never, MOST_TURNS, None, 2),
+    (1, FaultPlan::InterruptedNowAndThen, MOST_TURNS, None, 8),
     (
         1,
-        Mishap::AlwaysInterrupted,
+        FaultPlan::FailsAt(0),
+        MOST_TURNS,
+        Some(InputFault::Read),
+        1,
+    ),
+    (
+        1,
+        FaultPlan::FailsAt(1),
+        MOST_TURNS,
+        Some(InputFault::Read),
+        2,
+    ),
+    (
+        1,
+        FaultPlan::FailsAt(2),
+        MOST_TURNS,
+        Some(InputFault::Read),
+        3,
+    ),
+    (
+        1,
+        FaultPlan::FailsAt(3),
+        MOST_TURNS,
+        Some(InputFault::Read),
+        4,
+    ),
+    (1, FaultPlan::FailsAt(4), MOST_TURNS, None, 4),
+    (1, FaultPlan::Never, 0, Some(InputFault::Read), 0),
+    (1, FaultPlan::Never, 3, Some(InputFault::Read), 3),
+    (1, FaultPlan::Never, 4, None, 4),
+    (
+        1,
+        FaultPlan::AlwaysInterrupted,
         1000,
         Some(InputFault::Read),
         1000,
     ),
     (
         1,
-        Mishap::InterruptedNowAndThen,
+        FaultPlan::InterruptedNowAndThen,
         7,
         Some(InputFault::Read),
         7,
     ),
 ];
 
-/// How many bytes a call moves, what goes wrong, how many calls there may be, what is written of `abc`, and
-/// after how many calls.
-type Writing = (usize, Mishap, u32, &'static [u8], u64);
+/// How many bytes a call moves, what goes wrong, how many calls there may be, what is written of
+/// `abc`, and after how many calls.
+type Writing = (usize, FaultPlan, u32, &'static [u8], u64);
 
 /// Three writes of a byte.
 static WRITINGS: [Writing; 11] = [
-    (1, Mishap::Never, MOST_TURNS, b"abc", 3),
-    (9, Mishap::Never, MOST_TURNS, b"abc", 1),
-    (0, Mishap::Never, MOST_TURNS, b"", 1),
-    (1, Mishap::InterruptedNowAndThen, MOST_TURNS, b"abc", 6),
-    (1, Mishap::FailsAt(0), MOST_TURNS, b"", 1),
-    (1, Mishap::FailsAt(1), MOST_TURNS, b"a", 2),
-    (1, Mishap::FailsAt(2), MOST_TURNS, b"ab", 3),
-    (1, Mishap::Never, 0, b"", 0),
-    (1, Mishap::Never, 2, b"ab", 2),
-    (1, Mishap::Never, 3, b"abc", 3),
-    (1, Mishap::AlwaysInterrupted, 1000, b"", 1000),
+    (1, FaultPlan::Never, MOST_TURNS, b"abc", 3),
+    (9, FaultPlan::Never, MOST_TURNS, b"abc", 1),
+    (0, FaultPlan::Never, MOST_TURNS, b"", 1),
+    (1, FaultPlan::InterruptedNowAndThen, MOST_TURNS, b"abc", 6),
+    (1, FaultPlan::FailsAt(0), MOST_TURNS, b"", 1),
+    (1, FaultPlan::FailsAt(1), MOST_TURNS, b"a", 2),
+    (1, FaultPlan::FailsAt(2), MOST_TURNS, b"ab", 3),
+    (1, FaultPlan::Never, 0, b"", 0),
+    (1, FaultPlan::Never, 2, b"ab", 2),
+    (1, FaultPlan::Never, 3, b"abc", 3),
+    (1, FaultPlan::AlwaysInterrupted, 1000, b"", 1000),
 ];
 
 /// The number of the first reading, from 0, that ends otherwise.
 fn wrong_reading(alloc: Global, rows: &[Reading]) -> Option<usize> {
     for (i, (step, mishap, turns, fault, calls)) in rows.iter().enumerate() {
-        let mut reader = Metered::with_turns(Faulty::new(&b"abc"[..], *step, *mishap), *turns);
+        let mut reader = Limited::with_turns(
+            FaultyStream::new(&b"abc"[..], *step, *mishap),
+            *turns,
+        );
         let ends = match read_input(alloc, &mut reader) {
             Ok(input) => fault.is_none() && input.as_slice() == b"abc".as_slice(),
             Err(told) => *fault == Some(told),
@@ -81,7 +109,10 @@ fn wrong_reading(alloc: Global, rows: &[Reading]) -> Option<usize> {
 /// The number of the first writing, from 0, that ends otherwise.
 fn wrong_writing(alloc: Global, rows: &[Writing]) -> Option<usize> {
     for (i, (step, mishap, turns, front, calls)) in rows.iter().enumerate() {
-        let mut writer = Metered::with_turns(Faulty::new(Vec::new(alloc), *step, *mishap), *turns);
+        let mut writer = Limited::with_turns(
+            FaultyStream::new(Vec::new(alloc), *step, *mishap),
+            *turns,
+        );
         let wanted = if front.len() == 3 {
             Ok(())
         } else {
@@ -97,44 +128,52 @@ fn wrong_writing(alloc: Global, rows: &[Writing]) -> Option<usize> {
 }
 
 /// Which calls go wrong, what three calls give, and how many of them the one inside has met.
-type Calls = (Mishap, &'static [Result<usize, Trouble>], u64);
+type Calls = (FaultPlan, &'static [Result<usize, StreamFault>], u64);
 
 /// Reads of one byte, and then of the end. A failure is final, and so is the end.
 static READS: [Calls; 3] = [
-    (Mishap::Never, &[Ok(1), Ok(0), Ok(0)], 2),
+    (FaultPlan::Never, &[Ok(1), Ok(0), Ok(0)], 2),
     (
-        Mishap::FailsAt(0),
+        FaultPlan::FailsAt(0),
         &[
-            Err(Trouble::Failed),
-            Err(Trouble::Failed),
-            Err(Trouble::Failed),
+            Err(StreamFault::Failed),
+            Err(StreamFault::Failed),
+            Err(StreamFault::Failed),
         ],
         1,
     ),
     (
-        Mishap::InterruptedNowAndThen,
-        &[Err(Trouble::Interrupted), Ok(1), Err(Trouble::Interrupted)],
+        FaultPlan::InterruptedNowAndThen,
+        &[
+            Err(StreamFault::Interrupted),
+            Ok(1),
+            Err(StreamFault::Interrupted),
+        ],
         3,
     ),
 ];
 
 /// Writes of a byte.
 static WRITES: [Calls; 3] = [
-    (Mishap::Never, &[Ok(1), Ok(1), Ok(1)], 3),
+    (FaultPlan::Never, &[Ok(1), Ok(1), Ok(1)], 3),
     (
-        Mishap::FailsAt(1),
-        &[Ok(1), Err(Trouble::Failed), Err(Trouble::Failed)],
+        FaultPlan::FailsAt(1),
+        &[Ok(1), Err(StreamFault::Failed), Err(StreamFault::Failed)],
         2,
     ),
     (
-        Mishap::InterruptedNowAndThen,
-        &[Err(Trouble::Interrupted), Ok(1), Err(Trouble::Interrupted)],
+        FaultPlan::InterruptedNowAndThen,
+        &[
+            Err(StreamFault::Interrupted),
+            Ok(1),
+            Err(StreamFault::Interrupted),
+        ],
         3,
     ),
 ];
 
 /// Whether three reads give this.
-fn reads<R: Source>(reader: &mut R, gave: &[Result<usize, Trouble>]) -> bool {
+fn reads<R: Source>(reader: &mut R, gave: &[Result<usize, StreamFault>]) -> bool {
     let mut room = [0; 4];
     for want in gave {
         if reader.read(&mut room) != *want {
@@ -145,7 +184,7 @@ fn reads<R: Source>(reader: &mut R, gave: &[Result<usize, Trouble>]) -> bool {
 }
 
 /// Whether three writes do.
-fn writes<W: Sink>(writer: &mut W, gave: &[Result<usize, Trouble>]) -> bool {
+fn writes<W: Sink>(writer: &mut W, gave: &[Result<usize, StreamFault>]) -> bool {
     for want in gave {
         if writer.write(b"abc") != *want {
             return false;
@@ -157,7 +196,7 @@ fn writes<W: Sink>(writer: &mut W, gave: &[Result<usize, Trouble>]) -> bool {
 /// The number of the first row of reads, from 0, that give something else.
 fn wrong_reads(rows: &[Calls]) -> Option<usize> {
     for (i, (mishap, gave, calls)) in rows.iter().enumerate() {
-        let mut reader = Metered::new(Faulty::new(&b"a"[..], 1, *mishap));
+        let mut reader = Limited::new(FaultyStream::new(&b"a"[..], 1, *mishap));
         if !reads(&mut reader, gave) || reader.into_inner().calls != *calls {
             return Some(i);
         }
@@ -168,7 +207,7 @@ fn wrong_reads(rows: &[Calls]) -> Option<usize> {
 /// The number of the first row of writes, from 0, that give something else.
 fn wrong_writes(alloc: Global, rows: &[Calls]) -> Option<usize> {
     for (i, (mishap, gave, calls)) in rows.iter().enumerate() {
-        let mut writer = Metered::new(Faulty::new(Vec::new(alloc), 1, *mishap));
+        let mut writer = Limited::new(FaultyStream::new(Vec::new(alloc), 1, *mishap));
         if !writes(&mut writer, gave) || writer.into_inner().calls != *calls {
             return Some(i);
         }
@@ -187,7 +226,7 @@ fn pattern(alloc: Global, len: u32) -> Result<Vec<u8>, AllocError> {
 
 /// Whether bytes come whole out of a reader that moves so many a call.
 fn is_read(alloc: Global, bytes: &[u8], step: usize) -> bool {
-    let mut reader = Metered::new(Faulty::new(bytes, step, Mishap::InterruptedNowAndThen));
+    let mut reader = Limited::new(FaultyStream::new(bytes, step, FaultPlan::InterruptedNowAndThen));
     match read_input(alloc, &mut reader) {
         Ok(input) => input.as_slice() == bytes,
         Err(_) => false,
@@ -196,10 +235,10 @@ fn is_read(alloc: Global, bytes: &[u8], step: usize) -> bool {
 
 /// Whether they go whole into such a writer.
 fn is_written(alloc: Global, bytes: &[u8], step: usize) -> bool {
-    let mut writer = Metered::new(Faulty::new(
+    let mut writer = Limited::new(FaultyStream::new(
         Vec::new(alloc),
         step,
-        Mishap::InterruptedNowAndThen,
+        FaultPlan::InterruptedNowAndThen,
     ));
     write_output(&mut writer, bytes).is_ok() && writer.into_inner().inner.as_slice() == bytes
 }
@@ -224,7 +263,7 @@ static SPACES: [(u64, Result<usize, InputFault>); 3] = [
 /// The number of the first row of spaces, from 0, whose reading ends otherwise.
 fn wrong_spaces(alloc: Global, rows: &[(u64, Result<usize, InputFault>)]) -> Option<usize> {
     for (i, (count, want)) in rows.iter().enumerate() {
-        let mut reader = Metered::new(AnyTrouble(io::repeat(b' ').take(*count)));
+        let mut reader = Limited::new(AnyStreamFault(io::repeat(b' ').take(*count)));
         let read = match read_input(alloc, &mut reader) {
             Ok(input) => Ok(input.len()),
             Err(fault) => Err(fault),

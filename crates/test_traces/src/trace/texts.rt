@@ -1,7 +1,7 @@
 //! The text of each fault, word for word.
 use crate::rows::{first_other, none};
+use tsc_stream::{InputFault, WriteFailed};
 use tsc_trace::{LogFault, OutFault, ReplayFault, TraceFault};
-use tsc_trace_io::{InputFault, WriteFailed};
 
 static TRACE_FAULTS: [(TraceFault, &str); 9] = [
     (TraceFault::NotJson, "not JSON"),

@@ -1,6 +1,6 @@
 //! Checks of the bytes of a log against those of its trace.
 ghost use Rattle.std.specs.Prelude.{◌≡◌, IfOk, IfErr, List};
-ghost use Rattle.tsc_trace_json.specs.Traces.{Trace as Calls};
+ghost use Rattle.tsc_trace_format.specs.Traces.{Trace as Calls};
 ghost use Rattle.tsc_trace.specs.declared.log.Line.{Line};
 ghost use Rattle.tsc_check.specs.Verdict.{verdict_of};
 ghost use Rattle.tsc_check.specs.Checking.{verdict_line, fault_text};
@@ -15,7 +15,8 @@ use std::alloc::Global;
 use tsc_time::NoMemory;
 use tsc_trace::{Log, ReplayFault, read_log};
 
-/// Checks a log against its trace, and gives the line of the verdict; or why the bytes are no trace, or no log.
+/// Checks a log against its trace, and gives the line of the verdict; or why the bytes are no
+/// trace, or no log.
 ///
 /// It takes the memory of both, and of a cache, which is freed when it returns.
 pub fn check_bytes(alloc: Global, trace: &[u8], log: &[u8]) -> Result<Outcome, NoMemory>
@@ -30,7 +31,8 @@ pub fn check_bytes(alloc: Global, trace: &[u8], log: &[u8]) -> Result<Outcome, N
 
 /// The verdict on a log.
 fn verdict_on(alloc: Global, trace: &[u8], log: &[u8]) -> Result<Verdict, CheckFault>
-    ensures verdict { IfOk result (λ verdict. (calls : Calls) × (lines : List Line) × IsTrace trace.now calls × IsLogText log.now lines × (verdict ≡ verdict_of calls lines)) }
+    ensures verdict { IfOk result (λ verdict. (calls : Calls) × (lines : List Line) ×
+        IsTrace trace.now calls × IsLogText log.now lines × (verdict ≡ verdict_of calls lines)) }
     ensures refused { IfErr result (λ fault. HasNoVerdict trace.now log.now fault) }
 {
     let calls = trace_of(alloc, trace).map_err(CheckFault::Stream)?;

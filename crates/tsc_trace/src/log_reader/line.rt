@@ -1,7 +1,7 @@
 //! A line of a log, read from its fields.
 //!
-//! Numbers and owners are read in every spelling that `parse` takes, so a text that is read need not be the
-//! text of the line that it gives. Whoever calls [`read_line`] compares the two.
+//! Numbers and owners are read in every spelling that `parse` takes, so a text that is read need
+//! not be the text of the line that it gives. Whoever calls [`read_line`] compares the two.
 ghost use Rattle.std.specs.Prelude.{◌≡◌, ◌<◌, ◌^◌, ◌++◌, ◌∷◌};
 ghost use Rattle.std.specs.Prelude.{codes, decimal, option_map, true, MatchOption};
 ghost use Rattle.tsc_time.specs.Time.{is_in_range};

@@ -1,3 +1,4 @@
+-- The verdict on the log of a run is right.
 use Rattle.tsc_check.proofs.TrueVerdict.{run_is_right}
 use Rattle.tsc_check.proofs.laws.runs_are_right.Goals as goal
 

@@ -9,5 +9,7 @@ use Rattle.tsc_check.proofs.sweep.is_other_value.Goals as goal
 pub returns-in-Get-Get : goal.returns-in-Get-Get
 returns-in-Get-Get c = λ settings h s looks.
     let value = c.in-Get-Get.value in
-    let is : c.get_max.result ≡ look (state_of settings h) c.in-Get-Get.span = c.get_max.ensures.stands settings (state_of settings h) s in
-    rw (c.in-Get-Get.is-0, c.in-Get-Get.is-1) (c.differ.ensures ∙ ap (λ (v : OwnedTime). not (is_same_value value v)) is)
+    let is : c.get_max.result ≡ look (state_of settings h) c.in-Get-Get.span =
+    c.get_max.ensures.stands settings (state_of settings h) s in
+    rw (c.in-Get-Get.is-0, c.in-Get-Get.is-1)
+    (c.differ.ensures ∙ ap (λ (v : OwnedTime). not (is_same_value value v)) is)

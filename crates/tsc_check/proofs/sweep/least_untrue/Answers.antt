@@ -1,8 +1,9 @@
+-- Proves the contract of `least_untrue`. The least line whose answer is wrong.
 use Rattle.std.proofs.Common.{sym, ap, subst, ◌≤◌, suc, length, add-one, arith}
 use Rattle.tsc_cache.specs.Settings.{Settings}
 use Rattle.tsc_cache.specs.State.{opening}
 use Rattle.tsc_cache.specs.CacheView.{StandsForState}
-use Rattle.tsc_trace_json.specs.Traces.{Trace}
+use Rattle.tsc_trace_format.specs.Traces.{Trace}
 use Rattle.tsc_check.specs.Verdict.{adds_in, is_wrong_answer}
 use Rattle.tsc_check.specs.CheckParts.{Lowers, state_at, is_before_front}
 use Rattle.tsc_check.proofs.Sweeping.{lowers_first, lowers_next, found_least, found_none}
@@ -15,9 +16,12 @@ loop-front-preserved g c =
     let front = c.loop-front.front in
     let test = is_wrong_answer trace lines in
     record {
-      stands = subst (λ f. StandsForState c.pass.new.cache trace.config (state_at trace lines f)) (sym (add-one front)) c.in_ok-lowest.ensures.stands;
-      lowers = subst (λ f. Lowers test (is_before_front lines f) (length lines) c.in_ok-lowest.lowest) (sym (add-one front))
-          (lowers_next test lines front (length lines) c.loop-front.lowest c.in_ok-lowest.lowest c.loop-front.invariant.lowers c.in_ok-lowest.ensures.lowers);
+      stands = subst (λ f. StandsForState c.pass.new.cache trace.config (state_at trace lines f))
+          (sym (add-one front)) c.in_ok-lowest.ensures.stands;
+      lowers = subst (λ f. Lowers test (is_before_front lines f) (length lines)
+          c.in_ok-lowest.lowest) (sym (add-one front))
+          (lowers_next test lines front (length lines) c.loop-front.lowest c.in_ok-lowest.lowest
+          c.loop-front.invariant.lowers c.in_ok-lowest.ensures.lowers);
     }
 
 pub returns-then-lowest-lines : goal.returns-then-lowest-lines
@@ -25,22 +29,39 @@ returns-then-lowest-lines g c =
     let trace = c.args.trace.now in
     let lines = c.args.lines.now in
     let o = c.args.order.now in
-    let all : suc (adds_in lines) ≤ c.loop-front.front = omega (arith, c.loop-front-test.false, c.len-front-end.ensures, c.requires.placed.add_slots, o.adds.ok.0) in
-    found_least trace lines (is_wrong_answer trace lines) c.requires.order c.loop-front.front c.loop-front.lowest all c.loop-front.invariant.lowers c.if-lowest-lines.true
+    let all : suc (adds_in lines) ≤ c.loop-front.front =
+    omega (
+      arith,
+      c.loop-front-test.false,
+      c.len-front-end.ensures,
+      c.requires.placed.add_slots,
+      o.adds.ok.0,
+    ) in
+    found_least trace lines (is_wrong_answer trace lines) c.requires.order c.loop-front.front
+    c.loop-front.lowest all c.loop-front.invariant.lowers c.if-lowest-lines.true
 
 pub returns : goal.returns
 returns g c =
     let trace = c.args.trace.now in
     let lines = c.args.lines.now in
     let o = c.args.order.now in
-    let all : suc (adds_in lines) ≤ c.loop-front.front = omega (arith, c.loop-front-test.false, c.len-front-end.ensures, c.requires.placed.add_slots, o.adds.ok.0) in
-    found_none trace lines (is_wrong_answer trace lines) c.requires.order c.loop-front.front c.loop-front.lowest all c.loop-front.invariant.lowers c.if-lowest-lines.false
+    let all : suc (adds_in lines) ≤ c.loop-front.front =
+    omega (
+      arith,
+      c.loop-front-test.false,
+      c.len-front-end.ensures,
+      c.requires.placed.add_slots,
+      o.adds.ok.0,
+    ) in
+    found_none trace lines (is_wrong_answer trace lines) c.requires.order c.loop-front.front
+    c.loop-front.lowest all c.loop-front.invariant.lowers c.if-lowest-lines.false
 
 pub loop-front-init : goal.loop-front-init
 loop-front-init g c =
     let config = ap (λ (t : Trace). t.config) c.trace.view_is in
     let lines = c.args.lines.now in
     record {
-      stands = subst (λ (s : Settings). StandsForState c.in_ok-cache.cache s (opening s)) config c.in_ok-cache.ensures.stands;
+      stands = subst (λ (s : Settings). StandsForState c.in_ok-cache.cache s (opening s)) config
+          c.in_ok-cache.ensures.stands;
       lowers = lowers_first (is_wrong_answer c.args.trace.now lines) lines (length lines);
     }

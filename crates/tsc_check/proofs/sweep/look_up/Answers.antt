@@ -1,3 +1,5 @@
+-- Proves the contract of `look_up`. Lowers a line number to that of a lookup whose answer is
+-- another than the cache gives.
 use Rattle.std.proofs.Common.{◌≡◌, sym, refl, length, Some}
 use Rattle.std.specs.Prelude.{slice_get}
 use Rattle.std.proofs.lemmas.Option.{slice_get_read}
@@ -12,14 +14,23 @@ returns-in-Some c = λ front looks stands.
     let trace = c.args.trace.now in
     let lines = c.args.lines.now in
     let line = c.index-lines-i.result in
-    let at : slice_get lines c.args.i ≡ Some line = slice_get_read lines (length lines) c.args.i line refl c.requires.index c.index-lines-i.is in
-    let told = lookup_told trace lines c.requires.order c.args.i line at c.in-Some.call.now (sym c.in-Some.ensures.value) c.is_other_value.result (λ h. StandsForState c.args.cache.now trace.config (state_of trace.config h)) (λ h s a. c.is_other_value.ensures trace.config h s a) front looks stands in
-    lowers_at (is_wrong_answer trace lines) c.args.i c.args.least c.lower.result c.is_other_value.result told c.lower.ensures.at_most c.lower.ensures.one c.lower.ensures.lowest
+    let at : slice_get lines c.args.i ≡ Some line =
+    slice_get_read lines (length lines) c.args.i line refl c.requires.index
+    c.index-lines-i.is in
+    let told = lookup_told trace lines c.requires.order c.args.i line at c.in-Some.call.now
+    (sym c.in-Some.ensures.value) c.is_other_value.result
+    (λ h. StandsForState c.args.cache.now trace.config (state_of trace.config h))
+    (λ h s a. c.is_other_value.ensures trace.config h s a) front looks stands in
+    lowers_at (is_wrong_answer trace lines) c.args.i c.args.least c.lower.result
+    c.is_other_value.result told c.lower.ensures.at_most c.lower.ensures.one
+    c.lower.ensures.lowest
 
 pub returns-in-None : goal.returns-in-None
 returns-in-None c = λ front looks stands.
     let trace = c.args.trace.now in
     let lines = c.args.lines.now in
     let line = c.index-lines-i.result in
-    let at : slice_get lines c.args.i ≡ Some line = slice_get_read lines (length lines) c.args.i line refl c.requires.index c.index-lines-i.is in
+    let at : slice_get lines c.args.i ≡ Some line =
+    slice_get_read lines (length lines) c.args.i line refl c.requires.index
+    c.index-lines-i.is in
     absurd (call_there trace lines c.requires.order c.args.i line at (sym c.in-None.ensures.value))

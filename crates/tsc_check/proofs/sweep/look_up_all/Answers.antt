@@ -1,3 +1,5 @@
+-- Proves the contract of `look_up_all`. Lowers a line number to the least of a lookup with this
+-- front whose answer is another than the cache gives.
 use Rattle.std.proofs.Common.{◌≡◌, ◌∙◌, sym, subst, refl, ◌<◌, ℕ, suc, length, Bool, Option, Some, None, arith}
 use Rattle.tsc_check.specs.Verdict.{is_wrong_answer}
 use Rattle.tsc_check.specs.CheckParts.{looks_up_there, last_below}
@@ -27,7 +29,8 @@ index-next-requires-in-Some g c =
     let last = last_is (looks_up_there lines front) inv.above i (sym inv.here ∙ c.in-Some.is) in
     omega (arith, last.below, inv.within, c.requires.placed.count, o.earlier.ok.0)
 
-none_after : (test : ℕ → Bool) (i : ℕ) (o : Option ℕ) → o ≡ last_below test i → number_from_1 o < suc i
+none_after : (test : ℕ → Bool) (i : ℕ) (o : Option ℕ) → o ≡ last_below test i →
+    number_from_1 o < suc i
 none_after test i None e = omega arith
 none_after test i (Some j) e = omega (arith, (last_is test i j (sym e)).below)
 
@@ -42,8 +45,11 @@ loop-next-smaller g c =
     let last = last_is (looks_up_there lines front) inv.above i (sym inv.here ∙ c.in-Some.is) in
     let next = c.index-next-in-Some.result.now in
     let is : next ≡ last_below (looks_up_there lines front) i =
-    c.index-next-in-Some.ensures ∙ next_is o.adds.items o.lookups.items o.earlier.items o.reached.items lines c.requires.placed front i last.passes next in
-    subst (λ n. number_from_1 next < number_from_1 n) (sym c.in-Some.is) (none_after (looks_up_there lines front) i next is)
+    c.index-next-in-Some.ensures ∙
+    next_is o.adds.items o.lookups.items o.earlier.items o.reached.items lines c.requires.placed
+    front i last.passes next in
+    subst (λ n. number_from_1 next < number_from_1 n) (sym c.in-Some.is)
+    (none_after (looks_up_there lines front) i next is)
 
 pub loop-next-preserved : goal.loop-next-preserved
 loop-next-preserved g c =
@@ -56,13 +62,16 @@ loop-next-preserved g c =
     let last = last_is (looks_up_there lines front) inv.above i (sym inv.here ∙ c.in-Some.is) in
     let next = c.index-next-in-Some.result.now in
     let is : next ≡ last_below (looks_up_there lines front) i =
-    c.index-next-in-Some.ensures ∙ next_is o.adds.items o.lookups.items o.earlier.items o.reached.items lines c.requires.placed front i last.passes next in
+    c.index-next-in-Some.ensures ∙
+    next_is o.adds.items o.lookups.items o.earlier.items o.reached.items lines c.requires.placed
+    front i last.passes next in
     let at = c.look_up-lowest.ensures front last.passes c.requires.stands in
     record {
       above = i;
       within = omega (arith, last.below, inv.within);
       here = is;
-      lowers = lowers_more (is_wrong_answer trace lines) (looks_up_there lines front) inv.above i c.args.least c.loop-next.lowest c.look_up-lowest.result last inv.lowers at;
+      lowers = lowers_more (is_wrong_answer trace lines) (looks_up_there lines front) inv.above i
+          c.args.least c.loop-next.lowest c.look_up-lowest.result last inv.lowers at;
     }
 
 none_is : (o : Option ℕ) → ((x : ℕ) → o ≡ Some x → ⊥) → o ≡ None
@@ -74,7 +83,8 @@ returns g c =
     let lines = c.args.lines.now in
     let inv = c.loop-next.invariant in
     let none = none_is c.loop-next.next (λ x. c.in_default.not-Some x) in
-    lowers_all (is_wrong_answer c.args.trace.now lines) (looks_up_there lines c.args.front) inv.above c.args.least c.loop-next.lowest (sym inv.here ∙ none) inv.lowers
+    lowers_all (is_wrong_answer c.args.trace.now lines) (looks_up_there lines c.args.front)
+    inv.above c.args.least c.loop-next.lowest (sym inv.here ∙ none) inv.lowers
 
 pub loop-next-init : goal.loop-next-init
 loop-next-init g c =
@@ -83,6 +93,8 @@ loop-next-init g c =
     record {
       above = length lines;
       within = omega arith;
-      here = c.index-next.ensures ∙ c.requires.placed.lookups_at front c.index-next.result.now c.requires.front;
-      lowers = lowers_none (is_wrong_answer c.args.trace.now lines) (looks_up_there lines front) (length lines) c.args.least (within_lines lines front);
+      here = c.index-next.ensures ∙
+          c.requires.placed.lookups_at front c.index-next.result.now c.requires.front;
+      lowers = lowers_none (is_wrong_answer c.args.trace.now lines) (looks_up_there lines front)
+          (length lines) c.args.least (within_lines lines front);
     }

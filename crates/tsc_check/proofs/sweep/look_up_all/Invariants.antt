@@ -1,3 +1,5 @@
+-- Proves the loop invariants of `look_up_all`. Lowers a line number to the least of a lookup with
+-- this front whose answer is another than the cache gives.
 use Rattle.std.proofs.Common.{◌≡◌, ◌≤◌, ◌&&◌, ℕ, length, nat_le}
 use Rattle.tsc_check.specs.Verdict.{is_wrong_answer}
 use Rattle.tsc_check.specs.CheckParts.{Lowers, last_below, looks_up_there}
@@ -11,7 +13,8 @@ invariant-loop-next g l =
       above : ℕ;
       within : above ≤ length l.lines;
       here : l.next ≡ last_below (looks_up_there l.lines l.front) above;
-      lowers : Lowers (is_wrong_answer l.trace l.lines) (λ j. looks_up_there l.lines l.front j && nat_le above j) l.least l.lowest;
+      lowers : Lowers (is_wrong_answer l.trace l.lines)
+          (λ j. looks_up_there l.lines l.front j && nat_le above j) l.least l.lowest;
     }
 
 abbrev pub decreases-loop-next : goal.decreases-loop-next

@@ -1,3 +1,5 @@
+-- Proves the contract of `make_add`. Makes the Add of a line, and lowers a line number to that of
+-- this line where its answer is another.
 use Rattle.std.proofs.Common.{◌≡◌, sym, subst, refl, length, Some}
 use Rattle.std.specs.Prelude.{slice_get}
 use Rattle.std.proofs.lemmas.Option.{slice_get_read}
@@ -7,32 +9,48 @@ use Rattle.tsc_check.specs.Verdict.{calls_of, first_adds, is_wrong_answer}
 use Rattle.tsc_check.proofs.Sweeping.{add_told, lowers_at, call_there, next_adds}
 use Rattle.tsc_check.proofs.sweep.make_add.Goals as goal
 
-pub returns-in_ok-is_other_add-in-Some-clause-lowers : goal.returns-in_ok-is_other_add-in-Some-clause-lowers
+pub returns-in_ok-is_other_add-in-Some-clause-lowers :
+    goal.returns-in_ok-is_other_add-in-Some-clause-lowers
 returns-in_ok-is_other_add-in-Some-clause-lowers c = λ place adds stands.
     let trace = c.args.trace.now in
     let lines = c.args.lines.now in
     let line = c.index-lines-i.result in
-    let at : slice_get lines c.args.i ≡ Some line = slice_get_read lines (length lines) c.args.i line refl c.requires.index c.index-lines-i.is in
+    let at : slice_get lines c.args.i ≡ Some line =
+    slice_get_read lines (length lines) c.args.i line refl c.requires.index
+    c.index-lines-i.is in
     let other = c.in_ok-is_other_add-in-Some.field-0 in
-    let told = add_told trace lines c.requires.order c.args.i line at c.in-Some.call.now (sym c.in-Some.ensures.value) other (λ h. StandsForState c.args.cache.now trace.config (state_of trace.config h)) (λ h s a k. c.in_ok-is_other_add-in-Some.ensures.other trace.config h s a k) place adds stands in
-    lowers_at (is_wrong_answer trace lines) c.args.i c.args.least c.lower.result other told c.lower.ensures.at_most c.lower.ensures.one c.lower.ensures.lowest
+    let told = add_told trace lines c.requires.order c.args.i line at c.in-Some.call.now
+    (sym c.in-Some.ensures.value) other
+    (λ h. StandsForState c.args.cache.now trace.config (state_of trace.config h))
+    (λ h s a k. c.in_ok-is_other_add-in-Some.ensures.other trace.config h s a k) place adds
+    stands in
+    lowers_at (is_wrong_answer trace lines) c.args.i c.args.least c.lower.result other told
+    c.lower.ensures.at_most c.lower.ensures.one c.lower.ensures.lowest
 
-pub returns-in_ok-is_other_add-in-Some-clause-stands : goal.returns-in_ok-is_other_add-in-Some-clause-stands
+pub returns-in_ok-is_other_add-in-Some-clause-stands :
+    goal.returns-in_ok-is_other_add-in-Some-clause-stands
 returns-in_ok-is_other_add-in-Some-clause-stands c = λ place adds stands.
     let trace = c.args.trace.now in
     let lines = c.args.lines.now in
     let line = c.index-lines-i.result in
-    let at : slice_get lines c.args.i ≡ Some line = slice_get_read lines (length lines) c.args.i line refl c.requires.index c.index-lines-i.is in
-    let next = next_adds trace lines c.requires.order place c.args.i line at adds c.in-Some.call.now (sym c.in-Some.ensures.value) in
-    subst (λ g. StandsForState c.is_other_add.new.cache trace.config (state_of trace.config g)) next.1
-    (c.in_ok-is_other_add-in-Some.ensures.stands trace.config next.0 (first_adds (calls_of trace) lines place) stands)
+    let at : slice_get lines c.args.i ≡ Some line =
+    slice_get_read lines (length lines) c.args.i line refl c.requires.index
+    c.index-lines-i.is in
+    let next = next_adds trace lines c.requires.order place c.args.i line at adds c.in-Some.call.now
+    (sym c.in-Some.ensures.value) in
+    subst (λ g. StandsForState c.is_other_add.new.cache trace.config
+    (state_of trace.config g)) next.1
+    (c.in_ok-is_other_add-in-Some.ensures.stands trace.config next.0
+    (first_adds (calls_of trace) lines place) stands)
 
 pub returns-in-None-clause-lowers : goal.returns-in-None-clause-lowers
 returns-in-None-clause-lowers c = λ place adds stands.
     let trace = c.args.trace.now in
     let lines = c.args.lines.now in
     let line = c.index-lines-i.result in
-    let at : slice_get lines c.args.i ≡ Some line = slice_get_read lines (length lines) c.args.i line refl c.requires.index c.index-lines-i.is in
+    let at : slice_get lines c.args.i ≡ Some line =
+    slice_get_read lines (length lines) c.args.i line refl c.requires.index
+    c.index-lines-i.is in
     absurd (call_there trace lines c.requires.order c.args.i line at (sym c.in-None.ensures.value))
 
 pub returns-in-None-clause-stands : goal.returns-in-None-clause-stands
@@ -40,5 +58,7 @@ returns-in-None-clause-stands c = λ place adds stands.
     let trace = c.args.trace.now in
     let lines = c.args.lines.now in
     let line = c.index-lines-i.result in
-    let at : slice_get lines c.args.i ≡ Some line = slice_get_read lines (length lines) c.args.i line refl c.requires.index c.index-lines-i.is in
+    let at : slice_get lines c.args.i ≡ Some line =
+    slice_get_read lines (length lines) c.args.i line refl c.requires.index
+    c.index-lines-i.is in
     absurd (call_there trace lines c.requires.order c.args.i line at (sym c.in-None.ensures.value))

@@ -1,3 +1,5 @@
+-- Proves the contract of `pass`. Answers all lines that tell of so many Adds before them, the Add
+-- last.
 use Rattle.std.proofs.Common.{◌≡◌, ◌∙◌, sym, subst, length, Some, None}
 use Rattle.std.proofs.lemmas.Result.{IfOk-weaker, on_ok_weaker}
 use Rattle.tsc_cache.specs.History.{state_of}
@@ -14,7 +16,9 @@ make_add-requires-clause-index g c =
     let o = c.args.order.now in
     let front = c.args.front in
     let i = c.in-Some.i in
-    let at : last_below (adds_there lines front) (length lines) ≡ Some i = sym (c.requires.placed.adds_at front c.index.result.now c.requires.front) ∙ sym c.index.ensures ∙ c.in-Some.is in
+    let at : last_below (adds_there lines front) (length lines) ≡ Some i =
+    sym (c.requires.placed.adds_at front c.index.result.now c.requires.front) ∙
+    sym c.index.ensures ∙ c.in-Some.is in
     let last = last_is (adds_there lines front) (length lines) i at in
     last.below
 
@@ -25,10 +29,15 @@ returns-in-Some-clause-lowers g c =
     let o = c.args.order.now in
     let front = c.args.front in
     let i = c.in-Some.i in
-    let at : last_below (adds_there lines front) (length lines) ≡ Some i = sym (c.requires.placed.adds_at front c.index.result.now c.requires.front) ∙ sym c.index.ensures ∙ c.in-Some.is in
+    let at : last_below (adds_there lines front) (length lines) ≡ Some i =
+    sym (c.requires.placed.adds_at front c.index.result.now c.requires.front) ∙
+    sym c.index.ensures ∙ c.in-Some.is in
     let last = last_is (adds_there lines front) (length lines) i at in
     IfOk-weaker c.make_add.result _ _
-    (λ new h. lowers_pass (is_wrong_answer trace lines) (looks_up_there lines front) (adds_there lines front) i c.args.least c.look_up_all-least.result new c.look_up_all-least.ensures (h front last.passes c.requires.stands) (only_add trace lines c.requires.order front i last.passes))
+    (λ new h. lowers_pass (is_wrong_answer trace lines) (looks_up_there lines front)
+    (adds_there lines front) i c.args.least c.look_up_all-least.result new
+    c.look_up_all-least.ensures (h front last.passes c.requires.stands)
+    (only_add trace lines c.requires.order front i last.passes))
     c.make_add.ensures.lowers
 
 pub returns-in-Some-clause-stands : goal.returns-in-Some-clause-stands
@@ -38,9 +47,12 @@ returns-in-Some-clause-stands g c =
     let o = c.args.order.now in
     let front = c.args.front in
     let i = c.in-Some.i in
-    let at : last_below (adds_there lines front) (length lines) ≡ Some i = sym (c.requires.placed.adds_at front c.index.result.now c.requires.front) ∙ sym c.index.ensures ∙ c.in-Some.is in
+    let at : last_below (adds_there lines front) (length lines) ≡ Some i =
+    sym (c.requires.placed.adds_at front c.index.result.now c.requires.front) ∙
+    sym c.index.ensures ∙ c.in-Some.is in
     let last = last_is (adds_there lines front) (length lines) i at in
-    on_ok_weaker c.make_add.result (λ h. h front last.passes c.requires.stands) c.make_add.ensures.stands
+    on_ok_weaker c.make_add.result (λ h. h front last.passes c.requires.stands)
+    c.make_add.ensures.stands
 
 pub returns-in-None-clause-lowers : goal.returns-in-None-clause-lowers
 returns-in-None-clause-lowers g c =
@@ -48,8 +60,12 @@ returns-in-None-clause-lowers g c =
     let lines = c.args.lines.now in
     let o = c.args.order.now in
     let front = c.args.front in
-    let at : last_below (adds_there lines front) (length lines) ≡ None = sym (c.requires.placed.adds_at front c.index.result.now c.requires.front) ∙ sym c.index.ensures ∙ c.in-None.is in
-    lowers_no_add (is_wrong_answer trace lines) (looks_up_there lines front) (adds_there lines front) c.args.least c.look_up_all-least.result c.look_up_all-least.ensures (no_add_there lines front at)
+    let at : last_below (adds_there lines front) (length lines) ≡ None =
+    sym (c.requires.placed.adds_at front c.index.result.now c.requires.front) ∙
+    sym c.index.ensures ∙ c.in-None.is in
+    lowers_no_add (is_wrong_answer trace lines) (looks_up_there lines front)
+    (adds_there lines front) c.args.least c.look_up_all-least.result c.look_up_all-least.ensures
+    (no_add_there lines front at)
 
 pub returns-in-None-clause-stands : goal.returns-in-None-clause-stands
 returns-in-None-clause-stands g c =
@@ -57,5 +73,8 @@ returns-in-None-clause-stands g c =
     let lines = c.args.lines.now in
     let o = c.args.order.now in
     let front = c.args.front in
-    let at : last_below (adds_there lines front) (length lines) ≡ None = sym (c.requires.placed.adds_at front c.index.result.now c.requires.front) ∙ sym c.index.ensures ∙ c.in-None.is in
-    subst (λ h. StandsForState c.args.cache.now trace.config (state_of trace.config h)) (no_more_adds trace lines front at) c.requires.stands
+    let at : last_below (adds_there lines front) (length lines) ≡ None =
+    sym (c.requires.placed.adds_at front c.index.result.now c.requires.front) ∙
+    sym c.index.ensures ∙ c.in-None.is in
+    subst (λ h. StandsForState c.args.cache.now trace.config (state_of trace.config h))
+    (no_more_adds trace lines front at) c.requires.stands

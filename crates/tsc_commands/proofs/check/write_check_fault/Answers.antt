@@ -1,9 +1,11 @@
+-- Proves the contract of `write_check_fault`. Writes the line that tells why a check ended without
+-- a verdict.
 use Rattle.std.proofs.Common.{[], ◌∷◌, rules}
 use Rattle.std.proofs.lemmas.Result.{on_err_weaker}
 use Rattle.tsc_trace.specs.LogText.{line_feed}
 use Rattle.tsc_check.specs.Checking.{fault_text}
-use Rattle.tsc_trace_io.specs.Stream.{HasWritten}
-use Rattle.tsc_trace_io.proofs.WrittenSoFar.{CouldNotWrite-behind}
+use Rattle.tsc_stream.specs.Stream.{HasWritten}
+use Rattle.tsc_stream.proofs.WrittenSoFar.{CouldNotWrite-behind}
 use Rattle.tsc_commands.proofs.check.write_check_fault.Goals as goal
 
 pub returns-clause-err : goal.returns-clause-err
@@ -14,4 +16,5 @@ returns-clause-err g c =
     let new = known c.write_output.new.writer in
     let text = fault_text c.args.fault in
     let first : HasWritten old mid text = search rules in
-    on_err_weaker c.write_output.result (CouldNotWrite-behind old mid new text (line_feed ∷ []) first) c.write_output.ensures.err
+    on_err_weaker c.write_output.result
+    (CouldNotWrite-behind old mid new text (line_feed ∷ []) first) c.write_output.ensures.err

@@ -1,9 +1,10 @@
+-- Proves the contract of `write_fault`. Writes the line that tells a fault.
 use Rattle.std.proofs.Common.{[], ◌∷◌, rules}
 use Rattle.std.proofs.lemmas.Result.{on_err_weaker}
 use Rattle.tsc_trace.specs.LogText.{line_feed}
 use Rattle.tsc_trace.specs.Replay.{fault_text}
-use Rattle.tsc_trace_io.specs.Stream.{HasWritten}
-use Rattle.tsc_trace_io.proofs.WrittenSoFar.{CouldNotWrite-behind}
+use Rattle.tsc_stream.specs.Stream.{HasWritten}
+use Rattle.tsc_stream.proofs.WrittenSoFar.{CouldNotWrite-behind}
 use Rattle.tsc_commands.proofs.replay.write_fault.Goals as goal
 
 pub returns-clause-err : goal.returns-clause-err
@@ -14,4 +15,5 @@ returns-clause-err g c =
     let new = known c.write_output.new.writer in
     let text = fault_text c.args.fault in
     let first : HasWritten old mid text = search rules in
-    on_err_weaker c.write_output.result (CouldNotWrite-behind old mid new text (line_feed ∷ []) first) c.write_output.ensures.err
+    on_err_weaker c.write_output.result
+    (CouldNotWrite-behind old mid new text (line_feed ∷ []) first) c.write_output.ensures.err

@@ -1,3 +1,4 @@
+-- Proves the loop invariants of `run_in`.
 use Rattle.std.proofs.Common.{length}
 use Rattle.tsc_run.proofs.threads.+run_in.Given as goal
 

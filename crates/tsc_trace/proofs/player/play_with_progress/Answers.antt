@@ -4,25 +4,30 @@ use Rattle.std.specs.Prelude.{slice_get}
 use Rattle.tsc_cache.specs.Settings.{Settings}
 use Rattle.tsc_cache.specs.State.{opening}
 use Rattle.tsc_cache.specs.CacheView.{StandsForState}
-use Rattle.tsc_trace_json.specs.Limits.{most_calls}
-use Rattle.tsc_trace_json.specs.Lists.{fits_trace}
-use Rattle.tsc_trace_json.specs.Traces.{Trace, EachFits, AllFit}
+use Rattle.tsc_trace_format.specs.Limits.{most_calls}
+use Rattle.tsc_trace_format.specs.Lists.{fits_trace}
+use Rattle.tsc_trace_format.specs.Traces.{Trace, EachFits, AllFit}
 use Rattle.tsc_trace.specs.Play.{next_all, played}
 use Rattle.tsc_trace.specs.Log.{log_of}
 use Rattle.tsc_trace.proofs.Playing.{standing_after, lists_anew}
 use Rattle.tsc_trace.proofs.ListSteps.{told_with_list}
-use Rattle.tsc_trace_json.proofs.Totals.{calls_within, list_at}
-use Rattle.tsc_trace_json.proofs.Fitting.{list_fits}
+use Rattle.tsc_trace_format.proofs.Totals.{calls_within, list_at}
+use Rattle.tsc_trace_format.proofs.Fitting.{list_fits}
 use Rattle.tsc_trace.proofs.player.play_with_progress.Goals as goal
 
 pub loop-thread-init : goal.loop-thread-init
 loop-thread-init g c =
     let trace = c.args.trace.now in
     let config = ap (λ (t : Trace). t.config) c.trace.view_is in
-    let stands : StandsForState c.in_ok-new.field-0 c.trace.inside.config (opening c.trace.inside.config) = c.in_ok-new.ensures.stands in
+    let stands : StandsForState c.in_ok-new.field-0 c.trace.inside.config
+    (opening c.trace.inside.config) = c.in_ok-new.ensures.stands in
     record {
       at = standing_after trace.config [];
-      stands = record { state = subst (λ (s : Settings). StandsForState c.in_ok-new.field-0 s (opening s)) config stands; adds = refl };
+      stands = record {
+        state = subst (λ (s : Settings). StandsForState c.in_ok-new.field-0 s
+            (opening s)) config stands;
+        adds = refl;
+      };
       told = rw c.new-2.ensures.items (sym (lists_anew trace.config 0 [] trace.threads));
       counted = omega arith;
       settings = stands.set_up ∙ config;
@@ -37,16 +42,22 @@ play_list-requires-clause-fits g c =
     let within : thread < length slices = omega arith in
     let threads = ap (λ (t : Trace). t.threads) c.trace.view_is in
     let here : slice_get trace.threads thread ≡ Some calls =
-    ap (λ ls. slice_get ls thread) (sym threads ∙ sym c.slice-calls-items.ensures.value) ∙ list_at slices thread c.calls-item.result within c.calls-item.is ∙ ap Some (sym c.deref.ensures.value) in
-    let fit : AllFit trace.config trace.threads = subst (λ (t : Trace). AllFit t.config t.threads) c.trace.view_is c.trace.invariant in
-    subst (λ (s : Settings). EachFits s calls) (sym c.loop-thread.invariant.settings) (list_fits trace.config trace.threads thread calls here fit)
+    ap (λ ls. slice_get ls thread) (sym threads ∙ sym c.slice-calls-items.ensures.value) ∙
+    list_at slices thread c.calls-item.result within c.calls-item.is ∙
+    ap Some (sym c.deref.ensures.value) in
+    let fit : AllFit trace.config trace.threads =
+    subst (λ (t : Trace). AllFit t.config t.threads) c.trace.view_is c.trace.invariant in
+    subst (λ (s : Settings). EachFits s calls) (sym c.loop-thread.invariant.settings)
+    (list_fits trace.config trace.threads thread calls here fit)
 
 pub play_list-requires-clause-index : goal.play_list-requires-clause-index
 play_list-requires-clause-index g c =
     let slices = c.slice-calls-items.result.now in
-    let fits = subst (λ lists. fits_trace lists ≡ true) (sym c.slice-calls-items.ensures.value) c.slice-calls-items.ensures.fits in
+    let fits = subst (λ lists. fits_trace lists ≡ true) (sym c.slice-calls-items.ensures.value)
+    c.slice-calls-items.ensures.fits in
     let within : c.loop-thread.thread < length slices = omega arith in
-    rw c.deref.ensures.value (calls_within slices c.loop-thread.thread c.calls-item.result fits within c.calls-item.is)
+    rw c.deref.ensures.value (calls_within slices c.loop-thread.thread c.calls-item.result fits
+    within c.calls-item.is)
 
 pub loop-thread-preserved : goal.loop-thread-preserved
 loop-thread-preserved g c =
@@ -58,18 +69,26 @@ loop-thread-preserved g c =
     let stands = c.loop-thread.invariant.stands in
     let calls = c.deref.result.now in
     let within : thread < length slices = omega arith in
-    let fits = subst (λ lists. fits_trace lists ≡ true) (sym c.slice-calls-items.ensures.value) c.slice-calls-items.ensures.fits in
+    let fits = subst (λ lists. fits_trace lists ≡ true) (sym c.slice-calls-items.ensures.value)
+    c.slice-calls-items.ensures.fits in
     let threads = ap (λ (t : Trace). t.threads) c.trace.view_is in
     let here : slice_get lists thread ≡ Some calls =
-    ap (λ ls. slice_get ls thread) (sym threads ∙ sym c.slice-calls-items.ensures.value) ∙ list_at slices thread c.calls-item.result within c.calls-item.is ∙ ap Some (sym c.deref.ensures.value) in
-    let added : c.play_list.new.self.lines.items ≡ c.loop-thread.player.lines.items ++ played settings thread 0 at calls = c.in_ok-play_list.ensures.lines settings at stands in
+    ap (λ ls. slice_get ls thread) (sym threads ∙ sym c.slice-calls-items.ensures.value) ∙
+    list_at slices thread c.calls-item.result within c.calls-item.is ∙
+    ap Some (sym c.deref.ensures.value) in
+    let added : c.play_list.new.self.lines.items ≡ c.loop-thread.player.lines.items ++
+    played settings thread 0 at calls = c.in_ok-play_list.ensures.lines settings at stands in
     record {
       at = next_all settings at calls;
       stands = c.in_ok-play_list.ensures.stands settings at stands;
-      told = told_with_list settings thread at c.loop-thread.player.lines.items c.play_list.new.self.lines.items (log_of c.args.trace.now) calls lists here added c.loop-thread.invariant.told;
+      told = told_with_list settings thread at c.loop-thread.player.lines.items
+          c.play_list.new.self.lines.items (log_of c.args.trace.now) calls lists here added
+          c.loop-thread.invariant.told;
       counted =
           let more = c.in_ok-play_list.ensures.count in
-          let most : length calls ≤ most_calls = rw c.deref.ensures.value (calls_within slices thread c.calls-item.result fits within c.calls-item.is) in
+          let most : length calls ≤ most_calls =
+          rw c.deref.ensures.value
+          (calls_within slices thread c.calls-item.result fits within c.calls-item.is) in
           omega arith;
       settings = c.in_ok-play_list.ensures.settings ∙ c.loop-thread.invariant.settings;
     }

@@ -1,3 +1,5 @@
+-- Proves the loop invariants of `play_with_progress`. The same log, of which each call is told as
+-- soon as it was made.
 use Rattle.std.proofs.Common.{◌≡◌, ◌*◌, ◌≤◌, ◌++◌, drop}
 use Rattle.tsc_trace.specs.Log.{log_of}
 use Rattle.tsc_trace.specs.Play.{Standing, played_lists}
@@ -10,7 +12,8 @@ invariant-loop-thread g l =
     record {
       at : Standing;
       stands : StandsAt l.player l.trace.config at;
-      told : l.player.lines.items ++ played_lists l.trace.config l.thread at (drop l.thread l.trace.threads) ≡ log_of l.trace;
+      told : l.player.lines.items ++
+          played_lists l.trace.config l.thread at (drop l.thread l.trace.threads) ≡ log_of l.trace;
       counted : l.player.adds ≤ l.thread * 65536;
       settings : l.player.cache.settings ≡ l.trace.config;
     }

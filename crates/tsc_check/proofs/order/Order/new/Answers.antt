@@ -13,4 +13,5 @@ returns c =
     let lookups = c.in_ok-vec-2.ensures.items_if_clones_equal (is_none _ (λ n h. absurd h)) in
     let reached = c.in_ok-vec-3.ensures.items_if_clones_equal (λ y e. e) in
     rw (adds, lookups, c.new.ensures.items, reached)
-    (none_placed c.args.lists c.args.lines.now c.requires.lists (c.count_adds-slots.result + 1) (ap (λ n. n + 1) c.count_adds-slots.ensures.value))
+    (none_placed c.args.lists c.args.lines.now c.requires.lists (c.count_adds-slots.result + 1)
+    (ap (λ n. n + 1) c.count_adds-slots.ensures.value))

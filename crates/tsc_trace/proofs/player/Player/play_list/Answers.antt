@@ -6,13 +6,28 @@ use Rattle.tsc_trace.proofs.player.Player.play_list.Goals as goal
 pub loop-index-preserved : goal.loop-index-preserved
 loop-index-preserved g c =
     let l = c.loop-index in
-    let lines : c.push.new.self.items ≡ l.self.lines.items ++ record { thread = c.args.thread; index = l.index; said = c.in_ok-said.said } ∷ []
-    = c.in_ok-push.ensures.items ∙ ap (λ ls. ls.items ++ record { thread = c.args.thread; index = l.index; said = c.in_ok-said.said } ∷ []) c.answer.ensures.lines in
+    let lines : c.push.new.self.items ≡ l.self.lines.items ++
+    record { thread = c.args.thread; index = l.index; said = c.in_ok-said.said } ∷ []
+    = c.in_ok-push.ensures.items ∙
+    ap (λ ls. ls.items ++ record {
+      thread = c.args.thread;
+      index = l.index;
+      said = c.in_ok-said.said;
+    } ∷ []) c.answer.ensures.lines in
     record {
       under_way = λ settings from stands.
-          one_more_call c.args.self.now l.self (record { cache = c.answer.new.self.cache; adds = c.answer.new.self.adds; lines = c.push.new.self })
-          settings c.args.thread l.index c.args.calls.now c.index-calls-index.result c.in_ok-said.said from (omega arith) c.index-calls-index.is
-          (λ s a k. c.in_ok-said.ensures.said s a k) (λ s a k. let t = c.in_ok-said.ensures.stands s a k in record { state = t.state; adds = t.adds }) lines (l.invariant.under_way settings from stands);
+          one_more_call c.args.self.now l.self
+          (record {
+            cache = c.answer.new.self.cache;
+            adds = c.answer.new.self.adds;
+            lines = c.push.new.self;
+          })
+          settings c.args.thread l.index c.args.calls.now c.index-calls-index.result
+          c.in_ok-said.said from (omega arith) c.index-calls-index.is
+          (λ s a k. c.in_ok-said.ensures.said s a k)
+          (λ s a k. let t = c.in_ok-said.ensures.stands s a k
+          in record { state = t.state; adds = t.adds }) lines
+          (l.invariant.under_way settings from stands);
       counted = omega (arith, c.in_ok-said.ensures.count, l.invariant.counted);
       settings = c.in_ok-said.ensures.settings ∙ l.invariant.settings;
     }
@@ -20,9 +35,11 @@ loop-index-preserved g c =
 pub returns-clause-lines : goal.returns-clause-lines
 returns-clause-lines g c = λ settings from stands.
     let l = c.loop-index in
-    all_told c.args.self.now l.self settings c.args.thread l.index c.args.calls.now from (omega arith) (l.invariant.under_way settings from stands)
+    all_told c.args.self.now l.self settings c.args.thread l.index c.args.calls.now from
+    (omega arith) (l.invariant.under_way settings from stands)
 
 pub returns-clause-stands : goal.returns-clause-stands
 returns-clause-stands g c = λ settings from stands.
     let l = c.loop-index in
-    all_made c.args.self.now l.self settings c.args.thread l.index c.args.calls.now from (omega arith) (l.invariant.under_way settings from stands)
+    all_made c.args.self.now l.self settings c.args.thread l.index c.args.calls.now from
+    (omega arith) (l.invariant.under_way settings from stands)

@@ -1,3 +1,4 @@
+-- Proves the contract of `Printer::put_word`. Puts a word before the text.
 use Rattle.std.proofs.Common.{arith}
 use Rattle.tsc_trace.proofs.Printing.{end_length}
 use Rattle.tsc_trace.proofs.printer.Printer.put_word.Goals as goal

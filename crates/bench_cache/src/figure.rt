@@ -1,0 +1,212 @@
+//! What operations took, and how it is printed.
+use std::fmt;
+use std::time::{Clock, Instant};
+
+/// What operations took.
+#[derive(Clone, Copy)]
+pub struct Figure {
+    /// How many there were.
+    pub operations: u64,
+    /// The nanoseconds that all took together.
+    pub nanoseconds: u64,
+}
+
+impl Figure {
+    /// What nothing took.
+    pub const NONE: Figure = Figure {
+        operations: 0,
+        nanoseconds: 0,
+    };
+
+    /// The number of operations, and what they took from a moment until now.
+    pub fn since(rt: &HostRuntime, start: Instant, operations: u64) -> Option<Figure> {
+        let nanoseconds = u64::try_from(start.elapsed(rt).ok()?.as_nanos()).ok()?;
+        Some(Figure {
+            operations,
+            nanoseconds,
+        })
+    }
+
+    /// What both took together.
+    pub fn and(self, other: Figure) -> Figure {
+        Figure {
+            operations: self.operations.saturating_add(other.operations),
+            nanoseconds: self.nanoseconds.saturating_add(other.nanoseconds),
+        }
+    }
+
+    /// The same, where there are both.
+    pub fn of_both(one: Option<Figure>, other: Option<Figure>) -> Option<Figure> {
+        match (one, other) {
+            (Some(one), Some(other)) => Some(one.and(other)),
+            _ => None,
+        }
+    }
+
+    /// The one of the same operations in which they took less, or the other one where there is none
+    /// so far.
+    pub fn or_less(self, other: Figure) -> Figure {
+        if self.operations == 0 || other.nanoseconds < self.nanoseconds {
+            other
+        } else {
+            self
+        }
+    }
+
+    /// The nanoseconds that one took.
+    pub fn each(self) -> u64 {
+        self.nanoseconds / self.operations.max(1)
+    }
+
+    /// How many were made in a second.
+    pub fn per_second(self) -> u64 {
+        self.operations.saturating_mul(1_000_000_000) / self.nanoseconds.max(1)
+    }
+
+    /// What one took as a percentage of what another one took, to the nearest.
+    pub fn percent_of(self, other: Figure) -> u64 {
+        let one = other.each().max(1);
+        self.each().saturating_mul(100).saturating_add(one / 2) / one
+    }
+}
+
+/// What calls took of which each was timed by itself: nanoseconds, the least first.
+#[derive(Drop)]
+pub struct Times {
+    nanoseconds: Vec<u64>,
+}
+
+impl Times {
+    /// Those of calls in any order.
+    pub fn of(mut nanoseconds: Vec<u64>) -> Times {
+        nanoseconds.sort_unstable();
+        Times { nanoseconds }
+    }
+
+    /// How many calls there were.
+    pub fn count(&self) -> usize {
+        self.nanoseconds.len()
+    }
+
+    /// The nanoseconds that so many of 1,000 calls did not take.
+    pub fn behind(&self, thousandths: usize) -> u64 {
+        let place = self.nanoseconds.len().saturating_mul(thousandths) / 1000;
+        match self.nanoseconds.get(place) {
+            Some(nanoseconds) => *nanoseconds,
+            None => self.longest(),
+        }
+    }
+
+    /// Those of the call that took longest.
+    pub fn longest(&self) -> u64 {
+        match self.nanoseconds.last() {
+            Some(nanoseconds) => *nanoseconds,
+            None => 0,
+        }
+    }
+
+    /// Those that a call took on the average.
+    pub fn each(&self) -> u64 {
+        let mut all: u64 = 0;
+        for nanoseconds in &self.nanoseconds {
+            all = all.saturating_add(*nanoseconds);
+        }
+        all / (self.nanoseconds.len() as u64).max(1)
+    }
+}
+
+/// The figures of some rows, of which each is an operation.
+pub type Least = [Figure; 13];
+
+/// The least figures of no turns.
+pub const NO_TURNS: Least = [Figure::NONE; 13];
+
+/// What is told of operations.
+#[derive(Clone, Copy)]
+pub enum Tells {
+    /// How many they are.
+    Count,
+    /// The nanoseconds of one operation.
+    Each,
+    /// The nanoseconds of one operation as a percentage of another figure.
+    Beside,
+    /// The nanoseconds of one alone.
+    Time,
+    /// The percentage alone.
+    Percent,
+}
+
+/// The names of operations in the order of their rows. With each stands the row of the one that it
+/// is compared with.
+pub type Names = &'static [(&'static str, usize)];
+
+/// Prints a line for each operation. Gives `None` where that is refused.
+pub fn print_lines(
+    rt: &HostRuntime,
+    head: &str,
+    tells: Tells,
+    names: Names,
+    least: &Least,
+    others: &Least,
+) -> Option<()> {
+    for (row, (name, beside)) in names.iter().enumerate() {
+        let figure = figure_at(least, row);
+        let (operations, each) = (figure.operations, figure.each());
+        let percent = figure.percent_of(figure_at(others, *beside));
+        let told = match tells {
+            Tells::Count => println!(rt; "{head}, {name}: {operations} operations"),
+            Tells::Each => println!(rt; "{head}, {name}: {operations} operations, {each} ns each"),
+            Tells::Beside => {
+                println!(rt; "{head}, {name}: {operations} operations, {each} ns each, {percent} %")
+            }
+            Tells::Time => println!(rt; "{head}, {name}: {each} ns"),
+            Tells::Percent => println!(rt; "{head}, {name}: {percent} %"),
+        };
+        told.ok()?;
+    }
+    Some(())
+}
+
+/// The figure of a row.
+fn figure_at(least: &Least, row: usize) -> Figure {
+    match least.get(row) {
+        Some(figure) => *figure,
+        None => Figure::NONE,
+    }
+}
+
+/// In how many rounds all is measured. The figure of an operation is the least of them, since what
+/// else the machine has to do only adds to a round.
+pub const ROUNDS: u32 = 9;
+
+/// What each of [`ROUNDS`] rounds came to.
+pub type Rounds = [u64; 9];
+
+/// What rounds came to. The one in the middle is what counts: what else the machine has to do moves
+/// the others.
+#[derive(Clone, Copy)]
+pub struct Spread {
+    least: u64,
+    /// The round in the middle.
+    pub median: u64,
+    greatest: u64,
+}
+
+impl Spread {
+    /// The spread of rounds in any order.
+    pub fn of(mut rounds: Rounds) -> Spread {
+        rounds.sort_unstable();
+        Spread {
+            least: rounds[0],
+            median: rounds[4],
+            greatest: rounds[8],
+        }
+    }
+}
+
+impl fmt::Display for Spread {
+    fn fmt<W: fmt::Write>(&self, f: &mut fmt::Formatter<W>) -> fmt::Result {
+        let (least, median, greatest) = (self.least, self.median, self.greatest);
+        write!(f, "{median} ({least} to {greatest})")
+    }
+}

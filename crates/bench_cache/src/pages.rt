@@ -1,0 +1,92 @@
+//! What is measured on a page.
+use crate::figure::{Least, ROUNDS};
+use crate::keys::{At, Keys};
+use crate::turns::{Board, Call, Course, LATE};
+use tsc_page::{IntervalPage, Page};
+use tsc_time::Timestamp;
+
+/// The operations on a page, in the order of their rows, each with its row.
+pub static PAGE_OPERATIONS: [(&str, usize); 13] = [
+    ("add of a new key", 0),
+    ("lookup of a key", 1),
+    ("lookup of 16 nodes", 2),
+    ("lookup of 1,000 nodes", 3),
+    ("lookup of the whole page", 4),
+    ("add of a key", 5),
+    ("add of 16 nodes", 6),
+    ("add of 1,000 nodes", 7),
+    ("add of the whole page", 8),
+    ("next with a key", 9),
+    ("next with a new key", 10),
+    ("lookup of a key by its bytes", 11),
+    ("lookup of a key that is copied first", 12),
+];
+
+/// Adds of all keys, and then late ones to copies of the page, which share all else with it, and
+/// are then dropped.
+static FILL: Course = Course {
+    steps: &[
+        (0, Call::Add, At::All),
+        (10, Call::Next, At::Between),
+        (9, Call::Next, At::Some),
+    ],
+    apart: LATE,
+    ..Course::RISING
+};
+
+/// Lookups and Adds. Each Add is later than all that is there.
+static TURN: Course = Course {
+    steps: &[
+        (1, Call::Lookup, At::Keys),
+        (2, Call::Lookup, At::Ranges),
+        (3, Call::Lookup, At::Wide),
+        (4, Call::Lookup, At::Whole),
+        (5, Call::Add, At::Keys),
+        (6, Call::Add, At::Ranges),
+        (7, Call::Add, At::Wide),
+        (8, Call::Add, At::Whole),
+    ],
+    first: LATE,
+    apart: 1024,
+    lift: 8192,
+    ..Course::RISING
+};
+
+/// Lookups of the keys by their bytes, and by copies of these, in turns of their own, in which
+/// nothing else is done.
+static BY_BYTES: Course = Course {
+    steps: &[
+        (11, Call::LookupByBytes, At::Keys),
+        (12, Call::LookupByCopy, At::Keys),
+    ],
+    ..Course::RISING
+};
+
+/// Measures pages of keys with so many bytes before the 8 that differ, in [`ROUNDS`] rounds.
+pub fn measure_page(rt: &HostRuntime, nodes: u32, prefix: u32, turns: u32) -> Option<Least> {
+    let here = Keys {
+        prefix,
+        ..Keys::new(nodes, 0)
+    };
+    let mut board = Board::new(here.places(rt.alloc())?);
+    let mut is_done = true;
+    for _ in 0..ROUNDS {
+        is_done = is_done && measure_round(rt, here, turns, &mut board);
+    }
+    board.end(is_done)
+}
+
+/// Makes a page, which has room for one more key than it gets, fills it with nodes, and then makes
+/// each operation at its places in each of so many turns. Tells whether the page has all of the
+/// nodes.
+fn measure_round(rt: &HostRuntime, here: Keys, turns: u32, board: &mut Board) -> bool {
+    let nodes = here.nodes.saturating_add(1);
+    let size = Keys { nodes, ..here }.page_size();
+    let Ok(mut page) = Page::new(rt.alloc(), size, Timestamp::ZERO) else {
+        return false;
+    };
+    board.go(rt, &FILL, 1, &mut page);
+    board.go(rt, &TURN, turns, &mut page);
+    board.go(rt, &BY_BYTES, turns, &mut page);
+    page.nodes() == here.nodes
+}

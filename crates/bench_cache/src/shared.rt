@@ -1,0 +1,143 @@
+//! Seats of a shared cache, each in a thread of its own.
+ghost use Rattle.std.specs.Prelude.{◌≡◌, IfSome, All};
+
+use crate::caches::{MARKS, filled, marks_on};
+use crate::calls::{Seated, Trial, Work};
+use crate::figure::{Figure, Times};
+use crate::keys::{Keys, PLACES};
+use crate::subject::value_at;
+use std::alloc::Global;
+use std::sync::Wait;
+use std::thread::{Threads, map_vec};
+use std::time::Instant;
+use tsc_cache::Config;
+use tsc_shared::{Seat, SharedCache};
+use tsc_span::Span;
+use tsc_time::Timestamp;
+
+/// What the calls of all seats took in one round, and those among them that were timed by
+/// themselves.
+pub fn by_seats<R: Threads + Wait + Sync>(
+    host: &HostRuntime,
+    rt: &R,
+    trial: Trial,
+) -> Option<(Figure, Times)> {
+    let spans = spans_of(host.alloc(), trial)?;
+    let (shared, seats) = open_filled(host, rt, trial)?;
+    call_all(host, rt, &shared, seats, &spans, trial)
+}
+
+/// What as many calls took on one thread, to a cache of its own.
+pub fn by_one(rt: &HostRuntime, trial: Trial) -> Option<Figure> {
+    let spans = spans_of(rt.alloc(), trial)?;
+    let mut cache = filled(rt.alloc(), trial.keys(), 1, false)?;
+    let start = Instant::now(rt).ok()?;
+    for _ in 0..trial.seats {
+        trial.make_all(&mut cache, &spans)?;
+    }
+    Figure::since(rt, start, trial.operations())
+}
+
+/// The places of a trial's calls, or those of its marks.
+fn spans_of(alloc: Global, trial: Trial) -> Option<Vec<Span>> {
+    let count = match trial.work {
+        Work::Calls | Work::TimedAdds | Work::TimedLookups => PLACES,
+        Work::Marks | Work::Batches => MARKS,
+    };
+    trial.keys().spans(alloc, count, 0)
+}
+
+/// A shared cache with a full page, and the seats that are to make calls. The idle ones are
+/// dropped, which leaves their places in the cache.
+fn open_filled<R: Wait>(
+    host: &HostRuntime,
+    rt: &R,
+    trial: Trial,
+) -> Option<(SharedCache, Vec<Seat>)>
+    ensures { IfSome result (λ made. All (λ seat. seat.cache ≡ made.0) made.1.items) }
+{
+    let size = trial.keys().page_size();
+    let config = Config::new(size, size, 1, 0, Timestamp::ZERO).ok()?;
+    let number = trial.seats.saturating_add(trial.idle);
+    let Ok((shared, mut seats)) = SharedCache::open(host.alloc(), config, number, u64::MAX) else {
+        return None;
+    };
+    seats.truncate(trial.seats as usize);
+    let Some(mut filler) = seats.pop() else {
+        return None;
+    };
+    if !fill(host.alloc(), rt, &shared, &mut filler, trial.keys()) {
+        return None;
+    }
+    let Ok(()) = seats.push(filler) else {
+        return None;
+    };
+    Some((shared, seats))
+}
+
+/// Adds the keys of a page from the least on, and tells whether that was done.
+fn fill<R: Wait>(alloc: Global, rt: &R, shared: &SharedCache, seat: &mut Seat, keys: Keys) -> bool
+    requires { seat.old.cache ≡ shared.now }
+    ensures { seat.new.cache ≡ seat.old.cache }
+{
+    let value = value_at(1);
+    let mut is_full = true;
+    for place in 0..u64::from(keys.nodes) {
+        is_full = is_full
+            && match keys.span(alloc, place, 0) {
+                Some(span) => shared.add(rt, seat, &span, value, Timestamp::ZERO).is_ok(),
+                None => false,
+            };
+    }
+    is_full
+}
+
+/// Has each seat make its calls in a thread of its own, and tells what they took.
+fn call_all<R: Threads + Wait + Sync>(
+    host: &HostRuntime,
+    rt: &R,
+    shared: &SharedCache,
+    seats: Vec<Seat>,
+    spans: &[Span],
+    trial: Trial,
+) -> Option<(Figure, Times)>
+    requires { All (λ seat. seat.cache ≡ shared.now) seats.items }
+{
+    let start = Instant::now(host).ok()?;
+    let told = map_vec(
+        rt,
+        seats,
+        &|seat: Seat| -> Option<Vec<u64>>
+            requires { seat.cache ≡ shared.now }
+        { call_seat(host, rt, shared, seat, spans, trial) },
+    );
+    let figure = Figure::since(host, start, trial.operations())?;
+    let mut times = Vec::new(host.alloc());
+    for one in told.ok()? {
+        for nanoseconds in one? {
+            times.push(nanoseconds).ok()?;
+        }
+    }
+    Some((figure, Times::of(times)))
+}
+
+/// Makes the calls of a seat, and tells the nanoseconds of those that are timed. Tells nothing
+/// where one was refused, or where no value was met.
+fn call_seat<R: Wait>(
+    host: &HostRuntime,
+    rt: &R,
+    shared: &SharedCache,
+    seat: Seat,
+    spans: &[Span],
+    trial: Trial,
+) -> Option<Vec<u64>>
+    requires { seat.cache ≡ shared.now }
+{
+    let mut seated = Seated { rt, shared, seat };
+    match trial.work {
+        Work::Calls => trial.make_all(&mut seated, spans)?,
+        Work::TimedAdds | Work::TimedLookups => return trial.time_all(host, &mut seated, spans),
+        Work::Marks | Work::Batches => seated.add_often(&marks_on(host.alloc(), spans)?, trial)?,
+    }
+    Some(Vec::new(host.alloc()))
+}

@@ -1,0 +1,10 @@
+-- Proves the loop invariants of `ask_all`. The next holder is asked for all of them, and tells at
+-- which times these may be laid down, in their order.
+use Rattle.std.proofs.Common.{drop}
+use Rattle.example_hand_over.specs.Answered.{IsPushed}
+use Rattle.example_hand_over.proofs.Rows.{IsPartWay}
+use Rattle.example_hand_over.proofs.ask_all.Given as goal
+
+abbrev pub invariant-loop-write : goal.invariant-loop-write
+invariant-loop-write g l = IsPartWay (IsPushed g.F.Former.cache g.F.Former.range)
+    l.fn.tables.writes.now l.all.items (drop l.write-index l.fn.tables.writes.now)

@@ -1,0 +1,14 @@
+-- Proves the contract of `ask_on`. The same question, where this is the span of its key.
+use Rattle.std.proofs.Common.{rules}
+use Rattle.timestamp_cache.specs.Words.{Time, cache_answer}
+use Rattle.timestamp_cache.specs.Clear.{IsClearOf}
+use Rattle.example_hand_over.proofs.Answered.{pushed_row}
+use Rattle.example_hand_over.proofs.ask_on.Goals as goal
+
+pub returns : goal.returns
+returns g c =
+    pushed_row g.F.Former.cache g.F.Former.range c.args.write.now c.args.span.now c.in_ok-told.told
+    c.id_of.result c.at.result c.write-told.result
+    (λ (t : Time). IsClearOf (cache_answer c.args.next.now.cache c.args.span.now) c.id_of.result t)
+    c.requires c.id_of.ensures c.at.ensures (search rules) c.write-told.ensures.former
+    c.write-told.ensures.pushed

@@ -1,0 +1,14 @@
+-- Proves the contract of `read`. A holder answers a read.
+use Rattle.std.proofs.Common.{subst}
+use Rattle.timestamp_cache.specs.Words.{OwnedTime}
+use Rattle.example_hand_over.specs.FormerReads.{AnswersOneMore, read_of}
+use Rattle.example_hand_over.proofs.Handing.{one_more}
+use Rattle.example_hand_over.proofs.lease.read.Goals as goal
+
+pub returns : goal.returns
+returns c =
+    let cache = c.args.cache.now in
+    let span = c.args.span.now in
+    subst (λ (read : OwnedTime). AnswersOneMore cache c.add.new.self span read c.args.at)
+    {y = read_of c.args.at c.args.by} c.of.ensures
+    (one_more cache c.add.new.self span c.of.result c.args.at c.in_ok-add.ensures.stands)

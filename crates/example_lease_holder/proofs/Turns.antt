@@ -1,0 +1,233 @@
+-- What became of each of a list.
+use Rattle.std.proofs.Common.{◌≡◌, ◌∙◌, ap, sym, refl, subst, ℕ, zero, suc, ◌+◌, ◌<◌, ◌≤◌, drop, List, [], ◌∷◌, ◌++◌, append_assoc, append-nil, Bor, length, slice_index_or, arith}
+use Rattle.std.specs.Prelude.{Result, Ok, Err, IfOk, Option, IsSomeAnd}
+use Rattle.std.specs.List.{AllZip}
+use Rattle.timestamp_cache.specs.Words.{Time, History, BeginsWith, SeatView}
+use Rattle.example_lease_holder.specs.declared.Plan.{Plan}
+use Rattle.example_lease_holder.specs.declared.Served.{Served}
+use Rattle.example_lease_holder.specs.declared.Turn.{Turn}
+use Rattle.example_lease_holder.specs.declared.Worker.{Worker}
+use Rattle.example_lease_holder.specs.declared.lease.Range.{Ghosts}
+use Rattle.example_lease_holder.specs.declared.lease.RangeSeat.{RangeSeat}
+use Rattle.example_lease_holder.specs.declared.Turn.TheVariants.{Read, Write}
+use Rattle.example_lease_holder.specs.Plans.{HasReadsOf, MayWriteAt}
+use Rattle.example_lease_holder.specs.Reads.{since}
+use Rattle.example_lease_holder.specs.Turns.{IsNew, HasTaken, HasSpoken, HasTold, HasServed, IsLeftOf, WasServed}
+use Rattle.example_lease_holder.proofs.Since.{since_there}
+
+-- what follows from two facts on what a call gives
+pub if_both : {A E : Type 0} (P Q R : A → Type 0) (r : Result A E) → IfOk r P → IfOk r Q →
+    ((a : A) → P a → Q a → R a) → IfOk r R
+if_both P Q R (Ok a) p q fits = fits a p q
+if_both P Q R (Err e) p q fits = tt
+
+-- what holds at each place holds of the two lists
+pub at_each_place : {A B : Type 0} (P : A → B → Type 0) (xs : List A) (ys : List B) →
+    length ys ≡ length xs
+    → ((i : ℕ) (d : A) (e : B) → i < length xs → P (slice_index_or xs i d) (slice_index_or ys i e))
+    → AllZip P xs ys
+at_each_place P [] [] long each = tt
+at_each_place P [] (y ∷ ys) long each = absurd (omega (arith, long))
+at_each_place P (x ∷ xs) [] long each = absurd (omega (arith, long))
+at_each_place P (x ∷ xs) (y ∷ ys) long each = (
+  each 0 x y (omega arith),
+  at_each_place P xs ys (omega (arith, long))
+      (λ i d e below. each (suc i) d e (omega (arith, below))),
+)
+
+-- what holds of two by one between them
+pub record By {A B C : Type 0} (R : A → B → Type 0) (S : B → C → Type 0) (x : A) (z : C) : Type
+    0 where
+  pub middle : B
+  pub first : R x middle
+  pub second : S middle z
+
+pub zip_on : {A B C : Type 0} (R : A → B → Type 0) (S : B → C → Type 0) (xs : List A) (ys : List B)
+    (zs : List C) → AllZip R xs ys → AllZip S ys zs → AllZip (By R S) xs zs
+zip_on R S [] [] [] r s = tt
+zip_on R S [] [] (z ∷ zs) r s = absurd s
+zip_on R S [] (y ∷ ys) zs r s = absurd r
+zip_on R S (x ∷ xs) [] zs r s = absurd r
+zip_on R S (x ∷ xs) (y ∷ ys) [] r s = absurd s
+zip_on R S (x ∷ xs) (y ∷ ys) (z ∷ zs) r s =
+    (record { middle = y; first = r.0; second = s.0 }, zip_on R S xs ys zs r.1 s.1)
+
+pub zip_as : {A B : Type 0} (R S : A → B → Type 0) (xs : List A) (ys : List B) →
+    ((x : A) (y : B) → R x y → S x y) → AllZip R xs ys → AllZip S xs ys
+zip_as R S [] [] fits r = tt
+zip_as R S [] (y ∷ ys) fits r = absurd r
+zip_as R S (x ∷ xs) [] fits r = absurd r
+zip_as R S (x ∷ xs) (y ∷ ys) fits r = (fits x y r.0, zip_as R S xs ys fits r.1)
+
+pub zip_push : {A B : Type 0} (R : A → B → Type 0) (xs : List A) (ys : List B) (x : A) (y : B) →
+    AllZip R xs ys → R x y → AllZip R (xs ++ x ∷ []) (ys ++ y ∷ [])
+zip_push R [] [] x y all last = (last, tt)
+zip_push R [] (b ∷ ys) x y all last = absurd all
+zip_push R (a ∷ xs) [] x y all last = absurd all
+zip_push R (a ∷ xs) (b ∷ ys) x y all last = (all.0, zip_push R xs ys x y all.1 last)
+
+-- of some of a list there is what was made of them, and the others are left
+pub record IsPartWay {A B : Type 0} (R : A → B → Type 0) (all : List A) (made : List B)
+    (left : List A) : Type 0 where
+  pub before : List A
+  pub parts : all ≡ before ++ left
+  pub first : AllZip R before made
+
+pub nothing_made : {A B : Type 0} (R : A → B → Type 0) (all : List A) (made : List B)
+    (left : List A) → made ≡ [] → left ≡ all → IsPartWay R all made left
+nothing_made {A} {B} R all made left is same =
+    record {
+      before = [];
+      parts = sym same;
+      first = subst (λ (ys : List B). AllZip R [] ys) (sym is) tt;
+    }
+
+pub one_more_made : {A B : Type 0} (R : A → B → Type 0) (all : List A) (made more : List B)
+    (left others : List A) (x : A) (y : B)
+    → IsPartWay R all made left → left ≡ x ∷ others → more ≡ made ++ y ∷ [] → R x y →
+    IsPartWay R all more others
+one_more_made {A} {B} R all made more left others x y way is last own = record {
+  before = way.before ++ x ∷ [];
+  parts = way.parts ∙ ap (λ (xs : List A). way.before ++ xs) is ∙
+      sym (append_assoc way.before (x ∷ []) others);
+  first = subst (λ (ys : List B). AllZip R (way.before ++ x ∷ []) ys) (sym last)
+      (zip_push R way.before made x y way.first own);
+}
+
+pub all_made : {A B : Type 0} (R : A → B → Type 0) (all : List A) (made : List B) (left : List A) →
+    IsPartWay R all made left → length left ≡ 0 → AllZip R all made
+all_made {A} {B} R all made [] way is =
+    subst (λ (xs : List A). AllZip R xs made) (sym (way.parts ∙ append-nil way.before)) way.first
+all_made {A} {B} R all made (x ∷ left) way is = absurd (omega (arith, is))
+
+-- what is left at a place is what stands there, and what is left after it
+left_behind : {A : Type 0} (xs : List A) (n : ℕ) (d : A) → n < length xs →
+    drop n xs ≡ slice_index_or xs n d ∷ drop (suc n) xs
+left_behind [] n d below = absurd (omega (arith, below))
+left_behind (x ∷ xs) zero d below = refl
+left_behind (x ∷ xs) (suc n) d below = left_behind xs n d (omega (arith, below))
+
+pub left_at : {A : Type 0} (xs : List A) (n : ℕ) (d : A) → n < length xs →
+    drop n xs ≡ slice_index_or xs n d ∷ drop (n + 1) xs
+left_at {A} xs n d below =
+    let next : suc n ≡ n + 1 = omega arith in
+    subst (λ (k : ℕ). drop n xs ≡ slice_index_or xs n d ∷ drop k xs) next (left_behind xs n d below)
+
+pub none_left : {A : Type 0} (xs : List A) (n : ℕ) → length xs ≤ n → length (drop n xs) ≡ 0
+none_left [] zero over = refl
+none_left [] (suc n) over = refl
+none_left (x ∷ xs) zero over = absurd (omega (arith, over))
+none_left (x ∷ xs) (suc n) over = none_left xs n (omega (arith, over))
+
+-- a worker that has taken a turn still has where what it is to tell is another
+pub still_taken : {X : Type 0} {G : Ghosts X} (turn : Turn) (old next new : Worker X G) →
+    new.me ≡ next.me → new.plan ≡ next.plan → new.wrote ≡ next.wrote → HasTaken turn old next →
+    HasTaken turn old new
+still_taken {X} {G} turn old next new me plan wrote taken =
+    let seen : new.me.seat.seen ≡ next.me.seat.seen = ap (λ (m : RangeSeat X G). m.seat.seen) me in
+    record {
+      plan = plan ∙ taken.plan;
+      begins = subst (λ (h : History). BeginsWith h old.me.seat.seen) (sym seen) taken.begins;
+      reads = λ is. record {
+        reads = subst (λ (h : History). HasReadsOf new.plan.now (since old.me.seat.seen h))
+            (sym seen)
+            (subst (λ (p : Bor Plan). HasReadsOf p.now (since old.me.seat.seen next.me.seat.seen))
+            (sym plan) (taken.reads is).reads);
+        wrote = wrote ∙ (taken.reads is).wrote;
+      };
+      writes = λ is. subst (λ (w : Option Time). IsSomeAnd w
+          (λ at. MayWriteAt new.plan.now new.me.seat.seen at)) (sym wrote)
+          (subst (λ (h : History). IsSomeAnd next.wrote (λ at. MayWriteAt new.plan.now h at))
+          (sym seen)
+          (subst (λ (p : Bor Plan). IsSomeAnd next.wrote
+          (λ at. MayWriteAt p.now next.me.seat.seen at)) (sym plan) (taken.writes is)));
+    }
+
+-- and so of all that have told what they had to tell
+pub have_told : {X E : Type 0} {G : Ghosts X} (turn : Turn) (workers after : List (Worker X G))
+    (ended : List (Result (Worker X G) E))
+    → AllZip (λ worker end. IfOk end (HasTaken turn worker)) workers ended →
+    AllZip HasSpoken ended after → AllZip (HasTold turn) workers after
+have_told {X} {E} {G} turn workers after ended taken spoken =
+    let T = λ (worker : Worker X G) (end : Result (Worker X G) E). IfOk end
+    (HasTaken turn worker) in
+    let S = HasSpoken {X = X} {E = E} {G = G} in
+    zip_as (By T S) (HasTold turn) workers after (λ old new w.
+    let next = w.second.worker in
+    let own : HasTaken turn old next =
+    subst (λ (end : Result (Worker X G) E). IfOk end (HasTaken turn old)) w.second.through
+    w.first in
+    record {
+      taken = still_taken turn old next new w.second.me w.second.plan w.second.wrote own;
+      told = w.second.told;
+    })
+    (zip_on T S workers ended after taken spoken)
+
+-- what a worker's plan says of what its seat has seen since it was that of another one, each read
+-- of it is there
+pub reads_there : {X : Type 0} {G : Ghosts X} (old new : Worker X G) → HasTaken Read old new →
+    HasReadsOf new.plan.now new.me.seat.seen
+reads_there old new taken k d below =
+    since_there _ new.me.seat.seen old.me.seat.seen _ taken.begins
+    ((taken.reads refl).reads k d below)
+
+-- A worker of a plan that has read, written and read again served it.
+pub served : {X : Type 0} {G : Ghosts X} (plan : Plan) (start again : Worker X G) (left : Served) →
+    IsNew plan start → HasServed start again → IsLeftOf again left → WasServed plan left
+served {X} {G} plan start again left new turns leaves =
+    let first = turns.first in
+    let then = turns.then in
+    let reads = turns.reads.taken in
+    let writes = turns.writes.taken in
+    let rereads = turns.again.taken in
+    let of_first : first.plan.now ≡ plan = ap (λ (p : Bor Plan). p.now) reads.plan ∙ new.own in
+    let of_then : then.plan.now ≡ plan = ap (λ (p : Bor Plan). p.now) writes.plan ∙ of_first in
+    let of_again : again.plan.now ≡ plan = ap (λ (p : Bor Plan). p.now) rereads.plan ∙ of_then in
+    let wrote : left.wrote ≡ then.wrote = leaves.wrote ∙ (rereads.reads refl).wrote in
+    let seen : left.seat.seen ≡ again.me.seat.seen = ap (λ (s : SeatView). s.seen) leaves.seat in
+    record {
+      own = ap (λ (p : Bor Plan). p.now) leaves.plan ∙ of_again;
+      first = first.me.seat.seen;
+      then = then.me.seat.seen;
+      reads = subst (λ (p : Plan). HasReadsOf p first.me.seat.seen) of_first
+          (reads_there start first reads);
+      onward = writes.begins;
+      writes = subst (λ (w : Option Time). IsSomeAnd w (λ at. MayWriteAt plan then.me.seat.seen at))
+          (sym wrote)
+          (subst (λ (p : Plan). IsSomeAnd then.wrote (λ at. MayWriteAt p then.me.seat.seen at))
+          of_then (writes.writes refl));
+      begins = subst (λ (h : History). BeginsWith h then.me.seat.seen) (sym seen) rereads.begins;
+      again = subst (λ (h : History). HasReadsOf plan (since then.me.seat.seen h)) (sym seen)
+          (subst (λ (p : Plan). HasReadsOf p (since then.me.seat.seen again.me.seat.seen)) of_again
+          (rereads.reads refl).reads);
+    }
+
+-- what three turns make of all workers
+pub turns_taken : {X : Type 0} {G : Ghosts X} (start first then again : List (Worker X G)) →
+    AllZip (HasTold Read) start first → AllZip (HasTold Write) first then →
+    AllZip (HasTold Read) then again
+    → AllZip HasServed start again
+turns_taken {X} {G} start first then again reads writes rereads =
+    let R = HasTold {X = X} {G = G} Read in
+    let W = HasTold {X = X} {G = G} Write in
+    zip_as (By (By R W) R) HasServed start again
+    (λ a b w. record {
+      first = w.first.middle;
+      then = w.middle;
+      reads = w.first.first;
+      writes = w.first.second;
+      again = w.second;
+    })
+    (zip_on (By R W) R start then again (zip_on R W start first then reads writes) rereads)
+
+-- and so each plan was served
+pub all_served : {X : Type 0} {G : Ghosts X} (plans : List Plan) (start again : List (Worker X G))
+    (left : List Served) → AllZip IsNew plans start → AllZip HasServed start again
+    → AllZip IsLeftOf again left → AllZip WasServed plans left
+all_served {X} {G} plans start again left new turns leaves =
+    let N = IsNew {X = X} {G = G} in
+    let S = HasServed {X = X} {G = G} in
+    let L = IsLeftOf {X = X} {G = G} in
+    zip_as (By (By N S) L) WasServed plans left
+    (λ plan l w. served plan w.first.middle w.middle l w.first.first w.first.second w.second)
+    (zip_on (By N S) L plans again left (zip_on N S plans start again new turns) leaves)

@@ -1,0 +1,14 @@
+-- Of one span a seat is told as by one lookup.
+use Rattle.std.proofs.Common.{List, subst}
+use Rattle.timestamp_cache.specs.Words.{Interval}
+use Rattle.timestamp_cache.specs.Clear.{AsksInTurn}
+use Rattle.timestamp_cache.proofs.AskingAll.{asked_of_one}
+use Rattle.example_lease_holder.proofs.lease.Lease.earliest.Goals as goal
+
+pub returns : goal.returns
+returns g c =
+    let me = c.args.me.now.seat in
+    let span = c.args.held.now.span in
+    asked_of_one me c.earliest_write_at.new.seat span c.args.by c.args.wanted c.in-Ok.told
+    (subst (λ (spans : List Interval). AsksInTurn c.args.by me c.earliest_write_at.new.seat spans
+    c.args.wanted c.in-Ok.told) c.from_ref-spans.ensures.value c.in-Ok.ensures.asked.in_turn)

@@ -1,0 +1,36 @@
+-- Proves the contract of `Lease::read`. Reads a key at a time, while its latch is held.
+use Rattle.std.proofs.Common.{subst}
+use Rattle.std.specs.Prelude.{is_ok}
+use Rattle.timestamp_cache.specs.Words.{OwnedTime}
+use Rattle.example_lease_holder.specs.Reads.{HasRead, read_of, since}
+use Rattle.example_lease_holder.proofs.Carried.{added_since, handed_on, kept_or_not, one_more}
+use Rattle.example_lease_holder.proofs.lease.Lease.read.Goals as goal
+
+pub invariant_of-held : goal.invariant_of-held
+invariant_of-held g c =
+    let held = c.leave.new.held in
+    let more =
+    handed_on c.args.me.now.seat c.add.new.seat c.args.held.now.span held.span c.of-read.result
+    c.args.at c.in_ok-receipt.receipt held.handed.seat.seen held.answered.items
+    c.leave.ensures.same.0 c.in_ok-receipt.ensures.accepted held.whole c.leave.ensures.learned
+    held.added in
+    record {
+      whole = held.whole;
+      added = kept_or_not (HasRead held.span held.handed.seat.seen) held.answered.items
+          c.push.new.self.items c.of-read.result (is_ok c.push.result) c.push.ensures.items
+          held.added more;
+    }
+
+pub returns-in-Ok-clause-added : goal.returns-in-Ok-clause-added
+returns-in-Ok-clause-added g c =
+    let held = c.args.held.now in
+    subst (λ (read : OwnedTime). HasRead held.span
+    (since c.args.me.now.seat.seen c.add.new.seat.seen) read) {y = read_of c.args.at c.args.by}
+    c.of-read.ensures
+    (added_since c.args.me.now.seat c.add.new.seat held.span c.of-read.result c.args.at
+    c.in_ok-receipt.receipt c.in_ok-receipt.ensures.accepted held.whole)
+
+pub returns-in-Ok-clause-answered : goal.returns-in-Ok-clause-answered
+returns-in-Ok-clause-answered g c =
+    one_more c.args.held.now.answered.items c.leave.new.held.answered.items c.push.new.self.items
+    c.of-read.result _ c.in-Ok.ensures.items c.leave.ensures.same.2 c.of-read.ensures

@@ -1,7 +1,0 @@
-use Rattle.std.proofs.Common.{subst}
-use Rattle.timestamp_cache.specs.Words.{CacheView}
-use Rattle.hand_over.specs.FormerReads.{TellsOfCache}
-use Rattle.hand_over.proofs.next_of.Goals as goal
-
-pub take_over-requires-clause-tells : goal.take_over-requires-clause-tells
-take_over-requires-clause-tells g c = subst (λ (cache : CacheView). TellsOfCache cache c.in_ok-told.told) c.requires.cache c.in_ok-told.ensures.answers

@@ -1,5 +1,0 @@
-use Rattle.std.proofs.Common.{sym}
-use Rattle.hand_over.proofs.range_read_line.Goals as goal
-
-pub returns : goal.returns
-returns c = rw (sym c.at.ensures) c.format.ensures.ok

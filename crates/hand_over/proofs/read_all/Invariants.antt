@@ -1,6 +1,0 @@
-use Rattle.std.proofs.Common.{drop}
-use Rattle.hand_over.proofs.Answered.{IsAnswering}
-use Rattle.hand_over.proofs.read_all.Given as goal
-
-abbrev pub invariant-loop-row : goal.invariant-loop-row
-invariant-loop-row g l = IsAnswering l.initial.cache l.fn.reads l.cache (drop l.row-index l.fn.reads)

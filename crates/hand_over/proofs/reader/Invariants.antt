@@ -1,7 +1,0 @@
-use Rattle.std.proofs.Common.{◌≡◌, drop}
-use Rattle.hand_over.specs.Texts.{reader}
-use Rattle.hand_over.proofs.reader.Given as goal
-
--- The first one among those that are left is the first one of all.
-abbrev pub invariant-loop-read : goal.invariant-loop-read
-invariant-loop-read l = reader l.answer.owner (drop l.read-index l.reads) ≡ reader l.answer.owner l.reads

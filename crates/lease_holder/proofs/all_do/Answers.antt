@@ -1,7 +1,0 @@
-use Rattle.std.proofs.lemmas.Result.{IfOk-weaker}
-use Rattle.lease_holder.proofs.Turns.{have_told}
-use Rattle.lease_holder.proofs.all_do.Goals as goal
-
-pub returns : goal.returns
-returns g c =
-    IfOk-weaker c.all_tell.result _ _ (λ after spoken. have_told c.args.turn c.args.workers.items after.items c.in_ok-ended.ended.items c.in_ok-ended.ensures spoken) c.all_tell.ensures

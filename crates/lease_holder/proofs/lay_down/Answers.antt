@@ -1,7 +1,0 @@
-use Rattle.lease_holder.proofs.Plans.{may_write_told}
-use Rattle.lease_holder.proofs.lay_down.Goals as goal
-
-pub returns-clause-clear : goal.returns-clause-clear
-returns-clause-clear g c =
-    may_write_told c.write_key.result c.args.plan.now c.write_key.new.me.seat.seen c.id_of.result c.at.result c.id_of.ensures.value c.at.ensures
-    c.write_key.ensures.from_on c.write_key.ensures.clear

@@ -1,7 +1,0 @@
-use Rattle.std.proofs.Common.{rules}
-use Rattle.lease_holder.proofs.Plans.{clear_at}
-use Rattle.lease_holder.proofs.lease.Lease.write_key.Goals as goal
-
-pub returns-clause-clear : goal.returns-clause-clear
-returns-clause-clear g c =
-    clear_at c.write.new.me.seat.seen c.deref_mut.result.now.span c.args.key.now c.args.by c.in_ok-at.at c.in_ok-told.told (search rules) (search rules) c.in_ok-told.ensures.seen

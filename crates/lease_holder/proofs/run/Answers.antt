@@ -1,5 +1,0 @@
-use Rattle.lease_holder.proofs.Seats.{each_is_of}
-use Rattle.lease_holder.proofs.run.Goals as goal
-
-pub serve-requires-clause-seats : goal.serve-requires-clause-seats
-serve-requires-clause-seats g c κs outlives = each_is_of _ _ _ _ _ c.in_ok-cache.ensures.opened

@@ -1,0 +1,4 @@
+pub mod Limits
+pub mod Stream
+pub mod LimitedParts
+pub mod StreamLaws

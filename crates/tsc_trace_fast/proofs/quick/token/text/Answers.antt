@@ -1,0 +1,13 @@
+-- Proves the contract of `text`. A text.
+use Rattle.std.proofs.Common.{◌≡◌, ◌∷◌, arith}
+use Rattle.json.specs.Token.{Token}
+use Rattle.json.specs.Reads.{token_of}
+use Rattle.tsc_trace_fast.proofs.TokenLemmas.{string_reads}
+use Rattle.tsc_trace_fast.proofs.quick.token.text.Goals as goal
+
+pub returns-in-String : goal.returns-in-String
+returns-in-String c =
+    let first : c.args.reader.now ≡ token_of c.in_ok-text.field-0 ∷ c.next.new.self = grind arith in
+    let is : c.args.reader.now ≡ Token.string c.in-String.text.now ∷ c.next.new.self =
+    grind (arith, first) in
+    string_reads c.args.reader.now c.next.new.self c.in-String.text.now is

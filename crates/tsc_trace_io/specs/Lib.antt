@@ -1,4 +1,0 @@
-pub mod Limits
-pub mod Stream
-pub mod MeteredParts
-pub mod StreamLaws

@@ -1,6 +1,0 @@
-use Rattle.tsc_time.specs.OwnedTime.{owner_of}
-use Rattle.tsc_trace_json.proofs.BothParts.{both_gives}
-use Rattle.tsc_trace_json.proofs.read.batch.parts_of_mark.Goals as goal
-
-pub returns : goal.returns
-returns c = rw c.both.ensures (both_gives (λ x. x) owner_of c.span_and_time.result c.owner.result _ _ c.span_and_time.ensures (rw c.optional.ensures at c.owner.ensures))

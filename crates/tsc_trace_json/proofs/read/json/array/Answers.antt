@@ -1,7 +1,0 @@
-use Rattle.std.proofs.Common.{sym}
-use Rattle.serde_json.specs.View.{view}
-use Rattle.tsc_trace_json.proofs.Items.{array_is}
-use Rattle.tsc_trace_json.proofs.read.json.array.Goals as goal
-
-pub returns-in-Some : goal.returns-in-Some
-returns-in-Some c = rw c.as_slice.ensures.value (array_is (view c.args.value.now) _ (sym c.in-Some.ensures))

@@ -1,6 +1,0 @@
-use Rattle.std.proofs.Common.{map}
-use Rattle.tsc_trace_reader.proofs.Each.{threads_got}
-use Rattle.tsc_trace_reader.proofs.quick.head.threads.Goals as goal
-
-pub returns : goal.returns
-returns c = threads_got c.args.reader.now c.lists.new.reader (map (λ calls. calls.items) c.in_ok-lists.lists.items) c.new.result c.in_ok-lists.ensures c.new.ensures
