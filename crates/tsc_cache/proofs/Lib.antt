@@ -9,6 +9,7 @@ pub mod KeptMarks
 pub mod Beginnings
 pub mod Histories
 pub mod StatesSeen
+pub mod AddsSeen
 pub mod WithoutRotation
 pub mod MarkedFront
 pub mod Batches

@@ -1,11 +1,15 @@
--- What a page tells that was given one mark more in place.
-use Rattle.std.proofs.Common.{◌≡◌, cond, Bool, true, ◌||◌, ◌∷◌, []}
-use Rattle.std.specs.Prelude.{Result, Ok, Err, IfOk}
+-- What a page tells that was given one mark more: in place, or beside it.
+use Rattle.std.proofs.Common.{◌≡◌, ◌∙◌, ◌≤◌, ℕ, cond, sym, subst, nat_le, Bool, true, false, ◌||◌, ◌∷◌, []}
+use Rattle.std.proofs.lemmas.Bool.{le-leb, leb-true}
+use mathlib.Core.Bool.{true≢false}
+use Rattle.std.specs.Prelude.{Result, Ok, Err, Option, Some, None, IfOk}
 use Rattle.tsc_time.specs.Time.{later}
+use Rattle.tsc_time.specs.OwnedTime.{OwnedTime}
 use Rattle.tsc_time.specs.Joint.{joint}
-use Rattle.tsc_span.specs.Span.{KeyBytes, Interval, end_keys, overlaps}
+use Rattle.tsc_span.specs.Span.{KeyBytes, Interval, end_keys, overlaps, span_cost}
 use Rattle.tsc_page_nodes.specs.Page.{Mark}
-use Rattle.tsc_page_nodes.specs.PageView.{PageView, is_in, answer}
+use Rattle.tsc_page_nodes.specs.PageView.{PageView, is_in, answer, has_room_for}
+use Rattle.tsc_page_nodes.specs.PageAdds.{AddsMark, IsMarkTold, IsMarkedTold}
 use Rattle.tsc_cache.specs.CacheView.{IsMarked}
 
 -- what a page tells of an Add that it had room for
@@ -21,6 +25,50 @@ pub marked_by : {E : Type 0} (r : Result Bool E) (old new : PageView) (m : Mark)
 marked_by (Ok done) old new m size top keys answers =
     λ e. record { size = size; top = top e; keys = keys e; answers = answers e }
 marked_by (Err e) old new m size top keys answers = tt
+
+-- the page that an Add makes
+marked_of : (old new : PageView) (m : Mark) → AddsMark old new m.span m.value → IsMarked old new m
+marked_of old new m adds =
+    record { size = adds.size; top = adds.top; keys = adds.keys; answers = adds.answers }
+
+-- what a page tells of a span over keys that lie elsewhere
+pub marked_in_place : {E : Type 0} (r : Result Bool E) (old new : PageView) (m : Mark) →
+    IsMarkTold old new m.span m.value r → IfOk r (λ done. done ≡ true → IsMarked old new m)
+marked_in_place (Ok true) old new m told = λ is. marked_of old new m told
+marked_in_place (Ok false) old new m told = λ is. absurd (true≢false (sym is))
+marked_in_place (Err e) old new m told = tt
+
+-- and of a page that it makes beside itself, or has no room for
+module _ (E : Type 0) (made : Option PageView) where
+  pub adds_beside : (old new : PageView) (s : Interval) (v : OwnedTime) → made ≡ Some new →
+      IsMarkedTold {E = E} old s v (Ok made) → AddsMark old new s v
+  adds_beside old new s v is told =
+      subst (λ (o : Option PageView). IsMarkedTold {E = E} old s v (Ok o)) is told
+
+  pub marked_beside : (old new : PageView) (m : Mark) → made ≡ Some new →
+      IsMarkedTold {E = E} old m.span m.value (Ok made) → IsMarked old new m
+  marked_beside old new m is told =
+      marked_of old new m (adds_beside old new m.span m.value is told)
+
+  pub full_beside : (old : PageView) (s : Interval) (v : OwnedTime) → made ≡ None →
+      IsMarkedTold {E = E} old s v (Ok made) → has_room_for old s ≡ false
+  full_beside old s v is told =
+      subst (λ (o : Option PageView). IsMarkedTold {E = E} old s v (Ok o)) is told
+
+-- a page that has room for a span takes it
+pub put_on : (E : Type 0) (done : Bool) (old new : PageView) (s : Interval) (v : OwnedTime) →
+    has_room_for old s ≡ true → IsMarkTold {E = E} old new s v (Ok done) → AddsMark old new s v
+put_on E true old new s v room told = told
+put_on E false old new s v room told = absurd (true≢false (sym room ∙ told.0))
+
+-- a new page has room for a span that costs no more than the most that a page may have
+pub fits_new : (page : PageView) (s : Interval) (size cost most : ℕ) → cost ≡ span_cost s →
+    (cost ≤ most → cost ≤ size) → nat_le (span_cost s) most ≡ true →
+    has_room_for page s ≡ nat_le (span_cost s) size → has_room_for page s ≡ true
+fits_new page s size cost most is enough fits room =
+    let paid : cost ≤ most =
+    subst (λ n. n ≤ most) (sym is) (leb-true (span_cost s) most fits) in
+    room ∙ le-leb (span_cost s) size (subst (λ n. n ≤ size) is (enough paid))
 
 -- and with the pages behind it, which stay
 pub beside : {E : Type 0} (r : Result Bool E) (P Q : Type 0) → Q →

@@ -1,17 +1,16 @@
 -- The spans that the bytes of an Add name, and why such an Add is refused.
 use Rattle.std.specs.Prelude.{◌≡◌, Bool, true, ◌&&◌, Option, Some, None, Result, Ok, Err, IfErr, IsErrOf, if◌then◌else◌}
-use Rattle.std.specs.Ordering.{is_lt}
 use Rattle.tsc_time.specs.Time.{Time}
 use Rattle.tsc_time.specs.OwnedTime.{OwnedTime}
-use Rattle.tsc_span.specs.Span.{KeyBytes, Interval, nothing, between, point, onward, range, fits_key, key_cmp, start_cut, end_cut}
+use Rattle.tsc_span.specs.Span.{KeyBytes, Interval, onward, range, fits_key}
 use Rattle.tsc_span.specs.declared.span.Ends.{Ends}
+use Rattle.tsc_span.specs.declared.fault.SpanFault.{SpanFault}
+use Rattle.tsc_span.specs.declared.fault.SpanFault.TheVariants as span
 use Rattle.tsc_cache.specs.declared.added.Added.{Added}
 use Rattle.tsc_cache.specs.declared.fault.AddBetweenFault.{AddBetweenFault}
 use Rattle.tsc_cache.specs.declared.fault.AddBetweenFault.TheVariants.{KeyTooLong, Inverted, TooLarge, NoMemory}
 use Rattle.tsc_cache.specs.declared.fault.CacheFault.{CacheFault}
 use Rattle.tsc_cache.specs.declared.fault.CacheFault.TheVariants as cache
-use Rattle.tsc_cache.specs.declared.add_span.Form.{Form}
-use Rattle.tsc_cache.specs.declared.add_span.Form.TheVariants as form
 use Rattle.tsc_cache.specs.Settings.{Settings, fits}
 use Rattle.tsc_cache.specs.State.{is_kept}
 use Rattle.tsc_cache.specs.CacheView.{CacheView, StandsAfter, TellsAdded, Adds}
@@ -78,17 +77,8 @@ abbrev pub of_cache_fault : CacheFault → AddBetweenFault
 of_cache_fault cache.TooLarge = TooLarge
 of_cache_fault cache.NoMemory = NoMemory
 
--- the span that a form stands for
-abbrev pub interval_of : Form → Interval
-interval_of form.Nothing = nothing
-interval_of (form.Key key) = point key
-interval_of (form.Range from to ends) =
-    between (start_cut from ends.exclude_from) (end_cut to ends.exclude_to)
-interval_of (form.Onward from excluded) = onward from excluded
-
--- a range has two different keys, the smaller one first
-abbrev pub IsForm : Form → Type 0
-IsForm form.Nothing = Unit {0}
-IsForm (form.Key key) = Unit {0}
-IsForm (form.Range from to ends) = is_lt (key_cmp from to) ≡ true
-IsForm (form.Onward from excluded) = Unit {0}
+-- and the same one of a span
+abbrev pub of_span_fault : SpanFault → AddBetweenFault
+of_span_fault span.KeyTooLong = KeyTooLong
+of_span_fault span.Inverted = Inverted
+of_span_fault span.NoMemory = NoMemory

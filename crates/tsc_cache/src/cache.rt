@@ -1,29 +1,29 @@
 ghost use Rattle.std.specs.Prelude.{◌≡◌, ◌↔◌, ◌<◌, ◌+◌, ◌^◌, option_map, length, true, false, IsOk, IfOk, IfErr, IfSome, IsErrOf, OnOk, OnErr, None};
 ghost use Rattle.tsc_time.specs.Time.{Time};
-ghost use Rattle.tsc_span.specs.Span.{point};
+ghost use Rattle.tsc_span.specs.Span.{is_empty_span, point};
 ghost use Rattle.tsc_span.specs.LookupSpan.{span_for_lookup};
 ghost use Rattle.tsc_span.specs.Cuts.{cut_of};
 ghost use Rattle.tsc_page_nodes.specs.KeysAbove.{IsLeastAbove};
 ghost use Rattle.tsc_cache.specs.Settings.{Settings, fits};
-ghost use Rattle.tsc_cache.specs.State.{CacheState, step, look, is_kept};
+ghost use Rattle.tsc_cache.specs.State.{CacheState, step, look, is_kept, kept_after_rotation};
 ghost use Rattle.tsc_cache.specs.Lookup.{LooksIntoPages};
 ghost use Rattle.tsc_cache.specs.Keys.{keys_on, keys_seen};
-ghost use Rattle.tsc_cache.specs.CacheView.{StandsForState, StandsAfter, StandsAfterAll, TellsAdded, TellsAddedAll, Adds, AddsWithoutRotation, would_rotate, cache_answer, LooksIntoViews};
+ghost use Rattle.tsc_cache.specs.CacheView.{StandsForState, StandsAfter, StandsAfterAll, TellsAdded, TellsAddedAll, Adds, AddsWithoutRotation, RotatesWith, would_rotate, cache_answer, LooksIntoViews};
 ghost use Rattle.tsc_cache.specs.Counts.{figures_of, figures_seen};
 ghost use Rattle.tsc_cache.specs.AddSpans.{named, refusal_of, is_kept_named, RefusesFor, StandsAfterNamed, TellsAddedNamed, AddsNamed};
 ghost use Rattle.tsc_cache.specs.Batch.{all_fit, is_any_kept, AddsAll, AddsSome, LeavesSome};
 
-use crate::add_span::AddSpan;
+use crate::add_fitting::AddFitting;
 use crate::config::saturating_inc;
 use crate::mark::is_any_kept;
+use crate::named_span::{cost_of, named_span};
 use crate::older::Pages;
 use crate::page_stack::PageStack;
-use crate::rotate::Rotate;
 use crate::{AddBetweenFault, Added, CacheFault, Config, Figures, Mark, TimestampCache};
 use std::alloc::Global;
 use std::marker::Model;
 use tsc_page::{IntervalPage, Page};
-use tsc_span::{Cut, Ends, Key, KeyRef, Span, SpanRef};
+use tsc_span::{AddSpan, Cut, Ends, Key, KeyRef, Span, SpanRef};
 use tsc_time::{NoMemory, Timestamp, Value, ratchet};
 
 /// The timestamp cache: which spans were read, when at the latest, and by whom.
@@ -112,7 +112,7 @@ impl TimestampCache for Cache {
     }
 }
 
-impl Rotate for Cache {
+impl AddFitting for Cache {
     ghost seen = { λ c. c };
 
     fn add_fitting(
@@ -124,26 +124,15 @@ impl Rotate for Cache {
         if !self.keeps(span, value) {
             return Ok(Added::nothing());
         }
-        if self.pages.mark_front(span, value)? {
+        let span = span.for_add();
+        if self.pages.mark_span(&span, value)? {
             return Ok(Added::without_rotation());
         }
-        self.rotate(span, value, now)
+        self.rotate(&span, value, now)
     }
 
     fn keeps(&self, span: &Span, value: Value) -> bool {
         !span.is_empty() && self.floor < value.time()
-    }
-
-    fn rotate(&mut self, span: &Span, value: Value, now: Timestamp) -> Result<Added, NoMemory> {
-        let former = self.pages.front();
-        let size = self.config.next_size(former.size(), span.cost());
-        let mut front = Page::new(self.pages.alloc(), size, former.top())?;
-        front.add(span, value)?;
-        self.pages.push_front(front)?;
-        let (floor, evicted) = self.pages.evict(&self.config, self.floor, now);
-        self.floor = floor;
-        self.rotations = saturating_inc(self.rotations);
-        Ok(Added::after_rotation(evicted))
     }
 }
 
@@ -227,7 +216,8 @@ impl Cache {
     /// Without an end there are all keys from the start on.
     ///
     /// A refused Add, and one that is not kept, copy no key and take no memory. A single key is
-    /// added as by [`add_key`](Cache::add_key), and the keys of a range are copied.
+    /// added as by [`add_key`](Cache::add_key). Of a range, a key that the front page holds is
+    /// never copied, and a new one is copied once.
     pub fn add_between(
         &mut self,
         start: &[u8],
@@ -254,7 +244,7 @@ impl Cache {
             → refusal_of self.old.settings
             (named start.now (option_map (λ k. k.now) end.entry) ends) ≡ None → IsOk result }
     {
-        let span = AddSpan::between(start, end, ends)?;
+        let span = named_span(start, end, ends)?;
         Ok(self.add_span(&span, value, now)?)
     }
 
@@ -282,14 +272,60 @@ impl Cache {
         if let Some(key) = span.key() {
             return self.add_key(key, value, now);
         }
-        if span.cost() > self.config.page_max() {
+        if cost_of(span) > self.config.page_max() {
             return Err(CacheFault::TooLarge);
         }
         if span.is_empty() || value.time() <= self.floor {
             return Ok(Added::nothing());
         }
-        let span = span.to_span(self.pages.alloc())?;
-        Ok(self.add_fitting(&span, value, now)?)
+        Ok(self.add_kept(span, value, now)?)
+    }
+
+    /// Adds a span that is kept: to the front page where that has room, and else to a new one.
+    fn add_kept(
+        &mut self,
+        span: &AddSpan<'_>,
+        value: Value,
+        now: Timestamp,
+    ) -> Result<Added, NoMemory>
+        requires kept { is_kept self.old.floor (record { span = span.now; value = value }) ≡ true }
+        requires fits { fits self.old.settings span.now ≡ true }
+        ensures seen { IfOk result
+            (λ added. Adds self.old self.new (record { span = span.now; value = value }) now
+            added) }
+        ensures unchanged { OnErr result (self.new ≡ self.old) }
+    {
+        if self.pages.mark_span(span, value)? {
+            return Ok(Added::without_rotation());
+        }
+        self.rotate(span, value, now)
+    }
+
+    /// Brings a page with one mark to the front, and drops what is expired. All memory is asked for
+    /// before the first change.
+    fn rotate(
+        &mut self,
+        span: &AddSpan<'_>,
+        value: Value,
+        now: Timestamp,
+    ) -> Result<Added, NoMemory>
+        requires not_empty { is_empty_span span.now ≡ false }
+        requires fits { fits self.old.settings span.now ≡ true }
+        ensures rotated { IfOk result
+            (λ added. RotatesWith self.old self.new (record { span = span.now; value = value }) now
+            added.evicted × (added ≡ kept_after_rotation added.evicted)) }
+        ensures settings { self.new.settings ≡ self.old.settings }
+        ensures unchanged { OnErr result (self.new ≡ self.old) }
+    {
+        let former = self.pages.front();
+        let size = self.config.next_size(former.size(), cost_of(span));
+        let mut front = Page::new(self.pages.alloc(), size, former.top())?;
+        front.add_span(span, value)?;
+        self.pages.push_front(front)?;
+        let (floor, evicted) = self.pages.evict(&self.config, self.floor, now);
+        self.floor = floor;
+        self.rotations = saturating_inc(self.rotations);
+        Ok(Added::after_rotation(evicted))
     }
 
     /// Adds a span with its value where that needs no rotation of the pages, at whatever moment.

@@ -1,4 +1,5 @@
 use thiserror::Error;
+use tsc_span::SpanFault;
 use tsc_time::NoMemory;
 
 /// Why an Add was refused.
@@ -50,6 +51,21 @@ impl From<CacheFault> for AddBetweenFault {
         match fault {
             CacheFault::TooLarge => AddBetweenFault::TooLarge,
             CacheFault::NoMemory => AddBetweenFault::NoMemory,
+        }
+    }
+}
+
+impl From<SpanFault> for AddBetweenFault {
+    ghost use Rattle.std.specs.Prelude.{◌≡◌};
+    ghost use Rattle.tsc_cache.specs.AddSpans.{of_span_fault};
+
+    ghost from_gives = { λ fault made. made ≡ of_span_fault fault };
+
+    fn from(fault: SpanFault) -> AddBetweenFault {
+        match fault {
+            SpanFault::KeyTooLong => AddBetweenFault::KeyTooLong,
+            SpanFault::Inverted => AddBetweenFault::Inverted,
+            SpanFault::NoMemory => AddBetweenFault::NoMemory,
         }
     }
 }

@@ -17,7 +17,7 @@
 //! of what was added: slow, and easy to believe.
 #![tactic(auto)]
 
-mod add_span;
+mod add_fitting;
 mod added;
 mod cache;
 mod config;
@@ -26,12 +26,12 @@ mod figures;
 mod history;
 pub mod laws;
 mod mark;
+mod named_span;
 mod older;
 mod page_stack;
 mod pages;
 mod plain;
 mod plain_pages;
-mod rotate;
 mod timestamp_cache;
 
 pub use added::Added;

@@ -3,6 +3,7 @@ ghost use Rattle.tsc_time.specs.Time.{is_before};
 ghost use Rattle.tsc_span.specs.Span.{is_empty_span, point};
 ghost use Rattle.tsc_span.specs.Cuts.{cut_of};
 ghost use Rattle.tsc_page_nodes.specs.KeysAbove.{IsLeastAbove};
+ghost use Rattle.tsc_page_nodes.specs.PageAdds.{IsMarkTold};
 ghost use Rattle.tsc_page_nodes.specs.PageView.{has_room_for};
 ghost use Rattle.tsc_cache.specs.CacheView.{MarksFront, LooksIntoViews};
 ghost use Rattle.tsc_cache.specs.Stacks.{AreStacked, pages_answer};
@@ -16,7 +17,7 @@ use crate::{Config, Figures};
 use std::alloc::Global;
 use std::sync::Arc;
 use tsc_page::{IntervalPage, Page};
-use tsc_span::{Cut, Key, KeyRef, Span, SpanRef};
+use tsc_span::{AddSpan, Cut, Key, KeyRef, Span, SpanRef};
 use tsc_time::{NoMemory, Timestamp, Value, ratchet};
 
 impl PageStack<Page> for Pages {
@@ -92,8 +93,7 @@ impl Pages {
         self.front.room(span)
     }
 
-    /// Adds a span with its value to the front page, or to a copy of it where others hold it too,
-    /// and says whether that page has room. Without room nothing changes.
+    /// As [`mark_span`](Pages::mark_span), of a span that has its keys.
     pub(crate) fn mark_front(&mut self, span: &Span, value: Value) -> Result<bool, NoMemory>
         requires not_empty { is_empty_span span.now ≡ false }
         ensures room { IfOk result (λ done. done ≡ has_room_for (front_of self.old) span.now) }
@@ -104,10 +104,27 @@ impl Pages {
         ensures full { IfOk result (λ done. done ≡ false → pages_of self.new ≡ pages_of self.old) }
         ensures unchanged { OnErr result (pages_of self.new ≡ pages_of self.old) }
     {
+        self.mark_span(&span.for_add(), value)
+    }
+
+    /// Adds a span with its value to the front page, or to a copy of it where others hold it too,
+    /// and says whether that page has room. Without room nothing changes.
+    ///
+    /// It copies no key that the page holds.
+    pub(crate) fn mark_span(&mut self, span: &AddSpan<'_>, value: Value) -> Result<bool, NoMemory>
+        requires not_empty { is_empty_span span.now ≡ false }
+        ensures room { IfOk result (λ done. done ≡ has_room_for (front_of self.old) span.now) }
+        ensures marked { IfOk result
+            (λ done. done ≡ true →
+            MarksFront (pages_of self.old) (pages_of self.new)
+            (record { span = span.now; value = value })) }
+        ensures full { IfOk result (λ done. done ≡ false → pages_of self.new ≡ pages_of self.old) }
+        ensures unchanged { OnErr result (pages_of self.new ≡ pages_of self.old) }
+    {
         match Arc::get_mut(&mut self.front) {
-            Some(front) => front.try_add(span, value),
+            Some(front) => add_in_place(front, span, value),
             None => {
-                let Some(front) = self.front.added(span, value)? else {
+                let Some(front) = self.front.added_span(span, value)? else {
                     return Ok(false)
                 };
                 self.front = Arc::new(self.alloc(), front)?;
@@ -177,6 +194,19 @@ impl Pages {
         }
         figures
     }
+}
+
+/// Adds to a page in place, at a single key by the way that a page has for one.
+fn add_in_place(page: &mut Page, span: &AddSpan<'_>, value: Value) -> Result<bool, NoMemory>
+    requires not_empty { is_empty_span span.now ≡ false }
+    ensures told { IsMarkTold page.old page.new span.now value result }
+{
+    if let Some(key) = span.key() {
+        if page.add_key(key, value)? {
+            return Ok(true);
+        }
+    }
+    page.add_span(span, value)
 }
 
 /// Whether all that stands on a page is earlier than a value that was met.

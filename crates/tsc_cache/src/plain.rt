@@ -1,12 +1,15 @@
-ghost use Rattle.std.specs.Prelude.{◌≡◌, ◌<◌, ◌+◌, ◌^◌, length, true, IfOk};
+ghost use Rattle.std.specs.Prelude.{◌≡◌, ◌<◌, ◌+◌, ◌^◌, length, true, false, IfOk, OnErr};
+ghost use Rattle.tsc_span.specs.Span.{is_empty_span};
 ghost use Rattle.tsc_cache.specs.Settings.{fits};
+ghost use Rattle.tsc_cache.specs.State.{kept_after_rotation};
+ghost use Rattle.tsc_cache.specs.CacheView.{RotatesWith};
 ghost use Rattle.tsc_cache.specs.Batch.{all_fit, is_any_kept, AddsAll};
 
+use crate::add_fitting::AddFitting;
 use crate::config::saturating_inc;
 use crate::mark::is_any_kept;
 use crate::page_stack::PageStack;
 use crate::plain_pages::PlainPages;
-use crate::rotate::Rotate;
 use crate::{Added, CacheFault, Config, Mark, TimestampCache};
 use std::alloc::Global;
 use std::marker::Model;
@@ -99,7 +102,7 @@ impl TimestampCache for PlainCache {
     }
 }
 
-impl Rotate for PlainCache {
+impl AddFitting for PlainCache {
     ghost seen = { λ c. c };
 
     fn add_fitting(
@@ -121,8 +124,20 @@ impl Rotate for PlainCache {
     fn keeps(&self, span: &Span, value: Value) -> bool {
         !span.is_empty() && self.floor < value.time()
     }
+}
 
-    fn rotate(&mut self, span: &Span, value: Value, now: Timestamp) -> Result<Added, NoMemory> {
+impl PlainCache {
+    /// Brings a page with one mark to the front, and drops what is expired. All memory is asked for
+    /// before the first change.
+    fn rotate(&mut self, span: &Span, value: Value, now: Timestamp) -> Result<Added, NoMemory>
+        requires not_empty { is_empty_span span.now ≡ false }
+        requires fits { fits self.old.settings span.now ≡ true }
+        ensures rotated { IfOk result
+            (λ added. RotatesWith self.old self.new (record { span = span.now; value = value }) now
+            added.evicted × (added ≡ kept_after_rotation added.evicted)) }
+        ensures settings { self.new.settings ≡ self.old.settings }
+        ensures unchanged { OnErr result (self.new ≡ self.old) }
+    {
         let former = self.pages.front();
         let size = self.config.next_size(former.size(), span.cost());
         let mut front = PlainPage::new(self.pages.alloc(), size, former.top())?;
@@ -133,9 +148,7 @@ impl Rotate for PlainCache {
         self.rotations = saturating_inc(self.rotations);
         Ok(Added::after_rotation(evicted))
     }
-}
 
-impl PlainCache {
     /// Adds marks that fit. Where memory is refused, those before stay.
     fn add_each_until_refused(&mut self, marks: &[Mark], now: Timestamp) -> Result<Added, NoMemory>
         requires fits { all_fit self.old.settings marks.now ≡ true }

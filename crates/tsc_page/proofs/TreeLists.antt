@@ -18,7 +18,7 @@ use Rattle.tsc_page_tree.specs.Leaves.{nodes_of}
 use Rattle.tsc_page_tree.specs.Copies.{IsSameAs}
 use Rattle.tsc_page_tree.specs.Pending.{sizes_of, AreSizesOf, AddsSome}
 use Rattle.tsc_page_tree.specs.Trees.{IsLeafCopy, IsForkCopy, IsWholeLeaf, leaf_nodes, leaf_sizes, leaf_copied, fork_copied, AreFewParts}
-use Rattle.tsc_page.specs.Roots.{two_nodes, two_sizes, IsWholeTwo, three_nodes, three_sizes, IsWholeThree, four_nodes, four_sizes, IsWholeFour, root_nodes, root_sizes, IsWholeRoot, IsCounted, IsKnown, TreeView, AreEnds, Inserts, IsFullFor, IsInsertTold, IsTryTold, IsInsertedTold}
+use Rattle.tsc_page.specs.Roots.{two_nodes, two_sizes, IsWholeTwo, three_nodes, three_sizes, IsWholeThree, four_nodes, four_sizes, IsWholeFour, root_nodes, root_sizes, IsWholeRoot, IsOrderedRoot, IsCounted, IsKnown, TreeView, AreEnds, Inserts, IsFullFor, IsInsertTold, IsTryTold, IsInsertedTold}
 use Rattle.tsc_page_tree.specs.declared.leaf.Leaf.{Leaf}
 use Rattle.tsc_page_tree.specs.declared.fork.Fork.{Fork}
 use Rattle.tsc_page.specs.declared.root.Root.{Root}
@@ -341,3 +341,7 @@ pub known_splits : (ns : List Node) (k : KeyBytes) → IsSorted ns →
     not (is_in k (node_keys ns)) ≡ false → IsSplitAt ns ns (k ∷ [])
 known_splits ns k sorted known = with_new_splits ns (Some k) None sorted
     (not_false (is_in k (node_keys ns)) known)
+
+-- the root of a tree is in order
+pub counted_root : (r : Root) (n b : ℕ) → IsCounted r n b → IsOrderedRoot r
+counted_root r n b counted = record { whole = counted.whole; sorted = counted.sorted }

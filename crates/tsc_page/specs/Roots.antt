@@ -65,6 +65,11 @@ IsWholeRoot (Two ps) = AreFewParts IsWholeTwo ps.items
 IsWholeRoot (Three ps) = AreFewParts IsWholeThree ps.items
 IsWholeRoot (Four ps) = All IsWholeFour ps.items × (1 ≤ length ps.items)
 
+-- A root that is as it has to be, with its nodes in the order of their keys.
+pub record IsOrderedRoot (r : Root) : Type 0 where
+  pub whole : IsWholeRoot r
+  pub sorted : IsSorted (root_nodes r)
+
 -- What can be seen of a tree: its nodes, how many of them each leaf has, and what their keys cost.
 pub record TreeView : Type 0 where
   pub nodes : List Node

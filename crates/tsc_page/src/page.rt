@@ -1,13 +1,13 @@
-ghost use Rattle.std.specs.Prelude.{sum, slice_get, is_some, option_map, ◌≡◌, ◌≤◌, true, false, IfOk, IfSome, OnErr};
+ghost use Rattle.std.specs.Prelude.{sum, slice_get, option_map, ◌≡◌, true, false, IfOk};
 ghost use Rattle.tsc_time.specs.Joint.{joint_above};
-ghost use Rattle.tsc_time.specs.Time.{zero_time, is_before, later};
+ghost use Rattle.tsc_time.specs.Time.{zero_time, is_before};
 ghost use Rattle.tsc_span.specs.Span.{is_empty_span, end_keys, point};
 ghost use Rattle.tsc_span.specs.Cuts.{cut_of};
 ghost use Rattle.tsc_page_nodes.specs.Limits.{least_size, most_size};
 ghost use Rattle.tsc_page_nodes.specs.Page.{PageMarks, top, values_on, marked_keys, count_distinct, has_room};
 ghost use Rattle.tsc_page_nodes.specs.KeysAbove.{IsLeastAbove};
-ghost use Rattle.tsc_page_nodes.specs.PageAdds.{IsMarkTold, IsMarkedTold};
-ghost use Rattle.tsc_page_nodes.specs.PageView.{AreLeafSizes, StandsFor, StandsWith, HasKeysWith, AnswersWith, NoAnswerAboveTop, answer, has_room_for};
+ghost use Rattle.tsc_page_nodes.specs.PageAdds.{IsMarkTold, IsMarkedTold, TellsTry, TellsMade};
+ghost use Rattle.tsc_page_nodes.specs.PageView.{AreLeafSizes, StandsFor, answer, has_room_for};
 
 use crate::insertion::Insertion;
 use crate::tree::Tree;
@@ -132,17 +132,7 @@ impl Page {
     /// each leaf that changes, shares all else, and never tries to add in place.
     pub fn added(&self, span: &Span, value: Value) -> Result<Option<Page>, NoMemory>
         requires not_empty { is_empty_span span.now ≡ false }
-        ensures room { IfOk result (λ made. is_some made ≡ has_room_for self.now span.now) }
-        ensures stands { IfOk result
-            (λ made. IfSome made (λ page. StandsWith self.now page
-            (record { span = span.now; value = value }))) }
-        ensures size { IfOk result (λ made. IfSome made (λ page. page.size ≡ self.now.size)) }
-        ensures top { IfOk result (λ made. IfSome made
-            (λ page. page.top ≡ later self.now.top value.time)) }
-        ensures keys { IfOk result
-            (λ made. IfSome made (λ page. HasKeysWith self.now page span.now)) }
-        ensures answers { IfOk result
-            (λ made. IfSome made (λ page. AnswersWith self.now page span.now value)) }
+        ensures told { TellsMade self.now (record { span = span.now; value = value }) result }
     {
         self.added_span(&span.for_add(), value)
     }
@@ -190,18 +180,8 @@ impl Page {
     pub fn add_key(&mut self, key: &KeyRef<'_>, value: Value) -> Result<bool, NoMemory>
         ensures room { IfOk result
             (λ done. done ≡ true → has_room_for self.old (point key.now) ≡ true) }
-        ensures stands { IfOk result
-            (λ done. done ≡ true →
-            StandsWith self.old self.new (record { span = point key.now; value = value })) }
-        ensures size { self.new.size ≡ self.old.size }
-        ensures top { IfOk result (λ done. done ≡ true →
-            self.new.top ≡ later self.old.top value.time) }
-        ensures keys { IfOk result
-            (λ done. done ≡ true → HasKeysWith self.old self.new (point key.now)) }
-        ensures answers { IfOk result
-            (λ done. done ≡ true → AnswersWith self.old self.new (point key.now) value) }
-        ensures left { IfOk result (λ done. done ≡ false → self.new ≡ self.old) }
-        ensures unchanged { OnErr result (self.new ≡ self.old) }
+        ensures told { TellsTry self.old self.new (record { span = point key.now; value = value })
+            result }
     {
         if !self.tree.add_key(&KeyAddition::new(key, value), self.size)? {
             return Ok(false);

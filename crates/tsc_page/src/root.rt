@@ -1,18 +1,17 @@
 ghost use Rattle.std.specs.Prelude.{◌≡◌, ◌≤◌, [], ◌∷◌, length, map, true, not, option_map, IfOk, OnOk};
-ghost use Rattle.std.specs.List.{All};
 ghost use Rattle.tsc_span.specs.Span.{is_below, between, point};
 ghost use Rattle.tsc_span.specs.Cuts.{cut_of};
 ghost use Rattle.tsc_time.specs.Time.{zero_time};
 ghost use Rattle.tsc_time.specs.OwnedTime.{unowned};
 ghost use Rattle.tsc_page_nodes.specs.PageView.{is_in};
 ghost use Rattle.tsc_page_nodes.specs.KeysAbove.{first_above};
-ghost use Rattle.tsc_page_nodes.specs.Nodes.{IsSorted, node_in_gap, node_keys, answer_of, raise_nodes};
-ghost use Rattle.tsc_page_tree.specs.Leaves.{HasNode, nodes_of};
+ghost use Rattle.tsc_page_nodes.specs.Nodes.{node_in_gap, node_keys, answer_of, raise_nodes};
+ghost use Rattle.tsc_page_tree.specs.Leaves.{AreParts, HasNode, nodes_of};
 ghost use Rattle.tsc_page_tree.specs.Pending.{TellsSize, IsAddTold};
 ghost use Rattle.tsc_page_tree.specs.Copies.{IsSameAs};
 ghost use Rattle.tsc_page_tree.specs.KeyAdds.{IsKeyAddTold};
 ghost use Rattle.tsc_page_tree.specs.Trees.{leaf_nodes, leaf_sizes, IsWholeLeaf, level_nodes, IsWholeLevel, AreFewParts};
-ghost use Rattle.tsc_page.specs.Roots.{root_nodes, root_sizes, IsWholeRoot, AreEnds};
+ghost use Rattle.tsc_page.specs.Roots.{root_nodes, root_sizes, IsWholeRoot, IsOrderedRoot, AreEnds};
 
 use crate::forks;
 use crate::insertion::Insertion;
@@ -58,8 +57,7 @@ impl Root {
 
     /// Whether this is a key that has no node.
     pub(crate) fn is_new(&self, key: &KeyRef<'_>) -> bool
-        requires whole { IsWholeRoot self.now }
-        requires sorted { IsSorted (root_nodes self.now) }
+        requires root { IsOrderedRoot self.now }
         ensures { result ≡ not (is_in key.now (node_keys (root_nodes self.now))) }
     {
         match self {
@@ -72,8 +70,7 @@ impl Root {
 
     /// The least key above a cut.
     pub(crate) fn key_above(&self, cut: &PrefixedCut<'_>) -> Option<&Key>
-        requires whole { IsWholeRoot self.now }
-        requires sorted { IsSorted (root_nodes self.now) }
+        requires root { IsOrderedRoot self.now }
         ensures { option_map (λ k. k.now) result ≡ first_above cut.now
             (node_keys (root_nodes self.now)) }
     {
@@ -87,8 +84,7 @@ impl Root {
 
     /// The joint value of the keys and gaps between two cuts.
     pub(crate) fn join_between(&self, from: &PrefixedCut<'_>, to: &PrefixedCut<'_>) -> Value
-        requires whole { IsWholeRoot self.now }
-        requires sorted { IsSorted (root_nodes self.now) }
+        requires root { IsOrderedRoot self.now }
         requires order { is_below from.now to.now ≡ true }
         ensures { result ≡ answer_of (root_nodes self.now) (between from.now to.now) }
     {
@@ -102,8 +98,7 @@ impl Root {
 
     /// The joint value of what overlaps a key.
     pub(crate) fn value_at(&self, key: &SearchKey<'_>) -> Value
-        requires whole { IsWholeRoot self.now }
-        requires sorted { IsSorted (root_nodes self.now) }
+        requires root { IsOrderedRoot self.now }
         ensures { result ≡ answer_of (root_nodes self.now) (point key.now) }
     {
         match self {
@@ -129,8 +124,7 @@ impl Root {
     /// The root with a node of a key, where it has none. Where the parts would then be more than a
     /// fork has, they come into two forks, of which the root then is.
     pub(crate) fn with_node(self, key: &KeyRef<'_>) -> Result<Root, NoMemory>
-        requires whole { IsWholeRoot self }
-        requires sorted { IsSorted (root_nodes self) }
+        requires root { IsOrderedRoot self }
         ensures made { IfOk result (λ root. HasNode (root_nodes self) (root_nodes root) key.now) }
         ensures whole { IfOk result IsWholeRoot }
     {
@@ -163,8 +157,7 @@ impl Root {
         to: Cut<'_>,
         value: Value,
     ) -> Result<(), NoMemory>
-        requires whole { IsWholeRoot self.old }
-        requires sorted { IsSorted (root_nodes self.old) }
+        requires root { IsOrderedRoot self.old }
         requires order { is_below (cut_of from) (cut_of to) ≡ true }
         ensures raised { OnOk result
             (root_nodes self.new ≡ raise_nodes (between (cut_of from.entry) (cut_of to.entry)) value
@@ -186,8 +179,7 @@ impl Root {
         add: &Insertion<'_>,
         room: u32,
     ) -> Result<Option<Grown>, NoMemory>
-        requires whole { IsWholeRoot self.old }
-        requires sorted { IsSorted (root_nodes self.old) }
+        requires root { IsOrderedRoot self.old }
         ensures told { IsAddTold (root_nodes self.old) (root_nodes self.new) (root_sizes self.old)
             (root_sizes self.new) add.now room result }
         ensures whole { IsWholeRoot self.new }
@@ -213,8 +205,7 @@ impl Root {
 
     /// Adds at a single key in place, as [`parts::Part::add_key`] tells.
     fn add_key(&mut self, add: &KeyAddition<'_>, room: u32) -> Result<Option<Grown>, NoMemory>
-        requires whole { IsWholeRoot self.old }
-        requires sorted { IsSorted (root_nodes self.old) }
+        requires root { IsOrderedRoot self.old }
         ensures told { IsKeyAddTold (root_nodes self.old) (root_nodes self.new)
             (root_sizes self.old) (root_sizes self.new) add.now room result }
         ensures whole { IsWholeRoot self.new }
@@ -234,8 +225,7 @@ impl Root {
         add: &KeyAddition<'_>,
         room: u32,
     ) -> Result<Option<Grown>, NoMemory>
-        requires whole { IsWholeRoot self.old }
-        requires sorted { IsSorted (root_nodes self.old) }
+        requires root { IsOrderedRoot self.old }
         ensures told { IsKeyAddTold (root_nodes self.old) (root_nodes self.new)
             (root_sizes self.old) (root_sizes self.new) add.now room result }
         ensures whole { IsWholeRoot self.new }
@@ -250,8 +240,7 @@ impl Root {
 
     /// Adds in place, as [`parts::Part::add_within`] tells.
     fn add_within(&mut self, add: &Addition<'_>, room: u32) -> Result<Option<Grown>, NoMemory>
-        requires whole { IsWholeRoot self.old }
-        requires sorted { IsSorted (root_nodes self.old) }
+        requires root { IsOrderedRoot self.old }
         ensures told { IsAddTold (root_nodes self.old) (root_nodes self.new) (root_sizes self.old)
             (root_sizes self.new) add.now room result }
         ensures whole { IsWholeRoot self.new }
@@ -267,9 +256,8 @@ impl Root {
 
 /// Makes a node of a key among leaves, of which it may be the first, where it has none.
 fn leaves_with_node(leaves: Vec<Leaf>, key: &KeyRef<'_>) -> Result<Level<Leaf>, NoMemory>
-    requires whole { All IsWholeLeaf leaves.items }
+    requires parts { AreParts leaf_nodes IsWholeLeaf leaves.items }
     requires few { length leaves.items ≤ 64 }
-    requires sorted { IsSorted (nodes_of (map leaf_nodes leaves.items)) }
     ensures made { IfOk result (λ level. HasNode (nodes_of (map leaf_nodes leaves.items))
         (level_nodes leaf_nodes level) key.now) }
     ensures whole { IfOk result (IsWholeLevel leaf_nodes leaf_sizes IsWholeLeaf) }

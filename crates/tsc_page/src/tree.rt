@@ -4,9 +4,9 @@ ghost use Rattle.tsc_span.specs.Cuts.{cut_of};
 ghost use Rattle.tsc_page_nodes.specs.Limits.{most_size};
 ghost use Rattle.tsc_page_nodes.specs.PageView.{is_new_among, new_weight};
 ghost use Rattle.tsc_page_nodes.specs.KeysAbove.{first_above};
-ghost use Rattle.tsc_page_nodes.specs.Nodes.{IsSplitAt, IsSorted, GrowsBy, node_keys, answer_of};
+ghost use Rattle.tsc_page_nodes.specs.Nodes.{IsSplitAt, GrowsBy, node_keys, answer_of};
 ghost use Rattle.tsc_page_tree.specs.KeyAdds.{at_key};
-ghost use Rattle.tsc_page.specs.Roots.{root_nodes, IsWholeRoot, IsKnown, IsInsertTold, IsTryTold, IsInsertedTold};
+ghost use Rattle.tsc_page.specs.Roots.{root_nodes, IsWholeRoot, IsOrderedRoot, IsKnown, IsInsertTold, IsTryTold, IsInsertedTold};
 
 use crate::insertion::Insertion;
 use crate::root::Root;
@@ -238,8 +238,7 @@ struct Made {
 
 /// Makes a node of a key, where there is one and it has none.
 fn with_node(root: Root, key: Option<&KeyRef<'_>>) -> Result<Made, NoMemory>
-    requires whole { IsWholeRoot root }
-    requires sorted { IsSorted (root_nodes root) }
+    requires root { IsOrderedRoot root }
     ensures split { IfOk result (λ made. IsSplitAt (root_nodes root) (root_nodes made.root)
         (option_to_list (option_map (λ k. k.now) key.entry))) }
     ensures whole { IfOk result (λ made. IsWholeRoot made.root) }

@@ -10,6 +10,7 @@ pub mod Cuts
 pub mod Edits
 pub mod Searches
 pub mod Apart
+pub mod PairedOrder
 pub mod Seen
 pub mod RaisedNodes
 pub mod NewKeys

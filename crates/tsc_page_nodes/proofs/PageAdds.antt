@@ -6,8 +6,9 @@ use Rattle.std.specs.Result.{IsErr}
 use Rattle.tsc_time.specs.Time.{later}
 use Rattle.tsc_time.specs.OwnedTime.{OwnedTime}
 use Rattle.tsc_span.specs.Span.{Interval}
+use Rattle.tsc_page_nodes.specs.Page.{Mark}
 use Rattle.tsc_page_nodes.specs.PageView.{PageView, StandsWith, HasKeysWith, AnswersWith, has_room_for}
-use Rattle.tsc_page_nodes.specs.PageAdds.{AddsMark, IsMarkTold, IsMarkedTold}
+use Rattle.tsc_page_nodes.specs.PageAdds.{AddsMark, IsMarkTold, IsMarkedTold, TellsTry, TellsMade}
 
 -- the same of the same span and value
 pub adds_as : (old new : PageView) (s q : Interval) (v w : OwnedTime) → q ≡ s → w ≡ v →
@@ -64,6 +65,18 @@ module _ {E : Type 0} (old new : PageView) (s : Interval) (v : OwnedTime) where
   told_unchanged (Ok false) told = tt
   told_unchanged (Err e) told = told
 
+  pub told_try : (r : Result Bool E) → IsMarkTold old new s v r →
+      TellsTry old new (record { span = s; value = v }) r
+  told_try r told = record {
+    stands = told_stands r told;
+    size = told_size r told;
+    top = told_top r told;
+    keys = told_keys r told;
+    answers = told_answers r told;
+    left = told_full r told;
+    unchanged = told_unchanged r told;
+  }
+
   -- and where it is refused
   pub refused_mark : (r : Result Bool E) → IsErr r → new ≡ old → IsMarkTold old new s v r
   refused_mark (Ok d) is same = absurd (true≢false (sym is))
@@ -106,3 +119,50 @@ module _ {E : Type 0} (old : PageView) (s : Interval) (v : OwnedTime) where
   marked_answers (Ok (Some new)) told = told.answers
   marked_answers (Ok None) told = tt
   marked_answers (Err e) told = tt
+
+  pub marked_made : (r : Result (Option PageView) E) → IsMarkedTold old s v r →
+      TellsMade old (record { span = s; value = v }) r
+  marked_made r told = record {
+    room = marked_room r told;
+    stands = marked_stands r told;
+    size = marked_size r told;
+    top = marked_top r told;
+    keys = marked_keys r told;
+    answers = marked_answers r told;
+  }
+
+-- a call that tries to, and is refused, or leaves the page as it is, or adds
+module _ {E : Type 0} (old new : PageView) (m : Mark) where
+  pub refused_try : (r : Result Bool E) → IsErr r → new ≡ old → TellsTry old new m r
+  refused_try (Ok d) is same = absurd (true≢false (sym is))
+  refused_try (Err e) is same = record {
+    stands = tt;
+    size = ap (λ (p : PageView). p.size) same;
+    top = tt;
+    keys = tt;
+    answers = tt;
+    left = tt;
+    unchanged = same;
+  }
+
+  pub left_try : new ≡ old → TellsTry {E = E} old new m (Ok false)
+  left_try same = record {
+    stands = λ is. absurd (true≢false (sym is));
+    size = ap (λ (p : PageView). p.size) same;
+    top = λ is. absurd (true≢false (sym is));
+    keys = λ is. absurd (true≢false (sym is));
+    answers = λ is. absurd (true≢false (sym is));
+    left = λ is. same;
+    unchanged = tt;
+  }
+
+  pub added_try : AddsMark old new m.span m.value → TellsTry {E = E} old new m (Ok true)
+  added_try adds = record {
+    stands = λ is. adds.stands;
+    size = adds.size;
+    top = λ is. adds.top;
+    keys = λ is. adds.keys;
+    answers = λ is. adds.answers;
+    left = λ is. absurd (true≢false is);
+    unchanged = tt;
+  }

@@ -77,6 +77,11 @@ abbrev pub IsSorted : List Node → Type 0
 IsSorted [] = Unit {0}
 IsSorted (n ∷ ns) = (is_below (after n.key) (next_cut (node_stretches ns)) ≡ true) × IsSorted ns
 
+-- Keys and values that stand in two lists of one length, in the order of the keys.
+pub record ArePaired (ks : List KeyBytes) (vs : List Values) : Type 0 where
+  pub same : length ks ≡ length vs
+  pub sorted : IsSorted (paired ks vs)
+
 -- the value of a stretch that stops at a cut, once a value was added to a span
 abbrev pub raised : Interval → OwnedTime → Stretch → Cut → OwnedTime
 raised span v x end = if overlaps (between x.from end) span then joint x.value (v ∷ []) else x.value

@@ -1,8 +1,9 @@
 -- What an Add makes of all that can be seen of a page.
-use Rattle.std.specs.Prelude.{◌≡◌, Bool, true, false, Option, Some, None, Result, Ok, Err}
+use Rattle.std.specs.Prelude.{◌≡◌, Bool, true, false, Option, Some, None, is_some, Result, Ok, Err, OnOk, OnErr, IfOk, IfSome}
 use Rattle.tsc_time.specs.Time.{later}
 use Rattle.tsc_time.specs.OwnedTime.{OwnedTime}
 use Rattle.tsc_span.specs.Span.{Interval}
+use Rattle.tsc_page_nodes.specs.Page.{Mark}
 use Rattle.tsc_page_nodes.specs.PageView.{PageView, StandsWith, HasKeysWith, AnswersWith, has_room_for}
 
 -- A page with one more span and its value, for which there was room.
@@ -27,3 +28,34 @@ abbrev pub IsMarkedTold : {E : Type 0} → PageView → Interval → OwnedTime �
 IsMarkedTold old span value (Ok (Some new)) = AddsMark old new span value
 IsMarkedTold old span value (Ok None) = has_room_for old span ≡ false
 IsMarkedTold old span value (Err e) = Unit {0}
+
+-- What a call tells that adds a mark. A page stays as it is where memory is refused.
+pub record TellsMark {T E : Type 0} (old new : PageView) (m : Mark) (told : Result T E) : Type
+    0 where
+  pub stands : OnOk told (StandsWith old new m)
+  pub size : new.size ≡ old.size
+  pub top : OnOk told (new.top ≡ later old.top m.value.time)
+  pub keys : OnOk told (HasKeysWith old new m.span)
+  pub answers : OnOk told (AnswersWith old new m.span m.value)
+  pub unchanged : OnErr told (new ≡ old)
+
+-- What a call tells that adds a mark or leaves the page as it is, and says whether it added.
+pub record TellsTry {E : Type 0} (old new : PageView) (m : Mark) (told : Result Bool E) : Type
+    0 where
+  pub stands : IfOk told (λ done. done ≡ true → StandsWith old new m)
+  pub size : new.size ≡ old.size
+  pub top : IfOk told (λ done. done ≡ true → new.top ≡ later old.top m.value.time)
+  pub keys : IfOk told (λ done. done ≡ true → HasKeysWith old new m.span)
+  pub answers : IfOk told (λ done. done ≡ true → AnswersWith old new m.span m.value)
+  pub left : IfOk told (λ done. done ≡ false → new ≡ old)
+  pub unchanged : OnErr told (new ≡ old)
+
+-- What a call tells that makes another page, with one more mark, where there is room for it.
+pub record TellsMade {E : Type 0} (old : PageView) (m : Mark) (told : Result (Option PageView) E) :
+    Type 0 where
+  pub room : IfOk told (λ made. is_some made ≡ has_room_for old m.span)
+  pub stands : IfOk told (λ made. IfSome made (λ page. StandsWith old page m))
+  pub size : IfOk told (λ made. IfSome made (λ page. page.size ≡ old.size))
+  pub top : IfOk told (λ made. IfSome made (λ page. page.top ≡ later old.top m.value.time))
+  pub keys : IfOk told (λ made. IfSome made (λ page. HasKeysWith old page m.span))
+  pub answers : IfOk told (λ made. IfSome made (λ page. AnswersWith old page m.span m.value))

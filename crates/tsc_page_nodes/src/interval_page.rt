@@ -1,10 +1,11 @@
-ghost use Rattle.std.specs.Prelude.{◌≡◌, ◌≤◌, ◌*◌, nat_le, true, false, IsOk, IfOk, OnOk, OnErr};
+ghost use Rattle.std.specs.Prelude.{◌≡◌, ◌≤◌, ◌*◌, nat_le, true, false, IsOk, IfOk};
 ghost use Rattle.tsc_time.specs.Joint.{joint_above};
-ghost use Rattle.tsc_time.specs.Time.{zero_time, is_before, later};
+ghost use Rattle.tsc_time.specs.Time.{zero_time, is_before};
 ghost use Rattle.tsc_span.specs.Span.{Interval, is_empty_span, span_cost};
 ghost use Rattle.tsc_page_nodes.specs.Limits.{least_size, most_size};
 ghost use Rattle.tsc_page_nodes.specs.Page.{PageMarks, empty_page, top, values_on, marked_keys, count_distinct, cost_distinct, has_room};
-ghost use Rattle.tsc_page_nodes.specs.PageView.{PageView, StandsFor, StandsWith, HasKeysWith, AnswersWith, NoAnswerAboveTop, answer, bytes_of, has_room_for};
+ghost use Rattle.tsc_page_nodes.specs.PageAdds.{TellsMark, TellsTry};
+ghost use Rattle.tsc_page_nodes.specs.PageView.{PageView, StandsFor, NoAnswerAboveTop, answer, bytes_of, has_room_for};
 
 use std::alloc::Global;
 use tsc_span::Span;
@@ -56,33 +57,16 @@ pub trait IntervalPage: Drop {
     fn add(&mut self, span: &Span, value: Value) -> Result<(), NoMemory>
         requires not_empty { is_empty_span span.now ≡ false }
         requires room { has_room_for (view self.old) span.now ≡ true }
-        ensures stands { OnOk result
-            (StandsWith (view self.old) (view self.new)
-            (record { span = span.now; value = value })) }
-        ensures size { (view self.new).size ≡ (view self.old).size }
-        ensures top { OnOk result ((view self.new).top ≡ later (view self.old).top value.time) }
-        ensures keys { OnOk result (HasKeysWith (view self.old) (view self.new) span.now) }
-        ensures answers { OnOk result (AnswersWith (view self.old) (view self.new) span.now value) }
-        ensures unchanged { OnErr result (view self.new ≡ view self.old) };
+        ensures told { TellsMark (view self.old) (view self.new)
+            (record { span = span.now; value = value }) result };
 
     /// Adds a span with its value, where the page has room for it, and says whether it had. The
     /// span is not empty. Without room the page stays as it is, and where memory is refused.
     fn try_add(&mut self, span: &Span, value: Value) -> Result<bool, NoMemory>
         requires not_empty { is_empty_span span.now ≡ false }
         ensures room { IfOk result (λ done. done ≡ has_room_for (view self.old) span.now) }
-        ensures stands { IfOk result
-            (λ done. done ≡ true →
-            StandsWith (view self.old) (view self.new)
-            (record { span = span.now; value = value })) }
-        ensures size { (view self.new).size ≡ (view self.old).size }
-        ensures top { IfOk result (λ done. done ≡ true →
-            (view self.new).top ≡ later (view self.old).top value.time) }
-        ensures keys { IfOk result
-            (λ done. done ≡ true → HasKeysWith (view self.old) (view self.new) span.now) }
-        ensures answers { IfOk result
-            (λ done. done ≡ true → AnswersWith (view self.old) (view self.new) span.now value) }
-        ensures full { IfOk result (λ done. done ≡ false → view self.new ≡ view self.old) }
-        ensures unchanged { OnErr result (view self.new ≡ view self.old) };
+        ensures told { TellsTry (view self.old) (view self.new)
+            (record { span = span.now; value = value }) result };
 
     /// The joint value of time zero without an owner and of all that was added and overlaps the
     /// span.

@@ -45,9 +45,8 @@ pub(crate) struct Values {
     gap: Value,
 }
 
-/// Nodes in the order of their keys: a leaf of a page. The type itself keeps no order: calls that
-/// need it ask for it. The keys lie apart from the values, so nodes that differ in their values
-/// alone share them.
+/// Nodes in the order of their keys: a leaf of a page. The keys lie apart from the values, so nodes
+/// that differ in their values alone share them.
 #[derive(Debug, Drop)]
 pub struct Nodes {
     /// The keys, in their order.
@@ -57,15 +56,15 @@ pub struct Nodes {
 }
 
 impl Model for Nodes {
-    ghost use Rattle.std.specs.Prelude.{◌≡◌, List, length};
+    ghost use Rattle.std.specs.Prelude.{List};
     ghost use Rattle.std.specs.Arc.{arc_value};
-    ghost use Rattle.tsc_page_nodes.specs.Nodes.{Node, paired};
+    ghost use Rattle.tsc_page_nodes.specs.Nodes.{Node, ArePaired, paired};
 
     ghost Value = { List Node };
 
     ghost view = { λ n. paired (arc_value n.keys).items n.values.items };
 
-    ghost invariant = { λ n. length (arc_value n.keys).items ≡ length n.values.items };
+    ghost invariant = { λ n. ArePaired (arc_value n.keys).items n.values.items };
 }
 
 impl Nodes {
@@ -137,7 +136,6 @@ impl Nodes {
 
     /// Where a key stands, or else the place for it. It costs a search.
     pub fn find(&self, key: &KeyRef<'_>) -> Result<usize, usize>
-        requires sorted { IsSorted self.now }
         ensures { IsFoundAt self.now key.now result }
     {
         self.lists().find(&NumberedBytes::new(key.bytes()))
@@ -145,7 +143,6 @@ impl Nodes {
 
     /// The least key above a cut. It costs a search, and takes no memory.
     pub fn key_above(&self, cut: &PrefixedCut<'_>) -> Option<&Key>
-        requires sorted { IsSorted self.now }
         ensures { option_map (λ k. k.now) result ≡ first_above cut.now (node_keys self.now) }
     {
         let place = self.keys.partition_point(|key| cut.is_above_before(key));
@@ -159,7 +156,6 @@ impl Nodes {
     /// a look at one key after another from there to the second, and a step for each node between
     /// them.
     pub fn join_between(&self, from: &PrefixedCut<'_>, to: &PrefixedCut<'_>) -> Value
-        requires sorted { IsSorted self.now }
         requires order { is_below from.now to.now ≡ true }
         ensures { result ≡ answer_of self.now (between from.now to.now) }
     {
@@ -176,7 +172,6 @@ impl Nodes {
 
     /// The value of a key, or of the gap in which it falls. It costs a search.
     pub fn value_at(&self, key: &SearchKey<'_>) -> Value
-        requires sorted { IsSorted self.now }
         ensures { result ≡ answer_of self.now (point key.now) }
     {
         let mut best = Value::unowned(Timestamp::ZERO);
@@ -196,7 +191,6 @@ impl Nodes {
     /// Ratchets a value into the keys and gaps between two cuts. It costs what `join_between` does,
     /// and takes no memory.
     pub fn raise_between(&mut self, from: &PrefixedCut<'_>, to: &PrefixedCut<'_>, value: Value)
-        requires sorted { IsSorted self.old }
         requires order { is_below from.now to.now ≡ true }
         ensures { self.new ≡ raise_nodes (between from.now to.now) value self.old }
     {
@@ -212,7 +206,6 @@ impl Nodes {
         near: (Option<usize>, Option<usize>),
         value: Value,
     )
-        requires sorted { IsSorted self.old }
         requires order { is_below from.now to.now ≡ true }
         ensures { self.new ≡ raise_nodes (between from.now to.now) value self.old }
     {
@@ -233,7 +226,6 @@ impl Nodes {
         first: Option<&KeyRef<'_>>,
         second: Option<&KeyRef<'_>>,
     ) -> Result<NewKeys, NoMemory>
-        requires sorted { IsSorted self.now }
         ensures first { IfOk result
             (λ new. IsNewKey self.now (option_map (λ k. k.now) first.entry) new.first) }
         ensures second { IfOk result
@@ -283,7 +275,6 @@ impl Nodes {
     /// then, and it takes the memory of a copy of the key. It costs a search, and a move of what
     /// stands above a new node.
     pub fn make_node(&mut self, key: &KeyRef<'_>) -> Result<(), NoMemory>
-        requires sorted { IsSorted self.old }
         ensures { OnOk result (MakesNodes self.old self.new (Some key.now) None) }
     {
         let new = self.new_keys(Some(key), None)?;
@@ -296,7 +287,6 @@ impl Nodes {
     /// and `None` says so; nor where memory is refused. Where both keys have nodes no memory is
     /// asked for.
     pub fn add_owned(&mut self, add: &Addition<'_>, room: Grown) -> Result<Option<Grown>, NoMemory>
-        requires sorted { IsSorted self.old }
         ensures told { IsTold self.old self.new add.now room result }
     {
         let new = self.new_keys(add.first, add.second)?;
@@ -322,7 +312,6 @@ impl Nodes {
     /// nothing changes, and `None` says so; nor where memory is refused. It costs a search, and for
     /// a new key its copy and a move of what stands above it.
     pub fn add_key(&mut self, add: &KeyAddition<'_>, room: Grown) -> Result<Option<Grown>, NoMemory>
-        requires sorted { IsSorted self.old }
         ensures told { IsKeyTold self.old self.new add.now room result }
     {
         match self.lists().find(add.search().bytes()) {
@@ -341,7 +330,6 @@ impl Nodes {
         add: &KeyAddition<'_>,
         room: Grown,
     ) -> Result<Option<Grown>, NoMemory>
-        requires sorted { IsSorted self.old }
         requires falls { FallsAt self.old add.now.key place }
         ensures told { IsKeyTold self.old self.new add.now room result }
     {
@@ -401,14 +389,14 @@ struct Lists<'a> {
 }
 
 impl<'a> Model for Lists<'a> {
-    ghost use Rattle.std.specs.Prelude.{◌≡◌, List, length};
-    ghost use Rattle.tsc_page_nodes.specs.Nodes.{Node, paired};
+    ghost use Rattle.std.specs.Prelude.{List};
+    ghost use Rattle.tsc_page_nodes.specs.Nodes.{Node, ArePaired, paired};
 
     ghost Value = { List Node };
 
     ghost view = { λ l. paired l.keys.now l.values.now };
 
-    ghost invariant = { λ l. length l.keys.now ≡ length l.values.now };
+    ghost invariant = { λ l. ArePaired l.keys.now l.values.now };
 }
 
 impl<'a> Lists<'a> {
@@ -416,7 +404,6 @@ impl<'a> Lists<'a> {
     /// last of these that isn't above on at one after another. No look has to wait for what another
     /// one reads, as in a binary search, so the processor reads ahead.
     fn find(&self, key: &NumberedBytes<'_>) -> Result<usize, usize>
-        requires sorted { IsSorted self.now }
         ensures { IsFoundAt self.now key.now result }
     {
         self.find_from(self.stride_before(key), key)
@@ -425,7 +412,6 @@ impl<'a> Lists<'a> {
     /// The last of every eighth place, from the first one on, before which all keys lie below a
     /// key.
     fn stride_before(&self, key: &NumberedBytes<'_>) -> usize
-        requires sorted { IsSorted self.now }
         ensures { HasKeysBelow self.now key.now result }
     {
         let mut low = 0;
@@ -442,7 +428,6 @@ impl<'a> Lists<'a> {
     /// The same as `find`, by a look at one key after another from a place on, before which all are
     /// below.
     fn find_from(&self, place: usize, key: &NumberedBytes<'_>) -> Result<usize, usize>
-        requires sorted { IsSorted self.now }
         requires low { HasKeysBelow self.now key.now place }
         ensures { IsFoundAt self.now key.now result }
     {
@@ -469,7 +454,6 @@ impl<'a> Lists<'a> {
     /// Where a cut lies: where its key does, or behind all. The key may stand at a place that is
     /// told.
     fn place_of(&self, cut: &PrefixedCut<'_>, near: Option<usize>) -> Result<usize, usize>
-        requires sorted { IsSorted self.now }
         ensures { IsPlaceOf self.now cut.now result }
     {
         let Some(key) = cut.key() else {
@@ -489,7 +473,6 @@ impl<'a> Lists<'a> {
         place: usize,
         near: Option<usize>,
     ) -> Result<usize, usize>
-        requires sorted { IsSorted self.now }
         requires low { LiesFrom self.now cut.now place }
         ensures { IsPlaceOf self.now cut.now result }
     {
@@ -522,11 +505,11 @@ impl<'a> Lists<'a> {
         to: &PrefixedCut<'_>,
         near: (Option<usize>, Option<usize>),
     ) -> (Range<usize>, Range<usize>)
-        requires sorted { IsSorted self.now }
         requires order { is_below from.now to.now ≡ true }
         ensures keys { HoldsKeysOn self.now (between from.now to.now) result.0.start result.0.end }
         ensures gaps { HoldsGapsOn self.now (between from.now to.now) result.1.start result.1.end }
     {
+        let _keys = self.keys;
         let low = self.place_of(from, near.0);
         let high = self.place_from(to, index_of(low), near.1);
         let keys = self.key_above(low, from.cut())..self.key_above(high, to.cut());
@@ -540,7 +523,6 @@ impl<'a> Lists<'a> {
         alloc: Global,
         key: Option<&KeyRef<'_>>,
     ) -> Result<(Option<usize>, Option<(usize, PrefixedKey)>), NoMemory>
-        requires sorted { IsSorted self.now }
         ensures value { IfOk result
             (λ found. IsNewKey self.now (option_map (λ k. k.now) key.entry) found.1) }
         ensures memory { is_new_among (node_keys self.now) (option_map (λ k. k.now) key.entry) ≡
@@ -548,6 +530,7 @@ impl<'a> Lists<'a> {
         ensures place { IfOk result
             (λ found. IsPlaceTold self.now (option_map (λ k. k.now) key.entry) found.1 found.0) }
     {
+        let _keys = self.keys;
         let Some(key) = key else {
             return Ok((None, None))
         };

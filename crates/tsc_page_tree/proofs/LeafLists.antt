@@ -6,7 +6,7 @@ use Rattle.std.proofs.lemmas.List.{append_assoc}
 use Rattle.tsc_span.specs.Span.{Cut, before, after, last}
 use Rattle.tsc_page_nodes.specs.PageView.{AreLeafSizes}
 use Rattle.tsc_page_nodes.specs.Nodes.{Node, IsSorted}
-use Rattle.tsc_page_tree.specs.Leaves.{nodes_of, AreSome, start_of, IsLeafAt}
+use Rattle.tsc_page_tree.specs.Leaves.{nodes_of, AreSome, AreParts, IsPart, start_of, IsLeafAt}
 use Rattle.tsc_page_nodes.proofs.CutOrder.{Lt, Le, Le-from_Lt, Le-itself, Lt-chain, Le-chain, Le_Lt-chain, before-after}
 use Rattle.tsc_page_nodes.proofs.Cuts.{lowest}
 use Rattle.tsc_page_nodes.proofs.Places.{before_or_past}
@@ -202,3 +202,24 @@ all_insert Q (x ∷ xs) (suc p) y few all at zero d h = all 0 d (omega arith)
 all_insert Q (x ∷ xs) (suc p) y few all at (suc i) d h =
     all_insert Q xs p y (omega (arith, few)) (λ j e g. all (suc j) e (omega arith)) at i d
     (omega (arith, h))
+
+-- each of parts in order is in order
+pub part_sorted : {X : Type 0} (f : X → List Node) (Q : X → Type 0) (xs : List X) (p : ℕ) (d : X) →
+    p < length xs → AreParts f Q xs → IsSorted (f (get_or xs p d))
+part_sorted f Q [] p d inside parts = absurd (omega (arith, inside))
+part_sorted f Q (x ∷ xs) zero d inside parts = sorted_left (f x) (nodes_of (map f xs)) parts.sorted
+part_sorted f Q (x ∷ xs) (suc p) d inside parts =
+    part_sorted f Q xs p d (omega (arith, inside))
+    (record {
+      whole = λ i e h. parts.whole (suc i) e (omega (arith, h));
+      sorted = sorted_right (f x) (nodes_of (map f xs)) parts.sorted;
+    })
+
+pub is_part : {X : Type 0} (f : X → List Node) (Q : X → Type 0) (xs : List X) (p : ℕ) (d : X) →
+    p < length xs → AreParts f Q xs → IsPart f Q (get_or xs p d)
+is_part f Q xs p d inside parts =
+    record { whole = parts.whole p d inside; sorted = part_sorted f Q xs p d inside parts }
+
+pub read_part : {X : Type 0} (f : X → List Node) (Q : X → Type 0) (xs : List X) (p : ℕ) (x : X) →
+    p < length xs → x ≡ get_or xs p x → AreParts f Q xs → IsPart f Q x
+read_part f Q xs p x inside is parts = subst (IsPart f Q) (sym is) (is_part f Q xs p x inside parts)

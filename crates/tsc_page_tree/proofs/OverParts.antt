@@ -9,6 +9,7 @@ use Rattle.tsc_page_nodes.specs.Additions.{Addend, before_second}
 use Rattle.tsc_page_tree.specs.Leaves.{nodes_of, start_of, AreSome, AreParts, IsLeafAt}
 use Rattle.tsc_page_tree.specs.Pending.{everything, AddsSome, nothing_grown}
 use Rattle.tsc_page_tree.specs.Across.{AreRaisedAcross, IsAcrossTold, IsLastReached}
+use Rattle.tsc_page_tree.specs.Copies.{KeepsSizes, AllKeepSizes}
 use Rattle.tsc_page_nodes.proofs.CutOrder.{Lt, Le}
 use Rattle.tsc_page_tree.proofs.Joins.{up_to_last, sorted_left, sorted_right}
 use Rattle.tsc_page_tree.proofs.LeafLists.{starts_low, ends_high, all_set}
@@ -177,7 +178,6 @@ pub all_second : {X : Type 0} (Q : X → Type 0) (xs ys : List X) → All Q (xs 
 all_second Q [] ys all = all
 all_second Q (x ∷ xs) ys all = all_second Q xs ys (λ j e g. all (suc j) e (omega (arith, g)))
 
--- What is told of a part that is raised or stays.
 sizes_same : {X Y : Type 0} (s : X → Y) (xs : List X) (p : ℕ) (d x : X) → p < length xs →
     s x ≡ s (get_or xs p d) → map s (set xs p x) ≡ map s xs
 sizes_same s xs p d x inside same = same_by s xs p d x inside same
@@ -291,44 +291,6 @@ module _ {X : Type 0} (f : X → List Node) (bl md ab : List X) (p : ℕ) (d x e
             (ap (λ (c : Bool). cond c a.second None)
             (sym (not_false (is_below a.to (start_of behind)) (sym h)))) g wholly
 
--- the sizes stay
-pub sizes_over : {X : Type 0} (s : X → List ℕ) (bl md mn ab : List X) (p : ℕ) (d x e y : X) →
-    length bl ≡ suc p → 1 ≤ length ab → s x ≡ s (get_or bl p d) → map s mn ≡ map s md →
-    s y ≡ s (get_or ab 0 e)
-    → map s (set bl p x ++ (mn ++ set ab 0 y)) ≡ map s (bl ++ (md ++ ab))
-sizes_over s bl md mn ab p d x e y long one low mid high =
-    map-append s (set bl p x) (mn ++ set ab 0 y) ∙
-    ap (λ (ls : List (List ℕ)). map s (set bl p x) ++ ls) (map-append s mn (set ab 0 y))
-    ∙ ap (λ (ls : List (List ℕ)). ls ++ (map s mn ++ map s (set ab 0 y)))
-    (sizes_same s bl p d x (omega (arith, long)) low)
-    ∙ ap (λ (ls : List (List ℕ)). map s bl ++ (ls ++ map s (set ab 0 y))) mid ∙
-    ap (λ (ls : List (List ℕ)). map s bl ++ (map s md ++ ls)) (sizes_same s ab 0 e y one high)
-    ∙ ap (λ (ls : List (List ℕ)). map s bl ++ ls) (sym (map-append s md ab)) ∙
-    sym (map-append s bl (md ++ ab))
-
--- and how many there are
-pub long_over : {X : Type 0} (bl md mn ab : List X) (p : ℕ) (x y : X) → length mn ≡ length md →
-    length (set bl p x ++ (mn ++ set ab 0 y)) ≡ length (bl ++ (md ++ ab))
-long_over bl md mn ab p x y same =
-    omega (
-      arith,
-      length-append (set bl p x) (mn ++ set ab 0 y),
-      length-append mn (set ab 0 y),
-      length-set bl p x,
-      length-set ab 0 y,
-      length-append bl (md ++ ab),
-      length-append md ab,
-      same,
-    )
-
--- and all are whole
-pub whole_over : {X : Type 0} (Q : X → Type 0) (bl md mn ab : List X) (p : ℕ) (x y : X) →
-    All Q (bl ++ (md ++ ab)) → All Q mn → Q x → Q y → All Q (set bl p x ++ (mn ++ set ab 0 y))
-whole_over Q bl md mn ab p x y all mid low high =
-    all_two Q (set bl p x) (mn ++ set ab 0 y) (all_set Q bl p x (all_first Q bl (md ++ ab) all) low)
-    (all_two Q mn (set ab 0 y) mid
-    (all_set Q ab 0 y (all_second Q md ab (all_second Q bl (md ++ ab) all)) high))
-
 -- The same over two lists: the first parts of one, and those behind them; the last parts of the
 -- other, and those before them.
 module _ {X : Type 0} (f : X → List Node) (bl md ot ab : List X) (p : ℕ) (d x e y : X)
@@ -421,21 +383,48 @@ module _ {X : Type 0} (f : X → List Node) (bl md ot ab : List X) (p : ℕ) (d 
             (sym (not_false (is_below a.to (start_of (nodes_of (map f (drop 1 ab))))) (sym h))))
             g wholly others
 
-pub sizes_low : {X : Type 0} (s : X → List ℕ) (bl md mn : List X) (p : ℕ) (d x : X) →
-    length bl ≡ suc p → s x ≡ s (get_or bl p d) → map s mn ≡ map s md →
-    map s (set bl p x ++ mn) ≡ map s (bl ++ md)
-sizes_low s bl md mn p d x long low mid =
-    map-append s (set bl p x) mn ∙
-    ap (λ (ls : List (List ℕ)). ls ++ map s mn)
-    (sizes_same s bl p d x (omega (arith, long)) low) ∙
-    ap (λ (ls : List (List ℕ)). map s bl ++ ls) mid ∙ sym (map-append s bl md)
+-- parts that stay keep all
+pub keep_same : {X : Type 0} (s : X → List ℕ) (Q : X → Type 0) (xs : List X) → All Q xs →
+    AllKeepSizes s Q xs xs
+keep_same s Q xs all = record { sizes = refl; whole = all; len = refl }
 
-pub sizes_high : {X : Type 0} (s : X → List ℕ) (ot on ab : List X) (e y : X) → 1 ≤ length ab →
-    s y ≡ s (get_or ab 0 e) → map s on ≡ map s ot → map s (on ++ set ab 0 y) ≡ map s (ot ++ ab)
-sizes_high s ot on ab e y one high others =
-    map-append s on (set ab 0 y) ∙ ap (λ (ls : List (List ℕ)). ls ++ map s (set ab 0 y)) others ∙
-    ap (λ (ls : List (List ℕ)). map s ot ++ ls) (sizes_same s ab 0 e y one high) ∙
-    sym (map-append s ot ab)
+-- the first parts, with another in the place of one of them, and those behind them
+pub keeps_low : {X : Type 0} (s : X → List ℕ) (Q : X → Type 0) (bl md mn : List X) (p : ℕ)
+    (d x : X) → length bl ≡ suc p → All Q bl → KeepsSizes s Q (get_or bl p d) x →
+    AllKeepSizes s Q md mn → AllKeepSizes s Q (bl ++ md) (set bl p x ++ mn)
+keeps_low s Q bl md mn p d x long all low mid = record {
+  sizes = map-append s (set bl p x) mn ∙
+      ap (λ (ls : List (List ℕ)). ls ++ map s mn)
+      (sizes_same s bl p d x (omega (arith, long)) low.sizes) ∙
+      ap (λ (ls : List (List ℕ)). map s bl ++ ls) mid.sizes ∙ sym (map-append s bl md);
+  whole = all_two Q (set bl p x) mn (all_set Q bl p x all low.whole) mid.whole;
+  len = omega (
+    arith,
+    length-append (set bl p x) mn,
+    length-set bl p x,
+    length-append bl md,
+    mid.len,
+  );
+}
+
+-- the last parts, with another in the place of the first, and those before them
+pub keeps_high : {X : Type 0} (s : X → List ℕ) (Q : X → Type 0) (ot on ab : List X) (e y : X) →
+    1 ≤ length ab → All Q ab → KeepsSizes s Q (get_or ab 0 e) y → AllKeepSizes s Q ot on →
+    AllKeepSizes s Q (ot ++ ab) (on ++ set ab 0 y)
+keeps_high s Q ot on ab e y one all high others = record {
+  sizes = map-append s on (set ab 0 y) ∙
+      ap (λ (ls : List (List ℕ)). ls ++ map s (set ab 0 y)) others.sizes ∙
+      ap (λ (ls : List (List ℕ)). map s ot ++ ls) (sizes_same s ab 0 e y one high.sizes) ∙
+      sym (map-append s ot ab);
+  whole = all_two Q on (set ab 0 y) others.whole (all_set Q ab 0 y all high.whole);
+  len = omega (
+    arith,
+    length-append on (set ab 0 y),
+    length-set ab 0 y,
+    length-append ot ab,
+    others.len,
+  );
+}
 
 -- the part before the one of a cut is the last one reached
 pub last_before : (ls : List (List Node)) (t : Cut) (q : ℕ) → AreSome ls → IsSorted (nodes_of ls) →
@@ -463,15 +452,3 @@ parts_second f Q xs ys parts = record {
   sorted = sorted_right (nodes_of (map f xs)) (nodes_of (map f ys))
       (subst IsSorted (nodes_of_both f xs ys) parts.sorted);
 }
-
--- each of them is in order
-pub part_sorted : {X : Type 0} (f : X → List Node) (Q : X → Type 0) (xs : List X) (p : ℕ) (d : X) →
-    p < length xs → AreParts f Q xs → IsSorted (f (get_or xs p d))
-part_sorted f Q [] p d inside parts = absurd (omega (arith, inside))
-part_sorted f Q (x ∷ xs) zero d inside parts = sorted_left (f x) (nodes_of (map f xs)) parts.sorted
-part_sorted f Q (x ∷ xs) (suc p) d inside parts =
-    part_sorted f Q xs p d (omega (arith, inside))
-    (record {
-      whole = λ i e h. parts.whole (suc i) e (omega (arith, h));
-      sorted = sorted_right (f x) (nodes_of (map f xs)) parts.sorted;
-    })

@@ -5,6 +5,7 @@ use Rattle.tsc_page_nodes.specs.PageView.{is_in}
 use Rattle.tsc_page_nodes.specs.Nodes.{Node, node_keys, raise_nodes}
 use Rattle.tsc_page_nodes.specs.Additions.{Addend}
 use Rattle.tsc_page_tree.specs.Leaves.{nodes_of, start_of}
+use Rattle.tsc_page_tree.specs.Pending.{AddsSome, nothing_grown}
 
 -- a key has a node, where it is one
 abbrev pub HasKey : Option KeyBytes → List Node → Type 0
@@ -23,6 +24,12 @@ pub record AreRaisedAcross (low new_low high new_high : List Node) (a : Addend) 
 abbrev pub IsAcrossTold : (low new_low high new_high : List Node) → Addend → Bool → Type 0
 IsAcrossTold low new_low high new_high a true = AreRaisedAcross low new_low high new_high a
 IsAcrossTold low new_low high new_high a false = (new_low ≡ low) × (new_high ≡ high)
+
+-- What a call makes of the nodes of one list of parts that raises over several of these, or leaves
+-- all as it is.
+pub record RaisesOver (old new : List Node) (a : Addend) (done : Bool) : Type 0 where
+  pub raised : done ≡ true → AddsSome old new a 0 nothing_grown
+  pub left : done ≡ false → new ≡ old
 
 -- The last part that a span reaches which stops at a cut, or the first one.
 pub record IsLastReached (ls : List (List Node)) (t : Cut) (p : ℕ) : Type 0 where

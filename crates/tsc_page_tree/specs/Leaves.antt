@@ -1,8 +1,8 @@
 -- How the nodes of a page stand in leaves, one after another.
 use Rattle.std.specs.List.{All}
-use Rattle.std.specs.Prelude.{◌≡◌, ℕ, suc, ◌<◌, ◌≤◌, ◌-◌, List, [], ◌∷◌, ◌++◌, length, map, slice_index_or, true, false, Option, Some, None, if◌then◌else◌}
+use Rattle.std.specs.Prelude.{◌≡◌, ℕ, suc, ◌<◌, ◌≤◌, ◌-◌, List, [], ◌∷◌, ◌++◌, length, map, drop, slice_index_or, true, false, Option, Some, None, if◌then◌else◌}
 use Rattle.tsc_time.specs.OwnedTime.{OwnedTime}
-use Rattle.tsc_span.specs.Span.{KeyBytes, Cut, before, after, Interval, is_below, end_keys}
+use Rattle.tsc_span.specs.Span.{KeyBytes, Cut, after, Interval, is_below, end_keys}
 use Rattle.tsc_page_nodes.specs.PageView.{AreLeafSizes}
 use Rattle.tsc_page_nodes.specs.Nodes.{Node, next_cut, node_stretches, IsSorted, IsNewKey, IsSplitAt, with_new, raise_nodes}
 
@@ -25,6 +25,17 @@ pub record AreParts {X : Type 0} (nodes : X → List Node) (IsWhole : X → Type
     0 where
   pub whole : All IsWhole xs
   pub sorted : IsSorted (nodes_of (map nodes xs))
+
+-- A part that is as it has to be, with its nodes in the order of their keys.
+pub record IsPart {X : Type 0} (nodes : X → List Node) (IsWhole : X → Type 0) (x : X) : Type 0 where
+  pub whole : IsWhole x
+  pub sorted : IsSorted (nodes x)
+
+-- Parts in order, of which there are some.
+pub record AreSomeParts {X : Type 0} (nodes : X → List Node) (IsWhole : X → Type 0) (xs : List X) :
+    Type 0 where
+  pub parts : AreParts nodes IsWhole xs
+  pub some : 1 ≤ length xs
 
 -- how many nodes a leaf has
 abbrev pub IsLeaf : List Node → Type 0
@@ -51,6 +62,13 @@ pub record IsLeafAt (ls : List (List Node)) (c : Cut) (p : ℕ) : Type 0 where
   pub bound : p ≤ length ls - 1
   pub low : 1 ≤ p → is_below c (start_of (slice_index_or ls p [])) ≡ false
   pub high : suc p < length ls → is_below c (start_of (slice_index_or ls (suc p) [])) ≡ true
+
+-- What starts at a cut, in the part at a place, and stops at another cut behind that part.
+pub record GoesBeyond {X : Type 0} (nodes : X → List Node) (xs : List X) (from to : Cut) (p : ℕ) :
+    Type 0 where
+  pub bound : p < length xs
+  pub first : IsLeafAt (map nodes xs) from p
+  pub beyond : is_below (start_of (nodes_of (drop (suc p) (map nodes xs)))) to ≡ true
 
 -- A place at which no leaf begins above a cut: the first one, whatever is there, or that of a leaf
 -- that doesn't.

@@ -4,7 +4,7 @@ use Rattle.std.proofs.Common.{◌∙◌, sym, ap, subst}
 use Rattle.std.specs.Arc.{arc_value}
 use Rattle.std.specs.List.{All}
 use Rattle.std.specs.declared.vec.Vec.{Vec}
-use Rattle.tsc_page_nodes.specs.Nodes.{Node}
+use Rattle.tsc_page_nodes.specs.Nodes.{Node, IsSorted}
 use Rattle.tsc_page_tree.specs.Leaves.{nodes_of, IsLeaf}
 use Rattle.tsc_page_tree.specs.Pending.{with_pending, IsToldOf, sizes_of, AreSizesOf}
 use Rattle.tsc_page_tree.specs.Copies.{IsSameAs}
@@ -59,6 +59,12 @@ pub record AreFewParts {P : Type 0} (IsWhole : P → Type 0) (ps : List P) : Typ
   pub each : All IsWhole ps
   pub some : 1 ≤ length ps
   pub few : length ps ≤ 64
+
+-- 1 to 64 parts, with their nodes in the order of their keys.
+pub record AreForkParts {P : Type 0} (nodes : P → List Node) (IsWhole : P → Type 0) (ps : List P) :
+    Type 0 where
+  pub few : AreFewParts IsWhole ps
+  pub sorted : IsSorted (nodes_of (map nodes ps))
 
 -- A fork of 1 to 64 parts.
 pub record IsForkOf {P : Type 0} (nodes : P → List Node) (sizes_in : P → List ℕ)

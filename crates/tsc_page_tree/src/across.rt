@@ -1,11 +1,9 @@
-ghost use Rattle.std.specs.Prelude.{◌≡◌, ◌≤◌, ◌<◌, suc, map, length, drop, true, false, if◌then◌else◌};
-ghost use Rattle.std.specs.List.{All};
+ghost use Rattle.std.specs.Prelude.{◌≡◌, ◌≤◌, map, length, true, if◌then◌else◌};
 ghost use Rattle.tsc_span.specs.Span.{is_below};
-ghost use Rattle.tsc_page_nodes.specs.Nodes.{IsSorted};
 ghost use Rattle.tsc_page_nodes.specs.Additions.{before_second};
-ghost use Rattle.tsc_page_tree.specs.Leaves.{AreParts, IsLeafAt, nodes_of, start_of};
-ghost use Rattle.tsc_page_tree.specs.Pending.{AddsSome, nothing_grown};
-ghost use Rattle.tsc_page_tree.specs.Across.{IsAcrossTold, IsLastReached};
+ghost use Rattle.tsc_page_tree.specs.Leaves.{AreParts, AreSomeParts, GoesBeyond, IsPart, nodes_of, start_of};
+ghost use Rattle.tsc_page_tree.specs.Copies.{KeepsSizes, AllKeepSizes};
+ghost use Rattle.tsc_page_tree.specs.Across.{IsAcrossTold, IsLastReached, RaisesOver};
 
 use crate::parts::{Part, part_at, raise_all, stops_at_next};
 use tsc_page_nodes::{Addition, PrefixedCut};
@@ -26,17 +24,13 @@ fn last_reached<P: Part>(parts: &[P], to: &PrefixedCut<'_>) -> usize
 
 /// Raises over two parts, where what stops right behind the second one keeps its end key from it.
 fn raise_ends<P: Part>(low: &mut P, high: &mut P, add: &Addition<'_>, stops: bool) -> bool
-    requires whole_low { P.IsWhole low.old }
-    requires whole_high { P.IsWhole high.old }
-    requires sorted_low { IsSorted (P.nodes low.old) }
-    requires sorted_high { IsSorted (P.nodes high.old) }
+    requires low { IsPart P.nodes P.IsWhole low.old }
+    requires high { IsPart P.nodes P.IsWhole high.old }
     requires reaches { is_below (start_of (P.nodes high.old)) add.now.to ≡ true }
     ensures told { IsAcrossTold (P.nodes low.old) (P.nodes low.new) (P.nodes high.old)
         (P.nodes high.new) (if stops then before_second add.now else add.now) result }
-    ensures sizes_low { P.sizes low.new ≡ P.sizes low.old }
-    ensures sizes_high { P.sizes high.new ≡ P.sizes high.old }
-    ensures low { P.IsWhole low.new }
-    ensures high { P.IsWhole high.new }
+    ensures low { KeepsSizes P.sizes P.IsWhole low.old low.new }
+    ensures high { KeepsSizes P.sizes P.IsWhole high.old high.new }
 {
     if stops {
         P::raise_across(low, high, &add.before_second())
@@ -49,19 +43,13 @@ fn raise_ends<P: Part>(low: &mut P, high: &mut P, add: &Addition<'_>, stops: boo
 /// span starts up to that of the second one in which it stops. Says whether it did, as
 /// [`Part::raise_across`]; else nothing changes.
 pub(crate) fn raise_two<P: Part>(low: &mut [P], high: &mut [P], add: &Addition<'_>) -> bool
-    requires parts_low { AreParts P.nodes P.IsWhole low.old }
-    requires parts_high { AreParts P.nodes P.IsWhole high.old }
-    requires some_low { 1 ≤ length low.old }
-    requires some_high { 1 ≤ length high.old }
+    requires low { AreSomeParts P.nodes P.IsWhole low.old }
+    requires high { AreSomeParts P.nodes P.IsWhole high.old }
     requires reaches { is_below (start_of (nodes_of (map P.nodes high.old))) add.now.to ≡ true }
     ensures told { IsAcrossTold (nodes_of (map P.nodes low.old)) (nodes_of (map P.nodes low.new))
         (nodes_of (map P.nodes high.old)) (nodes_of (map P.nodes high.new)) add.now result }
-    ensures sizes_low { map P.sizes low.new ≡ map P.sizes low.old }
-    ensures sizes_high { map P.sizes high.new ≡ map P.sizes high.old }
-    ensures low { All P.IsWhole low.new }
-    ensures high { All P.IsWhole high.new }
-    ensures len_low { length low.new ≡ length low.old }
-    ensures len_high { length high.new ≡ length high.old }
+    ensures low { AllKeepSizes P.sizes P.IsWhole low.old low.new }
+    ensures high { AllKeepSizes P.sizes P.IsWhole high.old high.new }
 {
     let first = part_at(low, add.from);
     let last = last_reached(high, add.to);
@@ -80,18 +68,10 @@ pub(crate) fn raise_two<P: Part>(low: &mut [P], high: &mut [P], add: &Addition<'
 /// Says whether it did, as [`Part::raise_across`]; else nothing changes.
 pub(crate) fn raise_over<P: Part>(parts: &mut [P], first: usize, add: &Addition<'_>) -> bool
     requires parts { AreParts P.nodes P.IsWhole parts.old }
-    requires bound { first < length parts.old }
-    requires first { IsLeafAt (map P.nodes parts.old) add.now.from first }
-    requires beyond { is_below (start_of (nodes_of (drop (suc first) (map P.nodes parts.old))))
-        add.now.to ≡ true }
-    ensures raised { result ≡ true →
-        AddsSome (nodes_of (map P.nodes parts.old)) (nodes_of (map P.nodes parts.new)) add.now 0
-        nothing_grown }
-    ensures left { result ≡ false →
-        nodes_of (map P.nodes parts.new) ≡ nodes_of (map P.nodes parts.old) }
-    ensures sizes { map P.sizes parts.new ≡ map P.sizes parts.old }
-    ensures whole { All P.IsWhole parts.new }
-    ensures len { length parts.new ≡ length parts.old }
+    requires goes { GoesBeyond P.nodes parts.old add.now.from add.now.to first }
+    ensures told { RaisesOver (nodes_of (map P.nodes parts.old)) (nodes_of (map P.nodes parts.new))
+        add.now result }
+    ensures kept { AllKeepSizes P.sizes P.IsWhole parts.old parts.new }
 {
     let last = last_reached(parts, add.to);
     let stops = stops_at_next(parts, last, add.to);

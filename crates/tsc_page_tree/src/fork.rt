@@ -3,7 +3,7 @@ ghost use Rattle.std.specs.List.{All};
 ghost use Rattle.tsc_page_nodes.specs.Nodes.{IsSorted};
 ghost use Rattle.tsc_page_tree.specs.Leaves.{AreParts, HasNode, nodes_of};
 ghost use Rattle.tsc_page_tree.specs.Pending.{with_pending, all_joint};
-ghost use Rattle.tsc_page_tree.specs.Trees.{fork_nodes, fork_sizes, fork_copied, AreFewParts, IsWholeFork, IsForkCopy, IsTold, items_in, level_nodes, IsWholeLevel};
+ghost use Rattle.tsc_page_tree.specs.Trees.{fork_nodes, fork_sizes, fork_copied, AreFewParts, AreForkParts, IsWholeFork, IsForkCopy, IsTold, items_in, level_nodes, IsWholeLevel};
 
 use crate::parts::Part;
 use crate::summary::Summary;
@@ -27,8 +27,7 @@ pub struct Fork<P> {
 
 impl<P: Part> Fork<P> {
     fn new(alloc: Global, parts: Vec<P>) -> Result<Fork<P>, NoMemory>
-        requires few { AreFewParts P.IsWhole parts.items }
-        requires sorted { IsSorted (nodes_of (map P.nodes parts.items)) }
+        requires parts { AreForkParts P.nodes P.IsWhole parts.items }
         ensures nodes { IfOk result
             (λ fork. fork_nodes P.nodes fork ≡ nodes_of (map P.nodes parts.items)) }
         ensures whole { IfOk result (IsWholeFork P.nodes P.sizes P.IsWhole) }
@@ -70,8 +69,7 @@ pub enum Level<P> {
 /// Makes a node of a key among parts, where it has none. Where there would then be more parts than
 /// a fork has, they come into two forks.
 pub fn with_node<P: Part>(parts: Vec<P>, key: &KeyRef<'_>) -> Result<Level<P>, NoMemory>
-    requires few { AreFewParts P.IsWhole parts.items }
-    requires sorted { IsSorted (nodes_of (map P.nodes parts.items)) }
+    requires parts { AreForkParts P.nodes P.IsWhole parts.items }
     ensures made { IfOk result (λ level. HasNode (nodes_of (map P.nodes parts.items))
         (level_nodes P.nodes level) key.now) }
     ensures whole { IfOk result (IsWholeLevel P.nodes P.sizes P.IsWhole) }
@@ -214,8 +212,7 @@ impl<P: Part> Part for Fork<P> {
 
 /// What is known of all nodes of parts over which nothing is pending.
 fn summary_of<P: Part>(parts: &[P]) -> Summary
-    requires few { AreFewParts P.IsWhole parts.now }
-    requires sorted { IsSorted (nodes_of (map P.nodes parts.now)) }
+    requires parts { AreForkParts P.nodes P.IsWhole parts.now }
     ensures told { IsTold result (nodes_of (map P.nodes parts.now)) }
     ensures pending { result.pending ≡ None }
 {
@@ -230,8 +227,7 @@ fn summary_of<P: Part>(parts: &[P]) -> Summary
 /// of them was made. A new node has the value of the gap in which it falls, so the joint value
 /// stays, unless parts were cut off.
 fn summary_with<P: Part>(parts: &[P], before: &Summary, cut: bool) -> Summary
-    requires few { AreFewParts P.IsWhole parts.now }
-    requires sorted { IsSorted (nodes_of (map P.nodes parts.now)) }
+    requires parts { AreForkParts P.nodes P.IsWhole parts.now }
     requires kept { cut ≡ false → before.now.joint ≡ all_joint (nodes_of (map P.nodes parts.now)) }
     ensures told { IsTold result (nodes_of (map P.nodes parts.now)) }
     ensures pending { result.pending ≡ None }
@@ -267,8 +263,7 @@ fn grow<P: Part>(
     alloc: Global,
     key: &KeyRef<'_>,
 ) -> Result<Option<Vec<P>>, NoMemory>
-    requires few { AreFewParts P.IsWhole parts.old.items }
-    requires sorted { IsSorted (nodes_of (map P.nodes parts.old.items)) }
+    requires parts { AreForkParts P.nodes P.IsWhole parts.old.items }
     ensures made { IfOk result (λ upper. HasNode (nodes_of (map P.nodes parts.old.items))
         (nodes_of (map P.nodes parts.new.items) ++ nodes_of (map P.nodes (items_in upper)))
         key.now) }

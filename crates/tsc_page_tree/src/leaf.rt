@@ -29,7 +29,6 @@ impl Leaf {
     /// A leaf of nodes, over which nothing is pending.
     pub fn new(alloc: Global, nodes: Nodes) -> Result<Leaf, NoMemory>
         requires leaf { IsLeaf nodes }
-        requires sorted { IsSorted nodes }
         ensures nodes { IfOk result (λ leaf. leaf_nodes leaf ≡ nodes) }
         ensures whole { IfOk result IsWholeLeaf }
     {
@@ -193,7 +192,6 @@ impl Part for Leaf {
 /// What is known of nodes over which nothing is pending.
 fn summary_of(nodes: &Nodes) -> Summary
     requires some { 1 ≤ length nodes.now }
-    requires sorted { IsSorted nodes.now }
     ensures told { IsTold result nodes.now }
     ensures pending { result.pending ≡ None }
 {
@@ -211,7 +209,6 @@ fn summary_of(nodes: &Nodes) -> Summary
 /// nodes were cut off.
 fn summary_with(nodes: &Nodes, before: &Summary, cut: bool) -> Summary
     requires some { 1 ≤ length nodes.now }
-    requires sorted { IsSorted nodes.now }
     requires kept { cut ≡ false → before.now.joint ≡ all_joint nodes.now }
     ensures told { IsTold result nodes.now }
     ensures pending { result.pending ≡ None }
@@ -228,7 +225,6 @@ fn summary_with(nodes: &Nodes, before: &Summary, cut: bool) -> Summary
 
 /// Ratchets what is pending into nodes.
 fn push_down(nodes: &mut Nodes, summary: &Summary)
-    requires sorted { IsSorted nodes.old }
     ensures { nodes.new ≡ with_pending summary.now.pending nodes.old }
 {
     if let Some(pending) = summary.pending {
@@ -267,7 +263,6 @@ fn raise_above(
 /// behind the first 32 come off.
 fn grow(nodes: &mut Nodes, key: &KeyRef<'_>) -> Result<Option<Nodes>, NoMemory>
     requires leaf { IsLeaf nodes.old }
-    requires sorted { IsSorted nodes.old }
     ensures made { IfOk result (λ upper. HasNode nodes.old (nodes.new ++ nodes_in upper) key.now) }
     ensures leaf { OnOk result (IsLeaf nodes.new) }
     ensures upper { IfOk result (λ upper. IfSome upper (λ u. IsLeaf u)) }
@@ -282,7 +277,6 @@ fn grow(nodes: &mut Nodes, key: &KeyRef<'_>) -> Result<Option<Nodes>, NoMemory>
 
 /// Where a key stands, where it is one; `None` where it has no node.
 fn known_place(nodes: &Nodes, key: Option<&KeyRef<'_>>) -> Option<Option<usize>>
-    requires sorted { IsSorted nodes.now }
     ensures { IfSome result (λ _. HasKey (option_map (λ k. k.now) key.entry) nodes.now) }
 {
     match key {

@@ -6,10 +6,10 @@ ghost use Rattle.tsc_span.specs.Cuts.{cut_of};
 ghost use Rattle.tsc_page_nodes.specs.Numbers.{IsCutNumber};
 ghost use Rattle.tsc_page_nodes.specs.PageView.{is_in};
 ghost use Rattle.tsc_page_nodes.specs.KeysAbove.{first_above};
-ghost use Rattle.tsc_page_nodes.specs.Nodes.{Node, IsSorted, node_keys, answer_of, raise_nodes};
-ghost use Rattle.tsc_page_tree.specs.Leaves.{AreParts, HasNode, IsLeafAt, IsNotAbove, nodes_of, start_of};
+ghost use Rattle.tsc_page_nodes.specs.Nodes.{Node, node_keys, answer_of, raise_nodes};
+ghost use Rattle.tsc_page_tree.specs.Leaves.{AreParts, GoesBeyond, HasNode, IsLeafAt, IsNotAbove, IsPart, nodes_of, start_of};
 ghost use Rattle.tsc_page_tree.specs.Pending.{everything, all_joint, sizes_of, AreSizesOf, TellsSize, IsAddTold};
-ghost use Rattle.tsc_page_tree.specs.Copies.{IsSameAs};
+ghost use Rattle.tsc_page_tree.specs.Copies.{IsSameAs, KeepsSizes};
 ghost use Rattle.tsc_page_tree.specs.Across.{IsAcrossTold};
 ghost use Rattle.tsc_page_tree.specs.KeyAdds.{IsKeyAddTold};
 
@@ -52,27 +52,23 @@ pub trait Part: Clone + Drop {
 
     /// The joint value of the keys and gaps between two cuts.
     fn join_between(&self, from: &PrefixedCut<'_>, to: &PrefixedCut<'_>) -> Value
-        requires whole { IsWhole self.now }
-        requires sorted { IsSorted (nodes self.now) }
+        requires part { IsPart nodes IsWhole self.now }
         requires order { is_below from.now to.now ≡ true }
         ensures { result ≡ answer_of (nodes self.now) (between from.now to.now) };
 
     /// The joint value of what overlaps a key.
     fn value_at(&self, key: &SearchKey<'_>) -> Value
-        requires whole { IsWhole self.now }
-        requires sorted { IsSorted (nodes self.now) }
+        requires part { IsPart nodes IsWhole self.now }
         ensures { result ≡ answer_of (nodes self.now) (point key.now) };
 
     /// Whether this is a key that has no node.
     fn is_new(&self, key: &KeyRef<'_>) -> bool
-        requires whole { IsWhole self.now }
-        requires sorted { IsSorted (nodes self.now) }
+        requires part { IsPart nodes IsWhole self.now }
         ensures { result ≡ not (is_in key.now (node_keys (nodes self.now))) };
 
     /// The least key above a cut. It takes no memory.
     fn key_above(&self, cut: &PrefixedCut<'_>) -> Option<&Key>
-        requires whole { IsWhole self.now }
-        requires sorted { IsSorted (nodes self.now) }
+        requires part { IsPart nodes IsWhole self.now }
         ensures { option_map (λ k. k.now) result ≡ first_above cut.now
             (node_keys (nodes self.now)) };
 
@@ -82,8 +78,7 @@ pub trait Part: Clone + Drop {
 
     /// Ratchets a value into all keys and gaps. It takes no memory, and looks into nothing.
     fn raise_whole(&mut self, value: Value)
-        requires whole { IsWhole self.old }
-        requires sorted { IsSorted (nodes self.old) }
+        requires part { IsPart nodes IsWhole self.old }
         ensures raised { nodes self.new ≡ raise_nodes everything value (nodes self.old) }
         ensures sizes { sizes self.new ≡ sizes self.old }
         ensures whole { IsWhole self.new };
@@ -91,8 +86,7 @@ pub trait Part: Clone + Drop {
     /// Ratchets a value into the keys and gaps between two cuts, and changes nothing that others
     /// hold. Where memory is refused nothing is known of the part.
     fn raise_between(&mut self, from: Cut<'_>, to: Cut<'_>, value: Value) -> Result<(), NoMemory>
-        requires whole { IsWhole self.old }
-        requires sorted { IsSorted (nodes self.old) }
+        requires part { IsPart nodes IsWhole self.old }
         requires order { is_below (cut_of from) (cut_of to) ≡ true }
         ensures raised { OnOk result
             (nodes self.new ≡ raise_nodes (between (cut_of from.entry) (cut_of to.entry)) value
@@ -103,8 +97,7 @@ pub trait Part: Clone + Drop {
     /// part grows too long it is cut, and tells the part behind. Where memory is refused nothing is
     /// known of the part.
     fn make_node(&mut self, alloc: Global, key: &KeyRef<'_>) -> Result<Option<Self>, NoMemory>
-        requires whole { IsWhole self.old }
-        requires sorted { IsSorted (nodes self.old) }
+        requires part { IsPart nodes IsWhole self.old }
         ensures made { IfOk result
             (λ upper. HasNode (nodes self.old)
             (nodes self.new ++ nodes_of (map nodes (option_to_list upper))) key.now) }
@@ -117,8 +110,7 @@ pub trait Part: Clone + Drop {
     /// changes, nor where memory is refused. What others hold on the way down is copied first, as
     /// far as one part has all of the span, and stays as it is for them.
     fn add_within(&mut self, add: &Addition<'_>, room: u32) -> Result<Option<Grown>, NoMemory>
-        requires whole { IsWhole self.old }
-        requires sorted { IsSorted (nodes self.old) }
+        requires part { IsPart nodes IsWhole self.old }
         ensures told { IsAddTold (nodes self.old) (nodes self.new) (sizes self.old) (sizes self.new)
             add.now room result }
         ensures whole { IsWhole self.new };
@@ -128,8 +120,7 @@ pub trait Part: Clone + Drop {
     /// costs no more than `room` with it. Else nothing changes, nor where memory is refused. What
     /// is pending on the way stays so. What others hold on the way down is copied first.
     fn add_key(&mut self, add: &KeyAddition<'_>, room: u32) -> Result<Option<Grown>, NoMemory>
-        requires whole { IsWhole self.old }
-        requires sorted { IsSorted (nodes self.old) }
+        requires part { IsPart nodes IsWhole self.old }
         ensures told { IsKeyAddTold (nodes self.old) (nodes self.new) (sizes self.old)
             (sizes self.new) add.now room result }
         ensures whole { IsWhole self.new };
@@ -139,17 +130,13 @@ pub trait Part: Clone + Drop {
     /// and nobody else holds a way to the leaves in which the span starts and stops. Else nothing
     /// changes. It takes no memory.
     fn raise_across(low: &mut Self, high: &mut Self, add: &Addition<'_>) -> bool
-        requires whole_low { IsWhole low.old }
-        requires whole_high { IsWhole high.old }
-        requires sorted_low { IsSorted (nodes low.old) }
-        requires sorted_high { IsSorted (nodes high.old) }
+        requires low { IsPart nodes IsWhole low.old }
+        requires high { IsPart nodes IsWhole high.old }
         requires reaches { is_below (start_of (nodes high.old)) add.now.to ≡ true }
         ensures told { IsAcrossTold (nodes low.old) (nodes low.new) (nodes high.old)
             (nodes high.new) add.now result }
-        ensures sizes_low { sizes low.new ≡ sizes low.old }
-        ensures sizes_high { sizes high.new ≡ sizes high.old }
-        ensures low { IsWhole low.new }
-        ensures high { IsWhole high.new };
+        ensures low { KeepsSizes sizes IsWhole low.old low.new }
+        ensures high { KeepsSizes sizes IsWhole high.old high.new };
 
     ghost some: { (p : Self) → IsWhole p → 1 ≤ length (nodes p) };
 
@@ -252,10 +239,7 @@ fn joint_beyond<P: Part>(
 ) -> Value
     requires parts { AreParts P.nodes P.IsWhole parts.now }
     requires order { is_below from.now to.now ≡ true }
-    requires bound { first < length parts.now }
-    requires first { IsLeafAt (map P.nodes parts.now) from.now first }
-    requires beyond { is_below (start_of (nodes_of (drop (suc first) (map P.nodes parts.now))))
-        to.now ≡ true }
+    requires goes { GoesBeyond P.nodes parts.now from.now to.now first }
     ensures { result ≡ answer_of (nodes_of (map P.nodes parts.now)) (between from.now to.now) }
 {
     let last = PrefixedCut::new(Cut::Last);
@@ -284,8 +268,7 @@ fn joint_below<P: Part>(parts: &[P], start: usize, to: &PrefixedCut<'_>) -> Valu
 /// Joins the keys and gaps of a part between two cuts into the best so far. The part is looked into
 /// only where the joint value of all its keys and gaps would change that.
 fn joined<P: Part>(best: Value, part: &P, from: &PrefixedCut<'_>, to: &PrefixedCut<'_>) -> Value
-    requires whole { P.IsWhole part.now }
-    requires sorted { IsSorted (P.nodes part.now) }
+    requires part { IsPart P.nodes P.IsWhole part.now }
     requires order { is_below from.now to.now ≡ true }
     ensures { result ≡ joint best (answer_of (P.nodes part.now) (between from.now to.now) ∷ []) }
 {
@@ -306,8 +289,7 @@ fn changes(best: Value, value: Value) -> bool
 /// The joint value of the keys and gaps of a part between two cuts. Where these leave nothing out
 /// the part isn't looked into.
 fn seen_of<P: Part>(part: &P, from: &PrefixedCut<'_>, to: &PrefixedCut<'_>) -> Value
-    requires whole { P.IsWhole part.now }
-    requires sorted { IsSorted (P.nodes part.now) }
+    requires part { IsPart P.nodes P.IsWhole part.now }
     requires order { is_below from.now to.now ≡ true }
     ensures { result ≡ answer_of (P.nodes part.now) (between from.now to.now) }
 {
@@ -414,10 +396,7 @@ fn raise_beyond<P: Part>(
 ) -> Result<(), NoMemory>
     requires parts { AreParts P.nodes P.IsWhole parts.old }
     requires order { is_below (cut_of from) to.now ≡ true }
-    requires bound { first < length parts.old }
-    requires first { IsLeafAt (map P.nodes parts.old) (cut_of from) first }
-    requires beyond { is_below (start_of (nodes_of (drop (suc first) (map P.nodes parts.old))))
-        to.now ≡ true }
+    requires goes { GoesBeyond P.nodes parts.old (cut_of from) to.now first }
     ensures raised { OnOk result (nodes_of (map P.nodes parts.new) ≡
         raise_nodes (between (cut_of from.entry) to.now) value (nodes_of (map P.nodes parts.old))) }
     ensures whole { OnOk result (All P.IsWhole parts.new) }

@@ -14,7 +14,7 @@ returns-in_ok-with_node-in-Some-clause-split c =
     let old = root_nodes c.args.root in
     let new = root_nodes c.in_ok-with_node-in-Some.field-0 in
     subst (λ o. IsSplitAt old new (option_to_list (option_map (λ k. k.now) o))) (sym c.in-Some.is)
-    (has_node_splits old new c.in-Some.key.now c.requires.sorted
+    (has_node_splits old new c.in-Some.key.now c.requires.root.sorted
     c.in_ok-with_node-in-Some.ensures.made)
 
 pub returns-in_ok-with_node-in-Some-clause-grown :

@@ -8,6 +8,7 @@ use Rattle.tsc_page_nodes.specs.declared.nodes.Values.{Values}
 use Rattle.tsc_page_nodes.specs.Nodes.{Node, paired, HoldsKeysOn, HoldsGapsOn}
 use Rattle.tsc_page_nodes.proofs.RaisedNodes.{ChangesPlaces, key_raised, gap_raised, none_changed, with_both, both_changed}
 use Rattle.tsc_page_nodes.proofs.Apart.{paired-length, key_changed, gap_changed}
+use Rattle.tsc_page_nodes.proofs.PairedOrder.{paired_as}
 use Rattle.tsc_page_nodes.proofs.nodes.raise_values.Goals as goal
 
 pub loop-place-init : goal.loop-place-init
@@ -161,3 +162,7 @@ returns-clause-raised c =
     keys_done first.3)
     (subst (ChangesPlaces (gap_raised c.args.value) mid new
     c.into_iter-place-iterator-2.result.start) gaps_done then.3)
+
+pub invariant_of-lists : goal.invariant_of-lists
+invariant_of-lists c = paired_as _ c.args.keys.now _ c.args.values.now.items refl
+    c.as_slice.ensures.value (record { same = c.requires.same; sorted = c.requires.sorted })

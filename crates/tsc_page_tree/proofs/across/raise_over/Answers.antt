@@ -1,5 +1,6 @@
 -- The first part reached and the last one are raised by themselves, and those between as a whole.
-use Rattle.std.proofs.Common.{◌≡◌, ◌∙◌, ◌+◌, ◌<◌, ◌≤◌, refl, sym, ap, subst, Bool, ℕ, suc, List, ◌++◌, map, drop, set, length, arith}
+use Rattle.std.proofs.Common.{◌≡◌, ◌∙◌, ◌+◌, ◌<◌, ◌≤◌, sym, ap, subst, Bool, ℕ, suc, List, ◌++◌, map, drop, set, length, arith}
+use mathlib.Core.Bool.{true≢false}
 use Rattle.std.specs.Prelude.{not}
 use Rattle.std.proofs.lemmas.List.{length-map, length-append}
 use Rattle.tsc_span.specs.Span.{Cut, is_below}
@@ -8,10 +9,11 @@ use Rattle.tsc_page_nodes.specs.Additions.{Addend}
 use Rattle.tsc_page_tree.specs.Leaves.{nodes_of, start_of, AreSome, AreParts, IsLeafAt}
 use Rattle.tsc_page_tree.specs.Pending.{everything, AddsSome, nothing_grown}
 use Rattle.tsc_page_tree.specs.Across.{IsLastReached}
-use Rattle.tsc_page_tree.proofs.LeafLists.{all_some}
+use Rattle.tsc_page_tree.specs.Copies.{AllKeepSizes}
+use Rattle.tsc_page_tree.proofs.LeafLists.{all_some, is_part}
 use Rattle.tsc_page_nodes.specs.Additions.{IsAddend}
 use Rattle.tsc_page_tree.proofs.TreeAcross.{later_reached}
-use Rattle.tsc_page_tree.proofs.OverParts.{stays_over, raises_over, stops_over, sizes_over, long_over, whole_over, parts_first, parts_second, part_sorted}
+use Rattle.tsc_page_tree.proofs.OverParts.{stays_over, raises_over, stops_over, keep_same, keeps_low, keeps_high, parts_first, parts_second}
 use Rattle.tsc_page_tree.proofs.across.raise_over.Given.{Over}
 use Rattle.tsc_page_tree.proofs.across.raise_over.Goals.{After-last_reached-last, After-split_at_mut-mid}
 use Rattle.tsc_page_tree.proofs.across.raise_over.Goals as goal
@@ -27,7 +29,7 @@ behind_first g c =
     subst (λ (x : Cut). IsLastReached ls x r) to c.last_reached-last.ensures in
     later_reached ls c.args.add.now.to c.args.first r
     (all_some g.P.Part.nodes g.P.Part.IsWhole c.args.parts.now g.met.P.Part.some
-    c.requires.parts.whole) c.requires.parts.sorted c.requires.beyond reached.stops
+    c.requires.parts.whole) c.requires.parts.sorted c.requires.goes.beyond reached.stops
 
 -- what is known of the parts once they are cut
 module _ (g : Over) (c : After-split_at_mut-mid g) where
@@ -56,7 +58,7 @@ module _ (g : Over) (c : After-split_at_mut-mid g) where
   later : c.args.first < c.last_reached-last.result
   later = later_reached (map f c.args.parts.now) a.to c.args.first c.last_reached-last.result
       (all_some f g.P.Part.IsWhole c.args.parts.now g.met.P.Part.some c.requires.parts.whole)
-      c.requires.parts.sorted c.requires.beyond reached.stops
+      c.requires.parts.sorted c.requires.goes.beyond reached.stops
 
   fits : IsAddend a
   fits = subst IsAddend c.add.view_is c.add.invariant
@@ -85,7 +87,7 @@ module _ (g : Over) (c : After-split_at_mut-mid g) where
     length-append md ab,
     reached.bound,
     length-map c.args.parts.now f,
-    c.requires.bound,
+    c.requires.goes.bound,
   )
 
   parts : AreParts f g.P.Part.IsWhole (bl ++ (md ++ ab))
@@ -96,7 +98,7 @@ module _ (g : Over) (c : After-split_at_mut-mid g) where
 
   at : IsLeafAt (map f (bl ++ (md ++ ab))) a.from c.args.first
   at = subst (λ (xs : List g.row.P.Denot). IsLeafAt (map f xs) a.from c.args.first) shape
-      c.requires.first
+      c.requires.goes.first
 
   here : IsLastReached (map f (bl ++ (md ++ ab))) a.to (length bl + length md)
   here =
@@ -105,7 +107,7 @@ module _ (g : Over) (c : After-split_at_mut-mid g) where
       shape reached)
 
 pub last_reached-last-requires-clause-some : goal.last_reached-last-requires-clause-some
-last_reached-last-requires-clause-some g c = omega (arith, c.requires.bound)
+last_reached-last-requires-clause-some g c = omega (arith, c.requires.goes.bound)
 
 pub stops_at_next-stops-requires-clause-bound : goal.stops_at_next-stops-requires-clause-bound
 stops_at_next-stops-requires-clause-bound g c =
@@ -113,7 +115,7 @@ stops_at_next-stops-requires-clause-bound g c =
       arith,
       c.last_reached-last.ensures.bound,
       length-map c.args.parts.now g.P.Part.nodes,
-      c.requires.bound,
+      c.requires.goes.bound,
     )
 
 pub overflow_sub-last : goal.overflow_sub-last
@@ -136,7 +138,7 @@ split_at_mut-mid-requires g c =
       c.split_at_mut-below.ensures.back_len,
       c.last_reached-last.ensures.bound,
       length-map c.args.parts.now g.P.Part.nodes,
-      c.requires.bound,
+      c.requires.goes.bound,
     )
 
 pub bounds-below-first : goal.bounds-below-first
@@ -149,50 +151,26 @@ bounds-above-0 g c =
     let k = (goal.at.bounds-above-0 g c).After-split_at_mut-mid in
     omega (arith, (one g k))
 
-pub raise_ends-requires-clause-whole_low : goal.raise_ends-requires-clause-whole_low
-raise_ends-requires-clause-whole_low g c =
-    let k = (goal.at.raise_ends-requires-clause-whole_low g c).After-split_at_mut-mid in
-    let f = g.P.Part.nodes in
-    let Q = g.P.Part.IsWhole in
-    let p : ℕ = c.args.first in
-    let bl = c.split_at_mut-below.result.0.now in
-    let md = c.split_at_mut-mid.result.0.now in
-    let ab = c.split_at_mut-mid.result.1.now in
-    (parts_first f Q bl (md ++ ab) (parts g k)).whole p c.index-below-first.result
-    (omega (arith, (long g k)))
-
-pub raise_ends-requires-clause-whole_high : goal.raise_ends-requires-clause-whole_high
-raise_ends-requires-clause-whole_high g c =
-    let k = (goal.at.raise_ends-requires-clause-whole_high g c).After-split_at_mut-mid in
+pub raise_ends-requires-clause-low : goal.raise_ends-requires-clause-low
+raise_ends-requires-clause-low g c =
+    let k = (goal.at.raise_ends-requires-clause-low g c).After-split_at_mut-mid in
     let f = g.P.Part.nodes in
     let Q = g.P.Part.IsWhole in
     let bl = c.split_at_mut-below.result.0.now in
     let md = c.split_at_mut-mid.result.0.now in
     let ab = c.split_at_mut-mid.result.1.now in
-    (parts_second f Q md ab (parts_second f Q bl (md ++ ab) (parts g k))).whole 0
-    c.index-above-0.result (one g k)
-
-pub raise_ends-requires-clause-sorted_low : goal.raise_ends-requires-clause-sorted_low
-raise_ends-requires-clause-sorted_low g c =
-    let k = (goal.at.raise_ends-requires-clause-sorted_low g c).After-split_at_mut-mid in
-    let f = g.P.Part.nodes in
-    let Q = g.P.Part.IsWhole in
-    let p : ℕ = c.args.first in
-    let bl = c.split_at_mut-below.result.0.now in
-    let md = c.split_at_mut-mid.result.0.now in
-    let ab = c.split_at_mut-mid.result.1.now in
-    part_sorted f Q bl p c.index-below-first.result (omega (arith, (long g k)))
+    is_part f Q bl c.args.first c.index-below-first.result (omega (arith, (long g k)))
     (parts_first f Q bl (md ++ ab) (parts g k))
 
-pub raise_ends-requires-clause-sorted_high : goal.raise_ends-requires-clause-sorted_high
-raise_ends-requires-clause-sorted_high g c =
-    let k = (goal.at.raise_ends-requires-clause-sorted_high g c).After-split_at_mut-mid in
+pub raise_ends-requires-clause-high : goal.raise_ends-requires-clause-high
+raise_ends-requires-clause-high g c =
+    let k = (goal.at.raise_ends-requires-clause-high g c).After-split_at_mut-mid in
     let f = g.P.Part.nodes in
     let Q = g.P.Part.IsWhole in
     let bl = c.split_at_mut-below.result.0.now in
     let md = c.split_at_mut-mid.result.0.now in
     let ab = c.split_at_mut-mid.result.1.now in
-    part_sorted f Q ab 0 c.index-above-0.result (one g k)
+    is_part f Q ab 0 c.index-above-0.result (one g k)
     (parts_second f Q md ab (parts_second f Q bl (md ++ ab) (parts g k)))
 
 pub raise_ends-requires-clause-reaches : goal.raise_ends-requires-clause-reaches
@@ -209,9 +187,9 @@ raise_ends-requires-clause-reaches g c =
     (stops_over f bl md ab p d d e e (long g k) (one g k) a (some g k) (fits g k) (at g k)
     (here g k)).part
 
-pub returns-then-not-raise_ends-clause-left : goal.returns-then-not-raise_ends-clause-left
-returns-then-not-raise_ends-clause-left g c h =
-    let k = (goal.at.returns-then-not-raise_ends-clause-left g c).After-split_at_mut-mid in
+pub returns-then-not-raise_ends-clause-told : goal.returns-then-not-raise_ends-clause-told
+returns-then-not-raise_ends-clause-told g c =
+    let k = (goal.at.returns-then-not-raise_ends-clause-told g c).After-split_at_mut-mid in
     let f = g.P.Part.nodes in
     let p : ℕ = c.args.first in
     let bl = c.split_at_mut-below.result.0.now in
@@ -222,28 +200,17 @@ returns-then-not-raise_ends-clause-left g c h =
     let x = c.raise_ends.new.low in
     let y = c.raise_ends.new.high in
     let told = c.if-not-raise_ends.ensures.told in
-    stays_over f bl md ab p d x e y (long g k) (one g k) told.0 told.1 ∙
-    ap (λ (xs : List g.row.P.Denot). nodes_of (map f xs)) (sym (shape g k))
+    record {
+      raised = λ h. absurd (true≢false (sym h));
+      left = λ h. stays_over f bl md ab p d x e y (long g k) (one g k) told.0 told.1 ∙
+          ap (λ (xs : List g.row.P.Denot). nodes_of (map f xs)) (sym (shape g k));
+    }
 
-pub returns-then-not-raise_ends-clause-sizes : goal.returns-then-not-raise_ends-clause-sizes
-returns-then-not-raise_ends-clause-sizes g c =
-    let k = (goal.at.returns-then-not-raise_ends-clause-sizes g c).After-split_at_mut-mid in
-    let s = g.P.Part.sizes in
-    let p : ℕ = c.args.first in
-    let bl = c.split_at_mut-below.result.0.now in
-    let md = c.split_at_mut-mid.result.0.now in
-    let ab = c.split_at_mut-mid.result.1.now in
-    let d = c.index-below-first.result in
-    let e = c.index-above-0.result in
-    let x = c.raise_ends.new.low in
-    let y = c.raise_ends.new.high in
-    sizes_over s bl md md ab p d x e y (long g k) (one g k) c.raise_ends.ensures.sizes_low refl
-    c.raise_ends.ensures.sizes_high ∙ ap (map s) (sym (shape g k))
-
-pub returns-then-not-raise_ends-clause-whole : goal.returns-then-not-raise_ends-clause-whole
-returns-then-not-raise_ends-clause-whole g c =
-    let k = (goal.at.returns-then-not-raise_ends-clause-whole g c).After-split_at_mut-mid in
+pub returns-then-not-raise_ends-clause-kept : goal.returns-then-not-raise_ends-clause-kept
+returns-then-not-raise_ends-clause-kept g c =
+    let k = (goal.at.returns-then-not-raise_ends-clause-kept g c).After-split_at_mut-mid in
     let f = g.P.Part.nodes in
+    let s = g.P.Part.sizes in
     let Q = g.P.Part.IsWhole in
     let p : ℕ = c.args.first in
     let bl = c.split_at_mut-below.result.0.now in
@@ -251,9 +218,14 @@ returns-then-not-raise_ends-clause-whole g c =
     let ab = c.split_at_mut-mid.result.1.now in
     let x = c.raise_ends.new.low in
     let y = c.raise_ends.new.high in
-    whole_over Q bl md md ab p x y (parts g k).whole
-    (parts_first f Q md ab (parts_second f Q bl (md ++ ab) (parts g k))).whole
-    c.raise_ends.ensures.low c.raise_ends.ensures.high
+    let rest = parts_second f Q bl (md ++ ab) (parts g k) in
+    subst (λ (xs : List g.row.P.Denot). AllKeepSizes s Q xs
+    (set bl p x ++ (md ++ set ab 0 y))) (sym (shape g k))
+    (keeps_low s Q bl (md ++ ab) (md ++ set ab 0 y) p c.index-below-first.result x
+    (long g k) (parts_first f Q bl (md ++ ab) (parts g k)).whole c.raise_ends.ensures.low
+    (keeps_high s Q md md ab c.index-above-0.result y (one g k)
+    (parts_second f Q md ab rest).whole c.raise_ends.ensures.high
+    (keep_same s Q md (parts_first f Q md ab rest).whole)))
 
 pub raise_all-requires : goal.raise_all-requires
 raise_all-requires g c =
@@ -265,9 +237,9 @@ raise_all-requires g c =
     let ab = c.split_at_mut-mid.result.1.now in
     record { parts = parts_first f Q md ab (parts_second f Q bl (md ++ ab) (parts g k)) }
 
-pub returns-clause-raised : goal.returns-clause-raised
-returns-clause-raised g c h =
-    let k = (goal.at.returns-clause-raised g c).After-split_at_mut-mid in
+pub returns-clause-told : goal.returns-clause-told
+returns-clause-told g c =
+    let k = (goal.at.returns-clause-told g c).After-split_at_mut-mid in
     let f = g.P.Part.nodes in
     let items = c.args.parts.now in
     let ls : List (List Node) = map f items in
@@ -294,30 +266,19 @@ returns-clause-raised g c h =
     let wholly : nodes_of (map f mn) ≡ raise_nodes everything a.value (nodes_of (map f md)) =
     c.raise_all.ensures.raised ∙
     ap (λ (v : Addend). raise_nodes everything v.value (nodes_of (map f md))) c.add.view_is in
-    subst (λ (xs : List g.row.P.Denot). AddsSome (nodes_of (map f xs))
-    (nodes_of (map f (set bl p x ++ (mn ++ set ab 0 y)))) a 0 nothing_grown) (sym (shape g k))
-    (raises_over f bl md ab p d x e y (long g k) (one g k) a (some g k) (fits g k) (at g k)
-    (here g k) mn stop (parts g k).sorted is c.if-not-raise_ends.ensures.told wholly)
+    record {
+      raised = λ h. subst (λ (xs : List g.row.P.Denot). AddsSome (nodes_of (map f xs))
+          (nodes_of (map f (set bl p x ++ (mn ++ set ab 0 y)))) a 0 nothing_grown) (sym (shape g k))
+          (raises_over f bl md ab p d x e y (long g k) (one g k) a (some g k) (fits g k) (at g k)
+          (here g k) mn stop (parts g k).sorted is c.if-not-raise_ends.ensures.told wholly);
+      left = λ h. absurd (true≢false h);
+    }
 
-pub returns-clause-sizes : goal.returns-clause-sizes
-returns-clause-sizes g c =
-    let k = (goal.at.returns-clause-sizes g c).After-split_at_mut-mid in
+pub returns-clause-kept : goal.returns-clause-kept
+returns-clause-kept g c =
+    let k = (goal.at.returns-clause-kept g c).After-split_at_mut-mid in
+    let f = g.P.Part.nodes in
     let s = g.P.Part.sizes in
-    let p : ℕ = c.args.first in
-    let bl = c.split_at_mut-below.result.0.now in
-    let md = c.split_at_mut-mid.result.0.now in
-    let ab = c.split_at_mut-mid.result.1.now in
-    let d = c.index-below-first.result in
-    let e = c.index-above-0.result in
-    let x = c.raise_ends.new.low in
-    let y = c.raise_ends.new.high in
-    sizes_over s bl md c.raise_all.new.parts ab p d x e y (long g k) (one g k)
-    c.raise_ends.ensures.sizes_low c.raise_all.ensures.sizes c.raise_ends.ensures.sizes_high ∙
-    ap (map s) (sym (shape g k))
-
-pub returns-clause-whole : goal.returns-clause-whole
-returns-clause-whole g c =
-    let k = (goal.at.returns-clause-whole g c).After-split_at_mut-mid in
     let Q = g.P.Part.IsWhole in
     let p : ℕ = c.args.first in
     let bl = c.split_at_mut-below.result.0.now in
@@ -325,25 +286,15 @@ returns-clause-whole g c =
     let ab = c.split_at_mut-mid.result.1.now in
     let x = c.raise_ends.new.low in
     let y = c.raise_ends.new.high in
-    whole_over Q bl md c.raise_all.new.parts ab p x y (parts g k).whole c.raise_all.ensures.whole
-    c.raise_ends.ensures.low c.raise_ends.ensures.high
-
-pub returns-then-not-raise_ends-clause-len : goal.returns-then-not-raise_ends-clause-len
-returns-then-not-raise_ends-clause-len g c =
-    let k = (goal.at.returns-then-not-raise_ends-clause-len g c).After-split_at_mut-mid in
-    let p : ℕ = c.args.first in
-    let bl = c.split_at_mut-below.result.0.now in
-    let md = c.split_at_mut-mid.result.0.now in
-    let ab = c.split_at_mut-mid.result.1.now in
-    long_over bl md md ab p c.raise_ends.new.low c.raise_ends.new.high refl ∙
-    ap length (sym (shape g k))
-
-pub returns-clause-len : goal.returns-clause-len
-returns-clause-len g c =
-    let k = (goal.at.returns-clause-len g c).After-split_at_mut-mid in
-    let p : ℕ = c.args.first in
-    let bl = c.split_at_mut-below.result.0.now in
-    let md = c.split_at_mut-mid.result.0.now in
-    let ab = c.split_at_mut-mid.result.1.now in
-    long_over bl md c.raise_all.new.parts ab p c.raise_ends.new.low c.raise_ends.new.high
-    c.raise_all.ensures.len ∙ ap length (sym (shape g k))
+    let rest = parts_second f Q bl (md ++ ab) (parts g k) in
+    subst (λ (xs : List g.row.P.Denot). AllKeepSizes s Q xs
+    (set bl p x ++ (c.raise_all.new.parts ++ set ab 0 y))) (sym (shape g k))
+    (keeps_low s Q bl (md ++ ab) (c.raise_all.new.parts ++ set ab 0 y) p c.index-below-first.result x
+    (long g k) (parts_first f Q bl (md ++ ab) (parts g k)).whole c.raise_ends.ensures.low
+    (keeps_high s Q md c.raise_all.new.parts ab c.index-above-0.result y (one g k)
+    (parts_second f Q md ab rest).whole c.raise_ends.ensures.high
+    (record {
+      sizes = c.raise_all.ensures.sizes;
+      whole = c.raise_all.ensures.whole;
+      len = c.raise_all.ensures.len;
+    })))

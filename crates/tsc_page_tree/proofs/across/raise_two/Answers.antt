@@ -1,6 +1,6 @@
 -- The first list is raised from the part of the lower cut on, and the second up to that of the
 -- upper one.
-use Rattle.std.proofs.Common.{◌≡◌, ◌∙◌, ◌≤◌, refl, sym, ap, subst, Bool, true, ℕ, suc, List, ◌++◌, map, drop, set, length, arith}
+use Rattle.std.proofs.Common.{◌≡◌, ◌∙◌, ◌≤◌, sym, ap, subst, Bool, true, ℕ, suc, List, ◌++◌, map, drop, set, length, arith}
 use Rattle.std.specs.Prelude.{not}
 use Rattle.std.proofs.lemmas.List.{length-map, length-append}
 use Rattle.tsc_span.specs.Span.{Cut, is_below}
@@ -9,10 +9,10 @@ use Rattle.tsc_page_nodes.specs.Additions.{Addend}
 use Rattle.tsc_page_tree.specs.Leaves.{nodes_of, start_of, AreSome, AreParts, IsLeafAt}
 use Rattle.tsc_page_tree.specs.Pending.{everything}
 use Rattle.tsc_page_tree.specs.Across.{AreRaisedAcross, IsLastReached}
-use Rattle.tsc_page_tree.proofs.LeafLists.{all_some}
+use Rattle.tsc_page_tree.proofs.LeafLists.{all_some, is_part}
 use Rattle.tsc_page_nodes.specs.Additions.{IsAddend}
-use Rattle.tsc_page_tree.proofs.LeafLists.{all_set}
-use Rattle.tsc_page_tree.proofs.OverParts.{stays_low, stays_high, raises_two, stops_two, sizes_low, sizes_high, all_two, parts_first, parts_second, part_sorted}
+use Rattle.tsc_page_tree.specs.Copies.{AllKeepSizes}
+use Rattle.tsc_page_tree.proofs.OverParts.{stays_low, stays_high, raises_two, stops_two, keep_same, keeps_low, keeps_high, parts_first, parts_second}
 use Rattle.tsc_page_tree.proofs.across.raise_two.Given.{Over}
 use Rattle.tsc_page_tree.proofs.across.raise_two.Goals.{After-split_at_mut-others}
 use Rattle.tsc_page_tree.proofs.across.raise_two.Goals as goal
@@ -67,14 +67,14 @@ module _ (g : Over) (c : After-split_at_mut-others g) where
     length-append ot ab,
     reached.bound,
     length-map c.args.high.now f,
-    c.requires.some_high,
+    c.requires.high.some,
   )
 
   parts_low : AreParts f g.P.Part.IsWhole (bl ++ md)
-  parts_low = subst (AreParts f g.P.Part.IsWhole) shape_low c.requires.parts_low
+  parts_low = subst (AreParts f g.P.Part.IsWhole) shape_low c.requires.low.parts
 
   parts_high : AreParts f g.P.Part.IsWhole (ot ++ ab)
-  parts_high = subst (AreParts f g.P.Part.IsWhole) shape_high c.requires.parts_high
+  parts_high = subst (AreParts f g.P.Part.IsWhole) shape_high c.requires.high.parts
 
   some_low : AreSome (map f (bl ++ md))
   some_low = all_some f g.P.Part.IsWhole (bl ++ md) g.met.P.Part.some parts_low.whole
@@ -102,25 +102,25 @@ pub bounds-above-0 : goal.bounds-above-0
 bounds-above-0 g c = let some = one g (goal.at.bounds-above-0 g c).After-split_at_mut-others
     in omega (arith, some)
 
-pub raise_ends-requires-clause-sorted_low : goal.raise_ends-requires-clause-sorted_low
-raise_ends-requires-clause-sorted_low g c =
-    let k = (goal.at.raise_ends-requires-clause-sorted_low g c).After-split_at_mut-others in
+pub raise_ends-requires-clause-low : goal.raise_ends-requires-clause-low
+raise_ends-requires-clause-low g c =
+    let k = (goal.at.raise_ends-requires-clause-low g c).After-split_at_mut-others in
     let f = g.P.Part.nodes in
     let Q = g.P.Part.IsWhole in
     let p : ℕ = c.part_at-first.result in
     let bl = c.split_at_mut-below.result.0.now in
     let md = c.split_at_mut-below.result.1.now in
-    part_sorted f Q bl p c.index-below-first.result (omega (arith, (long g k)))
+    is_part f Q bl p c.index-below-first.result (omega (arith, (long g k)))
     (parts_first f Q bl md (parts_low g k))
 
-pub raise_ends-requires-clause-sorted_high : goal.raise_ends-requires-clause-sorted_high
-raise_ends-requires-clause-sorted_high g c =
-    let k = (goal.at.raise_ends-requires-clause-sorted_high g c).After-split_at_mut-others in
+pub raise_ends-requires-clause-high : goal.raise_ends-requires-clause-high
+raise_ends-requires-clause-high g c =
+    let k = (goal.at.raise_ends-requires-clause-high g c).After-split_at_mut-others in
     let f = g.P.Part.nodes in
     let Q = g.P.Part.IsWhole in
     let ot = c.split_at_mut-others.result.0.now in
     let ab = c.split_at_mut-others.result.1.now in
-    part_sorted f Q ab 0 c.index-above-0.result (one g k) (parts_second f Q ot ab (parts_high g k))
+    is_part f Q ab 0 c.index-above-0.result (one g k) (parts_second f Q ot ab (parts_high g k))
 
 pub raise_ends-requires-clause-reaches : goal.raise_ends-requires-clause-reaches
 raise_ends-requires-clause-reaches g c =
@@ -157,50 +157,36 @@ returns-then-not-raise_ends-clause-told g c =
           ap (λ (xs : List g.row.P.Denot). nodes_of (map f xs)) (sym (shape_high g k)),
     )
 
-pub returns-then-not-raise_ends-clause-sizes_low : goal.returns-then-not-raise_ends-clause-sizes_low
-returns-then-not-raise_ends-clause-sizes_low g c =
-    let k = (goal.at.returns-then-not-raise_ends-clause-sizes_low g c).After-split_at_mut-others in
-    let s = g.P.Part.sizes in
-    let p : ℕ = c.part_at-first.result in
-    let bl = c.split_at_mut-below.result.0.now in
-    let md = c.split_at_mut-below.result.1.now in
-    let d = c.index-below-first.result in
-    let x = c.raise_ends.new.low in
-    sizes_low s bl md md p d x (long g k) c.raise_ends.ensures.sizes_low refl ∙
-    ap (map s) (sym (shape_low g k))
-
-pub returns-then-not-raise_ends-clause-sizes_high :
-    goal.returns-then-not-raise_ends-clause-sizes_high
-returns-then-not-raise_ends-clause-sizes_high g c =
-    let k = (goal.at.returns-then-not-raise_ends-clause-sizes_high g c).After-split_at_mut-others in
-    let s = g.P.Part.sizes in
-    let ot = c.split_at_mut-others.result.0.now in
-    let ab = c.split_at_mut-others.result.1.now in
-    sizes_high s ot ot ab c.index-above-0.result c.raise_ends.new.high (one g k)
-    c.raise_ends.ensures.sizes_high refl ∙ ap (map s) (sym (shape_high g k))
-
 pub returns-then-not-raise_ends-clause-low : goal.returns-then-not-raise_ends-clause-low
 returns-then-not-raise_ends-clause-low g c =
     let k = (goal.at.returns-then-not-raise_ends-clause-low g c).After-split_at_mut-others in
     let f = g.P.Part.nodes in
+    let s = g.P.Part.sizes in
     let Q = g.P.Part.IsWhole in
     let p : ℕ = c.part_at-first.result in
     let bl = c.split_at_mut-below.result.0.now in
     let md = c.split_at_mut-below.result.1.now in
     let x = c.raise_ends.new.low in
-    all_two Q (set bl p x) md (all_set Q bl p x (parts_first f Q bl md (parts_low g k)).whole
-    c.raise_ends.ensures.low) (parts_second f Q bl md (parts_low g k)).whole
+    subst (λ (xs : List g.row.P.Denot). AllKeepSizes s Q xs (set bl p x ++ md))
+    (sym (shape_low g k))
+    (keeps_low s Q bl md md p c.index-below-first.result x (long g k)
+    (parts_first f Q bl md (parts_low g k)).whole c.raise_ends.ensures.low
+    (keep_same s Q md (parts_second f Q bl md (parts_low g k)).whole))
 
 pub returns-then-not-raise_ends-clause-high : goal.returns-then-not-raise_ends-clause-high
 returns-then-not-raise_ends-clause-high g c =
     let k = (goal.at.returns-then-not-raise_ends-clause-high g c).After-split_at_mut-others in
     let f = g.P.Part.nodes in
+    let s = g.P.Part.sizes in
     let Q = g.P.Part.IsWhole in
     let ot = c.split_at_mut-others.result.0.now in
     let ab = c.split_at_mut-others.result.1.now in
     let y = c.raise_ends.new.high in
-    all_two Q ot (set ab 0 y) (parts_first f Q ot ab (parts_high g k)).whole
-    (all_set Q ab 0 y (parts_second f Q ot ab (parts_high g k)).whole c.raise_ends.ensures.high)
+    subst (λ (xs : List g.row.P.Denot). AllKeepSizes s Q xs (ot ++ set ab 0 y))
+    (sym (shape_high g k))
+    (keeps_high s Q ot ot ab c.index-above-0.result y (one g k)
+    (parts_second f Q ot ab (parts_high g k)).whole c.raise_ends.ensures.high
+    (keep_same s Q ot (parts_first f Q ot ab (parts_high g k)).whole))
 
 pub raise_all-requires : goal.raise_all-requires
 raise_all-requires g c =
@@ -264,48 +250,41 @@ returns-clause-told g c =
     (fits g k) (at g k) (reaches g k) (here g k) mn on stop (parts_low g k).sorted
     (parts_high g k).sorted is c.if-not-raise_ends.ensures.told wholly others))
 
-pub returns-clause-sizes_low : goal.returns-clause-sizes_low
-returns-clause-sizes_low g c =
-    let k = (goal.at.returns-clause-sizes_low g c).After-split_at_mut-others in
-    let s = g.P.Part.sizes in
-    let p : ℕ = c.part_at-first.result in
-    let bl = c.split_at_mut-below.result.0.now in
-    let md = c.split_at_mut-below.result.1.now in
-    let d = c.index-below-first.result in
-    let x = c.raise_ends.new.low in
-    sizes_low s bl md c.raise_all.new.parts p d x (long g k) c.raise_ends.ensures.sizes_low
-    c.raise_all.ensures.sizes ∙ ap (map s) (sym (shape_low g k))
-
-pub returns-clause-sizes_high : goal.returns-clause-sizes_high
-returns-clause-sizes_high g c =
-    let k = (goal.at.returns-clause-sizes_high g c).After-split_at_mut-others in
-    let s = g.P.Part.sizes in
-    let ot = c.split_at_mut-others.result.0.now in
-    let ab = c.split_at_mut-others.result.1.now in
-    sizes_high s ot c.raise_all-2.new.parts ab c.index-above-0.result c.raise_ends.new.high
-    (one g k) c.raise_ends.ensures.sizes_high c.raise_all-2.ensures.sizes ∙
-    ap (map s) (sym (shape_high g k))
-
 pub returns-clause-low : goal.returns-clause-low
 returns-clause-low g c =
     let k = (goal.at.returns-clause-low g c).After-split_at_mut-others in
     let f = g.P.Part.nodes in
+    let s = g.P.Part.sizes in
     let Q = g.P.Part.IsWhole in
     let p : ℕ = c.part_at-first.result in
     let bl = c.split_at_mut-below.result.0.now in
     let md = c.split_at_mut-below.result.1.now in
     let x = c.raise_ends.new.low in
-    all_two Q (set bl p x) c.raise_all.new.parts
-    (all_set Q bl p x (parts_first f Q bl md (parts_low g k)).whole c.raise_ends.ensures.low)
-    c.raise_all.ensures.whole
+    subst (λ (xs : List g.row.P.Denot). AllKeepSizes s Q xs (set bl p x ++ c.raise_all.new.parts))
+    (sym (shape_low g k))
+    (keeps_low s Q bl md c.raise_all.new.parts p c.index-below-first.result x (long g k)
+    (parts_first f Q bl md (parts_low g k)).whole c.raise_ends.ensures.low
+    (record {
+      sizes = c.raise_all.ensures.sizes;
+      whole = c.raise_all.ensures.whole;
+      len = c.raise_all.ensures.len;
+    }))
 
 pub returns-clause-high : goal.returns-clause-high
 returns-clause-high g c =
     let k = (goal.at.returns-clause-high g c).After-split_at_mut-others in
     let f = g.P.Part.nodes in
+    let s = g.P.Part.sizes in
     let Q = g.P.Part.IsWhole in
     let ot = c.split_at_mut-others.result.0.now in
     let ab = c.split_at_mut-others.result.1.now in
     let y = c.raise_ends.new.high in
-    all_two Q c.raise_all-2.new.parts (set ab 0 y) c.raise_all-2.ensures.whole
-    (all_set Q ab 0 y (parts_second f Q ot ab (parts_high g k)).whole c.raise_ends.ensures.high)
+    subst (λ (xs : List g.row.P.Denot). AllKeepSizes s Q xs (c.raise_all-2.new.parts ++ set ab 0 y))
+    (sym (shape_high g k))
+    (keeps_high s Q ot c.raise_all-2.new.parts ab c.index-above-0.result y (one g k)
+    (parts_second f Q ot ab (parts_high g k)).whole c.raise_ends.ensures.high
+    (record {
+      sizes = c.raise_all-2.ensures.sizes;
+      whole = c.raise_all-2.ensures.whole;
+      len = c.raise_all-2.ensures.len;
+    }))

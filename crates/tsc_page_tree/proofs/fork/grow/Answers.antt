@@ -43,5 +43,5 @@ returns-in_ok-cut-clause-upper g c =
     subst (AreFewParts g.P.Part.IsWhole) (sym c.in_ok-cut.ensures.rest) (record {
       each = all_drop g.P.Part.IsWhole 32 new c.in_ok-make_node.ensures.whole;
       some = omega (arith, rest, many, c.len.ensures, c.make_node.new.parts.ok.0);
-      few = omega (arith, rest, few, c.requires.few.few);
+      few = omega (arith, rest, few, c.requires.parts.few.few);
     })

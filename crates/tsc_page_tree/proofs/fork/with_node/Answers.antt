@@ -11,5 +11,5 @@ pair-requires-clause-sorted g c =
     let read = g.P.Part.nodes in
     subst (λ o. IsSorted (nodes_of (map read c.grow.new.parts.items) ++
     nodes_of (map read (items_in o)))) c.in-Some.is
-    (made_sorted (nodes_of (map read c.args.parts.items)) _ c.args.key.now c.requires.sorted
+    (made_sorted (nodes_of (map read c.args.parts.items)) _ c.args.key.now c.requires.parts.sorted
     c.in_ok-upper.ensures.made)

@@ -9,17 +9,13 @@ use Rattle.tsc_page_nodes.proofs.CutOrder.{Le}
 use Rattle.tsc_page_nodes.proofs.Edits.{raise_nodes-length}
 use Rattle.tsc_page_tree.specs.Leaves.{start_of}
 use Rattle.tsc_page_tree.specs.Pending.{with_pending, IsToldOf}
-use Rattle.tsc_page_tree.proofs.Pending.{raise_pending, raise_merged, raise_all, raise_each, pending-start, sorted_without}
+use Rattle.tsc_page_tree.proofs.Pending.{raise_pending, raise_merged, raise_all, raise_each, pending-start}
 use Rattle.tsc_page_tree.proofs.AllJoint.{starts_below_last}
 use Rattle.tsc_page_tree.proofs.PartAcross.{told_reached}
 use Rattle.tsc_page_tree.proofs.Told.{told_some, told_raised}
 use Rattle.tsc_page_tree.proofs.Wholes.{told_as}
 use Rattle.tsc_page_tree.proofs.leaf.raise_above.Goals as goal
 use Rattle.tsc_page_tree.proofs.leaf.raise_above.Goals.{After-raise_near}
-
-pub raise_near-requires-clause-sorted : goal.raise_near-requires-clause-sorted
-raise_near-requires-clause-sorted c =
-    sorted_without c.args.summary.now.pending c.args.nodes.now c.requires.sorted
 
 -- what the nodes become
 raised_is : (c : After-raise_near) →

@@ -1,22 +1,18 @@
 -- The key falls in one part, to which the Add is handed.
-use Rattle.std.proofs.Common.{◌∙◌, ◌<◌, sym, ap, subst, ℕ, List, [], map, length, arith}
-use Rattle.std.proofs.lemmas.List.{length-map}
+use Rattle.std.proofs.Common.{◌∙◌, ◌<◌, ap, subst, ℕ, List, map, length, arith}
 use Rattle.tsc_span.specs.Span.{Cut, before}
-use Rattle.tsc_page_nodes.specs.Nodes.{Node, IsSorted}
+use Rattle.tsc_page_nodes.specs.Nodes.{Node}
 use Rattle.tsc_page_tree.specs.Leaves.{IsLeafAt}
-use Rattle.tsc_page_tree.proofs.LeafLists.{all_some, leaf_sorted, part_read}
+use Rattle.tsc_page_tree.proofs.LeafLists.{all_some, is_part}
 use Rattle.tsc_page_tree.proofs.KeyAdds.{key_in_part}
 use Rattle.tsc_page_tree.proofs.parts.add_key.Goals as goal
 
-pub add_key-requires-clause-sorted : goal.add_key-requires-clause-sorted
-add_key-requires-clause-sorted g c =
-    let read = g.P.Part.nodes in
-    let items = c.args.parts.now in
-    let p : ℕ = c.part_at-place.result in
-    let here : p < length items = omega (arith, c.if-place-parts.false) in
-    subst IsSorted (sym (part_read read items p c.index-parts-place.result here))
-    (leaf_sorted (map read items) p [] (omega (arith, here, length-map items read))
-    c.requires.parts.sorted)
+pub add_key-requires : goal.add_key-requires
+add_key-requires g c =
+    record {
+      part = is_part g.P.Part.nodes g.P.Part.IsWhole c.args.parts.now c.part_at-place.result c.index-parts-place.result
+          (omega (arith, c.if-place-parts.false)) c.requires.parts;
+    }
 
 pub returns-clause-told : goal.returns-clause-told
 returns-clause-told g c =

@@ -1,37 +1,45 @@
 -- The span lies in one part, to which the Add is handed.
-use Rattle.std.proofs.Common.{◌≡◌, ◌∙◌, ◌<◌, sym, ap, subst, true, false, ℕ, suc, List, [], map, drop, get_or, length, arith}
-use Rattle.std.proofs.lemmas.List.{length-map}
+use Rattle.std.proofs.Common.{◌≡◌, ◌∙◌, ◌<◌, sym, ap, subst, true, false, ℕ, suc, List, map, drop, get_or, length, arith}
 use Rattle.tsc_span.specs.Span.{Cut, is_below}
-use Rattle.tsc_page_nodes.specs.Nodes.{Node, IsSorted}
+use Rattle.tsc_page_nodes.specs.Nodes.{Node}
 use Rattle.tsc_page_nodes.specs.Additions.{Addend}
 use Rattle.tsc_page_tree.specs.Leaves.{nodes_of, start_of, IsLeafAt}
 use Rattle.tsc_page_tree.specs.Pending.{IsAddTold}
 use Rattle.tsc_page_nodes.proofs.CutOrder.{Le}
-use Rattle.tsc_page_tree.proofs.LeafLists.{all_some, leaf_sorted, part_read}
+use Rattle.tsc_page_tree.proofs.LeafLists.{all_some, is_part}
 use Rattle.tsc_page_nodes.specs.Additions.{IsAddend}
 use Rattle.tsc_page_tree.proofs.PartAdds.{not_true, not_false, told_in_part, told_before_next}
 use Rattle.tsc_page_tree.proofs.parts.add_within.Goals as goal
 
-pub add_within-requires-clause-sorted : goal.add_within-requires-clause-sorted
-add_within-requires-clause-sorted g c =
-    let read = g.P.Part.nodes in
-    let items = c.args.parts.now in
-    let p : ℕ = c.part_at-place.result in
-    let here : p < length items = omega (arith, c.if-place-parts.false) in
-    subst IsSorted (sym (part_read read items p c.index-parts-place.result here))
-    (leaf_sorted (map read items) p [] (omega (arith, here, length-map items read))
-    c.requires.parts.sorted)
+pub add_within-requires : goal.add_within-requires
+add_within-requires g c =
+    record {
+      part = is_part g.P.Part.nodes g.P.Part.IsWhole c.args.parts.now c.part_at-place.result c.index-parts-place.result
+          (omega (arith, c.if-place-parts.false)) c.requires.parts;
+    }
 
-pub add_within-requires-else-stops_at_next-clause-sorted :
-    goal.add_within-requires-else-stops_at_next-clause-sorted
-add_within-requires-else-stops_at_next-clause-sorted g c =
-    let read = g.P.Part.nodes in
-    let items = c.args.parts.now in
+pub add_within-requires-else-stops_at_next : goal.add_within-requires-else-stops_at_next
+add_within-requires-else-stops_at_next g c =
+    record {
+      part = is_part g.P.Part.nodes g.P.Part.IsWhole c.args.parts.now c.part_at-place.result
+          c.index-parts-place-else-stops_at_next.result (omega (arith, c.if-place-parts.false))
+          c.requires.parts;
+    }
+
+pub raise_over-requires-clause-goes : goal.raise_over-requires-clause-goes
+raise_over-requires-clause-goes g c =
+    let ls : List (List Node) = map g.P.Part.nodes c.args.parts.now in
     let p : ℕ = c.part_at-place.result in
-    let here : p < length items = omega (arith, c.if-place-parts.false) in
-    subst IsSorted (sym (part_read read items p c.index-parts-place-else-stops_at_next.result here))
-    (leaf_sorted (map read items) p [] (omega (arith, here, length-map items read))
-    c.requires.parts.sorted)
+    let next : Cut = start_of (nodes_of (drop (suc p) ls)) in
+    let from : c.add.inside.from.now ≡ c.args.add.now.from =
+    ap (λ (v : Addend). v.from) c.add.view_is in
+    let to : c.add.inside.to.now ≡ c.args.add.now.to = ap (λ (v : Addend). v.to) c.add.view_is in
+    record {
+      bound = omega (arith, c.if-place-parts.false);
+      first = subst (λ (x : Cut). IsLeafAt ls x p) from c.part_at-place.ensures;
+      beyond = subst (λ (x : Cut). is_below next x ≡ true) to
+          (sym c.goes_on.ensures ∙ c.if-goes_on.true);
+    }
 
 pub returns-then-stops_at_next-clause-told : goal.returns-then-stops_at_next-clause-told
 returns-then-stops_at_next-clause-told g c =

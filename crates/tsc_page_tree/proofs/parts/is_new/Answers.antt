@@ -4,21 +4,18 @@ use Rattle.std.specs.Prelude.{not}
 use Rattle.std.proofs.lemmas.List.{length-map}
 use Rattle.tsc_span.specs.Span.{KeyBytes, Cut, before}
 use Rattle.tsc_page_nodes.specs.PageView.{is_in}
-use Rattle.tsc_page_nodes.specs.Nodes.{Node, IsSorted, node_keys}
+use Rattle.tsc_page_nodes.specs.Nodes.{Node, node_keys}
 use Rattle.tsc_page_tree.specs.Leaves.{nodes_of, IsLeafAt}
-use Rattle.tsc_page_tree.proofs.LeafLists.{read_leaf, leaf_sorted, StandsAround, stands_around, all_some}
+use Rattle.tsc_page_tree.proofs.LeafLists.{read_leaf, StandsAround, stands_around, all_some, read_part}
 use Rattle.tsc_page_tree.proofs.LeafKeys.{known_in_part, wholly_below}
 use Rattle.tsc_page_tree.proofs.parts.is_new.Goals as goal
 
-pub is_new-requires-clause-sorted : goal.is_new-requires-clause-sorted
-is_new-requires-clause-sorted g c =
-    let read = g.P.Part.nodes in
-    let items = c.args.parts.now in
-    let p : ℕ = c.part_at.result in
-    let here : p < length items = omega (arith, c.in-Some.ensures.lookup.3.0) in
-    let is = read_leaf read items p c.in-Some.part.now here c.in-Some.ensures.lookup.1 in
-    subst IsSorted (sym is) (leaf_sorted (map read items) p []
-    (omega (arith, here, length-map items read)) c.requires.parts.sorted)
+pub is_new-requires : goal.is_new-requires
+is_new-requires g c =
+    record {
+      part = read_part g.P.Part.nodes g.P.Part.IsWhole c.args.parts.now c.part_at.result c.in-Some.part.now
+          (omega (arith, c.in-Some.ensures.lookup.3.0)) c.in-Some.ensures.lookup.1 c.requires.parts;
+    }
 
 pub returns-in-Some : goal.returns-in-Some
 returns-in-Some g c =

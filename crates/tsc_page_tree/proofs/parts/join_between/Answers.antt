@@ -7,7 +7,7 @@ use Rattle.tsc_span.specs.Span.{Cut, between}
 use Rattle.tsc_page_nodes.specs.Nodes.{Node, IsSorted, answer_of}
 use Rattle.tsc_page_tree.specs.Leaves.{nodes_of, start_of, IsLeafAt}
 use Rattle.tsc_page_nodes.proofs.CutOrder.{Le}
-use Rattle.tsc_page_tree.proofs.LeafLists.{read_leaf, leaf_sorted, leaf_first, parted_at, sorted_from, starts_low, all_some}
+use Rattle.tsc_page_tree.proofs.LeafLists.{read_leaf, leaf_first, parted_at, sorted_from, starts_low, all_some, read_part}
 use Rattle.tsc_page_tree.proofs.LeafAnswers.{AnswersSoFar, answers_at_first, answers_of_last, answers_at_end, zero_first, zero_below_answer}
 use Rattle.tsc_page_tree.proofs.parts.join_between.Goals as goal
 
@@ -29,15 +29,10 @@ returns-then-place-parts g c =
     c.unowned.ensures ∙ answers_at_end (nodes_of ls) (nodes_of (drop p ls)) from to from
     (unowned zero_time) (ap nodes_of (drop_all p ls past)) so_far
 
-pub join_between-requires-clause-sorted : goal.join_between-requires-clause-sorted
-join_between-requires-clause-sorted g c =
-    let read = g.P.Part.nodes in
-    let items = c.args.parts.now in
-    let p : ℕ = c.part_at-place.result in
-    let here : p < length items = omega (arith, c.if-place-parts.false) in
-    let is = read_leaf read items p c.index-parts-place.result here c.index-parts-place.is in
-    subst IsSorted (sym is) (leaf_sorted (map read items) p []
-    (omega (arith, here, length-map items read)) c.requires.parts.sorted)
+pub join_between-requires-clause-part : goal.join_between-requires-clause-part
+join_between-requires-clause-part g c =
+    read_part g.P.Part.nodes g.P.Part.IsWhole c.args.parts.now c.part_at-place.result c.index-parts-place.result
+    (omega (arith, c.if-place-parts.false)) c.index-parts-place.is c.requires.parts
 
 pub returns-else-goes_on : goal.returns-else-goes_on
 returns-else-goes_on g c =

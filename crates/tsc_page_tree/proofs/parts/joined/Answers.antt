@@ -17,4 +17,4 @@ returns-else-changes g c =
     let whole = sym (ap (λ (w : OwnedTime). joint best (w ∷ [])) c.joint.ensures) ∙
     c.changes.ensures c.if-changes.false in
     sym (nothing_more best (all_joint ns) (answer_of ns s) whole
-    (answer_below_all s ns c.requires.sorted))
+    (answer_below_all s ns c.requires.part.sorted))

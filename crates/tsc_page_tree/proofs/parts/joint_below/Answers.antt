@@ -9,7 +9,7 @@ use Rattle.tsc_span.specs.Span.{Cut, before, last, between}
 use Rattle.tsc_page_nodes.specs.Nodes.{Node, IsSorted, answer_of}
 use Rattle.tsc_page_tree.specs.Leaves.{nodes_of, start_of}
 use Rattle.tsc_page_nodes.proofs.CutOrder.{Lt, Le}
-use Rattle.tsc_page_tree.proofs.LeafLists.{read_leaf, leaf_sorted, leaf_first, sorted_from, lowest_below, all_some}
+use Rattle.tsc_page_tree.proofs.LeafLists.{read_leaf, leaf_first, sorted_from, lowest_below, all_some, read_part}
 use Rattle.tsc_page_tree.proofs.LeafAnswers.{AnswersSoFar, answers_of_last, answers_go_on, answers_at_end, zero_first, zero_below_answer}
 use Rattle.tsc_page_tree.proofs.parts.joint_below.Goals as goal
 
@@ -25,15 +25,10 @@ loop-place-init g c =
     subst (λ (w : OwnedTime). AnswersSoFar left left (before []) to (before []) w)
     (sym c.unowned-best.ensures) start
 
-pub joined-requires-clause-sorted : goal.joined-requires-clause-sorted
-joined-requires-clause-sorted g c =
-    let read = g.P.Part.nodes in
-    let items = c.args.parts.now in
-    let p : ℕ = c.loop-place.place in
-    let here : p < length items = omega (arith, c.loop-place-test.true) in
-    let is = read_leaf read items p c.index-parts-place.result here c.index-parts-place.is in
-    subst IsSorted (sym is) (leaf_sorted (map read items) p []
-    (omega (arith, here, length-map items read)) c.requires.parts.sorted)
+pub joined-requires-clause-part : goal.joined-requires-clause-part
+joined-requires-clause-part g c =
+    read_part g.P.Part.nodes g.P.Part.IsWhole c.args.parts.now c.loop-place.place c.index-parts-place.result
+    (omega (arith, c.loop-place-test.true)) c.index-parts-place.is c.requires.parts
 
 pub joined-requires-clause-order : goal.joined-requires-clause-order
 joined-requires-clause-order g c = search rules

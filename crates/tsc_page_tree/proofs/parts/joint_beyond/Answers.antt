@@ -10,7 +10,7 @@ use Rattle.tsc_page_tree.specs.Leaves.{nodes_of, IsLeafAt}
 use Rattle.tsc_page_nodes.proofs.CutOrder.{Lt, Le_Lt-chain}
 use Rattle.tsc_page_nodes.proofs.Cuts.{lowest}
 use Rattle.tsc_page_tree.proofs.Joins.{up_to_last}
-use Rattle.tsc_page_tree.proofs.LeafLists.{read_leaf, leaf_sorted, leaf_first, parted_at, sorted_from, starts_low, ends_high, all_some}
+use Rattle.tsc_page_tree.proofs.LeafLists.{read_leaf, leaf_first, parted_at, sorted_from, starts_low, ends_high, all_some, read_part}
 use Rattle.tsc_page_tree.proofs.LeafAnswers.{AnswersSoFar, answers_at_first, answers_go_on, joint-swap, zero_first, zero_below_answer}
 use Rattle.tsc_page_tree.proofs.parts.joint_beyond.Goals as goal
 
@@ -18,15 +18,10 @@ pub joint_below-best-requires-clause-order : goal.joint_below-best-requires-clau
 joint_below-best-requires-clause-order g c =
     Le_Lt-chain (before []) c.args.from.now c.args.to.now (lowest c.args.from.now) c.requires.order
 
-pub joined-requires-clause-sorted : goal.joined-requires-clause-sorted
-joined-requires-clause-sorted g c =
-    let read = g.P.Part.nodes in
-    let items = c.args.parts.now in
-    let p : ℕ = c.args.first in
-    let is = read_leaf read items p c.index-parts-first.result c.requires.bound
-    c.index-parts-first.is in
-    subst IsSorted (sym is) (leaf_sorted (map read items) p []
-    (omega (arith, c.requires.bound, length-map items read)) c.requires.parts.sorted)
+pub joined-requires-clause-part : goal.joined-requires-clause-part
+joined-requires-clause-part g c =
+    read_part g.P.Part.nodes g.P.Part.IsWhole c.args.parts.now c.args.first c.index-parts-first.result
+    c.requires.goes.bound c.index-parts-first.is c.requires.parts
 
 pub joined-requires-clause-order : goal.joined-requires-clause-order
 joined-requires-clause-order g c =
@@ -41,13 +36,13 @@ returns g c =
     let from : Cut = c.args.from.now in
     let to : Cut = c.args.to.now in
     let p : ℕ = c.args.first in
-    let inside : p < length ls = omega (arith, c.requires.bound, length-map items read) in
-    let is = read_leaf read items p c.index-parts-first.result c.requires.bound
+    let inside : p < length ls = omega (arith, c.requires.goes.bound, length-map items read) in
+    let is = read_leaf read items p c.index-parts-first.result c.requires.goes.bound
     c.index-parts-first.is in
     let first = leaf_first ls p [] inside in
     let sorted = c.requires.parts.sorted in
     let some = all_some read g.P.Part.IsWhole items g.met.P.Part.some c.requires.parts.whole in
-    let at : IsLeafAt ls from p = c.requires.first in
+    let at : IsLeafAt ls from p = c.requires.goes.first in
     let behind = nodes_of (drop (suc p) ls) in
     let start = answers_at_first from to (nodes_of (take p ls)) (nodes_of (drop p ls))
     (subst IsSorted (parted_at ls p) sorted) (starts_low ls from p some at) in
@@ -57,7 +52,7 @@ returns g c =
     (unowned zero_time)) first so_far in
     let more = answers_go_on (nodes_of ls) (get_or ls p []) behind from to from (unowned zero_time)
     (subst IsSorted first (sorted_from ls p sorted))
-    (ends_high ls from p some (up_to_last from to c.requires.order) at) c.requires.beyond
+    (ends_high ls from p some (up_to_last from to c.requires.order) at) c.requires.goes.beyond
     here in
     let answer : OwnedTime = answer_of (get_or ls p []) (between from last) in
     let rest : OwnedTime = answer_of behind (between (before []) to) in

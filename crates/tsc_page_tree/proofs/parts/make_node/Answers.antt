@@ -1,19 +1,19 @@
 -- The part in which a key falls takes its node, and what it cuts off comes behind it.
-use Rattle.std.proofs.Common.{◌≡◌, ◌∙◌, ◌+◌, ◌<◌, ap, sym, subst, ℕ, suc, List, [], ◌++◌, map, get_or, set, length, arith}
+use Rattle.std.proofs.Common.{◌≡◌, ◌+◌, ◌<◌, ap, sym, subst, ℕ, suc, List, ◌++◌, map, get_or, set, length, arith}
 use Rattle.std.specs.Prelude.{IfSome}
 use Rattle.std.specs.Option.{option_to_list}
 use Rattle.std.specs.List.{All, insert}
 use Rattle.std.proofs.lemmas.List.{length-map, length-set}
 use Rattle.tsc_span.specs.Span.{KeyBytes, Cut, before}
-use Rattle.tsc_page_nodes.specs.Nodes.{IsSorted}
-use Rattle.tsc_page_tree.specs.Leaves.{nodes_of, IsLeafAt, HasNode}
-use Rattle.tsc_page_tree.proofs.LeafLists.{part_read, leaf_sorted, all_some, all_set, all_insert}
+use Rattle.tsc_page_tree.specs.Leaves.{nodes_of, IsLeafAt, IsPart, HasNode}
+use Rattle.tsc_page_tree.proofs.LeafLists.{all_some, all_set, all_insert, is_part}
 use Rattle.tsc_page_tree.proofs.LeafMakes.{made_whole, made_cut}
 use Rattle.tsc_page_tree.proofs.parts.make_node.Goals as goal
 
-pub make_node-requires-clause-sorted : goal.make_node-requires-clause-sorted
-make_node-requires-clause-sorted g c =
-    let read = g.P.Part.nodes in
+pub make_node-requires : goal.make_node-requires
+make_node-requires g c =
+    let f = g.P.Part.nodes in
+    let Q = g.P.Part.IsWhole in
     let items = c.args.parts.now.items in
     let p : ℕ = c.part_at-place.result in
     let bound = c.part_at-place.ensures.bound in
@@ -21,13 +21,13 @@ make_node-requires-clause-sorted g c =
       arith,
       bound,
       ap length c.deref.ensures.value,
-      length-map c.deref.result.now read,
+      length-map c.deref.result.now f,
       c.requires.some,
     ) in
-    subst IsSorted (sym (ap read c.index_mut.ensures.value ∙
-    part_read read items p c.index_mut.result.now here))
-    (leaf_sorted (map read items) p [] (omega (arith, here, length-map items read))
-    c.requires.parts.sorted)
+    record {
+      part = subst (IsPart f Q) (sym c.index_mut.ensures.value)
+          (is_part f Q items p c.index_mut.result.now here c.requires.parts);
+    }
 
 pub returns-in_ok-insert-clause-made : goal.returns-in_ok-insert-clause-made
 returns-in_ok-insert-clause-made g c =

@@ -4,12 +4,19 @@ use Rattle.tsc_page_tree.proofs.LeafLists.{all_set}
 use Rattle.tsc_page_tree.proofs.PartLoops.{next_sorted, one_raised, all_raised, same_by}
 use Rattle.tsc_page_tree.proofs.parts.raise_all.Goals as goal
 
-pub raise_whole-requires-clause-sorted : goal.raise_whole-requires-clause-sorted
-raise_whole-requires-clause-sorted g c =
+pub raise_whole-requires : goal.raise_whole-requires
+raise_whole-requires g c =
     let so_far = c.loop-place.invariant.0 in
-    next_sorted g.P.Part.nodes c.args.value c.args.parts.now c.loop-place.parts c.loop-place.place
-    c.index-parts-place.result c.requires.parts.sorted
-    (omega (arith, c.loop-place-test.true, so_far.as_long)) so_far
+    let items = c.loop-place.parts in
+    let i = c.loop-place.place in
+    let inside : i < length items = omega (arith, c.loop-place-test.true, so_far.as_long) in
+    record {
+      part = record {
+        whole = c.loop-place.invariant.1 i c.index-parts-place.result inside;
+        sorted = next_sorted g.P.Part.nodes c.args.value c.args.parts.now items i
+            c.index-parts-place.result c.requires.parts.sorted inside so_far;
+      };
+    }
 
 pub loop-place-preserved : goal.loop-place-preserved
 loop-place-preserved g c =

@@ -1,25 +1,20 @@
 -- The span lies in one part, or goes on beyond it.
-use Rattle.std.proofs.Common.{◌∙◌, ◌<◌, ap, sym, subst, ℕ, suc, List, [], map, drop, length, arith}
+use Rattle.std.proofs.Common.{◌∙◌, ◌<◌, ap, sym, subst, ℕ, suc, List, map, drop, length, arith}
 use Rattle.std.proofs.lemmas.List.{length-map}
 use Rattle.std.proofs.lemmas.Result.{IfOk-weaker}
 use Rattle.tsc_span.specs.Span.{Cut, between}
 use Rattle.tsc_span.specs.Cuts.{cut_of}
-use Rattle.tsc_page_nodes.specs.Nodes.{Node, IsSorted}
+use Rattle.tsc_page_nodes.specs.Nodes.{Node}
 use Rattle.tsc_page_tree.specs.Leaves.{nodes_of, start_of, IsLeafAt}
 use Rattle.tsc_page_nodes.proofs.CutOrder.{Le}
-use Rattle.tsc_page_tree.proofs.LeafLists.{part_read, all_some, leaf_sorted}
+use Rattle.tsc_page_tree.proofs.LeafLists.{all_some, is_part}
 use Rattle.tsc_page_tree.proofs.LeafRaises.{raises_start, raises_last, raised_part}
 use Rattle.tsc_page_tree.proofs.parts.raise_between.Goals as goal
 
-pub raise_between-requires-clause-sorted : goal.raise_between-requires-clause-sorted
-raise_between-requires-clause-sorted g c =
-    let read = g.P.Part.nodes in
-    let items = c.args.parts.now in
-    let p : ℕ = c.part_at-first.result in
-    let here : p < length items = omega (arith, c.if-first-parts.false) in
-    subst IsSorted (sym (part_read read items p c.index-parts-first.result here))
-    (leaf_sorted (map read items) p [] (omega (arith, here, length-map items read))
-    c.requires.parts.sorted)
+pub raise_between-requires-clause-part : goal.raise_between-requires-clause-part
+raise_between-requires-clause-part g c =
+    is_part g.P.Part.nodes g.P.Part.IsWhole c.args.parts.now c.part_at-first.result c.index-parts-first.result
+    (omega (arith, c.if-first-parts.false)) c.requires.parts
 
 pub returns-else-goes_on-clause-raised : goal.returns-else-goes_on-clause-raised
 returns-else-goes_on-clause-raised g c =

@@ -8,19 +8,14 @@ use Rattle.tsc_page_nodes.specs.Nodes.{Node, IsSorted, raise_nodes}
 use Rattle.tsc_page_tree.specs.Leaves.{nodes_of, start_of, IsLeafAt}
 use Rattle.tsc_page_nodes.proofs.CutOrder.{Lt, Le}
 use Rattle.tsc_page_tree.proofs.Joins.{sorted_left}
-use Rattle.tsc_page_tree.proofs.LeafLists.{part_read, all_some, all_set, leaf_sorted}
+use Rattle.tsc_page_tree.proofs.LeafLists.{part_read, all_some, all_set, is_part}
 use Rattle.tsc_page_tree.proofs.LeafRaises.{RaisesSoFar, raises_start, left_sorted, raises_last, raises_go_on, raises_end, raised_part}
 use Rattle.tsc_page_tree.proofs.parts.raise_beyond.Goals as goal
 
-pub raise_between-requires-clause-sorted : goal.raise_between-requires-clause-sorted
-raise_between-requires-clause-sorted g c =
-    let read = g.P.Part.nodes in
-    let items = c.args.parts.now in
-    let p : ℕ = c.args.first in
-    let here : p < length items = c.requires.bound in
-    subst IsSorted (sym (part_read read items p c.index-parts-first.result here))
-    (leaf_sorted (map read items) p [] (omega (arith, here, length-map items read))
-    c.requires.parts.sorted)
+pub raise_between-requires-clause-part : goal.raise_between-requires-clause-part
+raise_between-requires-clause-part g c =
+    is_part g.P.Part.nodes g.P.Part.IsWhole c.args.parts.now c.args.first c.index-parts-first.result
+    c.requires.goes.bound c.requires.parts
 
 pub loop-place-init : goal.loop-place-init
 loop-place-init g c =
@@ -31,14 +26,14 @@ loop-place-init g c =
     let to : Cut = c.args.to.now in
     let p : ℕ = c.args.first in
     let y = c.raise_between.new.self in
-    let here : p < length items = c.requires.bound in
+    let here : p < length items = c.requires.goes.bound in
     let inside : p < length ls = omega (arith, here, length-map items read) in
     let some = all_some read g.P.Part.IsWhole items g.met.P.Part.some c.requires.parts.whole in
-    let at : IsLeafAt ls from p = c.requires.first in
+    let at : IsLeafAt ls from p = c.requires.goes.first in
     let start = raises_start ls from to c.args.value p some c.requires.parts.sorted
     c.requires.order at in
     let more = raises_go_on ls ls from to from c.args.value p some c.requires.parts.sorted inside
-    start c.requires.beyond in
+    start c.requires.goes.beyond in
     let raised = raised_part read items p c.index-parts-first.result y (between from last)
     c.args.value here c.in_ok-raise_between.ensures.raised in
     let next : suc p ≡ p + 1 = omega arith in (
@@ -49,9 +44,9 @@ loop-place-init g c =
       all_set g.P.Part.IsWhole items p y c.requires.parts.whole c.in_ok-raise_between.ensures.whole,
     )
 
-pub raise_between-requires-then-not-goes_on-clause-sorted :
-    goal.raise_between-requires-then-not-goes_on-clause-sorted
-raise_between-requires-then-not-goes_on-clause-sorted g c =
+pub raise_between-requires-then-not-goes_on-clause-part :
+    goal.raise_between-requires-then-not-goes_on-clause-part
+raise_between-requires-then-not-goes_on-clause-part g c =
     let read = g.P.Part.nodes in
     let old : List (List Node) = map read c.args.parts.now in
     let items = c.loop-place.parts in
@@ -60,11 +55,15 @@ raise_between-requires-then-not-goes_on-clause-sorted g c =
     let here : p < length items = omega (arith, c.loop-place-test.true, c.loop-place.auto.parts) in
     let some = all_some read g.P.Part.IsWhole c.args.parts.now g.met.P.Part.some
     c.requires.parts.whole in
-    subst IsSorted (sym (part_read read items p c.index-parts-place.result here))
-    (sorted_left (get_or now p []) (nodes_of (drop (suc p) now))
-    (left_sorted old now (cut_of c.args.from) c.args.to.now (before []) c.args.value p some
-    c.requires.parts.sorted (omega (arith, here, length-map items read))
-    c.loop-place.invariant.0))
+    record {
+      whole = c.loop-place.invariant.1 p c.index-parts-place.result here;
+      sorted =
+          subst IsSorted (sym (part_read read items p c.index-parts-place.result here))
+          (sorted_left (get_or now p []) (nodes_of (drop (suc p) now))
+          (left_sorted old now (cut_of c.args.from) c.args.to.now (before []) c.args.value p some
+          c.requires.parts.sorted (omega (arith, here, length-map items read))
+          c.loop-place.invariant.0));
+    }
 
 pub returns-then-not-goes_on-clause-raised : goal.returns-then-not-goes_on-clause-raised
 returns-then-not-goes_on-clause-raised g c =
@@ -90,8 +89,9 @@ returns-then-not-goes_on-clause-raised g c =
     ∙ raises_last old now from to (before []) c.args.value p some c.requires.parts.sorted inside
     c.loop-place.invariant.0 high) c.raise_between-then-not-goes_on.ensures.raised
 
-pub raise_whole-requires-clause-sorted : goal.raise_whole-requires-clause-sorted
-raise_whole-requires-clause-sorted g c =
+pub raise_whole-requires :
+    goal.raise_whole-requires
+raise_whole-requires g c =
     let read = g.P.Part.nodes in
     let old : List (List Node) = map read c.args.parts.now in
     let items = c.loop-place.parts in
@@ -100,11 +100,17 @@ raise_whole-requires-clause-sorted g c =
     let here : p < length items = omega (arith, c.loop-place-test.true, c.loop-place.auto.parts) in
     let some = all_some read g.P.Part.IsWhole c.args.parts.now g.met.P.Part.some
     c.requires.parts.whole in
-    subst IsSorted (sym (part_read read items p c.index-parts-place-in-loop-place.result here))
-    (sorted_left (get_or now p []) (nodes_of (drop (suc p) now))
-    (left_sorted old now (cut_of c.args.from) c.args.to.now (before []) c.args.value p some
-    c.requires.parts.sorted (omega (arith, here, length-map items read))
-    c.loop-place.invariant.0))
+    record {
+      part = record {
+        whole = c.loop-place.invariant.1 p c.index-parts-place-in-loop-place.result here;
+        sorted =
+            subst IsSorted (sym (part_read read items p c.index-parts-place-in-loop-place.result here))
+            (sorted_left (get_or now p []) (nodes_of (drop (suc p) now))
+            (left_sorted old now (cut_of c.args.from) c.args.to.now (before []) c.args.value p some
+            c.requires.parts.sorted (omega (arith, here, length-map items read))
+            c.loop-place.invariant.0));
+      };
+    }
 
 pub loop-place-preserved : goal.loop-place-preserved
 loop-place-preserved g c =

@@ -13,4 +13,4 @@ returns-else-leaves_out g c =
     let to : Cut = c.args.to.now in
     let outside = or_parts (is_below to last) (is_below (start_of ns) from)
     (sym c.leaves_out.ensures ∙ c.if-leaves_out.false) in
-    c.joint.ensures ∙ sym (answer_of_all from to ns c.requires.sorted outside.1 outside.0)
+    c.joint.ensures ∙ sym (answer_of_all from to ns c.requires.part.sorted outside.1 outside.0)

@@ -7,20 +7,17 @@ use Rattle.tsc_span.specs.Span.{KeyBytes, Cut, before, after, last, point}
 use Rattle.tsc_page_nodes.specs.Nodes.{Node, IsSorted, answer_of}
 use Rattle.tsc_page_nodes.proofs.CutOrder.{Lt, Le, Le-from_Lt, before-after}
 use Rattle.tsc_page_tree.specs.Leaves.{nodes_of, start_of, IsLeafAt}
-use Rattle.tsc_page_tree.proofs.LeafLists.{read_leaf, leaf_sorted, leaf_first, parted_at, sorted_from, starts_low, ends_high, all_some}
+use Rattle.tsc_page_tree.proofs.LeafLists.{read_leaf, leaf_first, parted_at, sorted_from, starts_low, ends_high, all_some, read_part}
 use Rattle.tsc_page_tree.proofs.LeafKeys.{wholly_below}
 use Rattle.tsc_page_tree.proofs.LeafAnswers.{AnswersSoFar, answers_at_first, answers_of_last, answers_at_end, zero_first, zero_below_answer}
 use Rattle.tsc_page_tree.proofs.parts.value_at.Goals as goal
 
-pub value_at-requires-clause-sorted : goal.value_at-requires-clause-sorted
-value_at-requires-clause-sorted g c =
-    let read = g.P.Part.nodes in
-    let items = c.args.parts.now in
-    let p : ℕ = c.part_at.result in
-    let here : p < length items = omega (arith, c.in-Some.ensures.lookup.3.0) in
-    let is = read_leaf read items p c.in-Some.part.now here c.in-Some.ensures.lookup.1 in
-    subst IsSorted (sym is) (leaf_sorted (map read items) p []
-    (omega (arith, here, length-map items read)) c.requires.parts.sorted)
+pub value_at-requires : goal.value_at-requires
+value_at-requires g c =
+    record {
+      part = read_part g.P.Part.nodes g.P.Part.IsWhole c.args.parts.now c.part_at.result c.in-Some.part.now
+          (omega (arith, c.in-Some.ensures.lookup.3.0)) c.in-Some.ensures.lookup.1 c.requires.parts;
+    }
 
 pub returns-in-None : goal.returns-in-None
 returns-in-None g c =

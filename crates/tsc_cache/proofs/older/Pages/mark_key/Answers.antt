@@ -15,8 +15,8 @@ returns-in-Some-clause-marked c =
     let old : PageView = front_of c.args.self.now in
     let is : c.in-Some.front.now ≡ old = c.in-Some.ensures.value in
     let marked = marked_by c.add_key.result c.in-Some.front.now c.add_key.new.self m
-    c.add_key.ensures.size c.add_key.ensures.top c.add_key.ensures.keys
-    c.add_key.ensures.answers in
+    c.add_key.ensures.told.size c.add_key.ensures.told.top c.add_key.ensures.told.keys
+    c.add_key.ensures.told.answers in
     beside c.add_key.result (IsMarked old c.add_key.new.self m) _ refl
     (subst (λ (v : PageView). IfOk c.add_key.result
     (λ done. done ≡ true → IsMarked v c.add_key.new.self m)) is marked)

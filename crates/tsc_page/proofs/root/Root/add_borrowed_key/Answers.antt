@@ -8,10 +8,10 @@ pub returns-in-Two-clause-whole : goal.returns-in-Two-clause-whole
 returns-in-Two-clause-whole c =
     few_with IsWholeTwo c.in-Two.parts c.add_key-in-Two.new.forks
     (c.add_key-in-Two.ensures.len ∙ ap length c.deref_mut-in-Two.ensures.value)
-    c.add_key-in-Two.ensures.whole (subst IsWholeRoot c.in-Two.is c.requires.whole)
+    c.add_key-in-Two.ensures.whole (subst IsWholeRoot c.in-Two.is c.requires.root.whole)
 
 pub returns-in-Three-clause-whole : goal.returns-in-Three-clause-whole
 returns-in-Three-clause-whole c =
     few_with IsWholeThree c.in-Three.parts c.add_key-in-Three.new.forks
     (c.add_key-in-Three.ensures.len ∙ ap length c.deref_mut-in-Three.ensures.value)
-    c.add_key-in-Three.ensures.whole (subst IsWholeRoot c.in-Three.is c.requires.whole)
+    c.add_key-in-Three.ensures.whole (subst IsWholeRoot c.in-Three.is c.requires.root.whole)

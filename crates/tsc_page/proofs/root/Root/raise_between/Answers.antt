@@ -9,11 +9,11 @@ returns-in-Two-clause-whole c =
     few_on_ok IsWholeTwo c.in-Two.parts c.raise_between-in-Two.new.forks
     c.raise_between-in-Two.result
     (c.raise_between-in-Two.ensures.len ∙ ap length c.deref_mut-in-Two.ensures.value)
-    c.raise_between-in-Two.ensures.whole (subst IsWholeRoot c.in-Two.is c.requires.whole)
+    c.raise_between-in-Two.ensures.whole (subst IsWholeRoot c.in-Two.is c.requires.root.whole)
 
 pub returns-in-Three-clause-whole : goal.returns-in-Three-clause-whole
 returns-in-Three-clause-whole c =
     few_on_ok IsWholeThree c.in-Three.parts c.raise_between-in-Three.new.forks
     c.raise_between-in-Three.result
     (c.raise_between-in-Three.ensures.len ∙ ap length c.deref_mut-in-Three.ensures.value)
-    c.raise_between-in-Three.ensures.whole (subst IsWholeRoot c.in-Three.is c.requires.whole)
+    c.raise_between-in-Three.ensures.whole (subst IsWholeRoot c.in-Three.is c.requires.root.whole)

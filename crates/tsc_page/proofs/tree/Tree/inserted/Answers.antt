@@ -103,24 +103,25 @@ overflow_add-count-2 c =
       c.in_ok-lower.ensures.few.0,
     )
 
-pub with_node-requires-clause-whole : goal.with_node-requires-clause-whole
-with_node-requires-clause-whole c = c.in_ok-try_copy.ensures.whole c.self.invariant.whole
+pub with_node-requires : goal.with_node-requires
+with_node-requires c = record {
+  root = record {
+    whole = c.in_ok-try_copy.ensures.whole c.self.invariant.whole;
+    sorted = subst IsSorted (sym c.in_ok-try_copy.ensures.nodes) c.self.invariant.sorted;
+  };
+}
 
-pub with_node-requires-clause-sorted : goal.with_node-requires-clause-sorted
-with_node-requires-clause-sorted c =
-    subst IsSorted (sym c.in_ok-try_copy.ensures.nodes) c.self.invariant.sorted
+pub with_node-requires-2 : goal.with_node-requires-2
+with_node-requires-2 c = record {
+  root = record {
+    whole = c.in_ok-upper.ensures.whole;
+    sorted = c.in_ok-upper.ensures.split.sorted;
+  };
+}
 
-pub with_node-requires-2-clause-whole : goal.with_node-requires-2-clause-whole
-with_node-requires-2-clause-whole c = c.in_ok-upper.ensures.whole
-
-pub with_node-requires-2-clause-sorted : goal.with_node-requires-2-clause-sorted
-with_node-requires-2-clause-sorted c = c.in_ok-upper.ensures.split.sorted
-
-pub raise_between-requires-clause-whole : goal.raise_between-requires-clause-whole
-raise_between-requires-clause-whole c = c.in_ok-lower.ensures.whole
-
-pub raise_between-requires-clause-sorted : goal.raise_between-requires-clause-sorted
-raise_between-requires-clause-sorted c = c.in_ok-lower.ensures.split.sorted
+pub raise_between-requires-clause-root : goal.raise_between-requires-clause-root
+raise_between-requires-clause-root c =
+    record { whole = c.in_ok-lower.ensures.whole; sorted = c.in_ok-lower.ensures.split.sorted }
 
 pub raise_between-requires-clause-order : goal.raise_between-requires-clause-order
 raise_between-requires-clause-order c = c.add.invariant.order

@@ -4,10 +4,11 @@ use Rattle.std.specs.Prelude.{not, option_map}
 use Rattle.tsc_page_nodes.specs.PageView.{is_in, is_new_among}
 use Rattle.tsc_page_nodes.specs.Nodes.{node_keys}
 use Rattle.tsc_page.specs.Roots.{TreeView}
+use Rattle.tsc_page.proofs.TreeLists.{counted_root}
 use Rattle.tsc_page.proofs.tree.Tree.is_new.Goals as goal
 
 pub is_new-requires : goal.is_new-requires
-is_new-requires c = record { whole = c.self.invariant.whole; sorted = c.self.invariant.sorted }
+is_new-requires c = record { root = counted_root _ _ _ c.self.invariant }
 
 pub returns-in-Some : goal.returns-in-Some
 returns-in-Some c =

@@ -4,13 +4,11 @@ use Rattle.tsc_span.specs.Span.{between}
 use Rattle.tsc_span.specs.Cuts.{cut_of}
 use Rattle.tsc_page_nodes.specs.Nodes.{answer_of}
 use Rattle.tsc_page.specs.Roots.{TreeView, root_nodes}
+use Rattle.tsc_page.proofs.TreeLists.{counted_root}
 use Rattle.tsc_page.proofs.tree.Tree.join_between.Goals as goal
 
-pub join_between-requires-clause-whole : goal.join_between-requires-clause-whole
-join_between-requires-clause-whole c = c.self.invariant.whole
-
-pub join_between-requires-clause-sorted : goal.join_between-requires-clause-sorted
-join_between-requires-clause-sorted c = c.self.invariant.sorted
+pub join_between-requires-clause-root : goal.join_between-requires-clause-root
+join_between-requires-clause-root c = counted_root _ _ _ c.self.invariant
 
 pub returns : goal.returns
 returns c =

@@ -5,13 +5,11 @@ use Rattle.tsc_span.specs.Cuts.{cut_of}
 use Rattle.tsc_page_nodes.specs.KeysAbove.{first_above}
 use Rattle.tsc_page_nodes.specs.Nodes.{node_keys}
 use Rattle.tsc_page.specs.Roots.{TreeView, root_nodes}
+use Rattle.tsc_page.proofs.TreeLists.{counted_root}
 use Rattle.tsc_page.proofs.tree.Tree.key_above.Goals as goal
 
-pub key_above-requires-clause-whole : goal.key_above-requires-clause-whole
-key_above-requires-clause-whole c = c.self.invariant.whole
-
-pub key_above-requires-clause-sorted : goal.key_above-requires-clause-sorted
-key_above-requires-clause-sorted c = c.self.invariant.sorted
+pub key_above-requires : goal.key_above-requires
+key_above-requires c = record { root = counted_root _ _ _ c.self.invariant }
 
 pub returns : goal.returns
 returns c =

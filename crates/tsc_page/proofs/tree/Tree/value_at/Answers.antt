@@ -3,13 +3,11 @@ use Rattle.std.proofs.Common.{◌≡◌, ◌∙◌, ap, rules}
 use Rattle.tsc_span.specs.Span.{point}
 use Rattle.tsc_page_nodes.specs.Nodes.{answer_of}
 use Rattle.tsc_page.specs.Roots.{TreeView, root_nodes}
+use Rattle.tsc_page.proofs.TreeLists.{counted_root}
 use Rattle.tsc_page.proofs.tree.Tree.value_at.Goals as goal
 
-pub value_at-requires-clause-whole : goal.value_at-requires-clause-whole
-value_at-requires-clause-whole c = c.self.invariant.whole
-
-pub value_at-requires-clause-sorted : goal.value_at-requires-clause-sorted
-value_at-requires-clause-sorted c = c.self.invariant.sorted
+pub value_at-requires : goal.value_at-requires
+value_at-requires c = record { root = counted_root _ _ _ c.self.invariant }
 
 pub returns : goal.returns
 returns c =

@@ -9,7 +9,7 @@ use Rattle.tsc_page_nodes.proofs.nodes.Lists.key_above.Goals as goal
 pub prove-unreachable-requires : goal.prove-unreachable-requires
 prove-unreachable-requires c =
     let long = long_as c.self.inside.keys.now c.self.inside.values.now c.args.self.now
-    c.self.invariant c.self.view_is in
+    c.self.invariant.same c.self.view_is in
     let lies : IsPlaceOf c.args.self.now (after c.in-Ok-After.field-0-1.now) c.args.place =
     subst (λ x. IsPlaceOf c.args.self.now (cut_of x) c.args.place) c.in-Ok-After.is-1
     c.requires in

@@ -4,7 +4,7 @@ use mathlib.Core.Bool.{true≢false}
 use Rattle.std.specs.Prelude.{Some, None, not, option_map}
 use Rattle.tsc_span.specs.Span.{KeyBytes, before}
 use Rattle.tsc_page_nodes.specs.PageView.{is_new_among}
-use Rattle.tsc_page_nodes.specs.Nodes.{Node, node_keys, IsFoundAt, IsNewKey, IsPlaceTold}
+use Rattle.tsc_page_nodes.specs.Nodes.{Node, node_keys, IsFoundAt, IsNewKey, IsPlaceTold, IsSorted}
 use Rattle.tsc_page_nodes.proofs.Edits.{FitsAt-absent}
 use Rattle.tsc_page_nodes.proofs.Searches.{known_at, fits_at, new_at}
 use Rattle.tsc_page_nodes.proofs.nodes.Lists.new_key.Goals as goal
@@ -17,7 +17,7 @@ returns-in_err-copy-in-Err-clause-memory c known =
     let found : IsFoundAt nodes k (Err place) =
     subst (λ (m : KeyBytes). IsFoundAt nodes m (Err place)) (c.new.ensures ∙ c.bytes.ensures)
     (subst (IsFoundAt nodes c.new.result) c.in-Err.is c.find.ensures) in
-    let absent = FitsAt-absent k nodes place (before []) c.requires.sorted
+    let absent = FitsAt-absent k nodes place (before []) (subst IsSorted c.self.view_is c.self.invariant.sorted)
     (fits_at nodes k place found) in
     let new : true ≡ is_new_among (node_keys nodes) (option_map (λ k. k.now) c.args.key) =
     sym (ap not absent) ∙ ap (λ o. is_new_among (node_keys nodes) (option_map (λ k. k.now) o))

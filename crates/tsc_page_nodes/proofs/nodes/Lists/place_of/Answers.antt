@@ -8,7 +8,7 @@ use Rattle.tsc_page_nodes.proofs.nodes.Lists.place_of.Goals as goal
 pub returns-in_default : goal.returns-in_default
 returns-in_default c =
     let keys = c.self.inside.keys.now in
-    let long = long_as keys c.self.inside.values.now c.args.self.now c.self.invariant
+    let long = long_as keys c.self.inside.values.now c.args.self.now c.self.invariant.same
     c.self.view_is in
     lies_behind c.args.self.now c.args.cut.now _
     (subst (IsKeyAt c.args.cut.now) c.in_default.is c.key.ensures) (sym long)

@@ -16,9 +16,9 @@ returns-in-Some c =
     let place : ℕ = c.args.place in
     let lookup = c.in-Some.ensures.lookup in
     let inside : place < length c.self.inside.keys.now = lookup.3.0 in
-    let is = key_at c.self.inside.keys.now c.self.inside.values.now nodes c.self.invariant
+    let is = key_at c.self.inside.keys.now c.self.inside.values.now nodes c.self.invariant.same
     c.self.view_is place some_node c.in-Some.other.now inside ∙ sym lookup.1 in
-    let long = long_as c.self.inside.keys.now c.self.inside.values.now nodes c.self.invariant
+    let long = long_as c.self.inside.keys.now c.self.inside.values.now nodes c.self.invariant.same
     c.self.view_is in (
       λ told. stands_here nodes k place some_node (omega (arith, long, inside))
           (ap (λ (m : KeyBytes). key_cmp m k) is ∙ sym c.compare.ensures ∙
@@ -30,7 +30,7 @@ returns-in-Some c =
 pub returns-in-None : goal.returns-in-None
 returns-in-None c =
     let long = long_as c.self.inside.keys.now c.self.inside.values.now c.args.self.now
-    c.self.invariant c.self.view_is in (
+    c.self.invariant.same c.self.view_is in (
       λ told. absurd (true≢false (sym told)),
       λ stands. absurd (omega (arith, long, stands.bound, c.in-None.ensures.lookup)),
     )

@@ -1,13 +1,15 @@
 -- The new keys fit in the nodes, and as many come in.
-use Rattle.std.proofs.Common.{◌≡◌, ◌∙◌, ap, refl, sym, subst, ◌+◌, List, length, arith}
+use Rattle.std.proofs.Common.{◌∙◌, ap, refl, sym, subst, ◌+◌, List, length, arith}
 use Rattle.std.specs.Prelude.{Option, option_map}
 use Rattle.tsc_span.specs.Span.{KeyBytes, between}
-use Rattle.tsc_page_nodes.specs.Nodes.{Node, paired, IsNewKey, with_new, raise_nodes, nodes_cost}
+use Rattle.tsc_page_nodes.specs.Nodes.{Node, IsNewKey, with_new, raise_nodes, nodes_cost, IsSorted}
 use Rattle.tsc_page_nodes.specs.Additions.{Addend, AddsWithin, AreReady}
 use Rattle.tsc_page_nodes.proofs.Apart.{kept_pair}
 use Rattle.tsc_page_nodes.proofs.Edits.{raise_nodes-length}
 use Rattle.tsc_page_nodes.proofs.Costs.{cost-raised, cost-made}
 use Rattle.tsc_page_nodes.proofs.NewKeys.{new_fits, made_length, made_ready, none_in}
+use Rattle.std.specs.Arc.{arc_value}
+use Rattle.tsc_page_nodes.proofs.PairedOrder.{paired_as, paired_raised}
 use Rattle.tsc_page_nodes.proofs.nodes.Nodes.add_owned.Goals as goal
 
 pub returns-then-made-eq0 : goal.returns-then-made-eq0
@@ -60,7 +62,7 @@ insert_between-requires-clause-ready c =
     let kept = kept_pair _ c.reserve.new.keys.items _ c.reserve.new.values.items ns
     (c.in_ok-reserve.ensures.keys ∙ ap (λ v. v.items) c.in-Some.ensures.value)
     c.in_ok-reserve.ensures.values c.self.view_is in
-    let ready = made_ready ns o q h g c.requires.sorted c.add.invariant.3 c.in_ok-new.ensures.first
+    let ready = made_ready ns o q h g (subst IsSorted c.self.view_is c.self.invariant.sorted) c.add.invariant.3 c.in_ok-new.ensures.first
     c.in_ok-new.ensures.second in
     subst (λ (ms : List Node). AreReady ms h g) (sym kept)
     (record {
@@ -95,7 +97,7 @@ returns c =
     let raised = c.insert_between.ensures.added ∙
     ap (λ (ms : List Node). raise_nodes (between a.from a.to) a.value
     (with_new (with_new ms g) h)) kept in
-    let made = made_length ns o q h g c.requires.sorted c.add.invariant.3 c.in_ok-new.ensures.first
+    let made = made_length ns o q h g (subst IsSorted c.self.view_is c.self.invariant.sorted) c.add.invariant.3 c.in_ok-new.ensures.first
     c.in_ok-new.ensures.second in
     record {
       told = record {
@@ -119,3 +121,28 @@ returns c =
         within = (omega (arith, c.if-made-room.false), omega (arith, c.if-made-room-2.false));
       };
     }
+
+pub invariant_of-self-in_err-reserve : goal.invariant_of-self-in_err-reserve
+invariant_of-self-in_err-reserve c = paired_as _ (arc_value c.self.inside.keys).items _
+    c.self.inside.values.items
+    (c.reserve.ensures.keys ∙ ap (λ v. v.items) c.in-Some.ensures.value)
+    c.reserve.ensures.values c.self.invariant
+
+pub invariant_of-self-2 : goal.invariant_of-self-2
+invariant_of-self-2 c =
+    let ns : List Node = c.args.self.now in
+    let a : Addend = c.args.add.now in
+    let h = c.in_ok-new.new.first in
+    let g = c.in_ok-new.new.second in
+    let o : Option KeyBytes = option_map (λ k. k.now) c.add.inside.first in
+    let q : Option KeyBytes = option_map (λ k. k.now) c.add.inside.second in
+    let kept = kept_pair _ c.reserve.new.keys.items _ c.reserve.new.values.items ns
+    (c.in_ok-reserve.ensures.keys ∙ ap (λ v. v.items) c.in-Some.ensures.value)
+    c.in_ok-reserve.ensures.values c.self.view_is in
+    let raised = c.insert_between.ensures.added ∙
+    ap (λ (ms : List Node). raise_nodes (between a.from a.to) a.value
+    (with_new (with_new ms g) h)) kept in
+    let ready = made_ready ns o q h g (subst IsSorted c.self.view_is c.self.invariant.sorted)
+    c.add.invariant.3 c.in_ok-new.ensures.first c.in_ok-new.ensures.second in
+    paired_raised _ _ (between a.from a.to) a.value (with_new (with_new ns g) h)
+    c.insert_between.ensures.same raised ready.0

@@ -14,11 +14,11 @@ use Rattle.tsc_page_nodes.proofs.nodes.Nodes.join_between.Goals as goal
 pub index-requires : goal.index-requires
 index-requires c =
     let long = long_as (arc_value c.self.inside.keys).items c.self.inside.values.items
-    c.args.self.now c.self.invariant c.self.view_is in
+    c.args.self.now c.self.invariant.same c.self.view_is in
     omega (
       arith,
       long,
-      c.self.invariant,
+      c.self.invariant.same,
       c.self.inside.values.ok.0,
       c.in-Some.ensures.steps,
       c.loop-place.invariant.0.bound,
@@ -27,11 +27,11 @@ index-requires c =
 pub index-requires-in-loop-place-2 : goal.index-requires-in-loop-place-2
 index-requires-in-loop-place-2 c =
     let long = long_as (arc_value c.self.inside.keys).items c.self.inside.values.items
-    c.args.self.now c.self.invariant c.self.view_is in
+    c.args.self.now c.self.invariant.same c.self.view_is in
     omega (
       arith,
       long,
-      c.self.invariant,
+      c.self.invariant.same,
       c.self.inside.values.ok.0,
       c.in-Some-place.ensures.steps,
       c.loop-place-2.invariant.0.bound,
@@ -52,12 +52,12 @@ loop-place-preserved c =
     omega (
       arith,
       within,
-      c.self.invariant,
-      long_as keys values nodes c.self.invariant c.self.view_is,
+      c.self.invariant.same,
+      long_as keys values nodes c.self.invariant.same c.self.view_is,
     ) in
     let value : d.value ≡ (get_or nodes i some_node).value =
     ap (λ (v : Values). v.value) (c.index.ensures ∙ ap (λ (j : ℕ). get_or values j d) steps.1.1)
-    ∙ sym (value_at keys values nodes c.self.invariant c.self.view_is i some_node d inside) in
+    ∙ sym (value_at keys values nodes c.self.invariant.same c.self.view_is i some_node d inside) in
     let best = c.raise.ensures.joint ∙
     ap (λ (w : OwnedTime). joint c.loop-place.best (w ∷ [])) value in (
       record {
@@ -112,13 +112,13 @@ loop-place-2-preserved c =
     omega (
       arith,
       within,
-      c.self.invariant,
-      long_as keys values nodes c.self.invariant c.self.view_is,
+      c.self.invariant.same,
+      long_as keys values nodes c.self.invariant.same c.self.view_is,
     ) in
     let value : d.gap ≡ (get_or nodes i some_node).gap =
     ap (λ (v : Values). v.gap)
     (c.index-in-loop-place-2.ensures ∙ ap (λ (j : ℕ). get_or values j d) steps.1.1) ∙
-    sym (gap_at keys values nodes c.self.invariant c.self.view_is i some_node d inside) in
+    sym (gap_at keys values nodes c.self.invariant.same c.self.view_is i some_node d inside) in
     let best = c.raise-in-loop-place-2.ensures.joint ∙
     ap (λ (w : OwnedTime). joint c.loop-place-2.best (w ∷ [])) value in (
       record {

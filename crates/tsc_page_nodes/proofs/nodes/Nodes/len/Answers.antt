@@ -7,5 +7,5 @@ use Rattle.tsc_page_nodes.proofs.nodes.Nodes.len.Goals as goal
 pub returns : goal.returns
 returns c =
     let long = long_as (arc_value c.self.inside.keys).items c.self.inside.values.items
-    c.args.self.now c.self.invariant c.self.view_is in
-    omega (arith, long, c.self.invariant, c.len.ensures, c.self.inside.values.ok.0)
+    c.args.self.now c.self.invariant.same c.self.view_is in
+    omega (arith, long, c.self.invariant.same, c.len.ensures, c.self.inside.values.ok.0)

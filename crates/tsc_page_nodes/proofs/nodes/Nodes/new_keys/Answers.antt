@@ -3,7 +3,7 @@ use Rattle.std.proofs.Common.{refl, subst, ◌-◌, ◌^◌, ◌<◌, List, leng
 use Rattle.std.specs.Prelude.{Option, option_map, is_some}
 use Rattle.std.specs.Arc.{arc_value}
 use Rattle.tsc_span.specs.Span.{KeyBytes}
-use Rattle.tsc_page_nodes.specs.Nodes.{Node, IsNewKey, IsPlaceTold}
+use Rattle.tsc_page_nodes.specs.Nodes.{Node, IsNewKey, IsPlaceTold, IsSorted}
 use Rattle.tsc_page_nodes.proofs.Apart.{long_as}
 use Rattle.tsc_page_nodes.proofs.NewKeys.{known_not_new}
 use Rattle.tsc_page_nodes.proofs.ToldPlaces.{moved_within, first_stands, second_stands}
@@ -14,10 +14,10 @@ returns-clause-known c known =
     let nodes : List Node = c.args.self.now in
     let first : Option KeyBytes = option_map (λ k. k.now) c.args.first in
     let second : Option KeyBytes = option_map (λ k. k.now) c.args.second in
-    let one = known_not_new nodes first c.in_ok-low.first c.requires.sorted
+    let one = known_not_new nodes first c.in_ok-low.first (subst IsSorted c.self.view_is c.self.invariant.sorted)
     (subst (λ (ns : List Node). IsNewKey ns first c.in_ok-low.first) c.lists-lists.ensures
     c.in_ok-low.ensures.value) known.0 in
-    let two = known_not_new nodes second c.in_ok-high.second c.requires.sorted
+    let two = known_not_new nodes second c.in_ok-high.second (subst IsSorted c.self.view_is c.self.invariant.sorted)
     (subst (λ (ns : List Node). IsNewKey ns second c.in_ok-high.second) c.lists-lists.ensures
     c.in_ok-high.ensures.value) known.1 in
     rw (one, two) refl
@@ -38,11 +38,11 @@ returns-clause-near c order =
     let high = subst (λ (ns : List Node). IsPlaceTold ns second g c.in_ok-high.high)
     c.lists-lists.ensures c.in_ok-high.ensures.place in
     let long = long_as (arc_value c.self.inside.keys).items c.self.inside.values.items nodes
-    c.self.invariant c.self.view_is in
+    c.self.invariant.same c.self.view_is in
     let few : length nodes < 2 ^ 64 - 1 =
-    omega (arith, long, c.self.invariant, c.self.inside.values.ok.0) in (
-      first_stands nodes c.requires.sorted first second f g c.in_ok-low.low order new other low,
-      second_stands nodes c.requires.sorted first second f g c.in_ok-high.high c.moved.result order
+    omega (arith, long, c.self.invariant.same, c.self.inside.values.ok.0) in (
+      first_stands nodes (subst IsSorted c.self.view_is c.self.invariant.sorted) first second f g c.in_ok-low.low order new other low,
+      second_stands nodes (subst IsSorted c.self.view_is c.self.invariant.sorted) first second f g c.in_ok-high.high c.moved.result order
           new other high c.moved.ensures.none
           (moved_within (length nodes) c.in_ok-high.high c.moved.result c.is_some.result (is_some f)
           few c.is_some.ensures c.moved.ensures.moved),

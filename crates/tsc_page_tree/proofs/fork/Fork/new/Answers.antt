@@ -13,4 +13,4 @@ returns-clause-whole g c =
     subst (λ v. IsForkOf read g.P.Part.sizes g.P.Part.IsWhole c.summary_of.result v.items)
     (sym c.in_ok-new.ensures.ok)
     (fork_whole read g.P.Part.sizes g.P.Part.IsWhole c.summary_of.result c.args.parts.items
-    g.met.P.Part.counted c.requires.few told)
+    g.met.P.Part.counted c.requires.parts.few told)

@@ -33,7 +33,7 @@ add_key-made-requires g c =
     record {
       parts = subst (AreParts f Q) (sym c.deref_mut.ensures.value)
           (copies_sorted f s Q xs v.items same
-          (fork_parts f s Q c.args.self.now.summary xs c.requires.whole c.requires.sorted));
+          (fork_parts f s Q c.args.self.now.summary xs c.requires.part.whole c.requires.part.sorted));
     }
 
 pub returns-in_err-parts-clause-told : goal.returns-in_err-parts-clause-told
@@ -69,7 +69,7 @@ returns-in_err-parts-clause-whole g c =
       | inr h ↦ copies_same f s Q
           _ xs ys g.met.P.Part.copied h.0
     ] in
-    fork_same f s Q c.args.self.now.summary xs ys same c.requires.whole
+    fork_same f s Q c.args.self.now.summary xs ys same c.requires.part.whole
 
 pub returns-clause-told : goal.returns-clause-told
 returns-clause-told g c =
@@ -101,7 +101,7 @@ returns-clause-told g c =
     (sizes_of (map s v.items)) (sizes_of (map s ws)) a c.args.room r) same.nodes entered in
     let told = subst (λ (ss : List (List ℕ)). IsKeyAddTold ns new (sizes_of ss)
     (sizes_of (map s ws)) a c.args.room r) same.sizes here in
-    let below = told_pending p ns new _ _ a c.args.room r (sorted_without p ns c.requires.sorted)
+    let below = told_pending p ns new _ _ a c.args.room r (sorted_without p ns c.requires.part.sorted)
     told in
     subst (λ (ps : List g.row.P.Denot). IsKeyAddTold (with_pending p ns)
     (with_pending c.heed.new.self.pending (nodes_of (map f ps))) (sizes_of (map s xs))
@@ -139,9 +139,9 @@ returns-clause-whole g c =
     c.add_key-made.ensures.told in
     let here = subst (λ (ls : List (List Node)). IsKeyAddTold (nodes_of ls) new
     (sizes_of (map s v.items)) (sizes_of (map s ws)) a c.args.room r) same.nodes entered in
-    let told = told_key r sum.start sum.joint p ns new _ _ a c.args.room c.requires.sorted here
-    c.requires.whole.told in
-    let few = c.requires.whole.parts in
+    let told = told_key r sum.start sum.joint p ns new _ _ a c.args.room c.requires.part.sorted here
+    c.requires.part.whole.told in
+    let few = c.requires.part.whole.parts in
     subst (λ (ps : List g.row.P.Denot). IsForkOf f s Q c.heed.new.self ps)
     (sym (ap (λ u. u.items) (c.make_mut.follows.holds (with_items v ws) (search rules)) ∙ kept))
     (fork_whole f s Q c.heed.new.self ws g.met.P.Part.counted

@@ -34,7 +34,7 @@ push_down-requires g c =
     record {
       parts = subst (AreParts f Q) (sym c.deref_mut.ensures.value)
           (copies_sorted f s Q xs v.items same
-          (fork_parts f s Q c.args.self.now.summary xs c.requires.whole c.requires.sorted));
+          (fork_parts f s Q c.args.self.now.summary xs c.requires.part.whole c.requires.part.sorted));
     }
 
 pub add_within-made-requires : goal.add_within-made-requires
@@ -64,7 +64,7 @@ add_within-made-requires g c =
       parts = subst (AreParts f Q) (sym entered)
           (record {
             whole = c.push_down.ensures.whole;
-            sorted = subst IsSorted (sym pushed) c.requires.sorted;
+            sorted = subst IsSorted (sym pushed) c.requires.part.sorted;
           });
     }
 
@@ -101,7 +101,7 @@ returns-in_err-parts-clause-whole g c =
       | inr h ↦ copies_same f s Q
           _ xs ys g.met.P.Part.copied h.0
     ] in
-    fork_same f s Q c.args.self.now.summary xs ys same c.requires.whole
+    fork_same f s Q c.args.self.now.summary xs ys same c.requires.part.whole
 
 pub returns-clause-told : goal.returns-clause-told
 returns-clause-told g c =
@@ -230,9 +230,9 @@ returns-clause-whole g c =
     ap (λ (b : Addend). is_below (start_of new) b.to) c.add.view_is in
     let value : c.add.inside.value ≡ a.value = ap (λ (b : Addend). b.value) c.add.view_is in
     let after_it = told_added r sum.start c.start_number.result sum.joint (with_pending p ns) new _
-    _ a c.args.room c.requires.sorted order up start told
-    (told_pushed sum.start sum.joint p ns c.requires.whole.told) in
-    let few = c.requires.whole.parts in
+    _ a c.args.room c.requires.part.sorted order up start told
+    (told_pushed sum.start sum.joint p ns c.requires.part.whole.told) in
+    let few = c.requires.part.whole.parts in
     subst (λ (ps : List g.row.P.Denot). IsForkOf f s Q c.heed.new.self ps)
     (sym (ap (λ u. u.items) (c.make_mut.follows.holds (with_items (with_items v zs) ws)
     (search rules)) ∙ kept_now))

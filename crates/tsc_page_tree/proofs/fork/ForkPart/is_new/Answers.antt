@@ -15,7 +15,7 @@ is_new-requires g c =
     record {
       parts = subst (AreParts g.P.Part.nodes g.P.Part.IsWhole) (sym is)
           (fork_parts g.P.Part.nodes g.P.Part.sizes g.P.Part.IsWhole c.args.self.now.summary
-          (arc_value c.args.self.now.parts).items c.requires.whole c.requires.sorted);
+          (arc_value c.args.self.now.parts).items c.requires.part.whole c.requires.part.sorted);
     }
 
 pub returns : goal.returns

@@ -15,7 +15,7 @@ join_between-below-requires-clause-parts g c =
     let is = c.deref-2.ensures.value ∙ ap (λ v. v.items) c.deref.ensures in
     subst (AreParts g.P.Part.nodes g.P.Part.IsWhole) (sym is)
     (fork_parts g.P.Part.nodes g.P.Part.sizes g.P.Part.IsWhole c.args.self.now.summary
-    (arc_value c.args.self.now.parts).items c.requires.whole c.requires.sorted)
+    (arc_value c.args.self.now.parts).items c.requires.part.whole c.requires.part.sorted)
 
 pub returns : goal.returns
 returns g c =
@@ -32,4 +32,4 @@ returns g c =
     ap (λ (x : Cut). is_below x t) (pending-start p ns) in
     c.seen.ensures ∙ ap (λ (w : OwnedTime). seen_with p c.starts_below.result w) below ∙
     ap (λ (b : Bool). seen_with p b (answer_of ns (between f t))) reached
-    ∙ sym (pending_answer p f t ns (sorted_without p ns c.requires.sorted) c.requires.order)
+    ∙ sym (pending_answer p f t ns (sorted_without p ns c.requires.part.sorted) c.requires.order)

@@ -1,7 +1,7 @@
 -- What is pending goes down before the node is made, and the joint value stays unless the fork was
 -- cut.
 use Rattle.std.proofs.Common.{◌≡◌, ◌∙◌, ◌++◌, inl, inr, sym, ap, subst, map, [], List, length, arith, rules}
-use Rattle.std.specs.Prelude.{Option}
+use Rattle.std.specs.Prelude.{Option, IfSome}
 use Rattle.std.specs.Arc.{arc_value}
 use Rattle.std.specs.Vec.{with_items}
 use Rattle.std.proofs.lemmas.List.{with_items_is}
@@ -9,7 +9,7 @@ use Rattle.tsc_time.specs.OwnedTime.{OwnedTime}
 use Rattle.tsc_page_nodes.specs.Nodes.{Node, IsSorted}
 use Rattle.tsc_page_tree.specs.Leaves.{nodes_of, AreParts, HasNode}
 use Rattle.tsc_page_tree.specs.Pending.{with_pending, all_joint}
-use Rattle.tsc_page_tree.specs.Trees.{fork_nodes, IsTold, IsForkOf, items_in}
+use Rattle.tsc_page_tree.specs.Trees.{fork_nodes, IsTold, IsForkOf, AreFewParts, items_in}
 use Rattle.tsc_page_tree.proofs.Joins.{sorted_left, sorted_right}
 use Rattle.tsc_page_tree.proofs.LeafMakes.{append_nil}
 use Rattle.tsc_page_tree.proofs.PartLists.{AreSameAs, same_list, copies_same, copies_sorted, made_sorted}
@@ -35,8 +35,32 @@ push_down-requires g c =
     record {
       parts = subst (AreParts f Q) (sym c.deref_mut.ensures.value)
           (copies_sorted f s Q xs ys same
-          (fork_parts f s Q c.args.self.now.summary xs c.requires.whole c.requires.sorted));
+          (fork_parts f s Q c.args.self.now.summary xs c.requires.part.whole c.requires.part.sorted));
     }
+
+-- they are as many as they were
+as_long : (g : Over) (c : After-push_down g) →
+    length c.push_down.new.parts ≡ length (arc_value c.args.self.now.parts).items
+as_long g c =
+    let f = g.P.Part.nodes in
+    let s = g.P.Part.sizes in
+    let Q = g.P.Part.IsWhole in
+    let xs = (arc_value c.args.self.now.parts).items in
+    let ys = c.in_ok-parts.parts.now.items in
+    let same : AreSameAs f s Q xs ys =
+    elim c.in_ok-parts.ensures.value [
+      | inl h ↦ same_list f s Q xs ys (ap (λ u. u.items) h)
+      | inr h ↦ copies_same f s Q _ xs
+          ys g.met.P.Part.copied h.0
+    ] in
+    omega (arith, c.push_down.ensures.len, ap length c.deref_mut.ensures.value, same.long)
+
+kept_items : (g : Over) (c : After-push_down g) →
+    (with_items c.in_ok-parts.parts.now c.push_down.new.parts).items ≡ c.push_down.new.parts
+kept_items g c =
+    let v = c.in_ok-parts.parts.now in
+    with_items_is v c.push_down.new.parts (omega
+    (arith, c.push_down.ensures.len, ap length c.deref_mut.ensures.value, v.ok.0))
 
 -- the parts have what was pending
 all_pushed : (g : Over) (c : After-push_down g)
@@ -56,33 +80,47 @@ all_pushed g c =
       | inr h ↦ copies_same f s Q _ xs
           v.items g.met.P.Part.copied h.0
     ] in
-    let zs = c.push_down.new.parts in
-    let kept = with_items_is v zs (omega
-    (arith, c.push_down.ensures.len, ap length c.deref_mut.ensures.value, v.ok.0)) in
-    ap (λ (is : List g.row.P.Denot). nodes_of (map f is)) kept ∙ c.push_down.ensures.nodes
+    ap (λ (is : List g.row.P.Denot). nodes_of (map f is)) (kept_items g c) ∙ c.push_down.ensures.nodes
     ∙ ap (λ (is : List g.row.P.Denot). with_pending p (nodes_of (map f is)))
     c.deref_mut.ensures.value ∙
     ap (λ (ls : List (List Node)). with_pending p (nodes_of ls)) same.nodes
 
-pub grow-requires-clause-sorted : goal.grow-requires-clause-sorted
-grow-requires-clause-sorted g c =
-    subst IsSorted (sym (all_pushed g (goal.at.grow-requires-clause-sorted g c).After-push_down))
-    c.requires.sorted
+pub grow-requires : goal.grow-requires
+grow-requires g c =
+    let Q = g.P.Part.IsWhole in
+    let k = (goal.at.grow-requires g c).After-push_down in
+    let few = c.requires.part.whole.parts in
+    let long = as_long g k in
+    record {
+      parts = record {
+        few = subst (AreFewParts Q) (sym (kept_items g k))
+            (record {
+              each = c.push_down.ensures.whole;
+              some = omega (arith, long, few.some);
+              few = omega (arith, long, few.few);
+            });
+        sorted = subst IsSorted (sym (all_pushed g k)) c.requires.part.sorted;
+      };
+    }
 
-pub summary_with-self-requires-clause-sorted : goal.summary_with-self-requires-clause-sorted
-summary_with-self-requires-clause-sorted g c =
+pub summary_with-self-requires-clause-parts : goal.summary_with-self-requires-clause-parts
+summary_with-self-requires-clause-parts g c =
     let f = g.P.Part.nodes in
     let xs = (arc_value c.args.self.now.parts).items in
     let p = c.args.self.now.summary.pending in
     let gs = c.grow.new.parts.items in
     let made = subst (λ (ns : List Node). HasNode ns
     (nodes_of (map f gs) ++ nodes_of (map f (items_in c.in_ok-upper.upper))) c.args.key.now)
-    (all_pushed g (goal.at.summary_with-self-requires-clause-sorted g c).After-push_down)
+    (all_pushed g (goal.at.summary_with-self-requires-clause-parts g c).After-push_down)
     c.in_ok-upper.ensures.made in
-    subst (λ (is : List g.row.P.Denot). IsSorted (nodes_of (map f is))) (sym c.deref.ensures.value)
-    (sorted_left (nodes_of (map f gs)) (nodes_of (map f (items_in c.in_ok-upper.upper)))
-    (made_sorted (with_pending p (nodes_of (map f xs))) _ c.args.key.now
-    c.requires.sorted made))
+    record {
+      few = subst (AreFewParts g.P.Part.IsWhole) (sym c.deref.ensures.value)
+          c.in_ok-upper.ensures.few;
+      sorted = subst (λ (is : List g.row.P.Denot). IsSorted (nodes_of (map f is))) (sym c.deref.ensures.value)
+          (sorted_left (nodes_of (map f gs)) (nodes_of (map f (items_in c.in_ok-upper.upper)))
+          (made_sorted (with_pending p (nodes_of (map f xs))) _ c.args.key.now
+          c.requires.part.sorted made));
+    }
 
 pub summary_with-self-requires-clause-kept : goal.summary_with-self-requires-clause-kept
 summary_with-self-requires-clause-kept g c = λ h.
@@ -93,27 +131,33 @@ summary_with-self-requires-clause-kept g c = λ h.
     let none = ap (λ (is : List g.row.P.Denot). nodes_of (map f is))
     (no_items c.in_ok-upper.upper (sym c.is_some.ensures ∙ h)) in
     let stays = told_made s.start s.joint s.pending (nodes_of (map f xs)) _ (nodes_of (map f gs))
-    (nodes_of (map f (items_in c.in_ok-upper.upper))) c.args.key.now c.requires.sorted
-    c.requires.whole.told (all_pushed g
+    (nodes_of (map f (items_in c.in_ok-upper.upper))) c.args.key.now c.requires.part.sorted
+    c.requires.part.whole.told (all_pushed g
     (goal.at.summary_with-self-requires-clause-kept g c).After-push_down)
     c.in_ok-upper.ensures.made none in
     stays ∙ ap (λ (is : List g.row.P.Denot). all_joint (nodes_of (map f is)))
     (sym c.deref.ensures.value)
 
-pub new-requires-clause-sorted : goal.new-requires-clause-sorted
-new-requires-clause-sorted g c =
+pub new-requires : goal.new-requires
+new-requires g c =
     let f = g.P.Part.nodes in
     let xs = (arc_value c.args.self.now.parts).items in
     let p = c.args.self.now.summary.pending in
     let gs = c.grow.new.parts.items in
     let made = subst (λ (ns : List Node). HasNode ns
     (nodes_of (map f gs) ++ nodes_of (map f (items_in c.in_ok-upper.upper))) c.args.key.now)
-    (all_pushed g (goal.at.new-requires-clause-sorted g c).After-push_down)
+    (all_pushed g (goal.at.new-requires g c).After-push_down)
     c.in_ok-upper.ensures.made in
-    sorted_right (nodes_of (map f gs)) (nodes_of (map f c.in-Some.upper.items))
-    (subst (λ o. IsSorted (nodes_of (map f gs) ++ nodes_of (map f (items_in o)))) c.in-Some.is
-    (made_sorted (with_pending p (nodes_of (map f xs))) _ c.args.key.now
-    c.requires.sorted made))
+    record {
+      parts = record {
+        few = subst (λ o. IfSome o (λ u. AreFewParts g.P.Part.IsWhole u.items)) c.in-Some.is
+            c.in_ok-upper.ensures.upper;
+        sorted = sorted_right (nodes_of (map f gs)) (nodes_of (map f c.in-Some.upper.items))
+            (subst (λ o. IsSorted (nodes_of (map f gs) ++ nodes_of (map f (items_in o)))) c.in-Some.is
+            (made_sorted (with_pending p (nodes_of (map f xs))) _ c.args.key.now
+            c.requires.part.sorted made));
+      };
+    }
 
 pub returns-in_ok-new-in-Some-clause-made : goal.returns-in_ok-new-in-Some-clause-made
 returns-in_ok-new-in-Some-clause-made g c =

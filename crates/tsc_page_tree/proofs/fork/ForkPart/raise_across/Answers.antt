@@ -10,7 +10,7 @@ use Rattle.tsc_span.specs.Span.{Cut, is_below}
 use Rattle.tsc_page_nodes.specs.Nodes.{Node}
 use Rattle.tsc_page_nodes.specs.Additions.{Addend}
 use Rattle.tsc_page_tree.specs.Leaves.{nodes_of, start_of, AreParts}
-use Rattle.tsc_page_tree.specs.Pending.{with_pending}
+use Rattle.tsc_page_tree.specs.Pending.{with_pending, sizes_of}
 use Rattle.tsc_page_tree.specs.Trees.{IsForkOf}
 use Rattle.tsc_page_tree.specs.Across.{IsAcrossTold}
 use Rattle.tsc_page_nodes.proofs.CutOrder.{Lt}
@@ -19,19 +19,25 @@ use Rattle.tsc_page_tree.proofs.TreeAcross.{across_pending, told_across_low, tol
 use Rattle.tsc_page_tree.proofs.Wholes.{fork_whole, fork_parts, told_as}
 use Rattle.tsc_page_tree.proofs.fork.ForkPart.raise_across.Goals as goal
 
-pub raise_two-raised-requires-clause-parts_low : goal.raise_two-raised-requires-clause-parts_low
-raise_two-raised-requires-clause-parts_low g c =
+pub raise_two-raised-requires-clause-low : goal.raise_two-raised-requires-clause-low
+raise_two-raised-requires-clause-low g c =
     let is = c.deref_mut.ensures.value ∙ ap (λ u. u.items) c.in-Some.ensures.value in
-    subst (AreParts g.P.Part.nodes g.P.Part.IsWhole) (sym is)
-    (fork_parts g.P.Part.nodes g.P.Part.sizes g.P.Part.IsWhole c.args.low.now.summary
-    (arc_value c.args.low.now.parts).items c.requires.whole_low c.requires.sorted_low)
+    record {
+      parts = subst (AreParts g.P.Part.nodes g.P.Part.IsWhole) (sym is)
+          (fork_parts g.P.Part.nodes g.P.Part.sizes g.P.Part.IsWhole c.args.low.now.summary
+          (arc_value c.args.low.now.parts).items c.requires.low.whole c.requires.low.sorted);
+      some = omega (arith, ap length is, c.requires.low.whole.parts.some);
+    }
 
-pub raise_two-raised-requires-clause-parts_high : goal.raise_two-raised-requires-clause-parts_high
-raise_two-raised-requires-clause-parts_high g c =
+pub raise_two-raised-requires-clause-high : goal.raise_two-raised-requires-clause-high
+raise_two-raised-requires-clause-high g c =
     let is = c.deref_mut-2.ensures.value ∙ ap (λ u. u.items) c.in-Some-get_mut.ensures.value in
-    subst (AreParts g.P.Part.nodes g.P.Part.IsWhole) (sym is)
-    (fork_parts g.P.Part.nodes g.P.Part.sizes g.P.Part.IsWhole c.args.high.now.summary
-    (arc_value c.args.high.now.parts).items c.requires.whole_high c.requires.sorted_high)
+    record {
+      parts = subst (AreParts g.P.Part.nodes g.P.Part.IsWhole) (sym is)
+          (fork_parts g.P.Part.nodes g.P.Part.sizes g.P.Part.IsWhole c.args.high.now.summary
+          (arc_value c.args.high.now.parts).items c.requires.high.whole c.requires.high.sorted);
+      some = omega (arith, ap length is, c.requires.high.whole.parts.some);
+    }
 
 pub raise_two-raised-requires-clause-reaches : goal.raise_two-raised-requires-clause-reaches
 raise_two-raised-requires-clause-reaches g c =
@@ -65,14 +71,14 @@ returns-clause-told g c =
     let kept_low = with_items_is v xl
     (omega (
       arith,
-      c.raise_two-raised.ensures.len_low,
+      c.raise_two-raised.ensures.low.len,
       ap length c.deref_mut.ensures.value,
       v.ok.0,
     )) in
     let kept_high = with_items_is w xh
     (omega (
       arith,
-      c.raise_two-raised.ensures.len_high,
+      c.raise_two-raised.ensures.high.len,
       ap length c.deref_mut-2.ensures.value,
       w.ok.0,
     )) in
@@ -115,7 +121,7 @@ returns-clause-low g c =
     let kept_low = with_items_is v xl
     (omega (
       arith,
-      c.raise_two-raised.ensures.len_low,
+      c.raise_two-raised.ensures.low.len,
       ap length c.deref_mut.ensures.value,
       v.ok.0,
     )) in
@@ -127,22 +133,27 @@ returns-clause-low g c =
     let up : Lt a.from a.to = subst (λ (b : Addend). Lt b.from b.to) c.add.view_is
     c.add.invariant.0 in
     let long : length xl ≡ length xs =
-    omega (arith, c.raise_two-raised.ensures.len_low, ap length is_low) in
-    let few = c.requires.whole_low.parts in
-    subst (λ (is : List g.row.P.Denot). IsForkOf f s Q c.reach.new.self is) (sym kept_low)
-    (fork_whole f s Q c.reach.new.self xl g.met.P.Part.counted
-    (record {
-      each = c.raise_two-raised.ensures.low;
-      some = subst (λ (n : ℕ). 1 ≤ n) (sym long) few.some;
-      few =
-          subst (λ (n : ℕ). n ≤ 64) (sym long) few.few;
-    })
-    (told_as sum.start c.reach.new.self.start _ c.reach.new.self.joint _ c.reach.new.self.pending nl
-    c.reach.ensures.start (c.reach.ensures.joint ∙
-    ap (λ (b : Addend). cond r (joint sum.joint (b.value ∷ [])) sum.joint) c.add.view_is)
-    c.reach.ensures.pending
-    (told_across_low r sum.start sum.joint ns nl ms nh a p c.requires.sorted_low up across
-    c.requires.whole_low.told)))
+    omega (arith, c.raise_two-raised.ensures.low.len, ap length is_low) in
+    let few = c.requires.low.whole.parts in
+    record {
+      sizes = ap (λ (ps : List g.row.P.Denot). sizes_of (map s ps)) kept_low ∙
+          ap sizes_of c.raise_two-raised.ensures.low.sizes ∙
+          ap (λ (ps : List g.row.P.Denot). sizes_of (map s ps)) is_low;
+      whole = subst (λ (is : List g.row.P.Denot). IsForkOf f s Q c.reach.new.self is) (sym kept_low)
+          (fork_whole f s Q c.reach.new.self xl g.met.P.Part.counted
+          (record {
+            each = c.raise_two-raised.ensures.low.whole;
+            some = subst (λ (n : ℕ). 1 ≤ n) (sym long) few.some;
+            few =
+                subst (λ (n : ℕ). n ≤ 64) (sym long) few.few;
+          })
+          (told_as sum.start c.reach.new.self.start _ c.reach.new.self.joint _ c.reach.new.self.pending nl
+          c.reach.ensures.start (c.reach.ensures.joint ∙
+          ap (λ (b : Addend). cond r (joint sum.joint (b.value ∷ [])) sum.joint) c.add.view_is)
+          c.reach.ensures.pending
+          (told_across_low r sum.start sum.joint ns nl ms nh a p c.requires.low.sorted up across
+          c.requires.low.whole.told)));
+    }
 
 pub returns-clause-high : goal.returns-clause-high
 returns-clause-high g c =
@@ -166,7 +177,7 @@ returns-clause-high g c =
     let kept_high = with_items_is w xh
     (omega (
       arith,
-      c.raise_two-raised.ensures.len_high,
+      c.raise_two-raised.ensures.high.len,
       ap length c.deref_mut-2.ensures.value,
       w.ok.0,
     )) in
@@ -178,20 +189,25 @@ returns-clause-high g c =
     let up : Lt a.from a.to = subst (λ (b : Addend). Lt b.from b.to) c.add.view_is
     c.add.invariant.0 in
     let long : length xh ≡ length ys =
-    omega (arith, c.raise_two-raised.ensures.len_high, ap length is_high) in
-    let few = c.requires.whole_high.parts in
-    subst (λ (is : List g.row.P.Denot). IsForkOf f s Q c.reach-2.new.self is) (sym kept_high)
-    (fork_whole f s Q c.reach-2.new.self xh g.met.P.Part.counted
-    (record {
-      each = c.raise_two-raised.ensures.high;
-      some = subst (λ (n : ℕ). 1 ≤ n) (sym long) few.some;
-      few =
-          subst (λ (n : ℕ). n ≤ 64) (sym long) few.few;
-    })
-    (told_as sum.start c.reach-2.new.self.start _ c.reach-2.new.self.joint _
-    c.reach-2.new.self.pending nh c.reach-2.ensures.start
-    (c.reach-2.ensures.joint ∙
-    ap (λ (b : Addend). cond r (joint sum.joint (b.value ∷ [])) sum.joint) c.add.view_is)
-    c.reach-2.ensures.pending
-    (told_across_high r sum.start sum.joint ns nl ms nh a q c.requires.sorted_high up
-    c.requires.reaches across c.requires.whole_high.told)))
+    omega (arith, c.raise_two-raised.ensures.high.len, ap length is_high) in
+    let few = c.requires.high.whole.parts in
+    record {
+      sizes = ap (λ (ps : List g.row.P.Denot). sizes_of (map s ps)) kept_high ∙
+          ap sizes_of c.raise_two-raised.ensures.high.sizes ∙
+          ap (λ (ps : List g.row.P.Denot). sizes_of (map s ps)) is_high;
+      whole = subst (λ (is : List g.row.P.Denot). IsForkOf f s Q c.reach-2.new.self is) (sym kept_high)
+          (fork_whole f s Q c.reach-2.new.self xh g.met.P.Part.counted
+          (record {
+            each = c.raise_two-raised.ensures.high.whole;
+            some = subst (λ (n : ℕ). 1 ≤ n) (sym long) few.some;
+            few =
+                subst (λ (n : ℕ). n ≤ 64) (sym long) few.few;
+          })
+          (told_as sum.start c.reach-2.new.self.start _ c.reach-2.new.self.joint _
+          c.reach-2.new.self.pending nh c.reach-2.ensures.start
+          (c.reach-2.ensures.joint ∙
+          ap (λ (b : Addend). cond r (joint sum.joint (b.value ∷ [])) sum.joint) c.add.view_is)
+          c.reach-2.ensures.pending
+          (told_across_high r sum.start sum.joint ns nl ms nh a q c.requires.high.sorted up
+          c.requires.reaches across c.requires.high.whole.told)));
+    }

@@ -32,7 +32,7 @@ raise_between-requires-clause-parts g c =
     ] in
     subst (AreParts f Q) (sym c.deref_mut.ensures.value)
     (copies_sorted f s Q xs ys same
-    (fork_parts f s Q c.args.self.now.summary xs c.requires.whole c.requires.sorted))
+    (fork_parts f s Q c.args.self.now.summary xs c.requires.part.whole c.requires.part.sorted))
 
 pub returns-clause-raised : goal.returns-clause-raised
 returns-clause-raised g c =
@@ -105,8 +105,8 @@ returns-clause-whole g c =
     ap (λ (x : Cut). is_below (start_of (nodes_of (map f ws))) x) c.new.ensures ∙
     ap (λ (ms : List Node). is_below (start_of ms) to) raised in
     let told = told_raised_below sum.start sum.joint c.args.value p from to ns
-    c.first_starts_below-reached.result c.requires.sorted c.requires.order reached
-    c.requires.whole.told in
+    c.first_starts_below-reached.result c.requires.part.sorted c.requires.order reached
+    c.requires.part.whole.told in
     let told_now : IsTold c.reach.new.self (nodes_of (map f ws)) =
     subst (λ (ms : List Node). IsTold c.reach.new.self ms) (sym raised)
     (told_as sum.start c.reach.new.self.start _ c.reach.new.self.joint _
@@ -119,7 +119,7 @@ returns-clause-whole g c =
       ap length c.deref_mut.ensures.value,
       same.long,
     ) in
-    let few = c.requires.whole.parts in
+    let few = c.requires.part.whole.parts in
     subst (λ (is : List g.row.P.Denot). IsForkOf f s Q c.reach.new.self is) (sym held)
     (fork_whole f s Q c.reach.new.self ws g.met.P.Part.counted
     (record {

@@ -23,7 +23,7 @@ returns-clause-whole g c =
     let ns : List Node = nodes_of (map g.P.Part.nodes items) in
     let s = c.args.self.now.summary in
     fork_whole g.P.Part.nodes g.P.Part.sizes g.P.Part.IsWhole c.raise.new.self items
-    g.met.P.Part.counted c.requires.whole.parts
+    g.met.P.Part.counted c.requires.part.whole.parts
     (told_as s.start c.raise.new.self.start _ c.raise.new.self.joint _ c.raise.new.self.pending ns
     c.raise.ensures.start c.raise.ensures.joint c.raise.ensures.pending
-    (told_raised s.start s.joint c.args.value s.pending ns c.requires.sorted c.requires.whole.told))
+    (told_raised s.start s.joint c.args.value s.pending ns c.requires.part.sorted c.requires.part.whole.told))

@@ -18,7 +18,7 @@ value_at-below-requires g c =
     record {
       parts = subst (AreParts g.P.Part.nodes g.P.Part.IsWhole) (sym is)
           (fork_parts g.P.Part.nodes g.P.Part.sizes g.P.Part.IsWhole c.args.self.now.summary
-          (arc_value c.args.self.now.parts).items c.requires.whole c.requires.sorted);
+          (arc_value c.args.self.now.parts).items c.requires.part.whole c.requires.part.sorted);
     }
 
 pub returns-in-None : goal.returns-in-None
@@ -45,5 +45,5 @@ returns-in-Some g c =
     ap (is_below (start_of ns)) c.past.ensures in
     c.seen.ensures ∙ ap (λ (w : OwnedTime). seen_with p c.starts_below.result w) below ∙
     ap (λ (b : Bool). seen_with p b (answer_of ns (point k))) reached
-    ∙ sym (pending_answer p (before k) (after k) ns (sorted_without p ns c.requires.sorted)
+    ∙ sym (pending_answer p (before k) (after k) ns (sorted_without p ns c.requires.part.sorted)
     (before-after k))

@@ -3,7 +3,7 @@ use Rattle.std.proofs.Common.{◌≡◌, ◌∙◌, ◌-◌, ◌∷◌, [], inl,
 use Rattle.std.specs.Prelude.{Option}
 use Rattle.std.specs.Arc.{arc_value}
 use Rattle.tsc_time.specs.OwnedTime.{OwnedTime}
-use Rattle.tsc_page_nodes.specs.Nodes.{Node, IsSorted}
+use Rattle.tsc_page_nodes.specs.Nodes.{Node}
 use Rattle.tsc_page_nodes.specs.KeyAdds.{KeyAddend, IsKeyTold}
 use Rattle.tsc_page_tree.specs.Leaves.{IsLeaf}
 use Rattle.tsc_page_tree.specs.Pending.{with_pending, joint_after}
@@ -13,16 +13,6 @@ use Rattle.tsc_page_tree.proofs.Pending.{sorted_without}
 use Rattle.tsc_page_tree.proofs.Wholes.{leaf_whole, told_as}
 use Rattle.tsc_page_tree.proofs.KeyAdds.{told_leaf, told_pending, told_key, few_in_leaf}
 use Rattle.tsc_page_tree.proofs.leaf.LeafPart.add_key.Goals as goal
-
-pub add_key-made-requires : goal.add_key-made-requires
-add_key-made-requires c =
-    let same : c.in_ok-nodes.nodes.now ≡ arc_value c.args.self.now.nodes =
-    elim c.in_ok-nodes.ensures.value [ inl h ↦ h | inr h ↦ h ] in
-    record {
-      sorted = subst IsSorted (sym same)
-          (sorted_without c.args.self.now.summary.pending (arc_value c.args.self.now.nodes)
-          c.requires.sorted);
-    }
 
 pub returns-clause-told : goal.returns-clause-told
 returns-clause-told c =
@@ -36,7 +26,7 @@ returns-clause-told c =
     let here = subst (λ (ms : List Node). IsKeyTold ms new a
     (record { nodes = 64 - c.len.result; bytes = c.args.room }) r) same
     c.add_key-made.ensures.told in
-    let below = told_pending p ns new _ _ a c.args.room r (sorted_without p ns c.requires.sorted)
+    let below = told_pending p ns new _ _ a c.args.room r (sorted_without p ns c.requires.part.sorted)
     (told_leaf r ns new a _ here) in
     let held : arc_value (c.make_mut.follows.lender new) ≡ new =
     c.make_mut.follows.holds new (search rules) in
@@ -58,12 +48,12 @@ returns-clause-whole c =
     let here = subst (λ (ms : List Node). IsKeyTold ms new a
     (record { nodes = 64 - c.len.result; bytes = c.args.room }) r) same
     c.add_key-made.ensures.told in
-    let leaf = c.requires.whole.leaf in
+    let leaf = c.requires.part.whole.leaf in
     let few : IsLeaf new = few_in_leaf r ns new a
     (record { nodes = 64 - c.len.result; bytes = c.args.room }) leaf.0 leaf.1
     (omega (arith, c.len.ensures, ap length same, leaf.1)) here in
-    let told = told_key r s.start s.joint s.pending ns new _ _ a c.args.room c.requires.sorted
-    (told_leaf r ns new a _ here) c.requires.whole.told in
+    let told = told_key r s.start s.joint s.pending ns new _ _ a c.args.room c.requires.part.sorted
+    (told_leaf r ns new a _ here) c.requires.part.whole.told in
     subst (λ (ms : List Node). IsLeafOf c.heed.new.self ms)
     (sym (c.make_mut.follows.holds new (search rules)))
     (leaf_whole c.heed.new.self new few

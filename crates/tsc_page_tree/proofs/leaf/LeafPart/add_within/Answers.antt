@@ -3,7 +3,7 @@ use Rattle.std.proofs.Common.{◌≡◌, ◌∙◌, ◌-◌, ◌∷◌, [], inl,
 use Rattle.std.specs.Prelude.{None}
 use Rattle.std.specs.Arc.{arc_value}
 use Rattle.tsc_span.specs.Span.{is_below}
-use Rattle.tsc_page_nodes.specs.Nodes.{Node, IsSorted, IsInOrder}
+use Rattle.tsc_page_nodes.specs.Nodes.{Node, IsInOrder}
 use Rattle.tsc_page_nodes.specs.Additions.{Addend}
 use Rattle.tsc_page_nodes.specs.Additions as additions
 use Rattle.tsc_page_nodes.specs.declared.nodes.Grown.{Grown}
@@ -11,20 +11,10 @@ use Rattle.tsc_page_tree.specs.Leaves.{IsLeaf, start_of}
 use Rattle.tsc_page_tree.specs.Pending.{with_pending, IsAddTold, joint_after}
 use Rattle.tsc_page_tree.specs.Trees.{IsLeafOf}
 use Rattle.tsc_page_nodes.proofs.CutOrder.{Lt}
-use Rattle.tsc_page_tree.proofs.Pending.{sorted_without, pending-length}
+use Rattle.tsc_page_tree.proofs.Pending.{pending-length}
 use Rattle.tsc_page_tree.proofs.Told.{told_pushed, told_added}
 use Rattle.tsc_page_tree.proofs.Wholes.{leaf_whole, told_as, add_told, leaf_added}
 use Rattle.tsc_page_tree.proofs.leaf.LeafPart.add_within.Goals as goal
-
-pub push_down-requires : goal.push_down-requires
-push_down-requires c =
-    let same : c.in_ok-nodes.nodes.now ≡ arc_value c.args.self.now.nodes =
-    elim c.in_ok-nodes.ensures.value [ inl h ↦ h | inr h ↦ h ] in
-    record {
-      sorted = subst IsSorted (sym same)
-          (sorted_without c.args.self.now.summary.pending (arc_value c.args.self.now.nodes)
-          c.requires.sorted);
-    }
 
 pub returns-clause-whole : goal.returns-clause-whole
 returns-clause-whole c =
@@ -39,8 +29,8 @@ returns-clause-whole c =
     let old : List Node = with_pending p ns in
     let new : List Node = c.add_owned-made.new.self in
     let leaf : IsLeaf old = (
-      omega (arith, pending-length p ns, c.requires.whole.leaf.0),
-      omega (arith, pending-length p ns, c.requires.whole.leaf.1),
+      omega (arith, pending-length p ns, c.requires.part.whole.leaf.0),
+      omega (arith, pending-length p ns, c.requires.part.whole.leaf.1),
     ) in
     let room : Grown = record { nodes = 64 - c.len.result; bytes = c.args.room } in
     let made : additions.IsTold old new a room c.add_owned-made.result =
@@ -57,8 +47,8 @@ returns-clause-whole c =
     ap (λ (b : Addend). is_below (start_of new) b.to) c.add.view_is in
     let value : c.add.inside.value ≡ a.value = ap (λ (b : Addend). b.value) c.add.view_is in
     let after_it = told_added c.add_owned-made.result s.start c.start_number.result s.joint old new
-    _ _ a c.args.room c.requires.sorted order up c.start_number.ensures told
-    (told_pushed s.start s.joint p ns c.requires.whole.told) in
+    _ _ a c.args.room c.requires.part.sorted order up c.start_number.ensures told
+    (told_pushed s.start s.joint p ns c.requires.part.whole.told) in
     let few : IsLeaf new = leaf_added c.add_owned-made.result old new a room leaf
     (omega (arith, c.len.ensures, ap length pushed, leaf.1)) made in
     let held = c.make_mut.follows.holds new (search rules) in

@@ -8,20 +8,12 @@ use Rattle.tsc_page_nodes.proofs.Searches.{found_told}
 use Rattle.tsc_page_tree.proofs.Pending.{sorted_without, pending-is_in}
 use Rattle.tsc_page_tree.proofs.leaf.LeafPart.is_new.Goals as goal
 
-pub find-requires : goal.find-requires
-find-requires c =
-    let ns : List Node = arc_value c.args.self.now.nodes in
-    record {
-      sorted = subst IsSorted (sym c.deref.ensures)
-          (sorted_without c.args.self.now.summary.pending ns c.requires.sorted);
-    }
-
 pub returns : goal.returns
 returns c =
     let ns : List Node = arc_value c.args.self.now.nodes in
     let k = c.args.key.now in
     c.is_err.ensures.value ∙ found_told k c.deref.result.now c.find.result
     (subst IsSorted (sym c.deref.ensures)
-    (sorted_without c.args.self.now.summary.pending ns c.requires.sorted)) c.find.ensures
+    (sorted_without c.args.self.now.summary.pending ns c.requires.part.sorted)) c.find.ensures
     ∙ ap (λ (ms : List Node). not (is_in k (node_keys ms))) c.deref.ensures ∙
     ap not (sym (pending-is_in c.args.self.now.summary.pending k ns))

@@ -1,19 +1,13 @@
 -- What is pending is seen where the span reaches where the leaf begins.
-use Rattle.std.proofs.Common.{◌≡◌, ◌∙◌, sym, ap, subst, Bool, List}
+use Rattle.std.proofs.Common.{◌≡◌, ◌∙◌, sym, ap, Bool, List}
 use Rattle.std.specs.Arc.{arc_value}
 use Rattle.tsc_time.specs.OwnedTime.{OwnedTime}
 use Rattle.tsc_span.specs.Span.{Cut, between, is_below}
-use Rattle.tsc_page_nodes.specs.Nodes.{Node, IsSorted, answer_of}
+use Rattle.tsc_page_nodes.specs.Nodes.{Node, answer_of}
 use Rattle.tsc_page_tree.specs.Leaves.{start_of}
 use Rattle.tsc_page_tree.specs.Pending.{seen_with}
 use Rattle.tsc_page_tree.proofs.Pending.{sorted_without, pending-start, pending_answer}
 use Rattle.tsc_page_tree.proofs.leaf.LeafPart.join_between.Goals as goal
-
-pub join_between-below-requires-clause-sorted : goal.join_between-below-requires-clause-sorted
-join_between-below-requires-clause-sorted c =
-    subst IsSorted (sym c.deref.ensures)
-    (sorted_without c.args.self.now.summary.pending (arc_value c.args.self.now.nodes)
-    c.requires.sorted)
 
 pub returns : goal.returns
 returns c =
@@ -28,4 +22,4 @@ returns c =
     ap (λ (x : Cut). is_below x t) (pending-start p ns) in
     c.seen.ensures ∙ ap (λ (w : OwnedTime). seen_with p c.starts_below.result w) below ∙
     ap (λ (b : Bool). seen_with p b (answer_of ns (between f t))) reached
-    ∙ sym (pending_answer p f t ns (sorted_without p ns c.requires.sorted) c.requires.order)
+    ∙ sym (pending_answer p f t ns (sorted_without p ns c.requires.part.sorted) c.requires.order)

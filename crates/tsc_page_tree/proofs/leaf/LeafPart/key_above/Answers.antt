@@ -1,19 +1,11 @@
 -- The nodes are asked, whatever is pending.
-use Rattle.std.proofs.Common.{◌∙◌, sym, ap, subst, List}
+use Rattle.std.proofs.Common.{◌∙◌, sym, ap, List}
 use Rattle.std.specs.Arc.{arc_value}
 use Rattle.tsc_span.specs.Span.{Cut}
-use Rattle.tsc_page_nodes.specs.Nodes.{Node, IsSorted, node_keys}
+use Rattle.tsc_page_nodes.specs.Nodes.{Node, node_keys}
 use Rattle.tsc_page_nodes.specs.KeysAbove.{first_above}
-use Rattle.tsc_page_tree.proofs.Pending.{sorted_without, pending-keys}
+use Rattle.tsc_page_tree.proofs.Pending.{pending-keys}
 use Rattle.tsc_page_tree.proofs.leaf.LeafPart.key_above.Goals as goal
-
-pub key_above-requires : goal.key_above-requires
-key_above-requires c =
-    let ns : List Node = arc_value c.args.self.now.nodes in
-    record {
-      sorted = subst IsSorted (sym c.deref.ensures)
-          (sorted_without c.args.self.now.summary.pending ns c.requires.sorted);
-    }
 
 pub returns : goal.returns
 returns c =

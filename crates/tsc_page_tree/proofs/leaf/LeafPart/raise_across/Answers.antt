@@ -14,51 +14,32 @@ use Rattle.tsc_page_nodes.proofs.CutOrder.{Lt, Le_Lt-chain}
 use Rattle.tsc_page_nodes.proofs.Cuts.{lowest}
 use Rattle.tsc_page_nodes.proofs.Edits.{raise_nodes-length}
 use Rattle.tsc_page_tree.proofs.Joins.{up_to_last}
-use Rattle.tsc_page_tree.proofs.Pending.{raise_pending, sorted_without}
+use Rattle.tsc_page_tree.proofs.Pending.{raise_pending}
 use Rattle.tsc_page_tree.proofs.PartAcross.{told_reached}
 use Rattle.tsc_page_tree.proofs.TreeAcross.{has_pending}
 use Rattle.tsc_page_tree.proofs.Wholes.{leaf_whole, told_as}
 use Rattle.tsc_page_tree.proofs.leaf.LeafPart.raise_across.Goals as goal
 use Rattle.tsc_page_tree.proofs.leaf.LeafPart.raise_across.Goals.{After-raise_near}
 
-pub known_place-requires : goal.known_place-requires
-known_place-requires c = record {
-  sorted = subst IsSorted (sym c.in-Some.ensures.value)
-      (sorted_without c.args.low.now.summary.pending (arc_value c.args.low.now.nodes)
-      c.requires.sorted_low);
-}
-
-pub known_place-requires-2 : goal.known_place-requires-2
-known_place-requires-2 c = record {
-  sorted = subst IsSorted (sym c.in-Some-get_mut.ensures.value)
-      (sorted_without c.args.high.now.summary.pending (arc_value c.args.high.now.nodes)
-      c.requires.sorted_high);
-}
-
 pub raise_above-requires-clause-told : goal.raise_above-requires-clause-told
 raise_above-requires-clause-told c =
-    subst (IsTold c.args.low.now.summary) (sym c.in-Some.ensures.value) c.requires.whole_low.told
+    subst (IsTold c.args.low.now.summary) (sym c.in-Some.ensures.value) c.requires.low.whole.told
 
 pub raise_above-requires-clause-sorted : goal.raise_above-requires-clause-sorted
 raise_above-requires-clause-sorted c =
     subst (λ (ns : List Node). IsSorted (with_pending c.args.low.now.summary.pending ns))
-    (sym c.in-Some.ensures.value) c.requires.sorted_low
+    (sym c.in-Some.ensures.value) c.requires.low.sorted
 
 pub raise_above-requires-clause-order : goal.raise_above-requires-clause-order
 raise_above-requires-clause-order c =
     up_to_last c.add.inside.from.now c.add.inside.to.now c.add.invariant.0
 
-pub raise_near-requires-clause-sorted : goal.raise_near-requires-clause-sorted
-raise_near-requires-clause-sorted c =
-    subst IsSorted (sym c.in-Some-get_mut.ensures.value)
-    (sorted_without c.args.high.now.summary.pending (arc_value c.args.high.now.nodes)
-    c.requires.sorted_high)
-
-pub raise_near-requires-clause-order : goal.raise_near-requires-clause-order
-raise_near-requires-clause-order c =
-    subst (λ (z : Cut). Lt z c.add.inside.to.now) (sym c.new.ensures)
-    (Le_Lt-chain (before []) c.add.inside.from.now c.add.inside.to.now
-    (lowest c.add.inside.from.now) c.add.invariant.0)
+pub raise_near-requires : goal.raise_near-requires
+raise_near-requires c = record {
+  order = subst (λ (z : Cut). Lt z c.add.inside.to.now) (sym c.new.ensures)
+      (Le_Lt-chain (before []) c.add.inside.from.now c.add.inside.to.now
+      (lowest c.add.inside.from.now) c.add.invariant.0);
+}
 
 -- what the nodes of the upper leaf become
 raised_high : (c : After-raise_near) →
@@ -117,23 +98,16 @@ returns-clause-told c =
     (with_pending c.raise_above.new.summary.pending c.raise_above.new.nodes) (with_pending q ms)
     (with_pending o c.raise_near.new.self) c.args.add.now) (sym c.reach.ensures.pending) told
 
-pub returns-clause-sizes_low : goal.returns-clause-sizes_low
-returns-clause-sizes_low c = ap (λ n. n ∷ [])
-    (c.raise_above.ensures.len ∙ ap length c.in-Some.ensures.value)
-
-pub returns-clause-sizes_high : goal.returns-clause-sizes_high
-returns-clause-sizes_high c = ap (λ n. n ∷ [])
-    (ap length (raised_high (goal.at.returns-clause-sizes_high c).After-raise_near) ∙
-    raise_nodes-length (between (before []) c.args.add.now.to) c.args.add.now.value
-    (arc_value c.args.high.now.nodes))
-
 pub returns-clause-low : goal.returns-clause-low
 returns-clause-low c =
     let long = c.raise_above.ensures.len ∙ ap length c.in-Some.ensures.value in
-    leaf_whole c.raise_above.new.summary c.raise_above.new.nodes (
-      omega (arith, long, c.requires.whole_low.leaf.0),
-      omega (arith, long, c.requires.whole_low.leaf.1),
-    ) c.raise_above.ensures.told
+    record {
+      sizes = ap (λ n. n ∷ []) long;
+      whole = leaf_whole c.raise_above.new.summary c.raise_above.new.nodes (
+        omega (arith, long, c.requires.low.whole.leaf.0),
+        omega (arith, long, c.requires.low.whole.leaf.1),
+      ) c.raise_above.ensures.told;
+    }
 
 pub returns-clause-high : goal.returns-clause-high
 returns-clause-high c =
@@ -146,14 +120,17 @@ returns-clause-high c =
     c.add.invariant.0 in
     let long = ap length is ∙ raise_nodes-length (between (before []) a.to) a.value ms in
     let reached = told_reached s.start s.joint a.value s.pending (before []) a.to ms
-    c.requires.sorted_high (Le_Lt-chain (before []) a.from a.to (lowest a.from) up)
-    c.requires.reaches c.requires.whole_high.told in
-    leaf_whole c.reach.new.self nh (
-      omega (arith, long, c.requires.whole_high.leaf.0),
-      omega (arith, long, c.requires.whole_high.leaf.1),
-    )
-    (told_as s.start c.reach.new.self.start _ c.reach.new.self.joint _ c.reach.new.self.pending nh
-    c.reach.ensures.start (c.reach.ensures.joint ∙
-    ap (λ (v : Addend). joint s.joint (v.value ∷ [])) c.add.view_is) c.reach.ensures.pending
-    (subst (λ (ns : List Node). IsToldOf s.start (joint s.joint (a.value ∷ [])) s.pending ns)
-    (sym is) reached))
+    c.requires.high.sorted (Le_Lt-chain (before []) a.from a.to (lowest a.from) up)
+    c.requires.reaches c.requires.high.whole.told in
+    record {
+      sizes = ap (λ n. n ∷ []) long;
+      whole = leaf_whole c.reach.new.self nh (
+        omega (arith, long, c.requires.high.whole.leaf.0),
+        omega (arith, long, c.requires.high.whole.leaf.1),
+      )
+          (told_as s.start c.reach.new.self.start _ c.reach.new.self.joint _
+          c.reach.new.self.pending nh c.reach.ensures.start (c.reach.ensures.joint ∙
+          ap (λ (v : Addend). joint s.joint (v.value ∷ [])) c.add.view_is) c.reach.ensures.pending
+          (subst (λ (ns : List Node). IsToldOf s.start (joint s.joint (a.value ∷ [])) s.pending ns)
+          (sym is) reached));
+    }

@@ -5,22 +5,15 @@ use Rattle.std.specs.Arc.{arc_value}
 use Rattle.tsc_time.specs.OwnedTime.{OwnedTime}
 use Rattle.tsc_span.specs.Cuts.{cut_of}
 use Rattle.tsc_span.specs.Span.{Cut, between, is_below}
-use Rattle.tsc_page_nodes.specs.Nodes.{Node, IsSorted, raise_nodes}
+use Rattle.tsc_page_nodes.specs.Nodes.{Node, raise_nodes}
 use Rattle.tsc_page_nodes.proofs.Edits.{raise_nodes-length}
 use Rattle.tsc_page_tree.specs.Leaves.{start_of}
 use Rattle.tsc_page_tree.specs.Pending.{with_pending}
 use Rattle.tsc_page_tree.specs.Trees.{IsLeafOf}
-use Rattle.tsc_page_tree.proofs.Pending.{sorted_without, raise_pending}
+use Rattle.tsc_page_tree.proofs.Pending.{raise_pending}
 use Rattle.tsc_page_tree.proofs.TreeAcross.{told_raised_below}
 use Rattle.tsc_page_tree.proofs.Wholes.{leaf_whole, told_as}
 use Rattle.tsc_page_tree.proofs.leaf.LeafPart.raise_between.Goals as goal
-
-pub raise_between-requires-clause-sorted : goal.raise_between-requires-clause-sorted
-raise_between-requires-clause-sorted c =
-    let ns : List Node = arc_value c.args.self.now.nodes in
-    let same : c.in_ok-nodes.nodes.now ≡ ns =
-    elim c.in_ok-nodes.ensures.value [ inl h ↦ h | inr h ↦ h ] in
-    subst IsSorted (sym same) (sorted_without c.args.self.now.summary.pending ns c.requires.sorted)
 
 pub returns-clause-raised : goal.returns-clause-raised
 returns-clause-raised c =
@@ -65,10 +58,10 @@ returns-clause-whole c =
     let told = told_as s.start c.reach.new.self.start _ c.reach.new.self.joint _
     c.reach.new.self.pending (raise_nodes (between f t) c.args.value ns) c.reach.ensures.start
     c.reach.ensures.joint c.reach.ensures.pending
-    (told_raised_below s.start s.joint c.args.value p f t ns c.starts_below.result c.requires.sorted
-    c.requires.order reached c.requires.whole.told) in
+    (told_raised_below s.start s.joint c.args.value p f t ns c.starts_below.result c.requires.part.sorted
+    c.requires.order reached c.requires.part.whole.told) in
     subst (λ (ms : List Node). IsLeafOf c.reach.new.self ms) (sym (kept ∙ raised))
     (leaf_whole c.reach.new.self (raise_nodes (between f t) c.args.value ns) (
-      omega (arith, long, c.requires.whole.leaf.0),
-      omega (arith, long, c.requires.whole.leaf.1),
+      omega (arith, long, c.requires.part.whole.leaf.0),
+      omega (arith, long, c.requires.part.whole.leaf.1),
     ) told)

@@ -20,7 +20,7 @@ pub returns-clause-whole : goal.returns-clause-whole
 returns-clause-whole c =
     let ns : List Node = arc_value c.args.self.now.nodes in
     let s = c.args.self.now.summary in
-    leaf_whole c.raise.new.self ns c.requires.whole.leaf
+    leaf_whole c.raise.new.self ns c.requires.part.whole.leaf
     (told_as s.start c.raise.new.self.start _ c.raise.new.self.joint _ c.raise.new.self.pending ns
     c.raise.ensures.start c.raise.ensures.joint c.raise.ensures.pending
-    (told_raised s.start s.joint c.args.value s.pending ns c.requires.sorted c.requires.whole.told))
+    (told_raised s.start s.joint c.args.value s.pending ns c.requires.part.sorted c.requires.part.whole.told))

@@ -1,22 +1,15 @@
 -- What is pending is seen where the key isn't below the leaf.
-use Rattle.std.proofs.Common.{◌≡◌, ◌∙◌, sym, ap, subst, Bool, List}
+use Rattle.std.proofs.Common.{◌≡◌, ◌∙◌, sym, ap, Bool, List}
 use Rattle.std.specs.Prelude.{Option}
 use Rattle.std.specs.Arc.{arc_value}
 use Rattle.tsc_time.specs.OwnedTime.{OwnedTime}
 use Rattle.tsc_span.specs.Span.{KeyBytes, Cut, before, after, point, is_below}
-use Rattle.tsc_page_nodes.specs.Nodes.{Node, IsSorted, answer_of}
+use Rattle.tsc_page_nodes.specs.Nodes.{Node, answer_of}
 use Rattle.tsc_page_nodes.proofs.CutOrder.{before-after}
 use Rattle.tsc_page_tree.specs.Leaves.{start_of}
 use Rattle.tsc_page_tree.specs.Pending.{with_pending, seen_with}
 use Rattle.tsc_page_tree.proofs.Pending.{sorted_without, pending-start, pending_answer}
 use Rattle.tsc_page_tree.proofs.leaf.LeafPart.value_at.Goals as goal
-
-pub value_at-below-requires : goal.value_at-below-requires
-value_at-below-requires c = record {
-  sorted = subst IsSorted (sym c.deref.ensures)
-      (sorted_without c.args.self.now.summary.pending (arc_value c.args.self.now.nodes)
-      c.requires.sorted);
-}
 
 pub returns-in-None : goal.returns-in-None
 returns-in-None c =
@@ -37,5 +30,5 @@ returns-in-Some c =
     ap (is_below (start_of ns)) c.past.ensures in
     c.seen.ensures ∙ ap (λ (w : OwnedTime). seen_with p c.starts_below.result w) below ∙
     ap (λ (b : Bool). seen_with p b (answer_of ns (point k))) reached
-    ∙ sym (pending_answer p (before k) (after k) ns (sorted_without p ns c.requires.sorted)
+    ∙ sym (pending_answer p (before k) (after k) ns (sorted_without p ns c.requires.part.sorted)
     (before-after k))

@@ -9,7 +9,7 @@ use Rattle.tsc_cache.specs.CacheView.{RotatesWith, front_marked}
 use Rattle.tsc_cache.specs.CacheParts.{plain_front_of, plain_older_of, plain_pages_of}
 use Rattle.tsc_cache.specs.Stacks.{Drops}
 use Rattle.tsc_cache.proofs.StatesSeen.{front_stands, rotates_with}
-use Rattle.tsc_cache.proofs.plain.PlainCacheRotate.rotate.Goals as goal
+use Rattle.tsc_cache.proofs.plain.PlainCache.rotate.Goals as goal
 
 pub returns-clause-rotated : goal.returns-clause-rotated
 returns-clause-rotated c =
@@ -24,7 +24,7 @@ returns-clause-rotated c =
     (c.size.ensures.value ∙ ap (λ (p : PageView). p.size) c.front-former.ensures)
     c.cost.ensures.value (c.top.ensures.value ∙
     ap (λ (p : PageView). p.top) c.front-former.ensures)
-    (c.in_ok-add.ensures.stands (empty_page c.next_size-size.result c.top.result)
+    (c.in_ok-add.ensures.told.stands (empty_page c.next_size-size.result c.top.result)
     c.in_ok-front.ensures.stands) in
     let stands = subst (λ (p : PageView). StandsFor p
     (front_marked c.self.inside.config (plain_pages_of c.self.inside.pages) m)) (sym front_is)

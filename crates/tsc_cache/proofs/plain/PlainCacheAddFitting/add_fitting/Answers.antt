@@ -7,7 +7,7 @@ use Rattle.tsc_cache.specs.Settings.{Settings}
 use Rattle.tsc_cache.specs.State.{CacheState, is_kept, step, kept_after_rotation}
 use Rattle.tsc_cache.specs.CacheView.{CacheView, StandsForState, RotatesWith, MarksFront, front_has_room_for}
 use Rattle.tsc_cache.proofs.StatesSeen.{adds_stands, marks_adds, rotates_adds, on_ok, if_ok}
-use Rattle.tsc_cache.proofs.plain.PlainCacheRotate.add_fitting.Goals as goal
+use Rattle.tsc_cache.proofs.plain.PlainCacheAddFitting.add_fitting.Goals as goal
 
 pub returns-then-room-clause-stands : goal.returns-then-room-clause-stands
 returns-then-room-clause-stands c settings s stands =

@@ -1,16 +1,19 @@
 -- A new page in front, and the pages behind it that stay.
-use Rattle.std.proofs.Common.{◌≡◌, ◌∙◌, refl, sym, ap, subst}
+use Rattle.std.proofs.Common.{◌≡◌, ◌∙◌, refl, sym, ap, subst, nat_le, true}
 use Rattle.std.specs.Prelude.{Result, Ok, Err, OnErr}
+use Rattle.tsc_time.specs.declared.memory.NoMemory.{NoMemory}
+use Rattle.tsc_span.specs.Span.{span_cost}
 use Rattle.tsc_page_nodes.specs.Page.{Mark, empty_page}
 use Rattle.tsc_page_nodes.specs.PageView.{PageView, StandsFor}
 use Rattle.tsc_cache.specs.declared.added.Added.{Added}
 use Rattle.tsc_cache.specs.contracts.cache.Cache.{the_view}
 use Rattle.tsc_cache.specs.State.{saturating_inc, kept_after_rotation}
-use Rattle.tsc_cache.specs.CacheView.{RotatesWith, front_marked}
+use Rattle.tsc_cache.specs.CacheView.{CacheView, RotatesWith, front_marked}
 use Rattle.tsc_cache.specs.CacheParts.{front_of, older_of, pages_of}
 use Rattle.tsc_cache.specs.Stacks.{Drops}
 use Rattle.tsc_cache.proofs.StatesSeen.{front_stands, rotates_with, rotates_stacked}
-use Rattle.tsc_cache.proofs.cache.CacheRotate.rotate.Goals as goal
+use Rattle.tsc_cache.proofs.MarkedFront.{put_on, fits_new}
+use Rattle.tsc_cache.proofs.cache.Cache.rotate.Goals as goal
 
 pub invariant_of-self-2 : goal.invariant_of-self-2
 invariant_of-self-2 c =
@@ -19,13 +22,19 @@ invariant_of-self-2 c =
     c.in_ok-push_front.ensures.older c.evict-floor.ensures.dropped in
     let front_is = c.evict-floor.ensures.front ∙ c.in_ok-push_front.ensures.front in
     let m : Mark = record { span = c.args.span.now; value = c.args.value } in
-    let marked = front_stands c.self.inside.config (pages_of c.self.inside.pages) m c.add.new.self
-    c.size.result c.cost.result c.next_size-size.result c.top.result
+    let put = put_on NoMemory _ c.in_ok-front.front c.add_span.new.self c.args.span.now c.args.value
+    (fits_new c.in_ok-front.front c.args.span.now c.next_size-size.result c.cost_of.result
+    c.self.inside.config.page_max c.cost_of.ensures c.next_size-size.ensures.enough
+    (subst (λ (v : CacheView). nat_le (span_cost c.args.span.now) v.settings.page_max ≡ true)
+    (sym c.self.view_is) c.requires.fits) (c.in_ok-front.ensures.room c.args.span.now))
+    c.in_ok-add_span.ensures.told in
+    let marked = front_stands c.self.inside.config (pages_of c.self.inside.pages) m
+    c.add_span.new.self c.size.result c.cost_of.result c.next_size-size.result c.top.result
     c.next_size-size.ensures.value
     (c.size.ensures.value ∙ ap (λ (p : PageView). p.size) c.front-former.ensures)
-    c.cost.ensures.value (c.top.ensures.value ∙
+    c.cost_of.ensures (c.top.ensures.value ∙
     ap (λ (p : PageView). p.top) c.front-former.ensures)
-    (c.in_ok-add.ensures.stands (empty_page c.next_size-size.result c.top.result)
+    (put.stands (empty_page c.next_size-size.result c.top.result)
     c.in_ok-front.ensures.stands) in
     rotates_stacked _ (front_of c.evict-floor.new.self) (older_of c.evict-floor.new.self)
     drops.dropped (pages_of c.self.inside.pages) m c.self.invariant drops.parts
@@ -39,13 +48,19 @@ returns-clause-rotated c =
     (older_of c.evict-floor.new.self) c.evict-floor.result.0 c.evict-floor.result.1)
     c.in_ok-push_front.ensures.older c.evict-floor.ensures.dropped in
     let front_is = c.evict-floor.ensures.front ∙ c.in_ok-push_front.ensures.front in
-    let marked = front_stands c.self.inside.config (pages_of c.self.inside.pages) m c.add.new.self
-    c.size.result c.cost.result c.next_size-size.result c.top.result
+    let put = put_on NoMemory _ c.in_ok-front.front c.add_span.new.self c.args.span.now c.args.value
+    (fits_new c.in_ok-front.front c.args.span.now c.next_size-size.result c.cost_of.result
+    c.self.inside.config.page_max c.cost_of.ensures c.next_size-size.ensures.enough
+    (subst (λ (v : CacheView). nat_le (span_cost c.args.span.now) v.settings.page_max ≡ true)
+    (sym c.self.view_is) c.requires.fits) (c.in_ok-front.ensures.room c.args.span.now))
+    c.in_ok-add_span.ensures.told in
+    let marked = front_stands c.self.inside.config (pages_of c.self.inside.pages) m
+    c.add_span.new.self c.size.result c.cost_of.result c.next_size-size.result c.top.result
     c.next_size-size.ensures.value
     (c.size.ensures.value ∙ ap (λ (p : PageView). p.size) c.front-former.ensures)
-    c.cost.ensures.value (c.top.ensures.value ∙
+    c.cost_of.ensures (c.top.ensures.value ∙
     ap (λ (p : PageView). p.top) c.front-former.ensures)
-    (c.in_ok-add.ensures.stands (empty_page c.next_size-size.result c.top.result)
+    (put.stands (empty_page c.next_size-size.result c.top.result)
     c.in_ok-front.ensures.stands) in
     let stands = subst (λ (p : PageView). StandsFor p
     (front_marked c.self.inside.config (pages_of c.self.inside.pages) m)) (sym front_is)
