@@ -1,5 +1,5 @@
 -- What Adds make of a cache that lacks some of them, and that they fit a page of it.
-use Rattle.std.proofs.Common.{◌≡◌, ◌∙◌, refl, sym, ap, subst, true, true≢false, ℕ, ◌+◌, ◌<◌, List, [], ◌∷◌}
+use Rattle.std.proofs.Common.{◌≡◌, ◌∙◌, refl, sym, ap, subst, true, false, true≢false, ℕ, ◌+◌, ◌<◌, List, [], ◌∷◌}
 use Rattle.std.proofs.Common.{◌++◌, length, get_or, drop, take, suc, arith, append_assoc, append-nil}
 use Rattle.std.specs.Prelude.{Option, None, Some, is_some}
 use Rattle.std.specs.Arc.{arc_value}
@@ -30,7 +30,7 @@ use Rattle.tsc_left_right.specs.Rule.{adds_in, with_first, late_adds}
 use Rattle.tsc_combining.specs.declared.adding.InPlace.{InPlace}
 use Rattle.tsc_combining.specs.declared.adding.InPlace.TheVariants.{Made, Untouched, Spoiled}
 use Rattle.tsc_combining.specs.Adding.{IsUntouched, HasNoPart, KeepsOthers, HandleCatchesUp}
-use Rattle.tsc_combining.specs.Adding.{RetiresWithout}
+use Rattle.tsc_combining.specs.Adding.{RetiresWithout, IfMade, HasTaken, IsNext}
 use Rattle.tsc_combining.specs.Adding.{LateFit, HandleFits, AllFit, StillLags, CatchesUp}
 use Rattle.tsc_combining.specs.Adding.{HasHadSome, StandsAfterAdd, TellsAdd, IsCaughtUp}
 use Rattle.tsc_combining.proofs.InPlace.{caught_first}
@@ -179,6 +179,45 @@ pub tells_then : (late : List UnappliedAdd) (old between : CacheView) (add : Una
     → TellsAddedAll between (marks_in add.marks) add.moment added → TellsAdd late old add added
 tells_then late old between add added up told = λ t h lags.
     told t.config (state_of t.config h) (lacks_none t h between (up t h lags))
+
+-- So a cache that has caught up has had all and this Add, if that was made.
+pub taken_then : (late : List UnappliedAdd) (old between new : CacheView) (add : UnappliedAdd)
+    (lagging : Lagging) (tried : InPlace) → StillLags late [] old between → IsCaughtUp lagging
+    → IfMade tried (λ added. StandsAfterAll between new (marks_in add.marks) add.moment)
+    → IfMade tried (TellsAddedAll between (marks_in add.marks) add.moment)
+    → IfMade tried (λ added. added.rotated ≡ false)
+    → IfMade tried (HasTaken late old new add lagging)
+taken_then late old between new add lagging (Made added) up caught stands told no_page = record {
+  stands = stands_then late old between new add up stands;
+  tells = tells_then late old between add added up told;
+  no_page = no_page;
+  caught_up = caught;
+}
+taken_then late old between new add lagging Untouched up caught stands told no_page = tt
+taken_then late old between new add lagging Spoiled up caught stands told no_page = tt
+
+-- The next copy is the standby one, which has had what it lacked and the Add,
+pub next_taken : (state : WriterState) (standby : Arc CacheView Global) (next : CacheView)
+    (add : UnappliedAdd) (lagging : Lagging) (added : Added) → state.standby ≡ Some standby
+    → HasTaken (late_adds state.lagging) (arc_value standby) next add lagging added
+    → IsNext state add next added
+next_taken state standby next add lagging added there taken =
+    let lags : (t : Setup) (h : History) (flips : ℕ) → IsAfter t h flips state
+    → Lags t h (late_adds state.lagging) (arc_value standby) =
+    λ t h flips after. subst (HandleLags t h (late_adds state.lagging)) there after.behind in
+    record {
+      stands = λ t h flips after. taken.stands t h (lags t h flips after);
+      tells = λ t h flips after. taken.tells t h (lags t h flips after);
+    }
+
+-- or one made anew from the active one.
+pub next_new : (state : WriterState) (next : CacheView) (add : UnappliedAdd) (added : Added)
+    → StandsAfterAdd [] (arc_value state.active) next add
+    → TellsAdd [] (arc_value state.active) add added → IsNext state add next added
+next_new state next add added stands told = record {
+  stands = λ t h flips after. stands t h (none_lags t h (arc_value state.active) after.stands);
+  tells = λ t h flips after. told t h (none_lags t h (arc_value state.active) after.stands);
+}
 
 -- marks that can be made fit a page
 pub made_fit : (settings : Settings) (ms : List Mark) → All (λ m. IsMadeMark settings m) ms

@@ -3,3 +3,4 @@ pub mod InPlace
 pub mod Making
 pub mod Turns
 pub mod Outcomes
+pub mod Seating

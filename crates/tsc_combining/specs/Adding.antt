@@ -19,7 +19,7 @@ use Rattle.tsc_left_right.specs.declared.table.UnappliedAdd.{UnappliedAdd}
 use Rattle.tsc_left_right.specs.declared.table.Lagging.{Lagging}
 use Rattle.tsc_left_right.specs.declared.table.WriterState.{WriterState}
 use Rattle.tsc_left_right.specs.declared.table.Setup.{Setup}
-use Rattle.tsc_left_right.specs.Rule.{marks_in, late_adds, Lags}
+use Rattle.tsc_left_right.specs.Rule.{marks_in, late_adds, Lags, IsAfter}
 use Rattle.tsc_combining.specs.declared.adding.InPlace.{InPlace}
 use Rattle.tsc_combining.specs.declared.adding.InPlace.TheVariants.{Made, Untouched, Spoiled}
 
@@ -28,12 +28,14 @@ abbrev pub LateFit : CacheView → List UnappliedAdd → Type 0
 LateFit cache [] = Unit {0}
 LateFit cache (p ∷ ps) = (all_fit cache.settings (marks_in p.marks) ≡ true) × LateFit cache ps
 
+-- A cache can have the Adds that it lacks, and then another.
+abbrev pub CanTake : CacheView → List UnappliedAdd → UnappliedAdd → Type 0
+CanTake cache late add = (all_fit cache.settings (marks_in add.marks) ≡ true) × LateFit cache late
+
 -- The copy behind a handle, if there is one, can have the Adds that it lacks, and then another.
 abbrev pub HandleFits : Option (Arc CacheView Global) → List UnappliedAdd → UnappliedAdd → Type 0
 HandleFits None late add = Unit {0}
-HandleFits (Some handle) late add =
-    (all_fit (arc_value handle).settings (marks_in add.marks) ≡ true)
-    × LateFit (arc_value handle) late
+HandleFits (Some handle) late add = CanTake (arc_value handle) late add
 
 -- An Add fits a page of either copy, and so do those that the standby copy has not had yet.
 pub record AllFit (state : WriterState) (add : UnappliedAdd) : Type 0 where
@@ -60,6 +62,23 @@ StillLags late later old new = (t : Setup) (h : History) → Lags t h late old �
 -- The standby copy lacks nothing.
 abbrev pub IsCaughtUp : Lagging → Type 0
 IsCaughtUp lagging = (lagging.own ≡ None) × (lagging.others.items ≡ [])
+
+-- A cache that lagged has had all that it lacked and then this Add, which brought no new page.
+pub record HasTaken (late : List UnappliedAdd) (old new : CacheView) (add : UnappliedAdd)
+    (lagging : Lagging) (added : Added) : Type 0 where
+  pub stands : StandsAfterAdd late old new add
+  pub tells : TellsAdd late old add added
+  pub no_page : added.rotated ≡ false
+  pub caught_up : IsCaughtUp lagging
+
+-- A cache is the next one after an Add, whatever history the writer's state was after.
+pub record IsNext (state : WriterState) (add : UnappliedAdd) (next : CacheView) (added : Added)
+    : Type 0 where
+  pub stands : (t : Setup) (h : History) (flips : ℕ) → IsAfter t h flips state
+      → StandsForState next t.config
+      (step_all t.config (state_of t.config h) (marks_in add.marks) add.moment).state
+  pub tells : (t : Setup) (h : History) (flips : ℕ) → IsAfter t h flips state
+      → added ≡ (step_all t.config (state_of t.config h) (marks_in add.marks) add.moment).added
 
 -- The active copy and all numbers are as they were.
 pub record KeepsOthers (old new : WriterState) : Type 0 where

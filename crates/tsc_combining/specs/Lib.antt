@@ -1,3 +1,4 @@
+pub mod Context
 pub mod Waiting
 pub mod Asking
 pub mod Adding

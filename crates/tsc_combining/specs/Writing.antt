@@ -170,6 +170,12 @@ is_added Busy = false
 is_added (Made place added by_other) = true
 is_added (Refused seen why) = false
 
+-- What became of it, and whether the gate was told of it: once if an Add was made.
+pub record HasOutcome (tries : Option ℕ) (copied : Result UnappliedAdd NoMemory) (v : Knowledge)
+    (me : At) (told : Bool) (o : Outcome) : Type 0 where
+  pub is : IsOutcome tries copied v me o
+  pub told_is : told ≡ is_added o
+
 abbrev pub IsBusy : Outcome → Type 0
 IsBusy Busy = Unit {0}
 IsBusy (Made place added by_other) = ⊥

@@ -3,16 +3,15 @@ ghost use Rattle.std.specs.Prelude.{◌≡◌, ◌∷◌, [], ℕ, true, false, 
 ghost use Rattle.std.specs.Prelude.{None};
 ghost use Rattle.std.specs.Arc.{arc_value};
 ghost use Rattle.tsc_cache.specs.Settings.{fits};
-ghost use Rattle.tsc_cache.specs.History.{History, state_of};
-ghost use Rattle.tsc_cache.specs.State.{step_all};
+ghost use Rattle.tsc_cache.specs.History.{History};
 ghost use Rattle.tsc_cache.specs.Batch.{all_fit};
-ghost use Rattle.tsc_cache.specs.CacheView.{StandsForState, StandsAfterAll, TellsAddedAll};
+ghost use Rattle.tsc_cache.specs.CacheView.{StandsAfterAll, TellsAddedAll};
 ghost use Rattle.tsc_left_right.specs.declared.table.Setup.{Setup};
 ghost use Rattle.tsc_left_right.specs.Rule.{IsAfter, marks_in, adds_in, with_first, late_adds};
 ghost use Rattle.tsc_combining.specs.Adding.{LateFit, AllFit, StandsAfterAdd, TellsAdd, StillLags};
 ghost use Rattle.tsc_combining.specs.Adding.{HasHadSome, CatchesUp, HandleCatchesUp, HasNoPart};
 ghost use Rattle.tsc_combining.specs.Adding.{HandsOut, IfMade, IsUntouched, IsCaughtUp};
-ghost use Rattle.tsc_combining.specs.Adding.{KeepsOthers, keeps_pages};
+ghost use Rattle.tsc_combining.specs.Adding.{KeepsOthers, keeps_pages, CanTake, HasTaken, IsNext};
 
 use std::alloc::Global;
 use std::sync::Arc;
@@ -230,12 +229,9 @@ fn add_up_to_date(cache: &mut Cache, add: &UnappliedAdd) -> InPlace
 /// Adds to a cache in place, once it has had what it lacked. It lacks nothing then, unless memory
 /// is refused before.
 fn add_to(cache: &mut Cache, lagging: &mut Lagging, add: &UnappliedAdd) -> InPlace
-    requires late { LateFit cache.old (late_adds lagging.old) }
-    requires fits { all_fit cache.old.settings (marks_in add.now.marks) ≡ true }
-    ensures stands { IfMade result (λ added.
-        StandsAfterAdd (late_adds lagging.old) cache.old cache.new add.now) }
-    ensures added { IfMade result (TellsAdd (late_adds lagging.old) cache.old add.now) }
-    ensures pages { IfMade result (λ added. (added.rotated ≡ false) × IsCaughtUp lagging.new) }
+    requires fits { CanTake cache.old (late_adds lagging.old) add.now }
+    ensures made { IfMade result
+        (HasTaken (late_adds lagging.old) cache.old cache.new add.now lagging.new) }
     ensures lag { IsUntouched result
         → StillLags (late_adds lagging.old) (late_adds lagging.new) cache.old cache.new }
     ensures left { HasNoPart (late_adds lagging.old) add.now.marks result cache.old cache.new }
@@ -254,13 +250,9 @@ fn add_in_place(
     lagging: &mut Lagging,
     add: &UnappliedAdd,
 ) -> InPlace
-    requires standby { all_fit (arc_value standby.old).settings (marks_in add.now.marks) ≡ true }
-    requires late { LateFit (arc_value standby.old) (late_adds lagging.old) }
-    ensures stands { IfMade result (λ added. StandsAfterAdd (late_adds lagging.old)
-        (arc_value standby.old) (arc_value standby.new) add.now) }
-    ensures added { IfMade result
-        (TellsAdd (late_adds lagging.old) (arc_value standby.old) add.now) }
-    ensures pages { IfMade result (λ added. (added.rotated ≡ false) × IsCaughtUp lagging.new) }
+    requires fits { CanTake (arc_value standby.old) (late_adds lagging.old) add.now }
+    ensures made { IfMade result (HasTaken (late_adds lagging.old) (arc_value standby.old)
+        (arc_value standby.new) add.now lagging.new) }
     ensures lag { IsUntouched result → StillLags (late_adds lagging.old) (late_adds lagging.new)
         (arc_value standby.old) (arc_value standby.new) }
     ensures left { HasNoPart (late_adds lagging.old) add.now.marks result
@@ -330,12 +322,8 @@ pub(crate) fn take_next(
     add: &UnappliedAdd,
 ) -> Result<Next, Option<Arc<Cache>>>
     requires fits { AllFit state.old add.now }
-    ensures stands { IfOk result (λ made. (t : Setup) (h : History) (flips : ℕ)
-        → IsAfter t h flips state.old → StandsForState (arc_value made.cache) t.config
-        (step_all t.config (state_of t.config h) (marks_in add.now.marks) add.now.moment).state) }
-    ensures added { IfOk result (λ made. (t : Setup) (h : History) (flips : ℕ)
-        → IsAfter t h flips state.old → made.added
-        ≡ (step_all t.config (state_of t.config h) (marks_in add.now.marks) add.now.moment).added) }
+    ensures made { IfOk result (λ made.
+        IsNext state.old add.now (arc_value made.cache) made.added) }
     ensures retired { IfOk result (λ made. HandsOut state.old add.now made.added made.retired) }
     ensures taken { OnOk result (KeepsOthers state.old state.new × IsCaughtUp state.new.lagging
         × (state.new.standby ≡ None)) }

@@ -14,12 +14,14 @@
 
 mod adding;
 mod asking;
+mod context;
 mod gate;
 mod serving;
 mod waiting;
 mod writing;
 
 pub use asking::Turn;
+pub use context::AddContext;
 pub use gate::{Gate, NoGate, Notice};
 pub use waiting::{Blocking, Bounded, WaitPolicy};
 pub use writing::{Asks, NotAdded, Outcome, add_by};

@@ -18,6 +18,14 @@ use tsc_left_right::{
 /// How many seats can ask at the most.
 const MOST_ASKING: u32 = 64;
 
+/// What a round is to keep to: the bits that SERVED is to have, and how many Adds more the limit
+/// allows beside the writer's own.
+#[derive(Clone, Copy)]
+pub(crate) struct Round {
+    pub(crate) served: u64,
+    pub(crate) room: u64,
+}
+
 /// Makes an Add of one mark in place, if that brings no new page. The result says whether it was
 /// kept. Else the cache is as it was.
 fn make(cache: &mut Cache, add: &UnappliedAdd) -> Option<bool>
@@ -41,26 +49,25 @@ fn serve(
     cache: &mut Cache,
     others: &mut Vec<MadeAdd>,
     seat: u32,
-    served: u64,
-    room: u64,
+    round: Round,
 ) -> u64
     requires of { IsOf who.old shared.now.table_id }
     requires seat { (seat < who.old.me.0.setup.seats) × (seat < 64) }
-    requires serving { (v : Knowledge) × (h : History) × Serves v h room seat served who.old.me
-        others.old.items cache.old }
+    requires serving { (v : Knowledge) × (h : History) × Serves v h round.room seat round.served
+        who.old.me others.old.items cache.old }
     ensures table { who.new.table_id ≡ who.old.table_id }
-    ensures serving { Serving room seat served who.old.me others.old.items cache.old
-        (seat + 1) result who.new.me others.new.items cache.new }
+    ensures serving { Serving round.room seat round.served who.old.me others.old.items
+        cache.old (seat + 1) result who.new.me others.new.items cache.new }
 {
-    let Some(add) = collect(shared, who, seat, served) else {
-        return served;
+    let Some(add) = collect(shared, who, seat, round.served) else {
+        return round.served;
     };
-    let has_room = (others.len() as u64) < room && others.len() < others.capacity();
+    let has_room = (others.len() as u64) < round.room && others.len() < others.capacity();
     if has_room && let Some(kept) = make(cache, &add) {
         others.push_reserved(MadeAdd { seat, kept, add });
-        return served;
+        return round.served;
     }
-    send_back(shared, who, seat, served, add)
+    send_back(shared, who, seat, round.served, add)
 }
 
 /// Makes what so many seats ask for.
@@ -70,55 +77,43 @@ fn serve_each(
     cache: &mut Cache,
     others: &mut Vec<MadeAdd>,
     seats: u32,
-    served: u64,
-    room: u64,
+    round: Round,
 ) -> u64
     requires of { IsOf who.old shared.now.table_id }
     requires seats { (seats ≤ who.old.me.0.setup.seats) × (seats ≤ 64) }
-    requires serving { (v : Knowledge) × (h : History) × Serves v h room 0 served who.old.me
-        others.old.items cache.old }
+    requires serving { (v : Knowledge) × (h : History) × Serves v h round.room 0 round.served
+        who.old.me others.old.items cache.old }
     ensures table { who.new.table_id ≡ who.old.table_id }
-    ensures serving { Serving room 0 served who.old.me others.old.items cache.old
-        seats result who.new.me others.new.items cache.new }
+    ensures serving { Serving round.room 0 round.served who.old.me others.old.items
+        cache.old seats result who.new.me others.new.items cache.new }
 {
-    let mut served = served;
+    let mut served = round.served;
     for seat in 0..seats {
-        served = serve(shared, who, cache, others, seat, served, room);
+        served = serve(shared, who, cache, others, seat, Round { served, ..round });
     }
     served
 }
 
 /// Makes what other seats ask for in this copy, which nobody else reads, beside the writer's own
-/// Add. The limit allows `room` Adds more.
+/// Add.
 pub(crate) fn serve_all(
     shared: &SharedReplicas,
     who: &mut Participant,
     next: &mut Arc<Cache>,
     others: &mut Vec<MadeAdd>,
     seats: u32,
-    served: u64,
-    room: u64,
+    round: Round,
 ) -> u64
     requires of { IsOf who.old shared.now.table_id }
     requires seats { seats ≤ who.old.me.0.setup.seats }
-    requires serving { CanServe room served who.old.me others.old.items next.old }
+    requires serving { CanServe round.room round.served who.old.me others.old.items next.old }
     ensures table { who.new.table_id ≡ who.old.table_id }
-    ensures serving { HasMade room served who.old.me others.old.items next.old result who.new.me
-        others.new.items next.new }
+    ensures serving { HasMade round.room round.served who.old.me others.old.items next.old
+        result who.new.me others.new.items next.new }
 {
     match Arc::get_mut(next) {
-        Some(cache) => {
-            serve_each(
-                shared,
-                who,
-                cache,
-                others,
-                seats.min(MOST_ASKING),
-                served,
-                room,
-            )
-        }
-        None => served,
+        Some(cache) => serve_each(shared, who, cache, others, seats.min(MOST_ASKING), round),
+        None => round.served,
     }
 }
 

@@ -1,17 +1,17 @@
 //! How a writer waits: until it is so, or for so many tries.
 ghost use Rattle.std.specs.Prelude.{◌≡◌, ◌+◌, ℕ, Option, Some, None, IfSome, IfNone, IsNone, true};
-ghost use Rattle.std.specs.Prelude.{false, ◌<◌};
+ghost use Rattle.std.specs.Prelude.{false};
 ghost use Rattle.tsc_left_right.specs.Steps.{number_of};
 ghost use Rattle.tsc_left_right.specs.Rule.{CanBe};
+ghost use Rattle.tsc_combining.specs.Context.{MayAsk};
 ghost use Rattle.tsc_combining.specs.Waiting.{HasEnd, StillWrites};
 ghost use Rattle.tsc_combining.specs.Asking.{HasTurn, IsBusy, IsTurn};
-ghost use Rattle.tsc_left_right.specs.Participating.{IsAtRest, IsNumber};
 ghost use Rattle.tsc_left_right.specs.Participating.{IsOf, IsFree, IsNext, AreSides, IsWriting};
 ghost use Rattle.tsc_left_right.specs.Participating.{HasAcquired};
 
 use crate::asking::{Asked, Turn, wait_for_answer};
+use crate::context::AddContext;
 use crossbeam_utils::Backoff;
-use std::alloc::Global;
 use std::sync::Wait;
 use tsc_left_right::{
     Participant, SharedReplicas, UnappliedAdd, WriterState, acquire, clear, fetch, post,
@@ -43,16 +43,12 @@ pub trait WaitPolicy {
     /// first.
     fn ask(
         &self,
-        alloc: Global,
-        shared: &SharedReplicas,
+        context: &AddContext<'_>,
         who: &mut Participant,
-        number: u32,
         add: UnappliedAdd,
         eager: bool,
     ) -> Turn
-        requires of { IsOf who.old shared.now.table_id }
-        requires rest { IsAtRest who.old.me }
-        requires number { IsNumber who.old.me.0 number × (number < 64) }
+        requires seat { MayAsk context.now who.old }
         requires can { CanBe who.old.me.0.setup add }
         ensures table { who.new.table_id ≡ who.old.table_id }
         ensures turn { HasTurn add (tries self.now) who.old.me who.new.me result }
@@ -125,17 +121,17 @@ impl<'r, R: Wait> WaitPolicy for Blocking<'r, R> {
 
     fn ask(
         &self,
-        alloc: Global,
-        shared: &SharedReplicas,
+        context: &AddContext<'_>,
         who: &mut Participant,
-        number: u32,
         add: UnappliedAdd,
         eager: bool,
     ) -> Turn {
+        let shared = context.shared;
+        let number = context.number;
         if let Some(state) = acquire_first(shared, who, number, eager) {
             return Turn::Acquired(state, add);
         }
-        let add = match Box::new(alloc, add) {
+        let add = match Box::new(context.alloc, add) {
             Ok(add) => add,
             Err(refused) => return acquired(self.acquire(shared, who, number), refused.value),
         };
@@ -195,14 +191,12 @@ impl WaitPolicy for Bounded {
 
     fn ask(
         &self,
-        _alloc: Global,
-        shared: &SharedReplicas,
+        context: &AddContext<'_>,
         who: &mut Participant,
-        number: u32,
         add: UnappliedAdd,
         _eager: bool,
     ) -> Turn {
-        acquired(self.acquire(shared, who, number), add)
+        acquired(self.acquire(context.shared, who, context.number), add)
     }
 
     fn clear(

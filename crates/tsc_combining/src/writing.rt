@@ -2,27 +2,26 @@
 ghost use Rattle.std.specs.Prelude.{◌≡◌, ◌+◌, ◌^◌, ◌<◌, [], length, false, None, Some, IfOk};
 ghost use Rattle.std.specs.Prelude.{IfErr, OnErr, Ok};
 ghost use Rattle.tsc_left_right.specs.Rule.{CanBe};
-ghost use Rattle.tsc_left_right.specs.Steps.{state_in, own_of};
-ghost use Rattle.tsc_left_right.specs.Participating.{IsOf, IsAtRest, IsNumber, published_in};
+ghost use Rattle.tsc_left_right.specs.Steps.{own_of};
+ghost use Rattle.tsc_left_right.specs.Participating.{IsOf, IsAtRest, published_in};
 ghost use Rattle.tsc_left_right.specs.Participating.{released_in, MayRelease};
-ghost use Rattle.tsc_combining.specs.Adding.{AllFit, IsCaughtUp};
 ghost use Rattle.tsc_combining.specs.Writing.{IsBusy, IsNewWriter, HoldsState, MayMake, CanMake};
 ghost use Rattle.tsc_combining.specs.Writing.{IsPrepared, MayLeave};
 ghost use Rattle.tsc_combining.specs.Writing.{IsAborted, IsReadyToFinish, HasPublished, IsSwapped};
-ghost use Rattle.tsc_combining.specs.Writing.{IsOutcome, is_added};
+ghost use Rattle.tsc_combining.specs.Context.{IsSeatOf, MayAsk};
+ghost use Rattle.tsc_combining.specs.Writing.{HasOutcome};
 
 use crate::adding::take_next;
 use crate::asking::Turn;
+use crate::context::AddContext;
 use crate::gate::{Gate, Notice};
-use crate::serving::{answer_all, send_all_back, serve_all};
+use crate::serving::{Round, answer_all, send_all_back, serve_all};
 use crate::waiting::{WaitPolicy, wait_for_readers};
-use std::alloc::Global;
 use std::mem;
 use std::sync::Arc;
 use tsc_cache::{Added, Cache};
 use tsc_left_right::{
-    Participant, Setup, SharedReplicas, UnappliedAdd, WriterState, install_handles, publish,
-    release,
+    Participant, SharedReplicas, UnappliedAdd, WriterState, install_handles, publish, release,
 };
 use tsc_time::NoMemory;
 
@@ -96,38 +95,32 @@ struct Ready {
 /// have handles on their copy then. If memory is refused, what the writer works with stands for the
 /// same as before.
 fn prepare(
-    alloc: Global,
-    shared: &SharedReplicas,
+    context: &AddContext<'_>,
     who: &mut Participant,
     state: &mut WriterState,
     add: UnappliedAdd,
-    setup: &Setup,
 ) -> Result<Ready, Option<Arc<Cache>>>
-    requires of { IsOf who.old shared.now.table_id }
-    requires setup { setup.now ≡ who.old.me.0.setup }
-    requires state { HoldsState who.old.me setup.now.seats state.old }
+    requires seat { IsSeatOf context.now who.old }
+    requires state { HoldsState who.old.me context.now.setup.now.seats state.old }
     requires make { MayMake who.old.me state.old add }
     ensures table { who.new.table_id ≡ who.old.table_id }
     ensures made { IfOk result (λ made.
         IsPrepared who.old.me.0 who.new.me add state.new made.added) }
     ensures left { OnErr result (MayLeave who.old.me.0 who.new.me state.new) }
 {
-    let mut next = match take_next(alloc, state, &add) {
+    let shared = context.shared;
+    let setup = context.setup;
+    let mut next = match take_next(context.alloc, state, &add) {
         Ok(next) => next,
         Err(retired) => return Err(retired),
     };
-    let room = setup.limit - state.length - 1;
+    let round = Round {
+        served: state.served,
+        room: setup.limit - state.length - 1,
+    };
     let standby = (state.flips + 1) % 2;
     let others = &mut state.lagging.others;
-    let served = serve_all(
-        shared,
-        who,
-        &mut next.cache,
-        others,
-        setup.seats,
-        state.served,
-        room,
-    );
+    let served = serve_all(shared, who, &mut next.cache, others, setup.seats, round);
     let made = others.len();
     let adds = state.length + 1 + made as u64;
     if !install_handles(shared, who, &next.cache, adds, (setup.seats, standby), made) {
@@ -145,22 +138,19 @@ fn prepare(
 /// Prepares an Add by a copy of it, which may have been refused: that is said only if the history
 /// is not full. All readers leave the standby copy first, unless the policy gives up.
 fn prepare_copy<P: WaitPolicy>(
-    alloc: Global,
     policy: &P,
-    shared: &SharedReplicas,
+    context: &AddContext<'_>,
     who: &mut Participant,
     mut state: Box<WriterState>,
     copied: Result<UnappliedAdd, NoMemory>,
-    setup: &Setup,
 ) -> Result<Prepared, Aborted>
-    requires of { IsOf who.old shared.now.table_id }
-    requires setup { setup.now ≡ who.old.me.0.setup }
-    requires writer { IsNewWriter who.old.me state.value }
-    requires make { IfOk copied (CanBe setup.now) }
+    requires writer { IsSeatOf context.now who.old × IsNewWriter who.old.me state.value }
+    requires make { IfOk copied (CanBe context.now.setup.now) }
     ensures table { who.new.table_id ≡ who.old.table_id }
     ensures made { IfOk result (CanMake copied who.old.me.0 who.new.me) }
     ensures left { IfErr result (IsAborted (P.tries policy.now) who.old.me.0 who.new.me) }
 {
+    let setup = context.setup;
     if state.length >= setup.limit {
         return Err(Aborted {
             state,
@@ -176,14 +166,14 @@ fn prepare_copy<P: WaitPolicy>(
         });
     };
     let standby = (state.flips + 1) % 2;
-    if !wait_for_readers(policy, shared, who, setup.seats, standby) {
+    if !wait_for_readers(policy, context.shared, who, setup.seats, standby) {
         return Err(Aborted {
             state,
             retired: None,
             why: NotAdded::SeatInside,
         });
     }
-    match prepare(alloc, shared, who, &mut state, add, setup) {
+    match prepare(context, who, &mut state, add) {
         Ok(Ready { added, retired }) => Ok(Prepared {
             state,
             added,
@@ -224,29 +214,23 @@ fn finish(shared: &SharedReplicas, who: &mut Participant, state: Box<WriterState
 
 /// Makes an Add of the seat that has just acquired the lock, and releases it.
 fn add_locked<P: WaitPolicy, G: Gate>(
-    alloc: Global,
     policy: &P,
-    shared: &SharedReplicas,
+    context: &AddContext<'_>,
     who: &mut Participant,
-    number: u32,
     state: Box<WriterState>,
     copied: Result<UnappliedAdd, NoMemory>,
     notice: &mut Notice<'_, G>,
-    setup: &Setup,
 ) -> Outcome
-    requires of { IsOf who.old shared.now.table_id }
-    requires setup { setup.now ≡ who.old.me.0.setup }
-    requires writer { IsNewWriter who.old.me state.value }
-    requires number { IsNumber who.old.me.0 number }
-    requires make { IfOk copied (CanBe setup.now) }
+    requires writer { IsSeatOf context.now who.old × IsNewWriter who.old.me state.value }
+    requires make { IfOk copied (CanBe context.now.setup.now) }
     requires untold { notice.old.told ≡ false }
     ensures table { who.new.table_id ≡ who.old.table_id }
-    ensures outcome { IsOutcome (P.tries policy.now) copied who.old.me.0 who.new.me result }
-    ensures told { notice.new.told ≡ is_added result }
+    ensures outcome { HasOutcome (P.tries policy.now) copied who.old.me.0 who.new.me
+        notice.new.told result }
     ensures answers { IsBusy result → ⊥ }
 {
     let place = state.length;
-    match prepare_copy(alloc, policy, shared, who, state, copied, setup) {
+    match prepare_copy(policy, context, who, state, copied) {
         Ok(
             Prepared {
                 state,
@@ -254,8 +238,8 @@ fn add_locked<P: WaitPolicy, G: Gate>(
                 retired,
             },
         ) => {
-            notice.give(number);
-            finish(shared, who, state);
+            notice.give(context.number);
+            finish(context.shared, who, state);
             drop(retired);
             Outcome::Made {
                 place,
@@ -270,7 +254,7 @@ fn add_locked<P: WaitPolicy, G: Gate>(
                 why,
             },
         ) => {
-            let seen = release(shared, who, state);
+            let seen = release(context.shared, who, state);
             drop(retired);
             Outcome::Refused { seen, why }
         }
@@ -279,74 +263,48 @@ fn add_locked<P: WaitPolicy, G: Gate>(
 
 /// Acquires the lock and makes an Add by a copy of it, which may have been refused.
 fn add_alone<P: WaitPolicy, G: Gate>(
-    alloc: Global,
     policy: &P,
-    shared: &SharedReplicas,
+    context: &AddContext<'_>,
     who: &mut Participant,
-    number: u32,
     copied: Result<UnappliedAdd, NoMemory>,
     notice: &mut Notice<'_, G>,
-    setup: &Setup,
 ) -> Outcome
-    requires of { IsOf who.old shared.now.table_id }
-    requires setup { setup.now ≡ who.old.me.0.setup }
-    requires rest { IsAtRest who.old.me × IsNumber who.old.me.0 number }
-    requires make { IfOk copied (CanBe setup.now) }
+    requires seat { IsSeatOf context.now who.old × IsAtRest who.old.me }
+    requires make { IfOk copied (CanBe context.now.setup.now) }
     requires untold { notice.old.told ≡ false }
     ensures table { who.new.table_id ≡ who.old.table_id }
-    ensures outcome { IsOutcome (P.tries policy.now) copied who.old.me.0 who.new.me result }
-    ensures told { notice.new.told ≡ is_added result }
+    ensures outcome { HasOutcome (P.tries policy.now) copied who.old.me.0 who.new.me
+        notice.new.told result }
     ensures no_tries { P.tries policy.now ≡ Some 0 → IsBusy result }
 {
-    match policy.acquire(shared, who, number) {
-        Some(state) => {
-            add_locked(
-                alloc, policy, shared, who, number, state, copied, notice, setup,
-            )
-        }
+    match policy.acquire(context.shared, who, context.number) {
+        Some(state) => add_locked(policy, context, who, state, copied, notice),
         None => Outcome::Busy,
     }
 }
 
 /// Acquires the lock and makes an Add, or has it made by the seat that has the lock.
 fn add_asking<P: WaitPolicy, G: Gate>(
-    alloc: Global,
     policy: &P,
-    shared: &SharedReplicas,
+    context: &AddContext<'_>,
     who: &mut Participant,
-    number: u32,
     add: UnappliedAdd,
     is_eager: bool,
     notice: &mut Notice<'_, G>,
-    setup: &Setup,
 ) -> Outcome
-    requires of { IsOf who.old shared.now.table_id }
-    requires setup { setup.now ≡ who.old.me.0.setup }
-    requires rest { IsAtRest who.old.me × IsNumber who.old.me.0 number × (number < 64) }
-    requires make { CanBe setup.now add }
+    requires seat { MayAsk context.now who.old }
+    requires make { CanBe context.now.setup.now add }
     requires untold { notice.old.told ≡ false }
     ensures table { who.new.table_id ≡ who.old.table_id }
-    ensures outcome { IsOutcome (P.tries policy.now) (Ok add) who.old.me.0 who.new.me result }
-    ensures told { notice.new.told ≡ is_added result }
+    ensures outcome { HasOutcome (P.tries policy.now) (Ok add) who.old.me.0 who.new.me
+        notice.new.told result }
     ensures no_tries { P.tries policy.now ≡ Some 0 → IsBusy result }
 {
-    match policy.ask(alloc, shared, who, number, add, is_eager) {
+    match policy.ask(context, who, add, is_eager) {
         Turn::Busy => Outcome::Busy,
-        Turn::Acquired(state, add) => {
-            add_locked(
-                alloc,
-                policy,
-                shared,
-                who,
-                number,
-                state,
-                Ok(add),
-                notice,
-                setup,
-            )
-        }
+        Turn::Acquired(state, add) => add_locked(policy, context, who, state, Ok(add), notice),
         Turn::Made(reply) => {
-            notice.give(number);
+            notice.give(context.number);
             let added = Added {
                 kept: reply.kept,
                 rotated: false,
@@ -374,40 +332,25 @@ const MOST_ASKING: u32 = 64;
 /// Makes an Add by a copy of it, which may have been refused: by itself, or by another if it may
 /// ask.
 pub fn add_by<P: WaitPolicy, G: Gate>(
-    alloc: Global,
     policy: &P,
-    shared: &SharedReplicas,
+    context: &AddContext<'_>,
     who: &mut Participant,
-    number: u32,
     copied: Result<UnappliedAdd, NoMemory>,
     asks: Asks,
     notice: &mut Notice<'_, G>,
-    setup: &Setup,
 ) -> Outcome
-    requires of { IsOf who.old shared.now.table_id }
-    requires setup { setup.now ≡ who.old.me.0.setup }
-    requires rest { IsAtRest who.old.me × IsNumber who.old.me.0 number }
-    requires make { IfOk copied (CanBe setup.now) }
+    requires seat { IsSeatOf context.now who.old × IsAtRest who.old.me }
+    requires make { IfOk copied (CanBe context.now.setup.now) }
     requires untold { notice.old.told ≡ false }
     ensures table { who.new.table_id ≡ who.old.table_id }
-    ensures outcome { IsOutcome (P.tries policy.now) copied who.old.me.0 who.new.me result }
-    ensures told { notice.new.told ≡ is_added result }
+    ensures outcome { HasOutcome (P.tries policy.now) copied who.old.me.0 who.new.me
+        notice.new.told result }
     ensures no_tries { P.tries policy.now ≡ Some 0 → IsBusy result }
 {
     match copied {
-        Ok(add) if asks.may_ask && number < MOST_ASKING => {
-            add_asking(
-                alloc,
-                policy,
-                shared,
-                who,
-                number,
-                add,
-                asks.is_eager,
-                notice,
-                setup,
-            )
+        Ok(add) if asks.may_ask && context.number < MOST_ASKING => {
+            add_asking(policy, context, who, add, asks.is_eager, notice)
         }
-        copied => add_alone(alloc, policy, shared, who, number, copied, notice, setup),
+        copied => add_alone(policy, context, who, copied, notice),
     }
 }

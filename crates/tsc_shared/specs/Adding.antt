@@ -1,5 +1,6 @@
 -- What becomes of a copy of some marks, and when an Add is given up. (For private contracts.)
-use Rattle.std.specs.Prelude.{◌≡◌, ℕ, List, Option, Result, Ok, Err}
+use Rattle.std.specs.Prelude.{◌≡◌, ℕ, List, Bool, Option, Some, Result, Ok, Err, is_ok}
+use Rattle.std.specs.Prelude.{IfOk, IfErr, OnErr, IsErrOf}
 use Rattle.tsc_time.specs.Time.{Time}
 use Rattle.tsc_time.specs.declared.memory.NoMemory.{NoMemory}
 use Rattle.tsc_page_nodes.specs.Page.{Mark}
@@ -14,7 +15,7 @@ use Rattle.tsc_shared.specs.declared.answers.AddFault.TheVariants as fault
 use Rattle.tsc_shared.specs.declared.answers.TryAddFault.{TryAddFault}
 use Rattle.tsc_shared.specs.declared.answers.TryAddFault.TheVariants.{DeskBusy, SeatInside, Refused}
 use Rattle.tsc_shared.specs.Seats.{SeatView, FrontView}
-use Rattle.tsc_shared.specs.Answers.{Accepts}
+use Rattle.tsc_shared.specs.Answers.{Accepts, GoesOn, Refuses, TryRefusedFor}
 
 -- A copy of some marks, with the moment at which they are added.
 abbrev pub IsCopyOf : List Mark → Time → UnappliedAdd → Type 0
@@ -30,6 +31,20 @@ abbrev pub GivesUp : Option ℕ → TryAddFault → Type 0
 GivesUp tries DeskBusy = HasEnd tries
 GivesUp tries SeatInside = HasEnd tries
 GivesUp tries (Refused fault) = Unit {0}
+
+-- What the Add of a copy answers after so many tries, and whether the gate was told of it: it is
+-- accepted, or refused for one of the reasons, but not as too large. Without a try the lock is told
+-- as busy.
+pub record AnswersCopy (copied : Result UnappliedAdd NoMemory) (tries : Option ℕ)
+    (old new : SeatView) (told : Bool) (result : Result Receipt TryAddFault) : Type 0 where
+  pub told_is : told ≡ is_ok result
+  pub accepted : IfOk result (λ receipt. AcceptsCopy copied old new receipt)
+  pub seat : GoesOn old new
+  pub refused : OnErr result (Refuses old new)
+  pub why : IfErr result (λ fault. TryRefusedFor old new fault)
+  pub fits : IsErrOf result (Refused fault.TooLarge) → ⊥
+  pub ended : IfErr result (λ fault. GivesUp tries fault)
+  pub no_tries : tries ≡ Some 0 → IsErrOf result DeskBusy
 
 -- What an Add that waits answers is what it would answer if it could give up, since it never did.
 abbrev pub IsWaited : Result Receipt TryAddFault → Result Receipt AddFault → Type 0

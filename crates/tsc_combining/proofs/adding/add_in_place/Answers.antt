@@ -4,7 +4,7 @@ use Rattle.std.proofs.Common.{subst}
 use Rattle.std.specs.Arc.{arc_value}
 use Rattle.tsc_cache.specs.CacheView.{CacheView}
 use Rattle.tsc_left_right.specs.Rule.{late_adds}
-use Rattle.tsc_combining.specs.Adding.{IfMade, StandsAfterAdd}
+use Rattle.tsc_combining.specs.Adding.{IfMade, HasTaken}
 use Rattle.tsc_combining.proofs.InPlace.{caught_none}
 use Rattle.tsc_combining.proofs.adding.add_in_place.Goals as goal
 
@@ -16,8 +16,8 @@ pub returns-in-None-clause-left : goal.returns-in-None-clause-left
 returns-in-None-clause-left c =
     caught_none (late_adds c.args.lagging.now) (arc_value c.args.standby.now)
 
-pub returns-in-Some-clause-stands : goal.returns-in-Some-clause-stands
-returns-in-Some-clause-stands c =
-    subst (λ (v : CacheView). IfMade c.add_to.result (λ added. StandsAfterAdd
-    (late_adds c.args.lagging.now) v c.add_to.new.cache c.args.add.now)) c.in-Some.ensures.value
-    c.add_to.ensures.stands
+pub returns-in-Some-clause-made : goal.returns-in-Some-clause-made
+returns-in-Some-clause-made c =
+    subst (λ (v : CacheView). IfMade c.add_to.result (HasTaken (late_adds c.args.lagging.now) v
+    c.add_to.new.cache c.args.add.now c.add_to.new.lagging)) c.in-Some.ensures.value
+    c.add_to.ensures.made

@@ -3,32 +3,25 @@ use Rattle.std.proofs.Common.{◌∙◌, sym, ap}
 use Rattle.tsc_cache.specs.Settings.{Settings}
 use Rattle.tsc_cache.specs.Batch.{all_fit}
 use Rattle.tsc_left_right.specs.Rule.{marks_in, late_adds}
-use Rattle.tsc_combining.proofs.InPlace.{caught_up_settings, if_made, not_refused, no_part_then, untouched_lags}
-use Rattle.tsc_combining.proofs.AddingUp.{stands_then, tells_then, none_late}
+use Rattle.tsc_combining.proofs.InPlace.{caught_up_settings, not_refused, no_part_then, untouched_lags}
+use Rattle.tsc_combining.proofs.AddingUp.{taken_then, none_late}
 use Rattle.tsc_combining.proofs.adding.add_to.Goals as goal
 
 pub add_up_to_date-requires : goal.add_up_to_date-requires
 add_up_to_date-requires c = record {
   fits = ap (λ (settings : Settings). all_fit settings (marks_in c.args.add.now.marks))
       (caught_up_settings (late_adds c.args.lagging.now) c.args.cache.now c.bring_up.new.cache
-      c.bring_up.ensures.some) ∙ c.requires.fits;
+      c.bring_up.ensures.some) ∙ c.requires.fits.0;
 }
 
-pub returns-clause-stands : goal.returns-clause-stands
-returns-clause-stands c =
-    let up = not_refused c.bring_up.result _ (sym c.is_err.ensures.value ∙ c.if-is_err.false)
-    c.bring_up.ensures.up in
-    if_made c.add_up_to_date.result _ _ c.add_up_to_date.ensures.stands
-    (λ added stands. stands_then (late_adds c.args.lagging.now) c.args.cache.now
-    c.bring_up.new.cache c.add_up_to_date.new.cache c.args.add.now up stands)
-
-pub returns-clause-added : goal.returns-clause-added
-returns-clause-added c =
-    let up = not_refused c.bring_up.result _ (sym c.is_err.ensures.value ∙ c.if-is_err.false)
-    c.bring_up.ensures.up in
-    if_made c.add_up_to_date.result _ _ c.add_up_to_date.ensures.added
-    (λ added told. tells_then (late_adds c.args.lagging.now) c.args.cache.now
-    c.bring_up.new.cache c.args.add.now added up told)
+pub returns-clause-made : goal.returns-clause-made
+returns-clause-made c =
+    let no_error = sym c.is_err.ensures.value ∙ c.if-is_err.false in
+    let up = not_refused c.bring_up.result _ no_error c.bring_up.ensures.up in
+    taken_then (late_adds c.args.lagging.now) c.args.cache.now c.bring_up.new.cache
+    c.add_up_to_date.new.cache c.args.add.now c.bring_up.new.lagging c.add_up_to_date.result up
+    (not_refused c.bring_up.result _ no_error c.bring_up.ensures.none)
+    c.add_up_to_date.ensures.stands c.add_up_to_date.ensures.added c.add_up_to_date.ensures.pages
 
 pub returns-clause-lag : goal.returns-clause-lag
 returns-clause-lag c =

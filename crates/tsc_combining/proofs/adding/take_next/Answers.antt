@@ -8,7 +8,7 @@ use Rattle.std.specs.declared.alloc.Global.{Global}
 use Rattle.tsc_cache.specs.CacheView.{CacheView}
 use Rattle.tsc_left_right.specs.Rule.{late_adds}
 use Rattle.tsc_combining.specs.Adding.{keeps_pages, RetiresWithout}
-use Rattle.tsc_combining.proofs.AddingUp.{none_lags, laid_aside, retires}
+use Rattle.tsc_combining.proofs.AddingUp.{next_new, laid_aside, retires}
 use Rattle.tsc_combining.proofs.adding.take_next.Goals as goal
 
 both_are : (o : Option (Arc CacheView Global)) (a : Arc CacheView Global) → o ≡ Some a
@@ -27,8 +27,7 @@ returns-in-Err c =
     }) c.take.ensures.after)
     c.add_in_place-tried.ensures.lag c.add_in_place-tried.ensures.left c.lay_aside.ensures.kept
     c.lay_aside.ensures.spoiled in record {
-      stands = tt;
-      added = tt;
+      made = tt;
       retired = tt;
       taken = tt;
       same = (laid.0, laid.1);
@@ -40,10 +39,8 @@ returns-in-Ok-take_new c =
     let there = sym c.take.ensures.value ∙ c.in-Some.is in
     let kept = c.in-Ok-take_new.ensures.taken.0 in
     let same = both_are c.args.state.now.standby c.in-Some.standby there in record {
-      stands = λ t h flips after. c.in-Ok-take_new.ensures.stands t h
-          (none_lags t h (arc_value c.args.state.now.active) after.stands);
-      added = λ t h flips after. c.in-Ok-take_new.ensures.added t h
-          (none_lags t h (arc_value c.args.state.now.active) after.stands);
+      made = next_new c.args.state.now _ c.args.add.now c.in-Ok-take_new.added
+          c.in-Ok-take_new.ensures.stands c.in-Ok-take_new.ensures.added;
       retired = λ standby is. subst (λ (x : Arc CacheView Global).
           (keeps_pages (arc_value c.args.state.now.active) (arc_value x) ≡ false
           → Some c.add_in_place-tried.new.standby ≡ Some x)

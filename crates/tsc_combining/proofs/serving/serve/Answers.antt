@@ -6,7 +6,7 @@ use Rattle.tsc_left_right.specs.declared.table.Slot.TheVariants.{Request}
 use Rattle.tsc_combining.specs.Serving.{IsMadeIn}
 use Rattle.tsc_combining.proofs.Making.{serves_made, may_send_taken}
 use Rattle.tsc_combining.proofs.serving.serve.Goals as goal
-use Rattle.tsc_combining.proofs.serving.serve.Goals.{then-len-room, else-len-room}
+use Rattle.tsc_combining.proofs.serving.serve.Goals.{then-len-round, else-len-round}
 
 below : (n room : ℕ) → nat_lt n room ≡ true → {m : ℕ} → n ≡ m → m < room
 below n room low {m} is = grind arith
@@ -15,13 +15,14 @@ pub returns-clause-serving : goal.returns-clause-serving
 returns-clause-serving c = λ v h s.
     let long : c.len.result ≡ length c.args.others.now.items =
     c.len.ensures ∙ c.args.others.now.ok.0 in
-    let few : length c.args.others.now.items < c.args.room = elim c.if-len-room.branch [
-      | then-len-room w ↦ omega (arith, w.if-len-room.true, long)
-      | else-len-room w ↦ below c.len.result c.args.room
+    let few : length c.args.others.now.items < c.args.round.room = elim c.if-len-round.branch [
+      | then-len-round w ↦ omega (arith, w.if-len-round.true, long)
+      | else-len-round w ↦ below c.len.result c.args.round.room
           (sym w.has_room-is ∙ c.if-has_room.true) long
     ] in
-    serves_made v h c.args.room c.args.seat c.args.served c.args.who.now.me c.collect.new.who.me
-    c.args.others.now.items c.push_reserved.new.self.items c.args.cache.now c.make.new.cache
+    serves_made v h c.args.round.room c.args.seat c.args.round.served c.args.who.now.me
+    c.collect.new.who.me c.args.others.now.items c.push_reserved.new.self.items
+    c.args.cache.now c.make.new.cache
     (record { seat = c.args.seat; kept = c.in-Some-make.kept; add = c.in-Some.add })
     c.in-Some-make.kept s c.in-Some.ensures.collected
     (subst (λ (p : UnappliedAdd). IsMadeIn c.args.cache.now c.make.new.cache p
@@ -31,6 +32,6 @@ returns-clause-serving c = λ v h s.
 pub send_back-requires-clause-may : goal.send_back-requires-clause-may
 send_back-requires-clause-may c =
     let r = c.requires.serving in
-    may_send_taken r.0 r.1 c.args.room c.args.seat c.args.served c.args.who.now.me
+    may_send_taken r.0 r.1 c.args.round.room c.args.seat c.args.round.served c.args.who.now.me
     c.collect.new.who.me c.args.others.now.items c.args.cache.now (Request c.in-Some.add)
     c.in-Some.add.value r.2 c.in-Some.ensures.collected refl

@@ -12,7 +12,7 @@ serve-served-requires-clause-of c =
     still_of c.args.who.now c.loop-seat.who c.args.shared.now.table_id c.requires.of
     c.loop-seat.invariant.0
     (same_setup r.0 r.1 r.2.collected s.collected r.2.collected s.collected r.0.setup.seats
-    r.0.setup.seats c.args.served c.loop-seat.served c.args.who.now.me c.loop-seat.who.me
+    r.0.setup.seats c.args.round.served c.loop-seat.served c.args.who.now.me c.loop-seat.who.me
     c.args.others.now.items c.loop-seat.others.items r.2.answers s.answers)
 
 pub serve-served-requires-clause-seat : goal.serve-served-requires-clause-seat
@@ -20,7 +20,7 @@ serve-served-requires-clause-seat c =
     let r = c.requires.serving in
     let s = c.loop-seat.invariant.1 r.0 r.1 r.2 in
     let same = ap (λ (t : Setup). t.seats) (same_setup r.0 r.1 r.2.collected s.collected
-    r.2.collected s.collected r.0.setup.seats r.0.setup.seats c.args.served c.loop-seat.served
+    r.2.collected s.collected r.0.setup.seats r.0.setup.seats c.args.round.served c.loop-seat.served
     c.args.who.now.me c.loop-seat.who.me c.args.others.now.items c.loop-seat.others.items
     r.2.answers s.answers) in (
       omega (arith, same, c.requires.seats.0, c.loop-seat-test.true),

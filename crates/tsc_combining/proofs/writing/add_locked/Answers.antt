@@ -11,18 +11,23 @@ finish-requires-clause-ready g c =
 
 pub returns-in-Ok-clause-outcome : goal.returns-in-Ok-clause-outcome
 returns-in-Ok-clause-outcome g c =
-    is_added_alone c.args.who.now.me c.prepare_copy.new.who.me c.finish.new.who.me
-    c.args.state.value c.args.setup.now c.args.copied c.in-Ok.field-0 c.deref.result.now.length
-    c.requires.writer c.requires.setup c.requires.make c.in-Ok.ensures.made c.finish.ensures.done
-    (ap (λ s. s.length) c.deref.ensures)
-    (refl, subst (λ n. n < c.args.who.now.me.0.setup.seats) c.requires.number.0 c.requires.number.1)
+    let seat = c.requires.writer.0 in record {
+      is = is_added_alone c.args.who.now.me c.prepare_copy.new.who.me c.finish.new.who.me
+          c.args.state.value c.args.context.now.setup.now c.args.copied c.in-Ok.field-0
+          c.deref.result.now.length c.requires.writer.1 seat.setup c.requires.make
+          c.in-Ok.ensures.made c.finish.ensures.done (ap (λ s. s.length) c.deref.ensures)
+          (refl, subst (λ n. n < c.args.who.now.me.0.setup.seats) seat.number.0 seat.number.1);
+      told_is = c.give.ensures;
+    }
 
 pub release-seen-requires-clause-may : goal.release-seen-requires-clause-may
 release-seen-requires-clause-may g c = c.in-Err.ensures.left.leave.release
 
 pub returns-in-Err-clause-outcome : goal.returns-in-Err-clause-outcome
-returns-in-Err-clause-outcome g c =
-    is_not_added (g.P.WaitPolicy.tries c.args.policy.now) c.args.who.now.me
-    c.prepare_copy.new.who.me c.release-seen.new.who.me c.args.state.value c.in-Err.field-0
-    c.release-seen.result c.requires.writer c.in-Err.ensures.left c.release-seen.ensures.released
-    c.release-seen.ensures.length
+returns-in-Err-clause-outcome g c = record {
+  is = is_not_added (g.P.WaitPolicy.tries c.args.policy.now) c.args.who.now.me
+      c.prepare_copy.new.who.me c.release-seen.new.who.me c.args.state.value c.in-Err.field-0
+      c.release-seen.result c.requires.writer.1 c.in-Err.ensures.left
+      c.release-seen.ensures.released c.release-seen.ensures.length;
+  told_is = c.requires.untold;
+}

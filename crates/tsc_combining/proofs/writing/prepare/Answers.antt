@@ -10,13 +10,13 @@ use Rattle.tsc_combining.proofs.writing.prepare.Goals as goal
 
 pub returns-in-Err-clause-left : goal.returns-in-Err-clause-left
 returns-in-Err-clause-left c =
-    held_leaves c.args.who.now.me c.args.setup.now.seats c.args.state.now c.take_next.new.state
+    held_leaves c.args.who.now.me c.args.context.now.setup.now.seats c.args.state.now c.take_next.new.state
     c.requires.state c.in-Err.ensures.same.1 c.in-Err.ensures.same.0.served
 
 pub overflow_add-standby : goal.overflow_add-standby
 overflow_add-standby c =
     let t = c.in-Ok.ensures.taken in
-    let limit = ap (λ s. s.limit) c.requires.setup in
+    let limit = ap (λ s. s.limit) c.requires.seat.setup in
     omega (
       arith,
       t.0.flips,
@@ -31,37 +31,37 @@ pub serve_all-served-requires-clause-serving : goal.serve_all-served-requires-cl
 serve_all-served-requires-clause-serving c =
     let me = c.args.who.now.me in
     let add = c.args.add in
-    let seats = c.args.setup.now.seats in
+    let seats = c.args.context.now.setup.now.seats in
     let first = c.take_next.new.state in
     let t = c.in-Ok.ensures.taken in
-    let all = ap (λ s. s.seats) c.requires.setup in
-    let limit = ap (λ s. s.limit) c.requires.setup in
-    let room = c.args.setup.now.limit - first.length - 1 in
+    let all = ap (λ s. s.seats) c.requires.seat.setup in
+    let limit = ap (λ s. s.limit) c.requires.seat.setup in
+    let room = c.args.context.now.setup.now.limit - first.length - 1 in
     let s0 = can_serve me seats c.args.state.now add room first.served first.lagging.others.items
     c.in-Ok.next.cache all c.requires.state
-    (omega (arith, t.0.length, c.requires.make.room, limit)) t.1.1 t.0.served c.in-Ok.ensures.stands
+    (omega (arith, t.0.length, c.requires.make.room, limit)) t.1.1 t.0.served c.in-Ok.ensures.made.stands
     in
     (me.0, own_added me.0 add, s0)
 
 pub overflow_add-adds : goal.overflow_add-adds
 overflow_add-adds c =
     let t = c.in-Ok.ensures.taken in
-    let limit = ap (λ s. s.limit) c.requires.setup in
+    let limit = ap (λ s. s.limit) c.requires.seat.setup in
     omega (arith, t.0.length, c.requires.make.room, limit)
 
 pub overflow_add-adds-2 : goal.overflow_add-adds-2
 overflow_add-adds-2 c =
     let me = c.args.who.now.me in
     let add = c.args.add in
-    let seats = c.args.setup.now.seats in
+    let seats = c.args.context.now.setup.now.seats in
     let first = c.take_next.new.state in
     let t = c.in-Ok.ensures.taken in
-    let all = ap (λ s. s.seats) c.requires.setup in
-    let limit = ap (λ s. s.limit) c.requires.setup in
-    let room = c.args.setup.now.limit - first.length - 1 in
+    let all = ap (λ s. s.seats) c.requires.seat.setup in
+    let limit = ap (λ s. s.limit) c.requires.seat.setup in
+    let room = c.args.context.now.setup.now.limit - first.length - 1 in
     let s0 = can_serve me seats c.args.state.now add room first.served first.lagging.others.items
     c.in-Ok.next.cache all c.requires.state
-    (omega (arith, t.0.length, c.requires.make.room, limit)) t.1.1 t.0.served c.in-Ok.ensures.stands
+    (omega (arith, t.0.length, c.requires.make.room, limit)) t.1.1 t.0.served c.in-Ok.ensures.made.stands
     in
     let me1 = c.serve_all-served.new.who.me in
     let items = c.serve_all-served.new.others.items in
@@ -75,37 +75,37 @@ pub install_handles-requires-clause-of : goal.install_handles-requires-clause-of
 install_handles-requires-clause-of c =
     let me = c.args.who.now.me in
     let add = c.args.add in
-    let seats = c.args.setup.now.seats in
+    let seats = c.args.context.now.setup.now.seats in
     let first = c.take_next.new.state in
     let t = c.in-Ok.ensures.taken in
-    let all = ap (λ s. s.seats) c.requires.setup in
-    let limit = ap (λ s. s.limit) c.requires.setup in
-    let room = c.args.setup.now.limit - first.length - 1 in
+    let all = ap (λ s. s.seats) c.requires.seat.setup in
+    let limit = ap (λ s. s.limit) c.requires.seat.setup in
+    let room = c.args.context.now.setup.now.limit - first.length - 1 in
     let s0 = can_serve me seats c.args.state.now add room first.served first.lagging.others.items
     c.in-Ok.next.cache all c.requires.state
-    (omega (arith, t.0.length, c.requires.make.room, limit)) t.1.1 t.0.served c.in-Ok.ensures.stands
+    (omega (arith, t.0.length, c.requires.make.room, limit)) t.1.1 t.0.served c.in-Ok.ensures.made.stands
     in
     let me1 = c.serve_all-served.new.who.me in
     let items = c.serve_all-served.new.others.items in
     let told = c.serve_all-served.result in
     let next = c.serve_all-served.new.next in
     let s = c.serve_all-served.ensures.serving me.0 (own_added me.0 add) s0 in
-    still_of c.args.who.now c.serve_all-served.new.who c.args.shared.now.table_id
-    c.requires.of c.serve_all-served.ensures.table (ap (λ v. v.setup) s.1.answers.is)
+    still_of c.args.who.now c.serve_all-served.new.who c.args.context.now.shared.now.table_id
+    c.requires.seat.of c.serve_all-served.ensures.table (ap (λ v. v.setup) s.1.answers.is)
 
 pub install_handles-requires-clause-cleared : goal.install_handles-requires-clause-cleared
 install_handles-requires-clause-cleared c =
     let me = c.args.who.now.me in
     let add = c.args.add in
-    let seats = c.args.setup.now.seats in
+    let seats = c.args.context.now.setup.now.seats in
     let first = c.take_next.new.state in
     let t = c.in-Ok.ensures.taken in
-    let all = ap (λ s. s.seats) c.requires.setup in
-    let limit = ap (λ s. s.limit) c.requires.setup in
-    let room = c.args.setup.now.limit - first.length - 1 in
+    let all = ap (λ s. s.seats) c.requires.seat.setup in
+    let limit = ap (λ s. s.limit) c.requires.seat.setup in
+    let room = c.args.context.now.setup.now.limit - first.length - 1 in
     let s0 = can_serve me seats c.args.state.now add room first.served first.lagging.others.items
     c.in-Ok.next.cache all c.requires.state
-    (omega (arith, t.0.length, c.requires.make.room, limit)) t.1.1 t.0.served c.in-Ok.ensures.stands
+    (omega (arith, t.0.length, c.requires.make.room, limit)) t.1.1 t.0.served c.in-Ok.ensures.made.stands
     in
     let me1 = c.serve_all-served.new.who.me in
     let items = c.serve_all-served.new.others.items in
@@ -118,15 +118,15 @@ pub install_handles-requires-clause-counts : goal.install_handles-requires-claus
 install_handles-requires-clause-counts c =
     let me = c.args.who.now.me in
     let add = c.args.add in
-    let seats = c.args.setup.now.seats in
+    let seats = c.args.context.now.setup.now.seats in
     let first = c.take_next.new.state in
     let t = c.in-Ok.ensures.taken in
-    let all = ap (λ s. s.seats) c.requires.setup in
-    let limit = ap (λ s. s.limit) c.requires.setup in
-    let room = c.args.setup.now.limit - first.length - 1 in
+    let all = ap (λ s. s.seats) c.requires.seat.setup in
+    let limit = ap (λ s. s.limit) c.requires.seat.setup in
+    let room = c.args.context.now.setup.now.limit - first.length - 1 in
     let s0 = can_serve me seats c.args.state.now add room first.served first.lagging.others.items
     c.in-Ok.next.cache all c.requires.state
-    (omega (arith, t.0.length, c.requires.make.room, limit)) t.1.1 t.0.served c.in-Ok.ensures.stands
+    (omega (arith, t.0.length, c.requires.make.room, limit)) t.1.1 t.0.served c.in-Ok.ensures.made.stands
     in
     let me1 = c.serve_all-served.new.who.me in
     let items = c.serve_all-served.new.others.items in
@@ -143,39 +143,39 @@ pub send_all_back-state-requires-clause-of : goal.send_all_back-state-requires-c
 send_all_back-state-requires-clause-of c =
     let me = c.args.who.now.me in
     let add = c.args.add in
-    let seats = c.args.setup.now.seats in
+    let seats = c.args.context.now.setup.now.seats in
     let first = c.take_next.new.state in
     let t = c.in-Ok.ensures.taken in
-    let all = ap (λ s. s.seats) c.requires.setup in
-    let limit = ap (λ s. s.limit) c.requires.setup in
-    let room = c.args.setup.now.limit - first.length - 1 in
+    let all = ap (λ s. s.seats) c.requires.seat.setup in
+    let limit = ap (λ s. s.limit) c.requires.seat.setup in
+    let room = c.args.context.now.setup.now.limit - first.length - 1 in
     let s0 = can_serve me seats c.args.state.now add room first.served first.lagging.others.items
     c.in-Ok.next.cache all c.requires.state
-    (omega (arith, t.0.length, c.requires.make.room, limit)) t.1.1 t.0.served c.in-Ok.ensures.stands
+    (omega (arith, t.0.length, c.requires.make.room, limit)) t.1.1 t.0.served c.in-Ok.ensures.made.stands
     in
     let me1 = c.serve_all-served.new.who.me in
     let items = c.serve_all-served.new.others.items in
     let told = c.serve_all-served.result in
     let next = c.serve_all-served.new.next in
     let s = c.serve_all-served.ensures.serving me.0 (own_added me.0 add) s0 in
-    still_of c.serve_all-served.new.who c.install_handles.new.who c.args.shared.now.table_id
-    (still_of c.args.who.now c.serve_all-served.new.who c.args.shared.now.table_id
-    c.requires.of c.serve_all-served.ensures.table (ap (λ v. v.setup) s.1.answers.is))
+    still_of c.serve_all-served.new.who c.install_handles.new.who c.args.context.now.shared.now.table_id
+    (still_of c.args.who.now c.serve_all-served.new.who c.args.context.now.shared.now.table_id
+    c.requires.seat.of c.serve_all-served.ensures.table (ap (λ v. v.setup) s.1.answers.is))
     c.install_handles.ensures.table (ap (λ m. m.0.setup) c.install_handles.ensures.cleared.is)
 
 pub send_all_back-state-requires-clause-made : goal.send_all_back-state-requires-clause-made
 send_all_back-state-requires-clause-made c =
     let me = c.args.who.now.me in
     let add = c.args.add in
-    let seats = c.args.setup.now.seats in
+    let seats = c.args.context.now.setup.now.seats in
     let first = c.take_next.new.state in
     let t = c.in-Ok.ensures.taken in
-    let all = ap (λ s. s.seats) c.requires.setup in
-    let limit = ap (λ s. s.limit) c.requires.setup in
-    let room = c.args.setup.now.limit - first.length - 1 in
+    let all = ap (λ s. s.seats) c.requires.seat.setup in
+    let limit = ap (λ s. s.limit) c.requires.seat.setup in
+    let room = c.args.context.now.setup.now.limit - first.length - 1 in
     let s0 = can_serve me seats c.args.state.now add room first.served first.lagging.others.items
     c.in-Ok.next.cache all c.requires.state
-    (omega (arith, t.0.length, c.requires.make.room, limit)) t.1.1 t.0.served c.in-Ok.ensures.stands
+    (omega (arith, t.0.length, c.requires.make.room, limit)) t.1.1 t.0.served c.in-Ok.ensures.made.stands
     in
     let me1 = c.serve_all-served.new.who.me in
     let items = c.serve_all-served.new.others.items in
@@ -195,15 +195,15 @@ pub returns-then-not-install_handles-clause-left :
 returns-then-not-install_handles-clause-left c =
     let me = c.args.who.now.me in
     let add = c.args.add in
-    let seats = c.args.setup.now.seats in
+    let seats = c.args.context.now.setup.now.seats in
     let first = c.take_next.new.state in
     let t = c.in-Ok.ensures.taken in
-    let all = ap (λ s. s.seats) c.requires.setup in
-    let limit = ap (λ s. s.limit) c.requires.setup in
-    let room = c.args.setup.now.limit - first.length - 1 in
+    let all = ap (λ s. s.seats) c.requires.seat.setup in
+    let limit = ap (λ s. s.limit) c.requires.seat.setup in
+    let room = c.args.context.now.setup.now.limit - first.length - 1 in
     let s0 = can_serve me seats c.args.state.now add room first.served first.lagging.others.items
     c.in-Ok.next.cache all c.requires.state
-    (omega (arith, t.0.length, c.requires.make.room, limit)) t.1.1 t.0.served c.in-Ok.ensures.stands
+    (omega (arith, t.0.length, c.requires.make.room, limit)) t.1.1 t.0.served c.in-Ok.ensures.made.stands
     in
     let me1 = c.serve_all-served.new.who.me in
     let items = c.serve_all-served.new.others.items in
@@ -221,15 +221,15 @@ pub swap-requires : goal.swap-requires
 swap-requires c =
     let me = c.args.who.now.me in
     let add = c.args.add in
-    let seats = c.args.setup.now.seats in
+    let seats = c.args.context.now.setup.now.seats in
     let first = c.take_next.new.state in
     let t = c.in-Ok.ensures.taken in
-    let all = ap (λ s. s.seats) c.requires.setup in
-    let limit = ap (λ s. s.limit) c.requires.setup in
-    let room = c.args.setup.now.limit - first.length - 1 in
+    let all = ap (λ s. s.seats) c.requires.seat.setup in
+    let limit = ap (λ s. s.limit) c.requires.seat.setup in
+    let room = c.args.context.now.setup.now.limit - first.length - 1 in
     let s0 = can_serve me seats c.args.state.now add room first.served first.lagging.others.items
     c.in-Ok.next.cache all c.requires.state
-    (omega (arith, t.0.length, c.requires.make.room, limit)) t.1.1 t.0.served c.in-Ok.ensures.stands
+    (omega (arith, t.0.length, c.requires.make.room, limit)) t.1.1 t.0.served c.in-Ok.ensures.made.stands
     in
     let me1 = c.serve_all-served.new.who.me in
     let items = c.serve_all-served.new.others.items in
@@ -253,15 +253,15 @@ pub returns-clause-made : goal.returns-clause-made
 returns-clause-made c =
     let me = c.args.who.now.me in
     let add = c.args.add in
-    let seats = c.args.setup.now.seats in
+    let seats = c.args.context.now.setup.now.seats in
     let first = c.take_next.new.state in
     let t = c.in-Ok.ensures.taken in
-    let all = ap (λ s. s.seats) c.requires.setup in
-    let limit = ap (λ s. s.limit) c.requires.setup in
-    let room = c.args.setup.now.limit - first.length - 1 in
+    let all = ap (λ s. s.seats) c.requires.seat.setup in
+    let limit = ap (λ s. s.limit) c.requires.seat.setup in
+    let room = c.args.context.now.setup.now.limit - first.length - 1 in
     let s0 = can_serve me seats c.args.state.now add room first.served first.lagging.others.items
     c.in-Ok.next.cache all c.requires.state
-    (omega (arith, t.0.length, c.requires.make.room, limit)) t.1.1 t.0.served c.in-Ok.ensures.stands
+    (omega (arith, t.0.length, c.requires.make.room, limit)) t.1.1 t.0.served c.in-Ok.ensures.made.stands
     in
     let me1 = c.serve_all-served.new.who.me in
     let items = c.serve_all-served.new.others.items in
@@ -282,4 +282,4 @@ returns-clause-made c =
     all c.requires.state c.requires.make s made
     (c.install_handles.ensures.installed c.if-not-install_handles.false)
     (ap (λ n. n + 1 + c.len-made.result) t.0.length) t.0.active t.0.length t.0.flips refl refl
-    c.swap.ensures c.in-Ok.ensures.added
+    c.swap.ensures c.in-Ok.ensures.made.tells

@@ -3,6 +3,7 @@
 use Rattle.std.proofs.Common.{sym, ap, subst, arith, IfOk, None}
 use Rattle.tsc_left_right.specs.Rule.{CanBe}
 use Rattle.tsc_combining.specs.Writing.{HoldsState, MayMake}
+use Rattle.tsc_combining.proofs.Seating.{seat_cleared}
 use Rattle.tsc_combining.proofs.Outcomes.{leaves_at, new_writes, holds_state, may_make}
 use Rattle.tsc_combining.proofs.writing.prepare_copy.Goals as goal
 
@@ -10,14 +11,14 @@ pub returns-then-deref-setup-clause-left : goal.returns-then-deref-setup-clause-
 returns-then-deref-setup-clause-left g c =
     let me = c.args.who.now.me in
     let state = c.args.state.value in record {
-      leave = leaves_at me me 0 None state c.requires.writer
-          (new_writes me state c.requires.writer);
+      leave = leaves_at me me 0 None state c.requires.writer.1
+          (new_writes me state c.requires.writer.1);
       why = omega (
         arith,
         c.if-deref-setup.true,
         ap (λ s. s.length) c.deref.ensures,
-        c.requires.writer.is_after.length,
-        ap (λ t. t.limit) c.requires.setup,
+        c.requires.writer.1.is_after.length,
+        ap (λ t. t.limit) c.requires.writer.0.setup,
       );
     }
 
@@ -25,14 +26,14 @@ pub returns-in_default-clause-left : goal.returns-in_default-clause-left
 returns-in_default-clause-left g c =
     let me = c.args.who.now.me in
     let state = c.args.state.value in record {
-      leave = leaves_at me me 0 None state c.requires.writer
-          (new_writes me state c.requires.writer);
+      leave = leaves_at me me 0 None state c.requires.writer.1
+          (new_writes me state c.requires.writer.1);
       why = omega (
         arith,
         c.if-deref-setup.false,
         ap (λ s. s.length) c.deref.ensures,
-        c.requires.writer.is_after.length,
-        ap (λ t. t.limit) c.requires.setup,
+        c.requires.writer.1.is_after.length,
+        ap (λ t. t.limit) c.requires.writer.0.setup,
       );
     }
 
@@ -42,35 +43,41 @@ returns-then-not-wait_for_readers-clause-left g c =
     let me = c.args.who.now.me in
     let state = c.args.state.value in
     let p = c.wait_for_readers.ensures.pinned c.if-not-wait_for_readers.true in record {
-      leave = leaves_at me c.wait_for_readers.new.who.me p.0.0 p.0.1 state c.requires.writer p.0.2;
+      leave = leaves_at me c.wait_for_readers.new.who.me p.0.0 p.0.1 state c.requires.writer.1 p.0.2;
       why = (
         omega (
           arith,
           c.if-deref-setup.false,
           ap (λ s. s.length) c.deref.ensures,
-          c.requires.writer.is_after.length,
-          ap (λ t. t.limit) c.requires.setup,
+          c.requires.writer.1.is_after.length,
+          ap (λ t. t.limit) c.requires.writer.0.setup,
         ),
         p.1,
       );
     }
 
+pub prepare-requires-clause-seat : goal.prepare-requires-clause-seat
+prepare-requires-clause-seat g c =
+    seat_cleared c.args.context.now c.args.who.now c.wait_for_readers.new.who
+    c.args.context.now.setup.now.seats c.requires.writer.0 c.wait_for_readers.ensures.table
+    (c.wait_for_readers.ensures.cleared c.if-not-wait_for_readers.false)
+
 pub prepare-requires-clause-state : goal.prepare-requires-clause-state
 prepare-requires-clause-state g c =
     let me = c.args.who.now.me in
-    subst (HoldsState c.wait_for_readers.new.who.me c.args.setup.now.seats)
+    subst (HoldsState c.wait_for_readers.new.who.me c.args.context.now.setup.now.seats)
     (sym c.deref_mut.ensures.value)
-    (holds_state me c.wait_for_readers.new.who.me c.args.setup.now.seats c.args.state.value
-    c.requires.writer (c.wait_for_readers.ensures.cleared c.if-not-wait_for_readers.false))
+    (holds_state me c.wait_for_readers.new.who.me c.args.context.now.setup.now.seats c.args.state.value
+    c.requires.writer.1 (c.wait_for_readers.ensures.cleared c.if-not-wait_for_readers.false))
 
 pub prepare-requires-clause-make : goal.prepare-requires-clause-make
 prepare-requires-clause-make g c =
     let me = c.args.who.now.me in
     let state = c.args.state.value in
-    let setup = c.args.setup.now in
+    let setup = c.args.context.now.setup.now in
     subst (λ s. MayMake c.wait_for_readers.new.who.me s c.in-Ok.add)
     (sym c.deref_mut.ensures.value)
     (may_make me c.wait_for_readers.new.who.me setup state c.in-Ok.add setup.seats
-    c.requires.writer (c.wait_for_readers.ensures.cleared c.if-not-wait_for_readers.false)
-    c.requires.setup (subst (λ r. IfOk r (CanBe setup)) c.in-Ok.is c.requires.make)
+    c.requires.writer.1 (c.wait_for_readers.ensures.cleared c.if-not-wait_for_readers.false)
+    c.requires.writer.0.setup (subst (λ r. IfOk r (CanBe setup)) c.in-Ok.is c.requires.make)
     (omega (arith, c.if-deref-setup.false, ap (λ s. s.length) c.deref.ensures)))

@@ -8,12 +8,12 @@ use Rattle.tsc_combining.proofs.waiting.BlockingWaitPolicy.ask.Goals as goal
 pub post-toggle-requires-clause-may : goal.post-toggle-requires-clause-may
 post-toggle-requires-clause-may g c =
     may_post c.args.who.now.me c.acquire_first.new.who.me c.fetch-toggle.new.who.me
-    c.fetch-toggle.result c.args.number c.fetch-toggle.ensures.fetched.0 c.args.add
+    c.fetch-toggle.result c.args.context.now.number c.fetch-toggle.ensures.fetched.0 c.args.add
     c.in-Ok.add.value
-    c.requires.rest
+    c.requires.seat.rest
     (left_as c.acquire_first.result (c.acquire_first.new.who.me ≡ c.args.who.now.me)
     c.in_default.not-Some c.acquire_first.ensures.busy)
-    c.requires.number.0.0 c.fetch-toggle.ensures.fetched.1 c.fetch-toggle.ensures.small
+    c.requires.seat.seat.number.0 c.fetch-toggle.ensures.fetched.1 c.fetch-toggle.ensures.small
     c.requires.can c.in-Ok.ensures.ok
 
 pub returns-in-Made-clause-turn : goal.returns-in-Made-clause-turn
@@ -21,8 +21,8 @@ returns-in-Made-clause-turn g c =
     turn_made c.args.who.now.me c.post-toggle.new.who.me c.wait_for_answer.new.who.me
     c.post-toggle.result c.args.add c.in-Made.reply
     (posted_since c.args.who.now.me c.acquire_first.new.who.me c.fetch-toggle.new.who.me
-    c.post-toggle.new.who.me c.fetch-toggle.result c.post-toggle.result c.args.number
-    c.fetch-toggle.ensures.fetched.0 c.args.add c.in-Ok.add.value c.requires.rest
+    c.post-toggle.new.who.me c.fetch-toggle.result c.post-toggle.result c.args.context.now.number
+    c.fetch-toggle.ensures.fetched.0 c.args.add c.in-Ok.add.value c.requires.seat.rest
     (left_as c.acquire_first.result (c.acquire_first.new.who.me ≡ c.args.who.now.me)
     c.in_default.not-Some c.acquire_first.ensures.busy) c.fetch-toggle.ensures.fetched.1
     c.post-toggle.ensures.posted c.in-Ok.ensures.ok) c.in-Made.ensures.asked
@@ -30,10 +30,10 @@ returns-in-Made-clause-turn g c =
 pub returns-in-SentBack-clause-turn : goal.returns-in-SentBack-clause-turn
 returns-in-SentBack-clause-turn g c =
     let back = turn_back c.args.who.now.me c.post-toggle.new.who.me c.wait_for_answer.new.who.me
-    c.post-toggle.result c.args.add c.in-SentBack.add c.requires.rest
+    c.post-toggle.result c.args.add c.in-SentBack.add c.requires.seat.rest
     (posted_since c.args.who.now.me c.acquire_first.new.who.me c.fetch-toggle.new.who.me
-    c.post-toggle.new.who.me c.fetch-toggle.result c.post-toggle.result c.args.number
-    c.fetch-toggle.ensures.fetched.0 c.args.add c.in-Ok.add.value c.requires.rest
+    c.post-toggle.new.who.me c.fetch-toggle.result c.post-toggle.result c.args.context.now.number
+    c.fetch-toggle.ensures.fetched.0 c.args.add c.in-Ok.add.value c.requires.seat.rest
     (left_as c.acquire_first.result (c.acquire_first.new.who.me ≡ c.args.who.now.me)
     c.in_default.not-Some c.acquire_first.ensures.busy) c.fetch-toggle.ensures.fetched.1
     c.post-toggle.ensures.posted c.in-Ok.ensures.ok) c.in-SentBack.ensures.asked in
@@ -45,10 +45,10 @@ returns-in-SentBack-clause-turn g c =
 pub returns-in-Acquired-clause-turn : goal.returns-in-Acquired-clause-turn
 returns-in-Acquired-clause-turn g c =
     let t = turn_acquired c.args.who.now.me c.post-toggle.new.who.me c.wait_for_answer.new.who.me
-    c.post-toggle.result c.args.add c.in-Acquired.state c.in-Acquired.add c.requires.rest
+    c.post-toggle.result c.args.add c.in-Acquired.state c.in-Acquired.add c.requires.seat.rest
     (posted_since c.args.who.now.me c.acquire_first.new.who.me c.fetch-toggle.new.who.me
-    c.post-toggle.new.who.me c.fetch-toggle.result c.post-toggle.result c.args.number
-    c.fetch-toggle.ensures.fetched.0 c.args.add c.in-Ok.add.value c.requires.rest
+    c.post-toggle.new.who.me c.fetch-toggle.result c.post-toggle.result c.args.context.now.number
+    c.fetch-toggle.ensures.fetched.0 c.args.add c.in-Ok.add.value c.requires.seat.rest
     (left_as c.acquire_first.result (c.acquire_first.new.who.me ≡ c.args.who.now.me)
     c.in_default.not-Some c.acquire_first.ensures.busy) c.fetch-toggle.ensures.fetched.1
     c.post-toggle.ensures.posted c.in-Ok.ensures.ok) c.in-Acquired.ensures.asked in

@@ -10,30 +10,31 @@ use Rattle.tsc_shared.proofs.shared.SharedCache.add_mark.Goals as goal
 
 pub add_copy-requires-clause-made : goal.add_copy-requires-clause-made
 add_copy-requires-clause-made g c =
-    let fit : fits c.self.inside.setup.config c.args.span.now ≡ true =
-    subst (λ (cache : SharedView). fits cache.config c.args.span.now ≡ true)
+    let fit : fits c.self.inside.setup.config c.args.mark.span.now ≡ true =
+    subst (λ (cache : SharedView). fits cache.config c.args.mark.span.now ≡ true)
     (sym c.self.view_is) (sym c.fits.ensures ∙ c.if-not-fits.false) in
-    copy_added c.self.inside.setup.config _ (one_mark c.args.span.now c.args.value) c.args.now _
+    copy_added c.self.inside.setup.config _ (one_mark c.args.mark.span.now c.args.mark.value)
+    c.args.mark.moment _
     (ap (λ (cache : SharedView). cache.config) (sym c.self.view_is))
     c.copy_of_one-copied.ensures (c.can_be_added.ensures fit)
 
 pub returns-clause-answers : goal.returns-clause-answers
 returns-clause-answers g c = record {
-  accepted = accepts_where_copied _ _ _ _ (one_mark c.args.span.now c.args.value) c.args.now
-      c.copy_of_one-copied.ensures c.add_copy.ensures.accepted;
+  accepted = accepts_where_copied _ _ _ _ (one_mark c.args.mark.span.now c.args.mark.value)
+      c.args.mark.moment c.copy_of_one-copied.ensures c.add_copy.ensures.accepted;
   seat = c.add_copy.ensures.seat;
   refused = c.add_copy.ensures.refused;
   why = c.add_copy.ensures.why;
   too_large = not_where_it_fits _ _ _
-      (ap (λ (cache : SharedView). fits cache.config c.args.span.now) c.requires.cache)
+      (ap (λ (cache : SharedView). fits cache.config c.args.mark.span.now) c.requires.cache)
       (sym c.fits.ensures ∙ c.if-not-fits.false) c.add_copy.ensures.fits;
   no_tries = λ none _. c.add_copy.ensures.no_tries (none_of_them _ none);
 }
 
 pub returns-then-not-fits-clause-answers : goal.returns-then-not-fits-clause-answers
 returns-then-not-fits-clause-answers g c =
-    let large : fits c.args.seat.now.cache.config c.args.span.now ≡ false =
-    subst (λ (cache : SharedView). fits cache.config c.args.span.now ≡ false)
+    let large : fits c.args.seat.now.cache.config c.args.mark.span.now ≡ false =
+    subst (λ (cache : SharedView). fits cache.config c.args.mark.span.now ≡ false)
     (sym c.requires.cache) (sym c.fits.ensures ∙ c.if-not-fits.true) in
     record {
       accepted = tt;
