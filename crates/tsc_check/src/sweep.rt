@@ -7,7 +7,7 @@ ghost use Rattle.tsc_trace_format.specs.Calls.{call_fits, is_same_kind};
 ghost use Rattle.tsc_trace.specs.Log.{said_after, after_call};
 ghost use Rattle.tsc_trace.specs.Sayings.{kind_of_said, told_of};
 ghost use Rattle.tsc_check.specs.Verdict.{adds_in, is_add, is_of_kind, is_same_answer, is_same_value, is_wrong_answer, least};
-ghost use Rattle.tsc_check.specs.CheckParts.{AreInOrder, HasPlaced, Lowers, LowersAt, adds_there, call_in, looks_up_there, state_at};
+ghost use Rattle.tsc_check.specs.CheckParts.{AreInOrder, HasAdded, HasPlaced, Lowers, LowersAt, adds_there, call_in, looks_up_there};
 
 use crate::order::Order;
 use std::alloc::Global;
@@ -94,103 +94,101 @@ fn lower(i: usize, wrong: bool, least: usize) -> usize
     if wrong { i.min(least) } else { least }
 }
 
-/// Lowers a line number to that of a lookup whose answer is another than the cache gives.
-fn look_up(cache: &Cache, trace: &Trace, lines: &[Line], i: usize, least: usize) -> usize
-    requires index { i < length lines.now }
-    requires order { AreInOrder trace.now lines.now }
-    ensures { (front : ℕ) → looks_up_there lines.now front i ≡ true →
-        StandsForState cache.now trace.now.config (state_at trace.now lines.now front)
-        → LowersAt (is_wrong_answer trace.now lines.now) i least result }
-{
-    let line = lines[i];
-    match call_of(trace, &line) {
-        Some(call) => lower(i, is_other_value(cache, call, line.said), least),
-        None => least,
-    }
+/// The lines of a log in the order of the Adds: each is that of its call, and has its slot.
+#[derive(Drop)]
+struct OrderedLog<'a> {
+    trace: &'a Trace,
+    lines: &'a [Line],
+    order: &'a Order,
+    ghost in_order: { AreInOrder trace.now lines.now },
+    ghost placed: { HasPlaced order.now lines.now (length lines.now) },
 }
 
-/// Makes the Add of a line, and lowers a line number to that of this line where its answer is
-/// another.
-fn make_add(
-    cache: &mut Cache,
-    trace: &Trace,
-    lines: &[Line],
-    i: usize,
-    least: usize,
-) -> Result<usize, NoMemory>
-    requires index { i < length lines.now }
-    requires order { AreInOrder trace.now lines.now }
-    requires settings { cache.old.settings ≡ trace.now.config }
-    ensures lowers { IfOk result (λ new. (place : ℕ) → adds_there lines.now place i ≡ true →
-        StandsForState cache.old trace.now.config (state_at trace.now lines.now place)
-        → LowersAt (is_wrong_answer trace.now lines.now) i least new) }
-    ensures stands { OnOk result ((place : ℕ) → adds_there lines.now place i ≡ true →
-        StandsForState cache.old trace.now.config (state_at trace.now lines.now place)
-        → StandsForState cache.new trace.now.config (state_at trace.now lines.now (suc place))) }
-{
-    let line = lines[i];
-    match call_of(trace, &line) {
-        Some(call) => Ok(lower(i, is_other_add(cache, call, line.said)?, least)),
-        None => Ok(least),
-    }
-}
-
-/// Lowers a line number to the least of a lookup with this front whose answer is another than the
-/// cache gives.
-fn look_up_all<P: Progress>(
-    cache: &Cache,
-    trace: &Trace,
-    lines: &[Line],
-    order: &Order,
-    front: usize,
-    least: usize,
-    progress: &P,
-) -> usize
-    requires stands { StandsForState cache.now trace.now.config
-        (state_at trace.now lines.now front) }
-    requires order { AreInOrder trace.now lines.now }
-    requires placed { HasPlaced order.now lines.now (length lines.now) }
-    requires front { front ≤ adds_in lines.now }
-    ensures { Lowers (is_wrong_answer trace.now lines.now) (looks_up_there lines.now front) least
-        result }
-{
-    let mut lowest = least;
-    let mut next = order.lookups[front];
-    while let Some(i) = next {
-        lowest = look_up(cache, trace, lines, i, lowest);
-        progress.made();
-        next = order.earlier[i];
-    }
-    lowest
-}
-
-/// Answers all lines that tell of so many Adds before them, the Add last.
-fn pass<P: Progress>(
-    cache: &mut Cache,
-    trace: &Trace,
-    lines: &[Line],
-    order: &Order,
-    front: usize,
-    least: usize,
-    progress: &P,
-) -> Result<usize, NoMemory>
-    requires stands { StandsForState cache.old trace.now.config
-        (state_at trace.now lines.now front) }
-    requires order { AreInOrder trace.now lines.now }
-    requires placed { HasPlaced order.now lines.now (length lines.now) }
-    requires front { front ≤ adds_in lines.now }
-    ensures lowers { IfOk result (λ new. Lowers (is_wrong_answer trace.now lines.now)
-        (λ j. looks_up_there lines.now front j || adds_there lines.now front j) least new) }
-    ensures stands { OnOk result (StandsForState cache.new trace.now.config
-        (state_at trace.now lines.now (suc front))) }
-{
-    let least = look_up_all(cache, trace, lines, order, front, least, progress);
-    match order.adds[front] {
-        Some(i) => {
-            progress.made();
-            make_add(cache, trace, lines, i, least)
+impl<'a> OrderedLog<'a> {
+    /// Lowers a line number to that of a lookup whose answer is another than the cache gives.
+    fn look_up(&self, cache: &Cache, i: usize, least: usize) -> usize
+        requires index { i < length self.now.lines.now }
+        ensures { (front : ℕ) → looks_up_there self.now.lines.now front i ≡ true →
+            HasAdded cache.now self.now.trace.now self.now.lines.now front
+            → LowersAt (is_wrong_answer self.now.trace.now self.now.lines.now) i least result }
+    {
+        let line = self.lines[i];
+        match call_of(self.trace, &line) {
+            Some(call) => lower(i, is_other_value(cache, call, line.said), least),
+            None => least,
         }
-        None => Ok(least),
+    }
+
+    /// Makes the Add of a line, and lowers a line number to that of this line if its answer is
+    /// another.
+    fn make_add(&self, cache: &mut Cache, i: usize, least: usize) -> Result<usize, NoMemory>
+        requires index { i < length self.now.lines.now }
+        requires settings { cache.old.settings ≡ self.now.trace.now.config }
+        ensures lowers { IfOk result (λ new. (place : ℕ) →
+            adds_there self.now.lines.now place i ≡ true →
+            HasAdded cache.old self.now.trace.now self.now.lines.now place
+            → LowersAt (is_wrong_answer self.now.trace.now self.now.lines.now) i least new) }
+        ensures stands { OnOk result ((place : ℕ) →
+            adds_there self.now.lines.now place i ≡ true →
+            HasAdded cache.old self.now.trace.now self.now.lines.now place
+            → HasAdded cache.new self.now.trace.now self.now.lines.now (suc place)) }
+    {
+        let line = self.lines[i];
+        match call_of(self.trace, &line) {
+            Some(call) => Ok(lower(i, is_other_add(cache, call, line.said)?, least)),
+            None => Ok(least),
+        }
+    }
+
+    /// Lowers a line number to the least of a lookup with this front whose answer is another than
+    /// the cache gives.
+    fn look_up_all<P: Progress>(
+        &self,
+        cache: &Cache,
+        front: usize,
+        least: usize,
+        progress: &P,
+    ) -> usize
+        requires stands { HasAdded cache.now self.now.trace.now self.now.lines.now front }
+        requires front { front ≤ adds_in self.now.lines.now }
+        ensures { Lowers (is_wrong_answer self.now.trace.now self.now.lines.now)
+            (looks_up_there self.now.lines.now front) least result }
+    {
+        let mut lowest = least;
+        let mut next = self.order.lookups[front];
+        while let Some(i) = next {
+            lowest = self.look_up(cache, i, lowest);
+            progress.made();
+            next = self.order.earlier[i];
+        }
+        lowest
+    }
+
+    /// Answers all lines that have this many Adds before them, the Add last.
+    fn pass<P: Progress>(
+        &self,
+        cache: &mut Cache,
+        front: usize,
+        least: usize,
+        progress: &P,
+    ) -> Result<usize, NoMemory>
+        requires stands { HasAdded cache.old self.now.trace.now self.now.lines.now front }
+        requires front { front ≤ adds_in self.now.lines.now }
+        ensures lowers { IfOk result (λ new.
+            Lowers (is_wrong_answer self.now.trace.now self.now.lines.now)
+            (λ j. looks_up_there self.now.lines.now front j ||
+            adds_there self.now.lines.now front j) least new) }
+        ensures stands { OnOk result
+            (HasAdded cache.new self.now.trace.now self.now.lines.now (suc front)) }
+    {
+        let least = self.look_up_all(cache, front, least, progress);
+        match self.order.adds[front] {
+            Some(i) => {
+                progress.made();
+                self.make_add(cache, i, least)
+            }
+            None => Ok(least),
+        }
     }
 }
 
@@ -207,10 +205,15 @@ pub fn least_untrue<P: Progress>(
     ensures { IfOk result (λ wrong. wrong ≡ least (is_wrong_answer trace.now lines.now)
         (length lines.now)) }
 {
+    let log = OrderedLog {
+        trace,
+        lines,
+        order,
+    };
     let mut cache = Cache::new(alloc, trace.config)?;
     let mut lowest = lines.len();
     for front in 0..order.adds.len() {
-        lowest = pass(&mut cache, trace, lines, order, front, lowest, progress)?;
+        lowest = log.pass(&mut cache, front, lowest, progress)?;
     }
     if lowest < lines.len() {
         Ok(Some(lowest))

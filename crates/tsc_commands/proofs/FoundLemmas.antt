@@ -7,9 +7,9 @@ use Rattle.clap.specs.Words.{Row, Text, first_value, found_of, rows_of}
 use Rattle.clap.specs.declared.ArgMatches.{ArgMatches}
 use Rattle.clap.proofs.WalkLemmas.{first_value-rows}
 use Rattle.tsc_commands.specs.Words.{Answers, Explains, Request, asks, check}
-use Rattle.tsc_commands.specs.declared.words.Asked.{Asked}
-use Rattle.tsc_commands.specs.declared.words.WordsFault.{WordsFault}
-use Rattle.tsc_commands.specs.declared.words.WordsFault.TheVariants.{Wrong, NoMemory}
+use Rattle.tsc_commands.specs.declared.cli.Asked.{Asked}
+use Rattle.tsc_commands.specs.declared.cli.WordsFault.{WordsFault}
+use Rattle.tsc_commands.specs.declared.cli.WordsFault.TheVariants.{Wrong, NoMemory}
 use Rattle.tsc_commands.specs.Commands.{both, check_found, request_for}
 
 -- what a subcommand of one file asks, by the value of its argument

@@ -6,14 +6,14 @@ use Rattle.tsc_trace.specs.declared.replays.ReplayFault.TheVariants.{Read}
 use Rattle.tsc_stream.proofs.Reliable.{fresh_is_reliable, reliable_reads_do_not_fail}
 use Rattle.tsc_stream.specs.Stream.{KnownReader, KnownWriter, no_trouble}
 use Rattle.tsc_commands.specs.Check.{EndsCheck}
-use Rattle.tsc_commands.specs.Place.{KnownFile, Opening, fresh_file}
+use Rattle.tsc_commands.specs.FileSystem.{KnownFile, Opening, fresh_file}
 use Rattle.tsc_commands.specs.Replay.{EndsReplay}
 use Rattle.tsc_commands.specs.Run.{EndsRun}
 use Rattle.tsc_commands.specs.Program.{AskFor, DoesAsked, Ends, EndsCheckOf, GoesOver, GoesOverFile, GoesOverOpening, OnlyTells, RunsProgram}
 use Rattle.tsc_commands.specs.Words.{Request, Word, check, refusal_text, replay, request_in, run}
-use Rattle.tsc_commands.specs.declared.place.OpenFault.TheVariants.{Unopened}
-use Rattle.tsc_commands.specs.declared.words.WordsFault.{WordsFault}
-use Rattle.tsc_commands.specs.declared.words.WordsFault.TheVariants.{Wrong, NoMemory}
+use Rattle.tsc_commands.specs.declared.file_system.OpenFault.TheVariants.{Unopened}
+use Rattle.tsc_commands.specs.declared.cli.WordsFault.{WordsFault}
+use Rattle.tsc_commands.specs.declared.cli.WordsFault.TheVariants.{Wrong, NoMemory}
 use Rattle.tsc_commands.proofs.WordExamples.{a_named_file_is_replayed, a_named_file_is_run, a_named_log_is_checked, two_files_ask_for_nothing}
 
 -- a file of these bytes in memory, of which no read meets any trouble

@@ -1,5 +1,5 @@
 pub mod Commands
-pub mod Place
+pub mod FileSystem
 pub mod Program
 pub mod Replay
 pub mod Words

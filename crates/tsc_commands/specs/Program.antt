@@ -8,13 +8,13 @@ use Rattle.tsc_stream.specs.Stream.{KnownReader, KnownWriter}
 use Rattle.tsc_trace.specs.declared.replays.ReplayFault.{ReplayFault}
 use Rattle.tsc_trace.specs.declared.replays.ReplayFault.TheVariants.{Read, NoMemory}
 use Rattle.tsc_commands.specs.Check.{EndsCheck}
-use Rattle.tsc_commands.specs.Place.{KnownFile, Opening, fresh_file}
+use Rattle.tsc_commands.specs.FileSystem.{KnownFile, Opening, fresh_file}
 use Rattle.tsc_commands.specs.Replay.{EndsReplay, Tells, fault_line, status_of}
 use Rattle.tsc_commands.specs.Run.{EndsRun}
 use Rattle.tsc_commands.specs.Words.{Answers, Request, Word, check, refusal_status, refusal_text, replay, request_in, run}
-use Rattle.tsc_commands.specs.declared.place.OpenFault.{OpenFault}
-use Rattle.tsc_commands.specs.declared.place.OpenFault.TheVariants as open_fault
-use Rattle.tsc_commands.specs.declared.words.WordsFault.{WordsFault}
+use Rattle.tsc_commands.specs.declared.file_system.OpenFault.{OpenFault}
+use Rattle.tsc_commands.specs.declared.file_system.OpenFault.TheVariants as open_fault
+use Rattle.tsc_commands.specs.declared.cli.WordsFault.{WordsFault}
 
 -- the program's words, or why they are not to be had
 abbrev pub texts_of : Result (Vec (String Global) Global) WordsFault → Result (List Word) WordsFault
@@ -60,7 +60,7 @@ GoesOverOpening command (Err fault) status writer writer' errors errors' =
     writer' errors errors'
 
 -- A file was opened, or was not, and a command ended by that. What opening it may come to is for
--- the place.
+-- the file system.
 pub record GoesOver (command : Ends) (may_be : Opening → Type 0) (status : ℕ)
     (writer writer' errors errors' : KnownWriter) : Type 0 where
   pub opening : Opening

@@ -2,10 +2,10 @@
 use Rattle.std.specs.Prelude.{◌≡◌, ◌==◌, ◌&&◌, ℕ, Bool, false, List, [], ◌∷◌, drop, codes, slice_get}
 use Rattle.std.specs.Prelude.{Option, Some, None, IsNone, is_some, option_map, Result, Ok, Err, if◌then◌else◌, string_bytes}
 use Rattle.std.specs.Str.{bytes_eq, chars}
-use Rattle.tsc_commands.specs.declared.words.Asked.{Asked}
-use Rattle.tsc_commands.specs.declared.words.Asked.TheVariants.{Replay, Run, Check}
-use Rattle.tsc_commands.specs.declared.words.WordsFault.{WordsFault}
-use Rattle.tsc_commands.specs.declared.words.WordsFault.TheVariants.{Wrong, NoMemory}
+use Rattle.tsc_commands.specs.declared.cli.Asked.{Asked}
+use Rattle.tsc_commands.specs.declared.cli.Asked.TheVariants.{Replay, Run, Check}
+use Rattle.tsc_commands.specs.declared.cli.WordsFault.{WordsFault}
+use Rattle.tsc_commands.specs.declared.cli.WordsFault.TheVariants.{Wrong, NoMemory}
 
 -- a word, as its bytes
 abbrev pub Word : Type 0

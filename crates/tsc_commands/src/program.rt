@@ -1,4 +1,4 @@
-//! The program, over its words, a place of files, a writer and a stream for faults.
+//! The program, over its words, a file system, and the streams that it writes to.
 ghost use Rattle.std.specs.Prelude.{◌≡◌};
 ghost use Rattle.std.specs.Process.{exit_status};
 ghost use Rattle.tsc_commands.specs.Program.{AskFor, EndsCheckOf, GoesOver, RunsProgram, fault_of_open, texts_of};
@@ -7,11 +7,11 @@ ghost use Rattle.tsc_commands.specs.Run.{EndsRun};
 ghost use Rattle.tsc_commands.specs.Words.{asked_as};
 
 use crate::check::check_with_progress;
-use crate::place::{OpenFault, Place};
+use crate::cli::{Asked, WordsFault, request};
+use crate::file_system::{FileSystem, OpenFault};
 use crate::replay::{replay_with_progress, status_of, tell_fault};
 use crate::run::run_command;
-use crate::streams::{Errors, Output};
-use crate::words::{Asked, WordsFault, request};
+use crate::streams::Streams;
 use std::alloc::Global;
 use std::process::ExitCode;
 use std::sync::Wait;
@@ -24,55 +24,52 @@ use tsc_trace::ReplayFault;
 /// whose number is the exit status.
 ///
 /// `words` are the words, its own name first, or why they are not to be had. Only a log or a
-/// verdict goes to the output. A fault is told by one line on `errors`, and telling it changes no
-/// status. `rt` starts the threads of a run, for whose end the call waits. `meter` is told of each
-/// call that a command makes.
-pub fn program<T: Threads + Wait + Sync, P: Place, W: Sink, E: Sink, M: Progress + Gate + Sync>(
+/// verdict goes to the output. A fault is told by one line on the other stream, and telling it
+/// changes no status. `rt` starts the threads of a run, for whose end the call waits. `meter` is
+/// told of each call that a command makes.
+pub fn program<
+    T: Threads + Wait + Sync,
+    P: FileSystem,
+    W: Sink,
+    E: Sink,
+    M: Progress + Gate + Sync,
+>(
     rt: &T,
     alloc: Global,
     words: Result<Vec<String>, WordsFault>,
-    place: &P,
-    output: &mut Output<W>,
-    errors: &mut Errors<E>,
+    files: &P,
+    streams: &mut Streams<W, E>,
     meter: &M,
 ) -> ExitCode
-    ensures { RunsProgram (texts_of words) (P.opens place.now) (exit_status result)
-        (W.known output.old.writer) (W.known output.new.writer) (E.known errors.old.writer)
-        (E.known errors.new.writer) }
+    ensures { RunsProgram (texts_of words) (P.opens files.now) (exit_status result)
+        (W.known streams.old.output.writer) (W.known streams.new.output.writer)
+        (E.known streams.old.errors.writer) (E.known streams.new.errors.writer) }
 {
-    let status = do_asked(
-        rt,
-        alloc,
-        words,
-        place,
-        &mut output.writer,
-        &mut errors.writer,
-        meter,
-    );
+    let status = do_asked(rt, alloc, words, files, streams, meter);
     ExitCode::from(status)
 }
 
 /// Does what the words ask for, and gives the exit status.
-fn do_asked<T: Threads + Wait + Sync, P: Place, W: Sink, E: Sink, M: Progress + Gate + Sync>(
+fn do_asked<T: Threads + Wait + Sync, P: FileSystem, W: Sink, E: Sink, M: Progress + Gate + Sync>(
     rt: &T,
     alloc: Global,
     words: Result<Vec<String>, WordsFault>,
-    place: &P,
-    writer: &mut W,
-    errors: &mut E,
+    files: &P,
+    streams: &mut Streams<W, E>,
     meter: &M,
 ) -> u8
-    ensures { RunsProgram (texts_of words) (P.opens place.now) result
-        (W.known writer.old) (W.known writer.new) (E.known errors.old) (E.known errors.new) }
+    ensures { RunsProgram (texts_of words) (P.opens files.now) result
+        (W.known streams.old.output.writer) (W.known streams.new.output.writer)
+        (E.known streams.old.errors.writer) (E.known streams.new.errors.writer) }
 {
     match asked(alloc, words) {
-        Ok(Asked::Replay { file }) => replay_file(alloc, place, &file, writer, errors, meter),
-        Ok(Asked::Run { file }) => run_file(rt, alloc, place, &file, writer, errors, meter),
+        Ok(Asked::Replay { file }) => replay_file(alloc, files, &file, streams, meter),
+        Ok(Asked::Run { file }) => run_file(rt, alloc, files, &file, streams, meter),
         Ok(Asked::Check { trace, log }) => {
-            check_files(alloc, place, &trace, &log, writer, errors, meter)
+            check_files(alloc, files, &trace, &log, streams, meter)
         }
         Err(fault) => {
-            tell_line(errors, fault.line());
+            tell_line(&mut streams.errors.writer, fault.line());
             fault.status()
         }
     }
@@ -86,80 +83,100 @@ fn asked(alloc: Global, words: Result<Vec<String>, WordsFault>) -> Result<Asked,
 }
 
 /// Replays the trace in the file of a name.
-fn replay_file<P: Place, W: Sink, E: Sink, M: Progress>(
+fn replay_file<P: FileSystem, W: Sink, E: Sink, M: Progress>(
     alloc: Global,
-    place: &P,
+    files: &P,
     file: &str,
-    writer: &mut W,
-    errors: &mut E,
+    streams: &mut Streams<W, E>,
     meter: &M,
 ) -> u8
-    ensures { GoesOver EndsReplay (P.opens place.now file.now) result
-        (W.known writer.old) (W.known writer.new) (E.known errors.old) (E.known errors.new) }
+    ensures { GoesOver EndsReplay (P.opens files.now file.now) result
+        (W.known streams.old.output.writer) (W.known streams.new.output.writer)
+        (E.known streams.old.errors.writer) (E.known streams.new.errors.writer) }
 {
-    match place.open(file) {
-        Ok(mut reader) => replay_with_progress(alloc, &mut reader, writer, errors, meter),
-        Err(fault) => end_unopened(errors, fault),
+    match files.open(file) {
+        Ok(mut reader) => replay_with_progress(
+            alloc,
+            &mut reader,
+            &mut streams.output.writer,
+            &mut streams.errors.writer,
+            meter,
+        ),
+        Err(fault) => end_unopened(&mut streams.errors.writer, fault),
     }
 }
 
 /// Runs the trace in the file of a name on threads.
-fn run_file<T: Threads + Wait + Sync, P: Place, W: Sink, E: Sink, M: Gate + Sync>(
+fn run_file<T: Threads + Wait + Sync, P: FileSystem, W: Sink, E: Sink, M: Gate + Sync>(
     rt: &T,
     alloc: Global,
-    place: &P,
+    files: &P,
     file: &str,
-    writer: &mut W,
-    errors: &mut E,
+    streams: &mut Streams<W, E>,
     meter: &M,
 ) -> u8
-    ensures { GoesOver EndsRun (P.opens place.now file.now) result
-        (W.known writer.old) (W.known writer.new) (E.known errors.old) (E.known errors.new) }
+    ensures { GoesOver EndsRun (P.opens files.now file.now) result
+        (W.known streams.old.output.writer) (W.known streams.new.output.writer)
+        (E.known streams.old.errors.writer) (E.known streams.new.errors.writer) }
 {
-    match place.open(file) {
-        Ok(mut reader) => run_command(rt, alloc, &mut reader, writer, errors, meter),
-        Err(fault) => end_unopened(errors, fault),
+    match files.open(file) {
+        Ok(mut reader) => run_command(
+            rt,
+            alloc,
+            &mut reader,
+            &mut streams.output.writer,
+            &mut streams.errors.writer,
+            meter,
+        ),
+        Err(fault) => end_unopened(&mut streams.errors.writer, fault),
     }
 }
 
 /// Checks the log in the file of a name against the trace in that of another, which is opened
 /// first. Neither is read before both are opened.
-fn check_files<P: Place, W: Sink, E: Sink, M: Progress>(
+fn check_files<P: FileSystem, W: Sink, E: Sink, M: Progress>(
     alloc: Global,
-    place: &P,
+    files: &P,
     trace: &str,
     log: &str,
-    writer: &mut W,
-    errors: &mut E,
+    streams: &mut Streams<W, E>,
     meter: &M,
 ) -> u8
-    ensures { GoesOver (EndsCheckOf (P.opens place.now log.now))
-        (P.opens place.now trace.now) result
-        (W.known writer.old) (W.known writer.new) (E.known errors.old) (E.known errors.new) }
+    ensures { GoesOver (EndsCheckOf (P.opens files.now log.now))
+        (P.opens files.now trace.now) result
+        (W.known streams.old.output.writer) (W.known streams.new.output.writer)
+        (E.known streams.old.errors.writer) (E.known streams.new.errors.writer) }
 {
-    match place.open(trace) {
-        Ok(mut reader) => check_file(alloc, &mut reader, place, log, writer, errors, meter),
-        Err(fault) => end_unopened(errors, fault),
+    match files.open(trace) {
+        Ok(mut reader) => check_file(alloc, &mut reader, files, log, streams, meter),
+        Err(fault) => end_unopened(&mut streams.errors.writer, fault),
     }
 }
 
 /// Checks the log in the file of a name against the trace of a reader, which is called only once
 /// that file is opened.
-fn check_file<R: Source, P: Place, W: Sink, E: Sink, M: Progress>(
+fn check_file<R: Source, P: FileSystem, W: Sink, E: Sink, M: Progress>(
     alloc: Global,
     trace: &mut R,
-    place: &P,
+    files: &P,
     log: &str,
-    writer: &mut W,
-    errors: &mut E,
+    streams: &mut Streams<W, E>,
     meter: &M,
 ) -> u8
-    ensures { EndsCheckOf (P.opens place.now log.now) result (R.known trace.old) (R.known trace.new)
-        (W.known writer.old) (W.known writer.new) (E.known errors.old) (E.known errors.new) }
+    ensures { EndsCheckOf (P.opens files.now log.now) result (R.known trace.old) (R.known trace.new)
+        (W.known streams.old.output.writer) (W.known streams.new.output.writer)
+        (E.known streams.old.errors.writer) (E.known streams.new.errors.writer) }
 {
-    match place.open(log) {
-        Ok(mut reader) => check_with_progress(alloc, trace, &mut reader, writer, errors, meter),
-        Err(fault) => end_unopened(errors, fault),
+    match files.open(log) {
+        Ok(mut reader) => check_with_progress(
+            alloc,
+            trace,
+            &mut reader,
+            &mut streams.output.writer,
+            &mut streams.errors.writer,
+            meter,
+        ),
+        Err(fault) => end_unopened(&mut streams.errors.writer, fault),
     }
 }
 

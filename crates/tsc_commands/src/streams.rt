@@ -13,3 +13,10 @@ pub struct Output<W> {
 pub struct Errors<E> {
     pub writer: E,
 }
+
+/// Where the program writes.
+#[derive(Drop)]
+pub struct Streams<W, E> {
+    pub output: Output<W>,
+    pub errors: Errors<E>,
+}

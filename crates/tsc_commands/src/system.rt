@@ -4,11 +4,11 @@
 //! The contracts of `std` say nothing of these. Tests show that these are the words of the call,
 //! and that a file is read beyond its first bytes.
 ghost use Rattle.std.specs.Prelude.{◌≡◌, ◌↔◌};
-ghost use Rattle.tsc_commands.specs.Place.{says_nothing};
+ghost use Rattle.tsc_commands.specs.FileSystem.{says_nothing};
 
-use crate::place::{OpenFault, Place};
+use crate::cli::WordsFault;
+use crate::file_system::{FileSystem, OpenFault};
 use crate::streams::{Errors, Output};
-use crate::words::WordsFault;
 use std::env::Env;
 use std::io::{ErrorKind, Stderr, Stdout};
 use std::rt::Files;
@@ -59,7 +59,7 @@ impl<'a, R> SystemFiles<'a, R> {
     }
 }
 
-impl<R: Files> Place for SystemFiles<'_, R> {
+impl<R: Files> FileSystem for SystemFiles<'_, R> {
     type File = Limited<AnyStreamFault<R::File>>;
 
     ghost opens = { says_nothing };

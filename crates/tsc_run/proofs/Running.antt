@@ -9,7 +9,7 @@ use Rattle.tsc_shared.specs.Seats.{SharedView, SeatView, new_seat, new_seats}
 use Rattle.tsc_shared.specs.Answers.{GoesOn}
 use Rattle.tsc_trace_format.specs.declared.trace.Call.{Call}
 use Rattle.tsc_trace.specs.declared.log.Line.{Line}
-use Rattle.tsc_run.specs.Runs.{Says, Runs, RunsAll}
+use Rattle.tsc_run.specs.Runs.{AnswersCall, Runs, RunsAll}
 
 -- Whatever run is made from here makes the lines so far a run of the list.
 abbrev pub IsUnderWay : SeatView → List Call → List Line → SeatView → ℕ → Type 0
@@ -26,7 +26,7 @@ left_from calls index call within here =
 pub one_more : (start seat seat' : SeatView) (calls : List Call) (lines more : List Line)
     (line : Line) (index : ℕ) (call : Call)
     → index < length calls → call ≡ get_or calls index call → line.thread ≡ seat.number →
-    line.index ≡ index → GoesOn seat seat' → Says seat seat' call line.said
+    line.index ≡ index → GoesOn seat seat' → AnswersCall seat seat' call line.said
     → more ≡ lines ++ line ∷ [] → IsUnderWay start calls lines seat index →
     IsUnderWay start calls more seat' (index + 1)
 one_more start seat seat' calls lines more line index call within here thread number goes says added

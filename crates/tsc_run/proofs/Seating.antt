@@ -19,7 +19,7 @@ use Rattle.tsc_shared.specs.declared.answers.Closed.{Closed}
 use Rattle.tsc_run.specs.declared.fault.RunFault.{RunFault}
 use Rattle.tsc_run.specs.declared.fault.RunFault.TheVariants as fault
 use Rattle.tsc_run.specs.Ending.{CanEndRun}
-use Rattle.tsc_run.specs.Runs.{Says, IsRefusedAs, Runs, RunsAll, Told, StopsList, EndsList, IsFullEarly, StopsLists, EndsLists, Joins, counted}
+use Rattle.tsc_run.specs.Runs.{AnswersCall, IsRefusedAs, Runs, RunsAll, Told, StopsList, EndsList, IsFullEarly, StopsLists, EndsLists, Joins, counted}
 use Rattle.tsc_run.proofs.Running.{left_from, one_list_more, calls_in}
 use Rattle.tsc_run.proofs.Truth.{count_after}
 
@@ -39,7 +39,7 @@ adds_left calls index call within here = ap adds_of_list (left_from calls index 
 -- one call more
 pub one_less_left : (start seat seat' : SeatView) (calls : List Call) (index : ℕ) (call : Call)
     (answer : Said) → index < length calls → call ≡ get_or calls index call → GoesOn seat seat' →
-    Says seat seat' call answer
+    AnswersCall seat seat' call answer
     → IsLeft start calls seat index → IsLeft start calls seat' (index + 1)
 one_less_left start seat seat' calls index call answer within here goes says left =
     omega (

@@ -24,7 +24,7 @@ use Rattle.tsc_shared.specs.declared.answers.Receipt.{Receipt}
 use Rattle.tsc_shared.specs.declared.answers.Closed.{Closed}
 use Rattle.tsc_cache.proofs.Beginnings.{begins_itself, begins_on}
 use Rattle.tsc_left_right.proofs.Prefixes.{begins_length, own_append, own_of_one, own_of_other}
-use Rattle.tsc_run.specs.Runs.{Says, Runs, RunsAll}
+use Rattle.tsc_run.specs.Runs.{AnswersCall, Runs, RunsAll}
 
 -- ---- each line
 
@@ -77,7 +77,7 @@ record IsTold (old mid : SeatView) (call : Call) (answer : Said) : Type 0 where
   count : mid.count ≡ old.count + cond (adds call) 1 0
 
 is_told : (old mid : SeatView) (call : Call) (answer : Said) → GoesOn old mid →
-    Says old mid call answer → IsTold old mid call answer
+    AnswersCall old mid call answer → IsTold old mid call answer
 is_told old mid (Add span value now) (said.Add place added) goes says =
     let t = taken old mid (one_mark span value now)
     (record { place = place; added = added; front = says.0 }) goes says.1 in
@@ -124,7 +124,7 @@ is_told old mid call answer goes says = absurd says
 
 -- an Add that is accepted counts
 pub count_after : (old mid : SeatView) (call : Call) (answer : Said) → GoesOn old mid →
-    Says old mid call answer → mid.count ≡ old.count + cond (adds call) 1 0
+    AnswersCall old mid call answer → mid.count ≡ old.count + cond (adds call) 1 0
 count_after old mid call answer goes says = (is_told old mid call answer goes says).count
 
 -- ---- each list

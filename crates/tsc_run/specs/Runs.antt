@@ -1,11 +1,13 @@
 -- What the thread of a list is answered, call after call, and how the runs of lists end.
-use Rattle.std.specs.Prelude.{◌≡◌, ◌<◌, ◌≤◌, ℕ, suc, ◌+◌, true, List, [], ◌∷◌, ◌++◌, length, All, Vec, Result, Ok, Err, IfOk, IfErr}
+use Rattle.std.specs.Prelude.{◌≡◌, ◌<◌, ◌≤◌, ℕ, suc, ◌+◌, true, List, [], ◌∷◌, ◌++◌, length, map, All, Vec, Result, Ok, Err, IfOk, IfErr}
 use Rattle.std.specs.List.{Contains, sum_by}
 use Rattle.std.specs.declared.alloc.Global.{Global}
-use Rattle.tsc_shared.specs.Seats.{SharedView, SeatView, FrontView, new_seat}
+use Rattle.tsc_shared.specs.Seats.{SharedView, SeatView, FrontView, new_seat, new_seats}
 use Rattle.tsc_shared.specs.Answers.{GoesOn, Accepts, Looks, ReadsFloor}
 use Rattle.tsc_cache.specs.declared.added.Added.{Added}
 use Rattle.tsc_trace_format.specs.Calls.{Addition, adds, one_mark, several_marks}
+use Rattle.tsc_trace_format.specs.Limits.{most_calls}
+use Rattle.tsc_trace_format.specs.Traces.{AllFit, EachFits}
 use Rattle.tsc_trace_format.specs.declared.trace.Call.{Call}
 use Rattle.tsc_trace_format.specs.declared.trace.Call.TheVariants.{Add, Batch, Get, Low}
 use Rattle.tsc_trace.specs.declared.log.Line.{Line}
@@ -22,15 +24,15 @@ AcceptsAs old new a place added = (front : FrontView) ×
 
 -- What is said of a call is what the shared cache answered, where the seat was as the first before
 -- and is as the second then.
-abbrev pub Says : SeatView → SeatView → Call → Said → Type 0
-Says old new (Add span value now) (said.Add place added) =
+abbrev pub AnswersCall : SeatView → SeatView → Call → Said → Type 0
+AnswersCall old new (Add span value now) (said.Add place added) =
     AcceptsAs old new (one_mark span value now) place added
-Says old new (Batch marks now) (said.Batch place added) =
+AnswersCall old new (Batch marks now) (said.Batch place added) =
     AcceptsAs old new (several_marks marks now) place added
-Says old new (Get span) (said.Get front value) =
+AnswersCall old new (Get span) (said.Get front value) =
     Looks old new span (record { value = value; front = front })
-Says old new Low (said.Low front time) = ReadsFloor old new (record { time = time; front = front })
-Says old new call said = ⊥
+AnswersCall old new Low (said.Low front time) = ReadsFloor old new (record { time = time; front = front })
+AnswersCall old new call said = ⊥
 
 -- Why a call was not answered, where the seat was as the first before and is as the second then: it
 -- is an Add, and the seat has seen as many Adds as there may be; or it is said that memory was
@@ -42,13 +44,27 @@ IsRefusedAs fault.NoMemory call old new = (new.count ≡ old.count) ×
     (length new.seen < old.cache.limit)
 IsRefusedAs other call old new = ⊥
 
+-- A list can run at a seat of this cache: it is no longer than a list may be, and fits the cache.
+pub record CanRun (shared : SharedView) (seat : SeatView) (list : List Call) : Type 0 where
+  pub cache : seat.cache ≡ shared
+  pub calls : length list ≤ most_calls
+  pub fits : EachFits shared.config list
+
+-- Lists can run at these seats of a cache: the seats are new, one for each list, and all lists
+-- together are no longer than a list may be, and fit the cache.
+pub record CanRunAll (shared : SharedView) (at : List SeatView) (lists : List (Vec Call Global)) :
+    Type 0 where
+  pub seats : at ≡ new_seats shared 0 (length lists)
+  pub calls : sum_by length (map (λ calls. calls.items) lists) ≤ most_calls
+  pub fits : AllFit shared.config (map (λ calls. calls.items) lists)
+
 -- A list's run: its calls were made at one seat, one after another, and each line says what was
 -- answered. The lines have the seat's number, and are numbered from a place in the list on.
 abbrev pub Runs : SeatView → ℕ → List Call → List Line → SeatView → Type 0
 Runs old index [] [] new = new ≡ old
 Runs old index (call ∷ calls) (line ∷ lines) new =
     (line.thread ≡ old.number) × (line.index ≡ index) × (mid : SeatView) × GoesOn old mid ×
-    Says old mid call line.said × Runs mid (suc index) calls lines new
+    AnswersCall old mid call line.said × Runs mid (suc index) calls lines new
 Runs old index calls lines new = ⊥
 
 -- The runs of lists, from the list with this number on, each at a new seat of the cache: their

@@ -1,12 +1,10 @@
 //! One list of a trace, at a seat of the shared cache.
-ghost use Rattle.std.specs.Prelude.{◌≡◌, ◌≢◌, ◌≤◌, true, IfOk, IfErr, length};
+ghost use Rattle.std.specs.Prelude.{◌≡◌, ◌≢◌, true, IfOk, IfErr};
 ghost use Rattle.tsc_trace_format.specs.Calls.{adds, call_fits};
-ghost use Rattle.tsc_trace_format.specs.Traces.{EachFits};
-ghost use Rattle.tsc_trace_format.specs.Limits.{most_calls};
 ghost use Rattle.tsc_shared.specs.Seats.{SeatView};
 ghost use Rattle.tsc_shared.specs.Answers.{GoesOn, RefusedFor, Refuses};
 ghost use Rattle.tsc_shared.specs.declared.answers.AddFault.TheVariants.{TooLarge};
-ghost use Rattle.tsc_run.specs.Runs.{EndsList, IsRefusedAs, Runs, Says};
+ghost use Rattle.tsc_run.specs.Runs.{CanRun, EndsList, IsRefusedAs, Runs, AnswersCall};
 
 use crate::fault::RunFault;
 use std::alloc::Global;
@@ -46,7 +44,7 @@ fn answer<R: Wait, G: Gate>(
     requires cache { seat.old.cache ≡ cache.now }
     requires fits { call_fits seat.old.cache.config call.now ≡ true }
     ensures seat { GoesOn seat.old seat.new }
-    ensures said { IfOk result (λ said. Says seat.old seat.new call.now said) }
+    ensures said { IfOk result (λ said. AnswersCall seat.old seat.new call.now said) }
     ensures refused { IfErr result (λ fault. IsRefusedAs fault call.now seat.old seat.new) }
 {
     match call {
@@ -95,9 +93,7 @@ fn make_calls<R: Wait, G: Gate>(
     calls: &[Call],
     gate: &G,
 ) -> Result<Vec<Line>, RunFault>
-    requires cache { seat.old.cache ≡ cache.now }
-    requires calls { length calls.now ≤ most_calls }
-    requires fits { EachFits cache.now.config calls.now }
+    requires { CanRun cache.now seat.old calls.now }
     ensures { EndsList seat.old calls.now result seat.new }
 {
     let thread = seat.number();
@@ -126,9 +122,7 @@ pub(crate) fn run_list<R: Wait, G: Gate>(
     calls: &[Call],
     gate: &G,
 ) -> ListRun
-    requires cache { seat.cache ≡ cache.now }
-    requires calls { length calls.now ≤ most_calls }
-    requires fits { EachFits cache.now.config calls.now }
+    requires { CanRun cache.now seat calls.now }
     ensures { EndsList seat calls.now result.told result.seat }
 {
     let told = make_calls(rt, alloc, cache, &mut seat, calls, gate);

@@ -1,8 +1,6 @@
 //! The thread of one list.
-ghost use Rattle.std.specs.Prelude.{◌≡◌, ◌≤◌, IfOk, length};
-ghost use Rattle.tsc_trace_format.specs.Traces.{EachFits};
-ghost use Rattle.tsc_trace_format.specs.Limits.{most_calls};
-ghost use Rattle.tsc_run.specs.Runs.{EndsList};
+ghost use Rattle.std.specs.Prelude.{◌≡◌, IfOk};
+ghost use Rattle.tsc_run.specs.Runs.{CanRun, EndsList};
 ghost use Rattle.tsc_run.specs.declared.fault.RunFault.TheVariants.{NoThread};
 
 use crate::fault::RunFault;
@@ -58,19 +56,24 @@ impl<'a> Promise<ListRun> for ListOf<'a> {
     ghost kept_by = { λ p r. EndsList p.seat.value p.calls.now r.told r.seat };
 }
 
+/// What the threads of a run share: by what they are started and wait, where their memory is from,
+/// their cache, and the gate that is told of their calls.
+#[derive(Drop)]
+pub(crate) struct RunContext<'s, R, G> {
+    pub rt: &'s R,
+    pub alloc: Global,
+    pub cache: &'s SharedCache,
+    pub gate: &'s G,
+}
+
 /// Starts a thread that makes the calls of a list, at the seat of the list's number.
 pub(crate) fn start_list<'s, E, R: Threads + Wait + Sync, G: Gate + Sync>(
     scope: &Scope<'s, E>,
-    rt: &'s R,
-    alloc: Global,
-    cache: &'s SharedCache,
+    run: &RunContext<'s, R, G>,
     seat: Seat,
     calls: &'s [Call],
-    gate: &'s G,
 ) -> Result<PromisedHandle<ListRun, ListOf<'s>>, NotStarted>
-    requires cache { seat.cache ≡ cache.now }
-    requires calls { length calls.now ≤ most_calls }
-    requires fits { EachFits cache.now.config calls.now }
+    requires { CanRun run.now.cache.now seat calls.now }
     ensures seat { IfOk result (λ child. child.promise.seat.value ≡ seat) }
     ensures calls { IfOk result (λ child. child.promise.calls.now ≡ calls.entry.now) }
 {
@@ -78,12 +81,15 @@ pub(crate) fn start_list<'s, E, R: Threads + Wait + Sync, G: Gate + Sync>(
         seat: Snapshot::of(&seat),
         calls,
     };
+    let rt = run.rt;
+    let alloc = run.alloc;
+    let cache = run.cache;
+    let gate = run.gate;
     scope
         .spawn_with(
             promise,
             move || -> ListRun
-                requires { (seat.cache ≡ cache.now) × (length calls.now ≤ most_calls) ×
-                    EachFits cache.now.config calls.now }
+                requires { CanRun cache.now seat calls.now }
                 ensures { EndsList seat calls.entry.now result.told result.seat }
             { run_list(rt, alloc, cache, seat, calls, gate) },
         )

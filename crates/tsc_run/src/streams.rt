@@ -15,7 +15,7 @@ use std::sync::Wait;
 use std::thread::Threads;
 use tsc_shared::{Gate, OpenFault};
 use tsc_stream::{Sink, Source, WriteFailed, write_output};
-use tsc_trace::{OutFault, ReplayFault, read_trace_from, write_log};
+use tsc_trace::{ReplayFault, WriteLogFault, read_trace_from, write_log};
 
 /// Why a run ended early. Only a failed write comes after a written byte.
 #[derive(Clone, Copy, Debug, PartialEq, Eq)]
@@ -74,10 +74,10 @@ impl From<ReplayFault> for RunStop {
     }
 }
 
-impl From<OutFault> for RunStop {
+impl From<WriteLogFault> for RunStop {
     ghost from_gives = { λ fault given. given ≡ Stream (fault_of_output fault) };
 
-    fn from(fault: OutFault) -> RunStop {
+    fn from(fault: WriteLogFault) -> RunStop {
         RunStop::Stream(fault.into())
     }
 }

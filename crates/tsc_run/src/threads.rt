@@ -1,14 +1,10 @@
 //! A thread for each list.
-ghost use Rattle.std.specs.Prelude.{◌≡◌, ◌≤◌, ◌++◌, ◌∷◌, [], IfOk, IfErr, IfSome, IfNone, length, map, vec_capacity};
-ghost use Rattle.std.specs.List.{sum_by};
-ghost use Rattle.tsc_trace_format.specs.Traces.{AllFit};
-ghost use Rattle.tsc_trace_format.specs.Limits.{most_calls};
-ghost use Rattle.tsc_shared.specs.Seats.{new_seats};
-ghost use Rattle.tsc_run.specs.Runs.{EndsLists, Joins};
+ghost use Rattle.std.specs.Prelude.{◌≡◌, ◌≤◌, ◌++◌, ◌∷◌, [], IfOk, IfErr, IfSome, IfNone, map, vec_capacity};
+ghost use Rattle.tsc_run.specs.Runs.{CanRunAll, EndsLists, Joins};
 
 use crate::fault::RunFault;
 use crate::list::ListRun;
-use crate::start::{NotStarted, RefusesThreads, start_list};
+use crate::start::{NotStarted, RefusesThreads, RunContext, start_list};
 use std::alloc::Global;
 use std::sync::Wait;
 use std::thread;
@@ -51,34 +47,29 @@ fn split_last(lists: &[Vec<Call>]) -> Option<(&[Call], &[Vec<Call>])>
 /// Starts a thread for the last list, has the others run, and waits for all. All seats come back.
 fn run_in<'s, E, R: Threads + Wait + Sync, G: Gate + Sync>(
     scope: &Scope<'s, E>,
-    rt: &'s R,
-    alloc: Global,
-    cache: &'s SharedCache,
+    run: &RunContext<'s, R, G>,
     mut seats: Vec<Seat>,
     lists: &'s [Vec<Call>],
-    gate: &'s G,
 ) -> Result<AllRuns, NotStarted>
-    requires seats { seats.items ≡ new_seats cache.now 0 (length lists.now) }
-    requires calls { sum_by length (map (λ calls. calls.items) lists.now) ≤ most_calls }
-    requires fits { AllFit cache.now.config (map (λ calls. calls.items) lists.now) }
-    ensures runs { IfOk result (λ runs. EndsLists cache.now (map (λ calls. calls.items) lists.now)
-        runs.told runs.seats.items) }
+    requires { CanRunAll run.now.cache.now seats.items lists.now }
+    ensures runs { IfOk result (λ runs. EndsLists run.now.cache.now
+        (map (λ calls. calls.items) lists.now) runs.told runs.seats.items) }
     ensures room { IfOk result (λ runs. vec_capacity seats ≤ vec_capacity runs.seats) }
 {
     let Some(seat) = seats.pop() else {
         return Ok(AllRuns {
             seats,
-            told: Ok(Vec::new(alloc)),
+            told: Ok(Vec::new(run.alloc)),
         });
     };
     let Some((calls, others)) = split_last(lists) else {
         unreachable!()
     };
-    let child = start_list(scope, rt, alloc, cache, seat, calls, gate)?;
-    let runs = run_in(scope, rt, alloc, cache, seats, others, gate);
-    let run = child.join(rt);
+    let child = start_list(scope, run, seat, calls)?;
+    let runs = run_in(scope, run, seats, others);
+    let last = child.join(run.rt);
     let AllRuns { mut seats, told } = runs?;
-    let ListRun { seat, told: more } = run;
+    let ListRun { seat, told: more } = last;
     let Ok(()) = seats.push(seat) else {
         unreachable!()
     };
@@ -97,9 +88,7 @@ pub(crate) fn run_lists<R: RefusesThreads + Threads + Wait + Sync, G: Gate + Syn
     lists: &[Vec<Call>],
     gate: &G,
 ) -> Result<AllRuns, RunFault>
-    requires seats { seats.items ≡ new_seats cache.now 0 (length lists.now) }
-    requires calls { sum_by length (map (λ calls. calls.items) lists.now) ≤ most_calls }
-    requires fits { AllFit cache.now.config (map (λ calls. calls.items) lists.now) }
+    requires { CanRunAll cache.now seats.items lists.now }
     ensures runs { IfOk result (λ runs. EndsLists cache.now (map (λ calls. calls.items) lists.now)
         runs.told runs.seats.items) }
     ensures why { IfErr result (λ why. (why ≡ RunFault.NoThread) × R.HasRefused rt.now) }
@@ -108,12 +97,18 @@ pub(crate) fn run_lists<R: RefusesThreads + Threads + Wait + Sync, G: Gate + Syn
         thread::scope_env(),
         rt,
         |scope| -> Result<AllRuns, NotStarted>
-            requires { (seats.items ≡ new_seats cache.now 0 (length lists.now)) ×
-                (sum_by length (map (λ calls. calls.items) lists.now) ≤ most_calls) ×
-                AllFit cache.now.config (map (λ calls. calls.items) lists.now) }
+            requires { CanRunAll cache.now seats.items lists.now }
             ensures { IfOk result (λ runs. EndsLists cache.entry.now
                 (map (λ calls. calls.items) lists.entry.now) runs.told runs.seats.items) }
-        { run_in(scope, rt, alloc, cache, seats, lists, gate) },
+        {
+            let run = RunContext {
+                rt,
+                alloc,
+                cache,
+                gate,
+            };
+            run_in(scope, &run, seats, lists)
+        },
     );
     match ended {
         Ok(runs) => Ok(runs),

@@ -1,6 +1,8 @@
 -- What is told of a reader and a writer that may be called a bounded number of times, and of a
 -- whole input and output.
-use Rattle.std.specs.Prelude.{◌≡◌, ◌≢◌, ◌⊎◌, ℕ, zero, suc, ◌+◌, ◌-◌, ◌<◌, ◌≤◌, List, [], length, take, Bool, true, false, ◌||◌, Option, Result, Ok, Err}
+use Rattle.std.specs.Prelude.{◌≡◌, ◌≢◌, ◌⊎◌, ℕ, zero, suc, ◌+◌, ◌-◌, ◌<◌, ◌≤◌, List, [], length, take, Bool, true, false, ◌||◌, Option, Result, Ok, Err, IfErr}
+use Rattle.std.specs.declared.io.ErrorKind.{ErrorKind}
+use Rattle.std.specs.declared.io.ErrorKind.TheVariants as kind
 use Rattle.std.specs.Io.KnownBytes.{Appends, Consumes, IsAtEnd}
 use Rattle.tsc_stream.specs.Limits.{longest_input, most_turns}
 use Rattle.tsc_stream.specs.declared.stream.StreamFault.{StreamFault}
@@ -26,6 +28,12 @@ any_trouble trouble = true
 abbrev pub only_failures : Troubles
 only_failures Interrupted = false
 only_failures Failed = true
+
+-- A call that ended in an error ended in one of these troubles: every kind of error but an
+-- interruption is a failure.
+pub record ErrsWithin (troubles : Troubles) (told : Result ℕ ErrorKind) : Type 0 where
+  pub interrupted : told ≡ Err kind.Interrupted → troubles Interrupted ≡ true
+  pub failed : IfErr told (λ error. error ≢ kind.Interrupted → troubles Failed ≡ true)
 
 -- What is known of a reader: the bytes that it has left, where they are known, with which troubles
 -- a read may end, whether it may be read on, has told its end or has failed, and how many more
@@ -83,6 +91,11 @@ IsSpentReader reader = (reader.phase ≡ phase.Failed) ⊎
 -- No write can be made any more: one has failed, or none is left.
 abbrev pub IsSpentWriter : KnownWriter → Type 0
 IsSpentWriter writer = (writer.has_failed ≡ true) ⊎ (writer.turns ≡ 0)
+
+-- A reader that has told its end tells it again, and one that is spent fails.
+pub record StaysAtEnd (reader : KnownReader) (told : Result ℕ StreamFault) : Type 0 where
+  pub ended : reader.phase ≡ phase.Ended → told ≡ Ok 0
+  pub failed : IsSpentReader reader → told ≡ Err Failed
 
 -- What one read makes of a reader, beside the bytes.
 pub record AfterRead (old new : KnownReader) (told : Result ℕ StreamFault) : Type 0 where

@@ -2,9 +2,9 @@
 //!
 //! No clause of `std`'s `Read` and `Write` says when a call fails. [`LimitedRead`] and
 //! [`LimitedWrite`] do, for bytes in memory; of [`AnyStreamFault`], as a file, nothing is known.
-ghost use Rattle.std.specs.Prelude.{◌≡◌, ◌≢◌, ◌<◌, ◌≤◌, length, true, Ok, Err, IfOk, IfErr};
+ghost use Rattle.std.specs.Prelude.{◌≡◌, ◌<◌, ◌≤◌, length, true, Ok, IfOk};
 ghost use Rattle.std.specs.Io.KnownBytes.{ReadConsumes, WriteAppends};
-ghost use Rattle.tsc_stream.specs.Stream.{Troubles, any_trouble, no_trouble, only_failures};
+ghost use Rattle.tsc_stream.specs.Stream.{ErrsWithin, Troubles, any_trouble, no_trouble, only_failures};
 
 use crate::stream::StreamFault;
 use std::io::{ErrorKind, Read, Write};
@@ -19,10 +19,7 @@ pub trait LimitedRead: Read {
         ensures bound { IfOk result (λ n. n ≤ length buf.new) }
         ensures bytes { ReadConsumes (Self.remaining self.old) (Self.remaining self.new) result
             buf.new }
-        ensures interrupted { result ≡ Err ErrorKind.Interrupted →
-            troubles self.old StreamFault.Interrupted ≡ true }
-        ensures failed { IfErr result
-            (λ kind. kind ≢ ErrorKind.Interrupted → troubles self.old StreamFault.Failed ≡ true) }
+        ensures errors { ErrsWithin (troubles self.old) result }
         ensures same { troubles self.new ≡ troubles self.old };
 }
 
@@ -39,10 +36,7 @@ pub trait LimitedWrite: Write {
         ensures bytes { WriteAppends (Self.contents self.old) (Self.contents self.new) result
             buf.now }
         ensures nothing { result ≡ Ok 0 → troubles self.old StreamFault.Failed ≡ true }
-        ensures interrupted { result ≡ Err ErrorKind.Interrupted →
-            troubles self.old StreamFault.Interrupted ≡ true }
-        ensures failed { IfErr result
-            (λ kind. kind ≢ ErrorKind.Interrupted → troubles self.old StreamFault.Failed ≡ true) }
+        ensures errors { ErrsWithin (troubles self.old) result }
         ensures same { troubles self.new ≡ troubles self.old };
 }
 

@@ -1,7 +1,7 @@
 //! Readers and writers that may be called a bounded number of times, and fail for good.
-ghost use Rattle.std.specs.Prelude.{◌≡◌, ◌⊎◌, ◌<◌, ◌≤◌, length, true, Ok, Err, IfOk, IfErr};
+ghost use Rattle.std.specs.Prelude.{◌≡◌, ◌⊎◌, ◌<◌, ◌≤◌, length, true, Err, IfOk, IfErr};
 ghost use Rattle.std.specs.Io.KnownBytes.{ReadConsumes, WriteAppends};
-ghost use Rattle.tsc_stream.specs.Stream.{AfterRead, AfterWrite, IsSpentReader, IsSpentWriter, KnownReader, KnownWriter};
+ghost use Rattle.tsc_stream.specs.Stream.{AfterRead, AfterWrite, IsSpentReader, IsSpentWriter, KnownReader, KnownWriter, StaysAtEnd};
 
 /// Why a reader gave nothing, or a writer took nothing.
 #[derive(Clone, Copy, Debug, PartialEq, Eq)]
@@ -34,8 +34,7 @@ pub trait Source {
         ensures bound { IfOk result (λ n. n ≤ length buf.new) }
         ensures bytes { ReadConsumes (known self.old).bytes (known self.new).bytes result buf.new }
         ensures after { AfterRead (known self.old) (known self.new) result }
-        ensures ended { (known self.old).phase ≡ Phase.Ended → result ≡ Ok 0 }
-        ensures failed { IsSpentReader (known self.old) → result ≡ Err StreamFault.Failed }
+        ensures end { StaysAtEnd (known self.old) result }
         ensures why { IfErr result (λ trouble.
             IsSpentReader (known self.old) ⊎ ((known self.old).troubles trouble ≡ true)) };
 }

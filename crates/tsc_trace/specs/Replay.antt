@@ -9,8 +9,8 @@ use Rattle.tsc_trace_format.specs.declared.read.TraceFault.{TraceFault}
 use Rattle.tsc_trace_format.specs.declared.read.TraceFault.TheVariants as trace_fault
 use Rattle.tsc_stream.specs.declared.input.InputFault.{InputFault}
 use Rattle.tsc_stream.specs.declared.input.InputFault.TheVariants as input_fault
-use Rattle.tsc_trace.specs.declared.replays.OutFault.{OutFault}
-use Rattle.tsc_trace.specs.declared.replays.OutFault.TheVariants as out_fault
+use Rattle.tsc_trace.specs.declared.replays.WriteLogFault.{WriteLogFault}
+use Rattle.tsc_trace.specs.declared.replays.WriteLogFault.TheVariants as out_fault
 use Rattle.tsc_trace.specs.declared.replays.ReplayFault.{ReplayFault}
 use Rattle.tsc_trace.specs.declared.replays.ReplayFault.TheVariants.{Read, TooLong, Trace as Refused, Write, NoMemory}
 
@@ -19,7 +19,7 @@ abbrev pub replay_text : Trace → List ℕ
 replay_text trace = log_text (log_of trace)
 
 -- why a text was not written: a write failed, or memory was wanting before the first write
-abbrev pub StopsWriting : OutFault → KnownWriter → KnownWriter → List ℕ → Type 0
+abbrev pub StopsWriting : WriteLogFault → KnownWriter → KnownWriter → List ℕ → Type 0
 StopsWriting out_fault.Write old new text = CouldNotWrite old new text
 StopsWriting out_fault.NoMemory old new text = new ≡ old
 
@@ -110,7 +110,7 @@ fault_of_trace trace_fault.NoMemory = NoMemory
 fault_of_trace (trace_fault.TooLarge call) = Refused (trace_fault.TooLarge call)
 
 -- how a fault of an output ends a replay
-abbrev pub fault_of_output : OutFault → ReplayFault
+abbrev pub fault_of_output : WriteLogFault → ReplayFault
 fault_of_output out_fault.Write = Write
 fault_of_output out_fault.NoMemory = NoMemory
 

@@ -18,8 +18,8 @@ pub use log::{Line, Lines, Log, Said, Told, log_text};
 pub use log_reader::{LogFault, read_log};
 pub use player::{add_all_fitting, add_fitting, play, play_with_progress};
 pub use replays::{
-    OutFault, ReplayFault, read_trace_from, replay, replay_stream, replay_stream_with_progress,
-    write_log,
+    ReplayFault, WriteLogFault, read_trace_from, replay, replay_stream,
+    replay_stream_with_progress, write_log,
 };
 pub use tsc_stream::{AnyStreamFault, Limited, LimitedRead, LimitedWrite, Sink, Source};
 pub use tsc_trace_fast::read_trace;

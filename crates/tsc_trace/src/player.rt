@@ -1,4 +1,4 @@
-ghost use Rattle.std.specs.Prelude.{◌≡◌, ◌++◌, ◌+◌, ◌<◌, ◌≤◌, ◌^◌, length, true, IfOk, OnErr, OnOk};
+ghost use Rattle.std.specs.Prelude.{◌≡◌, ◌++◌, ◌∷◌, [], ◌+◌, ◌<◌, ◌≤◌, ◌^◌, length, true, IfOk, OnErr, OnOk};
 ghost use Rattle.tsc_cache.specs.Settings.{Settings, fits};
 ghost use Rattle.tsc_cache.specs.Batch.{all_fit};
 ghost use Rattle.tsc_cache.specs.State.{CacheState};
@@ -7,7 +7,7 @@ ghost use Rattle.tsc_trace_format.specs.Calls.{call_fits, one_mark, several_mark
 ghost use Rattle.tsc_trace_format.specs.Traces.{EachFits};
 ghost use Rattle.tsc_trace_format.specs.Limits.{most_calls};
 ghost use Rattle.tsc_trace.specs.Log.{log_of, made};
-ghost use Rattle.tsc_trace.specs.Play.{Standing, said_at, next, next_all, played};
+ghost use Rattle.tsc_trace.specs.Play.{Standing, said_at, played};
 
 use crate::log::{Line, Lines, Log, Said};
 use std::alloc::Global;
@@ -71,7 +71,7 @@ struct Player {
 }
 
 impl Player {
-    ghost use Rattle.tsc_trace.specs.PlayerParts.{StandsAt};
+    ghost use Rattle.tsc_trace.specs.PlayerParts.{HasMade, StandsAt};
 
     /// Makes a call, and gives its answer.
     fn answer(&mut self, call: &Call) -> Result<Said, NoMemory>
@@ -80,11 +80,7 @@ impl Player {
         ensures said { IfOk result
             (λ said. (settings : Settings) (at : Standing) → StandsAt self.old settings at
             → said ≡ said_at settings at call.now) }
-        ensures stands { OnOk result
-            ((settings : Settings) (at : Standing) → StandsAt self.old settings at
-            → StandsAt self.new settings (next settings at call.now)) }
-        ensures count { OnOk result (self.new.adds ≤ self.old.adds + 1) }
-        ensures settings { OnOk result (self.new.cache.settings ≡ self.old.cache.settings) }
+        ensures made { OnOk result (HasMade self.old self.new (call.now ∷ [])) }
         ensures lines { self.new.lines ≡ self.old.lines }
     {
         let front = self.adds;
@@ -128,11 +124,7 @@ impl Player {
             ((settings : Settings) (at : Standing) → StandsAt self.old settings at
             → self.new.lines.items ≡ self.old.lines.items ++
             played settings thread 0 at calls.now) }
-        ensures stands { OnOk result
-            ((settings : Settings) (at : Standing) → StandsAt self.old settings at
-            → StandsAt self.new settings (next_all settings at calls.now)) }
-        ensures count { OnOk result (self.new.adds ≤ self.old.adds + length calls.now) }
-        ensures settings { OnOk result (self.new.cache.settings ≡ self.old.cache.settings) }
+        ensures made { OnOk result (HasMade self.old self.new calls.now) }
     {
         for (index, call) in calls.iter().enumerate() {
             let said = self.answer(call)?;

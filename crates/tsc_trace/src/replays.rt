@@ -3,7 +3,7 @@ ghost use Rattle.std.specs.Prelude.{◌≡◌, ◌++◌, Some, IfOk, IfErr, OnOk
 ghost use Rattle.tsc_trace.specs.LogText.{log_text};
 ghost use Rattle.tsc_trace.specs.Replay.{Done, HasReadTrace, StopsReadingTrace, StopsReplay, StopsWriting, fault_of_input, fault_of_output, fault_of_trace, fault_text, replay_text};
 ghost use Rattle.tsc_stream.specs.Stream.{CouldNotWrite, HasWritten};
-ghost use Rattle.tsc_trace.specs.declared.replays.OutFault.TheVariants as out_fault;
+ghost use Rattle.tsc_trace.specs.declared.replays.WriteLogFault.TheVariants as out_fault;
 ghost use Rattle.tsc_trace.specs.declared.replays.ReplayFault.TheVariants as replay_fault;
 
 use crate::log::{Log, log_text};
@@ -23,7 +23,7 @@ use tsc_trace_format::{Trace, TraceFault};
 
 /// Why a log was not written.
 #[derive(Clone, Copy, Debug, PartialEq, Eq, Error)]
-pub enum OutFault {
+pub enum WriteLogFault {
     /// A write failed or took nothing, or there was no end after 33,554,432 writes. How much went
     /// out is not told.
     #[error("write failed")]
@@ -33,19 +33,19 @@ pub enum OutFault {
     NoMemory,
 }
 
-impl From<NoMemory> for OutFault {
+impl From<NoMemory> for WriteLogFault {
     ghost from_gives = { λ _ given. given ≡ out_fault.NoMemory };
 
-    fn from(_refused: NoMemory) -> OutFault {
-        OutFault::NoMemory
+    fn from(_refused: NoMemory) -> WriteLogFault {
+        WriteLogFault::NoMemory
     }
 }
 
-impl From<WriteFailed> for OutFault {
+impl From<WriteFailed> for WriteLogFault {
     ghost from_gives = { λ _ given. given ≡ out_fault.Write };
 
-    fn from(_failed: WriteFailed) -> OutFault {
-        OutFault::Write
+    fn from(_failed: WriteFailed) -> WriteLogFault {
+        WriteLogFault::Write
     }
 }
 
@@ -154,13 +154,13 @@ impl From<TraceFault> for ReplayFault {
     }
 }
 
-impl From<OutFault> for ReplayFault {
+impl From<WriteLogFault> for ReplayFault {
     ghost from_gives = { λ fault given. given ≡ fault_of_output fault };
 
-    fn from(fault: OutFault) -> ReplayFault {
+    fn from(fault: WriteLogFault) -> ReplayFault {
         match fault {
-            OutFault::Write => ReplayFault::Write,
-            OutFault::NoMemory => ReplayFault::NoMemory,
+            WriteLogFault::Write => ReplayFault::Write,
+            WriteLogFault::NoMemory => ReplayFault::NoMemory,
         }
     }
 }
@@ -182,7 +182,7 @@ impl From<WriteFailed> for ReplayFault {
 }
 
 /// Writes the text of a log. The text is made whole in memory before any of it is written.
-pub fn write_log<W: Sink>(alloc: Global, log: &Log, writer: &mut W) -> Result<(), OutFault>
+pub fn write_log<W: Sink>(alloc: Global, log: &Log, writer: &mut W) -> Result<(), WriteLogFault>
     ensures ok { OnOk result (HasWritten (W.known writer.old) (W.known writer.new)
         (log_text log.now.lines)) }
     ensures err { IfErr result (λ fault.
@@ -201,7 +201,7 @@ fn replayed<P: Progress>(alloc: Global, trace: &Trace, progress: &P) -> Result<V
 
 /// Replays a trace on one thread, and writes the text of its log. The text is made whole in memory
 /// before any of it is written.
-pub fn replay<W: Sink>(alloc: Global, trace: &Trace, writer: &mut W) -> Result<(), OutFault>
+pub fn replay<W: Sink>(alloc: Global, trace: &Trace, writer: &mut W) -> Result<(), WriteLogFault>
     ensures ok { OnOk result (HasWritten (W.known writer.old) (W.known writer.new)
         (replay_text trace.now)) }
     ensures err { IfErr result (λ fault.

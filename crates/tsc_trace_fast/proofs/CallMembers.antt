@@ -24,137 +24,85 @@ use Rattle.tsc_trace_fast.proofs.MembersKept.{named_put, keeps_new, keeps_other,
 module _ (found : Members) (parts : CallParts) (d : Data) (h : KeepsCall found parts) where
   pub call_op : (t : Bor (List ℕ)) → text_of d ≡ Ok t.now →
       KeepsCall (put (codes "op") d found)
-      (record {
-        op = Some t;
-        span = parts.span;
-        time = parts.time;
-        owner = parts.owner;
-        marks = parts.marks;
-        now = parts.now;
-      })
+      (record parts { op = Some t })
   call_op t is =
       record {
         named = named_put call_names _ d found refl h.named;
         op = keeps_new text_of _ d t.now found is;
-        span = keeps_other span_form (codes "span") _ d found parts.span refl h.span;
-        time = keeps_other time_of (codes "time") _ d found parts.time refl h.time;
-        owner = keeps_other owner_there (codes "owner") _ d found (option_map owner_of parts.owner)
-            refl h.owner;
-        marks = keeps_other marks_of (codes "marks") _ d found parts.marks refl h.marks;
-        now = keeps_other time_of (codes "now") _ d found parts.now refl h.now;
+        span = keeps_other span_form (codes "span") _ d found _ refl h.span;
+        time = keeps_other time_of (codes "time") _ d found _ refl h.time;
+        owner = keeps_other owner_there (codes "owner") _ d found _ refl h.owner;
+        marks = keeps_other marks_of (codes "marks") _ d found _ refl h.marks;
+        now = keeps_other time_of (codes "now") _ d found _ refl h.now;
       }
 
   pub call_span : (form : SpanForm) → span_form d ≡ Ok form →
       KeepsCall (put (codes "span") d found)
-      (record {
-        op = parts.op;
-        span = Some form;
-        time = parts.time;
-        owner = parts.owner;
-        marks = parts.marks;
-        now = parts.now;
-      })
+      (record parts { span = Some form })
   call_span form is =
       record {
         named = named_put call_names _ d found refl h.named;
-        op = keeps_other text_of (codes "op") _ d found (option_map (λ op. op.now) parts.op)
-            refl h.op;
+        op = keeps_other text_of (codes "op") _ d found _ refl h.op;
         span = keeps_new span_form _ d form found is;
-        time = keeps_other time_of (codes "time") _ d found parts.time refl h.time;
-        owner = keeps_other owner_there (codes "owner") _ d found (option_map owner_of parts.owner)
-            refl h.owner;
-        marks = keeps_other marks_of (codes "marks") _ d found parts.marks refl h.marks;
-        now = keeps_other time_of (codes "now") _ d found parts.now refl h.now;
+        time = keeps_other time_of (codes "time") _ d found _ refl h.time;
+        owner = keeps_other owner_there (codes "owner") _ d found _ refl h.owner;
+        marks = keeps_other marks_of (codes "marks") _ d found _ refl h.marks;
+        now = keeps_other time_of (codes "now") _ d found _ refl h.now;
       }
 
   pub call_time : (at : Time) → time_of d ≡ Ok at →
       KeepsCall (put (codes "time") d found)
-      (record {
-        op = parts.op;
-        span = parts.span;
-        time = Some at;
-        owner = parts.owner;
-        marks = parts.marks;
-        now = parts.now;
-      })
+      (record parts { time = Some at })
   call_time at is =
       record {
         named = named_put call_names _ d found refl h.named;
-        op = keeps_other text_of (codes "op") _ d found (option_map (λ op. op.now) parts.op)
-            refl h.op;
-        span = keeps_other span_form (codes "span") _ d found parts.span refl h.span;
+        op = keeps_other text_of (codes "op") _ d found _ refl h.op;
+        span = keeps_other span_form (codes "span") _ d found _ refl h.span;
         time = keeps_new time_of _ d at found is;
-        owner = keeps_other owner_there (codes "owner") _ d found (option_map owner_of parts.owner)
-            refl h.owner;
-        marks = keeps_other marks_of (codes "marks") _ d found parts.marks refl h.marks;
-        now = keeps_other time_of (codes "now") _ d found parts.now refl h.now;
+        owner = keeps_other owner_there (codes "owner") _ d found _ refl h.owner;
+        marks = keeps_other marks_of (codes "marks") _ d found _ refl h.marks;
+        now = keeps_other time_of (codes "now") _ d found _ refl h.now;
       }
 
   pub call_owner : (name : List ℕ) → owner_there d ≡ Ok (owner_of name) →
       KeepsCall (put (codes "owner") d found)
-      (record {
-        op = parts.op;
-        span = parts.span;
-        time = parts.time;
-        owner = Some name;
-        marks = parts.marks;
-        now = parts.now;
-      })
+      (record parts { owner = Some name })
   call_owner name is =
       record {
         named = named_put call_names _ d found refl h.named;
-        op = keeps_other text_of (codes "op") _ d found (option_map (λ op. op.now) parts.op)
-            refl h.op;
-        span = keeps_other span_form (codes "span") _ d found parts.span refl h.span;
-        time = keeps_other time_of (codes "time") _ d found parts.time refl h.time;
+        op = keeps_other text_of (codes "op") _ d found _ refl h.op;
+        span = keeps_other span_form (codes "span") _ d found _ refl h.span;
+        time = keeps_other time_of (codes "time") _ d found _ refl h.time;
         owner = keeps_new owner_there _ d (owner_of name) found is;
-        marks = keeps_other marks_of (codes "marks") _ d found parts.marks refl h.marks;
-        now = keeps_other time_of (codes "now") _ d found parts.now refl h.now;
+        marks = keeps_other marks_of (codes "marks") _ d found _ refl h.marks;
+        now = keeps_other time_of (codes "now") _ d found _ refl h.now;
       }
 
   pub call_marks : (ms : List Mark) → marks_of d ≡ Ok ms →
       KeepsCall (put (codes "marks") d found)
-      (record {
-        op = parts.op;
-        span = parts.span;
-        time = parts.time;
-        owner = parts.owner;
-        marks = Some ms;
-        now = parts.now;
-      })
+      (record parts { marks = Some ms })
   call_marks ms is =
       record {
         named = named_put call_names _ d found refl h.named;
-        op = keeps_other text_of (codes "op") _ d found (option_map (λ op. op.now) parts.op)
-            refl h.op;
-        span = keeps_other span_form (codes "span") _ d found parts.span refl h.span;
-        time = keeps_other time_of (codes "time") _ d found parts.time refl h.time;
-        owner = keeps_other owner_there (codes "owner") _ d found (option_map owner_of parts.owner)
-            refl h.owner;
+        op = keeps_other text_of (codes "op") _ d found _ refl h.op;
+        span = keeps_other span_form (codes "span") _ d found _ refl h.span;
+        time = keeps_other time_of (codes "time") _ d found _ refl h.time;
+        owner = keeps_other owner_there (codes "owner") _ d found _ refl h.owner;
         marks = keeps_new marks_of _ d ms found is;
-        now = keeps_other time_of (codes "now") _ d found parts.now refl h.now;
+        now = keeps_other time_of (codes "now") _ d found _ refl h.now;
       }
 
   pub call_now : (at : Time) → time_of d ≡ Ok at →
       KeepsCall (put (codes "now") d found)
-      (record {
-        op = parts.op;
-        span = parts.span;
-        time = parts.time;
-        owner = parts.owner;
-        marks = parts.marks;
-        now = Some at;
-      })
+      (record parts { now = Some at })
   call_now at is =
       record {
         named = named_put call_names _ d found refl h.named;
-        op = keeps_other text_of (codes "op") _ d found (option_map (λ op. op.now) parts.op)
-            refl h.op;
-        span = keeps_other span_form (codes "span") _ d found parts.span refl h.span;
-        time = keeps_other time_of (codes "time") _ d found parts.time refl h.time;
-        owner = keeps_other owner_there (codes "owner") _ d found (option_map owner_of parts.owner)
-            refl h.owner;
-        marks = keeps_other marks_of (codes "marks") _ d found parts.marks refl h.marks;
+        op = keeps_other text_of (codes "op") _ d found _ refl h.op;
+        span = keeps_other span_form (codes "span") _ d found _ refl h.span;
+        time = keeps_other time_of (codes "time") _ d found _ refl h.time;
+        owner = keeps_other owner_there (codes "owner") _ d found _ refl h.owner;
+        marks = keeps_other marks_of (codes "marks") _ d found _ refl h.marks;
         now = keeps_new time_of _ d at found is;
       }
 

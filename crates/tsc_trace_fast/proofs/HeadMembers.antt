@@ -27,154 +27,85 @@ use Rattle.tsc_trace_fast.proofs.MembersKept.{named_put, keeps_new, keeps_other,
 module _ (found : Members) (parts : HeadParts) (d : Data) (h : KeepsHead found parts) where
   pub head_page_first : (n : ℕ) → number_below (2 ^ 32) d ≡ Ok n →
       KeepsHead (put (codes "page_first") d found)
-      (record {
-        page_first = Some n;
-        page_max = parts.page_max;
-        min_pages = parts.min_pages;
-        retention = parts.retention;
-        low_water = parts.low_water;
-        threads = parts.threads;
-      })
+      (record parts { page_first = Some n })
   head_page_first n is =
       record {
         named = named_put head_names _ d found refl h.named;
         page_first = keeps_new (number_below (2 ^ 32)) _ d n found is;
-        page_max = keeps_other (number_below (2 ^ 32)) (codes "page_max") _ d found parts.page_max
-            refl h.page_max;
-        min_pages = keeps_other (number_below (2 ^ 32)) (codes "min_pages") _ d found
-            parts.min_pages refl h.min_pages;
-        retention = keeps_other (number_below (2 ^ 64)) (codes "retention") _ d found
-            parts.retention refl h.retention;
-        low_water = keeps_other time_of (codes "low_water") _ d found parts.low_water refl
-            h.low_water;
-        threads = keeps_other threads_in (codes "threads") _ d found parts.threads refl h.threads;
+        page_max = keeps_other (number_below (2 ^ 32)) (codes "page_max") _ d found _ refl h.page_max;
+        min_pages = keeps_other (number_below (2 ^ 32)) (codes "min_pages") _ d found _ refl h.min_pages;
+        retention = keeps_other (number_below (2 ^ 64)) (codes "retention") _ d found _ refl h.retention;
+        low_water = keeps_other time_of (codes "low_water") _ d found _ refl h.low_water;
+        threads = keeps_other threads_in (codes "threads") _ d found _ refl h.threads;
       }
 
   pub head_page_max : (n : ℕ) → number_below (2 ^ 32) d ≡ Ok n →
       KeepsHead (put (codes "page_max") d found)
-      (record {
-        page_first = parts.page_first;
-        page_max = Some n;
-        min_pages = parts.min_pages;
-        retention = parts.retention;
-        low_water = parts.low_water;
-        threads = parts.threads;
-      })
+      (record parts { page_max = Some n })
   head_page_max n is =
       record {
         named = named_put head_names _ d found refl h.named;
-        page_first = keeps_other (number_below (2 ^ 32)) (codes "page_first") _ d found
-            parts.page_first refl h.page_first;
+        page_first = keeps_other (number_below (2 ^ 32)) (codes "page_first") _ d found _ refl h.page_first;
         page_max = keeps_new (number_below (2 ^ 32)) _ d n found is;
-        min_pages = keeps_other (number_below (2 ^ 32)) (codes "min_pages") _ d found
-            parts.min_pages refl h.min_pages;
-        retention = keeps_other (number_below (2 ^ 64)) (codes "retention") _ d found
-            parts.retention refl h.retention;
-        low_water = keeps_other time_of (codes "low_water") _ d found parts.low_water refl
-            h.low_water;
-        threads = keeps_other threads_in (codes "threads") _ d found parts.threads refl h.threads;
+        min_pages = keeps_other (number_below (2 ^ 32)) (codes "min_pages") _ d found _ refl h.min_pages;
+        retention = keeps_other (number_below (2 ^ 64)) (codes "retention") _ d found _ refl h.retention;
+        low_water = keeps_other time_of (codes "low_water") _ d found _ refl h.low_water;
+        threads = keeps_other threads_in (codes "threads") _ d found _ refl h.threads;
       }
 
   pub head_min_pages : (n : ℕ) → number_below (2 ^ 32) d ≡ Ok n →
       KeepsHead (put (codes "min_pages") d found)
-      (record {
-        page_first = parts.page_first;
-        page_max = parts.page_max;
-        min_pages = Some n;
-        retention = parts.retention;
-        low_water = parts.low_water;
-        threads = parts.threads;
-      })
+      (record parts { min_pages = Some n })
   head_min_pages n is =
       record {
         named = named_put head_names _ d found refl h.named;
-        page_first = keeps_other (number_below (2 ^ 32)) (codes "page_first") _ d found
-            parts.page_first refl h.page_first;
-        page_max = keeps_other (number_below (2 ^ 32)) (codes "page_max") _ d found parts.page_max
-            refl h.page_max;
+        page_first = keeps_other (number_below (2 ^ 32)) (codes "page_first") _ d found _ refl h.page_first;
+        page_max = keeps_other (number_below (2 ^ 32)) (codes "page_max") _ d found _ refl h.page_max;
         min_pages = keeps_new (number_below (2 ^ 32)) _ d n found is;
-        retention = keeps_other (number_below (2 ^ 64)) (codes "retention") _ d found
-            parts.retention refl h.retention;
-        low_water = keeps_other time_of (codes "low_water") _ d found parts.low_water refl
-            h.low_water;
-        threads = keeps_other threads_in (codes "threads") _ d found parts.threads refl h.threads;
+        retention = keeps_other (number_below (2 ^ 64)) (codes "retention") _ d found _ refl h.retention;
+        low_water = keeps_other time_of (codes "low_water") _ d found _ refl h.low_water;
+        threads = keeps_other threads_in (codes "threads") _ d found _ refl h.threads;
       }
 
   pub head_retention : (n : ℕ) → number_below (2 ^ 64) d ≡ Ok n →
       KeepsHead (put (codes "retention") d found)
-      (record {
-        page_first = parts.page_first;
-        page_max = parts.page_max;
-        min_pages = parts.min_pages;
-        retention = Some n;
-        low_water = parts.low_water;
-        threads =
-            parts.threads;
-      })
+      (record parts { retention = Some n })
   head_retention n is =
       record {
         named = named_put head_names _ d found refl h.named;
-        page_first = keeps_other (number_below (2 ^ 32)) (codes "page_first") _ d found
-            parts.page_first refl h.page_first;
-        page_max = keeps_other (number_below (2 ^ 32)) (codes "page_max") _ d found parts.page_max
-            refl h.page_max;
-        min_pages = keeps_other (number_below (2 ^ 32)) (codes "min_pages") _ d found
-            parts.min_pages refl h.min_pages;
+        page_first = keeps_other (number_below (2 ^ 32)) (codes "page_first") _ d found _ refl h.page_first;
+        page_max = keeps_other (number_below (2 ^ 32)) (codes "page_max") _ d found _ refl h.page_max;
+        min_pages = keeps_other (number_below (2 ^ 32)) (codes "min_pages") _ d found _ refl h.min_pages;
         retention = keeps_new (number_below (2 ^ 64)) _ d n found is;
-        low_water = keeps_other time_of (codes "low_water") _ d found parts.low_water refl
-            h.low_water;
-        threads = keeps_other threads_in (codes "threads") _ d found parts.threads refl h.threads;
+        low_water = keeps_other time_of (codes "low_water") _ d found _ refl h.low_water;
+        threads = keeps_other threads_in (codes "threads") _ d found _ refl h.threads;
       }
 
   pub head_low_water : (at : Time) → time_of d ≡ Ok at →
       KeepsHead (put (codes "low_water") d found)
-      (record {
-        page_first = parts.page_first;
-        page_max = parts.page_max;
-        min_pages = parts.min_pages;
-        retention = parts.retention;
-        low_water = Some at;
-        threads =
-            parts.threads;
-      })
+      (record parts { low_water = Some at })
   head_low_water at is =
       record {
         named = named_put head_names _ d found refl h.named;
-        page_first = keeps_other (number_below (2 ^ 32)) (codes "page_first") _ d found
-            parts.page_first refl h.page_first;
-        page_max = keeps_other (number_below (2 ^ 32)) (codes "page_max") _ d found parts.page_max
-            refl h.page_max;
-        min_pages = keeps_other (number_below (2 ^ 32)) (codes "min_pages") _ d found
-            parts.min_pages refl h.min_pages;
-        retention = keeps_other (number_below (2 ^ 64)) (codes "retention") _ d found
-            parts.retention refl h.retention;
+        page_first = keeps_other (number_below (2 ^ 32)) (codes "page_first") _ d found _ refl h.page_first;
+        page_max = keeps_other (number_below (2 ^ 32)) (codes "page_max") _ d found _ refl h.page_max;
+        min_pages = keeps_other (number_below (2 ^ 32)) (codes "min_pages") _ d found _ refl h.min_pages;
+        retention = keeps_other (number_below (2 ^ 64)) (codes "retention") _ d found _ refl h.retention;
         low_water = keeps_new time_of _ d at found is;
-        threads = keeps_other threads_in (codes "threads") _ d found parts.threads refl h.threads;
+        threads = keeps_other threads_in (codes "threads") _ d found _ refl h.threads;
       }
 
   pub head_threads : (ts : List (List Call)) → threads_in d ≡ Ok ts →
       KeepsHead (put (codes "threads") d found)
-      (record {
-        page_first = parts.page_first;
-        page_max = parts.page_max;
-        min_pages = parts.min_pages;
-        retention = parts.retention;
-        low_water = parts.low_water;
-        threads = Some ts;
-      })
+      (record parts { threads = Some ts })
   head_threads ts is =
       record {
         named = named_put head_names _ d found refl h.named;
-        page_first = keeps_other (number_below (2 ^ 32)) (codes "page_first") _ d found
-            parts.page_first refl h.page_first;
-        page_max = keeps_other (number_below (2 ^ 32)) (codes "page_max") _ d found parts.page_max
-            refl h.page_max;
-        min_pages = keeps_other (number_below (2 ^ 32)) (codes "min_pages") _ d found
-            parts.min_pages refl h.min_pages;
-        retention = keeps_other (number_below (2 ^ 64)) (codes "retention") _ d found
-            parts.retention refl h.retention;
-        low_water = keeps_other time_of (codes "low_water") _ d found parts.low_water refl
-            h.low_water;
+        page_first = keeps_other (number_below (2 ^ 32)) (codes "page_first") _ d found _ refl h.page_first;
+        page_max = keeps_other (number_below (2 ^ 32)) (codes "page_max") _ d found _ refl h.page_max;
+        min_pages = keeps_other (number_below (2 ^ 32)) (codes "min_pages") _ d found _ refl h.min_pages;
+        retention = keeps_other (number_below (2 ^ 64)) (codes "retention") _ d found _ refl h.retention;
+        low_water = keeps_other time_of (codes "low_water") _ d found _ refl h.low_water;
         threads = keeps_new threads_in _ d ts found is;
       }
 

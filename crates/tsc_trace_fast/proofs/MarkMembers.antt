@@ -1,6 +1,6 @@
 -- The members of a mark that were read, and the mark that they are.
 use Rattle.std.proofs.Common.{◌≡◌, ℕ, List, ◌∷◌, Option, Some, None, Ok, IfSome, refl}
-use Rattle.std.specs.Prelude.{codes, unwrap_or, option_map}
+use Rattle.std.specs.Prelude.{codes, unwrap_or}
 use Rattle.serde_json.specs.Data.{Data, object, Members, no_members, put}
 use Rattle.json.specs.Token.{Token}
 use Rattle.json.specs.Json.{read_key}
@@ -25,9 +25,8 @@ module _ (found : Members) (parts : MarkParts) (d : Data) (h : KeepsMark found p
       record {
         named = named_put mark_names _ d found refl h.named;
         span = keeps_new added_span _ d span found is;
-        time = keeps_other time_of (codes "time") _ d found parts.time refl h.time;
-        owner = keeps_other owner_there (codes "owner") _ d found (option_map owner_of parts.owner)
-            refl h.owner;
+        time = keeps_other time_of (codes "time") _ d found _ refl h.time;
+        owner = keeps_other owner_there (codes "owner") _ d found _ refl h.owner;
       }
 
   pub mark_time : (at : Time) → time_of d ≡ Ok at →
@@ -36,10 +35,9 @@ module _ (found : Members) (parts : MarkParts) (d : Data) (h : KeepsMark found p
   mark_time at is =
       record {
         named = named_put mark_names _ d found refl h.named;
-        span = keeps_other added_span (codes "span") _ d found parts.span refl h.span;
+        span = keeps_other added_span (codes "span") _ d found _ refl h.span;
         time = keeps_new time_of _ d at found is;
-        owner = keeps_other owner_there (codes "owner") _ d found (option_map owner_of parts.owner)
-            refl h.owner;
+        owner = keeps_other owner_there (codes "owner") _ d found _ refl h.owner;
       }
 
   pub mark_owner : (name : List ℕ) → owner_there d ≡ Ok (owner_of name) →
@@ -48,8 +46,8 @@ module _ (found : Members) (parts : MarkParts) (d : Data) (h : KeepsMark found p
   mark_owner name is =
       record {
         named = named_put mark_names _ d found refl h.named;
-        span = keeps_other added_span (codes "span") _ d found parts.span refl h.span;
-        time = keeps_other time_of (codes "time") _ d found parts.time refl h.time;
+        span = keeps_other added_span (codes "span") _ d found _ refl h.span;
+        time = keeps_other time_of (codes "time") _ d found _ refl h.time;
         owner = keeps_new owner_there _ d (owner_of name) found is;
       }
 

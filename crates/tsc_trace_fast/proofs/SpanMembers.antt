@@ -18,38 +18,38 @@ use Rattle.tsc_trace_fast.proofs.MembersKept.{named_put, keeps_new, keeps_other,
 module _ (found : Members) (parts : SpanParts) (d : Data) (h : KeepsSpan found parts) where
   pub span_start : (k : KeyBytes) → key_of d ≡ Ok k →
       KeepsSpan (put (codes "start") d found)
-      (record { start = Some k; end = parts.end; ends = parts.ends; onward = parts.onward })
+      (record parts { start = Some k })
   span_start k is =
       record {
         named = named_put span_names _ d found refl h.named;
         start = keeps_new key_of _ d k found is;
-        end = keeps_other key_of (codes "end") _ d found parts.end refl h.end;
-        ends = keeps_other ends_of (codes "ends") _ d found parts.ends refl h.ends;
-        onward = keeps_other excluded_of (codes "onward") _ d found parts.onward refl h.onward;
+        end = keeps_other key_of (codes "end") _ d found _ refl h.end;
+        ends = keeps_other ends_of (codes "ends") _ d found _ refl h.ends;
+        onward = keeps_other excluded_of (codes "onward") _ d found _ refl h.onward;
       }
 
   pub span_end : (k : KeyBytes) → key_of d ≡ Ok k →
       KeepsSpan (put (codes "end") d found)
-      (record { start = parts.start; end = Some k; ends = parts.ends; onward = parts.onward })
+      (record parts { end = Some k })
   span_end k is =
       record {
         named = named_put span_names _ d found refl h.named;
-        start = keeps_other key_of (codes "start") _ d found parts.start refl h.start;
+        start = keeps_other key_of (codes "start") _ d found _ refl h.start;
         end = keeps_new key_of _ d k found is;
-        ends = keeps_other ends_of (codes "ends") _ d found parts.ends refl h.ends;
-        onward = keeps_other excluded_of (codes "onward") _ d found parts.onward refl h.onward;
+        ends = keeps_other ends_of (codes "ends") _ d found _ refl h.ends;
+        onward = keeps_other excluded_of (codes "onward") _ d found _ refl h.onward;
       }
 
   pub span_ends : (e : Ends) → ends_of d ≡ Ok e →
       KeepsSpan (put (codes "ends") d found)
-      (record { start = parts.start; end = parts.end; ends = Some e; onward = parts.onward })
+      (record parts { ends = Some e })
   span_ends e is =
       record {
         named = named_put span_names _ d found refl h.named;
-        start = keeps_other key_of (codes "start") _ d found parts.start refl h.start;
-        end = keeps_other key_of (codes "end") _ d found parts.end refl h.end;
+        start = keeps_other key_of (codes "start") _ d found _ refl h.start;
+        end = keeps_other key_of (codes "end") _ d found _ refl h.end;
         ends = keeps_new ends_of _ d e found is;
-        onward = keeps_other excluded_of (codes "onward") _ d found parts.onward refl h.onward;
+        onward = keeps_other excluded_of (codes "onward") _ d found _ refl h.onward;
       }
 
   pub span_onward : (b : Bool) → excluded_of d ≡ Ok b →
@@ -58,9 +58,9 @@ module _ (found : Members) (parts : SpanParts) (d : Data) (h : KeepsSpan found p
   span_onward b is =
       record {
         named = named_put span_names _ d found refl h.named;
-        start = keeps_other key_of (codes "start") _ d found parts.start refl h.start;
-        end = keeps_other key_of (codes "end") _ d found parts.end refl h.end;
-        ends = keeps_other ends_of (codes "ends") _ d found parts.ends refl h.ends;
+        start = keeps_other key_of (codes "start") _ d found _ refl h.start;
+        end = keeps_other key_of (codes "end") _ d found _ refl h.end;
+        ends = keeps_other ends_of (codes "ends") _ d found _ refl h.ends;
         onward = keeps_new excluded_of _ d b found is;
       }
 

@@ -12,18 +12,19 @@
 
 use std::process::ExitCode;
 use tsc_commands::program::program;
-use tsc_commands::{Meter, SystemFiles, fetch_words, standard_errors, standard_output};
+use tsc_commands::{Meter, Streams, SystemFiles, fetch_words, standard_errors, standard_output};
 
 fn main(rt: HostRuntime) -> ExitCode {
-    let mut output = standard_output(rt.stdout());
-    let mut errors = standard_errors(rt.stderr());
+    let mut streams = Streams {
+        output: standard_output(rt.stdout()),
+        errors: standard_errors(rt.stderr()),
+    };
     program(
         &rt,
         rt.alloc(),
         fetch_words(&rt),
         &SystemFiles::of(&rt),
-        &mut output,
-        &mut errors,
+        &mut streams,
         &Meter::new(&rt, rt.stderr()),
     )
 }

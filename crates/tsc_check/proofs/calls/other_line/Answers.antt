@@ -1,4 +1,5 @@
--- List by list, by what is left.
+-- List by list, by what is left. (What answers share is stated in each: the facts `c` of each goal
+-- have a type of their own.)
 use Rattle.std.proofs.Common.{◌≡◌, ◌∙◌, sym, ap, subst, ◌<◌, ◌≤◌, ◌+◌, length, drop, Some, true, arith}
 use Rattle.std.proofs.lemmas.List.{length-map}
 use Rattle.std.specs.Prelude.{slice_get}

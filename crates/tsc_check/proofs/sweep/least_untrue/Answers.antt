@@ -1,4 +1,5 @@
--- Proves the contract of `least_untrue`. The least line whose answer is wrong.
+-- Proves the contract of `least_untrue`. The least line whose answer is wrong. (What answers share
+-- is stated in each: the facts `c` of each goal have a type of their own.)
 use Rattle.std.proofs.Common.{sym, ap, subst, ◌≤◌, suc, length, add-one, arith}
 use Rattle.tsc_cache.specs.Settings.{Settings}
 use Rattle.tsc_cache.specs.State.{opening}

@@ -14,13 +14,23 @@ use Rattle.tsc_run.proofs.Unstarted.{is_started}
 use Rattle.tsc_run.proofs.Truth.{run_of}
 use Rattle.tsc_run.proofs.run.run_trace.Goals as goal
 
-pub run_lists-requires-clause-fits : goal.run_lists-requires-clause-fits
-run_lists-requires-clause-fits g c κs within =
+pub run_lists-requires : goal.run_lists-requires
+run_lists-requires g c =
     let inside = c.trace.inside in
     let lists = map (λ calls. calls.items) c.slice-lists.result.now in
     let fit : AllFit inside.config lists =
-    subst (AllFit inside.config) (sym c.slice-lists.ensures.value) c.trace.invariant in
-    subst (λ (s : Settings). AllFit s lists) (sym c.in_ok-cache.ensures.opened.settings_kept) fit
+    subst (AllFit inside.config) (sym c.slice-lists.ensures.value) c.trace.invariant in (
+      search rules,
+      (
+        search rules,
+        record {
+          seats = search rules;
+          calls = search rules;
+          fits = subst (λ (s : Settings). AllFit s lists)
+              (sym c.in_ok-cache.ensures.opened.settings_kept) fit;
+        },
+      ),
+    )
 
 pub close-requires : goal.close-requires
 close-requires g c = record { seats = c.in_ok-runs.ensures.runs.of_cache }

@@ -80,15 +80,15 @@ loop-thread-preserved g c =
     played settings thread 0 at calls = c.in_ok-play_list.ensures.lines settings at stands in
     record {
       at = next_all settings at calls;
-      stands = c.in_ok-play_list.ensures.stands settings at stands;
+      stands = c.in_ok-play_list.ensures.made.stands settings at stands;
       told = told_with_list settings thread at c.loop-thread.player.lines.items
           c.play_list.new.self.lines.items (log_of c.args.trace.now) calls lists here added
           c.loop-thread.invariant.told;
       counted =
-          let more = c.in_ok-play_list.ensures.count in
+          let more = c.in_ok-play_list.ensures.made.count in
           let most : length calls ≤ most_calls =
           rw c.deref.ensures.value
           (calls_within slices thread c.calls-item.result fits within c.calls-item.is) in
           omega arith;
-      settings = c.in_ok-play_list.ensures.settings ∙ c.loop-thread.invariant.settings;
+      settings = c.in_ok-play_list.ensures.made.settings ∙ c.loop-thread.invariant.settings;
     }

@@ -1,4 +1,5 @@
--- The slots tell what the lines before tell.
+-- The slots tell what the lines before tell. (What answers share is stated in each: the facts `c`
+-- of each goal have a type of their own.)
 use Rattle.std.proofs.Common.{◌≡◌, ◌∙◌, sym, ap, refl, ◌-◌, ◌≤◌, ◌<◌, ℕ, length, get_or, is_some, Some, None, nat_le, nat_lt, true, false, arith}
 use Rattle.std.specs.Prelude.{slice_get}
 use Rattle.std.proofs.lemmas.Bool.Decides.{nat_tests}

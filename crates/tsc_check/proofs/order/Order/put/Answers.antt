@@ -1,4 +1,5 @@
--- One more line stands in its slot.
+-- One more line stands in its slot. (What answers share is stated in each: the facts `c` of each
+-- goal have a type of their own.)
 use Rattle.std.proofs.Common.{◌≡◌, ◌∙◌, sym, ap, refl, length, get_or, Some, arith}
 use Rattle.std.specs.Prelude.{slice_get}
 use Rattle.std.proofs.lemmas.Option.{slice_get_read}

@@ -5,5 +5,5 @@ use Rattle.tsc_trace.proofs.player.Player.answer.Goals as goal
 pub returns-in_ok-added-in-Add-clause-said : goal.returns-in_ok-added-in-Add-clause-said
 returns-in_ok-added-in-Add-clause-said c = search rules
 
-pub returns-in_ok-added-in-Batch-clause-stands : goal.returns-in_ok-added-in-Batch-clause-stands
-returns-in_ok-added-in-Batch-clause-stands c = search rules
+pub returns-in_ok-added-in-Batch-clause-made : goal.returns-in_ok-added-in-Batch-clause-made
+returns-in_ok-added-in-Batch-clause-made c = search rules

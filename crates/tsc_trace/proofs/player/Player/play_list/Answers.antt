@@ -25,11 +25,11 @@ loop-index-preserved g c =
           settings c.args.thread l.index c.args.calls.now c.index-calls-index.result
           c.in_ok-said.said from (omega arith) c.index-calls-index.is
           (λ s a k. c.in_ok-said.ensures.said s a k)
-          (λ s a k. let t = c.in_ok-said.ensures.stands s a k
+          (λ s a k. let t = c.in_ok-said.ensures.made.stands s a k
           in record { state = t.state; adds = t.adds }) lines
           (l.invariant.under_way settings from stands);
-      counted = omega (arith, c.in_ok-said.ensures.count, l.invariant.counted);
-      settings = c.in_ok-said.ensures.settings ∙ l.invariant.settings;
+      counted = omega (arith, c.in_ok-said.ensures.made.count, l.invariant.counted);
+      settings = c.in_ok-said.ensures.made.settings ∙ l.invariant.settings;
     }
 
 pub returns-clause-lines : goal.returns-clause-lines
@@ -38,8 +38,13 @@ returns-clause-lines g c = λ settings from stands.
     all_told c.args.self.now l.self settings c.args.thread l.index c.args.calls.now from
     (omega arith) (l.invariant.under_way settings from stands)
 
-pub returns-clause-stands : goal.returns-clause-stands
-returns-clause-stands g c = λ settings from stands.
+pub returns-clause-made : goal.returns-clause-made
+returns-clause-made g c =
     let l = c.loop-index in
-    all_made c.args.self.now l.self settings c.args.thread l.index c.args.calls.now from
-    (omega arith) (l.invariant.under_way settings from stands)
+    record {
+      stands = λ settings from stands.
+          all_made c.args.self.now l.self settings c.args.thread l.index c.args.calls.now from
+          (omega arith) (l.invariant.under_way settings from stands);
+      count = omega (arith, l.invariant.counted);
+      settings = l.invariant.settings;
+    }

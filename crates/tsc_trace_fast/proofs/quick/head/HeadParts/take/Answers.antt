@@ -1,4 +1,5 @@
--- Proves the contract of `HeadParts::take`. Reads the member of this name.
+-- Proves the contract of `HeadParts::take`. Reads the member of this name. (Each member has a goal
+-- with names of its own, so the six answers have one form and no lemma makes them shorter.)
 use Rattle.std.proofs.Common.{arith}
 use Rattle.tsc_trace_fast.proofs.TokenLemmas.{deeper}
 use Rattle.tsc_trace_fast.proofs.HeadMembers.{head_page_first, head_page_max, head_min_pages, head_retention, head_low_water, head_threads}

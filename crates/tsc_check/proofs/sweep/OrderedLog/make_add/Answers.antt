@@ -1,25 +1,26 @@
--- Proves the contract of `make_add`. Makes the Add of a line, and lowers a line number to that of
--- this line where its answer is another.
-use Rattle.std.proofs.Common.{◌≡◌, sym, subst, refl, length, Some}
+-- Proves the contract of `OrderedLog::make_add`. Makes the Add of a line, and lowers a line number
+-- to that of this line where its answer is another. (What answers share is stated in each: the
+-- facts `c` of each goal have a type of their own.)
+use Rattle.std.proofs.Common.{◌≡◌, sym, subst, refl, length, Some, ap, get_or}
 use Rattle.std.specs.Prelude.{slice_get}
 use Rattle.std.proofs.lemmas.Option.{slice_get_read}
 use Rattle.tsc_cache.specs.History.{state_of}
 use Rattle.tsc_cache.specs.CacheView.{StandsForState}
 use Rattle.tsc_check.specs.Verdict.{calls_of, first_adds, is_wrong_answer}
 use Rattle.tsc_check.proofs.Sweeping.{add_told, lowers_at, call_there, next_adds}
-use Rattle.tsc_check.proofs.sweep.make_add.Goals as goal
+use Rattle.tsc_check.proofs.sweep.OrderedLog.make_add.Goals as goal
 
 pub returns-in_ok-is_other_add-in-Some-clause-lowers :
     goal.returns-in_ok-is_other_add-in-Some-clause-lowers
 returns-in_ok-is_other_add-in-Some-clause-lowers c = λ place adds stands.
-    let trace = c.args.trace.now in
-    let lines = c.args.lines.now in
-    let line = c.index-lines-i.result in
+    let trace = c.args.self.now.trace.now in
+    let lines = c.args.self.now.lines.now in
+    let line = get_or lines c.args.i c.index-self-i.result in
     let at : slice_get lines c.args.i ≡ Some line =
     slice_get_read lines (length lines) c.args.i line refl c.requires.index
-    c.index-lines-i.is in
+    (ap (get_or lines c.args.i) c.index-self-i.is) in
     let other = c.in_ok-is_other_add-in-Some.field-0 in
-    let told = add_told trace lines c.requires.order c.args.i line at c.in-Some.call.now
+    let told = add_told trace lines c.args.self.now.in_order c.args.i line at c.in-Some.call.now
     (sym c.in-Some.ensures.value) other
     (λ h. StandsForState c.args.cache.now trace.config (state_of trace.config h))
     (λ h s a k. c.in_ok-is_other_add-in-Some.ensures.other trace.config h s a k) place adds
@@ -30,13 +31,13 @@ returns-in_ok-is_other_add-in-Some-clause-lowers c = λ place adds stands.
 pub returns-in_ok-is_other_add-in-Some-clause-stands :
     goal.returns-in_ok-is_other_add-in-Some-clause-stands
 returns-in_ok-is_other_add-in-Some-clause-stands c = λ place adds stands.
-    let trace = c.args.trace.now in
-    let lines = c.args.lines.now in
-    let line = c.index-lines-i.result in
+    let trace = c.args.self.now.trace.now in
+    let lines = c.args.self.now.lines.now in
+    let line = get_or lines c.args.i c.index-self-i.result in
     let at : slice_get lines c.args.i ≡ Some line =
     slice_get_read lines (length lines) c.args.i line refl c.requires.index
-    c.index-lines-i.is in
-    let next = next_adds trace lines c.requires.order place c.args.i line at adds c.in-Some.call.now
+    (ap (get_or lines c.args.i) c.index-self-i.is) in
+    let next = next_adds trace lines c.args.self.now.in_order place c.args.i line at adds c.in-Some.call.now
     (sym c.in-Some.ensures.value) in
     subst (λ g. StandsForState c.is_other_add.new.cache trace.config
     (state_of trace.config g)) next.1
@@ -45,20 +46,20 @@ returns-in_ok-is_other_add-in-Some-clause-stands c = λ place adds stands.
 
 pub returns-in-None-clause-lowers : goal.returns-in-None-clause-lowers
 returns-in-None-clause-lowers c = λ place adds stands.
-    let trace = c.args.trace.now in
-    let lines = c.args.lines.now in
-    let line = c.index-lines-i.result in
+    let trace = c.args.self.now.trace.now in
+    let lines = c.args.self.now.lines.now in
+    let line = get_or lines c.args.i c.index-self-i.result in
     let at : slice_get lines c.args.i ≡ Some line =
     slice_get_read lines (length lines) c.args.i line refl c.requires.index
-    c.index-lines-i.is in
-    absurd (call_there trace lines c.requires.order c.args.i line at (sym c.in-None.ensures.value))
+    (ap (get_or lines c.args.i) c.index-self-i.is) in
+    absurd (call_there trace lines c.args.self.now.in_order c.args.i line at (sym c.in-None.ensures.value))
 
 pub returns-in-None-clause-stands : goal.returns-in-None-clause-stands
 returns-in-None-clause-stands c = λ place adds stands.
-    let trace = c.args.trace.now in
-    let lines = c.args.lines.now in
-    let line = c.index-lines-i.result in
+    let trace = c.args.self.now.trace.now in
+    let lines = c.args.self.now.lines.now in
+    let line = get_or lines c.args.i c.index-self-i.result in
     let at : slice_get lines c.args.i ≡ Some line =
     slice_get_read lines (length lines) c.args.i line refl c.requires.index
-    c.index-lines-i.is in
-    absurd (call_there trace lines c.requires.order c.args.i line at (sym c.in-None.ensures.value))
+    (ap (get_or lines c.args.i) c.index-self-i.is) in
+    absurd (call_there trace lines c.args.self.now.in_order c.args.i line at (sym c.in-None.ensures.value))

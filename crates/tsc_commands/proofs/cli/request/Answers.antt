@@ -6,7 +6,7 @@ use Rattle.tsc_commands.specs.Words.{Answers, Explains, Request, Word, asks, req
 use Rattle.tsc_commands.specs.Commands.{request_found}
 use Rattle.tsc_commands.proofs.WordLemmas.{found_is_asked, fault_asks_nothing}
 use Rattle.tsc_commands.proofs.FoundLemmas.{nothing_explains}
-use Rattle.tsc_commands.proofs.words.request.Goals as goal
+use Rattle.tsc_commands.proofs.cli.request.Goals as goal
 
 abbrev texts_of : goal.Joined-matches → List Word
 texts_of c = map string_bytes c.args.words.now

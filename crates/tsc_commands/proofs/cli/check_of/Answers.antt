@@ -5,7 +5,7 @@ use Rattle.clap.specs.Words.{Text, first_value, found_of}
 use Rattle.tsc_commands.specs.Commands.{both}
 use Rattle.tsc_commands.specs.Words.{Answers, Request, asks}
 use Rattle.tsc_commands.proofs.FoundLemmas.{asks_check, checked, explains_first, explains_second, refused_alike}
-use Rattle.tsc_commands.proofs.words.check_of.Goals as goal
+use Rattle.tsc_commands.proofs.cli.check_of.Goals as goal
 
 pub returns-in_err-trace : goal.returns-in_err-trace
 returns-in_err-trace c =

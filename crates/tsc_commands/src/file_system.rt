@@ -1,6 +1,6 @@
 //! Places where the program finds files by their names.
 ghost use Rattle.std.specs.Prelude.{ℕ, List};
-ghost use Rattle.tsc_commands.specs.Place.{IsOpening, Opening};
+ghost use Rattle.tsc_commands.specs.FileSystem.{IsOpening, Opening};
 
 use tsc_stream::Source;
 
@@ -13,8 +13,8 @@ pub enum OpenFault {
     NoMemory,
 }
 
-/// A place where files are found by their names.
-pub trait Place {
+/// Files, found by their names.
+pub trait FileSystem {
     /// A file that was opened.
     type File: Source + Drop;
 

@@ -4,7 +4,7 @@ use Rattle.std.proofs.Common.{◌∙◌, sym, ap, refl, subst, Option}
 use Rattle.std.specs.Prelude.{option_map}
 use Rattle.tsc_commands.specs.Words.{Answers, Request, asks, replay, run}
 use Rattle.tsc_commands.proofs.FoundLemmas.{asks_file, explains_found, refused_alike}
-use Rattle.tsc_commands.proofs.words.request_for.Goals as goal
+use Rattle.tsc_commands.proofs.cli.request_for.Goals as goal
 
 pub returns-in_err-file-in-replay : goal.returns-in_err-file-in-replay
 returns-in_err-file-in-replay c =

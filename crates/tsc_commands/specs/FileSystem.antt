@@ -1,7 +1,7 @@
 -- What opening a file comes to.
 use Rattle.std.specs.Prelude.{◌≡◌, ℕ, List, Option, Result, Ok, Err}
 use Rattle.tsc_stream.specs.Stream.{KnownReader, Troubles, fresh_reader}
-use Rattle.tsc_commands.specs.declared.place.OpenFault.{OpenFault}
+use Rattle.tsc_commands.specs.declared.file_system.OpenFault.{OpenFault}
 
 -- What is known of a file: its bytes, where they are known, and with which troubles a read may end.
 pub record KnownFile : Type 0 where
@@ -29,4 +29,4 @@ IsOpening known may_be (Err fault) = may_be (Err fault)
 
 -- nothing is known of what an opening comes to
 abbrev pub says_nothing : {P : Type 0} → P → List ℕ → Opening → Type 0
-says_nothing place name opening = Unit {0}
+says_nothing files name opening = Unit {0}

@@ -4,7 +4,7 @@ ghost use Rattle.clap.specs.Words.{FailsBy, app_of, fault_of, first_value, found
 ghost use Rattle.clap.specs.declared.builder.Command.TheViews.{out-Command as fields_of};
 ghost use Rattle.tsc_trace.specs.LogText.{line_feed};
 ghost use Rattle.tsc_commands.specs.Words.{Answers, Explains, asks, request_in, refusal_status, refusal_text};
-ghost use Rattle.tsc_commands.specs.declared.words.WordsFault.TheVariants.{NoMemory};
+ghost use Rattle.tsc_commands.specs.declared.cli.WordsFault.TheVariants.{NoMemory};
 ghost use Rattle.tsc_commands.specs.Commands.{app_of_files, app_of_replay, bare_app, check_found, one_file_shape, program_app, request_for, request_found, trace_and_log_shape};
 
 use clap::error::ErrorKind;
@@ -62,7 +62,7 @@ impl From<AllocError> for WordsFault {
 }
 
 /// Reads the program's words, of which the first is its own name. An `Err` holds the exit status.
-pub fn words(alloc: Global, words: &[String]) -> Result<Asked, u8>
+pub fn parse(alloc: Global, words: &[String]) -> Result<Asked, u8>
     ensures ok { IfOk result (λ asked. request_in (map string_bytes words.now) ≡
         Some (asks asked)) }
     ensures err { IfErr result (λ status. (fault : WordsFault) × (status ≡ refusal_status fault)
