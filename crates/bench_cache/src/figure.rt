@@ -140,20 +140,23 @@ pub enum Tells {
 /// is compared with.
 pub type Names = &'static [(&'static str, usize)];
 
+/// The figures of operations, and what is printed of them.
+#[derive(Clone, Copy)]
+pub struct Table<'a> {
+    pub tells: Tells,
+    pub names: Names,
+    pub least: &'a Least,
+    /// The figures that they are compared with.
+    pub others: &'a Least,
+}
+
 /// Prints a line for each operation. Gives `None` where that is refused.
-pub fn print_lines(
-    rt: &HostRuntime,
-    head: &str,
-    tells: Tells,
-    names: Names,
-    least: &Least,
-    others: &Least,
-) -> Option<()> {
-    for (row, (name, beside)) in names.iter().enumerate() {
-        let figure = figure_at(least, row);
+pub fn print_lines(rt: &HostRuntime, head: &str, table: Table<'_>) -> Option<()> {
+    for (row, (name, beside)) in table.names.iter().enumerate() {
+        let figure = figure_at(table.least, row);
         let (operations, each) = (figure.operations, figure.each());
-        let percent = figure.percent_of(figure_at(others, *beside));
-        let told = match tells {
+        let percent = figure.percent_of(figure_at(table.others, *beside));
+        let told = match table.tells {
             Tells::Count => println!(rt; "{head}, {name}: {operations} operations"),
             Tells::Each => println!(rt; "{head}, {name}: {operations} operations, {each} ns each"),
             Tells::Beside => {

@@ -53,7 +53,7 @@ use crate::caches::{
     BATCH_OPERATIONS, CACHE_OPERATIONS, MANY, PAGES, STOPPING, measure_batches, measure_cache,
     measure_stops,
 };
-use crate::figure::{Least, NO_TURNS, Names, ROUNDS, Tells, print_lines};
+use crate::figure::{Least, NO_TURNS, ROUNDS, Table, Tells, print_lines};
 use crate::pages::{PAGE_OPERATIONS, measure_page};
 use crate::report::{
     LONG, print_all_times, print_crowds, print_longest, print_marks, print_shared, short_run_shared,
@@ -213,8 +213,13 @@ fn measure_all<R: Threads + Wait + Sync>(host: &HostRuntime, rt: &R, nodes: u32)
 /// Prints what batches take, on one thread and then at seats of a shared cache.
 fn print_batches<R: Threads + Wait + Sync>(host: &HostRuntime, rt: &R, nodes: u32) -> Option<()> {
     let least = measure_batches(host, nodes, BATCH_TURNS)?;
-    let tells = Tells::Beside;
-    print_cache(host, 1, nodes, tells, &BATCH_OPERATIONS, &least, &least)?;
+    let table = Table {
+        tells: Tells::Beside,
+        names: &BATCH_OPERATIONS,
+        least: &least,
+        others: &least,
+    };
+    print_cache(host, 1, nodes, table)?;
     print_marks(host, rt, nodes)
 }
 
@@ -222,8 +227,13 @@ fn print_batches<R: Threads + Wait + Sync>(host: &HostRuntime, rt: &R, nodes: u3
 fn print_bytes(rt: &HostRuntime, nodes: u32) -> Option<()> {
     let least = measure_bytes(rt, nodes, BYTES_TURNS)?;
     let head = format!(in rt.alloc(); "here, {nodes} nodes").ok()?;
-    let tells = Tells::Time;
-    print_lines(rt, &head, tells, &BYTES_OPERATIONS, &least, &NO_TURNS)
+    let table = Table {
+        tells: Tells::Time,
+        names: &BYTES_OPERATIONS,
+        least: &least,
+        others: &NO_TURNS,
+    };
+    print_lines(rt, &head, table)
 }
 
 /// Measures pages with each kind of keys, and prints it.
@@ -243,10 +253,21 @@ fn print_pages(
     pages: &Pages,
     others: &Pages,
 ) -> Option<()> {
-    let short = format!(in rt.alloc(); "{head}, {SHORT_KEYS}").ok()?;
-    print_lines(rt, &short, tells, &PAGE_OPERATIONS, &pages.0, &others.0)?;
-    let long = format!(in rt.alloc(); "{head}, {LONG_KEYS}").ok()?;
-    print_lines(rt, &long, tells, &PAGE_OPERATIONS, &pages.1, &others.1)
+    let kinds = [
+        (SHORT_KEYS, &pages.0, &others.0),
+        (LONG_KEYS, &pages.1, &others.1),
+    ];
+    for (kind, least, others) in kinds {
+        let head = format!(in rt.alloc(); "{head}, {kind}").ok()?;
+        let table = Table {
+            tells,
+            names: &PAGE_OPERATIONS,
+            least,
+            others,
+        };
+        print_lines(rt, &head, table)?;
+    }
+    Some(())
 }
 
 /// Measures caches, and prints it beside what operations took on a page of the same size.
@@ -259,23 +280,21 @@ fn measure_caches(
 ) -> Option<()> {
     for pages in PAGES {
         let least = measure_cache(rt, nodes, pages, turns)?;
-        print_cache(rt, pages, nodes, tells, &CACHE_OPERATIONS, &least, page)?;
+        let table = Table {
+            tells,
+            names: &CACHE_OPERATIONS,
+            least: &least,
+            others: page,
+        };
+        print_cache(rt, pages, nodes, table)?;
     }
     Some(())
 }
 
 /// Prints what operations on a cache of so many pages took.
-fn print_cache(
-    rt: &HostRuntime,
-    pages: u32,
-    nodes: u32,
-    tells: Tells,
-    names: Names,
-    least: &Least,
-    others: &Least,
-) -> Option<()> {
+fn print_cache(rt: &HostRuntime, pages: u32, nodes: u32, table: Table<'_>) -> Option<()> {
     let head = format!(in rt.alloc(); "{pages} x {nodes} nodes").ok()?;
-    print_lines(rt, &head, tells, names, least, others)
+    print_lines(rt, &head, table)
 }
 
 /// Prints what lookups that stop at the newest of many pages take beside those in a single page.

@@ -1,4 +1,3 @@
 pub mod Answered
 pub mod Handing
-pub mod Rows
 pub mod Times

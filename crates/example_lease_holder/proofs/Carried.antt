@@ -15,7 +15,7 @@ use Rattle.tsc_shared.specs.Answers.{Accepts, Learns, Meets, Looks, entry_by}
 use Rattle.timestamp_cache.specs.Words.{Time, Owner, OwnedTime, History, BeginsWith, SeatView, FrontView}
 use Rattle.timestamp_cache.specs.Clear.{IsClearOf, IsClearOfReads, AsksEarliestAt}
 use Rattle.timestamp_cache.proofs.Deciding.{clear_or_not}
-use Rattle.example_lease_holder.specs.Reads.{HasRead, since}
+use Rattle.example_lease_holder.specs.Reads.{HasRead, IsClearFor, since}
 use Rattle.example_lease_holder.proofs.Since.{since_rest}
 
 -- a key's span is met by itself
@@ -144,15 +144,18 @@ pub one_more : (xs ys zs : List OwnedTime) (x y : OwnedTime) → zs ≡ ys ++ x 
 one_more xs ys zs x y is same own = is ∙ ap (λ (l : List OwnedTime). l ++ x ∷ []) same ∙
     ap (λ (v : OwnedTime). xs ++ v ∷ []) own
 
--- A write is clear of all reads that are handed on to its seat, before it asks.
+-- A write is clear of all reads that are handed on to its seat before it asks, and of what its seat
+-- has seen.
 pub clear_of_handed : (span own : Interval) (handed : History) (old new : SeatView) (by : Owner)
     (from : Time) (told : Option Time) (reads : List OwnedTime)
     → own ≡ span → BeginsWith old.seen handed → AsksEarliestAt old new own by from told →
-    All (HasRead span handed) reads →
-    IfSome told (λ at. All (λ read. IsClearOf read by at) reads)
+    All (HasRead span handed) reads → IfSome told (λ at. IsClearFor reads new.seen span by at)
 clear_of_handed span own handed old new by from None reads same begins asks all = tt
 clear_of_handed span own handed old new by from (Some at) reads same begins asks all =
-    clear_of_all span new.seen by at reads
-    (subst (λ (s : Interval). IsClearOfReads new.seen s by at) same asks.reads)
-    (all_there_still span new.seen handed reads
-    (begins_on new.seen old.seen handed asks.goes_on.begins begins) all)
+    let clear = subst (λ (s : Interval). IsClearOfReads new.seen s by at) same asks.reads in
+    record {
+      answered = clear_of_all span new.seen by at reads clear
+          (all_there_still span new.seen handed reads
+          (begins_on new.seen old.seen handed asks.goes_on.begins begins) all);
+      seen = clear;
+    }

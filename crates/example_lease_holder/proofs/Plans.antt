@@ -9,7 +9,7 @@ use Rattle.timestamp_cache.specs.Words.{Time, is_before, Owner, OwnedTime, Inter
 use Rattle.timestamp_cache.specs.Clear.{IsClearOfReads}
 use Rattle.example_lease_holder.specs.declared.Plan.{Plan}
 use Rattle.example_lease_holder.specs.declared.lease.Written.{Written}
-use Rattle.example_lease_holder.specs.Reads.{HasRead, read_of, since}
+use Rattle.example_lease_holder.specs.Reads.{HasRead, IsClearFor, read_of, since}
 use Rattle.example_lease_holder.specs.Plans.{time_at, id_of, MayWriteAt}
 use Rattle.example_lease_holder.proofs.Since.{since_begins, since_earlier}
 
@@ -60,22 +60,20 @@ HasFirst plan n h = (k : ℕ) (d : Bor (List ℕ) × ℕ) → k < n
 
 -- and one more, where that was read
 pub one_read_more : (plan : Plan) (h before start : History) (n : ℕ) (d : Bor (List ℕ) × ℕ)
-    (time : Time) → n < length plan.reads.now → BeginsWith h before → BeginsWith before start
-    → HasFirst plan n (since start before) → time ≡ time_at (slice_index_or plan.reads.now n d).1
+    → n < length plan.reads.now → BeginsWith h before → BeginsWith before start
+    → HasFirst plan n (since start before)
     → HasRead (point (slice_index_or plan.reads.now n d).0.now) (since before h)
-    (read_of time (id_of plan.name)) → HasFirst plan (n + 1) (since start h)
-one_read_more plan h before start n d0 time there begins onward first at last k d below =
+    (read_of (time_at (slice_index_or plan.reads.now n d).1) (id_of plan.name))
+    → HasFirst plan (n + 1) (since start h)
+one_read_more plan h before start n d0 there begins onward first last k d below =
     let rows = plan.reads.now in
     let IsRead : (Bor (List ℕ) × ℕ) → Type 0 =
     λ row. HasRead (point row.0.now) (since start h)
     (read_of (time_at row.1) (id_of plan.name)) in
     let P : ℕ → Type 0 = λ k. (d : Bor (List ℕ) × ℕ) → IsRead (slice_index_or rows k d) in
     let row : Bor (List ℕ) × ℕ = slice_index_or rows n d0 in
-    let so_early : HasRead (point row.0.now) (since start h) (read_of time (id_of plan.name)) =
-    since_earlier (point row.0.now) h before start (read_of time (id_of plan.name)) begins
-    onward last in
-    let own : IsRead row = subst (λ (t : Time). HasRead (point row.0.now) (since start h)
-    (read_of t (id_of plan.name))) at so_early in
+    let own : IsRead row = since_earlier (point row.0.now) h before start
+    (read_of (time_at row.1) (id_of plan.name)) begins onward last in
     let here : P n = λ d. subst IsRead (same_there rows n d0 d there) own in
     below_more P n (λ k lower d. there_still _ (since start h) (since start before) _
     (since_begins h before start begins onward) (first k d lower)) here k below d
@@ -100,10 +98,9 @@ may_write_told (Err e) plan h by wanted own from on clear = tt
 
 -- What is clear of the reads on a span that a write was told of is clear of those on its key.
 pub clear_at : (h : History) (span : Interval) (key : List ℕ) (by : Owner) (at : Time)
-    (told : Option Time) → told ≡ Some at → span ≡ point key →
-    IfSome told (λ t. IsClearOfReads h span by t)
-    → IsClearOfReads h (point key) by at
-clear_at h span key by at told is own clear =
-    let here : IfSome (Some at) (λ t. IsClearOfReads h span by t) =
-    subst (λ (o : Option Time). IfSome o (λ t. IsClearOfReads h span by t)) is clear in
-    subst (λ (s : Interval). IsClearOfReads h s by at) own here
+    (told : Option Time) (reads : List OwnedTime) → told ≡ Some at → span ≡ point key →
+    IfSome told (λ t. IsClearFor reads h span by t) → IsClearOfReads h (point key) by at
+clear_at h span key by at told reads is own clear =
+    let here : IfSome (Some at) (λ t. IsClearFor reads h span by t) =
+    subst (λ (o : Option Time). IfSome o (λ t. IsClearFor reads h span by t)) is clear in
+    subst (λ (s : Interval). IsClearOfReads h s by at) own here.seen

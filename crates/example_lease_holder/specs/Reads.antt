@@ -1,7 +1,8 @@
 -- The reads of a store.
-use Rattle.std.specs.Prelude.{◌≡◌, true, length, drop}
+use Rattle.std.specs.Prelude.{◌≡◌, true, List, All, length, drop}
 use Rattle.std.specs.List.{Contains}
 use Rattle.timestamp_cache.specs.Words.{Time, Owner, OwnedTime, owner_of, Interval, overlaps, Mark, History, Entry}
+use Rattle.timestamp_cache.specs.Clear.{IsClearOf, IsClearOfReads}
 
 -- a read at a time, by a transaction
 abbrev pub read_of : Time → Owner → OwnedTime
@@ -23,3 +24,10 @@ HasRead span h read = ∥ Adds span h read ∥₁
 -- what a history has beyond another that it begins with
 abbrev pub since : History → History → History
 since start h = drop (length start) h
+
+-- A transaction's write of a key is clear at a time: of each of the reads that were answered, and
+-- of each read of a history on the key.
+pub record IsClearFor (reads : List OwnedTime) (h : History) (span : Interval) (by : Owner)
+    (at : Time) : Type 0 where
+  pub answered : All (λ read. IsClearOf read by at) reads
+  pub seen : IsClearOfReads h span by at

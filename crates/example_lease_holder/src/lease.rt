@@ -9,7 +9,7 @@ ghost use Rattle.std.specs.Sync.Mutex.{mutex_guard_value};
 ghost use Rattle.timestamp_cache.specs.Words.{zero_time, is_before, point, overlaps, look, state_of, BeginsWith};
 ghost use Rattle.timestamp_cache.specs.Clear.{IsClearOf, IsClearOfReads, AsksEarliestAt};
 ghost use Rattle.timestamp_cache.specs.Earliest.{TellsEarliest};
-ghost use Rattle.example_lease_holder.specs.Reads.{HasRead, read_of, since};
+ghost use Rattle.example_lease_holder.specs.Reads.{HasRead, IsClearFor, read_of, since};
 ghost use Rattle.example_lease_holder.specs.Versions.{value_at, written};
 
 use anyhow::{Context, Result, ensure};
@@ -48,6 +48,14 @@ pub struct RangeSeat<G: Range> {
 #[derive(Clone, Copy)]
 pub struct Version {
     pub at: Timestamp,
+    pub value: u64,
+}
+
+/// A write that a transaction wants to make: not before which time, by whom, and what.
+#[derive(Clone, Copy)]
+pub struct Wanted {
+    pub at: Timestamp,
+    pub by: Uuid,
     pub value: u64,
 }
 
@@ -225,17 +233,15 @@ impl<G: Range> Lease<G> {
         rt: &R,
         me: &mut RangeSeat<G>,
         key: &str,
-        wanted: Timestamp,
-        by: Uuid,
-        value: u64,
+        wanted: Wanted,
     ) -> Result<Written>
-        ensures from_on { IfOk result (λ written. is_before written.at wanted ≡ false) }
+        ensures from_on { IfOk result (λ written. is_before written.at wanted.at ≡ false) }
         ensures clear { IfOk result
-            (λ written. IsClearOfReads me.new.seat.seen (point key.now) by written.at) }
+            (λ written. IsClearOfReads me.new.seat.seen (point key.now) wanted.by written.at) }
         ensures seat { BeginsWith me.new.seat.seen me.old.seat.seen }
     {
         let mut held = self.hold(rt, key)?;
-        let told = self.write(rt, me, &mut held, wanted, by, value)?;
+        let told = self.write(rt, me, &mut held, wanted)?;
         let at = told.context("no time is late enough")?;
         let reason = self.reason(&mut held);
         Ok(Written { at, reason })
@@ -249,29 +255,27 @@ impl<G: Range> Lease<G> {
         rt: &R,
         me: &mut RangeSeat<G>,
         held: &mut Held<G>,
-        wanted: Timestamp,
-        by: Uuid,
-        value: u64,
+        wanted: Wanted,
     ) -> Result<Option<Timestamp>, NoMemory>
         ensures clear { IfOk result
-            (λ told. IfSome told (λ at. All (λ read. IsClearOf read by at)
-            held.old.answered.items)) }
-        ensures seen { IfOk result
-            (λ told. IfSome told (λ at. IsClearOfReads me.new.seat.seen held.old.span by at)) }
+            (λ told. IfSome told (λ at. IsClearFor held.old.answered.items me.new.seat.seen
+            held.old.span wanted.by at)) }
         ensures pushed { IfOk result
             (λ told. TellsEarliest
-            (λ t. IsClearOf (look (state_of G.cache.config me.new.seat.seen) held.old.span) by t)
-            wanted told) }
+            (λ t. IsClearOf (look (state_of G.cache.config me.new.seat.seen) held.old.span)
+            wanted.by t) wanted.at told) }
         ensures written { IfOk result
-            (λ told. held.new.versions.items ≡ held.old.versions.items ++ written told value) }
+            (λ told. held.new.versions.items ≡
+            held.old.versions.items ++ written told wanted.value) }
         ensures refused { OnErr result (held.new.versions.items ≡ held.old.versions.items) }
         ensures seat { BeginsWith me.new.seat.seen me.old.seat.seen }
         ensures key { (held.new.span ≡ held.old.span) ×
             (held.new.answered.items ≡ held.old.answered.items) }
     {
         self.take_over(rt, me, held);
-        let told = self.earliest(me, held, wanted, by);
+        let told = self.earliest(me, held, wanted.at, wanted.by);
         if let Some(at) = told {
+            let value = wanted.value;
             held.versions.push(Version { at, value })?;
         }
         Ok(told)

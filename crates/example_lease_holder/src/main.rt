@@ -13,7 +13,7 @@ ghost use Rattle.example_lease_holder.specs.Turns.{IsNew, HasTaken, HasSpoken, H
 
 mod lease;
 
-use crate::lease::{Held, Latch, Lease, Range, RangeSeat, Written};
+use crate::lease::{Held, Latch, Lease, Range, RangeSeat, Wanted, Written};
 use anyhow::{Context, Result};
 use std::alloc::{AllocError, Global};
 use std::marker::{Brand, PhantomData};
@@ -216,7 +216,12 @@ fn lay_down<G: Range, R: Wait>(
     ensures seat { BeginsWith me.new.seat.seen me.old.seat.seen }
 {
     let (key, wall, value) = plan.write;
-    lease.write_key(rt, me, key, at(wall), id_of(plan.name), value)
+    let wanted = Wanted {
+        at: at(wall),
+        by: id_of(plan.name),
+        value,
+    };
+    lease.write_key(rt, me, key, wanted)
 }
 
 impl<G: Range> Worker<G> {
@@ -233,32 +238,33 @@ impl<G: Range> Worker<G> {
         ensures wrote { self.new.wrote ≡ self.old.wrote }
     {
         let plan = self.plan;
-        for (key, wall) in plan.reads {
-            self.read_key(rt, alloc, lease, plan.name, key, at(*wall))?;
+        for row in plan.reads {
+            self.read_key(rt, alloc, lease, plan.name, row)?;
         }
         Ok(())
     }
 
-    /// Reads a key at a time, and tells what it is then. It is told once the read was added, and
-    /// not where that was refused.
+    /// Reads the key of a row at its time, and tells what it is then. It is told once the read was
+    /// added, and not where that was refused.
     fn read_key<R: Wait>(
         &mut self,
         rt: &R,
         alloc: Global,
         lease: &Lease<G>,
         name: char,
-        key: &str,
-        time: Timestamp,
+        row: &Row,
     ) -> Result<()>
         ensures added { OnOk result
-            (HasRead (point key.now) (since self.old.me.seat.seen self.new.me.seat.seen)
-            (read_of time (id_of name))) }
+            (HasRead (point row.now.0.now) (since self.old.me.seat.seen self.new.me.seat.seen)
+            (read_of (time_at row.now.1) (id_of name))) }
         ensures told { OnOk result (length self.new.told.items ≡ length self.old.told.items + 1) }
         ensures refused { OnErr result (self.new.told.items ≡ self.old.told.items) }
         ensures seat { BeginsWith self.new.me.seat.seen self.old.me.seat.seen }
         ensures plan { self.new.plan ≡ self.old.plan }
         ensures wrote { self.new.wrote ≡ self.old.wrote }
     {
+        let (key, wall) = *row;
+        let time = at(wall);
         let value = lease.read_key(rt, &mut self.me, key, time, id_of(name))?;
         keep(&mut self.told, read_line(alloc, name, key, time, value))
     }

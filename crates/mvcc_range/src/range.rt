@@ -329,18 +329,32 @@ impl Range {
         let by = transaction.by;
         let marks = marks_of(self.alloc, &transaction.reads, at, by)?;
         let nodes = VersionMap::prepare(self.alloc, &transaction.writes, at, by)?;
-        let writes = transaction.writes.as_slice();
+        let prepared = Prepared {
+            marks: &marks,
+            writes: transaction.writes.as_slice(),
+            nodes,
+            at,
+            by,
+        };
         lay_down(
             self.alloc,
             &mut self.cache,
             &mut self.versions,
-            &marks,
-            writes,
-            nodes,
-            (at, by),
+            prepared,
             now,
         )
     }
+}
+
+/// What a commit lays down: the marks of its reads, and its writes with a node for each of them.
+#[derive(Drop)]
+struct Prepared<'a> {
+    marks: &'a [Mark],
+    writes: &'a [Write],
+    nodes: LinkedList<LinkedList<Version>>,
+    at: Timestamp,
+    by: Uuid,
+    ghost whole: { nodes ≡ nodes_of at by writes.now },
 }
 
 /// Adds reads to a cache, and versions to those that are there, or leaves both as they are.
@@ -348,24 +362,27 @@ fn lay_down(
     alloc: Global,
     cache: &mut Cache,
     versions: &mut VersionMap,
-    marks: &[Mark],
-    writes: &[Write],
-    nodes: LinkedList<LinkedList<Version>>,
-    stamp: (Timestamp, Uuid),
+    prepared: Prepared<'_>,
     now: Timestamp,
 ) -> Result<(), NoMemory>
-    requires fit { all_fit cache.old.settings marks.now ≡ true }
-    requires nodes { nodes ≡ nodes_of stamp.0 stamp.1 writes.now }
-    ensures done { OnOk result (StandsAfterAll cache.old cache.new marks.now now
-        × ((k : KeyBytes) → chain_of versions.new k ≡ laid k stamp.0 stamp.1 writes.now
-        (chain_of versions.old k))) }
+    requires { all_fit cache.old.settings prepared.marks.now ≡ true }
+    ensures done { OnOk result (StandsAfterAll cache.old cache.new prepared.entry.marks.now now
+        × ((k : KeyBytes) → chain_of versions.new k ≡ laid k prepared.entry.at prepared.entry.by
+        prepared.entry.writes.now (chain_of versions.old k))) }
     ensures cache { OnErr result (cache.new ≡ cache.old) }
     ensures versions { OnErr result ((k : KeyBytes) → chain_of versions.new k
         ≡ chain_of versions.old k) }
 {
+    let Prepared {
+        marks,
+        writes,
+        nodes,
+        at,
+        by,
+    } = prepared;
     versions.make_room(alloc, writes)?;
     add_all(cache, marks, now)?;
-    versions.lay_down(writes, nodes, stamp.0, stamp.1);
+    versions.lay_down(writes, nodes, at, by);
     Ok(())
 }
 

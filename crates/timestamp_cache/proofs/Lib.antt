@@ -16,3 +16,4 @@ pub mod SummaryFields
 pub mod SummaryMarks
 pub mod SummaryFrame
 pub mod Rising
+pub mod Rows

@@ -1,6 +1,6 @@
 -- What is told of the reads of a span to whoever takes its lease over: the read summaries of
 -- CockroachDB's pkg/kv/kvserver/readsummary.
-use Rattle.std.specs.Prelude.{◌≡◌, ◌⊎◌, ℕ, ◌≤◌, List, [], ◌∷◌, length, true, false}
+use Rattle.std.specs.Prelude.{◌≡◌, ◌↔◌, ◌⊎◌, ℕ, ◌≤◌, List, [], ◌∷◌, length, true, false, Result, IsOk, IsErrOf}
 use Rattle.std.specs.List.{Contains}
 use Rattle.tsc_time.specs.Time.{Time, is_before}
 use Rattle.tsc_time.specs.OwnedTime.{OwnedTime, unowned}
@@ -10,6 +10,10 @@ use Rattle.tsc_page_nodes.specs.Page.{Mark, values_on}
 use Rattle.tsc_cache.specs.Settings.{Settings}
 use Rattle.tsc_cache.specs.State.{CacheState, look}
 use Rattle.tsc_cache.specs.CacheView.{CacheView, StandsForState}
+use Rattle.tsc_cache.specs.Batch.{all_fit, is_any_kept}
+use Rattle.tsc_cache.specs.declared.added.Added.{Added}
+use Rattle.tsc_cache.specs.declared.fault.CacheFault.{CacheFault}
+use Rattle.tsc_cache.specs.declared.fault.CacheFault.TheVariants.{TooLarge}
 
 -- a span, a floor for all of it, and marks above that
 pub record Summary : Type 0 where
@@ -66,3 +70,11 @@ pub record TakesOver (old new : CacheState) (told : Summary) : Type 0 where
   pub exact : (inner : Interval) → IsWithin inner told.span →
       is_before new.floor (look new inner).time ≡ true →
       look new inner ≡ joint (look old inner) (summary_answer told inner ∷ [])
+
+-- A summary is refused by a cache if one of its spans is too large for it, and else only for want
+-- of memory, and never where none of its marks would be kept.
+pub record RefusesOnlyFor (cache : CacheView) (told : Summary) (did : Result Added CacheFault) :
+    Type 0 where
+  pub too_large : IsErrOf did TooLarge ↔ (all_fit cache.settings (marks_told told) ≡ false)
+  pub memory : all_fit cache.settings (marks_told told) ≡ true →
+      is_any_kept cache.floor (marks_told told) ≡ false → IsOk did

@@ -1,4 +1,4 @@
-ghost use Rattle.std.specs.Prelude.{◌≡◌, ◌↔◌, [], ◌&&◌, not, option_map, true, false, IsOk, IfOk, IsErrOf, OnOk, OnErr};
+ghost use Rattle.std.specs.Prelude.{◌≡◌, [], ◌&&◌, not, option_map, true, false, IfOk, OnOk, OnErr};
 ghost use Rattle.tsc_time.specs.Time.{is_before};
 ghost use Rattle.tsc_span.specs.Span.{is_below, is_empty_span, key_of_cut, between};
 ghost use Rattle.tsc_span.specs.Cuts.{cut_of};
@@ -7,7 +7,7 @@ ghost use Rattle.tsc_cache.specs.State.{CacheState, step_all};
 ghost use Rattle.tsc_cache.specs.Batch.{all_fit, is_any_kept, AddsAll};
 ghost use Rattle.tsc_cache.specs.CacheView.{StandsForState};
 ghost use Rattle.tsc_cache.specs.Keys.{keys_seen};
-ghost use Rattle.timestamp_cache.specs.HandOver.{marks_told, Summarizes, TakesOver};
+ghost use Rattle.timestamp_cache.specs.HandOver.{marks_told, RefusesOnlyFor, Summarizes, TakesOver};
 ghost use Rattle.timestamp_cache.specs.Stretches.{is_after, stretch_end, IsStretch, told_more};
 
 use std::alloc::Global;
@@ -149,11 +149,8 @@ pub fn apply(cache: &mut Cache, summary: &ReadSummary, now: Timestamp) -> Result
         → added ≡ (step_all settings s (marks_told summary.now) now).added) }
     ensures seen { IfOk result (λ added. AddsAll cache.old cache.new (marks_told summary.now) now
         added) }
-    ensures too_large { IsErrOf result CacheFault.TooLarge ↔
-        (all_fit cache.old.settings (marks_told summary.now) ≡ false) }
+    ensures refused { RefusesOnlyFor cache.old summary.now result }
     ensures unchanged { OnErr result (cache.new ≡ cache.old) }
-    ensures memory { all_fit cache.old.settings (marks_told summary.now) ≡ true →
-        is_any_kept cache.old.floor (marks_told summary.now) ≡ false → IsOk result }
 {
     if !fits_all(cache, summary) {
         return Err(CacheFault::TooLarge);

@@ -2,7 +2,7 @@
 -- times these may be laid down, in their order.
 use Rattle.std.proofs.Common.{drop, slice_index_or, ◌+◌}
 use Rattle.example_hand_over.specs.Answered.{IsPushed}
-use Rattle.example_hand_over.proofs.Rows.{one_more_made, all_made, left_at, none_left}
+use Rattle.timestamp_cache.proofs.Rows.{one_more_made, all_made, left_at, none_left}
 use Rattle.example_hand_over.proofs.ask_all.Goals as goal
 
 pub loop-write-preserved : goal.loop-write-preserved

@@ -2,7 +2,7 @@
 -- which times these may be laid down, in their order.
 use Rattle.std.proofs.Common.{drop}
 use Rattle.example_hand_over.specs.Answered.{IsPushed}
-use Rattle.example_hand_over.proofs.Rows.{IsPartWay}
+use Rattle.timestamp_cache.proofs.Rows.{IsPartWay}
 use Rattle.example_hand_over.proofs.ask_all.Given as goal
 
 abbrev pub invariant-loop-write : goal.invariant-loop-write

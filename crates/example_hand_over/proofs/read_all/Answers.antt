@@ -1,7 +1,7 @@
 -- Proves the contract of `read_all`. The former holder answers its reads, one after another.
 use Rattle.std.proofs.Common.{drop, slice_index_or, ◌+◌}
 use Rattle.example_hand_over.proofs.Answered.{none_answered, answering_more, answered_all}
-use Rattle.example_hand_over.proofs.Rows.{left_at, none_left}
+use Rattle.timestamp_cache.proofs.Rows.{left_at, none_left}
 use Rattle.example_hand_over.proofs.read_all.Goals as goal
 
 pub loop-row-init : goal.loop-row-init

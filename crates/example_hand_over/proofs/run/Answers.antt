@@ -3,7 +3,7 @@
 use Rattle.std.specs.List.{AllZip}
 use Rattle.example_hand_over.specs.Answered.{IsPushed, IsClear}
 use Rattle.example_hand_over.proofs.Answered.{clear_of_table}
-use Rattle.example_hand_over.proofs.Rows.{if_ok_as, zip_as}
+use Rattle.timestamp_cache.proofs.Rows.{if_ok_as, zip_as}
 use Rattle.example_hand_over.proofs.run.Goals as goal
 
 pub returns-clause-first : goal.returns-clause-first

@@ -2,7 +2,7 @@
 -- where each came through its turn.
 use Rattle.std.proofs.Common.{rules}
 use Rattle.example_lease_holder.specs.Turns.{HasSpoken}
-use Rattle.example_lease_holder.proofs.Turns.{nothing_made, one_more_made, all_made}
+use Rattle.timestamp_cache.proofs.Rows.{nothing_made, one_more_made, all_made}
 use Rattle.example_lease_holder.proofs.all_tell.Goals as goal
 
 pub loop-worker-init : goal.loop-worker-init

@@ -1,7 +1,7 @@
 -- Proves the loop invariants of `all_tell`. Has all threads print what they have to tell, in their
 -- order, where each came through its turn.
 use Rattle.example_lease_holder.specs.Turns.{HasSpoken}
-use Rattle.example_lease_holder.proofs.Turns.{IsPartWay}
+use Rattle.timestamp_cache.proofs.Rows.{IsPartWay}
 use Rattle.example_lease_holder.proofs.all_tell.Given as goal
 
 abbrev pub invariant-loop-worker : goal.invariant-loop-worker

@@ -1,6 +1,6 @@
 -- Proves the contract of `latches_of`. A latch for each key, in their order.
 use Rattle.std.proofs.Common.{◌≡◌, drop, slice_index_or, ◌+◌}
-use Rattle.example_lease_holder.proofs.Turns.{one_more_made, all_made, left_at, none_left}
+use Rattle.timestamp_cache.proofs.Rows.{one_more_made, all_made, left_at, none_left}
 use Rattle.example_lease_holder.proofs.latches_of.Goals as goal
 
 pub loop-row-preserved : goal.loop-row-preserved

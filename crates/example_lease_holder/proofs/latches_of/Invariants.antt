@@ -1,6 +1,6 @@
 -- Proves the loop invariants of `latches_of`. A latch for each key, in their order.
 use Rattle.std.proofs.Common.{◌≡◌, drop}
-use Rattle.example_lease_holder.proofs.Turns.{IsPartWay}
+use Rattle.timestamp_cache.proofs.Rows.{IsPartWay}
 use Rattle.example_lease_holder.proofs.latches_of.Given as goal
 
 -- The latches so far, each of its key.

@@ -1,7 +1,7 @@
 -- Proves the contract of `left_of`. The threads are over.
 use Rattle.std.proofs.Common.{refl, rules}
 use Rattle.example_lease_holder.specs.Turns.{IsLeftOf}
-use Rattle.example_lease_holder.proofs.Turns.{nothing_made, one_more_made, all_made}
+use Rattle.timestamp_cache.proofs.Rows.{nothing_made, one_more_made, all_made}
 use Rattle.example_lease_holder.proofs.left_of.Goals as goal
 
 pub loop-worker-init : goal.loop-worker-init

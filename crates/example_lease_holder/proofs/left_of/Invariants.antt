@@ -1,6 +1,6 @@
 -- Proves the loop invariants of `left_of`. The threads are over.
 use Rattle.example_lease_holder.specs.Turns.{IsLeftOf}
-use Rattle.example_lease_holder.proofs.Turns.{IsPartWay}
+use Rattle.timestamp_cache.proofs.Rows.{IsPartWay}
 use Rattle.example_lease_holder.proofs.left_of.Given as goal
 
 abbrev pub invariant-loop-worker : goal.invariant-loop-worker

@@ -1,7 +1,7 @@
 -- Proves the contract of `workers_of`. A thread for each plan, in their order.
 use Rattle.std.proofs.Common.{drop, slice_index_or, ◌+◌}
 use Rattle.example_lease_holder.specs.Turns.{IsNew}
-use Rattle.example_lease_holder.proofs.Turns.{one_more_made, all_made, left_at, none_left}
+use Rattle.timestamp_cache.proofs.Rows.{one_more_made, all_made, left_at, none_left}
 use Rattle.example_lease_holder.proofs.workers_of.Goals as goal
 
 pub loop-plan-preserved : goal.loop-plan-preserved

@@ -1,7 +1,7 @@
 -- Proves the loop invariants of `workers_of`. A thread for each plan, in their order.
 use Rattle.std.proofs.Common.{drop}
 use Rattle.example_lease_holder.specs.Turns.{IsNew}
-use Rattle.example_lease_holder.proofs.Turns.{IsPartWay}
+use Rattle.timestamp_cache.proofs.Rows.{IsPartWay}
 use Rattle.example_lease_holder.proofs.workers_of.Given as goal
 
 -- The workers so far, each of its plan.

@@ -25,5 +25,6 @@ returns-clause-too_large c =
       exact = no_refusal c.in_ok-apply.field-0 c.apply.new.cache TooLarge
           (all_fit c.args.config (marks_told told) ≡ false)
           (subst (λ (s : Settings). IsErrOf (Ok c.in_ok-apply.field-0) TooLarge
-          ↔ (all_fit s (marks_told told) ≡ false)) set_up c.in_ok-apply.ensures.too_large);
+          ↔ (all_fit s (marks_told told) ≡ false)) set_up
+          c.in_ok-apply.ensures.refused.too_large);
     })

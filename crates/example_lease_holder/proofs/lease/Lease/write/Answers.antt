@@ -1,10 +1,10 @@
 -- Proves the contract of `Lease::write`. Writes a key, while its latch is held, at the earliest
 -- time from the wanted one on that is clear of what the cache answers.
-use Rattle.std.proofs.Common.{All, rules, sym, subst}
+use Rattle.std.proofs.Common.{rules, sym, subst}
 use Rattle.std.specs.Prelude.{Option, IfSome}
 use Rattle.tsc_cache.proofs.Beginnings.{begins_on}
-use Rattle.timestamp_cache.specs.Words.{Time, OwnedTime}
-use Rattle.timestamp_cache.specs.Clear.{IsClearOf}
+use Rattle.timestamp_cache.specs.Words.{Time}
+use Rattle.example_lease_holder.specs.Reads.{IsClearFor}
 use Rattle.example_lease_holder.proofs.Carried.{clear_of_handed}
 use Rattle.example_lease_holder.proofs.lease.Lease.write.Goals as goal
 use Rattle.example_lease_holder.proofs.lease.Lease.write.Goals.{in-Some+in_ok-push, in_default}
@@ -13,11 +13,11 @@ pub returns-clause-clear : goal.returns-clause-clear
 returns-clause-clear g c =
     let held = c.args.held.now in
     let P = λ (told : Option Time). IfSome told
-    (λ (at : Time). All (λ (read : OwnedTime). IsClearOf read c.args.by at)
-    held.answered.items) in
+    (λ (at : Time). IsClearFor held.answered.items c.earliest-told.new.me.seat.seen held.span
+    c.args.wanted.by at) in
     let clear : P c.earliest-told.result =
     clear_of_handed held.span c.take_over.new.held.span held.handed.seat.seen
-    c.take_over.new.me.seat c.earliest-told.new.me.seat c.args.by c.args.wanted
+    c.take_over.new.me.seat c.earliest-told.new.me.seat c.args.wanted.by c.args.wanted.at
     c.earliest-told.result held.answered.items
     c.take_over.ensures.same.0 c.take_over.ensures.seen c.earliest-told.ensures held.added in
     elim c.match-told.branch [
@@ -27,9 +27,6 @@ returns-clause-clear g c =
 
 pub returns-clause-written : goal.returns-clause-written
 returns-clause-written g c = search rules
-
-pub returns-clause-seen : goal.returns-clause-seen
-returns-clause-seen g c = search rules
 
 pub returns-clause-pushed : goal.returns-clause-pushed
 returns-clause-pushed g c = search rules

@@ -6,5 +6,6 @@ use Rattle.example_lease_holder.proofs.lease.Lease.write_key.Goals as goal
 
 pub returns-clause-clear : goal.returns-clause-clear
 returns-clause-clear g c =
-    clear_at c.write.new.me.seat.seen c.deref_mut.result.now.span c.args.key.now c.args.by
-    c.in_ok-at.at c.in_ok-told.told (search rules) (search rules) c.in_ok-told.ensures.seen
+    clear_at c.write.new.me.seat.seen c.deref_mut.result.now.span c.args.key.now
+    c.args.wanted.by c.in_ok-at.at c.in_ok-told.told _ (search rules) (search rules)
+    c.in_ok-told.ensures.clear

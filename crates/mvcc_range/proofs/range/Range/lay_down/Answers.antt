@@ -11,8 +11,8 @@ use Rattle.mvcc_range.specs.Steps.{RangeView, mark_of, reads_fit}
 use Rattle.mvcc_range.proofs.Checks.{fits_marks}
 use Rattle.mvcc_range.proofs.range.Range.lay_down.Goals as goal
 
-pub lay_down-requires-clause-fit : goal.lay_down-requires-clause-fit
-lay_down-requires-clause-fit c =
+pub lay_down-requires : goal.lay_down-requires
+lay_down-requires c =
     let at = c.args.at in
     let t = c.args.transaction.now in
     let marks : c.deref-3.result.now ≡ map (mark_of at t.by) t.reads = c.deref-3.ensures.value
@@ -42,7 +42,7 @@ returns-clause-ok c =
           c.args.now) marks done.0);
       chains = λ k. done.1 k
           ∙ (ap (λ (ws : List Write). laid k at c.transaction.inside.by ws
-          (chain_of c.self.inside.versions k)) c.as_slice-writes.ensures.value
+          (chain_of c.self.inside.versions k)) c.as_slice.ensures.value
           ∙ (ap (λ (x : Transaction). laid k at x.by x.writes
           (chain_of c.self.inside.versions k)) c.transaction.view_is
           ∙ ap (λ (r : RangeView). laid k at t.by t.writes (chain_of r.chains k)) c.self.view_is));

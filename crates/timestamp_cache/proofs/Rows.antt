@@ -1,4 +1,4 @@
--- Lists that are made of tables, row by row.
+-- Lists that a store makes of others, item by item.
 use Rattle.std.proofs.Common.{◌≡◌, ◌∙◌, ap, sym, refl, subst, ℕ, zero, suc, ◌+◌, ◌<◌, ◌≤◌, drop, List, [], ◌∷◌, ◌++◌, append_assoc, append-nil, length, slice_index_or, arith}
 use Rattle.std.specs.Prelude.{Result, Ok, Err, IfOk}
 use Rattle.std.specs.List.{AllZip}
