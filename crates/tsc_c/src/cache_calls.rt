@@ -1,17 +1,16 @@
 //! The calls for caches of one thread at a time.
 
-ghost use Rattle.std.specs.Prelude.{◌≡◌, ◌≢◌, OnErr, None};
-ghost use Rattle.tsc_ffi_store.specs.CacheCalls.{AnswersOpen, AnswersLookup, AnswersAlways, AnswersAdd, AnswersAddAll, StandsAt, Counts, IsClosed};
-ghost use Rattle.tsc_ffi_store.specs.Codes.{code_of, Tells};
+ghost use Rattle.std.specs.Prelude.{◌≡◌, OnErr, None};
+ghost use Rattle.tsc_ffi_store.specs.CacheCalls.{AnswersOpen, AnswersLookup, AnswersAlways, AnswersAdd, AnswersAddAll, StandsAt, Counts};
+ghost use Rattle.tsc_ffi_store.specs.Codes.{Tells};
 ghost use Rattle.tsc_ffi_store.specs.Decode.{time_of, value_of, added_of, span_asked, add_asked, batch_asked, config_asked, asked_config};
-ghost use Rattle.tsc_ffi_store.specs.Store.{slots_of, cache_at, Keeps, AnswersOfCache, DoesToCache};
-ghost use Rattle.tsc_ffi_store.specs.declared.refusal.Refusal.{Refusal as Why};
+ghost use Rattle.tsc_ffi_store.specs.Store.{slots_of, cache_at, AnswersClose, AnswersOfCache, DoesToCache};
 
 use crate::store_ptr::{StorePtr, store_in};
 use std::alloc::Global;
 use tsc_ffi_store::{
-    AddArgs, BatchArgs, ConfigArgs, OK, Refusal, SpanArgs, Store, TscAdded, TscFigures, TscMark,
-    TscTime, TscValue, code, may_open,
+    AddArgs, BatchArgs, ConfigArgs, OK, Refusal, SpanArgs, TscAdded, TscFigures, TscMark, TscTime,
+    TscValue, add_all_in, add_in, code, config, figures_in, floor_in, look_in,
 };
 
 /// Opens a cache, and writes its handle, which was not given before. The pointer may be zeros.
@@ -51,11 +50,12 @@ fn open(
         (slots_of store.new.owned) result }
     ensures kept { OnErr result (handle.new ≡ handle.old) }
 {
-    may_open(args)?;
+    let config = config(args)?;
     let mut held = store_in(alloc, store)?;
-    let did = held.open(alloc, args, handle);
+    let opened = held.open(alloc, config);
     store.lay(held);
-    did
+    *handle = opened?;
+    Ok(())
 }
 
 /// Adds a span with its value, at a moment.
@@ -84,7 +84,10 @@ pub extern "C" fn tsc_add(
         moment,
     };
     match store.store_mut() {
-        Some(held) => code(held.add(alloc, handle, &args, out)),
+        Some(held) => match held.cache_mut(handle) {
+            Some(cache) => code(add_in(alloc, cache, &args, out)),
+            None => Refusal::Closed.code(),
+        },
         None => Refusal::Closed.code(),
     }
 }
@@ -110,7 +113,10 @@ pub extern "C" fn tsc_add_all(
         moment,
     };
     match store.store_mut() {
-        Some(held) => code(held.add_all(alloc, handle, &args, out)),
+        Some(held) => match held.cache_mut(handle) {
+            Some(cache) => code(add_all_in(alloc, cache, &args, out)),
+            None => Refusal::Closed.code(),
+        },
         None => Refusal::Closed.code(),
     }
 }
@@ -132,7 +138,10 @@ pub extern "C" fn tsc_get_max(
 {
     let span = SpanArgs { from, to, ends };
     match store.store_mut() {
-        Some(held) => code(held.get_max(handle, &span, out)),
+        Some(held) => match held.cache(handle) {
+            Some(cache) => code(look_in(cache, &span, out)),
+            None => Refusal::Closed.code(),
+        },
         None => Refusal::Closed.code(),
     }
 }
@@ -146,7 +155,13 @@ pub extern "C" fn tsc_low_water(store: &mut StorePtr, handle: u64, out: &mut Tsc
     ensures unchanged { store.new.owned ≡ store.old.owned }
 {
     match store.store_mut() {
-        Some(held) => code(held.low_water(handle, out)),
+        Some(held) => match held.cache(handle) {
+            Some(cache) => {
+                floor_in(cache, out);
+                OK
+            }
+            None => Refusal::Closed.code(),
+        },
         None => Refusal::Closed.code(),
     }
 }
@@ -160,7 +175,13 @@ pub extern "C" fn tsc_figures_of(store: &mut StorePtr, handle: u64, out: &mut Ts
     ensures unchanged { store.new.owned ≡ store.old.owned }
 {
     match store.store_mut() {
-        Some(held) => code(held.figures(handle, out)),
+        Some(held) => match held.cache(handle) {
+            Some(cache) => {
+                figures_in(cache, out);
+                OK
+            }
+            None => Refusal::Closed.code(),
+        },
         None => Refusal::Closed.code(),
     }
 }
@@ -168,31 +189,13 @@ pub extern "C" fn tsc_figures_of(store: &mut StorePtr, handle: u64, out: &mut Ts
 /// Frees the cache of a handle, which then names none for good.
 #[unsafe(no_mangle)]
 pub extern "C" fn tsc_close(store: &mut StorePtr, handle: u64) -> u32
-    ensures closed { cache_at (slots_of store.new.owned) handle ≡ None }
-    ensures others { Keeps (slots_of store.old.owned) (slots_of store.new.owned) handle }
-    ensures done { result ≡ OK → cache_at (slots_of store.old.owned) handle ≢ None }
-    ensures unchanged { result ≢ OK → slots_of store.new.owned ≡ slots_of store.old.owned }
-    ensures refused { result ≢ OK → (why : Why) × (result ≡ code_of why)
-        × IsClosed why (cache_at (slots_of store.old.owned) handle) }
+    ensures answers { Tells
+        (AnswersClose cache_at handle (slots_of store.old.owned) (slots_of store.new.owned))
+        (slots_of store.new.owned ≡ slots_of store.old.owned) result }
 {
     match store.store_mut() {
-        Some(held) => close(held, handle),
+        Some(held) => code(held.close(handle)),
         None => Refusal::Closed.code(),
-    }
-}
-
-/// The same, in the store that is owned.
-fn close(held: &mut Store, handle: u64) -> u32
-    ensures closed { cache_at held.new.slots.items handle ≡ None }
-    ensures others { Keeps held.old.slots.items held.new.slots.items handle }
-    ensures done { result ≡ OK → cache_at held.old.slots.items handle ≢ None }
-    ensures unchanged { result ≢ OK → held.new.slots.items ≡ held.old.slots.items }
-    ensures refused { result ≢ OK → (why : Why) × (result ≡ code_of why)
-        × IsClosed why (cache_at held.old.slots.items handle) }
-{
-    match held.close(handle) {
-        Ok(()) => OK,
-        Err(why) => why.code(),
     }
 }
 

@@ -1,17 +1,16 @@
 //! The calls for caches that threads share, and for their seats.
 
-ghost use Rattle.std.specs.Prelude.{◌≡◌, ◌≢◌, IfOk, IfErr, OnErr, None};
-ghost use Rattle.tsc_ffi_store.specs.Codes.{code_of, Tells};
+ghost use Rattle.std.specs.Prelude.{◌≡◌, OnErr};
+ghost use Rattle.tsc_ffi_store.specs.Codes.{Tells};
 ghost use Rattle.tsc_ffi_store.specs.Decode.{time_of, value_of, added_of, span_asked, add_asked, batch_asked, config_asked, asked_config};
-ghost use Rattle.tsc_ffi_store.specs.SeatCalls.{AnswersOpenShared, AnswersSeatLookup, AnswersSeatLowWater, AnswersSeatFigures, AnswersSeatAdd, AnswersSeatAddAll, IsNoSeat, Moves, RefusesMove, ClosesShared, RefusesCloseShared};
-ghost use Rattle.tsc_ffi_store.specs.Store.{slots_of, seat_at, shared_at, Keeps, DoesToSeat};
-ghost use Rattle.tsc_ffi_store.specs.declared.refusal.Refusal.{Refusal as Why};
+ghost use Rattle.tsc_ffi_store.specs.SeatCalls.{AnswersOpenShared, AnswersSeatLookup, AnswersSeatLowWater, AnswersSeatFigures, AnswersSeatAdd, AnswersSeatAddAll, AnswersMove, AnswersCloseShared};
+ghost use Rattle.tsc_ffi_store.specs.Store.{slots_of, seat_at, AnswersClose, DoesToSeat};
 
 use crate::store_ptr::{StorePtr, store_in};
 use std::alloc::Global;
 use tsc_ffi_store::{
     AddArgs, BatchArgs, ConfigArgs, OK, Refusal, SpanArgs, Store, TscAdded, TscFigures, TscMark,
-    TscTime, TscValue, code, may_open_shared,
+    TscTime, TscValue, add_all_at, add_at, code, config, figures_at, floor_at, look_at, may_seat,
 };
 
 /// Opens a cache that threads share, and writes its handle. Its seats have the handles behind that,
@@ -57,11 +56,15 @@ fn open_shared(
         (slots_of store.old.owned) (slots_of store.new.owned) result }
     ensures kept { OnErr result (handle.new ≡ handle.old) }
 {
-    may_open_shared(args, seats)?;
+    let config = config(args)?;
+    if !may_seat(seats) {
+        return Err(Refusal::Seats);
+    }
     let mut held = store_in(alloc, store)?;
-    let did = held.open_shared(alloc, args, seats, limit, handle);
+    let opened = held.open_shared(alloc, config, seats, limit);
     store.lay(held);
-    did
+    *handle = opened?;
+    Ok(())
 }
 
 /// Adds a span with its value, at a moment, at a seat. It waits for nobody: it tries so many times
@@ -93,7 +96,10 @@ pub extern "C" fn tsc_seat_add(
         moment,
     };
     match store.store_mut() {
-        Some(held) => code(held.seat_add(alloc, handle, &args, tries, place, out)),
+        Some(held) => match held.seat_mut(handle) {
+            Some(seat) => code(add_at(alloc, seat, &args, tries, place, out)),
+            None => Refusal::Closed.code(),
+        },
         None => Refusal::Closed.code(),
     }
 }
@@ -123,7 +129,10 @@ pub extern "C" fn tsc_seat_add_all(
         moment,
     };
     match store.store_mut() {
-        Some(held) => code(held.seat_add_all(alloc, handle, &args, tries, place, out)),
+        Some(held) => match held.seat_mut(handle) {
+            Some(seat) => code(add_all_at(alloc, seat, &args, tries, place, out)),
+            None => Refusal::Closed.code(),
+        },
         None => Refusal::Closed.code(),
     }
 }
@@ -147,7 +156,10 @@ pub extern "C" fn tsc_seat_get_max(
 {
     let span = SpanArgs { from, to, ends };
     match store.store_mut() {
-        Some(held) => code(held.seat_get_max(handle, &span, seen, out)),
+        Some(held) => match held.seat_mut(handle) {
+            Some(seat) => code(look_at(seat, &span, seen, out)),
+            None => Refusal::Closed.code(),
+        },
         None => Refusal::Closed.code(),
     }
 }
@@ -165,7 +177,13 @@ pub extern "C" fn tsc_seat_low_water(
         (slots_of store.new.owned) handle) ((seen.new ≡ seen.old) × (out.new ≡ out.old)) result }
 {
     match store.store_mut() {
-        Some(held) => code(held.seat_low_water(handle, seen, out)),
+        Some(held) => match held.seat_mut(handle) {
+            Some(seat) => {
+                floor_at(seat, seen, out);
+                OK
+            }
+            None => Refusal::Closed.code(),
+        },
         None => Refusal::Closed.code(),
     }
 }
@@ -183,7 +201,13 @@ pub extern "C" fn tsc_seat_figures_of(
         (slots_of store.new.owned) handle) ((seen.new ≡ seen.old) × (out.new ≡ out.old)) result }
 {
     match store.store_mut() {
-        Some(held) => code(held.seat_figures(handle, seen, out)),
+        Some(held) => match held.seat_mut(handle) {
+            Some(seat) => {
+                figures_at(seat, seen, out);
+                OK
+            }
+            None => Refusal::Closed.code(),
+        },
         None => Refusal::Closed.code(),
     }
 }
@@ -191,31 +215,13 @@ pub extern "C" fn tsc_seat_figures_of(
 /// Hands in the seat of a handle, which then names none for good.
 #[unsafe(no_mangle)]
 pub extern "C" fn tsc_seat_close(store: &mut StorePtr, handle: u64) -> u32
-    ensures closed { seat_at (slots_of store.new.owned) handle ≡ None }
-    ensures others { Keeps (slots_of store.old.owned) (slots_of store.new.owned) handle }
-    ensures done { result ≡ OK → seat_at (slots_of store.old.owned) handle ≢ None }
-    ensures unchanged { result ≢ OK → slots_of store.new.owned ≡ slots_of store.old.owned }
-    ensures refused { result ≢ OK → (why : Why) × (result ≡ code_of why)
-        × IsNoSeat why (seat_at (slots_of store.old.owned) handle) }
+    ensures answers { Tells
+        (AnswersClose seat_at handle (slots_of store.old.owned) (slots_of store.new.owned))
+        (slots_of store.new.owned ≡ slots_of store.old.owned) result }
 {
     match store.store_mut() {
-        Some(held) => close_seat(held, handle),
+        Some(held) => code(held.close_seat(handle)),
         None => Refusal::Closed.code(),
-    }
-}
-
-/// The same, in the store that is owned.
-fn close_seat(held: &mut Store, handle: u64) -> u32
-    ensures closed { seat_at held.new.slots.items handle ≡ None }
-    ensures others { Keeps held.old.slots.items held.new.slots.items handle }
-    ensures done { result ≡ OK → seat_at held.old.slots.items handle ≢ None }
-    ensures unchanged { result ≢ OK → held.new.slots.items ≡ held.old.slots.items }
-    ensures refused { result ≢ OK → (why : Why) × (result ≡ code_of why)
-        × IsNoSeat why (seat_at held.old.slots.items handle) }
-{
-    match held.close_seat(handle) {
-        Ok(()) => OK,
-        Err(why) => why.code(),
     }
 }
 
@@ -223,38 +229,15 @@ fn close_seat(held: &mut Store, handle: u64) -> u32
 /// its history has.
 #[unsafe(no_mangle)]
 pub extern "C" fn tsc_close_shared(store: &mut StorePtr, handle: u64, length: &mut u64) -> u32
-    ensures closed { result ≡ OK
-        → ClosesShared (shared_at (slots_of store.old.owned) handle)
-        (shared_at (slots_of store.new.owned) handle) length.new }
-    ensures others { Keeps (slots_of store.old.owned) (slots_of store.new.owned) handle }
-    ensures unchanged { result ≢ OK → (slots_of store.new.owned ≡ slots_of store.old.owned)
-        × (length.new ≡ length.old) }
-    ensures refused { result ≢ OK → (why : Why) × (result ≡ code_of why)
-        × RefusesCloseShared why (shared_at (slots_of store.old.owned) handle) }
+    ensures answers { Tells
+        (AnswersCloseShared length.new handle (slots_of store.old.owned)
+        (slots_of store.new.owned))
+        ((slots_of store.new.owned ≡ slots_of store.old.owned) × (length.new ≡ length.old))
+        result }
 {
     match store.store_mut() {
-        Some(held) => close_shared(held, handle, length),
+        Some(held) => code(held.close_shared(handle, length)),
         None => Refusal::Closed.code(),
-    }
-}
-
-/// The same, in the store that is owned.
-fn close_shared(held: &mut Store, handle: u64, length: &mut u64) -> u32
-    ensures closed { result ≡ OK
-        → ClosesShared (shared_at held.old.slots.items handle)
-        (shared_at held.new.slots.items handle) length.new }
-    ensures others { Keeps held.old.slots.items held.new.slots.items handle }
-    ensures unchanged { result ≢ OK → (held.new.slots.items ≡ held.old.slots.items)
-        × (length.new ≡ length.old) }
-    ensures refused { result ≢ OK → (why : Why) × (result ≡ code_of why)
-        × RefusesCloseShared why (shared_at held.old.slots.items handle) }
-{
-    match held.close_shared(handle) {
-        Ok(adds) => {
-            *length = adds;
-            OK
-        }
-        Err(why) => why.code(),
     }
 }
 
@@ -267,41 +250,16 @@ pub extern "C" fn tsc_move(
     other: &mut StorePtr,
     other_handle: &mut u64,
 ) -> u32
-    ensures moved { result ≡ OK
-        → Moves (slots_of store.old.owned) (slots_of other.old.owned) (slots_of store.new.owned)
-        (slots_of other.new.owned) handle other_handle.new }
-    ensures unchanged { result ≢ OK → (slots_of store.new.owned ≡ slots_of store.old.owned)
-        × (slots_of other.new.owned ≡ slots_of other.old.owned)
-        × (other_handle.new ≡ other_handle.old) }
-    ensures refused { result ≢ OK → (why : Why) × (result ≡ code_of why)
-        × RefusesMove why (slots_of store.old.owned) handle }
-{
-    match move_to(alloc, store, handle, other) {
-        Ok(made) => {
-            *other_handle = made;
-            OK
-        }
-        Err(why) => why.code(),
-    }
-}
-
-/// The same, and what the new handle is.
-fn move_to(
-    alloc: Global,
-    store: &mut StorePtr,
-    handle: u64,
-    other: &mut StorePtr,
-) -> Result<u64, Refusal>
-    ensures moved { IfOk result
-        (λ m. Moves (slots_of store.old.owned) (slots_of other.old.owned) (slots_of store.new.owned)
-        (slots_of other.new.owned) handle m) }
-    ensures unchanged { OnErr result (slots_of store.new.owned ≡ slots_of store.old.owned) }
-    ensures other_unchanged { OnErr result (slots_of other.new.owned ≡ slots_of other.old.owned) }
-    ensures refused { IfErr result (λ why. RefusesMove why (slots_of store.old.owned) handle) }
+    ensures answers { Tells
+        (AnswersMove handle other_handle.new (slots_of store.old.owned) (slots_of other.old.owned)
+        (slots_of store.new.owned) (slots_of other.new.owned))
+        ((slots_of store.new.owned ≡ slots_of store.old.owned) ×
+        (slots_of other.new.owned ≡ slots_of other.old.owned) ×
+        (other_handle.new ≡ other_handle.old)) result }
 {
     match store.store_mut() {
-        Some(held) => move_from(alloc, held, handle, other),
-        None => Err(Refusal::Closed),
+        Some(held) => code(move_from(alloc, held, handle, other, other_handle)),
+        None => Refusal::Closed.code(),
     }
 }
 
@@ -311,16 +269,16 @@ fn move_from(
     held: &mut Store,
     handle: u64,
     other: &mut StorePtr,
-) -> Result<u64, Refusal>
-    ensures moved { IfOk result
-        (λ m. Moves held.old.slots.items (slots_of other.old.owned) held.new.slots.items
-        (slots_of other.new.owned) handle m) }
-    ensures unchanged { OnErr result (held.new.slots.items ≡ held.old.slots.items) }
-    ensures other_unchanged { OnErr result (slots_of other.new.owned ≡ slots_of other.old.owned) }
-    ensures refused { IfErr result (λ why. RefusesMove why held.old.slots.items handle) }
+    other_handle: &mut u64,
+) -> Result<(), Refusal>
+    ensures answers { AnswersMove handle other_handle.new held.old.slots.items
+        (slots_of other.old.owned) held.new.slots.items (slots_of other.new.owned) result }
+    ensures kept { OnErr result ((held.new.slots.items ≡ held.old.slots.items) ×
+        (slots_of other.new.owned ≡ slots_of other.old.owned) ×
+        (other_handle.new ≡ other_handle.old)) }
 {
     let mut to = store_in(alloc, other)?;
-    let moved = held.move_to(handle, &mut to);
+    let did = held.move_to(handle, &mut to, other_handle);
     other.lay(to);
-    moved
+    did
 }

@@ -5,13 +5,14 @@ ghost use Rattle.std.specs.Prelude.{◌≡◌};
 ghost use Rattle.tsc_ffi_store.specs.Codes.{Tells};
 ghost use Rattle.tsc_ffi_store.specs.Decode.{span_asked, added_of};
 ghost use Rattle.tsc_ffi_store.specs.Store.{slots_of, AnswersOfCache, DoesToCache};
-ghost use Rattle.tsc_ffi_leases.specs.Summaries.{summary_asked, AnswersSummary, PutsOr};
-ghost use Rattle.tsc_ffi_leases.specs.Summaries.{apply_asked, AnswersApply};
+ghost use Rattle.tsc_ffi_store.specs.Summaries.{summary_asked, AnswersSummary, PutsOr};
+ghost use Rattle.tsc_ffi_store.specs.Summaries.{apply_asked, AnswersApply};
 
 use crate::store_ptr::StorePtr;
 use std::alloc::Global;
-use tsc_ffi_leases::{ApplyArgs, SummaryArgs, apply_summary, put_summary};
-use tsc_ffi_store::{Refusal, SpanArgs, TscAdded, TscTime, code};
+use tsc_ffi_store::{
+    ApplyArgs, Refusal, SpanArgs, SummaryArgs, TscAdded, TscTime, apply_in, code, put_in,
+};
 
 /// Puts what was read of a span into a buffer, as bytes, in so many marks at the most.
 #[unsafe(no_mangle)]
@@ -34,7 +35,10 @@ pub extern "C" fn tsc_summary(
     let span = SpanArgs { from, to, ends };
     let args = SummaryArgs { span, most };
     match store.store_mut() {
-        Some(held) => put_summary(held, alloc, handle, &args, out, len),
+        Some(held) => match held.cache(handle) {
+            Some(cache) => put_in(cache, alloc, &args, out, len),
+            None => Refusal::Closed.code(),
+        },
         None => Refusal::Closed.code(),
     }
 }
@@ -55,7 +59,10 @@ pub extern "C" fn tsc_apply(
 {
     let args = ApplyArgs { summary, moment };
     match store.store_mut() {
-        Some(held) => code(apply_summary(held, alloc, handle, &args, out)),
+        Some(held) => match held.cache_mut(handle) {
+            Some(cache) => code(apply_in(alloc, cache, &args, out)),
+            None => Refusal::Closed.code(),
+        },
         None => Refusal::Closed.code(),
     }
 }

@@ -4,12 +4,13 @@ ghost use Rattle.std.specs.Prelude.{◌≡◌};
 ghost use Rattle.tsc_ffi_store.specs.Codes.{Tells};
 ghost use Rattle.tsc_ffi_store.specs.Decode.{time_of};
 ghost use Rattle.tsc_ffi_store.specs.Store.{slots_of, AnswersOfCache, DoesToSeat};
-ghost use Rattle.tsc_ffi_leases.specs.Writes.{write_asked, AnswersWrite, AnswersSeatWrite};
-ghost use Rattle.tsc_ffi_leases.specs.Writes.{AnswersMayWrite, AnswersSeatMayWrite};
+ghost use Rattle.tsc_ffi_store.specs.Writes.{write_asked, AnswersWrite, AnswersSeatWrite};
+ghost use Rattle.tsc_ffi_store.specs.Writes.{AnswersMayWrite, AnswersSeatMayWrite};
 
 use crate::store_ptr::StorePtr;
-use tsc_ffi_leases::{WriteArgs, earliest_write, may_write, seat_earliest_write, seat_may_write};
-use tsc_ffi_store::{Refusal, TscSpan, TscTime, TscValue, code};
+use tsc_ffi_store::{
+    Refusal, TscSpan, TscTime, TscValue, WriteArgs, code, may_at, may_in, write_at, write_in,
+};
 
 /// The earliest time, from that of a write on, at which its transaction may write some spans.
 #[unsafe(no_mangle)]
@@ -28,7 +29,10 @@ pub extern "C" fn tsc_earliest_write(
 {
     let args = WriteArgs { keys, spans, write };
     match store.store_mut() {
-        Some(held) => code(earliest_write(held, handle, &args, out)),
+        Some(held) => match held.cache(handle) {
+            Some(cache) => code(write_in(cache, &args, out)),
+            None => Refusal::Closed.code(),
+        },
         None => Refusal::Closed.code(),
     }
 }
@@ -50,7 +54,10 @@ pub extern "C" fn tsc_may_write(
 {
     let args = WriteArgs { keys, spans, write };
     match store.store_mut() {
-        Some(held) => code(may_write(held, handle, &args, out)),
+        Some(held) => match held.cache(handle) {
+            Some(cache) => code(may_in(cache, &args, out)),
+            None => Refusal::Closed.code(),
+        },
         None => Refusal::Closed.code(),
     }
 }
@@ -73,7 +80,10 @@ pub extern "C" fn tsc_seat_earliest_write(
 {
     let args = WriteArgs { keys, spans, write };
     match store.store_mut() {
-        Some(held) => code(seat_earliest_write(held, handle, &args, seen, out)),
+        Some(held) => match held.seat_mut(handle) {
+            Some(seat) => code(write_at(seat, &args, seen, out)),
+            None => Refusal::Closed.code(),
+        },
         None => Refusal::Closed.code(),
     }
 }
@@ -96,7 +106,10 @@ pub extern "C" fn tsc_seat_may_write(
 {
     let args = WriteArgs { keys, spans, write };
     match store.store_mut() {
-        Some(held) => code(seat_may_write(held, handle, &args, seen, out)),
+        Some(held) => match held.seat_mut(handle) {
+            Some(seat) => code(may_at(seat, &args, seen, out)),
+            None => Refusal::Closed.code(),
+        },
         None => Refusal::Closed.code(),
     }
 }

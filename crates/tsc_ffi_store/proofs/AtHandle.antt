@@ -63,6 +63,11 @@ pub unchanged_there : {A : Type 0} (items : List Slot) (n : ℕ) (e after : Slot
 unchanged_there items n e after (Ok a) at same = tt
 unchanged_there items n e after (Err why) at same = ap (set items n) same ∙ set_again items n e at
 
+pub on_err_both : {A : Type 0} (P Q : Type 0) (did : Result A Refusal) → OnErr did P →
+    OnErr did Q → OnErr did (P × Q)
+on_err_both P Q (Ok a) p q = tt
+on_err_both P Q (Err why) p q = (p, q)
+
 -- what is laid where a cache was is there then
 lies_there : (items : List Slot) (n : ℕ) (cache : CacheView) (after : Slot) →
     cache_at items n ≡ Some cache → slice_get (slice_set items n after) n ≡ Some after

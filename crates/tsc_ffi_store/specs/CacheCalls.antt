@@ -129,7 +129,3 @@ pub record AnswersAddAll {A : Type 0} (asked : AskedBatch) (told : Added) (cache
   pub added : IfOk did (λ _. AddsAllIn cache after asked told)
   pub refused : IfErr did (λ why. RefusesAddAll why cache asked)
   pub unchanged : OnErr did (after ≡ cache)
-
--- No cache is held.
-abbrev pub IsClosed : Refusal → Option CacheView → Type 0
-IsClosed why held = (why ≡ refusal.Closed) × (held ≡ None)

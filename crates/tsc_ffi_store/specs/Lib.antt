@@ -2,8 +2,15 @@ pub mod CacheCalls
 pub mod Chain
 pub mod Codes
 pub mod Decode
+pub mod Laws
 pub mod Lending
 pub mod Marks
 pub mod Puts
+pub mod ReturnSlots
+pub mod ReturnSteps
 pub mod SeatCalls
+pub mod Seating
 pub mod Store
+pub mod Summaries
+pub mod WriteSteps
+pub mod Writes

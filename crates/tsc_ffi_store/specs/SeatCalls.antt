@@ -22,7 +22,7 @@ use Rattle.tsc_ffi_store.specs.declared.store.Slot.{Slot}
 use Rattle.tsc_ffi_store.specs.declared.store.Slot.TheVariants.{Closed, Shared, Seat}
 use Rattle.tsc_ffi_store.specs.Decode.{AskedSpan, AskedAdd, AskedBatch, AskedConfig, settings_asked, add_span, lookup_span, figures_told, RefusesTime, RefusesEnds, RefusesAddSpan, RefusesConfig}
 use Rattle.tsc_ffi_store.specs.Marks.{AreMarks, RefusesMarks}
-use Rattle.tsc_ffi_store.specs.Store.{cache_at, shared_at, seat_at}
+use Rattle.tsc_ffi_store.specs.Store.{cache_at, shared_at, seat_at, Keeps}
 
 -- A shared cache is opened at the next handle, and its seats, which nobody has used, at the handles
 -- behind it, in their order. All that was given stays.
@@ -76,11 +76,15 @@ pub record AnswersSeatLowWater {A : Type 0} (seen : ℕ) (floor : Time) (old new
   pub done : IsOk did
 
 -- The figures of the cache of a seat, after all that the seat has seen then.
-pub record AnswersSeatFigures {A : Type 0} (seen : ℕ) (figures : TscFigures) (old new : SeatView)
-    (did : Result A Refusal) : Type 0 where
+pub record CountsAt (old new : SeatView) (seen : ℕ) (figures : TscFigures) : Type 0 where
   pub counted : Figures
   pub told : figures ≡ figures_told counted
   pub reads : ReadsFigures old new (record { figures = counted; front = seen })
+
+-- What a call answers that tells them.
+pub record AnswersSeatFigures {A : Type 0} (seen : ℕ) (figures : TscFigures) (old new : SeatView)
+    (did : Result A Refusal) : Type 0 where
+  pub counts : CountsAt old new seen figures
   pub done : IsOk did
 
 -- An Add of some marks at a seat, which has this place in the history of its cache, and did this.
@@ -179,10 +183,6 @@ pub record AnswersSeatAddAll {A : Type 0} (asked : AskedBatch) (tries place : �
   pub refused : IfErr did (λ why. RefusesSeatAddAll why old new asked tries)
   pub spared : OnErr did (Spares old new)
 
--- No seat is held.
-abbrev pub IsNoSeat : Refusal → Option SeatView → Type 0
-IsNoSeat why held = (why ≡ refusal.Closed) × (held ≡ None)
-
 -- What a handle names in one store goes to the next handle of another. The handle names nothing
 -- from then on.
 pub record Moves (from to from' to' : List Slot) (handle m : ℕ) : Type 0 where
@@ -203,6 +203,12 @@ abbrev pub RefusesMove : Refusal → List Slot → ℕ → Type 0
 RefusesMove why slots handle = ((why ≡ refusal.Closed) × NamesNone slots handle) ⊎
     (why ≡ refusal.NoMemory)
 
+-- What a call does that moves what a handle names.
+pub record AnswersMove {A : Type 0} (handle m : ℕ) (from to from' to' : List Slot)
+    (did : Result A Refusal) : Type 0 where
+  pub moved : IfOk did (λ _. Moves from to from' to' handle m)
+  pub refused : IfErr did (λ why. RefusesMove why from handle)
+
 -- A shared cache is closed. All its seats were handed in, and what all of them saw was a beginning
 -- of one history, which has so many Adds.
 pub record ClosesShared (held after : Option SharedView) (adds : ℕ) : Type 0 where
@@ -218,3 +224,15 @@ pub record ClosesShared (held after : Option SharedView) (adds : ℕ) : Type 0 w
 abbrev pub RefusesCloseShared : Refusal → Option SharedView → Type 0
 RefusesCloseShared why held = ((why ≡ refusal.Closed) × (held ≡ None)) ⊎
     ((why ≡ refusal.StillOut) × (held ≢ None))
+
+-- What becomes of a shared cache that is to be closed, and how many Adds its history has.
+pub record EndsShared {A : Type 0} (adds : ℕ) (held after : Option SharedView)
+    (did : Result A Refusal) : Type 0 where
+  pub closed : IfOk did (λ _. ClosesShared held after adds)
+  pub refused : IfErr did (λ why. RefusesCloseShared why held)
+
+-- What a call does that closes the shared cache that a handle names.
+pub record AnswersCloseShared {A : Type 0} (adds handle : ℕ) (old new : List Slot)
+    (did : Result A Refusal) : Type 0 where
+  pub ended : EndsShared adds (shared_at old handle) (shared_at new handle) did
+  pub others : Keeps old new handle

@@ -1,5 +1,5 @@
 -- A store: what its handles name, and what a call does to what a handle names.
-use Rattle.std.specs.Prelude.{◌≡◌, ◌≢◌, ◌+◌, ◌⊎◌, ℕ, List, [], length, slice_get, slice_set, Option, Some, None, Result, Err}
+use Rattle.std.specs.Prelude.{◌≡◌, ◌≢◌, ◌+◌, ◌⊎◌, ℕ, List, [], length, slice_get, slice_set, Option, Some, None, Result, Err, IfOk, IfErr}
 use Rattle.tsc_cache.specs.CacheView.{CacheView}
 use Rattle.tsc_shared.specs.Seats.{SharedView, SeatView}
 use Rattle.tsc_ffi_store.specs.declared.refusal.Refusal.{Refusal}
@@ -58,6 +58,18 @@ pub record Keeps (old new : List Slot) (handle : ℕ) : Type 0 where
   pub given : length new ≡ length old
   pub others : (other : ℕ) → other ≢ handle → cache_at new other ≡ cache_at old other
   pub all_others : (other : ℕ) → other ≢ handle → slice_get new other ≡ slice_get old other
+
+-- What was held is let go, and nothing of its kind is left. A call is refused where nothing was.
+pub record LetsGo {A V : Type 0} (held after : Option V) (did : Result A Refusal) : Type 0 where
+  pub none : after ≡ None
+  pub done : IfOk did (λ _. held ≢ None)
+  pub refused : IfErr did (λ why. (why ≡ refusal.Closed) × (held ≡ None))
+
+-- What a call does that closes the cache or the seat that a handle names.
+pub record AnswersClose {A V : Type 0} (held : List Slot → ℕ → Option V) (handle : ℕ)
+    (old new : List Slot) (did : Result A Refusal) : Type 0 where
+  pub closed : LetsGo (held old handle) (held new handle) did
+  pub others : Keeps old new handle
 
 -- A handle is given, which is how many were given before. Whatever another handle names is as
 -- before.

@@ -1,6 +1,5 @@
 //! Bytes that go into a buffer of C.
 
-ghost use Rattle.std.specs.Prelude.{◌≡◌};
 ghost use Rattle.tsc_ffi_store.specs.Puts.{Puts};
 
 /// What a call answers that has put into the buffer why bytes were refused. It is the number of no

@@ -2,9 +2,7 @@
 
 ghost use Rattle.std.specs.Prelude.{◌≡◌, IfOk, IfErr, Ok as Made, Some};
 ghost use Rattle.tsc_span.specs.Span.{range};
-ghost use Rattle.tsc_cache.specs.Settings.{settings_of};
-ghost use Rattle.tsc_cache.specs.declared.config.ConfigFault.{ConfigFault as Fault};
-ghost use Rattle.tsc_ffi_store.specs.Decode.{time_of, value_of, added_of, figures_told, form_of, asked_span, add_span, lookup_span, asked_config, settings_asked, RefusesTime, RefusesEnds, RefusesKey, RefusesRange, RefusesAddSpan, RefusesSettings, RefusesNumbers, RefusesConfig};
+ghost use Rattle.tsc_ffi_store.specs.Decode.{time_of, value_of, added_of, figures_told, form_of, asked_span, add_span, lookup_span, asked_config, settings_asked, RefusesTime, RefusesEnds, RefusesKey, RefusesRange, RefusesAddSpan, RefusesSettings, RefusesConfig};
 
 use crate::ctypes::{ConfigArgs, SpanArgs, TscAdded, TscFigures, TscTime, TscValue};
 use crate::refusal::Refusal;
@@ -33,16 +31,7 @@ pub fn time(words: &TscTime) -> Result<Timestamp, Refusal>
     ensures value { IfOk result (λ time. time ≡ time_of words.now) }
     ensures refused { IfErr result (λ refusal. RefusesTime refusal (time_of words.now)) }
 {
-    time_of_parts(words.wall, words.logical)
-}
-
-/// The time of a wall time and a logical count.
-fn time_of_parts(wall: u64, logical: u32) -> Result<Timestamp, Refusal>
-    ensures value { IfOk result (λ time. time ≡ record { wall = wall; logical = logical }) }
-    ensures refused { IfErr result
-        (λ refusal. RefusesTime refusal (record { wall = wall; logical = logical })) }
-{
-    match Timestamp::new(wall, logical) {
+    match Timestamp::new(words.wall, words.logical) {
         Some(time) => Ok(time),
         None => Err(Refusal::Time),
     }
@@ -53,7 +42,8 @@ pub fn value(words: &TscValue) -> Result<Value, Refusal>
     ensures value { IfOk result (λ value. value ≡ value_of words.now) }
     ensures refused { IfErr result (λ refusal. RefusesTime refusal (value_of words.now).time) }
 {
-    let time = time_of_parts(words.wall, words.logical)?;
+    let TscValue { wall, logical, .. } = *words;
+    let time = time(&TscTime { wall, logical })?;
     Ok(Value::of(time, Uuid::from_bytes(words.owner)))
 }
 
@@ -62,7 +52,8 @@ pub fn value_time(words: &TscValue) -> Result<Timestamp, Refusal>
     ensures value { IfOk result (λ time. time ≡ (value_of words.now).time) }
     ensures refused { IfErr result (λ refusal. RefusesTime refusal (value_of words.now).time) }
 {
-    time_of_parts(words.wall, words.logical)
+    let TscValue { wall, logical, .. } = *words;
+    time(&TscTime { wall, logical })
 }
 
 /// The words of a time.
@@ -208,34 +199,18 @@ pub fn looked_up_span<'a>(args: &SpanArgs<'a>) -> Result<SpanRef<'a>, Refusal>
 }
 
 /// The configuration that a call names.
-pub(crate) fn config(args: &ConfigArgs<'_>) -> Result<Config, Refusal>
+pub fn config(args: &ConfigArgs<'_>) -> Result<Config, Refusal>
     ensures value { IfOk result (λ config. settings_asked (asked_config args.now) ≡ Made config) }
     ensures refused { IfErr result (λ why. RefusesConfig why (asked_config args.now)) }
 {
     let low_water = time(args.low_water)?;
-    config_of(
+    match Config::new(
         args.page_first,
         args.page_max,
         args.min_pages,
         args.retention,
         low_water,
-    )
-}
-
-/// The configuration of these numbers.
-fn config_of(
-    page_first: u32,
-    page_max: u32,
-    min_pages: u32,
-    retention: u64,
-    low_water: Timestamp,
-) -> Result<Config, Refusal>
-    ensures value { IfOk result (λ config. settings_of page_first page_max min_pages retention
-        low_water ≡ Made config) }
-    ensures refused { IfErr result
-        (λ why. RefusesNumbers why page_first page_max min_pages retention low_water) }
-{
-    match Config::new(page_first, page_max, min_pages, retention, low_water) {
+    ) {
         Ok(config) => Ok(config),
         Err(fault) => Err(of_config(fault)),
     }

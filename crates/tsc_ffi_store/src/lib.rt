@@ -1,8 +1,8 @@
 //! The store behind a pointer of a program in C: caches, shared caches and their seats, by handles.
 //!
-//! [`Store`] has a method for each request. It takes what C hands over, as C lays it out
-//! ([`SpanArgs`] and its like), and either does all that is asked, or says by a [`Refusal`] why it
-//! did nothing.
+//! A [`Store`] opens, closes and lends what its handles name. There is a function for each request
+//! of a cache or a seat. It takes what C hands over, as C lays it out ([`SpanArgs`] and its like),
+//! and either does all that is asked, or says by a [`Refusal`] why it did nothing.
 #![tactic(auto)]
 
 mod buffer;
@@ -13,18 +13,20 @@ pub mod laws;
 mod marks;
 mod refusal;
 mod seat_calls;
+mod seats;
 mod store;
+mod summaries;
+mod writes;
 
 pub use buffer::{REFUSED, put};
-pub use cache_calls::{may_open, of_cache_fault};
+pub use cache_calls::{add_all_in, add_in, figures_in, floor_in, look_in};
 pub use ctypes::{
-    AddArgs, BatchArgs, ConfigArgs, SpanArgs, TscAdded, TscFigures, TscMark, TscSpan, TscTime,
-    TscValue,
+    AddArgs, ApplyArgs, BatchArgs, ConfigArgs, SpanArgs, SummaryArgs, TscAdded, TscFigures,
+    TscMark, TscSpan, TscTime, TscValue, WriteArgs,
 };
-pub use decode::{
-    Form, added_span, looked_up_span, time, value_time, words_of_added, words_of_time,
-};
-pub use marks::part;
+pub use decode::{Form, config};
 pub use refusal::{OK, Refusal, code};
-pub use seat_calls::may_open_shared;
+pub use seat_calls::{add_all_at, add_at, figures_at, floor_at, look_at, may_seat};
 pub use store::{Slot, Store};
+pub use summaries::{apply_in, put_in};
+pub use writes::{may_at, may_in, write_at, write_in};

@@ -1,8 +1,7 @@
 //! The marks that a call asks for.
 
-ghost use Rattle.std.specs.Prelude.{◌≡◌, ◌∷◌, ◌++◌, [], IfOk, IfErr, Some};
+ghost use Rattle.std.specs.Prelude.{◌≡◌, IfOk, IfErr, Some};
 ghost use Rattle.tsc_ffi_store.specs.Marks.{part_of, IsMark, AreMarks, RefusesPart, RefusesMark, RefusesMarks};
-ghost use Rattle.tsc_ffi_store.specs.declared.refusal.Refusal.TheVariants.{NoMemory};
 
 use crate::ctypes::{SpanArgs, TscMark};
 use crate::decode::{added_span, value};
@@ -39,17 +38,6 @@ fn mark(alloc: Global, keys: &[u8], asked: &TscMark) -> Result<Mark, Refusal>
     Ok(Mark { span, value })
 }
 
-/// One mark more behind others.
-fn put(marks: &mut Vec<Mark>, mark: Mark) -> Result<(), Refusal>
-    ensures put { IfOk result (λ _. marks.new.items ≡ marks.old.items ++ mark ∷ []) }
-    ensures refused { IfErr result (λ why. why ≡ NoMemory) }
-{
-    match marks.push(mark) {
-        Ok(()) => Ok(()),
-        Err(_) => Err(Refusal::NoMemory),
-    }
-}
-
 /// The marks of these words, in their order.
 pub fn marks(alloc: Global, keys: &[u8], asked: &[TscMark]) -> Result<Vec<Mark>, Refusal>
     ensures value { IfOk result (λ marks. AreMarks keys.now asked.now marks.items) }
@@ -58,7 +46,9 @@ pub fn marks(alloc: Global, keys: &[u8], asked: &[TscMark]) -> Result<Vec<Mark>,
     let mut marks = Vec::new(alloc);
     for words in asked {
         let mark = mark(alloc, keys, words)?;
-        put(&mut marks, mark)?;
+        let Ok(()) = marks.push(mark) else {
+            return Err(Refusal::NoMemory);
+        };
     }
     Ok(marks)
 }

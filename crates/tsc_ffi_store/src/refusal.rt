@@ -8,45 +8,45 @@ pub const OK: u32 = 0;
 #[derive(Clone, Copy, Debug, PartialEq, Eq)]
 pub enum Refusal {
     /// The handle names nothing, or nothing of this kind.
-    Closed,
+    Closed = 1,
     /// A time is out of range.
-    Time,
+    Time = 2,
     /// There are no such ends of a span.
-    Ends,
+    Ends = 3,
     /// A key has more than 4096 bytes.
-    KeyTooLong,
+    KeyTooLong = 4,
     /// The first key of a span to be added is greater than the second.
-    Inverted,
+    Inverted = 5,
     /// A span to be added costs more than the largest page may have.
-    TooLarge,
+    TooLarge = 6,
     /// A key of a mark does not lie among the bytes that came with it.
-    Outside,
+    Outside = 7,
     /// There may be no pages of these sizes.
-    PageSize,
+    PageSize = 8,
     /// There may not be so many pages.
-    MinPages,
+    MinPages = 9,
     /// Reads may not be retained for so long.
-    Retention,
+    Retention = 10,
     /// Memory was refused.
-    NoMemory,
+    NoMemory = 11,
     /// A shared cache may not have so many seats.
-    Seats,
+    Seats = 12,
     /// A seat of the shared cache is still out.
-    StillOut,
+    StillOut = 13,
     /// Others were in the way at each try.
-    Busy,
+    Busy = 14,
     /// The history of the shared cache has as many Adds as it may have.
-    Full,
+    Full = 15,
     /// A read of somebody else stands at the last time, so a write is clear at none.
-    NoTime,
+    NoTime = 18,
     /// The bytes are a summary of another version.
-    SummaryVersion,
+    SummaryVersion = 19,
     /// A summary has other bytes than it tells of, fewer or more.
-    SummaryLength,
+    SummaryLength = 20,
     /// A summary was changed: its digest is another one.
-    SummaryChecksum,
+    SummaryChecksum = 21,
     /// The digest is right, and what it is of is no summary.
-    SummaryForm,
+    SummaryForm = 22,
 }
 
 impl Refusal {
@@ -55,28 +55,7 @@ impl Refusal {
         ensures value { result ≡ code_of self }
         ensures not_ok { result ≢ OK }
     {
-        match self {
-            Refusal::Closed => 1,
-            Refusal::Time => 2,
-            Refusal::Ends => 3,
-            Refusal::KeyTooLong => 4,
-            Refusal::Inverted => 5,
-            Refusal::TooLarge => 6,
-            Refusal::Outside => 7,
-            Refusal::PageSize => 8,
-            Refusal::MinPages => 9,
-            Refusal::Retention => 10,
-            Refusal::NoMemory => 11,
-            Refusal::Seats => 12,
-            Refusal::StillOut => 13,
-            Refusal::Busy => 14,
-            Refusal::Full => 15,
-            Refusal::NoTime => 18,
-            Refusal::SummaryVersion => 19,
-            Refusal::SummaryLength => 20,
-            Refusal::SummaryChecksum => 21,
-            Refusal::SummaryForm => 22,
-        }
+        self as u32
     }
 }
 

@@ -1,13 +1,13 @@
 //! A store: caches, shared caches and seats by their handles.
 
-ghost use Rattle.std.specs.Prelude.{◌≡◌, ◌≢◌, IfSome, IfNone, None, [], ◌++◌, ◌∷◌, ◌<◌, length, option_map, slice_get, slice_set, Some};
-ghost use Rattle.std.specs.Vec.{vec_len, vec_capacity};
+ghost use Rattle.std.specs.Borrow.{sem};
+ghost use Rattle.std.specs.Prelude.{◌≡◌, ◌≢◌, IfSome, IfNone, None, [], option_map, slice_get, slice_set, Some};
 ghost use Rattle.tsc_ffi_store.specs.declared.store.Slot.TheVariants as kinds;
 
+use crate::seats::{Owner, SeatHandle};
 use std::alloc::Global;
 use std::mem::replace;
 use tsc_cache::Cache;
-use tsc_ffi_seats::{Owner, SeatHandle};
 
 /// What a handle that was given names.
 #[derive(Drop)]
@@ -23,10 +23,7 @@ pub enum Slot {
 }
 
 impl Slot {
-    ghost use Rattle.std.specs.Borrow.{LendsIf, sem};
-    ghost use Rattle.tsc_ffi_store.specs.contracts.store.Slot.{the_row};
-    ghost use Rattle.tsc_cache.specs.contracts.cache.Cache.{the_row as cache_row};
-    ghost use Rattle.tsc_ffi_seats.specs.contracts.handle.SeatHandle.{the_row as seat_row};
+    ghost use Rattle.tsc_ffi_store.specs.Lending.{LendsCache, LendsSeat};
     ghost use Rattle.tsc_ffi_store.specs.Store.{cache_of, seat_of};
 
     /// The cache that is held.
@@ -41,8 +38,7 @@ impl Slot {
 
     /// The cache that is held, to be changed.
     pub(crate) fn cache_mut(&mut self) -> Option<&mut Cache>
-        ensures* writes_back { sem 𝓛
-            (LendsIf the_row cache_row self.entry result kinds.Own self.old) }
+        ensures* writes_back { sem 𝓛 (LendsCache self.entry result) }
         ensures value { option_map (λ c. c.now) result ≡ cache_of self.old }
     {
         match self {
@@ -53,8 +49,7 @@ impl Slot {
 
     /// The seat that is held.
     pub(crate) fn seat_mut(&mut self) -> Option<&mut SeatHandle>
-        ensures* writes_back { sem 𝓛
-            (LendsIf the_row seat_row self.entry result kinds.Seat self.old) }
+        ensures* writes_back { sem 𝓛 (LendsSeat self.entry result) }
         ensures value { option_map (λ s. s.now) result ≡ seat_of self.old }
     {
         match self {
@@ -71,9 +66,7 @@ impl Slot {
     {
         match replace(self, Slot::Closed) {
             Slot::Closed => None,
-            Slot::Own(cache) => Some(Slot::Own(cache)),
-            Slot::Shared(owner) => Some(Slot::Shared(owner)),
-            Slot::Seat(seat) => Some(Slot::Seat(seat)),
+            slot @ (Slot::Own(_) | Slot::Shared(_) | Slot::Seat(_)) => Some(slot),
         }
     }
 }
@@ -85,7 +78,6 @@ pub struct Store {
 }
 
 impl Store {
-    ghost use Rattle.std.specs.Borrow.{sem};
     ghost use Rattle.tsc_ffi_store.specs.Lending.{LendsCacheAt, LendsSeatAt};
     ghost use Rattle.tsc_ffi_store.specs.Store.{cache_at, shared_at, seat_at};
 
@@ -144,18 +136,5 @@ impl Store {
             Some(slot) => slot.take(),
             None => None,
         }
-    }
-
-    /// Lays one more, for which there is room, and gives its handle.
-    pub(crate) fn lay(&mut self, slot: Slot) -> u64
-        requires room { vec_len self.old.slots < vec_capacity self.old.slots }
-        ensures handle { result ≡ length self.old.slots.items }
-        ensures laid { self.new.slots.items ≡ self.old.slots.items ++ slot ∷ [] }
-    {
-        let handle = self.slots.len() as u64;
-        let Ok(()) = self.slots.push(slot) else {
-            unreachable!()
-        };
-        handle
     }
 }

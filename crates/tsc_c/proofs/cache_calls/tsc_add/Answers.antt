@@ -1,24 +1,41 @@
--- The number tells what the store did, or that there is none.
+-- The number tells what was done to what the handle names, or that it names nothing.
 use Rattle.std.proofs.Common.{rules}
 use Rattle.std.specs.Prelude.{Err, Some}
 use Rattle.tsc_ffi_store.specs.declared.refusal.Refusal.TheVariants as refusal
 use Rattle.tsc_ffi_store.specs.CacheCalls.{AnswersAdd}
 use Rattle.tsc_ffi_store.specs.Decode.{add_asked, span_asked, added_of}
-use Rattle.tsc_ffi_store.specs.Store.{DoesToCache}
-use Rattle.tsc_c.proofs.Held.{in_store, no_cache}
+use Rattle.tsc_ffi_store.proofs.AtHandle.{when_some}
+use Rattle.tsc_c.proofs.Held.{no_cache, works_there, works_on_none}
 use Rattle.tsc_c.proofs.cache_calls.tsc_add.Goals as goal
 
-pub returns-in-Some : goal.returns-in-Some
-returns-in-Some c = record {
+pub returns-in-Some-cache_mut : goal.returns-in-Some-cache_mut
+returns-in-Some-cache_mut c = record {
   answers = record {
-    did = c.add.result;
+    did = c.add_in.result;
     code_is = c.code.ensures;
-    answers = in_store (λ o n. DoesToCache
-        (AnswersAdd (add_asked (span_asked c.args.from.now c.args.to.now c.args.ends)
-        c.args.value.now c.args.moment.now) (added_of c.add.new.out)) o n c.args.handle
-        c.add.result) c.args.store.now.owned (Some c.add.new.self) c.in-Some.held.now c.add.new.self
-        (search rules) (search rules) c.add.ensures.answers;
-    kept = c.add.ensures.kept;
+    answers = works_there (AnswersAdd (add_asked (span_asked c.args.from.now c.args.to.now
+        c.args.ends) c.args.value.now c.args.moment.now) (added_of c.add_in.new.out))
+        c.args.store.now.owned (Some (c.cache_mut.follows.lender c.add_in.new.cache))
+        c.in-Some.held.now (c.cache_mut.follows.lender c.add_in.new.cache) c.args.handle
+        c.in-Some-cache_mut.cache.now c.add_in.new.cache (c.add_in.result) (search rules) (search
+        rules) (search rules) (when_some c.cache_mut.result c.in-Some-cache_mut.cache
+        c.in-Some-cache_mut.is (c.cache_mut.follows.holds c.add_in.new.cache))
+        (c.add_in.ensures.answers);
+    kept = c.add_in.ensures.kept;
+  };
+}
+
+pub returns-in-None-cache_mut : goal.returns-in-None-cache_mut
+returns-in-None-cache_mut c = record {
+  answers = record {
+    did = Err refusal.Closed;
+    code_is = search rules;
+    answers = works_on_none (AnswersAdd (add_asked (span_asked c.args.from.now c.args.to.now
+        c.args.ends) c.args.value.now c.args.moment.now) (added_of c.args.out.now))
+        c.args.store.now.owned (Some c.cache_mut.follows.lender-at-none) c.in-Some.held.now
+        c.cache_mut.follows.lender-at-none c.args.handle (search rules) (search rules) (search
+        rules) (c.cache_mut.follows.holds-at-none);
+    kept = search rules;
   };
 }
 
@@ -27,10 +44,9 @@ returns-in-None c = record {
   answers = record {
     did = Err refusal.Closed;
     code_is = search rules;
-    answers = no_cache (AnswersAdd
-        (add_asked (span_asked c.args.from.now c.args.to.now c.args.ends) c.args.value.now
-        c.args.moment.now) (added_of c.args.out.now)) c.args.store.now.owned c.args.store.now.owned
-        c.args.handle (search rules) (search rules);
+    answers = no_cache (AnswersAdd (add_asked (span_asked c.args.from.now c.args.to.now
+        c.args.ends) c.args.value.now c.args.moment.now) (added_of c.args.out.now))
+        c.args.store.now.owned c.args.store.now.owned c.args.handle (search rules) (search rules);
     kept = search rules;
   };
 }

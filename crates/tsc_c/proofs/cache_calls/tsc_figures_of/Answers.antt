@@ -1,28 +1,35 @@
--- The number tells what the store did, or that there is none.
-use Rattle.std.proofs.Common.{rules}
-use Rattle.std.specs.Prelude.{Err}
+-- The number tells what was done to what the handle names, or that it names nothing.
+use Rattle.std.proofs.Common.{refl, rules}
+use Rattle.std.specs.Prelude.{Ok, Err}
 use Rattle.tsc_ffi_store.specs.declared.refusal.Refusal.TheVariants as refusal
 use Rattle.tsc_ffi_store.specs.CacheCalls.{AnswersAlways, Counts}
-use Rattle.tsc_ffi_store.specs.Store.{AnswersOfCache}
-use Rattle.tsc_c.proofs.Held.{in_store, none_read}
+use Rattle.tsc_c.proofs.Held.{none_read, reads_there, reads_none_there}
 use Rattle.tsc_c.proofs.cache_calls.tsc_figures_of.Goals as goal
 
-pub returns-in-Some-clause-answers : goal.returns-in-Some-clause-answers
-returns-in-Some-clause-answers c = record {
-  did = c.figures.result;
-  code_is = c.code.ensures;
-  answers = in_store (λ o n. AnswersOfCache
-      (AnswersAlways (λ cache. Counts cache c.figures.new.out)) o c.args.handle c.figures.result)
-      c.args.store.now.owned c.args.store.now.owned c.in-Some.held.now c.in-Some.held.now
-      (search rules) (search rules) c.figures.ensures.answers;
-  kept = c.figures.ensures.kept;
+pub returns-in-Some-cache-clause-answers : goal.returns-in-Some-cache-clause-answers
+returns-in-Some-cache-clause-answers c = record {
+  did = Ok tt;
+  code_is = search rules;
+  answers = reads_there (AnswersAlways (λ cache. Counts cache c.figures_in.new.out))
+      c.args.store.now.owned c.in-Some.held.now c.args.handle c.in-Some-cache.cache.now (Ok tt)
+      (search rules) (search rules) (record { told = c.figures_in.ensures; done = refl });
+  kept = tt;
+}
+
+pub returns-in-None-cache-clause-answers : goal.returns-in-None-cache-clause-answers
+returns-in-None-cache-clause-answers c = record {
+  did = Err refusal.Closed;
+  code_is = search rules;
+  answers = reads_none_there (AnswersAlways (λ cache. Counts cache c.args.out.now))
+      c.args.store.now.owned c.in-Some.held.now c.args.handle (search rules) (search rules);
+  kept = search rules;
 }
 
 pub returns-in-None-clause-answers : goal.returns-in-None-clause-answers
 returns-in-None-clause-answers c = record {
   did = Err refusal.Closed;
   code_is = search rules;
-  answers = none_read (AnswersAlways (λ cache. Counts cache c.args.out.now)) c.args.store.now.owned
-      c.args.handle (search rules);
+  answers = none_read (AnswersAlways (λ cache. Counts cache c.args.out.now))
+      c.args.store.now.owned c.args.handle (search rules);
   kept = search rules;
 }

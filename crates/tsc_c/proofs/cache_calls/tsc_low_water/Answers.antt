@@ -1,22 +1,29 @@
--- The number tells what the store did, or that there is none.
-use Rattle.std.proofs.Common.{rules}
-use Rattle.std.specs.Prelude.{Err}
+-- The number tells what was done to what the handle names, or that it names nothing.
+use Rattle.std.proofs.Common.{refl, rules}
+use Rattle.std.specs.Prelude.{Ok, Err}
 use Rattle.tsc_ffi_store.specs.declared.refusal.Refusal.TheVariants as refusal
 use Rattle.tsc_ffi_store.specs.CacheCalls.{AnswersAlways, StandsAt}
 use Rattle.tsc_ffi_store.specs.Decode.{time_of}
-use Rattle.tsc_ffi_store.specs.Store.{AnswersOfCache}
-use Rattle.tsc_c.proofs.Held.{in_store, none_read}
+use Rattle.tsc_c.proofs.Held.{none_read, reads_there, reads_none_there}
 use Rattle.tsc_c.proofs.cache_calls.tsc_low_water.Goals as goal
 
-pub returns-in-Some-clause-answers : goal.returns-in-Some-clause-answers
-returns-in-Some-clause-answers c = record {
-  did = c.low_water.result;
-  code_is = c.code.ensures;
-  answers = in_store (λ o n. AnswersOfCache
-      (AnswersAlways (λ cache. StandsAt cache (time_of c.low_water.new.out))) o c.args.handle
-      c.low_water.result) c.args.store.now.owned c.args.store.now.owned c.in-Some.held.now
-      c.in-Some.held.now (search rules) (search rules) c.low_water.ensures.answers;
-  kept = c.low_water.ensures.kept;
+pub returns-in-Some-cache-clause-answers : goal.returns-in-Some-cache-clause-answers
+returns-in-Some-cache-clause-answers c = record {
+  did = Ok tt;
+  code_is = search rules;
+  answers = reads_there (AnswersAlways (λ cache. StandsAt cache (time_of c.floor_in.new.out)))
+      c.args.store.now.owned c.in-Some.held.now c.args.handle c.in-Some-cache.cache.now (Ok tt)
+      (search rules) (search rules) (record { told = c.floor_in.ensures; done = refl });
+  kept = tt;
+}
+
+pub returns-in-None-cache-clause-answers : goal.returns-in-None-cache-clause-answers
+returns-in-None-cache-clause-answers c = record {
+  did = Err refusal.Closed;
+  code_is = search rules;
+  answers = reads_none_there (AnswersAlways (λ cache. StandsAt cache (time_of c.args.out.now)))
+      c.args.store.now.owned c.in-Some.held.now c.args.handle (search rules) (search rules);
+  kept = search rules;
 }
 
 pub returns-in-None-clause-answers : goal.returns-in-None-clause-answers

@@ -1,23 +1,40 @@
--- The number tells what the store did, or that there is none.
-use Rattle.std.proofs.Common.{rules}
-use Rattle.std.specs.Prelude.{Err, Some}
+-- The number tells what was done to what the handle names, or that it names nothing.
+use Rattle.std.proofs.Common.{refl, rules}
+use Rattle.std.specs.Prelude.{Ok, Err, Some}
 use Rattle.tsc_ffi_store.specs.declared.refusal.Refusal.TheVariants as refusal
 use Rattle.tsc_ffi_store.specs.SeatCalls.{AnswersSeatFigures}
-use Rattle.tsc_ffi_store.specs.Store.{DoesToSeat}
-use Rattle.tsc_c.proofs.Held.{in_store, no_seat}
+use Rattle.tsc_ffi_store.proofs.AtHandle.{when_some}
+use Rattle.tsc_c.proofs.Held.{no_seat, works_at, works_at_none}
 use Rattle.tsc_c.proofs.seat_calls.tsc_seat_figures_of.Goals as goal
 
-pub returns-in-Some : goal.returns-in-Some
-returns-in-Some c = record {
+pub returns-in-Some-seat_mut : goal.returns-in-Some-seat_mut
+returns-in-Some-seat_mut c = record {
   answers = record {
-    did = c.seat_figures.result;
-    code_is = c.code.ensures;
-    answers = in_store (λ o n. DoesToSeat
-        (AnswersSeatFigures c.seat_figures.new.seen c.seat_figures.new.out) o n c.args.handle
-        c.seat_figures.result) c.args.store.now.owned (Some c.seat_figures.new.self)
-        c.in-Some.held.now c.seat_figures.new.self (search rules) (search rules)
-        c.seat_figures.ensures.answers;
-    kept = c.seat_figures.ensures.kept;
+    did = Ok tt;
+    code_is = search rules;
+    answers = works_at (AnswersSeatFigures c.figures_at.new.seen c.figures_at.new.out)
+        c.args.store.now.owned (Some (c.seat_mut.follows.lender c.figures_at.new.seat))
+        c.in-Some.held.now (c.seat_mut.follows.lender c.figures_at.new.seat) c.args.handle
+        c.in-Some-seat_mut.seat.now c.figures_at.new.seat (Ok tt) (search rules) (search rules)
+        (search rules) (when_some c.seat_mut.result c.in-Some-seat_mut.seat c.in-Some-seat_mut.is
+        (c.seat_mut.follows.holds c.figures_at.new.seat)) (record {
+          counts = c.figures_at.ensures;
+          done = refl;
+        });
+    kept = tt;
+  };
+}
+
+pub returns-in-None-seat_mut : goal.returns-in-None-seat_mut
+returns-in-None-seat_mut c = record {
+  answers = record {
+    did = Err refusal.Closed;
+    code_is = search rules;
+    answers = works_at_none (AnswersSeatFigures c.args.seen.now c.args.out.now)
+        c.args.store.now.owned (Some c.seat_mut.follows.lender-at-none) c.in-Some.held.now
+        c.seat_mut.follows.lender-at-none c.args.handle (search rules) (search rules) (search
+        rules) (c.seat_mut.follows.holds-at-none);
+    kept = search rules;
   };
 }
 

@@ -1,24 +1,42 @@
--- The number tells what the store did, or that there is none.
-use Rattle.std.proofs.Common.{rules}
-use Rattle.std.specs.Prelude.{Err, Some}
+-- The number tells what was done to what the handle names, or that it names nothing.
+use Rattle.std.proofs.Common.{refl, rules}
+use Rattle.std.specs.Prelude.{Ok, Err, Some}
 use Rattle.tsc_ffi_store.specs.declared.refusal.Refusal.TheVariants as refusal
 use Rattle.tsc_ffi_store.specs.SeatCalls.{AnswersSeatLowWater}
 use Rattle.tsc_ffi_store.specs.Decode.{time_of}
-use Rattle.tsc_ffi_store.specs.Store.{DoesToSeat}
-use Rattle.tsc_c.proofs.Held.{in_store, no_seat}
+use Rattle.tsc_ffi_store.proofs.AtHandle.{when_some}
+use Rattle.tsc_c.proofs.Held.{no_seat, works_at, works_at_none}
 use Rattle.tsc_c.proofs.seat_calls.tsc_seat_low_water.Goals as goal
 
-pub returns-in-Some : goal.returns-in-Some
-returns-in-Some c = record {
+pub returns-in-Some-seat_mut : goal.returns-in-Some-seat_mut
+returns-in-Some-seat_mut c = record {
   answers = record {
-    did = c.seat_low_water.result;
-    code_is = c.code.ensures;
-    answers = in_store (λ o n. DoesToSeat
-        (AnswersSeatLowWater c.seat_low_water.new.seen (time_of c.seat_low_water.new.out)) o n
-        c.args.handle c.seat_low_water.result) c.args.store.now.owned
-        (Some c.seat_low_water.new.self) c.in-Some.held.now c.seat_low_water.new.self (search rules)
-        (search rules) c.seat_low_water.ensures.answers;
-    kept = c.seat_low_water.ensures.kept;
+    did = Ok tt;
+    code_is = search rules;
+    answers = works_at (AnswersSeatLowWater c.floor_at.new.seen (time_of c.floor_at.new.out))
+        c.args.store.now.owned (Some (c.seat_mut.follows.lender c.floor_at.new.seat))
+        c.in-Some.held.now (c.seat_mut.follows.lender c.floor_at.new.seat) c.args.handle
+        c.in-Some-seat_mut.seat.now c.floor_at.new.seat (Ok tt) (search rules) (search rules)
+        (search rules) (when_some c.seat_mut.result c.in-Some-seat_mut.seat c.in-Some-seat_mut.is
+        (c.seat_mut.follows.holds c.floor_at.new.seat)) (record {
+          reads = c.floor_at.ensures;
+          done
+              = refl;
+        });
+    kept = tt;
+  };
+}
+
+pub returns-in-None-seat_mut : goal.returns-in-None-seat_mut
+returns-in-None-seat_mut c = record {
+  answers = record {
+    did = Err refusal.Closed;
+    code_is = search rules;
+    answers = works_at_none (AnswersSeatLowWater c.args.seen.now (time_of c.args.out.now))
+        c.args.store.now.owned (Some c.seat_mut.follows.lender-at-none) c.in-Some.held.now
+        c.seat_mut.follows.lender-at-none c.args.handle (search rules) (search rules) (search
+        rules) (c.seat_mut.follows.holds-at-none);
+    kept = search rules;
   };
 }
 

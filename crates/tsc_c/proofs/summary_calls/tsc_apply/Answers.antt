@@ -1,39 +1,50 @@
--- The number tells what the store did, or that there is none.
+-- The number tells what was done to what the handle names, or that it names nothing.
 use Rattle.std.proofs.Common.{rules}
 use Rattle.std.specs.Prelude.{Err, Some}
 use Rattle.tsc_ffi_store.specs.declared.refusal.Refusal.TheVariants as refusal
 use Rattle.tsc_ffi_store.specs.Decode.{added_of}
-use Rattle.tsc_ffi_store.specs.Store.{DoesToCache}
-use Rattle.tsc_ffi_leases.specs.Summaries.{apply_asked, AnswersApply}
-use Rattle.tsc_c.proofs.Held.{in_store, no_cache}
+use Rattle.tsc_ffi_store.specs.Summaries.{apply_asked, AnswersApply}
+use Rattle.tsc_ffi_store.proofs.AtHandle.{when_some}
+use Rattle.tsc_c.proofs.Held.{no_cache, works_there, works_on_none}
 use Rattle.tsc_c.proofs.summary_calls.tsc_apply.Goals as goal
 
-pub returns-in-Some : goal.returns-in-Some
-returns-in-Some c =
-    let asked = apply_asked c.args.summary.now c.args.moment.now in
-    record {
-      answers = record {
-        did = c.apply_summary.result;
-        code_is = c.code.ensures;
-        answers = in_store (λ o n. DoesToCache
-            (AnswersApply asked (added_of c.apply_summary.new.out)) o n c.args.handle
-            c.apply_summary.result)
-            c.args.store.now.owned (Some c.apply_summary.new.store) c.in-Some.held.now
-            c.apply_summary.new.store
-            (search rules) (search rules) c.apply_summary.ensures.answers;
-        kept = c.apply_summary.ensures.kept;
-      };
-    }
+pub returns-in-Some-cache_mut : goal.returns-in-Some-cache_mut
+returns-in-Some-cache_mut c = record {
+  answers = record {
+    did = c.apply_in.result;
+    code_is = c.code.ensures;
+    answers = works_there (AnswersApply (apply_asked c.args.summary.now c.args.moment.now)
+        (added_of c.apply_in.new.out)) c.args.store.now.owned (Some (c.cache_mut.follows.lender
+        c.apply_in.new.cache)) c.in-Some.held.now (c.cache_mut.follows.lender c.apply_in.new.cache)
+        c.args.handle c.in-Some-cache_mut.cache.now c.apply_in.new.cache (c.apply_in.result)
+        (search rules) (search rules) (search rules) (when_some c.cache_mut.result
+        c.in-Some-cache_mut.cache c.in-Some-cache_mut.is (c.cache_mut.follows.holds
+        c.apply_in.new.cache)) (c.apply_in.ensures.answers);
+    kept = c.apply_in.ensures.kept;
+  };
+}
+
+pub returns-in-None-cache_mut : goal.returns-in-None-cache_mut
+returns-in-None-cache_mut c = record {
+  answers = record {
+    did = Err refusal.Closed;
+    code_is = search rules;
+    answers = works_on_none (AnswersApply (apply_asked c.args.summary.now c.args.moment.now)
+        (added_of c.args.out.now)) c.args.store.now.owned (Some c.cache_mut.follows.lender-at-none)
+        c.in-Some.held.now c.cache_mut.follows.lender-at-none c.args.handle (search rules) (search
+        rules) (search rules) (c.cache_mut.follows.holds-at-none);
+    kept = search rules;
+  };
+}
 
 pub returns-in-None : goal.returns-in-None
-returns-in-None c =
-    let asked = apply_asked c.args.summary.now c.args.moment.now in
-    record {
-      answers = record {
-        did = Err refusal.Closed;
-        code_is = search rules;
-        answers = no_cache (AnswersApply asked (added_of c.args.out.now)) c.args.store.now.owned
-            c.args.store.now.owned c.args.handle (search rules) (search rules);
-        kept = search rules;
-      };
-    }
+returns-in-None c = record {
+  answers = record {
+    did = Err refusal.Closed;
+    code_is = search rules;
+    answers = no_cache (AnswersApply (apply_asked c.args.summary.now c.args.moment.now) (added_of
+        c.args.out.now)) c.args.store.now.owned c.args.store.now.owned c.args.handle (search rules)
+        (search rules);
+    kept = search rules;
+  };
+}

@@ -4,7 +4,9 @@ use Rattle.tsc_ffi_store.specs.CacheCalls.{LooksIn}
 use Rattle.tsc_ffi_store.specs.Decode.{asked_span}
 use Rattle.tsc_ffi_store.proofs.cache_calls.look_formed.Goals as goal
 
-pub returns-clause-looked : goal.returns-clause-looked
-returns-clause-looked c =
-    subst (λ v. LooksIn c.args.cache.now (asked_span c.args.span.now) v) c.words_of.ensures
-    (search rules)
+pub returns-clause-answers : goal.returns-clause-answers
+returns-clause-answers c = record {
+  looked = subst (λ v. LooksIn c.args.cache.now (asked_span c.args.span.now) v) c.words_of.ensures
+      (search rules);
+  refused = tt;
+}

@@ -1,24 +1,45 @@
 -- What the cache said of the Add that was tried.
-use Rattle.std.proofs.Common.{inr, sym, subst}
+use Rattle.std.proofs.Common.{inr, sym, subst, rules}
 use Rattle.tsc_ffi_store.specs.Marks.{AreMarks}
+use Rattle.std.proofs.lemmas.Result.{err_from_is_err_and}
 use Rattle.tsc_ffi_store.proofs.Trying.{accepted_tried, why_refused}
 use Rattle.tsc_ffi_store.proofs.seat_calls.add_all_at.Goals as goal
 
-pub returns-in-Ok-clause-tried : goal.returns-in-Ok-clause-tried
-returns-in-Ok-clause-tried c = accepted_tried _ _ c.in-Ok.receipt
-    (record { too_large = c.in-Ok.ensures.too_large; no_tries = c.in-Ok.ensures.no_tries })
+pub returns-clause-answers : goal.returns-clause-answers
+returns-clause-answers c = record {
+  added = search rules;
+  tried = accepted_tried _ _ c.in_ok-receipt.receipt
+      (record {
+        too_large = c.in_ok-receipt.ensures.too_large;
+        no_tries = c.in_ok-receipt.ensures.no_tries;
+      });
+  refused = tt;
+  spared = tt;
+}
 
-pub returns-clause-refused : goal.returns-clause-refused
-returns-clause-refused c = inr (inr
-    (why_refused c.of_fault.result c.args.seat.now c.try_add_all.new.self c.args.tries _
-    c.in-Err.fault c.of_fault.ensures c.in-Err.ensures.why
-    (record { too_large = c.in-Err.ensures.too_large; no_tries = c.in-Err.ensures.no_tries })
-    (λ large told same. record {
-      marks = c.deref.result.now;
-      asked_for = subst (AreMarks c.args.args.now.keys.now c.args.args.now.marks.now)
-          (sym c.deref.ensures.value) c.in_ok-marks.ensures.value;
-      too_large = large;
-      told =
-          told;
-      same = same;
-    })))
+pub returns-in_err-receipt-clause-answers : goal.returns-in_err-receipt-clause-answers
+returns-in_err-receipt-clause-answers c =
+    let p = err_from_is_err_and c.from_residual-in_err-receipt.result
+    c.from_residual-in_err-receipt.ensures.1 in rw p.1 record {
+      added = tt;
+      tried = tt;
+      refused = inr (inr
+          (why_refused p.0 c.args.seat.now c.try_add_all.new.self c.args.tries _
+          c.in_err-receipt.field-0.0 p.2 c.in_err-receipt.ensures.why
+          (record {
+            too_large = c.in_err-receipt.ensures.too_large;
+            no_tries = c.in_err-receipt.ensures.no_tries;
+          })
+          (λ large told same. record {
+            marks = c.deref.result.now;
+            asked_for = subst (AreMarks c.args.args.now.keys.now c.args.args.now.marks.now)
+                (sym c.deref.ensures.value) c.in_ok-marks.ensures.value;
+            too_large = large;
+            told = told;
+            same = same;
+          })));
+      spared = inr (record {
+        goes_on = c.in_err-receipt.ensures.seat;
+        refuses = c.in_err-receipt.ensures.refused;
+      });
+    }

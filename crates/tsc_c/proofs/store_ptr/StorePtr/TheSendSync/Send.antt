@@ -9,7 +9,7 @@ use base.Fraction.{full_share}
 use denote.Param.SendFields.{declared_send, as_row_send, variants_send}
 use Rattle.std.proofs.Crossing.{crosses, frees}
 use Rattle.tsc_cache.proofs.Crossing.{cache_sends}
-use Rattle.tsc_ffi_seats.proofs.Crossing.{owner_sends, handle_sends}
+use Rattle.tsc_ffi_store.proofs.Crossing.{owner_sends, handle_sends}
 use Rattle.tsc_c.specs.Owning.{Kept, heap, ptr_owns}
 use Rattle.tsc_ffi_store.specs.contracts.store.Slot.{the_row as entry}
 use Rattle.tsc_c.specs.contracts.store_ptr.StorePtr.{the_row, the_type}

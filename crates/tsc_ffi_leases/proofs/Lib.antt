@@ -1,4 +1,0 @@
-mod Applying
-mod GoingOn
-mod MayWrite
-mod WritesTold

@@ -1,4 +1,0 @@
-pub mod Writes
-pub mod WriteSteps
-pub mod Summaries
-pub mod Laws

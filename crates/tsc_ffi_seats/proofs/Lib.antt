@@ -1,3 +1,0 @@
-pub mod Crossing
-mod Handles
-mod Returning

@@ -1,3 +1,0 @@
-pub mod ReturnSlots
-pub mod ReturnSteps
-pub mod Seating

@@ -1,9 +1,0 @@
-//! Seats of a shared cache whose holders know nothing of one another.
-#![tactic(auto)]
-
-mod handle;
-mod owner;
-mod return_slots;
-
-pub use handle::SeatHandle;
-pub use owner::Owner;

@@ -1,0 +1,460 @@
+-- The steps at the slots in which seats are returned keep their rule.
+use Rattle.std.proofs.Common.{◌≡◌, ◌≢◌, ◌⊎◌, ◌∙◌, inl, inr, refl, sym, ap, subst, true, false, ℕ, zero, suc, ◌+◌, ◌<◌, List, [], ◌∷◌, ◌++◌, length, map, set, arith, slice_index, length-set, get_or-set_other, get_or-set_same, rules}
+use Rattle.std.specs.Prelude.{Option, Some, None, replicate}
+use mathlib.Core.Logic.{dite}
+use native.Mathlib.Decide.{ℕ_discrete}
+use mathlib.Core.Option as maybe
+use mathlib.Core.Option.{some-injective, some-ne-none}
+use lib.ListN.{get_elem?}
+use lib.Seq.{set-get_or}
+use Rattle.std.proofs.lemmas.List.{get_or-replicate, length-replicate, length-map}
+use Rattle.atomic_table.proofs.Lists.{at_set, set_here, set_else, some_there}
+use Rattle.atomic_table.specs.Table.{State, Step, Act, takes as act_takes, gives as act_gives, keeps as act_keeps, Allows, Splits, opening, Valid, stepped, carried_after, rest, Final, Seen}
+use Rattle.tsc_shared.specs.Seats.{SharedView, SeatView}
+use Rattle.tsc_ffi_store.specs.declared.seats.return_slots.Known.{Known}
+use Rattle.tsc_ffi_store.specs.ReturnSlots.{Returned, dealing, token, spent, keeping, first_known, IsAmong, IsReturned, IsFree, Fits, IsKept}
+use Rattle.tsc_ffi_store.specs.ReturnSteps.{At, others, first, takes_slot, returns_seat, seen_returned, sees_returned}
+
+abbrev Slots : Type 0
+Slots = List (maybe.Option Returned)
+
+abbrev Board : Type 0
+Board = State Returned Known
+
+-- the last of a list, or one before it
+at_end : {A : Type 0} (l : List A) (a : A) (j : ℕ) (b : A) →
+    get_elem? (l ++ a ∷ []) j ≡ maybe.some b →
+    (get_elem? l j ≡ maybe.some b) ⊎ ((j ≡ length l) × (a ≡ b))
+at_end [] a zero b e = inr (refl, some-injective a b e)
+at_end [] a (suc j) b e = absurd (some-ne-none b (sym e))
+at_end (x ∷ xs) a zero b e = inl e
+at_end (x ∷ xs) a (suc j) b e = elim (at_end xs a j b e) [
+  | inl old ↦ inl old
+  | inr last ↦ inr (ap suc last.0, last.1)
+]
+
+-- What stands at an index of the views, once one was divided in two: one of the two, or what stood
+-- there.
+data Stands (views : List Known) (id : ℕ) (left right : Known) (j : ℕ) (v : Known) : Type 0 where
+  first_part : j ≡ id → left ≡ v → Stands views id left right j v
+  as_before : j ≢ id → get_elem? views j ≡ maybe.some v → Stands views id left right j v
+  second_part : j ≡ length views → right ≡ v → Stands views id left right j v
+
+stands : (views : List Known) (id : ℕ) (left right : Known) (j : ℕ) (v : Known) →
+    get_elem? (set views id left ++ right ∷ []) j ≡ maybe.some v → Stands views id left right j v
+stands views id left right j v e = elim (at_end (set views id left) right j v e) [
+  | inl old ↦ (elim (at_set views id j left v old) [
+    | inl same ↦ first_part same.0 same.1
+    | inr apart ↦ as_before apart.0 apart.1
+  ])
+  | inr last ↦ second_part (last.0 ∙ length-set views id left) last.1
+]
+
+module _ (cache : SharedView) where
+  -- at the opening no seat is returned
+  pub opens : (words : List ℕ) → words ≡ replicate cache.seats 0 →
+      IsKept cache (opening words (replicate cache.seats None) (first_known cache))
+  opens words is = record {
+    wide = ap length is ∙ length-replicate cache.seats 0;
+    deep = deep;
+    returned = λ slot low one. let z = zeros slot low in absurd (omega (arith, z, one));
+    fits = fits;
+    one = λ id other v w slot a b _ _. same id other v w a b;
+  }
+    where
+      zeros : (slot : ℕ) → slot < cache.seats → slice_index words slot ≡ 0
+      zeros slot low = ap (λ (ws : List ℕ). slice_index ws slot) is ∙
+          get_or-replicate cache.seats slot 0 0 low
+
+      all : List Returned
+      all = replicate cache.seats None
+
+      deep : length (map maybe.some all) ≡ cache.seats
+      deep = length-map all maybe.some ∙ length-replicate cache.seats None
+
+      free : (slot : ℕ) → slot < cache.seats → IsFree cache words (map maybe.some all) slot
+      free slot low = let x = some_there all slot
+          (subst (λ (n : ℕ). slot < n) (sym (length-replicate cache.seats None)) low)
+          in record { low = low; word = zeros slot low; held = x.0; lies = x.1 }
+
+      of_first : (v : Known) → first_known cache ≡ v → Fits cache words (map maybe.some all) v
+      of_first v e = subst (Fits cache words (map maybe.some all)) e
+          (record {
+            free = λ slot _ among. free slot among.to;
+            returned = λ slot low. absurd (omega (arith, low));
+          })
+
+      fits : (id : ℕ) (v : Known) → get_elem? (first_known cache ∷ []) id ≡ maybe.some v →
+          Fits cache words (map maybe.some all) v
+      fits zero v e = of_first v (some-injective (first_known cache) v e)
+      fits (suc id) v e = absurd (some-ne-none v (sym e))
+
+      same : (id other : ℕ) (v w : Known) → get_elem? (first_known cache ∷ []) id ≡ maybe.some v →
+          get_elem? (first_known cache ∷ []) other ≡ maybe.some w → id ≡ other
+      same zero zero v w a b = refl
+      same zero (suc other) v w a b = absurd (some-ne-none w (sym b))
+      same (suc id) other v w a b = absurd (some-ne-none v (sym a))
+
+  -- a token is dealt
+  module _ (s : Board) (k : IsKept cache s) (id from to : ℕ)
+      (at : get_elem? s.views id ≡ maybe.some (dealing from to 0)) (some : from < to) where
+    abbrev dealer : Known
+    dealer = dealing from to 0
+
+    of_dealer : (v : Known) (slot : ℕ) → Fits cache s.words s.homes dealer → IsAmong dealer slot →
+        IsFree cache s.words s.homes slot
+    of_dealer v slot f among = f.free slot refl among
+
+    part_fits : (v : Known) → v.returned ≡ 0 → ((slot : ℕ) → IsAmong v slot → IsAmong dealer slot) →
+        Fits cache s.words s.homes v
+    part_fits v none within = record {
+      free = λ slot _ among. (k.fits id dealer at).free slot refl (within slot among);
+      returned = λ slot low. absurd (omega (arith, low, none));
+    }
+
+    in_first : (slot : ℕ) → IsAmong (first dealer) slot → IsAmong dealer slot
+    in_first slot among = let a = among.from in let b =
+        among.to in record { from = a; to = omega (arith, a, b, some) }
+
+    in_others : (slot : ℕ) → IsAmong (others dealer) slot → IsAmong dealer slot
+    in_others slot among = let a = among.from in let b =
+        among.to in record { from = omega (arith, a); to = b }
+
+    apart : (slot : ℕ) → IsAmong (first dealer) slot → IsAmong (others dealer) slot → ⊥
+    apart slot a b = let x = a.to in let y = b.from in omega (arith, x, y)
+
+    part : (j : ℕ) (v : Known) → Stands s.views id (others dealer) (first dealer) j v →
+        Fits cache s.words s.homes v
+    part j v (first_part e is) = subst (Fits cache s.words s.homes) is
+        (part_fits (others dealer) refl in_others)
+    part j v (as_before e is) = k.fits j v is
+    part j v (second_part e is) = subst (Fits cache s.words s.homes) is
+        (part_fits (first dealer) refl in_first)
+
+    among_is : (v w : Known) (slot : ℕ) → v ≡ w → IsAmong w slot → IsAmong v slot
+    among_is v w slot e among = subst (λ (u : Known). IsAmong u slot) (sym e) among
+
+    whose : (i j : ℕ) (v w : Known) (slot : ℕ) →
+        Stands s.views id (others dealer) (first dealer) i v →
+        Stands s.views id (others dealer) (first dealer) j w → IsAmong v slot →
+        IsAmong w slot → i ≡ j
+    whose i j v w slot (first_part a is) (first_part b is') p q = a ∙ sym b
+    whose i j v w slot (first_part a is) (as_before b at') p q =
+        absurd (b (sym (k.one id j dealer w slot at at'
+        (in_others slot (among_is (others dealer) v slot is p)) q)))
+    whose i j v w slot (first_part a is) (second_part b is') p q =
+        absurd (apart slot (among_is (first dealer) w slot is' q)
+        (among_is (others dealer) v slot is p))
+    whose i j v w slot (as_before a at') (first_part b is') p q =
+        absurd (a (k.one i id v dealer slot at' at p
+        (in_others slot (among_is (others dealer) w slot is' q))))
+    whose i j v w slot (as_before a at') (as_before b at'') p q = k.one i j v w slot at' at'' p q
+    whose i j v w slot (as_before a at') (second_part b is') p q =
+        absurd (a (k.one i id v dealer slot at' at p
+        (in_first slot (among_is (first dealer) w slot is' q))))
+    whose i j v w slot (second_part a is) (first_part b is') p q =
+        absurd (apart slot (among_is (first dealer) v slot is p)
+        (among_is (others dealer) w slot is' q))
+    whose i j v w slot (second_part a is) (as_before b at') p q =
+        absurd (b (sym (k.one id j dealer w slot at at'
+        (in_first slot (among_is (first dealer) v slot is p)) q)))
+    whose i j v w slot (second_part a is) (second_part b is') p q = a ∙ sym b
+
+    deals : IsKept cache (record {
+      words = s.words;
+      homes = s.homes;
+      views = set s.views id (others dealer) ++ first dealer ∷ [];
+    })
+    deals = record {
+      wide = k.wide;
+      deep = k.deep;
+      returned = k.returned;
+      fits = λ j v e. part j v (stands s.views id (others dealer) (first dealer) j v e);
+      one = λ i j v w slot a b p q. whose i j v w slot
+          (stands s.views id (others dealer) (first dealer) i v a)
+          (stands s.views id (others dealer) (first dealer) j w b) p q;
+    }
+
+  pub deal_at : (id : ℕ) (v : Known) → v ≡ dealing v.from v.to 0 → v.from < v.to →
+      Splits (IsKept cache) id v (others v) (first v)
+  deal_at id v is some = subst (λ (u : Known). Splits (IsKept cache) id u (others u) (first u))
+      (sym is) (λ s k at. deals s k id v.from v.to at some)
+
+  -- one view changes, and may take no slot that it might not take before
+  moved : (s : Board) (k : IsKept cache s) (id : ℕ) (v w : Known) (words : List ℕ) (slots : Slots) →
+      get_elem? s.views id ≡ maybe.some v
+      → ((slot : ℕ) → IsAmong w slot → IsAmong v slot) → length words ≡ cache.seats →
+      length slots ≡ cache.seats
+      → ((slot : ℕ) → slot < cache.seats → slice_index words slot ≡ 1 → IsReturned cache slots slot)
+      → Fits cache words slots w
+      → ((other : ℕ) (u : Known) → other ≢ id → get_elem? s.views other ≡ maybe.some u →
+      Fits cache words slots u)
+      → IsKept cache (record { words = words; homes = slots; views = set s.views id w })
+  moved s k id v w words slots at within wide deep returned fits rest = record {
+    wide = wide;
+    deep = deep;
+    returned = returned;
+    fits = λ j u e. elim (at_set s.views id j w u e) [
+      | inl same ↦ subst (Fits cache words slots) same.1 fits
+      | inr apart ↦ rest j u apart.0 apart.1
+    ];
+    one = λ i j u u' slot a b p q. elim (at_set s.views id i w u a) [
+      | inl same ↦ (elim (at_set s.views id j w u' b) [
+        | inl same' ↦ same.0 ∙ sym same'.0
+        | inr apart ↦ absurd (apart.0
+            (sym (k.one id j v u' slot at apart.1
+            (within slot (subst (λ (x : Known). IsAmong x slot) (sym same.1) p)) q)))
+      ])
+      | inr apart ↦ (elim (at_set s.views id j w u' b) [
+        | inl same' ↦ absurd (apart.0
+            (k.one i id u v slot apart.1 at p
+            (within slot (subst (λ (x : Known). IsAmong x slot) (sym same'.1) q))))
+        | inr apart' ↦ k.one i j u u' slot apart.1 apart'.1 p q
+      ])
+    ];
+  }
+
+  -- another's slots are not the one that a token names
+  others_apart : (s : Board) (k : IsKept cache s) (id number : ℕ) (v : Known) →
+      get_elem? s.views id ≡ maybe.some v → IsAmong v number
+      → (other : ℕ) (u : Known) → other ≢ id → get_elem? s.views other ≡ maybe.some u → (slot : ℕ) →
+      IsAmong u slot → slot ≢ number
+  others_apart s k id number v at mine other u apart at' slot among e =
+      apart (k.one other id u v number at' at (subst (IsAmong u) e among) mine)
+
+  its_own : (number : ℕ) → IsAmong (token number) number
+  its_own number = record { from = omega arith; to = omega arith }
+
+  spent_own : (number : ℕ) → IsAmong (spent number) number
+  spent_own number = record { from = omega arith; to = omega arith }
+
+  spent_fits : (words : List ℕ) (slots : Slots) (number : ℕ) → Fits cache words slots (spent number)
+  spent_fits words slots number = record {
+    free = λ slot taken among. absurd (true_is_no taken);
+    returned = λ slot low. absurd (omega (arith, low));
+  }
+    where
+      true_is_no : true ≡ false → ⊥
+      true_is_no e = search rules
+
+  same_words : (s : Board) (i : ℕ) (slots : Slots) (views : List Known) →
+      IsKept cache (record { words = s.words; homes = slots; views = views })
+      → IsKept cache (record {
+        words = set s.words i (slice_index s.words i);
+        homes = slots;
+        views = views;
+      })
+  same_words s i slots views k = subst
+      (λ (ws : List ℕ). IsKept cache (record { words = ws; homes = slots; views = views }))
+      (sym (set-get_or s.words i 0)) k
+
+  -- a token takes its slot
+  pub take_slot_allowed : (slots : ℕ) (st : Step Returned) (id number : ℕ) →
+      Allows (IsKept cache) slots id (token number, []) number (λ n. n)
+      (takes_slot st (token number, []))
+  take_slot_allowed slots st id number s k _ at _ =
+      let free = (k.fits id (token number) at).free number refl (its_own number) in
+      let word = free.word in
+      let slots : Slots = set s.homes number maybe.none in
+      let apart : (slot : ℕ) → slice_index s.words slot ≡ 1 → slot ≢ number =
+      λ slot one e. let w : slice_index s.words number ≡ 1 =
+      subst (λ (n : ℕ). slice_index s.words n ≡ 1) e one in omega (arith, w, word) in (
+        spent number,
+        act_takes number free.held,
+        free.lies,
+        same_words s number slots (set s.views id (spent number))
+            (moved s k id (token number) (spent number) s.words slots at
+            (λ slot among. record { from = among.from; to = among.to }) k.wide
+            (length-set s.homes number maybe.none ∙ k.deep)
+            (λ slot low one. let h = k.returned slot low one
+            in record {
+              seat = h.seat;
+              lies = set_else s.homes number slot maybe.none (apart slot one) ∙ h.lies;
+              its_cache = h.its_cache;
+            })
+            (spent_fits s.words slots number)
+            (λ other u ne at'. let f = k.fits other u at' in record {
+              free = λ slot idle among. let g = f.free slot idle among in let ne' =
+                  others_apart s k id number (token number) at (its_own number) other u ne at' slot
+                  among in
+                  record {
+                    low = g.low;
+                    word = g.word;
+                    held = g.held;
+                    lies = set_else s.homes number slot maybe.none ne' ∙ g.lies;
+                  };
+              returned = f.returned;
+            })),
+        (free.held, refl),
+      )
+
+  -- a seat is returned
+  pub return_seat_allowed : (slots : ℕ) (st : Step Returned) (id number : ℕ) (seat : SeatView) →
+      number < cache.seats → seat.cache ≡ cache
+      → Allows (IsKept cache) slots id (spent number, (number, Some seat) ∷ []) number (λ _. 1)
+      (λ _. returns_seat st (spent number, (number, Some seat) ∷ []) 1)
+  return_seat_allowed slots st id number seat low its s k _ at _ =
+      let slots : Slots = set s.homes number (maybe.some (Some seat)) in
+      let words : List ℕ = set s.words number 1 in
+      let wide = k.wide in let deep = k.deep in
+      let here : slice_index words number ≡ 1 =
+      get_or-set_same s.words number 1 0 (omega (arith, wide, low)) in
+      let there : (slot : ℕ) → slot ≢ number → slice_index words slot ≡ slice_index s.words slot =
+      λ slot ne. get_or-set_other s.words number slot 1 0 ne in (
+        spent number,
+        act_gives,
+        tt,
+        moved s k id (spent number) (spent number) words slots at (λ slot among. among)
+            (length-set s.words number 1 ∙ k.wide)
+            (length-set s.homes number (maybe.some (Some seat)) ∙ k.deep)
+            (λ slot low' one. dite (ℕ_discrete slot number)
+            (λ e. record {
+              seat = seat;
+              lies = ap (λ (n : ℕ). get_elem? slots n) e ∙
+                  set_here s.homes number (maybe.some (Some seat)) (omega (arith, deep, low));
+              its_cache = its;
+            })
+            (λ ne. let h = k.returned slot low' (sym (there slot ne) ∙ one)
+            in record {
+              seat = h.seat;
+              lies = set_else s.homes number slot (maybe.some (Some seat)) ne ∙ h.lies;
+              its_cache = h.its_cache;
+            }))
+            (spent_fits words slots number)
+            (λ other u ne at'. let f = k.fits other u at' in record {
+              free = λ slot idle among. let g = f.free slot idle among in let ne' =
+                  others_apart s k id number (spent number) at (spent_own number) other u ne at'
+                  slot among in
+                  record {
+                    low = g.low;
+                    word = there slot ne' ∙ g.word;
+                    held = g.held;
+                    lies = set_else s.homes number slot (maybe.some (Some seat)) ne' ∙ g.lies;
+                  };
+              returned = λ slot low'. dite (ℕ_discrete slot number)
+                  (λ e. ap (λ (n : ℕ). slice_index words n) e ∙ here)
+                  (λ ne. there slot ne ∙ f.returned slot low');
+            }),
+        tt,
+      )
+
+  -- it is seen whether the next seat is returned
+  none_among : (seats returned : ℕ) (slot : ℕ) → IsAmong (keeping seats returned) slot → ⊥
+  none_among seats returned slot among = let a = among.from in let b =
+      among.to in omega (arith, a, b)
+
+  one_more : (s : Board) (k : IsKept cache s) (id seats returned : ℕ) →
+      get_elem? s.views id ≡ maybe.some (keeping seats returned) → slice_index s.words returned ≡ 1
+      → Fits cache s.words s.homes (keeping seats (returned + 1))
+  one_more s k id seats returned at one = record {
+    free = λ slot idle among. absurd
+        (none_among seats (returned + 1) slot (record { from = among.from; to = among.to }));
+    returned = λ slot low. dite (ℕ_discrete slot returned)
+        (λ e. ap (λ (n : ℕ). slice_index s.words n) e ∙ one)
+        (λ ne. (k.fits id (keeping seats returned) at).returned slot (omega (arith, low, ne)));
+  }
+
+  pub look_allowed : (slots : ℕ) (st : Step Returned) (id seats returned : ℕ) →
+      Allows (IsKept cache) slots id (keeping seats returned, []) returned (λ n. n)
+      (sees_returned st (keeping seats returned, []))
+  look_allowed slots st id seats returned s k _ at _ =
+      dite (ℕ_discrete (slice_index s.words returned) 1)
+      (λ one. looked (keeping seats (returned + 1)) (one_more s k id seats returned at one)
+      (λ slot among. record { from = among.from; to = among.to }) (search rules))
+      (λ no. looked (keeping seats returned) (k.fits id (keeping seats returned) at)
+      (λ slot among. among) (search rules))
+    where
+      looked : (w : Known) → Fits cache s.words s.homes w →
+          ((slot : ℕ) → IsAmong w slot → IsAmong (keeping seats returned) slot) →
+          seen_returned (keeping seats returned) (slice_index s.words returned) ≡ w
+          → (w : Known) × (a : Act Returned) × Valid s.homes [] a ×
+          IsKept cache (stepped s returned (slice_index s.words returned) id [] w a) ×
+          sees_returned st (keeping seats returned, []) (slice_index s.words returned)
+          (w, carried_after [] a)
+      looked w fits within is = (
+        w,
+        act_keeps,
+        tt,
+        same_words s returned s.homes (set s.views id w)
+            (moved s k id (keeping seats returned) w s.words s.homes at within k.wide k.deep
+            k.returned fits (λ other u _ at'. k.fits other u at')),
+        (λ i. (sym is i, [])),
+      )
+
+  -- the same in the shape that the calls ask for, and what the calls leave
+  pub take_slot_at : (slots : ℕ) (st : Step Returned) (id number i : ℕ) (me : At) →
+      me ≡ (token number, []) → i ≡ number →
+      Allows (IsKept cache) slots id me i (λ n. n) (takes_slot st me)
+  take_slot_at slots st id number i me is same =
+      subst (λ (j : ℕ). Allows (IsKept cache) slots id me j (λ n. n) (takes_slot st me)) (sym same)
+      (subst (λ (m : At). Allows (IsKept cache) slots id m number (λ n. n) (takes_slot st m))
+      (sym is) (take_slot_allowed slots st id number))
+
+  pub return_seat_at : (slots : ℕ) (st : Step Returned) (id number i : ℕ) (seat : SeatView)
+      (me : At) → me ≡ (spent number, (number, Some seat) ∷ []) → i ≡ number →
+      number < cache.seats → seat.cache ≡ cache
+      → Allows (IsKept cache) slots id me i (λ _. 1) (λ _. returns_seat st me 1)
+  return_seat_at slots st id number i seat me is same low its =
+      subst (λ (j : ℕ). Allows (IsKept cache) slots id me j (λ _. 1) (λ _. returns_seat st me 1))
+      (sym same)
+      (subst (λ (m : At). Allows (IsKept cache) slots id m number (λ _. 1)
+      (λ _. returns_seat st m 1)) (sym is)
+      (return_seat_allowed slots st id number seat low its))
+
+  pub look_at : (slots : ℕ) (st : Step Returned) (id seats returned : ℕ) (me : At) →
+      me ≡ (keeping seats returned, []) →
+      Allows (IsKept cache) slots id me returned (λ n. n) (sees_returned st me)
+  look_at slots st id seats returned me is =
+      subst (λ (m : At). Allows (IsKept cache) slots id m returned (λ n. n) (sees_returned st m))
+      (sym is) (look_allowed slots st id seats returned)
+
+  -- who knows that all seats are returned finds a seat of the cache in each slot
+  pub slot_has : (id seats : ℕ) (words : List ℕ) (slots : List Returned) → seats ≡ cache.seats →
+      Final (Seen (IsKept cache) id (keeping seats seats)) words slots
+      → (slot : ℕ) (x : Returned) → slot < seats → get_elem? slots slot ≡ maybe.some x →
+      (seat : SeatView) × (x ≡ Some seat) × (seat.cache ≡ cache)
+  slot_has id seats words slots all end_ slot x low is =
+      let s = end_.0 in let k = end_.1.0 in
+      let h = k.returned slot (subst (λ (n : ℕ). slot < n) all low)
+      ((k.fits id (keeping seats seats) end_.1.1).returned slot low) in (
+        h.seat,
+        some-injective x (Some h.seat) (sym is ∙ end_.4 slot (Some h.seat) h.lies),
+        h.its_cache,
+      )
+
+pub picked : (st : Step Returned) (number found : ℕ) (me me' : At) → me ≡ (token number, []) →
+    takes_slot st me found me' → (x : Returned) × (me' ≡ (spent number, (number, x) ∷ []))
+picked st number found me me' is p =
+    (p.0, p.1 ∙ ap (λ (m : At). (record m.0 { taken = true }, (m.0.from, p.0) ∷ [])) is)
+
+pub in_hand : (number i : ℕ) (x : Returned) (me : At) → me ≡ (spent number, (number, x) ∷ []) →
+    i ≡ number → (y : Returned) × (me.1 ≡ (i, y) ∷ rest me.1)
+in_hand number i x me is same = (
+  x,
+  ap (λ (m : At). m.1) is ∙
+      (λ k. (sym same k, x) ∷ rest ((sym is) k).1),
+)
+
+pub laid : (number i : ℕ) (x y : Returned) (me me' : At) → me ≡ (spent number, (number, x) ∷ []) →
+    i ≡ number → me' ≡ (me.0, (i, y) ∷ rest me.1) → me' ≡ (spent number, (number, y) ∷ [])
+laid number i x y me me' is same e = e ∙ (λ k. ((is k).0, (same k, y) ∷ rest (is k).1))
+
+pub its_cache : (cache : SharedView) (x : Returned) (seat : SeatView) →
+    ((other : SeatView) × (x ≡ Some other) × (other.cache ≡ cache)) → x ≡ Some seat →
+    seat.cache ≡ cache
+its_cache cache x seat has is = ap (cache_or cache) (sym is ∙ has.1) ∙ has.2
+  where
+    cache_or : SharedView → Returned → SharedView
+    cache_or c None = c
+    cache_or c (Some s) = s.cache
+
+-- the same of a keeper whose view is told by an equation
+pub slot_of : (cache : SharedView) (id seats : ℕ) (me : At) (words : List ℕ)
+    (slots others : List Returned) → me ≡ (keeping seats seats, []) → seats ≡ cache.seats →
+    Final (Seen (IsKept cache) id me.0) words slots → others ≡ slots
+    → (slot : ℕ) (x : Returned) → slot < seats → get_elem? others slot ≡ maybe.some x →
+    (seat : SeatView) × (x ≡ Some seat) × (seat.cache ≡ cache)
+slot_of cache id seats me words slots others is all end_ same slot x low at =
+    slot_has cache id seats words slots all
+    (subst (λ (m : At). Final (Seen (IsKept cache) id m.0) words slots) is end_) slot x low
+    (ap (λ (xs : List Returned). get_elem? xs slot) (sym same) ∙ at)

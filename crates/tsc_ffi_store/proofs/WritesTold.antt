@@ -1,0 +1,226 @@
+-- What is told of a write of several spans, one after another.
+use Rattle.std.proofs.Common.{arith, ◌≡◌, ◌∙◌, refl, sym, subst, ℕ, zero, suc, ◌+◌}
+use Rattle.std.proofs.Common.{◌<◌, ◌≤◌}
+use Rattle.std.proofs.Common.{List, [], ◌∷◌, length, get_or, drop, true, Option, Some, None}
+use Rattle.std.proofs.Common.{IfSome}
+use Rattle.std.proofs.lemmas.List.{drop_more, drop_all}
+use Rattle.std.proofs.lemmas.List.Elements.{Contains-get_or}
+use Rattle.tsc_time.specs.Time.{Time, is_in_range}
+use Rattle.tsc_time.specs.OwnedTime.{Owner}
+use Rattle.tsc_time.proofs.TimeOrder.{is_before-itself}
+use Rattle.tsc_span.specs.Span.{Interval}
+use Rattle.tsc_cache.specs.Settings.{Settings}
+use Rattle.tsc_cache.specs.History.{History, state_of}
+use Rattle.tsc_cache.specs.CacheView.{CacheView, StandsForState, cache_answer}
+use Rattle.tsc_shared.specs.Seats.{SeatView, IsSeat}
+use Rattle.timestamp_cache.specs.Clear.{IsClearOf, IsClearOfAnswers, IsClearOfAllReads}
+use Rattle.timestamp_cache.specs.Clear.{AsksInTurn, all_asked, none_told, one_told}
+use Rattle.timestamp_cache.specs.Earliest.{TellsEarliest}
+use Rattle.timestamp_cache.proofs.Earliest.{clear_later, one_more, none_more, clear_of_all_reads}
+use Rattle.timestamp_cache.proofs.AskingAll.{asks_all}
+use Rattle.tsc_ffi_store.specs.declared.ctypes.TscSpan.{TscSpan}
+use Rattle.tsc_ffi_store.specs.declared.refusal.Refusal.{Refusal}
+use Rattle.tsc_ffi_store.specs.Writes.{AskedWrite, IsSpan, AreSpans, RefusesSpan, RefusesSpans}
+use Rattle.tsc_ffi_store.specs.Writes.{TellsWrite, AsksWrite}
+use Rattle.tsc_ffi_store.specs.WriteSteps.{TellsLater, AsksLater}
+
+-- ---- one span more in front of others
+
+clear_both : (cache : CacheView) (s : Interval) (rest : List Interval) (by : Owner) (t : Time)
+    → IsClearOf (cache_answer cache s) by t → IsClearOfAnswers cache rest by t → IsClearOfAnswers
+    cache (s ∷ rest) by t
+clear_both cache s rest by t first others zero d lt = first
+clear_both cache s rest by t first others (suc k) d lt = others k d (omega arith)
+
+clear_parts : (cache : CacheView) (s : Interval) (rest : List Interval) (by : Owner) (t : Time)
+    → IsClearOfAnswers cache (s ∷ rest) by t → IsClearOf (cache_answer cache s) by t ×
+    IsClearOfAnswers cache rest by t
+clear_parts cache s rest by t clear = (
+  clear 0 s (omega arith),
+  λ k d lt. clear (suc k) d
+      (omega arith),
+)
+
+-- what is told of the spans that are left, from a time on, if there is one so far
+abbrev pub TellsFrom : CacheView → List Interval → Owner → Option Time → Option Time → Type 0
+TellsFrom cache rest by None told = told ≡ None
+TellsFrom cache rest by (Some from) told = TellsEarliest (λ t. IsClearOfAnswers cache rest by t)
+    from told
+
+in_front : (cache : CacheView) (s : Interval) (rest : List Interval) (by : Owner)
+    (time later told : Option Time)
+    → TellsLater cache s by time later → TellsFrom cache rest by later told → TellsFrom cache
+    (s ∷ rest) by time told
+in_front cache s rest by None later told is tells =
+    let P : Option Time → Type 0 = λ l. TellsFrom cache rest by l told in
+    subst P is tells
+in_front cache s rest by (Some from) None told never tells =
+    let none : TellsEarliest (λ t. IsClearOfAnswers cache (s ∷ rest) by t) from None =
+    λ t there on clear. never t there on (clear_parts cache s rest by t clear).0 in
+    subst (λ (o : Option Time). TellsEarliest (λ t. IsClearOfAnswers cache (s ∷ rest) by t) from o)
+    (sym tells) none
+in_front cache s rest by (Some from) (Some at) None first none =
+    none_more (λ t. IsClearOf (cache_answer cache s) by t) (λ t. IsClearOfAnswers cache rest by t)
+    (λ t. IsClearOfAnswers cache (s ∷ rest) by t) from at
+    (λ t. clear_parts cache s rest by t) first none
+in_front cache s rest by (Some from) (Some at) (Some next) first second =
+    one_more (λ t. IsClearOf (cache_answer cache s) by t) (λ t. IsClearOfAnswers cache rest by t)
+    (λ t. IsClearOfAnswers cache (s ∷ rest) by t) from at next
+    (λ t u on. clear_later (cache_answer cache s) by t u on) (λ t. clear_both cache s rest by t)
+    (λ t. clear_parts cache s rest by t) first second
+
+-- ---- in a loop
+
+-- what is told of all
+pub record TellsAll (cache : CacheView) (keys : List ℕ) (words : List TscSpan) (by : Owner)
+    (from : Time) (told : Option Time) : Type 0 where
+  pub spans : List Interval
+  pub are : AreSpans keys words spans
+  pub earliest : TellsEarliest (λ t. IsClearOfAnswers cache spans by t) from told
+
+-- So far: whatever the words that are left ask for, what is told of that from here on is told of
+-- all.
+pub record HasTold (cache : CacheView) (keys : List ℕ) (words left : List TscSpan) (by : Owner)
+    (from : Time) (time : Option Time) : Type 0 where
+  pub in_range : IfSome time (λ t. is_in_range t ≡ true)
+  pub goes_on : (rest : List Interval) (told : Option Time) → AreSpans keys left rest → TellsFrom
+      cache rest by time told → TellsAll cache keys words by from told
+
+pub told_none : (cache : CacheView) (keys : List ℕ) (words : List TscSpan) (by : Owner)
+    (from : Time) → is_in_range from ≡ true → HasTold cache keys words words by from (Some from)
+told_none cache keys words by from range = record {
+  in_range = range;
+  goes_on = λ rest told are tells. record
+      { spans = rest; are = are; earliest = tells };
+}
+
+later_in_range : (cache : CacheView) (s : Interval) (by : Owner) (time later : Option Time) →
+    TellsLater cache s by time later → IfSome later (λ t. is_in_range t ≡ true)
+later_in_range cache s by time None tells = tt
+later_in_range cache s by None (Some at) tells = absurd cc
+later_in_range cache s by (Some from) (Some at) tells = tells.in_range
+
+pub told_more : (cache : CacheView) (keys : List ℕ) (words : List TscSpan) (i : ℕ) (d : TscSpan)
+    (s : Interval) (by : Owner) (from : Time) (time later : Option Time)
+    → i < length words → IsSpan keys (get_or words i d) s → TellsLater cache s by time later →
+    HasTold cache keys words (drop i words) by from time → HasTold cache keys words
+    (drop (i + 1) words) by from later
+told_more cache keys words i d s by from time later lt is tells so_far = record {
+  in_range = later_in_range cache s by time later tells;
+  goes_on = λ rest told are on.
+      so_far.goes_on (s ∷ rest) told (subst (λ (ws : List TscSpan). AreSpans keys ws (s ∷ rest))
+      (sym (drop_more words i d lt)) (is, are))
+      (in_front cache s rest by time later told tells on);
+}
+
+none_left : (cache : CacheView) (by : Owner) (time : Option Time) → IfSome time
+    (λ t. is_in_range t ≡ true) → TellsFrom cache [] by time time
+none_left cache by None range = refl
+none_left cache by (Some at) range = record {
+  in_range = range;
+  from_on = is_before-itself at;
+  holds
+      = λ k d lt. absurd (omega (arith, lt));
+  least = λ t _ on _. on;
+}
+
+reads_of : (cache : CacheView) (spans : List Interval) (by : Owner) (from : Time)
+    (told : Option Time) → TellsEarliest (λ t. IsClearOfAnswers cache spans by t) from told
+    → IfSome told (λ t. (settings : Settings) (h : History) → StandsForState cache settings
+    (state_of settings h) → IsClearOfAllReads h spans by t)
+reads_of cache spans by from None tells = tt
+reads_of cache spans by from (Some at) tells = clear_of_all_reads cache spans by at tells.holds
+
+pub told_all : (cache : CacheView) (asked : AskedWrite) (i : ℕ) (time : Option Time) → length
+    asked.spans ≤ i → HasTold cache asked.keys asked.spans (drop i asked.spans) asked.by asked.time
+    time → TellsWrite cache asked time
+told_all cache asked i time le so_far =
+    let all = so_far.goes_on [] time (subst (λ (ws : List TscSpan). AreSpans asked.keys ws [])
+    (sym (drop_all i asked.spans le)) tt) (none_left cache asked.by time so_far.in_range) in
+    record {
+      spans = all.spans;
+      asked_for = all.are;
+      earliest = all.earliest;
+      reads = reads_of cache
+          all.spans asked.by asked.time time all.earliest;
+    }
+
+-- where the words of one are refused, all are
+pub one_refused : (why : Refusal) (keys : List ℕ) (words : List TscSpan) (i : ℕ) (d : TscSpan) → i <
+    length words → RefusesSpan why keys (get_or words i d) → RefusesSpans why keys words
+one_refused why keys words i d lt refused = (
+  get_or words i d,
+  Contains-get_or words i d lt,
+  refused,
+)
+
+-- ---- at a seat
+
+-- what a seat is told of the spans that are left
+abbrev pub AsksFrom : Owner → SeatView → SeatView → List Interval → Option Time → Option Time → Type
+    0
+AsksFrom by old new rest None told = (told ≡ None) × (new ≡ old)
+AsksFrom by old new rest (Some from) told = AsksInTurn by old new rest from told
+
+asks_in_front : (by : Owner) (old next new : SeatView) (s : Interval) (rest : List Interval)
+    (time later told : Option Time)
+    → AsksLater old next s by time later → AsksFrom by next new rest later told → AsksFrom by old
+    new (s ∷ rest) time told
+asks_in_front by old next new s rest None later told is asks =
+    let at_none : AsksFrom by next new rest None told = subst
+    (λ (l : Option Time). AsksFrom by next new rest l told) is.0 asks in
+    (at_none.0, at_none.1 ∙ is.1)
+asks_in_front by old next new s rest (Some from) None told first asks =
+    let none : AsksInTurn by old next (s ∷ rest) from None = none_told old next s rest from first in
+    subst (λ (n : SeatView). AsksInTurn by old n (s ∷ rest) from told) (sym asks.1)
+    (subst (λ (o : Option Time). AsksInTurn by old next (s ∷ rest) from o) (sym asks.0) none)
+asks_in_front by old next new s rest (Some from) (Some at) told first asks = one_told old next new s
+    rest from at told first asks
+
+pub record AsksAll (old new : SeatView) (keys : List ℕ) (words : List TscSpan) (by : Owner)
+    (from : Time) (told : Option Time) : Type 0 where
+  pub spans : List Interval
+  pub are : AreSpans keys words spans
+  pub turn : AsksInTurn by old new spans from told
+
+pub record HasAsked (old now : SeatView) (keys : List ℕ) (words left : List TscSpan) (by : Owner)
+    (from : Time) (time : Option Time) : Type 0 where
+  pub goes_on : (rest : List Interval) (new : SeatView) (told : Option Time) → AreSpans keys left
+      rest → AsksFrom by now new rest time told → AsksAll old new keys words by from told
+
+pub asked_none : (seat : SeatView) (keys : List ℕ) (words : List TscSpan) (by : Owner) (from : Time)
+    → HasAsked seat seat keys words words by from (Some from)
+asked_none seat keys words by from = record {
+  goes_on = λ rest new told are asks. record
+      { spans = rest; are = are; turn = asks };
+}
+
+pub asked_more : (old now next : SeatView) (keys : List ℕ) (words : List TscSpan) (i : ℕ)
+    (d : TscSpan) (s : Interval) (by : Owner) (from : Time) (time later : Option Time)
+    → i < length words → IsSpan keys (get_or words i d) s → AsksLater now next s by time later →
+    HasAsked old now keys words (drop i words) by from time → HasAsked old next keys words
+    (drop (i + 1) words) by from later
+asked_more old now next keys words i d s by from time later lt is asks so_far = record {
+  goes_on = λ rest new told are on.
+      so_far.goes_on (s ∷ rest) new told (subst (λ (ws : List TscSpan). AreSpans keys ws (s ∷ rest))
+      (sym (drop_more words i d lt)) (is, are))
+      (asks_in_front by now next new s rest time later told asks on);
+}
+
+none_asked : (by : Owner) (seat : SeatView) (time : Option Time) → AsksFrom by seat seat [] time
+    time
+none_asked by seat None = (refl, refl)
+none_asked by seat (Some at) = all_asked seat at
+
+pub asked_all : (old now : SeatView) (asked : AskedWrite) (i : ℕ) (time : Option Time) → IsSeat old
+    → length asked.spans ≤ i → HasAsked old now asked.keys asked.spans (drop i asked.spans) asked.by
+    asked.time time → AsksWrite old now asked time
+asked_all old now asked i time is le so_far =
+    let all = so_far.goes_on [] now time (subst (λ (ws : List TscSpan). AreSpans asked.keys ws [])
+    (sym (drop_all i asked.spans le)) tt) (none_asked asked.by now time) in
+    record {
+      spans = all.spans;
+      asked_for = all.are;
+      asks = asks_all asked.by old now all.spans
+          asked.time time is all.turn;
+    }

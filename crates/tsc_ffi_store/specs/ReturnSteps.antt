@@ -1,0 +1,33 @@
+-- The steps at the slots in which seats are returned.
+use Rattle.std.specs.Prelude.{◌≡◌, ℕ, ◌+◌, ◌==◌, [], ◌∷◌, true, if◌then◌else◌}
+use Rattle.atomic_table.specs.Table.{Step, Me}
+use Rattle.tsc_ffi_store.specs.declared.seats.return_slots.Known.{Known}
+use Rattle.tsc_ffi_store.specs.ReturnSlots.{Returned, dealing}
+
+-- what one knows, and what it has in hand
+abbrev pub At : Type 0
+At = Me Returned Known
+
+-- the other tokens, once the first was dealt, and that one
+abbrev pub others : Known → Known
+others v = dealing (v.from + 1) v.to v.returned
+
+abbrev pub first : Known → Known
+first v = dealing v.from (v.from + 1) 0
+
+-- A token takes its slot.
+abbrev pub takes_slot : Step Returned → At → ℕ → At → Type 0
+takes_slot st me found me' = (x : Returned) ×
+    (me' ≡ (record me.0 { taken = true }, (me.0.from, x) ∷ []))
+
+-- A seat is returned.
+abbrev pub returns_seat : Step Returned → At → ℕ → At → Type 0
+returns_seat st me found me' = Unit {0}
+
+-- one seat more is known to be returned, where its word is 1
+abbrev pub seen_returned : Known → ℕ → Known
+seen_returned v found = if found == 1 then record v { returned = v.returned + 1 } else v
+
+-- a look at whether the next seat is returned
+abbrev pub sees_returned : Step Returned → At → ℕ → At → Type 0
+sees_returned st me found me' = me' ≡ (seen_returned me.0 found, [])

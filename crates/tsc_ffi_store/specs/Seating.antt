@@ -1,0 +1,58 @@
+-- A shared cache, the handles of its seats, and its owner. (For private contracts and the models.)
+use Rattle.std.specs.Prelude.{◌≡◌, ℕ, ◌<◌, List, [], ◌≤◌}
+use Rattle.atomic_table.specs.Seated.{TableId}
+use Rattle.tsc_shared.specs.Seats.{SharedView, SeatView}
+use Rattle.tsc_ffi_store.specs.ReturnSlots.{dealing, keeping, token}
+use Rattle.tsc_ffi_store.specs.ReturnSteps.{At}
+
+-- A cache, and the table of the slots in which its seats are returned.
+pub record SharedHandleView : Type 0 where
+  pub cache : SharedView
+  pub table : TableId
+
+-- a table for so many seats
+pub record IsSized (table : TableId) (seats : ℕ) : Type 0 where
+  pub words : table.words ≡ seats
+  pub slots : table.slots ≡ seats
+
+-- A seat of this cache, and its token for this table.
+pub record Sits (shared : SharedHandleView) (seat : SeatView) (table : TableId) (me : At) : Type
+    0 where
+  pub cache : seat.cache ≡ shared.cache
+  pub its_table : table ≡ shared.table
+  pub low : seat.number < shared.cache.seats
+  pub token : me ≡ (token seat.number, [])
+
+-- A token of a table from which others are dealt: slots are left for them.
+pub record DealsOn (table its : TableId) (me : At) : Type 0 where
+  pub its_table : its ≡ table
+  pub words : 0 < table.words
+  pub unused : me ≡ (dealing me.0.from me.0.to 0, [])
+  pub some : me.0.from < me.0.to
+
+-- The token from which the seats of this cache get theirs, from a number on.
+pub record Deals (shared : SharedHandleView) (table : TableId) (me : At) (number : ℕ) : Type
+    0 where
+  pub its_table : table ≡ shared.table
+  pub sized : IsSized shared.table shared.cache.seats
+  pub others : me ≡ (dealing number shared.cache.seats 0, [])
+
+-- A token of a table for so many seats, which knows how many of them are returned.
+pub record KnowsReturned (table its : TableId) (me : At) (seats returned : ℕ) : Type 0 where
+  pub its_table : its ≡ table
+  pub sized : IsSized table seats
+  pub known : me ≡ (keeping seats returned, [])
+  pub some : returned ≤ seats
+
+-- A list without seats, which has room for so many.
+pub record IsRoomFor (items : List SeatView) (capacity seats : ℕ) : Type 0 where
+  pub empty : items ≡ []
+  pub room : seats ≤ capacity
+
+-- The keeper's token knows that so many seats are returned.
+pub record IsKeeper (shared : SharedHandleView) (table : TableId) (me : At) (seats returned : ℕ) :
+    Type 0 where
+  pub its_table : table ≡ shared.table
+  pub all : seats ≡ shared.cache.seats
+  pub known : me ≡ (keeping seats returned, [])
+  pub some : returned ≤ seats

@@ -1,0 +1,128 @@
+-- What was read of a span, told as bytes, and what such bytes make of a cache.
+use Rattle.std.specs.Prelude.{◌≡◌, ◌⊎◌, ℕ, List, false, Some, Result, Ok, Err, IfOk, IfErr, OnErr}
+use Rattle.tsc_time.specs.Time.{Time}
+use Rattle.tsc_span.specs.Span.{Interval}
+use Rattle.tsc_cache.specs.declared.added.Added.{Added}
+use Rattle.tsc_cache.specs.Settings.{Settings}
+use Rattle.tsc_cache.specs.State.{CacheState, step_all}
+use Rattle.tsc_cache.specs.Batch.{AddsAll, all_fit}
+use Rattle.tsc_cache.specs.CacheView.{CacheView, StandsForState}
+use Rattle.timestamp_cache.specs.declared.summary_fault.SummaryFault.{SummaryFault}
+use Rattle.timestamp_cache.specs.declared.summary_fault.SummaryFault.TheVariants.{Version, Length}
+use Rattle.timestamp_cache.specs.declared.summary_fault.SummaryFault.TheVariants.{Checksum, Form}
+use Rattle.timestamp_cache.specs.declared.summary_fault.SummaryFault.TheVariants.{NoMemory}
+use Rattle.timestamp_cache.specs.HandOver.{Summary, Summarizes, marks_told, TakesOver}
+use Rattle.timestamp_cache.specs.SummaryBytes.{summary_bytes}
+use Rattle.timestamp_cache.specs.SummaryReading.{summary_of}
+use Rattle.tsc_ffi_store.specs.declared.ctypes.TscTime.{TscTime}
+use Rattle.tsc_ffi_store.specs.declared.refusal.Refusal.{Refusal}
+use Rattle.tsc_ffi_store.specs.declared.refusal.Refusal.TheVariants as refusal
+use Rattle.tsc_ffi_store.specs.Codes.{code_of}
+use Rattle.tsc_ffi_store.specs.Decode.{AskedSpan, asked_span, add_span, time_of}
+use Rattle.tsc_ffi_store.specs.Decode.{RefusesTime, RefusesAddSpan}
+use Rattle.tsc_ffi_store.specs.Puts.{Puts}
+use Rattle.tsc_ffi_store.specs.declared.ctypes.SummaryArgs.{SummaryArgs}
+use Rattle.tsc_ffi_store.specs.declared.ctypes.ApplyArgs.{ApplyArgs}
+
+-- What a call says of a summary: of which span, and in how many marks at the most.
+pub record AskedSummary : Type 0 where
+  pub span : AskedSpan
+  pub most : ℕ
+
+abbrev pub summary_asked : AskedSpan → ℕ → AskedSummary
+summary_asked span most = record { span = span; most = most }
+
+abbrev pub asked_summary : SummaryArgs → AskedSummary
+asked_summary args = summary_asked (asked_span args.span) args.most
+
+-- What a call says that applies a summary: its bytes, and the moment.
+pub record AskedApply : Type 0 where
+  pub bytes : List ℕ
+  pub moment : Time
+
+abbrev pub apply_asked : List ℕ → TscTime → AskedApply
+apply_asked bytes moment = record { bytes = bytes; moment = time_of moment }
+
+abbrev pub asked_apply : ApplyArgs → AskedApply
+asked_apply args = apply_asked args.summary.now args.moment.now
+
+-- Bytes tell what was read in a cache of the span that a call names. They are read back as that.
+pub record TellsSummary (cache : CacheView) (asked : AskedSummary) (bytes : List ℕ) : Type 0 where
+  pub span : Interval
+  pub asked_for : add_span asked.span ≡ Some span
+  pub told : Summary
+  pub summarizes : Summarizes cache span asked.most told
+  pub written : bytes ≡ summary_bytes told
+  pub read_back : summary_of bytes ≡ Ok told
+
+-- Why no summary was told.
+abbrev pub RefusesSummary : Refusal → AskedSummary → Type 0
+RefusesSummary why asked = RefusesAddSpan why asked.span ⊎ (why ≡ refusal.NoMemory)
+
+-- What a cache answers that is asked for a summary.
+pub record AnswersSummary (asked : AskedSummary) (cache : CacheView) (did : Result (List ℕ) Refusal)
+    : Type 0 where
+  pub told : IfOk did (λ bytes. TellsSummary cache asked bytes)
+  pub refused : IfErr did (λ why. RefusesSummary why asked)
+
+-- Bytes that are answered go into a buffer. Where they are refused it is as before.
+abbrev pub PutsBytes : Result (List ℕ) Refusal → ℕ → List ℕ → List ℕ → ℕ → ℕ → Type 0
+PutsBytes (Ok bytes) code old new len len' = Puts 0 bytes code old new len'
+PutsBytes (Err why) code old new len len' = (code ≡ code_of why) × (new ≡ old) × (len' ≡ len)
+
+-- A number tells of a call that answers bytes, and of the buffer that they go into.
+pub record PutsOr (Answers : Result (List ℕ) Refusal → Type 0) (code : ℕ) (old new : List ℕ)
+    (len len' : ℕ) : Type 0 where
+  pub did : Result (List ℕ) Refusal
+  pub answers : Answers did
+  pub put : PutsBytes did code old new len len'
+
+-- Bytes are read as a summary, and what it tells is added to a cache: all of it, as one Add.
+pub record AppliesIn (cache after : CacheView) (asked : AskedApply) (added : Added) : Type 0 where
+  pub told : Summary
+  pub read : summary_of asked.bytes ≡ Ok told
+  pub adds : AddsAll cache after (marks_told told) asked.moment added
+  pub stands : (settings : Settings) (s : CacheState) → StandsForState cache settings s
+      → StandsForState after settings (step_all settings s (marks_told told) asked.moment).state
+  pub tells : (settings : Settings) (s : CacheState) → StandsForState cache settings s
+      → added ≡ (step_all settings s (marks_told told) asked.moment).added
+  pub takes_over : (settings : Settings) (s : CacheState) → StandsForState cache settings s
+      → TakesOver s (step_all settings s (marks_told told) asked.moment).state told
+
+-- why bytes are no summary, and what C is told
+abbrev pub IsFaultOf : SummaryFault → Refusal → Type 0
+IsFaultOf Version why = why ≡ refusal.SummaryVersion
+IsFaultOf Length why = why ≡ refusal.SummaryLength
+IsFaultOf Checksum why = why ≡ refusal.SummaryChecksum
+IsFaultOf Form why = why ≡ refusal.SummaryForm
+IsFaultOf NoMemory why = why ≡ refusal.NoMemory
+
+-- Bytes are no summary, for this reason.
+pub record IsNoSummary (why : Refusal) (bytes : List ℕ) : Type 0 where
+  pub fault : SummaryFault
+  pub read : summary_of bytes ≡ Err fault
+  pub told : IsFaultOf fault why
+
+-- Why bytes were refused.
+abbrev pub RefusesBytes : Refusal → List ℕ → Type 0
+RefusesBytes why bytes = IsNoSummary why bytes ⊎ (why ≡ refusal.NoMemory)
+
+-- A span of the summary costs more than the largest page may have.
+pub record IsSummaryTooLarge (why : Refusal) (cache : CacheView) (bytes : List ℕ) : Type 0 where
+  pub summary : Summary
+  pub read : summary_of bytes ≡ Ok summary
+  pub too_large : all_fit cache.settings (marks_told summary) ≡ false
+  pub told : why ≡ refusal.TooLarge
+
+-- Why a summary was not applied.
+abbrev pub RefusesApply : Refusal → CacheView → AskedApply → Type 0
+RefusesApply why cache asked =
+    RefusesBytes why asked.bytes ⊎ RefusesTime why asked.moment
+    ⊎ IsSummaryTooLarge why cache asked.bytes ⊎ (why ≡ refusal.NoMemory)
+
+-- What a call does that applies a summary.
+pub record AnswersApply {A : Type 0} (asked : AskedApply) (told : Added) (cache after : CacheView)
+    (did : Result A Refusal) : Type 0 where
+  pub added : IfOk did (λ _. AppliesIn cache after asked told)
+  pub refused : IfErr did (λ why. RefusesApply why cache asked)
+  pub unchanged : OnErr did (after ≡ cache)

@@ -1,0 +1,131 @@
+//! A shared cache as its seats share it, and its owner.
+ghost use Rattle.std.specs.Prelude.{◌≡◌, List, IfOk, IfErr};
+ghost use Rattle.std.specs.Arc.{arc_value};
+ghost use Rattle.std.specs.Vec.{vec_capacity};
+ghost use Rattle.tsc_shared.specs.Seats.{SharedView, SeatView};
+ghost use Rattle.tsc_shared.specs.Answers.{Opens, Closes, open_fault};
+ghost use Rattle.tsc_ffi_store.specs.Seating.{SharedHandleView, IsSized, IsKeeper, IsRoomFor};
+
+use crate::seats::handle::{SeatHandle, seat_all};
+use crate::seats::return_slots::{
+    ReturnSlots, SlotToken, are_all_returned, collect_seats, new_return_slots,
+};
+use std::alloc::Global;
+use std::marker::Model;
+use std::sync::Arc;
+use tsc_cache::Config;
+use tsc_shared::{Closed, OpenFault, Seat, SharedCache};
+use tsc_time::NoMemory;
+
+/// A shared cache, and the slots in which its seats are returned.
+#[derive(Drop)]
+pub(crate) struct SharedHandle {
+    pub(crate) cache: SharedCache,
+    pub(crate) slots: ReturnSlots,
+}
+
+impl Model for SharedHandle {
+    ghost Value = { SharedHandleView };
+
+    ghost view = { λ h. record { cache = h.cache; table = h.slots.shared.table_id } };
+
+    ghost invariant = { λ h. (h.slots.shared.key ≡ h.cache) ×
+        IsSized h.slots.shared.table_id h.cache.seats };
+}
+
+/// A shared cache for who opened it, and may close it.
+#[derive(Drop)]
+pub struct Owner {
+    shared: Arc<SharedHandle>,
+    keeper: SlotToken,
+    seats: u32,
+    returned: u32,
+    room: Vec<Seat>,
+}
+
+impl Model for Owner {
+    ghost Value = { SharedView };
+
+    ghost view = { λ h. (arc_value h.shared).cache };
+
+    ghost invariant = { λ h. IsKeeper (arc_value h.shared) h.keeper.table_id h.keeper.me h.seats
+        h.returned × IsRoomFor h.room.items (vec_capacity h.room) h.seats };
+}
+
+impl Owner {
+    /// A cache to which nothing was added, and a handle for each of its seats, in the order of
+    /// their numbers, as [`SharedCache::open`] opens one.
+    pub fn open(
+        alloc: Global,
+        config: Config,
+        seats: u32,
+        history_limit: u64,
+    ) -> Result<(Owner, Vec<SeatHandle>), OpenFault>
+        ensures opened { IfOk result
+            (λ opened. Opens config seats history_limit opened.0 opened.1.items) }
+        ensures refused { IfErr result (λ fault. fault ≡ open_fault seats) }
+    {
+        let (cache, all) = SharedCache::open(alloc, config, seats, history_limit)?;
+        let (slots, mut dealer) = new_return_slots(alloc, &cache, seats)?;
+        let room = Vec::with_capacity(alloc, seats as usize).map_err(|_| NoMemory)?;
+        let shared = Arc::new(alloc, SharedHandle { cache, slots }).map_err(|_| NoMemory)?;
+        let handles = seat_all(alloc, &shared, &mut dealer, all, seats)?;
+        let owner = Owner {
+            shared,
+            keeper: dealer,
+            seats,
+            returned: 0,
+            room,
+        };
+        Ok((owner, handles))
+    }
+
+    /// Ends the cache if all its seats are returned and nobody else has it, and gives what it
+    /// holds. Otherwise it hands itself back. A handle that was dropped, and not
+    /// [closed](SeatHandle::close), is missing for good.
+    ///
+    /// It takes no memory, and does not wait.
+    pub fn close(mut self) -> Result<Closed, Owner>
+        ensures closed { IfOk result
+            (λ closed. (seats : List SeatView) × Closes self seats closed) }
+        ensures still_out { IfErr result (λ owner. owner ≡ self) }
+    {
+        let slots = &self.shared.slots.shared;
+        if !are_all_returned(slots, &mut self.keeper, self.seats, &mut self.returned) {
+            return Err(self);
+        }
+        let Owner {
+            shared,
+            keeper,
+            seats,
+            returned,
+            room,
+        } = self;
+        match Arc::try_unwrap(shared) {
+            Ok(shared) => Ok(shared.end(keeper, seats, room)),
+            Err(shared) => Err(Owner {
+                shared,
+                keeper,
+                seats,
+                returned,
+                room,
+            }),
+        }
+    }
+}
+
+impl SharedHandle {
+    /// Ends the cache with all its seats, which are returned.
+    fn end(self, keeper: SlotToken, seats: u32, room: Vec<Seat>) -> Closed
+        requires known { IsKeeper self keeper.table_id keeper.me seats seats }
+        requires room { IsRoomFor room.items (vec_capacity room) seats }
+        ensures { (all : List SeatView) × Closes self.cache all result }
+    {
+        let SharedHandle { cache, slots } = self;
+        let all = collect_seats(slots, keeper, seats, room);
+        match cache.finish(all) {
+            Ok(closed) => closed,
+            Err(_) => unreachable!(),
+        }
+    }
+}

@@ -1,0 +1,95 @@
+//! The requests for a lease that goes on: what was read of a span, as bytes, and its way into the
+//! cache of the next holder.
+
+ghost use Rattle.std.specs.Prelude.{◌≡◌, IfOk, IfErr, OnErr, Ok};
+ghost use Rattle.tsc_ffi_store.specs.Decode.{added_of};
+ghost use Rattle.timestamp_cache.specs.SummaryReading.{summary_of};
+ghost use Rattle.tsc_ffi_store.specs.Summaries.{asked_summary, asked_apply, TellsSummary, RefusesSummary, AnswersSummary, PutsOr, RefusesBytes, AnswersApply, IsFaultOf};
+
+use crate::buffer::put;
+use crate::cache_calls::of_cache_fault;
+use crate::ctypes::{ApplyArgs, SummaryArgs, TscAdded};
+use crate::decode::{added_span, time, words_of_added};
+use crate::refusal::{OK, Refusal};
+use std::alloc::Global;
+use timestamp_cache::{ReadSummary, SummaryFault, apply, summary};
+use tsc_cache::Cache;
+
+/// Puts the bytes of a summary of a cache into a buffer that has room for them, and tells how many
+/// there are.
+pub fn put_in(
+    cache: &Cache,
+    alloc: Global,
+    args: &SummaryArgs<'_>,
+    out: &mut [u8],
+    len: &mut usize,
+) -> u32
+    ensures { PutsOr (AnswersSummary (asked_summary args.now) cache.now)
+        result out.old out.new len.old len.new }
+{
+    match bytes_in(cache, alloc, args) {
+        Ok(bytes) => put(OK, bytes.as_slice(), out, len),
+        Err(why) => why.code(),
+    }
+}
+
+/// The bytes of a summary of a cache.
+fn bytes_in(cache: &Cache, alloc: Global, args: &SummaryArgs<'_>) -> Result<Vec<u8>, Refusal>
+    ensures told { IfOk result (λ bytes. TellsSummary cache.now (asked_summary args.now)
+        bytes.items) }
+    ensures refused { IfErr result (λ why. RefusesSummary why (asked_summary args.now)) }
+{
+    let span = added_span(alloc, &args.span)?;
+    let Ok(told) = summary(alloc, cache, &span, args.most) else {
+        return Err(Refusal::NoMemory);
+    };
+    match told.to_bytes() {
+        Ok(bytes) => Ok(bytes),
+        Err(_) => Err(Refusal::NoMemory),
+    }
+}
+
+/// Adds what the bytes of a summary tell to a cache, and writes what that did.
+pub fn apply_in(
+    alloc: Global,
+    cache: &mut Cache,
+    args: &ApplyArgs<'_>,
+    out: &mut TscAdded,
+) -> Result<(), Refusal>
+    ensures answers { AnswersApply (asked_apply args.now) (added_of out.new) cache.old cache.new
+        result }
+    ensures kept { OnErr result (out.new ≡ out.old) }
+{
+    let told = told_by(alloc, args.summary)?;
+    match apply(cache, &told, time(args.moment)?) {
+        Ok(added) => {
+            *out = words_of_added(added);
+            Ok(())
+        }
+        Err(fault) => Err(of_cache_fault(fault)),
+    }
+}
+
+/// The summary that bytes are.
+fn told_by(alloc: Global, bytes: &[u8]) -> Result<ReadSummary, Refusal>
+    ensures told { IfOk result (λ told. summary_of bytes.now ≡ Ok told) }
+    ensures refused { IfErr result (λ why. RefusesBytes why bytes.now) }
+{
+    match ReadSummary::from_bytes(alloc, bytes) {
+        Ok(told) => Ok(told),
+        Err(fault) => Err(of_summary_fault(fault)),
+    }
+}
+
+/// Why bytes were not read as a summary.
+fn of_summary_fault(fault: SummaryFault) -> Refusal
+    ensures { IsFaultOf fault result }
+{
+    match fault {
+        SummaryFault::Version => Refusal::SummaryVersion,
+        SummaryFault::Length => Refusal::SummaryLength,
+        SummaryFault::Checksum => Refusal::SummaryChecksum,
+        SummaryFault::Form => Refusal::SummaryForm,
+        SummaryFault::NoMemory => Refusal::NoMemory,
+    }
+}

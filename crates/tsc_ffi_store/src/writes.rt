@@ -1,0 +1,158 @@
+//! The requests of writes: whether and from when on they may be made.
+
+ghost use Rattle.std.specs.Prelude.{◌≡◌, ◌↔◌, IfOk, IfErr, OnErr, IsTrue, Some};
+ghost use Rattle.tsc_ffi_store.specs.Decode.{time_of};
+ghost use Rattle.tsc_ffi_store.specs.Writes.{asked_write, IsSpan, RefusesSpan, RefusesWrite, TellsWrite, AsksWrite, AnswersWrite, AnswersSeatWrite, AnswersMayWrite, AnswersSeatMayWrite};
+ghost use Rattle.tsc_ffi_store.specs.WriteSteps.{TellsLater, AsksLater};
+
+use crate::ctypes::{SpanArgs, TscSpan, TscTime, WriteArgs};
+use crate::decode::{looked_up_span, value_time, words_of_time};
+use crate::marks::part;
+use crate::refusal::Refusal;
+use crate::seats::SeatHandle;
+use timestamp_cache::earliest_clear_of;
+use tsc_cache::{Cache, TimestampCache};
+use tsc_span::SpanRef;
+use tsc_time::Timestamp;
+use uuid::Uuid;
+
+/// Writes the earliest time, from that of a write on, at which the write is clear of what a cache
+/// answers to each of its spans.
+pub fn write_in(cache: &Cache, args: &WriteArgs<'_>, out: &mut TscTime) -> Result<(), Refusal>
+    ensures answers { AnswersWrite (asked_write args.now) (time_of out.new) cache.now result }
+    ensures kept { OnErr result (out.new ≡ out.old) }
+{
+    let Some(time) = earliest_in(cache, args)? else {
+        return Err(Refusal::NoTime);
+    };
+    *out = words_of_time(time);
+    Ok(())
+}
+
+/// The same, for what a seat answers. It also writes how many Adds the seat has seen then.
+pub fn write_at(
+    seat: &mut SeatHandle,
+    args: &WriteArgs<'_>,
+    seen: &mut u64,
+    out: &mut TscTime,
+) -> Result<(), Refusal>
+    ensures answers { AnswersSeatWrite (asked_write args.now) seen.new (time_of out.new) seat.old
+        seat.new result }
+    ensures kept { OnErr result ((seen.new ≡ seen.old) × (out.new ≡ out.old)) }
+{
+    let Some(time) = earliest_at(seat, args)? else {
+        return Err(Refusal::NoTime);
+    };
+    *seen = seat.seen();
+    *out = words_of_time(time);
+    Ok(())
+}
+
+/// Writes whether a write is clear, at its time, of what a cache answers to each of its spans.
+pub fn may_in(cache: &Cache, args: &WriteArgs<'_>, out: &mut bool) -> Result<(), Refusal>
+    ensures answers { AnswersMayWrite (asked_write args.now) out.new cache.now result }
+    ensures kept { OnErr result (out.new ≡ out.old) }
+{
+    let at = value_time(args.write)?;
+    let earliest = earliest_in(cache, args)?;
+    *out = is_at(earliest, at);
+    Ok(())
+}
+
+/// The same, for what a seat answers. It also writes how many Adds the seat has seen then.
+pub fn may_at(
+    seat: &mut SeatHandle,
+    args: &WriteArgs<'_>,
+    seen: &mut u64,
+    out: &mut bool,
+) -> Result<(), Refusal>
+    ensures answers { AnswersSeatMayWrite (asked_write args.now) seen.new out.new seat.old seat.new
+        result }
+    ensures kept { OnErr result ((seen.new ≡ seen.old) × (out.new ≡ out.old)) }
+{
+    let at = value_time(args.write)?;
+    let earliest = earliest_at(seat, args)?;
+    *seen = seat.seen();
+    *out = is_at(earliest, at);
+    Ok(())
+}
+
+/// Whether the earliest time is this one.
+fn is_at(earliest: Option<Timestamp>, at: Timestamp) -> bool
+    ensures { IsTrue result ↔ (earliest ≡ Some at) }
+{
+    match earliest {
+        Some(earliest) => earliest == at,
+        None => false,
+    }
+}
+
+/// The earliest time at which a write is clear of what a cache answers to each of some spans.
+fn earliest_in(cache: &Cache, args: &WriteArgs<'_>) -> Result<Option<Timestamp>, Refusal>
+    ensures told { IfOk result (λ told. TellsWrite cache.now (asked_write args.now) told) }
+    ensures refused { IfErr result (λ why. RefusesWrite why (asked_write args.now)) }
+{
+    let mut time = Some(value_time(args.write)?);
+    let by = Uuid::from_bytes(args.write.owner);
+    for words in args.spans {
+        let span = span(args.keys, words)?;
+        time = later_in(cache, &span, time, by);
+    }
+    Ok(time)
+}
+
+/// The same of what a seat answers to one span after another.
+fn earliest_at(seat: &mut SeatHandle, args: &WriteArgs<'_>) -> Result<Option<Timestamp>, Refusal>
+    ensures told { IfOk result (λ told. AsksWrite seat.old seat.new (asked_write args.now) told) }
+    ensures refused { IfErr result (λ why. RefusesWrite why (asked_write args.now)) }
+{
+    let _seen = seat.seen();
+    let mut time = Some(value_time(args.write)?);
+    let by = Uuid::from_bytes(args.write.owner);
+    for words in args.spans {
+        let span = span(args.keys, words)?;
+        time = later_at(seat, &span, time, by);
+    }
+    Ok(time)
+}
+
+/// The earliest time from one on that is clear of what a cache answers to a span, if there is one.
+fn later_in(
+    cache: &Cache,
+    span: &SpanRef<'_>,
+    time: Option<Timestamp>,
+    by: Uuid,
+) -> Option<Timestamp>
+    ensures { TellsLater cache.now span.now by time result }
+{
+    match time {
+        Some(time) => earliest_clear_of(cache.get_max_ref(span), time, by),
+        None => None,
+    }
+}
+
+/// The earliest time from one on that is clear of what a seat answers to a span, if there is one.
+fn later_at(
+    seat: &mut SeatHandle,
+    span: &SpanRef<'_>,
+    time: Option<Timestamp>,
+    by: Uuid,
+) -> Option<Timestamp>
+    ensures { AsksLater seat.old seat.new span.now by time result }
+{
+    match time {
+        Some(time) => earliest_clear_of(seat.get_max_ref(span).value, time, by),
+        None => None,
+    }
+}
+
+/// The span of these words, over the keys where they lie.
+fn span<'a>(keys: &'a [u8], words: &TscSpan) -> Result<SpanRef<'a>, Refusal>
+    ensures value { IfOk result (λ span. IsSpan keys.now words.now span) }
+    ensures refused { IfErr result (λ why. RefusesSpan why keys.now words.now) }
+{
+    let from = part(keys, words.from_at, words.from_len)?;
+    let to = part(keys, words.to_at, words.to_len)?;
+    let ends = words.ends;
+    looked_up_span(&SpanArgs { from, to, ends })
+}
