@@ -1,6 +1,7 @@
 //! Tests of times, spans and pages, through their public calls. Those of pages are tables of steps,
 //! which one function takes (`steps`).
 
+mod borrowed;
 mod filled;
 mod full;
 mod keys;

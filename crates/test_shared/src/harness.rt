@@ -1,17 +1,14 @@
-//! A shared cache with its seats and fronts, which show by their types that they belong together.
-//! So they can go through threads and channels, and need no clauses there. And what each call
-//! tells.
+//! A shared cache with its seats and fronts, whose types show that they belong together. So they
+//! go through threads and channels with no clause. And what each call answers.
 ghost use Rattle.std.specs.Prelude.{◌≡◌, [], All, IfOk};
 ghost use Rattle.tsc_shared.specs.Answers.{Opens};
 
-use super::marks::{Adding, at, owner_of};
-use super::texts::reads_alike;
-use super::watch::Watch;
+use super::marks::{Adding, owner_of};
 use std::alloc::Global;
 use std::marker::{Brand, PhantomData};
 use std::sync::Wait;
 use std::test::Fail;
-use tsc_cache::{Config, Figures};
+use tsc_cache::{Config, Figures, Mark};
 use tsc_shared::{AddFault, Closed, Front, Gate, Gone, Receipt, Seat, SharedCache, TryAddFault};
 use tsc_span::{Ends, Span};
 use tsc_time::{NoMemory, Value};
@@ -61,7 +58,7 @@ pub struct TestCache<C: Of> {
 /// A history that was seen.
 #[derive(Drop)]
 pub struct SentSnapshot<C: Of> {
-    front: Front,
+    pub front: Front,
     of: PhantomData<C>,
     ghost is: { front.cache ≡ C.cache },
 }
@@ -70,35 +67,26 @@ pub struct SentSnapshot<C: Of> {
 /// looked around.
 #[derive(Drop)]
 pub struct TestSeat<C: Of> {
-    seat: Seat,
+    pub seat: Seat,
     pub letter: Option<SentSnapshot<C>>,
-    pub saw: (u64, Told, Told, Told),
+    pub saw: (u64, Reply, Reply, Reply),
     ghost is: { seat.cache ≡ C.cache },
 }
 
-/// The pages, the rotations, the nodes, the bytes, and the wall time of the floor.
-pub type Counts = (u64, u64, u64, u64, u64);
-
-/// What is told of a step.
+/// What a call answers, or a step.
 #[derive(Clone, Copy, Debug, PartialEq, Eq)]
-pub enum Told {
-    /// The place, whether the Add was kept, whether the pages rotated, how many were dropped, and
-    /// the length of the front.
-    Place(u64, (bool, bool, u64), u64),
-    /// The length of the front.
+pub enum Reply {
+    /// The place, whether the Add was kept, whether the pages rotated, and how many were dropped.
+    /// The front ends behind the place.
+    Place(u64, (bool, bool, u64)),
+    /// The length of the history, which is full.
     Full(u64),
-    /// The wall time and the logical count, its owner, and the length of the front.
-    Value((u64, u32), Owner, u64),
-    /// What is counted of the cache, and the length of the front.
-    Counted(Counts, u64),
-    /// A number.
-    Long(u64),
-    Not(Why),
-}
-
-/// What is told without a number.
-#[derive(Clone, Copy, Debug, PartialEq, Eq)]
-pub enum Why {
+    /// The wall time of a time with no logical count, its owner, and the length of the front.
+    Value(u64, Owner, u64),
+    /// The pages, the rotations, the nodes, the bytes, the wall time of the floor, and the length
+    /// of the front.
+    Counted((u64, u64, u64, u64, u64), u64),
+    Number(u64),
     TooLarge,
     NoMemory,
     /// The writer lock was held at each try.
@@ -109,20 +97,17 @@ pub enum Why {
     /// No thread could be had.
     NoThread,
     /// The Add was refused again.
-    Again,
+    RefusedAgain,
     /// A refusal changed what can be seen, or a cache is not as it should be.
     Changed,
-    /// A text is another one.
-    Text,
     /// A seat is missing, and the cache stays open.
-    Open,
-    /// The Add was made.
+    StillOpen,
     Done,
 }
 
 #[derive(Clone, Copy, Debug, PartialEq, Eq)]
 pub enum Owner {
-    None,
+    Nobody,
     /// The one that makes all Adds.
     First,
     Other,
@@ -139,187 +124,170 @@ pub enum By {
     Tries(u32),
 }
 
-/// What is told of these figures.
-pub fn counted_of(figures: Figures, front: u64) -> Told {
-    let (pages, rotations) = (figures.pages, figures.rotations);
-    let counts = (
-        pages,
-        rotations,
-        figures.nodes,
-        figures.bytes,
-        figures.floor.wall(),
-    );
-    Told::Counted(counts, front)
+pub fn counted_of(figures: Figures, front: u64) -> Reply {
+    let (pages, rotations, nodes) = (figures.pages, figures.rotations, figures.nodes);
+    let floor = figures.floor.wall();
+    Reply::Counted((pages, rotations, nodes, figures.bytes, floor), front)
 }
 
-/// What a lookup tells that is answered so.
-pub fn told_of(value: Value, front: u64) -> Told {
+pub fn reply_of(value: Value, front: u64) -> Reply {
     let time = value.time();
-    Told::Value((time.wall(), time.logical()), owner_of(value), front)
+    if time.logical() == 0 {
+        Reply::Value(time.wall(), owner_of(value), front)
+    } else {
+        Reply::Changed
+    }
 }
 
-/// What an accepted Add tells.
-fn place_of(receipt: &Receipt) -> Told {
+fn place_of(receipt: &Receipt) -> Reply {
     let added = receipt.added;
-    let what = (added.kept, added.rotated, added.evicted);
-    Told::Place(receipt.place, what, receipt.front.len())
-}
-
-/// What an Add tells that may be given up.
-fn told_at(tried: Result<Receipt, TryAddFault>) -> Told {
-    match tried {
-        Ok(receipt) => place_of(&receipt),
-        Err(TryAddFault::DeskBusy) => Told::Not(Why::Busy),
-        Err(TryAddFault::SeatInside) => Told::Not(Why::Inside),
-        Err(TryAddFault::Refused(AddFault::HistoryFull(front))) => Told::Full(front.len()),
-        Err(TryAddFault::Refused(AddFault::NoMemory)) => Told::Not(Why::NoMemory),
-        Err(TryAddFault::Refused(AddFault::TooLarge)) => Told::Not(Why::TooLarge),
+    if receipt.front.len().wrapping_sub(1) == receipt.place {
+        Reply::Place(receipt.place, (added.kept, added.rotated, added.evicted))
+    } else {
+        Reply::Changed
     }
 }
 
-/// What an Add tells that waits.
-fn told_by(added: Result<Receipt, AddFault>) -> Told {
+fn fault_of(fault: &AddFault) -> Reply {
+    match fault {
+        AddFault::HistoryFull(front) => Reply::Full(front.len()),
+        AddFault::NoMemory => Reply::NoMemory,
+        AddFault::TooLarge => Reply::TooLarge,
+    }
+}
+
+fn added_of(added: &Result<Receipt, AddFault>) -> Reply {
     match added {
-        Ok(receipt) => place_of(&receipt),
-        Err(fault) => told_at(Err(TryAddFault::Refused(fault))),
+        Ok(receipt) => place_of(receipt),
+        Err(fault) => fault_of(fault),
     }
 }
 
-impl<C: Of> SentSnapshot<C> {
-    /// How long the history is.
-    pub fn len(&self) -> u64 {
-        self.front.len()
+fn tried_of(tried: &Result<Receipt, TryAddFault>) -> Reply {
+    match tried {
+        Ok(receipt) => place_of(receipt),
+        Err(TryAddFault::DeskBusy) => Reply::Busy,
+        Err(TryAddFault::SeatInside) => Reply::Inside,
+        Err(TryAddFault::Refused(fault)) => fault_of(fault),
     }
 }
 
 impl<C: Of> TestSeat<C> {
-    pub fn number(&self) -> u32 {
-        self.seat.number()
+    /// The front that it has, which it then has no longer.
+    pub fn take_letter(&mut self) -> Option<SentSnapshot<C>> {
+        self.letter.take()
     }
 
-    /// How many Adds of its own there are.
-    pub fn count(&self) -> u64 {
-        self.seat.count()
+    /// How many Adds of its own there are, and how many it has seen.
+    pub fn counts(&self) -> (u64, u64) {
+        (self.seat.count(), self.seat.seen())
     }
 
-    /// How many Adds it has seen.
-    pub fn seen(&self) -> u64 {
-        self.seat.seen()
+    /// The reply of a call before which the seat counted so many, where it leaves the seat so that
+    /// counts so many now. The place of an Add comes behind all that were seen.
+    pub fn left_by(&self, reply: Reply, (count, before): (u64, u64)) -> Reply {
+        let (more, seen) = (self.seat.count().wrapping_sub(count), self.seat.seen());
+        let may_be = match reply {
+            Reply::Place(place, _) => {
+                more == 1 && seen.wrapping_sub(1) == place && before <= place
+            }
+            Reply::Full(front) | Reply::Value(_, _, front) | Reply::Counted(_, front) => {
+                more == 0 && seen == front
+            }
+            Reply::Busy => more == 0 && seen == before,
+            _ => more == 0 && seen >= before,
+        };
+        if may_be { reply } else { Reply::Changed }
     }
 }
 
 impl<C: Of> TestCache<C> {
-    /// What an Add tells, and its front, which the guest then has, if there is one.
-    pub fn add_gated<R: Wait, G: Gate>(
+    fn add_gated<R: Wait, G: Gate>(
         &self,
         rt: &R,
         guest: &mut TestSeat<C>,
         adding: &Adding,
         gate: &G,
-    ) -> Told {
-        let seat = &mut guest.seat;
+    ) -> Reply {
+        let (cache, seat) = (&self.cache, &mut guest.seat);
         let added = match adding {
-            Adding::One(mark, now) => {
-                self.cache
-                    .add_gated(rt, seat, &mark.span, mark.value, *now, gate)
+            Adding::One(Mark { span, value }, now) => {
+                cache.add_gated(rt, seat, span, *value, *now, gate)
             }
             Adding::Several(marks, now) => {
-                self.cache
-                    .add_all_gated(rt, seat, marks.as_slice(), *now, gate)
+                cache.add_all_gated(rt, seat, marks.as_slice(), *now, gate)
             }
         };
-        let (told, front) = match added {
-            Ok(receipt) => (place_of(&receipt), receipt.front),
-            Err(AddFault::HistoryFull(front)) => (Told::Full(front.len()), front),
-            Err(AddFault::NoMemory) => return Told::Not(Why::NoMemory),
-            Err(AddFault::TooLarge) => return Told::Not(Why::TooLarge),
+        let reply = added_of(&added);
+        let (Ok(Receipt { front, .. }) | Err(AddFault::HistoryFull(front))) = added else {
+            return reply;
         };
         guest.letter = Some(SentSnapshot {
             front,
             of: PhantomData,
         });
-        told
+        reply
     }
 
-    /// What an Add tells, by a call with this gate or by one without it.
-    pub fn add<R: Wait>(
+    /// An Add by such a call. The seat then has the front of a gated one.
+    pub fn add<R: Wait, G: Gate>(
         &self,
         rt: &R,
         guest: &mut TestSeat<C>,
         adding: &Adding,
         by: By,
-        gate: &Watch,
-    ) -> Told {
-        match by {
-            By::Gate => self.add_gated(rt, guest, adding, gate),
-            By::Plain => self.add_plain(rt, guest, adding),
-            By::Tries(tries) => self.try_add(guest, adding, tries),
-        }
+        gate: &G,
+    ) -> Reply {
+        let counts = guest.counts();
+        let (cache, seat) = (&self.cache, &mut guest.seat);
+        let reply = match (by, adding) {
+            (By::Gate, _) => self.add_gated(rt, guest, adding, gate),
+            (By::Plain, Adding::One(Mark { span, value }, now)) => {
+                added_of(&cache.add(rt, seat, span, *value, *now))
+            }
+            (By::Plain, Adding::Several(marks, now)) => {
+                added_of(&cache.add_all(rt, seat, marks.as_slice(), *now))
+            }
+            (By::Tries(tries), Adding::One(Mark { span, value }, now)) => {
+                tried_of(&cache.try_add(seat, span, *value, *now, tries))
+            }
+            (By::Tries(tries), Adding::Several(marks, now)) => {
+                tried_of(&cache.try_add_all(seat, marks.as_slice(), *now, tries))
+            }
+        };
+        guest.left_by(reply, counts)
     }
 
-    fn add_plain<R: Wait>(&self, rt: &R, guest: &mut TestSeat<C>, adding: &Adding) -> Told {
-        let seat = &mut guest.seat;
-        match adding {
-            Adding::One(mark, now) => {
-                told_by(self.cache.add(rt, seat, &mark.span, mark.value, *now))
-            }
-            Adding::Several(marks, now) => {
-                told_by(self.cache.add_all(rt, seat, marks.as_slice(), *now))
-            }
-        }
-    }
-
-    /// Whether an Add of a mark by itself is refused with this text, and one that does not wait
-    /// would be too.
-    pub fn refuses<R: Wait>(
+    /// Why an Add of a mark is refused, if it is.
+    pub fn refusal<R: Wait>(
         &self,
         rt: &R,
-        alloc: Global,
         guest: &mut TestSeat<C>,
         adding: &Adding,
-        text: &str,
-    ) -> Told {
-        let Adding::One(mark, now) = adding else {
-            return Told::Not(Why::Gone);
+    ) -> Option<AddFault> {
+        let Adding::One(Mark { span, value }, now) = adding else {
+            return None;
         };
-        match self
-            .cache
-            .add(rt, &mut guest.seat, &mark.span, mark.value, *now)
-        {
-            Ok(receipt) => place_of(&receipt),
-            Err(fault) => reads_alike(alloc, fault, text),
-        }
+        self.cache
+            .add(rt, &mut guest.seat, span, *value, *now)
+            .err()
     }
 
-    fn try_add(&self, guest: &mut TestSeat<C>, adding: &Adding, tries: u32) -> Told {
-        let seat = &mut guest.seat;
-        match adding {
-            Adding::One(mark, now) => told_at(
-                self.cache
-                    .try_add(seat, &mark.span, mark.value, *now, tries),
-            ),
-            Adding::Several(marks, now) => {
-                told_at(self.cache.try_add_all(seat, marks.as_slice(), *now, tries))
-            }
-        }
-    }
-
-    pub fn get(&self, guest: &mut TestSeat<C>, span: &Span) -> Told {
+    pub fn get(&self, guest: &mut TestSeat<C>, span: &Span) -> Reply {
         match self.cache.get_max(&mut guest.seat, span) {
-            Ok(answer) => told_of(answer.value, answer.front),
-            Err(Gone) => Told::Not(Why::Gone),
+            Ok(answer) => reply_of(answer.value, answer.front),
+            Err(Gone) => Reply::Gone,
         }
     }
 
-    /// The same of the keys from a start to an end, of which either may be excluded.
+    /// A lookup of the keys from a start to an end, of which either may be excluded.
     pub fn get_between(
         &self,
         guest: &mut TestSeat<C>,
-        start: &str,
-        end: Option<&str>,
+        start: &[u8],
+        end: Option<&[u8]>,
         (exclude_from, exclude_to): (bool, bool),
-    ) -> Told {
-        let (start, end) = (start.as_bytes(), end.map(|end| end.as_bytes()));
+    ) -> Reply {
         let ends = Ends {
             exclude_from,
             exclude_to,
@@ -328,67 +296,57 @@ impl<C: Of> TestCache<C> {
             .cache
             .get_max_between(&mut guest.seat, start, end, ends)
         {
-            Ok(answer) => told_of(answer.value, answer.front),
-            Err(Gone) => Told::Not(Why::Gone),
+            Ok(answer) => reply_of(answer.value, answer.front),
+            Err(Gone) => Reply::Gone,
         }
     }
 
-    /// The same of one key.
-    pub fn get_key(&self, guest: &mut TestSeat<C>, key: &str) -> Told {
+    pub fn get_key(&self, guest: &mut TestSeat<C>, key: &[u8]) -> Reply {
         self.get_between(guest, key, Some(key), (false, false))
     }
 
     /// The floor, which has no owner.
-    pub fn low(&self, guest: &mut TestSeat<C>) -> Told {
+    pub fn low(&self, guest: &mut TestSeat<C>) -> Reply {
         match self.cache.low_water(&mut guest.seat) {
-            Ok(floor) => told_of(Value::unowned(floor.time), floor.front),
-            Err(Gone) => Told::Not(Why::Gone),
+            Ok(floor) => reply_of(Value::unowned(floor.time), floor.front),
+            Err(Gone) => Reply::Gone,
         }
     }
 
-    /// What is counted of the cache.
-    pub fn figures(&self, guest: &mut TestSeat<C>) -> Told {
+    pub fn figures(&self, guest: &mut TestSeat<C>) -> Reply {
         match self.cache.figures(&mut guest.seat) {
             Ok(answer) => counted_of(answer.figures, answer.front),
-            Err(Gone) => Told::Not(Why::Gone),
+            Err(Gone) => Reply::Gone,
         }
     }
 
-    /// What a seat counts, and is told of the keys from `a` to `z`, of what is added, and of the
-    /// floor.
-    pub fn look(&self, guest: &mut TestSeat<C>, adding: &Adding) -> (u64, Told, Told, Told) {
-        let all = self.get_between(guest, "a", Some("z"), (false, true));
+    /// What a seat counts, and the answers to lookups of the keys from `a` to `z`, of what is
+    /// added, and of the floor.
+    pub fn look(&self, guest: &mut TestSeat<C>, adding: &Adding) -> (u64, Reply, Reply, Reply) {
+        let all = self.get_between(guest, b"a", Some(b"z"), (false, true));
         let own = match adding {
             Adding::One(mark, _) => self.get(guest, &mark.span),
             Adding::Several(_, _) => all,
         };
-        (guest.count(), all, own, self.low(guest))
+        (guest.seat.count(), all, own, self.low(guest))
     }
 
     /// Two seats meet, and both have seen as much then.
-    pub fn meet<R: Wait>(&self, rt: &R, one: &mut TestSeat<C>, other: &mut TestSeat<C>) -> Told {
+    pub fn meet<R: Wait>(&self, rt: &R, one: &mut TestSeat<C>, other: &mut TestSeat<C>) -> Reply {
         match self.cache.meet(rt, &mut one.seat, &mut other.seat) {
-            Ok(met) if (one.seen(), other.seen()) == (met, met) => Told::Long(met),
-            Ok(_) => Told::Not(Why::Changed),
-            Err(Gone) => Told::Not(Why::Gone),
+            Ok(met) if (one.seat.seen(), other.seat.seen()) == (met, met) => Reply::Number(met),
+            Ok(_) => Reply::Changed,
+            Err(Gone) => Reply::Gone,
         }
     }
 
-    pub fn learn(&self, guest: &mut TestSeat<C>, letter: SentSnapshot<C>) -> Told {
+    pub fn learn(&self, guest: &mut TestSeat<C>, letter: SentSnapshot<C>) -> Reply {
         match self.cache.learn(&mut guest.seat, letter.front) {
-            Ok(long) => Told::Long(long),
-            Err(Gone) => Told::Not(Why::Gone),
+            Ok(long) => Reply::Number(long),
+            Err(Gone) => Reply::Gone,
         }
     }
 }
-
-/// What a seat saw that did not look yet.
-const NOTHING: (u64, Told, Told, Told) = (
-    0,
-    Told::Not(Why::Gone),
-    Told::Not(Why::Gone),
-    Told::Not(Why::Gone),
-);
 
 /// How a cache ends: closed, or with a seat missing, and then as it was.
 #[derive(Drop)]
@@ -405,7 +363,7 @@ fn guests_of<C: Of>(alloc: Global, seats: Vec<Seat>) -> Result<Vec<TestSeat<C>>,
         guests.push(TestSeat {
             seat,
             letter: None,
-            saw: NOTHING,
+            saw: (0, Reply::Gone, Reply::Gone, Reply::Gone),
         })?;
     }
     Ok(guests)
@@ -441,11 +399,8 @@ impl<C: Of> TestCache<C> {
         match self.cache.close(rt, seats_of(room, guests)?) {
             Ok(closed) => Ok(Ended::Closed(closed)),
             Err(out) => {
-                let home = TestCache {
-                    cache: out.cache,
-                    of: PhantomData,
-                };
-                Ok(Ended::Out(home, guests_of(alloc, out.seats)?))
+                let (home, guests) = together(alloc, out.cache, out.seats)?;
+                Ok(Ended::Out(home, guests))
             }
         }
     }
@@ -468,8 +423,7 @@ pub fn together<C: Of>(
     Ok((home, guests))
 }
 
-/// Opens a cache. Where it is refused memory, and this is to be tried again, it is opened once
-/// more.
+/// Opens a cache, and where so said once more if it is refused memory.
 pub fn open(
     alloc: Global,
     config: Config,

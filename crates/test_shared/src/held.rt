@@ -1,215 +1,112 @@
 //! An Add that is held up where it has the writer lock and nobody can see it, until lookups on
 //! other threads have answered, and Adds there were given up.
-use super::harness::Told::{Long, Place, Value};
-use super::harness::{By, Of, Owner, TestCache, TestSeat, Told, Why};
-use super::marks::Entry;
-use super::marks::Entry::{One, Several};
-use super::steps::Act::{Add, AtOnce, Get, Learn, Send};
-use super::steps::{KEPT, PAGES, ROTATED, Row, play};
-use super::threads::{Meeting, Scene, check};
 use super::watch::TURNS;
-use std::process::Abort;
-use std::sync::Wait;
-use std::test::Fail;
+use super::words::*;
 use std::thread;
 
-/// The first seat makes an Add that is held up until each other seat has asked so often for a key,
-/// or for the range up to a second one.
-pub struct Plan {
-    pub held: Entry,
-    pub now: u64,
-    /// What the held Add is told.
-    pub told: Told,
-    pub looks: u32,
-    /// What the others look up.
-    pub asked: (&'static str, &'static str),
-    /// What they are told of it meanwhile.
-    pub meanwhile: Told,
-    /// What a lookup of the floor answers.
-    pub floor: Told,
-}
-
 /// The first Add of all.
-static FIRST: Row = Row {
-    pages: PAGES,
-    seats: 2,
-    limit: 100,
-    opens_again: false,
-    steps: &[
-        (
-            0,
-            AtOnce(Scene::Held(Plan {
-                held: One("a", 20),
-                now: 20,
-                told: Place(0, KEPT, 1),
-                looks: 1,
-                asked: ("a", ""),
-                meanwhile: Value((5, 0), Owner::None, 0),
-                floor: Value((5, 0), Owner::None, 0),
-            })),
-            Long(1),
-        ),
-        (0, Send, Long(1)),
-        (1, Learn, Long(1)),
-        (1, Get("a", ""), Value((20, 0), Owner::First, 1)),
-        (1, Get("b", ""), Value((5, 0), Owner::None, 1)),
-    ],
-};
+static FIRST_OF_ALL: [Step; 8] = [
+    (0, Open(PAGES, 2, 100), Done),
+    (1, While(1, "a"), Value(5, Nobody, 0)),
+    (1, LowMeanwhile, Value(5, Nobody, 0)),
+    (0, AtOnce(Held("a@20", 20, Place(0, KEPT))), Number(1)),
+    (0, HandOn, Number(1)),
+    (1, Learn, Number(1)),
+    (1, Get("a"), Value(20, First, 1)),
+    (1, Get("b"), Value(5, Nobody, 1)),
+];
 
 /// Two keys, as a batch.
-static BATCH: Row = Row {
-    pages: PAGES,
-    seats: 2,
-    limit: 10,
-    opens_again: false,
-    steps: &[
-        (
-            0,
-            AtOnce(Scene::Held(Plan {
-                held: Several(&[("a", "", 20, Owner::First), ("b", "", 20, Owner::First)]),
-                now: 20,
-                told: Place(0, KEPT, 1),
-                looks: 1,
-                asked: ("a", "c"),
-                meanwhile: Value((5, 0), Owner::None, 0),
-                floor: Value((5, 0), Owner::None, 0),
-            })),
-            Long(1),
-        ),
-        (0, Send, Long(1)),
-        (1, Learn, Long(1)),
-        (1, Get("a", ""), Value((20, 0), Owner::First, 1)),
-        (1, Get("b", ""), Value((20, 0), Owner::First, 1)),
-    ],
-};
+static BATCH: [Step; 8] = [
+    (0, Open(PAGES, 2, 10), Done),
+    (1, While(1, "a-c"), Value(5, Nobody, 0)),
+    (1, LowMeanwhile, Value(5, Nobody, 0)),
+    (
+        0,
+        AtOnce(Held("[a@20 b@20]", 20, Place(0, KEPT))),
+        Number(1),
+    ),
+    (0, HandOn, Number(1)),
+    (1, Learn, Number(1)),
+    (1, Get("a"), Value(20, First, 1)),
+    (1, Get("b"), Value(20, First, 1)),
+];
 
 /// One that rotates the pages, and drops the oldest: its floor rises to 20.0, which has no owner.
-static ROTATING: Row = Row {
-    pages: PAGES,
-    seats: 2,
-    limit: 100,
-    opens_again: false,
-    steps: &[
-        (0, Add(One("a", 20), 20, By::Gate), Place(0, KEPT, 1)),
-        (0, Add(One("b", 20), 20, By::Gate), Place(1, KEPT, 2)),
-        (0, Add(One("c", 20), 20, By::Gate), Place(2, KEPT, 3)),
-        (0, Add(One("d", 20), 20, By::Gate), Place(3, KEPT, 4)),
-        (0, Add(One("e", 20), 20, By::Gate), Place(4, ROTATED, 5)),
-        (0, Add(One("f", 41), 40, By::Gate), Place(5, KEPT, 6)),
-        (0, Add(One("g", 41), 40, By::Gate), Place(6, KEPT, 7)),
-        (0, Add(One("h", 41), 40, By::Gate), Place(7, KEPT, 8)),
-        (
-            0,
-            AtOnce(Scene::Held(Plan {
-                held: One("i", 41),
-                now: 40,
-                told: Place(8, (true, true, 1), 9),
-                looks: 1,
-                asked: ("a", ""),
-                meanwhile: Value((20, 0), Owner::First, 8),
-                floor: Value((5, 0), Owner::None, 8),
-            })),
-            Long(1),
-        ),
-        (0, Send, Long(9)),
-        (1, Learn, Long(9)),
-        (1, Get("a", ""), Value((20, 0), Owner::None, 9)),
-        (1, Get("b", ""), Value((20, 0), Owner::None, 9)),
-    ],
-};
+static ROTATING: [Step; 16] = [
+    (0, Open(PAGES, 2, 100), Done),
+    (0, Add("a@20", 20, Gate), Place(0, KEPT)),
+    (0, Add("b@20", 20, Gate), Place(1, KEPT)),
+    (0, Add("c@20", 20, Gate), Place(2, KEPT)),
+    (0, Add("d@20", 20, Gate), Place(3, KEPT)),
+    (0, Add("e@20", 20, Gate), Place(4, ROTATED)),
+    (0, Add("f@41", 40, Gate), Place(5, KEPT)),
+    (0, Add("g@41", 40, Gate), Place(6, KEPT)),
+    (0, Add("h@41", 40, Gate), Place(7, KEPT)),
+    (1, While(1, "a"), Value(20, First, 8)),
+    (1, LowMeanwhile, Value(5, Nobody, 8)),
+    (0, AtOnce(Held("i@41", 40, Place(8, DROPPED))), Number(1)),
+    (0, HandOn, Number(9)),
+    (1, Learn, Number(9)),
+    (1, Get("a"), Value(20, Nobody, 9)),
+    (1, Get("b"), Value(20, Nobody, 9)),
+];
 
 /// All lookups of four other seats answer meanwhile.
-static MANY: Row = Row {
-    pages: PAGES,
-    seats: 5,
-    limit: 100,
-    opens_again: false,
-    steps: &[
-        (0, Add(One("a", 20), 20, By::Gate), Place(0, KEPT, 1)),
-        (
-            0,
-            AtOnce(Scene::Held(Plan {
-                held: One("a", 30),
-                now: 20,
-                told: Place(1, KEPT, 2),
-                looks: 1000,
-                asked: ("a", ""),
-                meanwhile: Value((20, 0), Owner::First, 1),
-                floor: Value((5, 0), Owner::None, 1),
-            })),
-            Long(1),
-        ),
-        (0, Send, Long(2)),
-        (4, Learn, Long(2)),
-        (4, Get("a", ""), Value((30, 0), Owner::First, 2)),
-        (4, Get("b", ""), Value((5, 0), Owner::None, 2)),
-    ],
-};
+static MANY: [Step; 9] = [
+    (0, Open(PAGES, 5, 100), Done),
+    (0, Add("a@20", 20, Gate), Place(0, KEPT)),
+    (1, While(1000, "a"), Value(20, First, 1)),
+    (1, LowMeanwhile, Value(5, Nobody, 1)),
+    (0, AtOnce(Held("a@30", 20, Place(1, KEPT))), Number(1)),
+    (0, HandOn, Number(2)),
+    (4, Learn, Number(2)),
+    (4, Get("a"), Value(30, First, 2)),
+    (4, Get("b"), Value(5, Nobody, 2)),
+];
 
-/// What a seat is told of a key, or of the range up to a second one.
-fn get<C: Of>(home: &TestCache<C>, guest: &mut TestSeat<C>, (start, end): (&str, &str)) -> Told {
-    if end.is_empty() {
-        home.get_key(guest, start)
-    } else {
-        home.get_between(guest, start, Some(end), (false, true))
-    }
-}
-
-impl<C: Of> Meeting<'_, C> {
-    /// Looks as often as the plan says, and tries to add the same, after however many tries, which
-    /// leaves the seat as it was.
-    fn look<R: Wait + Abort>(
-        &self,
-        rt: &R,
-        home: &TestCache<C>,
-        guest: &mut TestSeat<C>,
-        plan: &Plan,
-    ) {
-        for _ in 0..plan.looks {
-            let (told, floor) = (get(home, guest, plan.asked), home.low(guest));
-            check(rt, told == plan.meanwhile, told);
-            check(rt, floor == plan.floor, floor);
+impl<C: Of, R: Wait + Abort> Player<'_, C, R> {
+    /// Looks as often as it is to, and tries to add the same, after however many tries.
+    fn look_on(&mut self) {
+        let meeting = self.meeting;
+        let (looks, span) = meeting.meanwhile.asked;
+        self.check(looks > 0, meeting.meanwhile.reply);
+        for _ in 0..looks {
+            let reply = match span.split_once('-') {
+                Some((start, end)) => {
+                    let (guest, end) = (&mut self.guest, Some(end.as_bytes()));
+                    self.home
+                        .get_between(guest, start.as_bytes(), end, (false, true))
+                }
+                None => self.get(span),
+            };
+            self.check(reply == meeting.meanwhile.reply, reply);
+            let floor = self.home.low(&mut self.guest);
+            self.check(floor == meeting.meanwhile.floor, floor);
         }
         for tries in [0, 1, 100] {
-            let told = self.add(rt, home, guest, &self.adding, By::Tries(tries));
-            check(rt, told == Told::Not(Why::Busy), told);
+            let reply = self.add(&meeting.adding, Tries(tries));
+            self.check(reply == Busy, reply);
         }
     }
 
-    /// An Add, and whether it is to be made once more, since it was refused memory.
-    fn add_held<R: Wait + Abort>(
-        &self,
-        rt: &R,
-        home: &TestCache<C>,
-        guest: &mut TestSeat<C>,
-        plan: &Plan,
-        round: u32,
-    ) -> bool {
-        let told = home.add_gated(rt, guest, &self.adding, &self.gate);
-        let is_refused = told == Told::Not(Why::NoMemory) && round == 0;
-        check(rt, is_refused || told == plan.told, told);
-        is_refused
-    }
-
-    /// The first seat adds, and the others look once its Add is held up.
-    pub fn hold<R: Wait + Abort>(
-        &self,
-        rt: &R,
-        home: &TestCache<C>,
-        guest: &mut TestSeat<C>,
-        plan: &Plan,
-        round: u32,
-    ) -> bool {
-        if guest.number() == 0 {
-            return self.add_held(rt, home, guest, plan, round);
+    /// The first seat adds, once more where it is refused memory, and the others look once its Add
+    /// is held up.
+    pub fn hold(&mut self, wanted: Reply, round: u32) -> bool {
+        let meeting = self.meeting;
+        if self.guest.seat.number() == 0 {
+            let reply = self.add(&meeting.adding, Gate);
+            let is_refused = reply == Reply::NoMemory && round == 0;
+            self.check(is_refused || reply == wanted, reply);
+            return is_refused;
         }
-        if self.gate.told() > 0 {
-            self.look(rt, home, guest, plan);
-            self.gate.look();
+        if meeting.gate.told() > 0 {
+            self.look_on();
+            meeting.gate.looked.fetch_add(1, SeqCst);
             return false;
         }
         if round == TURNS {
-            self.gate.give_up();
+            meeting.gate.alone.store(true, SeqCst);
         }
         thread::yield_now();
         round < TURNS
@@ -218,20 +115,20 @@ impl<C: Of> Meeting<'_, C> {
 
 #[test]
 fn a_lookup_answers_while_the_first_add_is_held_up(rt: HostRuntime) -> Result<(), Fail> {
-    play(&rt, rt.alloc(), &FIRST)
+    play(&rt, rt.alloc(), &FIRST_OF_ALL, Once)
 }
 
 #[test]
 fn a_lookup_answers_while_a_batch_is_held_up(rt: HostRuntime) -> Result<(), Fail> {
-    play(&rt, rt.alloc(), &BATCH)
+    play(&rt, rt.alloc(), &BATCH, Once)
 }
 
 #[test]
 fn a_lookup_answers_while_a_rotating_add_is_held_up(rt: HostRuntime) -> Result<(), Fail> {
-    play(&rt, rt.alloc(), &ROTATING)
+    play(&rt, rt.alloc(), &ROTATING, Once)
 }
 
 #[test]
 fn all_lookups_answer_while_the_lock_is_held(rt: HostRuntime) -> Result<(), Fail> {
-    play(&rt, rt.alloc(), &MANY)
+    play(&rt, rt.alloc(), &MANY, Once)
 }

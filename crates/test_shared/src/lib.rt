@@ -46,3 +46,5 @@ mod threads;
 mod tries;
 #[cfg(test)]
 mod watch;
+#[cfg(test)]
+mod words;

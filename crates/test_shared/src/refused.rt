@@ -1,246 +1,160 @@
 //! Adds that are refused memory more than once, or for good, beside a plain cache.
 //! `scripts/refuse-each-growth` with the words `twice` or `for-good` refuses it to them.
-ghost use Rattle.std.specs.Prelude.{◌≡◌, []};
-
-use super::harness::{Ended, Of, TestCache, TestSeat, Told, Why, told_of};
+use super::harness::{Ended, TestCache, TestSeat, reply_of};
 use super::marks::Adding;
-use super::steps::Act::Refuse;
-use super::steps::{PAGES, Row, config_of, play};
+use super::stress::ENDS;
 use super::watch::Watch;
+use super::words::*;
 use std::alloc::Global;
-use std::sync::Wait;
-use std::test::Fail;
 use tsc_cache::{Cache, TimestampCache};
-use tsc_shared::{Closed, Seat};
-use tsc_span::Span;
-use tsc_time::Value;
-
-/// A key with a wall time and a moment.
-pub type Key = (&'static str, u64, u64);
 
 /// The pages rotate at `e` and at `i`, where the oldest is dropped; the last Add is not kept.
-static ROW: Row = Row {
-    pages: PAGES,
-    seats: 2,
-    limit: 100,
-    opens_again: false,
-    steps: &[(
-        0,
-        Refuse(&[
-            ("a", 20, 20),
-            ("b", 20, 20),
-            ("a", 21, 20),
-            ("c", 20, 20),
-            ("d", 20, 20),
-            ("e", 20, 20),
-            ("f", 41, 40),
-            ("g", 41, 40),
-            ("h", 41, 40),
-            ("i", 41, 40),
-            ("i", 42, 40),
-            ("a", 21, 40),
-        ]),
-        Told::Not(Why::Done),
-    )],
-};
+static ROW: [Step; 13] = [
+    (0, Open(PAGES, 2, 100), Done),
+    (0, Add("a@20", 20, Gate), Place(0, KEPT)),
+    (1, Add("b@20", 20, Gate), Place(1, KEPT)),
+    (0, Add("a@21", 20, Gate), Place(2, KEPT)),
+    (1, Add("c@20", 20, Gate), Place(3, KEPT)),
+    (0, Add("d@20", 20, Gate), Place(4, KEPT)),
+    (1, Add("e@20", 20, Gate), Place(5, ROTATED)),
+    (0, Add("f@41", 40, Gate), Place(6, KEPT)),
+    (1, Add("g@41", 40, Gate), Place(7, KEPT)),
+    (0, Add("h@41", 40, Gate), Place(8, KEPT)),
+    (1, Add("i@41", 40, Gate), Place(9, DROPPED)),
+    (0, Add("i@42", 40, Gate), Place(10, KEPT)),
+    (1, Add("a@21", 40, Gate), Place(11, NOT_KEPT)),
+];
 
-/// An Add, what it is to be told, and a plain cache after it.
+/// An Add by a seat, what is answered, and a plain cache before it.
 #[derive(Drop)]
 struct Next {
+    seat: usize,
     adding: Adding,
-    told: Told,
-    plain: Cache,
+    wanted: Reply,
+    before: Cache,
 }
 
 /// All that is to come, which is made first, since nothing can be made once memory is refused for
 /// good.
 #[derive(Drop)]
 struct Course {
-    /// A plain cache before all Adds.
-    first: Cache,
     adds: Vec<Next>,
-}
-
-/// What the Add that has this place is to be told, and a plain cache after it. `None` where memory
-/// is refused.
-fn next_of(before: &Cache, adding: &Adding, place: u64) -> Option<(Cache, Told)> {
-    let Adding::One(mark, now) = adding else {
-        return None;
-    };
-    let (plain, added) = before.next(&mark.span, mark.value, *now).ok()?;
-    let what = (added.kept, added.rotated, added.evicted);
-    Some((plain, Told::Place(place, what, place.saturating_add(1))))
-}
-
-/// The span that is added by itself.
-fn span_in(adding: &Adding) -> Option<&Span> {
-    match adding {
-        Adding::One(mark, _) => Some(&mark.span),
-        Adding::Several(_, _) => None,
-    }
+    /// A plain cache after all Adds.
+    last: Cache,
 }
 
 impl Course {
-    /// One more Add. `None` where memory is refused.
-    fn push(&mut self, alloc: Global, place: usize, (key, wall, now): Key) -> Option<()> {
-        let adding = Adding::one(alloc, key, wall, now)?;
-        let (plain, told) = next_of(self.after(place), &adding, place as u64)?;
-        self.adds
-            .push(Next {
-                adding,
-                told,
-                plain,
-            })
-            .ok()
-    }
-
     /// `None` where memory is refused.
-    fn new(alloc: Global, keys: &[Key]) -> Option<Course> {
-        let config = config_of(PAGES).ok()?;
-        let first = Cache::new(alloc, config).ok()?;
-        let adds = Vec::with_capacity(alloc, keys.len()).ok()?;
-        let mut course = Course { first, adds };
-        for (place, key) in keys.iter().enumerate() {
-            course.push(alloc, place, *key)?;
+    fn new(alloc: Global, steps: &[Step]) -> Option<Course> {
+        let mut last = plain(alloc)?;
+        let mut adds = Vec::with_capacity(alloc, steps.len()).ok()?;
+        for (seat, act, wanted) in steps {
+            let Act::Add(entry, now, _) = act else {
+                continue;
+            };
+            let adding = Adding::of(alloc, entry, *now)?;
+            let next = after(&last, &adding)?;
+            let before = std::mem::replace(&mut last, next);
+            let (seat, wanted) = (*seat, *wanted);
+            adds.push(Next {
+                seat,
+                adding,
+                wanted,
+                before,
+            })
+            .ok()?;
         }
-        Some(course)
+        // (the opening is no Add)
+        if adds.len().saturating_add(1) != steps.len() {
+            return None;
+        }
+        Some(Course { adds, last })
     }
 
     /// The plain cache after so many Adds.
     fn after(&self, adds: usize) -> &Cache {
-        let Some(last) = adds.checked_sub(1) else {
-            return &self.first;
-        };
-        match self.adds.get(last) {
-            Some(next) => &next.plain,
-            None => &self.first,
+        match self.adds.get(adds) {
+            Some(next) => &next.before,
+            None => &self.last,
         }
     }
 
-    /// Whether a seat is told what the plain cache after so many Adds tells.
-    fn is_told<C: Of>(&self, home: &TestCache<C>, guest: &mut TestSeat<C>, adds: usize) -> bool {
+    /// Whether all seats are answered as the plain cache after so many Adds.
+    fn is_seen<C: Of>(&self, home: &TestCache<C>, guests: &mut [TestSeat<C>], adds: usize) -> bool {
         let (plain, front) = (self.after(adds), adds as u64);
-        let mut is_told = home.low(guest) == told_of(Value::unowned(plain.low_water()), front);
-        for next in self.adds.iter() {
-            if let Some(span) = span_in(&next.adding) {
-                is_told &= home.get(guest, span) == told_of(plain.get_max(span), front);
+        let floor = tsc_time::Value::unowned(plain.low_water());
+        let mut is_seen = true;
+        for guest in guests.iter_mut() {
+            is_seen &= home.low(guest) == reply_of(floor, front);
+            for letter in 0..26_u8 {
+                let key = [b'a' + letter];
+                let value = plain.get_max_between(&key, Some(&key), ENDS);
+                let reply = home.get_key(guest, &key);
+                is_seen &= reply == reply_of(value, front);
             }
         }
-        is_told
+        is_seen
     }
 
-    /// Whether a closed cache answers as the plain one after so many Adds.
-    fn is_closed(&self, closed: &Closed, adds: usize) -> bool {
-        let plain = self.after(adds);
-        let mut is_closed = closed.adds == adds as u64
-            && closed.cache.low_water() == plain.low_water();
-        for next in self.adds.iter() {
-            if let Some(span) = span_in(&next.adding) {
-                is_closed &= closed.cache.get_max(span) == plain.get_max(span);
-            }
-        }
-        is_closed
-    }
-
-    /// What an Add is told that is tried three times where it is refused memory. After each refusal
-    /// all is as before, and the gate was told nothing.
+    /// An Add that is tried three times where it is refused memory. After each refusal all is as
+    /// before, and the gate was told nothing.
     fn add<C: Of, R: Wait>(
         &self,
         rt: &R,
         home: &TestCache<C>,
-        guest: &mut TestSeat<C>,
-        (place, adding): (usize, &Adding),
-        gate: &Watch,
-    ) -> Told {
-        let count = guest.count();
-        for _ in 0..3_u32 {
-            let told = home.add_gated(rt, guest, adding, gate);
-            if told != Told::Not(Why::NoMemory) {
-                return told;
-            }
-            let as_before = guest.count() == count && gate.told() == place as u64;
-            if !as_before || !self.is_told(home, guest, place) {
-                return Told::Not(Why::Changed);
-            }
-        }
-        match span_in(adding) {
-            // There is memory.
-            Some(span) if span.try_copy().is_ok() => Told::Not(Why::Again),
-            _ => Told::Not(Why::NoMemory),
-        }
-    }
-
-    /// Whether all seats are told what the plain cache after so many Adds tells.
-    fn all_are_told<C: Of>(
-        &self,
-        home: &TestCache<C>,
         guests: &mut [TestSeat<C>],
-        adds: usize,
-    ) -> bool {
-        let mut are_told = true;
-        for guest in guests.iter_mut() {
-            are_told &= self.is_told(home, guest, adds);
+        (place, next): (usize, &Next),
+        gate: &Watch,
+    ) -> Taken {
+        for _ in 0..3_u32 {
+            let guest = guests.get_mut(next.seat).ok_or(Reply::Gone)?;
+            let count = guest.seat.count();
+            let reply = home.add(rt, guest, &next.adding, Gate, gate);
+            if reply != Reply::NoMemory {
+                return Ok(reply);
+            }
+            let as_before = guest.seat.count() == count && gate.told() == place as u64;
+            if !as_before || !self.is_seen(home, guests, place) {
+                return Err(Reply::Changed);
+            }
         }
-        are_told
+        match &next.adding {
+            // There is memory.
+            Adding::One(mark, _) if mark.span.try_copy().is_ok() => Err(Reply::RefusedAgain),
+            _ => Ok(Reply::NoMemory),
+        }
     }
 
-    /// The two seats add in turn, until memory is refused for good. The answer is how many Adds
-    /// were made, or what was told that may not be.
+    /// How many Adds were made before memory was refused for good, or a reply that may not be.
     fn add_all<C: Of, R: Wait>(
         &self,
         rt: &R,
         home: &TestCache<C>,
         guests: &mut [TestSeat<C>],
-    ) -> Result<usize, Told> {
+    ) -> Result<usize, Reply> {
         let gate = Watch::new(0);
         for (place, next) in self.adds.iter().enumerate() {
-            let Some(guest) = guests.get_mut(place % 2) else {
-                return Err(Told::Not(Why::Gone));
-            };
-            let told = self.add(rt, home, guest, (place, &next.adding), &gate);
-            if told == Told::Not(Why::NoMemory) {
+            let reply = self.add(rt, home, guests, (place, next), &gate)?;
+            if reply == Reply::NoMemory {
                 return Ok(place);
             }
             let adds = place.saturating_add(1);
-            let is_right = told == next.told && gate.told() == adds as u64;
-            if !is_right || !self.all_are_told(home, guests, adds) {
-                return Err(told);
+            let is_right = reply == next.wanted && gate.told() == adds as u64;
+            if !is_right || !self.is_seen(home, guests, adds) {
+                return Err(reply);
             }
         }
         Ok(self.adds.len())
     }
+}
 
-    /// What is told of an end after so many Adds.
-    fn end<C: Of>(&self, ended: Option<Ended<C>>, adds: usize) -> Told {
-        match ended {
-            Some(Ended::Closed(closed)) => {
-                if self.is_closed(&closed, adds) {
-                    Told::Not(Why::Done)
-                } else {
-                    Told::Not(Why::Changed)
-                }
-            }
-            Some(Ended::Out(_home, _guests)) => Told::Not(Why::Open),
-            None => Told::Not(Why::Again),
-        }
-    }
-
-    /// Adds until memory is refused for good, and closes the cache, in this room.
-    fn play<C: Of, R: Wait>(
-        &self,
-        rt: &R,
-        alloc: Global,
-        home: TestCache<C>,
-        mut guests: Vec<TestSeat<C>>,
-        room: Vec<Seat>,
-    ) -> Told
-        requires { room.items ≡ [] }
-    {
-        match self.add_all(rt, &home, guests.as_mut_slice()) {
-            Ok(adds) => self.end(home.close(rt, alloc, room, guests).ok(), adds),
-            Err(told) => told,
-        }
-    }
+/// A plain cache after one more Add. `None` where memory is refused.
+fn after(before: &Cache, adding: &Adding) -> Option<Cache> {
+    let Adding::One(mark, now) = adding else {
+        return None;
+    };
+    let (plain, _) = before.next(&mark.span, mark.value, *now).ok()?;
+    Some(plain)
 }
 
 /// Adds until memory is refused for good, and closes the cache, which then answers as the plain
@@ -249,15 +163,21 @@ pub fn refuse<C: Of, R: Wait>(
     rt: &R,
     alloc: Global,
     home: TestCache<C>,
-    guests: Vec<TestSeat<C>>,
-    keys: &[Key],
-) -> Told {
-    let Some(course) = Course::new(alloc, keys) else {
-        return Told::Not(Why::NoMemory);
-    };
-    match Vec::with_capacity(alloc, guests.len()) {
-        Ok(room) => course.play(rt, alloc, home, guests, room),
-        Err(_refused) => Told::Not(Why::NoMemory),
+    mut guests: Vec<TestSeat<C>>,
+    steps: &[Step],
+) -> Taken {
+    let course = Course::new(alloc, steps).ok_or(Reply::NoMemory)?;
+    let room = Vec::with_capacity(alloc, guests.len())
+        .ok()
+        .ok_or(Reply::NoMemory)?;
+    let adds = course.add_all(rt, &home, guests.as_mut_slice())?;
+    match home.close(rt, alloc, room, guests) {
+        Ok(Ended::Closed(closed)) => {
+            closed_with(&closed, adds as u64, Some(course.after(adds)))?;
+            Ok(Done)
+        }
+        Ok(Ended::Out(_home, _guests)) => Err(StillOpen),
+        Err(_refused) => Err(Reply::RefusedAgain),
     }
 }
 
@@ -265,5 +185,5 @@ pub fn refuse<C: Of, R: Wait>(
 /// lookups answer and the cache is closed all the same.
 #[test]
 fn refused_adds_leave_all_as_it_was(rt: HostRuntime) -> Result<(), Fail> {
-    play(&rt, rt.alloc(), &ROW)
+    play(&rt, rt.alloc(), &ROW, ForGood)
 }

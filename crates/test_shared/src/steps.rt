@@ -1,12 +1,15 @@
-//! Tables of steps, each with what is told of it: one function takes a step, and one loop goes over
-//! the rows.
+//! Rows of steps: what a seat does, and what that answers. Each scene begins with the step that
+//! opens its cache.
 ghost use Rattle.std.specs.Prelude.{◌≡◌, All};
 
-use super::harness::{By, Ended, Of, SentSnapshot, TestCache, TestSeat, Told, Why, open, together};
-use super::marks::{Adding, Entry, at, span_of};
-use super::refused::{Key, refuse};
+use super::harness::{
+    By, Ended, Of, Reply, SentSnapshot, TestCache, TestSeat, counted_of, open, together,
+};
+use super::marks::{Adding, at, span_of};
+use super::refused::refuse;
 use super::stress::are_alike;
-use super::threads::{Scene, meet};
+use super::texts::reads_alike;
+use super::threads::{Meanwhile, Meeting, Scene, meet};
 use super::watch::Watch;
 use std::alloc::Global;
 use std::collections::VecDeque;
@@ -15,29 +18,35 @@ use std::process::Abort;
 use std::sync::Wait;
 use std::test::Fail;
 use std::thread::Threads;
-use tsc_cache::{Cache, Config, ConfigFault};
+use tsc_cache::{Cache, Config, ConfigFault, TimestampCache};
 use tsc_shared::{Closed, Seat, SharedCache};
 use tsc_time::NoMemory;
 
-/// What a seat does.
+/// What a seat does. Spans are as `a` or `a-c`, and entries as `a@20` or `[a@20 b-d@21]`.
 pub enum Act {
+    /// Opens a cache with such pages, for so many seats, whose history may have so many Adds.
+    Open(Pages, u32, u64),
+    /// The same, once more where it is refused memory.
+    OpenAgain(Pages, u32, u64),
+    /// A cache that isn't shared takes each Add from here on too, and counts the same.
+    Beside,
     /// Adds an entry, at a moment.
-    Add(Entry, u64, By),
+    Add(&'static str, u64, By),
     /// The same, made once more where it is refused memory. After the refusal all is as before.
-    Again(Entry, u64, By),
-    /// Adds so many keys of four bytes as one entry, each of them a number.
+    Again(&'static str, u64, By),
+    /// Adds the keys of so many numbers, of four bytes each.
     Fill(u32),
     /// Adds a key so often, each time at a later time, and in place.
     Often(&'static str, u32),
-    /// Looks up a key, or the range up to a second one.
-    Get(&'static str, &'static str),
+    /// Looks up a span.
+    Get(&'static str),
     /// Looks up the keys from a start to an end, of which either may be excluded.
     Between(&'static str, Option<&'static str>, (bool, bool)),
     Low,
     /// Asks what is counted.
     Figures,
     /// Hands on the front that it was told last.
-    Send,
+    HandOn,
     /// Learns the front that was handed on first.
     Learn,
     /// The first two seats meet.
@@ -46,23 +55,23 @@ pub enum Act {
     See,
     /// Tells how many Adds of its own there are.
     Count,
-    /// Tells its number.
-    Number,
+    SeatNumber,
     /// Tells how many Adds the gate was told of.
-    Gate,
-    /// Copies the span of a key, or of the range up to a second one, once more where it is refused
-    /// memory.
-    Copy(&'static str, &'static str),
+    Gated,
+    /// Copies a span, once more where it is refused memory.
+    Copy(&'static str),
     /// The last seat is dropped.
     Leave,
     /// An Add of this is refused with this text, by a call that waits and by one that does not.
-    Refused(Entry, &'static str),
+    Refused(&'static str, &'static str),
+    /// What each other seat is answered, so often, of a span while the next Add is held up.
+    While(u32, &'static str),
+    /// What it is answered of the floor.
+    LowMeanwhile,
     /// All seats play on threads of their own.
     AtOnce(Scene),
-    /// Two seats make these Adds in turn, which may be refused memory.
-    Refuse(&'static [Key]),
-    /// All seats close the cache, which has as many Adds as they count; and if they played a
-    /// stress, it answers as one to which their Adds were made in the order of their places.
+    /// All seats close the cache, which has as many Adds as they count. It answers as the cache
+    /// that isn't shared, if there is one.
     Close,
     /// The same. All but the last try to first, and have it back with their seats.
     CloseLate,
@@ -70,511 +79,423 @@ pub enum Act {
     CloseAny,
 }
 
-/// The seat, what it does, and what is told of it.
-pub type Step = (usize, Act, Told);
+/// The seat, what it does, and what that answers.
+pub type Step = (usize, Act, Reply);
 
-pub struct Row {
-    /// The first and the largest page, and how many are kept at the least.
-    pub pages: (u32, u32, u32),
-    pub seats: u32,
-    /// How many Adds the history may have.
-    pub limit: u64,
-    /// Whether the cache is opened once more where it is refused memory.
-    pub opens_again: bool,
-    pub steps: &'static [Step],
-}
+/// What a step answers, or why all ends.
+pub type Taken = Result<Reply, Reply>;
 
-/// Pages of 132 bytes, which are four nodes with keys of one byte, of which two are kept at the
-/// least.
-pub const PAGES: (u32, u32, u32) = (132, 132, 2);
+/// The first and the largest page, and how many are kept at the least.
+pub type Pages = (u32, u32, u32);
 
-/// What most Adds do: they are kept, and the pages do not rotate.
+/// Pages of four nodes with keys of one byte.
+pub const PAGES: Pages = (132, 132, 2);
+
+/// Pages of two, of which one is kept.
+pub const HALF_PAGES: Pages = (66, 66, 1);
+
+/// What an Add does: it is kept, the pages rotate, and so many are dropped.
 pub const KEPT: (bool, bool, u64) = (true, false, 0);
 
-/// Kept on a new page.
+pub const NOT_KEPT: (bool, bool, u64) = (false, false, 0);
+
 pub const ROTATED: (bool, bool, u64) = (true, true, 0);
 
-/// Pages of this row, and a floor at 5.0.
-pub fn config_of((first, max, least): (u32, u32, u32)) -> Result<Config, ConfigFault> {
+pub const DROPPED: (bool, bool, u64) = (true, true, 1);
+
+/// Such pages, and a floor at 5.0.
+pub fn config_of((first, max, least): Pages) -> Result<Config, ConfigFault> {
     Config::new(first, max, least, 10, at(5))
 }
 
-/// A copy that is made once more where it is refused memory.
-fn copy_again(alloc: Global, start: &str, end: &str) -> Told {
-    let Ok(span) = span_of(alloc, start, end) else {
-        return Told::Not(Why::NoMemory);
-    };
-    if span.try_copy().is_err() && span.try_copy().is_err() {
-        return Told::Not(Why::Again);
-    }
-    Told::Not(Why::Done)
+/// A cache that isn't shared. `None` where memory is refused.
+pub fn plain(alloc: Global) -> Option<Cache> {
+    Cache::new(alloc, config_of(PAGES).ok()?).ok()
 }
 
-/// Has all seats look, and tells whether all that they count, and are told of the keys from `a` to
-/// `z` and of what is added, is as when they last did.
-fn look<C: Of>(home: &TestCache<C>, guests: &mut [TestSeat<C>], adding: &Adding) -> bool {
-    let mut is_as_before = true;
-    for guest in guests.iter_mut() {
-        let saw = home.look(guest, adding);
-        is_as_before &= guest.saw == saw;
-        guest.saw = saw;
-    }
-    is_as_before
-}
-
-/// How many Adds these seats count.
-fn counted<C: Of>(guests: &[TestSeat<C>]) -> u64 {
-    let mut counted: u64 = 0;
-    for guest in guests {
-        counted = counted.saturating_add(guest.count());
-    }
-    counted
-}
-
-/// What a seat is told that asks.
-fn ask<C: Of>(alloc: Global, home: &TestCache<C>, guest: &mut TestSeat<C>, act: &Act) -> Told {
-    match act {
-        Act::Get(start, end) => match span_of(alloc, start, end) {
-            Ok(span) => home.get(guest, &span),
-            Err(_refused) => Told::Not(Why::NoMemory),
-        },
-        Act::Between(start, end, ends) => home.get_between(guest, start, *end, *ends),
-        Act::Low => home.low(guest),
-        Act::Figures => home.figures(guest),
-        Act::See => Told::Long(guest.seen()),
-        Act::Count => Told::Long(guest.count()),
-        Act::Number => Told::Long(u64::from(guest.number())),
-        _ => Told::Not(Why::Gone),
-    }
-}
-
-/// How long the front is that a seat was told last, which it hands on.
-fn send<C: Of>(guest: &mut TestSeat<C>, letters: &mut VecDeque<SentSnapshot<C>>) -> Told {
-    let Some(letter) = guest.letter.take() else {
-        return Told::Not(Why::Gone);
-    };
-    let told = Told::Long(letter.len());
-    match letters.push_back(letter) {
-        Ok(()) => told,
-        Err(_refused) => Told::Not(Why::NoMemory),
-    }
-}
-
-/// What a seat is told that learns the front that was handed on first.
-fn learn<C: Of>(
-    home: &TestCache<C>,
-    guest: &mut TestSeat<C>,
-    letters: &mut VecDeque<SentSnapshot<C>>,
-) -> Told {
-    match letters.pop_front() {
-        Some(letter) => home.learn(guest, letter),
-        None => Told::Not(Why::Gone),
-    }
-}
-
-/// What a seat is told that counted so many Adds before. It counts one more where it made one, and
-/// has seen as much as it is told.
-fn as_counted<C: Of>(guest: &TestSeat<C>, count: u64, told: Told) -> Told {
-    let more = guest.count().wrapping_sub(count);
-    let (made, seen) = match told {
-        Told::Place(_, _, front) => (1, front),
-        Told::Full(front) | Told::Value(_, _, front) | Told::Counted(_, front) => (0, front),
-        Told::Long(_) | Told::Not(_) => (0, guest.seen()),
-    };
-    if (more, guest.seen()) == (made, seen) {
-        told
-    } else {
-        Told::Not(Why::Changed)
-    }
-}
-
-/// Whether an Add of an entry is refused with this text.
-fn add_refused<C: Of, R: Wait>(
-    rt: &R,
-    alloc: Global,
-    home: &TestCache<C>,
-    guest: &mut TestSeat<C>,
-    entry: &Entry,
-    text: &str,
-) -> Told {
-    match Adding::of(alloc, entry, 20) {
-        Some(adding) => home.refuses(rt, alloc, guest, &adding, text),
-        None => Told::Not(Why::NoMemory),
-    }
+/// How the steps of a table are taken.
+#[derive(Clone, Copy, PartialEq, Eq)]
+pub enum Way {
+    Once,
+    /// The opening and each Add are made once more where they are refused memory.
+    Twice,
+    /// Each Add is tried three times, and memory may be refused for good.
+    ForGood,
 }
 
 /// A cache and its seats.
 #[derive(Drop)]
-struct Stage<C: Of> {
+struct Stage<'a, C: Of, R> {
+    rt: &'a R,
+    alloc: Global,
+    limit: u64,
+    /// Whether each Add that is refused memory is made once more.
+    tries_again: bool,
     /// `None` once it is closed.
     home: Option<TestCache<C>>,
     guests: Vec<TestSeat<C>>,
     /// The fronts that were handed on and not yet learnt.
     letters: VecDeque<SentSnapshot<C>>,
     gate: Watch,
-    /// Whether each Add that is refused memory is made once more.
-    tries_again: bool,
-    /// A cache that isn't shared, to which the Adds of a stress were made.
+    meanwhile: Meanwhile,
+    /// A cache that isn't shared, to which the same Adds were made.
     alone: Option<Cache>,
 }
 
-impl<C: Of + Send + Sync> Stage<C> {
-    /// What an Add of a seat tells.
-    fn add<R: Wait>(&mut self, rt: &R, seat: usize, adding: &Adding, by: By) -> Told {
-        let (Some(home), Some(guest)) = (&self.home, self.guests.get_mut(seat)) else {
-            return Told::Not(Why::Gone);
-        };
-        let count = guest.count();
-        let told = home.add(rt, guest, adding, by, &self.gate);
-        as_counted(guest, count, told)
+/// Hands on the front that a seat was told last.
+fn hand_on<C: Of>(guest: &mut TestSeat<C>, letters: &mut VecDeque<SentSnapshot<C>>) -> Taken {
+    let letter = guest.letter.take().ok_or(Reply::Gone)?;
+    let reply = Reply::Number(letter.front.len());
+    match letters.push_back(letter) {
+        Ok(()) => Ok(reply),
+        Err(_refused) => Err(Reply::NoMemory),
     }
+}
 
-    fn look(&mut self, adding: &Adding) -> bool {
-        match &self.home {
-            Some(home) => look(home, self.guests.as_mut_slice(), adding),
-            None => false,
-        }
-    }
-
-    /// An Add that is made once more where it is refused memory. After the refusal all is as
-    /// before.
-    fn add_again<R: Wait>(&mut self, rt: &R, seat: usize, adding: &Adding, by: By) -> Told {
-        self.look(adding);
-        let told = self.add(rt, seat, adding, by);
-        if told != Told::Not(Why::NoMemory) {
-            return told;
-        }
-        if !self.look(adding) {
-            return Told::Not(Why::Changed);
-        }
-        match self.add(rt, seat, adding, by) {
-            Told::Not(Why::NoMemory) => Told::Not(Why::Again),
-            told => told,
+impl<C: Of + Send + Sync, R: Threads + Wait + Abort + Sync> Stage<'_, C, R> {
+    /// An Add of a seat, and of the cache that isn't shared.
+    fn add(&mut self, seat: usize, adding: &Adding, by: By) -> Taken {
+        let home = self.home.as_ref().ok_or(Reply::Gone)?;
+        let guest = self.guests.get_mut(seat).ok_or(Reply::Gone)?;
+        let reply = home.add(self.rt, guest, adding, by, &self.gate);
+        match (&mut self.alone, reply) {
+            (Some(alone), Reply::Place(_, _)) => {
+                let is_taken = adding.is_taken(alone);
+                if is_taken {
+                    Ok(reply)
+                } else {
+                    Err(Reply::Changed)
+                }
+            }
+            _ => Ok(reply),
         }
     }
 
-    /// An entry that is made and added, once more where that is so said.
-    fn add_entry<R: Wait>(
-        &mut self,
-        rt: &R,
-        alloc: Global,
-        seat: usize,
-        (entry, now, by, again): (&Entry, u64, By, bool),
-    ) -> Told {
-        let Some(adding) = Adding::of(alloc, entry, now) else {
-            return Told::Not(Why::NoMemory);
-        };
-        if again {
-            self.add_again(rt, seat, &adding, by)
-        } else {
-            self.add(rt, seat, &adding, by)
+    /// Has all seats look, and tells whether all that they see is as when they last did.
+    fn look(&mut self, adding: &Adding) -> Result<bool, Reply> {
+        let home = self.home.as_ref().ok_or(Reply::Gone)?;
+        let mut is_as_before = true;
+        for guest in self.guests.iter_mut() {
+            let saw = home.look(guest, adding);
+            is_as_before &= guest.saw == saw;
+            guest.saw = saw;
+        }
+        Ok(is_as_before)
+    }
+
+    /// An Add of what was made, where so said once more if it is refused memory. After the refusal
+    /// all is as before.
+    fn add_made(&mut self, seat: usize, made: Option<Adding>, by: By, again: bool) -> Taken {
+        let adding = made.ok_or(Reply::NoMemory)?;
+        if !again {
+            return self.add(seat, &adding, by);
+        }
+        self.look(&adding)?;
+        let reply = self.add(seat, &adding, by)?;
+        if reply != Reply::NoMemory {
+            return Ok(reply);
+        }
+        if !self.look(&adding)? {
+            return Err(Reply::Changed);
+        }
+        match self.add(seat, &adding, by)? {
+            Reply::NoMemory => Err(Reply::RefusedAgain),
+            reply => Ok(reply),
         }
     }
 
-    /// An entry of the keys of so many numbers.
-    fn fill<R: Wait>(&mut self, rt: &R, alloc: Global, seat: usize, count: u32) -> Told {
-        match Adding::numbers(alloc, count) {
-            Some(adding) => self.add(rt, seat, &adding, By::Plain),
-            None => Told::Not(Why::NoMemory),
-        }
-    }
-
-    /// `count` Adds of a key at times that rise, and the outcome of the last one, or of the first
+    /// `count` Adds of a key at times that rise. The reply is that of the last one, or of the first
     /// one that brings a new page or is refused.
-    fn add_often<R: Wait>(
-        &mut self,
-        rt: &R,
-        alloc: Global,
-        seat: usize,
-        (key, count): (&'static str, u32),
-    ) -> Told {
-        let mut told = Told::Not(Why::Done);
+    fn add_often(&mut self, seat: usize, key: &str, count: u32) -> Taken {
+        let mut reply = Reply::Done;
         for round in 0..count {
-            let wall = u64::from(round).saturating_add(21);
-            told = match Adding::one(alloc, key, wall, 20) {
-                Some(adding) => self.add(rt, seat, &adding, By::Plain),
-                None => Told::Not(Why::NoMemory),
-            };
-            if !is_in_place(told) {
-                return told;
+            let made = Adding::one(self.alloc, key, u64::from(round).saturating_add(21), 20);
+            reply = self.add_made(seat, made, By::Plain, false)?;
+            if !matches!(reply, Reply::Place(_, (true, false, 0))) {
+                return Ok(reply);
             }
         }
-        told
+        Ok(reply)
     }
 
-    /// What a seat is told.
-    fn take_one<R: Wait>(&mut self, rt: &R, alloc: Global, seat: usize, act: &Act) -> Told {
-        let (Some(home), Some(guest)) = (&self.home, self.guests.get_mut(seat)) else {
-            return Told::Not(Why::Gone);
+    /// What a seat does by itself.
+    fn take_one(&mut self, seat: usize, act: &Act) -> Taken {
+        let home = self.home.as_ref().ok_or(Reply::Gone)?;
+        let guest = self.guests.get_mut(seat).ok_or(Reply::Gone)?;
+        let counts = guest.counts();
+        let reply = match act {
+            Act::Get(span) => {
+                let span = span_of(self.alloc, span).ok_or(Reply::NoMemory)?;
+                home.get(guest, &span)
+            }
+            Act::Between(start, end, ends) => {
+                let end = end.map(|end| end.as_bytes());
+                home.get_between(guest, start.as_bytes(), end, *ends)
+            }
+            Act::Low => home.low(guest),
+            Act::Figures => home.figures(guest),
+            Act::HandOn => hand_on(guest, &mut self.letters)?,
+            Act::Learn => home.learn(guest, self.letters.pop_front().ok_or(Reply::Gone)?),
+            Act::See => Reply::Number(guest.seat.seen()),
+            Act::Count => Reply::Number(guest.seat.count()),
+            Act::SeatNumber => Reply::Number(u64::from(guest.seat.number())),
+            Act::Refused(entry, text) => {
+                let adding = Adding::of(self.alloc, entry, 20).ok_or(Reply::NoMemory)?;
+                let fault = home.refusal(self.rt, guest, &adding).ok_or(Reply::Changed)?;
+                reads_alike(self.rt, self.alloc, fault, text)
+            }
+            _ => Reply::Gone,
         };
-        let count = guest.count();
-        let told = match act {
-            Act::Send => send(guest, &mut self.letters),
-            Act::Learn => learn(home, guest, &mut self.letters),
-            Act::Refused(entry, text) => add_refused(rt, alloc, home, guest, entry, text),
-            _ => ask(alloc, home, guest, act),
-        };
-        as_counted(guest, count, told)
+        match (&self.alone, reply) {
+            (Some(alone), Reply::Counted(_, front))
+                if reply != counted_of(alone.figures(), front) => { Err(Reply::Changed) }
+            _ => Ok(guest.left_by(reply, counts)),
+        }
     }
 
     /// The first two seats meet.
-    fn meet_two<R: Wait>(&mut self, rt: &R) -> Told {
-        let Some((one, others)) = self.guests.as_mut_slice().split_first_mut() else {
-            return Told::Not(Why::Gone);
-        };
-        match (&self.home, others.first_mut()) {
-            (Some(home), Some(other)) => home.meet(rt, one, other),
-            _ => Told::Not(Why::Gone),
+    fn meet_two(&mut self) -> Taken {
+        match (&self.home, self.guests.as_mut_slice()) {
+            (Some(home), [one, other, ..]) => Ok(home.meet(self.rt, one, other)),
+            _ => Err(Reply::Gone),
         }
     }
 
-    /// The last seat is dropped.
-    fn leave(&mut self) -> Told {
-        drop(self.guests.pop());
-        Told::Not(Why::Done)
-    }
-
-    /// All seats.
-    fn take_seats(&mut self, alloc: Global) -> Vec<TestSeat<C>> {
-        std::mem::replace(&mut self.guests, Vec::new(alloc))
+    fn take_seats(&mut self) -> Vec<TestSeat<C>> {
+        std::mem::replace(&mut self.guests, Vec::new(self.alloc))
     }
 
     /// All seats close the cache. Where one is missing it stays open.
-    fn close<R: Wait>(&mut self, rt: &R, alloc: Global) -> Told {
-        let counted = counted(self.guests.as_slice());
-        let guests = self.take_seats(alloc);
-        let Some(home) = self.home.take() else {
-            return Told::Not(Why::Gone);
-        };
-        match close(rt, alloc, home, guests) {
-            Some(Ended::Closed(closed)) => closed_with(&closed, counted, self.alone.as_ref()),
-            Some(Ended::Out(home, guests)) => {
+    fn close(&mut self) -> Taken {
+        let mut counted: u64 = 0;
+        for guest in self.guests.iter() {
+            counted = counted.saturating_add(guest.seat.count());
+        }
+        let guests = self.take_seats();
+        let home = self.home.take().ok_or(Reply::Gone)?;
+        let room = Vec::with_capacity(self.alloc, guests.len())
+            .ok()
+            .ok_or(Reply::NoMemory)?;
+        match home.close(self.rt, self.alloc, room, guests) {
+            Ok(Ended::Closed(closed)) => closed_with(&closed, counted, self.alone.as_ref()),
+            Ok(Ended::Out(home, guests)) => {
                 self.home = Some(home);
                 self.guests = guests;
-                Told::Not(Why::Open)
+                Ok(Reply::StillOpen)
             }
-            None => Told::Not(Why::NoMemory),
+            Err(_refused) => Err(Reply::NoMemory),
         }
     }
 
     /// All seats close the cache, which stays open without the last one.
-    fn close_late<R: Wait>(&mut self, rt: &R, alloc: Global) -> Told {
-        let Some(last) = self.guests.pop() else {
-            return Told::Not(Why::Gone);
-        };
-        match self.close(rt, alloc) {
-            Told::Not(Why::Open) => {}
-            // closed without its last seat
-            Told::Long(_) => return Told::Not(Why::Changed),
-            told => return told,
+    fn close_late(&mut self) -> Taken {
+        let last = self.guests.pop().ok_or(Reply::Gone)?;
+        let reply = self.close()?;
+        if reply != Reply::StillOpen {
+            return Err(Reply::Changed);
         }
-        match self.guests.push(last) {
-            Ok(()) => self.close(rt, alloc),
-            Err(_refused) => Told::Not(Why::NoMemory),
-        }
+        self.guests.push(last).ok().ok_or(Reply::NoMemory)?;
+        self.close()
     }
 
     /// All seats play on threads of their own.
-    fn meet<R: Threads + Wait + Abort + Sync>(
-        &mut self,
-        rt: &R,
-        alloc: Global,
-        scene: &Scene,
-    ) -> Told {
-        let guests = self.take_seats(alloc);
-        let Some(home) = &self.home else {
-            return Told::Not(Why::Gone);
-        };
-        match meet(rt, alloc, home, guests, scene) {
-            Some((guests, told, alone)) => {
-                self.guests = guests;
-                self.alone = alone;
-                told
-            }
-            None => Told::Not(Why::NoMemory),
-        }
+    fn play_at_once(&mut self, scene: &Scene) -> Taken {
+        let guests = self.take_seats();
+        let seats = guests.len() as u64;
+        let home = self.home.as_ref().ok_or(Reply::Gone)?;
+        let meeting = Meeting::of(self.alloc, scene, seats, self.limit, self.meanwhile).ok_or(
+            Reply::NoMemory,
+        )?;
+        let guests = meet(self.rt, self.alloc, home, guests, &meeting).ok_or(Reply::NoMemory)?;
+        let (reply, alone) = meeting.end(self.alloc);
+        self.guests = guests;
+        self.alone = alone;
+        Ok(reply)
     }
 
-    /// Two seats make Adds that may be refused, and close the cache.
-    fn refuse<R: Wait>(&mut self, rt: &R, alloc: Global, adds: &[Key]) -> Told {
-        let guests = self.take_seats(alloc);
-        match self.home.take() {
-            Some(home) => refuse(rt, alloc, home, guests, adds),
-            None => Told::Not(Why::Gone),
-        }
-    }
-
-    /// What is told of a step.
-    fn take<R: Threads + Wait + Abort + Sync>(
-        &mut self,
-        rt: &R,
-        alloc: Global,
-        seat: usize,
-        act: &Act,
-    ) -> Told {
+    /// Takes a step. What is to be answered is noted where it is answered later.
+    fn take(&mut self, (seat, act, wanted): &Step) -> Taken {
+        let (seat, alloc, again) = (*seat, self.alloc, self.tries_again);
         match act {
             Act::Add(entry, now, by) => {
-                self.add_entry(rt, alloc, seat, (entry, *now, *by, self.tries_again))
+                self.add_made(seat, Adding::of(alloc, entry, *now), *by, again)
             }
             Act::Again(entry, now, by) => {
-                self.add_entry(rt, alloc, seat, (entry, *now, *by, true))
+                self.add_made(seat, Adding::of(alloc, entry, *now), *by, true)
             }
-            Act::Fill(count) => self.fill(rt, alloc, seat, *count),
-            Act::Often(key, count) => self.add_often(rt, alloc, seat, (key, *count)),
-            Act::Gate => Told::Long(self.gate.told()),
-            Act::Copy(start, end) => copy_again(alloc, start, end),
-            Act::Leave => self.leave(),
-            Act::Meet => self.meet_two(rt),
-            Act::AtOnce(scene) => self.meet(rt, alloc, scene),
-            Act::Refuse(adds) => self.refuse(rt, alloc, adds),
-            Act::Close => self.close(rt, alloc),
-            Act::CloseLate => self.close_late(rt, alloc),
-            Act::CloseAny => any(self.close(rt, alloc)),
-            _ => self.take_one(rt, alloc, seat, act),
+            Act::Fill(count) => {
+                self.add_made(seat, Adding::numbers(alloc, *count), By::Plain, false)
+            }
+            Act::Often(key, count) => self.add_often(seat, key, *count),
+            Act::Gated => Ok(Reply::Number(self.gate.told())),
+            Act::Copy(span) => {
+                let span = span_of(alloc, span).ok_or(Reply::NoMemory)?;
+                let is_copied = span.try_copy().is_ok() || span.try_copy().is_ok();
+                if is_copied {
+                    Ok(Reply::Done)
+                } else {
+                    Err(Reply::RefusedAgain)
+                }
+            }
+            Act::Leave => {
+                drop(self.guests.pop());
+                Ok(Reply::Done)
+            }
+            Act::Meet => self.meet_two(),
+            Act::Beside => {
+                self.alone = Some(plain(alloc).ok_or(Reply::NoMemory)?);
+                Ok(Reply::Done)
+            }
+            Act::While(looks, span) => {
+                self.meanwhile.asked = (*looks, span);
+                self.meanwhile.reply = *wanted;
+                Ok(*wanted)
+            }
+            Act::LowMeanwhile => {
+                self.meanwhile.floor = *wanted;
+                Ok(*wanted)
+            }
+            Act::AtOnce(scene) => self.play_at_once(scene),
+            Act::Close => self.close(),
+            Act::CloseLate => self.close_late(),
+            Act::CloseAny => match self.close()? {
+                Reply::Number(_) => Ok(Reply::Done),
+                reply => Ok(reply),
+            },
+            _ => self.take_one(seat, act),
         }
     }
 
-    /// All steps, each with what is told of it, but for want of memory or of a thread.
-    fn take_all<R: Threads + Wait + Abort + Sync>(
-        &mut self,
-        rt: &R,
-        alloc: Global,
-        steps: &[Step],
-    ) -> Option<Why> {
-        for (number, (seat, act, wanted)) in steps.iter().enumerate() {
-            match self.take(rt, alloc, *seat, act) {
-                Told::Not(why @ (Why::NoMemory | Why::NoThread)) => return Some(why),
-                told => assert_eq!(rt; told, *wanted, "step {number}"),
+    /// The steps behind the one at `opening`, up to the next scene. The answer is what ends them
+    /// early, as want of memory or of a thread.
+    fn take_all(&mut self, steps: &[Step], opening: usize) -> Taken {
+        for (number, step) in steps.iter().enumerate().skip(opening.saturating_add(1)) {
+            if opening_of(step).is_some() {
+                break;
+            }
+            match self.take(step) {
+                Ok(reply) | Err(reply) if matches!(reply, Reply::NoMemory | Reply::NoThread) => {
+                    return Err(reply);
+                }
+                reply => assert_eq!(self.rt; reply, Ok(step.2), "step {number}"),
             }
         }
-        None
+        Ok(Reply::Done)
     }
 }
 
-/// Whether an Add is kept, and brings no new page.
-fn is_in_place(told: Told) -> bool {
-    matches!(told, Told::Place(_, (true, false, 0), _))
+/// What a closed cache answers, to which so many Adds were made, and to which the other one is
+/// alike, if there is one.
+pub fn closed_with(closed: &Closed, counted: u64, alone: Option<&Cache>) -> Taken {
+    match alone {
+        Some(alone) if !are_alike(&closed.cache, alone) => Err(Reply::Changed),
+        _ if closed.adds != counted => Err(Reply::Changed),
+        _ => Ok(Reply::Number(counted)),
+    }
 }
 
-/// How a cache ends that these seats close. `None` where that is refused memory.
-fn close<C: Of, R: Wait>(
-    rt: &R,
+/// The pages, the seats and the limit of a scene that begins here, and whether it is opened again.
+fn opening_of(step: &Step) -> Option<(Pages, u32, u64, bool)> {
+    match &step.1 {
+        Act::Open(pages, seats, limit) => Some((*pages, *seats, *limit, false)),
+        Act::OpenAgain(pages, seats, limit) => Some((*pages, *seats, *limit, true)),
+        _ => None,
+    }
+}
+
+/// A table, and how its scenes are played.
+#[derive(Drop)]
+struct Table<'a, R> {
+    rt: &'a R,
     alloc: Global,
-    home: TestCache<C>,
-    guests: Vec<TestSeat<C>>,
-) -> Option<Ended<C>> {
-    let room = Vec::with_capacity(alloc, guests.len()).ok()?;
-    home.close(rt, alloc, room, guests).ok()
+    steps: &'a [Step],
+    way: Way,
 }
 
-/// What is told of a closed cache, to which so many Adds were made, and which answers as the other
-/// one, if there is one.
-fn closed_with(closed: &Closed, counted: u64, alone: Option<&Cache>) -> Told {
-    let is_alike = match alone {
-        Some(alone) => are_alike(&closed.cache, alone),
-        None => true,
+/// Takes the steps behind an opening with the cache that was opened.
+fn enter<C: Of + Send + Sync, R: Threads + Wait + Abort + Sync>(
+    table: &Table<'_, R>,
+    cache: SharedCache,
+    seats: Vec<Seat>,
+    opening: usize,
+    limit: u64,
+) -> Taken
+    requires cache { cache ≡ C.cache }
+    requires seats { All (λ seat. seat.cache ≡ C.cache) seats.items }
+{
+    let (rt, alloc) = (table.rt, table.alloc);
+    let (home, guests) = together::<C>(alloc, cache, seats)
+        .ok()
+        .ok_or(Reply::NoMemory)?;
+    if table.way == Way::ForGood {
+        return refuse(rt, alloc, home, guests, table.steps);
+    }
+    let mut stage = Stage {
+        rt,
+        alloc,
+        limit,
+        tries_again: table.way == Way::Twice,
+        home: Some(home),
+        guests,
+        letters: VecDeque::new(alloc),
+        gate: Watch::new(0),
+        meanwhile: Meanwhile {
+            asked: (0, ""),
+            reply: Reply::Gone,
+            floor: Reply::Gone,
+        },
+        alone: None,
     };
-    if is_alike && closed.adds == counted {
-        Told::Long(counted)
-    } else {
-        Told::Not(Why::Changed)
-    }
-}
-
-/// What is told of any number.
-fn any(told: Told) -> Told {
-    match told {
-        Told::Long(_) => Told::Not(Why::Done),
-        told => told,
-    }
+    stage.take_all(table.steps, opening)
 }
 
 /// Not all looked while an Add was held up, as where a seat has no thread of its own.
 #[derive(Debug, Drop)]
 struct NoThread;
 
-fn enter<C: Of + Send + Sync, R: Threads + Wait + Abort + Sync>(
-    rt: &R,
-    alloc: Global,
-    row: &Row,
-    tries_again: bool,
-    cache: SharedCache,
-    seats: Vec<Seat>,
-) -> Option<Why>
-    requires cache { cache ≡ C.cache }
-    requires seats { All (λ seat. seat.cache ≡ C.cache) seats.items }
-{
-    let Ok((home, guests)) = together::<C>(alloc, cache, seats) else {
-        return Some(Why::NoMemory);
-    };
-    let mut stage = Stage {
-        home: Some(home),
-        guests,
-        letters: VecDeque::new(alloc),
-        gate: Watch::new(0),
-        tries_again,
-        alone: None,
-    };
-    stage.take_all(rt, alloc, row.steps)
-}
-
-/// How a test ends, which is told that it was done.
-pub fn end<R: Abort>(rt: &R, told: Told) -> Result<(), Fail> {
-    if told == Told::Not(Why::NoMemory) {
-        return Err(NoMemory.into());
-    }
-    assert_eq!(rt; told, Told::Not(Why::Done));
-    Ok(())
-}
-
-/// Opens a cache, and takes the steps of a row; and where so said, tries each Add once more that is
-/// refused memory, and the opening.
-fn play_so<R: Threads + Wait + Abort + Sync>(
-    rt: &R,
-    alloc: Global,
-    row: &Row,
-    tries_again: bool,
+/// Opens a cache as the step at `opening` says, if it does, and takes the steps of that scene.
+fn play_scene<R: Threads + Wait + Abort + Sync>(
+    table: &Table<'_, R>,
+    opening: usize,
 ) -> Result<(), Fail> {
-    let config = config_of(row.pages)?;
-    let opens_again = row.opens_again || tries_again;
-    let (cache, seats) = open(alloc, config, row.seats, row.limit, opens_again)?;
-    match enter::<Brand, R>(rt, alloc, row, tries_again, cache, seats) {
-        None => Ok(()),
-        Some(Why::NoThread) => Err(NoThread.into()),
-        Some(_) => Err(NoMemory.into()),
+    let Some(step) = table.steps.get(opening) else {
+        return Ok(());
+    };
+    let Some((pages, seats, limit, again)) = opening_of(step) else {
+        return Ok(());
+    };
+    let config = config_of(pages)?;
+    let again = again || table.way == Way::Twice;
+    let (cache, seats) = open(table.alloc, config, seats, limit, again)?;
+    match enter::<Brand, R>(table, cache, seats, opening, limit) {
+        Err(Reply::NoMemory) => Err(NoMemory.into()),
+        Err(Reply::NoThread) => Err(NoThread.into()),
+        reply => {
+            assert_eq!(table.rt; reply, Ok(Reply::Done));
+            Ok(())
+        }
     }
 }
 
-/// Opens a cache, and takes the steps of a row.
+/// Plays all scenes of a table.
 pub fn play<R: Threads + Wait + Abort + Sync>(
     rt: &R,
     alloc: Global,
-    row: &Row,
+    steps: &[Step],
+    way: Way,
 ) -> Result<(), Fail> {
-    play_so(rt, alloc, row, false)
-}
-
-/// The same of each of these rows.
-pub fn play_all<R: Threads + Wait + Abort + Sync>(
-    rt: &R,
-    alloc: Global,
-    rows: &[Row],
-) -> Result<(), Fail> {
-    for row in rows {
-        play(rt, alloc, row)?;
-    }
-    Ok(())
-}
-
-/// The same, and once more where what is refused memory is tried again.
-pub fn play_each<R: Threads + Wait + Abort + Sync>(
-    rt: &R,
-    alloc: Global,
-    rows: &[Row],
-) -> Result<(), Fail> {
-    play_all(rt, alloc, rows)?;
-    for row in rows {
-        play_so(rt, alloc, row, true)?;
+    let table = Table {
+        rt,
+        alloc,
+        steps,
+        way,
+    };
+    assert!(rt;
+        matches!(steps, [first, ..] if opening_of(first).is_some()),
+        "no cache is opened"
+    );
+    for opening in 0..steps.len() {
+        play_scene(&table, opening)?;
     }
     Ok(())
 }

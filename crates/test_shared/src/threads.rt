@@ -1,10 +1,8 @@
 //! Seats on threads of their own, each of which takes turns until its part is done.
 use super::fronts::Channel;
-use super::harness::{By, Of, TestCache, TestSeat, Told, Why};
-use super::held::Plan;
+use super::harness::{By, Of, Reply, TestCache, TestSeat};
 use super::marks::Adding;
-use super::stress;
-use super::stress::What;
+use super::stress::{Keys, Plan};
 use super::watch::{TURNS, Watch};
 use std::alloc::Global;
 use std::process::Abort;
@@ -16,12 +14,12 @@ use tsc_cache::Cache;
 
 /// What seats on threads play.
 pub enum Scene {
-    /// An Add that is held up until others have looked.
-    Held(Plan),
-    /// Adds up to a limit, and lookups.
-    Crowd(stress::Plan),
+    /// An Add, its moment and its reply, that is held up until others have looked.
+    Held(&'static str, u64, Reply),
+    /// Adds up to the limit, and lookups.
+    Crowd(Plan),
     /// Adds of which each is made again where it is refused memory.
-    Again(stress::Plan),
+    Retried(Plan),
     /// Lookups that begin after Adds have returned.
     Returned,
     /// Fronts that go from each seat to the next.
@@ -29,15 +27,25 @@ pub enum Scene {
     /// Batches of two keys, and lookups of both.
     Both,
     /// Adds that are given up, beside others and lookups.
-    Tries,
+    Tried,
     /// Adds of which one is held up, and another one is made for its seat.
     Stopped,
+}
+
+/// What seats look up while an Add is held up: how often, and what they are answered.
+#[derive(Clone, Copy)]
+pub struct Meanwhile {
+    pub asked: (u32, &'static str),
+    pub reply: Reply,
+    pub floor: Reply,
 }
 
 /// A scene under way. All that many turns need is there before a thread starts.
 #[derive(Drop)]
 pub struct Meeting<'a, C: Of> {
     pub scene: &'a Scene,
+    pub meanwhile: Meanwhile,
+    pub seats: u64,
     /// What is added, if that is the same each time.
     pub adding: Adding,
     pub gate: Watch,
@@ -53,14 +61,14 @@ impl Scene {
     /// Whether the keys and times are so many that the pages may rotate.
     fn has_many(&self) -> bool {
         match self {
-            Scene::Ring => true,
-            Scene::Crowd(plan) | Scene::Again(plan) => !matches!(plan.what, What::One),
+            Scene::Ring | Scene::Held(_, _, _) => true,
+            Scene::Crowd(plan) | Scene::Retried(plan) => !matches!(plan.3, Keys::Same),
             _ => false,
         }
     }
 }
 
-/// `count` counts of 0.
+/// `count` counts of 0. `None` of all that follow is want of memory.
 fn zeros(alloc: Global, count: u64) -> Option<Vec<AtomicU64>> {
     let mut zeros = Vec::new(alloc);
     for _ in 0..count {
@@ -69,116 +77,111 @@ fn zeros(alloc: Global, count: u64) -> Option<Vec<AtomicU64>> {
     Some(zeros)
 }
 
-/// What is added in this scene. `None` where memory is refused.
-fn adding_of(alloc: Global, scene: &Scene) -> Option<Adding> {
-    match scene {
-        Scene::Held(plan) => Adding::of(alloc, &plan.held, plan.now),
-        _ => Adding::one(alloc, "a", 20, 20),
-    }
-}
-
 impl<C: Of> Meeting<'_, C> {
-    /// `None` where memory is refused.
-    fn of(alloc: Global, scene: &Scene, seats: u64) -> Option<Meeting<'_, C>> {
+    pub fn of(
+        alloc: Global,
+        scene: &Scene,
+        seats: u64,
+        limit: u64,
+        meanwhile: Meanwhile,
+    ) -> Option<Meeting<'_, C>> {
         let (lookers, places, channels) = match scene {
-            Scene::Held(_) | Scene::Stopped => (seats.saturating_sub(1), 0, 0),
-            Scene::Crowd(plan) | Scene::Again(plan) => (0, plan.limit, 0),
+            Scene::Held(_, _, _) | Scene::Stopped => (seats.saturating_sub(1), 0, 0),
+            Scene::Crowd(_) | Scene::Retried(_) => (0, limit, 0),
             Scene::Ring => (0, 0, seats),
             _ => (0, 0, 0),
         };
-        let adding = adding_of(alloc, scene)?;
-        let places = zeros(alloc, places)?;
-        let channels = Channel::all(alloc, channels)?;
+        let adding = match scene {
+            Scene::Held(entry, now, _) => Adding::of(alloc, entry, *now)?,
+            _ => Adding::one(alloc, "a", 20, 20)?,
+        };
         Some(Meeting {
             scene,
+            meanwhile,
+            seats,
             adding,
             gate: Watch::new(lookers),
-            places,
+            places: zeros(alloc, places)?,
             adds: AtomicU64::new(0),
-            channels,
+            channels: Channel::all(alloc, channels)?,
         })
     }
 
     /// How many Adds the gate was told of, or that not all looked while the Add was held up, as
     /// where a seat has no thread of its own; and after a stress a cache that isn't shared, to
     /// which its Adds were made.
-    fn end(&self, alloc: Global) -> (Told, Option<Cache>) {
-        let told = Told::Long(self.gate.told());
+    pub fn end(&self, alloc: Global) -> (Reply, Option<Cache>) {
+        let reply = Reply::Number(self.gate.told());
         match self.scene {
-            Scene::Held(_) | Scene::Stopped if !self.gate.has_met() => {
-                (Told::Not(Why::NoThread), None)
+            Scene::Held(_, _, _) | Scene::Stopped if !self.gate.met.load(Ordering::SeqCst) => {
+                (Reply::NoThread, None)
             }
-            _ if self.has_gap() => (Told::Not(Why::Changed), None),
-            Scene::Crowd(plan) | Scene::Again(plan) => match self.alone(alloc, plan) {
-                Some(alone) => (told, Some(alone)),
-                None => (Told::Not(Why::NoMemory), None),
+            _ if self.has_gap() => (Reply::Changed, None),
+            Scene::Crowd(plan) | Scene::Retried(plan) => match self.alone(alloc, plan) {
+                Some(alone) => (reply, Some(alone)),
+                None => (Reply::NoMemory, None),
             },
-            _ => (told, None),
+            _ => (reply, None),
         }
-    }
-
-    /// A turn of a seat, and whether there are more to come.
-    fn turn<R: Wait + Abort>(
-        &self,
-        rt: &R,
-        alloc: Global,
-        home: &TestCache<C>,
-        guest: &mut TestSeat<C>,
-        round: u32,
-    ) -> bool {
-        match self.scene {
-            Scene::Held(plan) => self.hold(rt, home, guest, plan, round),
-            Scene::Crowd(plan) => self.stress(rt, alloc, home, guest, plan, round),
-            Scene::Again(plan) => self.make_again(rt, alloc, home, guest, plan, round),
-            Scene::Returned => self.follow(rt, alloc, home, guest, round),
-            Scene::Ring => self.send_on(rt, alloc, home, guest, round),
-            Scene::Both => self.both(rt, alloc, home, guest, round),
-            Scene::Tries => self.try_beside(rt, home, guest, round),
-            Scene::Stopped => self.stop(rt, alloc, home, guest, round),
-        }
-    }
-
-    /// What an Add tells: the last one that its seat has seen, and kept on the page that there is
-    /// but where the keys are many; or one that was refused, and left the seat's count.
-    pub fn add<R: Wait + Abort>(
-        &self,
-        rt: &R,
-        home: &TestCache<C>,
-        guest: &mut TestSeat<C>,
-        adding: &Adding,
-        by: By,
-    ) -> Told {
-        let (count, before) = (guest.count(), guest.seen());
-        let told = home.add(rt, guest, adding, by, &self.gate);
-        let more = guest.count().wrapping_sub(count);
-        let leaves = leaves(told, self.scene.has_many(), more, before, guest.seen());
-        check(rt, leaves, told);
-        told
     }
 }
 
-/// Whether an Add that is told this may leave a seat so that counts so many more, and had seen so
-/// many before and now. Its place comes behind all that were seen. Where the keys are many it may
-/// be kept or not, and the pages may rotate.
-fn leaves(told: Told, are_many: bool, more: u64, before: u64, seen: u64) -> bool {
-    match told {
-        Told::Place(place, (kept, rotated, evicted), front) => {
-            let is_kept = kept && !rotated && evicted == 0;
-            (is_kept || are_many)
-                && (more, seen) == (1, front)
-                && front.wrapping_sub(1) == place
-                && before <= place
-        }
-        Told::Full(front) => more == 0 && front == seen,
-        Told::Not(Why::Busy) => more == 0 && seen == before,
-        Told::Not(Why::Inside | Why::NoMemory) => more == 0 && seen >= before,
-        _ => false,
-    }
+/// A seat on its thread, with what its turns need.
+#[derive(Drop)]
+pub struct Player<'a, C: Of, R> {
+    pub rt: &'a R,
+    pub alloc: Global,
+    pub home: &'a TestCache<C>,
+    pub meeting: &'a Meeting<'a, C>,
+    pub guest: TestSeat<C>,
 }
 
-/// Ends the run where something is told that may not be.
-pub fn check<R: Abort>(rt: &R, is_right: bool, told: Told) {
-    assert!(rt; is_right, "{told:?}");
+impl<C: Of, R: Wait + Abort> Player<'_, C, R> {
+    /// A turn, and whether there are more to come.
+    fn turn(&mut self, round: u32) -> bool {
+        let meeting = self.meeting;
+        match meeting.scene {
+            Scene::Held(_, _, wanted) => self.hold(*wanted, round),
+            Scene::Crowd(plan) => self.add_seen(plan, round),
+            Scene::Retried(plan) => self.add_again(plan, round),
+            Scene::Returned => self.follow(round),
+            Scene::Ring => self.send_on(round),
+            Scene::Both => self.add_both(round),
+            Scene::Tried => self.try_beside(round),
+            Scene::Stopped => self.stop(round),
+        }
+    }
+
+    /// An Add that is kept on the page that there is but where the keys are many; or one that was
+    /// refused.
+    pub fn add(&mut self, adding: &Adding, by: By) -> Reply {
+        let (guest, gate) = (&mut self.guest, &self.meeting.gate);
+        let reply = self.home.add(self.rt, guest, adding, by, gate);
+        let may_be = match reply {
+            Reply::Place(_, (true, false, 0)) => true,
+            Reply::Place(_, _) => self.meeting.scene.has_many(),
+            Reply::Full(_) | Reply::Busy | Reply::Inside | Reply::NoMemory => true,
+            _ => false,
+        };
+        self.check(may_be, reply);
+        reply
+    }
+
+    /// An Add of a key at a time, which is its moment too.
+    pub fn add_key(&mut self, key: &'static str, wall: u64, by: By) -> Reply {
+        match Adding::one(self.alloc, key, wall, wall) {
+            Some(adding) => self.add(&adding, by),
+            None => Reply::NoMemory,
+        }
+    }
+
+    pub fn get(&mut self, key: &str) -> Reply {
+        self.home.get_key(&mut self.guest, key.as_bytes())
+    }
+
+    pub fn check(&self, is_right: bool, reply: Reply) {
+        assert!(self.rt; is_right, "{reply:?}");
+    }
 }
 
 /// All turns of a seat. A thread that gave up would leave others waiting for it.
@@ -186,22 +189,29 @@ fn run<C: Of, R: Wait + Abort>(
     rt: &R,
     alloc: Global,
     home: &TestCache<C>,
-    mut guest: TestSeat<C>,
+    guest: TestSeat<C>,
     meeting: &Meeting<'_, C>,
 ) -> TestSeat<C> {
+    let mut player = Player {
+        rt,
+        alloc,
+        home,
+        meeting,
+        guest,
+    };
     let mut has_more = true;
     for round in 0..=TURNS {
-        has_more = meeting.turn(rt, alloc, home, &mut guest, round);
+        has_more = player.turn(round);
         if !has_more {
             break;
         }
     }
-    check(rt, !has_more, Told::Not(Why::Open));
-    guest
+    player.check(!has_more, Reply::StillOpen);
+    player.guest
 }
 
 /// All turns of all seats, each on a thread of its own. `None` where memory is refused.
-fn run_all<C: Of + Send + Sync, R: Threads + Wait + Abort + Sync>(
+pub fn meet<C: Of + Send + Sync, R: Threads + Wait + Abort + Sync>(
     rt: &R,
     alloc: Global,
     home: &TestCache<C>,
@@ -214,29 +224,4 @@ fn run_all<C: Of + Send + Sync, R: Threads + Wait + Abort + Sync>(
         &|guest: TestSeat<C>| run(rt, alloc, home, guest, meeting),
     )
     .ok()
-}
-
-/// The same, and what is told of their end.
-fn run_to_end<C: Of + Send + Sync, R: Threads + Wait + Abort + Sync>(
-    rt: &R,
-    alloc: Global,
-    home: &TestCache<C>,
-    guests: Vec<TestSeat<C>>,
-    meeting: &Meeting<'_, C>,
-) -> Option<(Vec<TestSeat<C>>, Told, Option<Cache>)> {
-    let guests = run_all(rt, alloc, home, guests, meeting)?;
-    let (told, alone) = meeting.end(alloc);
-    Some((guests, told, alone))
-}
-
-/// All seats at the same time, and what is told of their end. `None` where memory is refused.
-pub fn meet<C: Of + Send + Sync, R: Threads + Wait + Abort + Sync>(
-    rt: &R,
-    alloc: Global,
-    home: &TestCache<C>,
-    guests: Vec<TestSeat<C>>,
-    scene: &Scene,
-) -> Option<(Vec<TestSeat<C>>, Told, Option<Cache>)> {
-    let meeting = Meeting::of(alloc, scene, guests.len() as u64)?;
-    run_to_end(rt, alloc, home, guests, &meeting)
 }

@@ -13,11 +13,11 @@ pub struct Watch {
     /// How many seats are to look.
     lookers: u64,
     /// How many have looked.
-    looked: AtomicU64,
+    pub looked: AtomicU64,
     /// Whether an Add saw that all had.
-    met: AtomicBool,
+    pub met: AtomicBool,
     /// Whether a seat gave up, since the Add had no thread of its own.
-    alone: AtomicBool,
+    pub alone: AtomicBool,
 }
 
 impl Watch {
@@ -34,21 +34,6 @@ impl Watch {
     /// How many Adds it was told of.
     pub fn told(&self) -> u64 {
         self.told.load(Ordering::SeqCst)
-    }
-
-    /// Whether an Add saw that all had looked.
-    pub fn has_met(&self) -> bool {
-        self.met.load(Ordering::SeqCst)
-    }
-
-    /// A seat has looked.
-    pub fn look(&self) {
-        self.looked.fetch_add(1, Ordering::SeqCst);
-    }
-
-    /// A seat gives up.
-    pub fn give_up(&self) {
-        self.alone.store(true, Ordering::SeqCst);
     }
 
     /// Waits until all have looked, or one has given up, and tells whether all had before the

@@ -5,8 +5,11 @@
 //! more.
 #![tactic(auto)]
 
+#[cfg(test)]
 mod commands;
 #[cfg(test)]
-mod rows;
 mod run;
+#[cfg(test)]
+mod support;
+#[cfg(test)]
 mod trace;

@@ -74,12 +74,12 @@ const KNOWN_ON_LARGE: Row = (
     ],
 );
 
-const KNOWN_KEY_ON_LARGE: Row = (
-    "a known key on a large page, in place, and ranges that are not kept",
+const KNOWN_AND_NOT_KEPT: Row = (
+    "known keys on a large page, in place, and what is not kept",
     &[
         (Read, b"#\x14\x00", AT_20, NOBODY),
-        (Known, b"\x00\x00\x02\x01", AT_30, NOBODY),
-        (Look, b"\x00\x00\x02\x01", AT_30, NOBODY),
+        (Known, OF_LARGE, AT_30, NOBODY),
+        (Look, OF_LARGE, AT_30, NOBODY),
         (Known, OF_LARGE, FLOOR, NOBODY),
         (Stand(1, 0, FLOOR), NONE, FLOOR, NOBODY),
     ],
@@ -91,6 +91,19 @@ const NEW_ON_LARGE: Row = (
         (Begin, b"#\x14\x00", AT_20, NOBODY),
         (Add(AT_20, KEPT), b"\x00\x00\x02\x01\x05", AT_30, NOBODY),
         (Look, b"\x00\x00\x02\x01\x05", AT_30, NOBODY),
+        (Stand(1, 0, FLOOR), NONE, FLOOR, NOBODY),
+    ],
+);
+
+/// A range with two new keys in one leaf.
+const NEW_RANGE: Text = b"[\x00\x00\x02\x01\x05,\x00\x00\x02\x02\x05)";
+
+const NEW_RANGE_ON_LARGE: Row = (
+    "a range with two new keys on a large page, in place",
+    &[
+        (Begin, b"#\x14\x00", AT_20, NOBODY),
+        (Add(AT_20, KEPT), NEW_RANGE, AT_30, NOBODY),
+        (Look, NEW_RANGE, AT_30, NOBODY),
         (Stand(1, 0, FLOOR), NONE, FLOOR, NOBODY),
     ],
 );
@@ -173,9 +186,13 @@ static NEW_OF_MANY: [Table; 1] = [(LARGE, &[Call::Add], NONE, &[NEW_ON_LARGE])];
 
 static NEW_BY_BYTES: [Table; 1] = [(LARGE, &[Call::AddKey], NONE, &[NEW_ON_LARGE])];
 
-static BETWEEN_OF_MANY: [Table; 1] = [(LARGE, &[Call::AddBetween], NONE, &[KNOWN_KEY_ON_LARGE])];
+static BETWEEN_OF_MANY: [Table; 1] = [(LARGE, &[Call::AddBetween], NONE, &[KNOWN_AND_NOT_KEPT])];
 
 static NEW_BETWEEN: [Table; 1] = [(LARGE, &[Call::AddBetween], NONE, &[NEW_ON_LARGE])];
+
+static NEW_RANGE_OF_MANY: [Table; 1] = [(LARGE, &[Call::Add], NONE, &[NEW_RANGE_ON_LARGE])];
+
+static NEW_RANGE_BETWEEN: [Table; 1] = [(LARGE, &[Call::AddBetween], NONE, &[NEW_RANGE_ON_LARGE])];
 
 static NEXT_OF_MANY: [Table; 1] = [(LARGE, &[Call::Next], NONE, &[NEXT_ON_LARGE])];
 
@@ -226,13 +243,23 @@ fn a_new_key_by_bytes(rt: HostRuntime) -> Result<(), Fail> {
 }
 
 #[test]
-fn a_known_key_between(rt: HostRuntime) -> Result<(), Fail> {
+fn known_keys_between(rt: HostRuntime) -> Result<(), Fail> {
     play(&rt, rt.alloc(), &BETWEEN_OF_MANY)
 }
 
 #[test]
 fn a_new_key_between(rt: HostRuntime) -> Result<(), Fail> {
     play(&rt, rt.alloc(), &NEW_BETWEEN)
+}
+
+#[test]
+fn a_new_range_of_a_large_page(rt: HostRuntime) -> Result<(), Fail> {
+    play(&rt, rt.alloc(), &NEW_RANGE_OF_MANY)
+}
+
+#[test]
+fn a_new_range_between(rt: HostRuntime) -> Result<(), Fail> {
+    play(&rt, rt.alloc(), &NEW_RANGE_BETWEEN)
 }
 
 #[test]

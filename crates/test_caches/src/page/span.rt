@@ -4,22 +4,23 @@ use std::test::Fail;
 use tsc_span::{Ends, Key, LONGEST_KEY, Span, SpanFault};
 use tsc_time::NoMemory;
 
-const NONE: Ends = Ends {
+/// Both ends belong to the span.
+pub(crate) const NONE: Ends = Ends {
     exclude_from: false,
     exclude_to: false,
 };
 
-const FROM: Ends = Ends {
+pub(crate) const FROM: Ends = Ends {
     exclude_from: true,
     exclude_to: false,
 };
 
-const TO: Ends = Ends {
+pub(crate) const TO: Ends = Ends {
     exclude_from: false,
     exclude_to: true,
 };
 
-const BOTH: Ends = Ends {
+pub(crate) const BOTH: Ends = Ends {
     exclude_from: true,
     exclude_to: true,
 };

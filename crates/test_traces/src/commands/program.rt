@@ -1,43 +1,33 @@
 //! The program over words and files in memory, and over the system's files.
-ghost use Rattle.tsc_commands.specs.Place.{says_nothing};
+ghost use Rattle.tsc_commands.specs.FileSystem.{says_nothing};
 
-use crate::commands::memory::{CALM, READ_FAILED, new_writer, written};
 use crate::commands::traces::{NO_JSON, TWO_READERS, TWO_READERS_LOG};
-use std::alloc::Global;
+use crate::support::streams::{CALM, new_writer, written};
+use crate::support::*;
 use std::env::{Env, FillError};
-use std::process::{Abort, ExitCode};
-use std::sync::Wait;
-use std::thread::Threads;
+use std::process::ExitCode;
 use tsc_commands::program::program;
 use tsc_commands::{
-    Errors, NoMeter, OpenFault, Output, Place, SystemFiles, WordsFault, fetch_words,
+    Errors, FileSystem, NoMeter, OpenFault, Output, Streams, SystemFiles, WordsFault, fetch_words,
 };
 use tsc_stream::Limited;
 use tsc_stream::fault_injection::FaultPlan;
 
-const USAGE: &str = "usage: tscache replay FILE, run FILE or check FILE LOG\n";
-
-const OUT_OF_MEMORY: &str = "out of memory\n";
-
-const RIGHT: &str = "right\n";
-
-const NO_LOG: &str = "log refused: fault 1 at line 1\n";
-
 /// A name, and the file or why it is not opened.
-type Held = (&'static str, Result<&'static str, OpenFault>);
+type Named = (&'static str, Result<&'static str, OpenFault>);
 
 /// Files in memory.
 #[derive(Drop)]
-struct Shelf(&'static [Held]);
+struct MemoryFiles(&'static [Named]);
 
-impl Place for Shelf {
+impl FileSystem for MemoryFiles {
     type File = Limited<&'static [u8]>;
 
     ghost opens = { says_nothing };
 
     fn open(&self, name: &str) -> Result<Limited<&'static [u8]>, OpenFault> {
-        for (held, file) in self.0 {
-            if *held == name {
+        for (known, file) in self.0 {
+            if *known == name {
                 let text = (*file)?;
                 return Ok(Limited::new(text.as_bytes()));
             }
@@ -47,7 +37,7 @@ impl Place for Shelf {
 }
 
 /// Files, also with names that are a word of another kind elsewhere: blanks, a hyphen, and nothing.
-static FILES: [Held; 9] = [
+static FILES: [Named; 9] = [
     (" a b .json", Ok(TWO_READERS)),
     ("-", Ok(TWO_READERS)),
     ("", Ok(TWO_READERS)),
@@ -69,12 +59,12 @@ fn word_of(words: &'static str, i: usize) -> Option<&'static str> {
 
 /// A call with these words, which may be garbled: their first bytes are no text then.
 #[derive(Drop)]
-struct Called {
+struct MemoryWords {
     words: &'static str,
     is_garbled: bool,
 }
 
-impl Env for Called {
+impl Env for MemoryWords {
     fn arg(&self, i: usize, buf: &mut [u8]) -> Result<usize, FillError> {
         let Some(word) = word_of(self.words, i) else {
             return Err(FillError::NotPresent);
@@ -99,119 +89,95 @@ impl Env for Called {
     }
 }
 
-/// How a call ends.
-enum End {
-    Log,
-    Right,
-    Wrong,
-    NoJson,
-    NoLog,
-    Usage,
-    Unread,
-    TooLong,
-    NoMemory,
-}
-
-/// The exit status, what is written, and what is told.
-fn told_by(end: &End) -> (u8, &'static str, &'static str) {
+/// The exit status, what is written, and what is told, where a call ends so.
+fn told_by(end: &str) -> (u8, &'static str, &'static str) {
     match end {
-        End::Log => (0, TWO_READERS_LOG, ""),
-        End::Right => (0, RIGHT, ""),
-        End::Wrong => (3, "wrong call 2\n", ""),
-        End::NoJson => (1, "", NO_JSON),
-        End::NoLog => (1, "", NO_LOG),
-        End::Usage => (2, "", USAGE),
-        End::Unread => (4, "", READ_FAILED),
-        End::TooLong => (4, "", "input too long\n"),
-        End::NoMemory => (5, "", OUT_OF_MEMORY),
+        "log" => (0, TWO_READERS_LOG, ""),
+        "right" => (0, "right\n", ""),
+        "wrong" => (3, "wrong call 2\n", ""),
+        "no json" => (1, "", NO_JSON),
+        "no log" => (1, "", "log refused: fault 1 at line 1\n"),
+        "usage" => (
+            2,
+            "",
+            "usage: tscache replay FILE, run FILE or check FILE LOG\n",
+        ),
+        "unread" => (4, "", "read failed\n"),
+        "too long" => (4, "", "input too long\n"),
+        "no memory" => (5, "", "out of memory\n"),
+        _ => (u8::MAX, "", ""),
     }
 }
 
-/// Words, and how a call with them ends.
-type Row = (&'static str, End);
-
-static ROWS: [Row; 45] = [
-    ("tscache|replay| a b .json", End::Log),
-    ("tscache|run| a b .json", End::Log),
-    ("tscache|check| a b .json|two_readers.log", End::Right),
-    ("tscache|replay|a b .json", End::Unread),
-    ("tscache|replay|-", End::Log),
-    ("tscache|replay|--|-", End::Log),
-    ("tscache|run|-", End::Log),
-    ("tscache|check|-|two_readers.log", End::Right),
-    ("tscache|check|two_readers.json|-", End::NoLog),
-    ("tscache|replay|", End::Log),
-    ("tscache|run|", End::Log),
-    ("tscache|check||two_readers.log", End::Right),
-    (
-        "tscache|replay|-|-|-|-|-|-|-|-|-|-|-|-|-|-|-|-|-|-|-|-|-|-|-|-|-|-|-|-|-|-|-|-|-|-|-|-|-|-|-|-|-|-|-|-|-|-|-",
-        End::Usage,
-    ),
-    ("tscache|replay|two_readers.json", End::Log),
-    ("tscache|replay|notes.txt", End::NoJson),
-    ("tscache|replay|missing.json", End::Unread),
-    ("tscache|replay|locked.json", End::Unread),
-    ("tscache|replay|large.json", End::NoMemory),
-    ("tscache|replay|two_readers.json|notes.txt", End::Usage),
-    ("tscache|run|two_readers.json", End::Log),
-    ("tscache|run|notes.txt", End::NoJson),
-    ("tscache|run|missing.json", End::Unread),
-    ("tscache|run|large.json", End::NoMemory),
-    ("tscache|run|two_readers.json|notes.txt", End::Usage),
-    ("tscache|check|two_readers.json|two_readers.log", End::Right),
-    ("tscache|check|two_readers.json|cut.log", End::Wrong),
-    ("tscache|check|two_readers.json|notes.txt", End::NoLog),
-    (
-        "tscache|check|two_readers.log|two_readers.json",
-        End::NoJson,
-    ),
-    // The trace is opened first, then the log, and only then is the trace read, and the log behind
-    // it.
-    ("tscache|check|missing.json|large.json", End::Unread),
-    ("tscache|check|large.json|missing.log", End::NoMemory),
-    ("tscache|check|missing.json|two_readers.log", End::Unread),
-    ("tscache|check|two_readers.json|missing.log", End::Unread),
-    ("tscache|check|two_readers.json|large.json", End::NoMemory),
-    ("tscache|check|notes.txt|missing.log", End::Unread),
-    ("tscache|check|notes.txt|notes.txt", End::NoJson),
-    ("tscache|check|two_readers.json", End::Usage),
-    (
-        "tscache|check|two_readers.json|two_readers.log|notes.txt",
-        End::Usage,
-    ),
-    ("tscache|check", End::Usage),
-    ("tscache|replay", End::Usage),
-    ("tscache|run", End::Usage),
-    ("tscache|paint|two_readers.json", End::Usage),
-    ("tscache|--help", End::Usage),
-    ("two_readers.json", End::Usage),
-    ("tscache", End::Usage),
-    ("", End::Usage),
-];
+/// How a call ends, and its words.
+static ROWS: &str = "log|tscache|replay| a b .json
+log|tscache|run| a b .json
+right|tscache|check| a b .json|two_readers.log
+unread|tscache|replay|a b .json
+log|tscache|replay|-
+log|tscache|replay|--|-
+log|tscache|run|-
+right|tscache|check|-|two_readers.log
+no log|tscache|check|two_readers.json|-
+log|tscache|replay|
+log|tscache|run|
+right|tscache|check||two_readers.log
+usage|tscache|replay|-|-|-|-|-|-|-|-|-|-|-|-|-|-|-|-|-|-|-|-|-|-|-|-|-|-|-|-|-|-|-|-|-|-|-|-|-|-|-|-|-|-|-|-|-|-|-
+log|tscache|replay|two_readers.json
+no json|tscache|replay|notes.txt
+unread|tscache|replay|missing.json
+unread|tscache|replay|locked.json
+no memory|tscache|replay|large.json
+usage|tscache|replay|two_readers.json|notes.txt
+log|tscache|run|two_readers.json
+no json|tscache|run|notes.txt
+unread|tscache|run|missing.json
+no memory|tscache|run|large.json
+usage|tscache|run|two_readers.json|notes.txt
+right|tscache|check|two_readers.json|two_readers.log
+wrong|tscache|check|two_readers.json|cut.log
+no log|tscache|check|two_readers.json|notes.txt
+no json|tscache|check|two_readers.log|two_readers.json
+# The trace is opened first, then the log, and only then is the trace read, and the log behind it.
+unread|tscache|check|missing.json|large.json
+no memory|tscache|check|large.json|missing.log
+unread|tscache|check|missing.json|two_readers.log
+unread|tscache|check|two_readers.json|missing.log
+no memory|tscache|check|two_readers.json|large.json
+unread|tscache|check|notes.txt|missing.log
+no json|tscache|check|notes.txt|notes.txt
+usage|tscache|check|two_readers.json
+usage|tscache|check|two_readers.json|two_readers.log|notes.txt
+usage|tscache|check
+usage|tscache|replay
+usage|tscache|run
+usage|tscache|paint|two_readers.json
+usage|tscache|--help
+usage|two_readers.json
+usage|tscache
+usage|";
 
 /// Files of the system: none, also where a name is empty, blank or a hyphen, an empty one, one that
 /// cannot be read and one without end.
-static SYSTEM_ROWS: [Row; 16] = [
-    ("tscache|replay|", End::Unread),
-    ("tscache|replay| ", End::Unread),
-    ("tscache|replay|-", End::Unread),
-    ("tscache|run|", End::Unread),
-    ("tscache|run|-", End::Unread),
-    ("tscache|check|-|/dev/null", End::Unread),
-    ("tscache|check|/dev/null|-", End::Unread),
-    ("tscache|replay|/no/such/file", End::Unread),
-    ("tscache|replay|/dev/null", End::NoJson),
-    ("tscache|replay|/", End::Unread),
-    ("tscache|run|/no/such/file", End::Unread),
-    ("tscache|run|/dev/null", End::NoJson),
-    ("tscache|replay|/dev/zero", End::TooLong),
-    ("tscache|check|/no/such/file|/dev/null", End::Unread),
-    ("tscache|check|/dev/null|/no/such/file", End::Unread),
-    ("tscache|check|/dev/null|/dev/zero", End::NoJson),
-];
+static SYSTEM_ROWS: &str = "unread|tscache|replay|
+unread|tscache|replay| ¦
+unread|tscache|replay|-
+unread|tscache|run|
+unread|tscache|run|-
+unread|tscache|check|-|/dev/null
+unread|tscache|check|/dev/null|-
+unread|tscache|replay|/no/such/file
+no json|tscache|replay|/dev/null
+unread|tscache|replay|/
+unread|tscache|run|/no/such/file
+no json|tscache|run|/dev/null
+too long|tscache|replay|/dev/zero
+unread|tscache|check|/no/such/file|/dev/null
+unread|tscache|check|/dev/null|/no/such/file
+no json|tscache|check|/dev/null|/dev/zero";
 
 /// Words that are no text.
-static GARBLED: [Row; 1] = [("tscache|replay|two_readers.json", End::Usage)];
+static GARBLED: &str = "usage|tscache|replay|two_readers.json";
 
 /// The words of a call, as the program gets them.
 pub(crate) fn words_of(
@@ -219,83 +185,65 @@ pub(crate) fn words_of(
     words: &'static str,
     is_garbled: bool,
 ) -> Result<Vec<String>, WordsFault> {
-    fetch_words(&(Called { words, is_garbled }, alloc))
+    fetch_words(&(MemoryWords { words, is_garbled }, alloc))
 }
 
-/// Whether a call of the program comes to this status, and to what is written and told.
-fn comes_to<R: Threads + Wait + Sync, P: Place>(
+/// Whether a call comes to this status, and to what is written and told.
+fn comes_to<R: Threads + Wait + Sync, F: FileSystem>(
     rt: &R,
+    files: &F,
     alloc: Global,
-    place: &P,
     words: Result<Vec<String>, WordsFault>,
     telling: FaultPlan,
     wanted: (u8, &str, &str),
 ) -> bool {
-    let mut output = Output {
-        writer: new_writer(alloc, CALM),
+    let mut streams = Streams {
+        output: Output {
+            writer: new_writer(alloc, CALM),
+        },
+        errors: Errors {
+            writer: new_writer(alloc, (9, telling)),
+        },
     };
-    let mut errors = Errors {
-        writer: new_writer(alloc, (9, telling)),
-    };
-    let code = program(rt, alloc, words, place, &mut output, &mut errors, &NoMeter);
+    let code = program(rt, alloc, words, files, &mut streams, &NoMeter);
+    let Streams { output, errors } = streams;
     code == ExitCode::from(wanted.0)
         && written(output.writer).as_slice() == wanted.1.as_bytes()
         && written(errors.writer).as_slice() == wanted.2.as_bytes()
 }
 
-/// The number of the first row, from 0, with whose words the program comes to something else, also
-/// where no fault can be told.
-fn first_wrong<R: Threads + Wait + Sync, P: Place>(
+/// Calls the program with words, which may end with a `¦`, also where no fault can be told.
+fn calls_program<R: Threads + Wait + Sync, F: FileSystem>(
     rt: &R,
-    alloc: Global,
-    place: &P,
-    rows: &[Row],
+    files: &F,
     is_garbled: bool,
-) -> Option<usize> {
-    for (i, (words, end)) in rows.iter().enumerate() {
-        let (status, log, line) = told_by(end);
-        for (telling, told) in [(FaultPlan::Never, line), (FaultPlan::FailsAt(0), "")] {
-            let fetched = words_of(alloc, words, is_garbled);
-            if !comes_to(rt, alloc, place, fetched, telling, (status, log, told)) {
-                return Some(i);
-            }
+    alloc: Global,
+    row: Row,
+) -> Holds {
+    let (status, log, line) = told_by(row.want);
+    let texts = row.of.split('¦').nth(0).unwrap_or("");
+    for (telling, told) in [(FaultPlan::Never, line), (FaultPlan::FailsAt(0), "")] {
+        let words = words_of(alloc, texts, is_garbled);
+        if !comes_to(rt, files, alloc, words, telling, (status, log, told)) {
+            return Ok(false);
         }
     }
-    None
-}
-
-/// Calls the program with the words of each row.
-fn play<R: Abort + Threads + Wait + Sync, P: Place>(
-    rt: &R,
-    alloc: Global,
-    place: &P,
-    rows: &[Row],
-    is_garbled: bool,
-) {
-    assert_eq!(rt; first_wrong(rt, alloc, place, rows, is_garbled), None);
+    Ok(true)
 }
 
 #[test]
-fn calls_end_as_their_rows_say(rt: HostRuntime) {
-    let shelf = Shelf(&FILES);
-    play(&rt, rt.alloc(), &shelf, &ROWS, false);
-    play(&rt, rt.alloc(), &shelf, &GARBLED, true);
-    play(&rt, rt.alloc(), &SystemFiles::of(&rt), &SYSTEM_ROWS, false);
+fn calls_end_as_their_rows_say(rt: HostRuntime) -> Result<(), Fail> {
+    let (memory, system) = (MemoryFiles(&FILES), SystemFiles::of(&rt));
+    all_hold!(rt, ROWS, calls_program(&rt, &memory, false));
+    all_hold!(rt, GARBLED, calls_program(&rt, &memory, true));
+    all_hold!(rt, SYSTEM_ROWS, calls_program(&rt, &system, false));
+    Ok(())
 }
 
 /// Memory is wanting for the words.
 #[test]
 fn a_call_without_memory_for_its_words(rt: HostRuntime) {
-    let wanted = (5, "", OUT_OF_MEMORY);
-    let refused = Err(WordsFault::NoMemory);
-    assert!(rt;
-        comes_to(
-            &rt,
-            rt.alloc(),
-            &Shelf(&FILES),
-            refused,
-            FaultPlan::Never,
-            wanted
-        )
-    );
+    let (files, refused) = (MemoryFiles(&FILES), Err(WordsFault::NoMemory));
+    let wanted = told_by("no memory");
+    assert!(rt; comes_to(&rt, &files, rt.alloc(), refused, FaultPlan::Never, wanted));
 }

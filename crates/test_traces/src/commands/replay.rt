@@ -1,92 +1,36 @@
 //! Replays over memory: of each trace, and with readers and writers whose calls go wrong.
-use crate::commands::memory::Command::Replay;
-use crate::commands::memory::{CALM, CALMLY, READ_FAILED, Troubled, end_with, ends, play_troubled};
-use crate::commands::traces::{OVERLAPPING_READS, OVERLAPPING_READS_LOG, Replayed, rows};
-use std::alloc::Global;
-use std::sync::Wait;
-use std::thread::Threads;
+use crate::commands::memory::{CALMLY, call, calls};
+use crate::commands::traces::{named, rows};
+use crate::support::*;
 use tsc_shared::NoGate;
-use tsc_stream::fault_injection::FaultPlan;
 
-static MISHAPS: [Troubled; 10] = [
-    // A byte at a time.
-    (
-        ((1, FaultPlan::Never), CALM, (1, FaultPlan::Never), CALM),
-        (Replay, OVERLAPPING_READS, "", 0, OVERLAPPING_READS_LOG, ""),
-    ),
-    // A writer whose first call fails.
-    (
-        (CALM, CALM, (9, FaultPlan::FailsAt(0)), CALM),
-        (Replay, OVERLAPPING_READS, "", 4, "", "write failed\n"),
-    ),
-    // A reader whose second call fails, and readers that fail at other calls.
-    (
-        ((100, FaultPlan::FailsAt(1)), CALM, CALM, CALM),
-        (Replay, OVERLAPPING_READS, "", 4, "", READ_FAILED),
-    ),
-    (
-        ((1, FaultPlan::FailsAt(0)), CALM, CALM, CALM),
-        (Replay, "abc", "", 4, "", READ_FAILED),
-    ),
-    (
-        ((1, FaultPlan::FailsAt(3)), CALM, CALM, CALM),
-        (Replay, "abc", "", 4, "", READ_FAILED),
-    ),
-    // The status stays where the fault cannot be told, or only a part of its line.
-    (
-        (
-            (1, FaultPlan::FailsAt(0)),
-            CALM,
-            CALM,
-            (0, FaultPlan::Never),
-        ),
-        (Replay, "abc", "", 4, "", ""),
-    ),
-    (
-        (
-            (1, FaultPlan::FailsAt(0)),
-            CALM,
-            CALM,
-            (1, FaultPlan::FailsAt(3)),
-        ),
-        (Replay, "abc", "", 4, "", "rea"),
-    ),
-    (
-        (CALM, CALM, CALM, (9, FaultPlan::FailsAt(0))),
-        (Replay, "abc", "", 1, "", ""),
-    ),
-    (
-        (CALM, CALM, CALM, (1, FaultPlan::FailsAt(3))),
-        (Replay, "abc", "", 1, "", "tra"),
-    ),
-    (
-        (
-            CALM,
-            CALM,
-            (9, FaultPlan::FailsAt(0)),
-            (9, FaultPlan::FailsAt(0)),
-        ),
-        (Replay, OVERLAPPING_READS, "", 4, "", ""),
-    ),
-];
-
-/// The first trace whose replay ends otherwise.
-fn first_wrong<R: Threads + Wait + Sync>(
-    rt: &R,
-    alloc: Global,
-    rows: &[Replayed],
-) -> Option<&'static str> {
-    for (trace, status, said) in rows {
-        let of = (Replay, trace.as_bytes(), &b""[..]);
-        if !ends(rt, alloc, &NoGate, of, CALMLY, end_with(*status, said)) {
-            return Some(*trace);
-        }
-    }
-    None
-}
+/// Replays as [`calls`] has them, whose readers and writers go wrong.
+static FAULTS: &str = "# A byte at a time.
+0|reads log||replay|reads||trace 1 never;output 1 never
+# A writer whose first call fails.
+4||write failed¶|replay|reads||output 9 0
+# A reader whose second call fails, and readers that fail at other calls.
+4||read failed¶|replay|reads||trace 100 1
+4||read failed¶|replay|abc||trace 1 0
+4||read failed¶|replay|abc||trace 1 3
+# The status stays where the fault cannot be told, or only a part of its line.
+4|||replay|abc||trace 1 0;errors 0 never
+4||rea|replay|abc||trace 1 0;errors 1 3
+1|||replay|abc||errors 9 0
+1||tra|replay|abc||errors 1 3
+4|||replay|reads||output 9 0;errors 9 0";
 
 #[test]
-fn replays_end_as_their_rows_say(rt: HostRuntime) {
-    assert_eq!(rt; first_wrong(&rt, rt.alloc(), rows()), None);
-    play_troubled(&rt, rt.alloc(), &MISHAPS);
+fn replays_end_as_their_rows_say(rt: HostRuntime) -> Result<(), Fail> {
+    for (trace, status, said) in rows() {
+        let (text, said) = (named(rt.alloc(), trace)?, said.as_bytes());
+        let end = match status {
+            0 => (0, said, &b""[..]),
+            _ => (*status, &b""[..], said),
+        };
+        let came = call(&rt, &NoGate, rt.alloc(), ("replay", &text, b""), CALMLY);
+        assert!(rt; came.is(end), "{trace}");
+    }
+    all_hold!(rt, FAULTS, calls(&rt, &NoGate));
+    Ok(())
 }

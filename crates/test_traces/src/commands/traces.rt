@@ -1,8 +1,9 @@
-//! Traces, each with what comes of its replay.
+//! Traces, each with what comes of its replay, and traces and logs that rows name.
+use crate::support::*;
 
 /// Two transactions read overlapping spans at one time. It is the trace of the program's stored
 /// run.
-pub(crate) const OVERLAPPING_READS: &str =
+pub(crate) const READS: &str =
     r#"{"page_first":132,"page_max":132,"min_pages":2,"retention":10,"low_water":[5,0],"threads":[[
 {"op":"add","span":{"start":"61","end":"63"},"time":[20,0],"owner":"11111111-1111-4111-8111-111111111111","now":[20,0]},
 {"op":"get","span":{"start":"62"}},
@@ -12,7 +13,7 @@ pub(crate) const OVERLAPPING_READS: &str =
 {"op":"low"}]]}
 "#;
 
-pub(crate) const OVERLAPPING_READS_LOG: &str = "0 0 add 0 1 0 0
+pub(crate) const READS_LOG: &str = "0 0 add 0 1 0 0
 0 1 get 1 20.0 11111111-1111-4111-8111-111111111111
 0 2 get 1 5.0 none
 0 3 add 1 1 0 0
@@ -41,19 +42,12 @@ pub(crate) const TWO_READERS_LOG: &str = "0 0 add 0 1 0 0
 0 6 get 2 20.0 none
 ";
 
-/// Two lists add the same key, and a third asks for it.
-pub(crate) const RACE: &str =
-    r#"{"page_first":132,"page_max":132,"min_pages":2,"retention":10,"low_water":[5,0],"threads":[
-[{"op":"add","span":{"start":"61"},"time":[20,0],"owner":"11111111-1111-4111-8111-111111111111","now":[20,0]}],
-[{"op":"add","span":{"start":"61"},"time":[30,0],"owner":"22222222-2222-4222-8222-222222222222","now":[20,0]}],
-[{"op":"get","span":{"start":"61"}}]]}"#;
-
 pub(crate) const NO_JSON: &str = "trace refused: fault 1\n";
 
 const WRONG_CONFIG: &str = "trace refused: fault 7\n";
 
 /// The trace of the folder `examples` that is meant for a run.
-pub(crate) const TWO_THREADS: &str =
+const TWO_THREADS: &str =
     r#"{"page_first":132,"page_max":132,"min_pages":2,"retention":10,"low_water":[5,0],"threads":[[
 {"op":"add","span":{"start":"61","end":"63"},"time":[20,0],"owner":"11111111-1111-4111-8111-111111111111","now":[20,0]},
 {"op":"get","span":{"start":"62"}}],[
@@ -63,18 +57,18 @@ pub(crate) const TWO_THREADS: &str =
 "#;
 
 /// A log that a run of it can have, which stands beside it.
-pub(crate) const TWO_THREADS_LOG: &str = "0 0 add 1 1 0 0
+const TWO_THREADS_LOG: &str = "0 0 add 1 1 0 0
 0 1 get 2 30.0 22222222-2222-4222-8222-222222222222
 1 0 add 0 1 0 0
 1 1 get 1 30.0 22222222-2222-4222-8222-222222222222
 1 2 get 2 20.0 11111111-1111-4111-8111-111111111111
 ";
 
-/// A trace, the status of its replay, and what is written, or told of a fault.
+/// A trace, as `named` has it, the status of its replay, and what is written, or told of a fault.
 pub(crate) type Replayed = (&'static str, u8, &'static str);
 
 static ROWS: [Replayed; 21] = [
-    (OVERLAPPING_READS, 0, OVERLAPPING_READS_LOG),
+    (READS, 0, READS_LOG),
     // The folder `examples`.
     (TWO_READERS, 0, TWO_READERS_LOG),
     (
@@ -240,11 +234,7 @@ static ROWS: [Replayed; 21] = [
 ",
     ),
     // No calls.
-    (
-        r#"{"page_first":132,"page_max":132,"min_pages":2,"retention":10,"low_water":[5,0],"threads":[[]]}"#,
-        0,
-        "",
-    ),
+    ("[[]]", 0, ""),
     // No JSON.
     ("", 1, NO_JSON),
     (r#"{"page_first":132"#, 1, NO_JSON),
@@ -274,13 +264,13 @@ static ROWS: [Replayed; 21] = [
     ),
     // Wrong calls.
     (
-        r#"{"page_first":132,"page_max":132,"min_pages":2,"retention":10,"low_water":[5,0],"threads":[[{"op":"low","x":1}]]}"#,
+        r#"[[{"op":"low","x":1}]]"#,
         1,
         "trace refused: fault 2 at call 1\n",
     ),
     (
-        r#"{"page_first":132,"page_max":132,"min_pages":2,"retention":10,"low_water":[5,0],"threads":[[{"op":"low"},
-{"op":"get","span":{"start":"6g"}}]]}"#,
+        r#"[[{"op":"low"},
+{"op":"get","span":{"start":"6g"}}]]"#,
         1,
         "trace refused: fault 4 at call 2\n",
     ),
@@ -296,4 +286,83 @@ static ROWS: [Replayed; 21] = [
 /// The rows of all commands. Whatever names a table has all its texts to prove.
 pub(crate) fn rows() -> &'static [Replayed] {
     &ROWS
+}
+
+/// The traces and logs that rows name.
+static SCENES: [(&str, &str); 15] = [
+    ("reads", READS),
+    ("reads log", READS_LOG),
+    ("two readers", TWO_READERS),
+    ("two readers log", TWO_READERS_LOG),
+    ("two threads", TWO_THREADS),
+    ("two threads log", TWO_THREADS_LOG),
+    // Two lists add the same key, and a third asks for it.
+    (
+        "race",
+        r#"[[{"op":"add","span":{"start":"61"},"time":[20,0],"owner":"¹","now":[20,0]}],
+[{"op":"add","span":{"start":"61"},"time":[30,0],"owner":"²","now":[20,0]}],
+[{"op":"get","span":{"start":"61"}}]]"#,
+    ),
+    (
+        "race log",
+        "0 0 add 0 1 0 0¶1 0 add 1 1 0 0¶2 0 get 1 20.0 ¹¶",
+    ),
+    // Two lists add two keys together, and a third asks for both.
+    (
+        "batch race",
+        r#"[[{"op":"batch","marks":[{"span":{"start":"61"},"time":[20,0],"owner":"¹"},{"span":{"start":"62"},"time":[20,0],"owner":"¹"}],"now":[20,0]}],
+[{"op":"batch","marks":[{"span":{"start":"61"},"time":[30,0],"owner":"²"},{"span":{"start":"62"},"time":[30,0],"owner":"²"}],"now":[20,0]}],
+[{"op":"get","span":{"start":"61","end":"63"}}]]"#,
+    ),
+    (
+        "one key",
+        r#"[[{"op":"add","span":{"start":"61"},"time":[20,0],"now":[20,0]},{"op":"get","span":{"start":"61"}}]]"#,
+    ),
+    ("one key log", "0 0 add 0 1 0 0¶0 1 get 1 20.0 none¶"),
+    // One list adds a key and asks for it, by an Add and by a batch.
+    (
+        "one list",
+        r#"[[{"op":"add","span":{"start":"61"},"time":[20,0],"owner":"¹","now":[20,0]},
+{"op":"get","span":{"start":"61"}}]]"#,
+    ),
+    (
+        "one batch",
+        r#"[[{"op":"batch","marks":[{"span":{"start":"61"},"time":[20,0]}],"now":[20,0]},
+{"op":"get","span":{"start":"61"}}]]"#,
+    ),
+    // One list adds two keys together, and the other asks for both.
+    (
+        "batch and get",
+        r#"[[{"op":"batch","marks":[{"span":{"start":"61"},"time":[20,0],"owner":"¹"},{"span":{"start":"62"},"time":[30,0],"owner":"²"}],"now":[20,0]}],
+[{"op":"get","span":{"start":"61","end":"63"}}]]"#,
+    ),
+    // A batch for which the pages rotate three times, and of which two rotations drop a page.
+    (
+        "batch over pages",
+        r#"[[{"op":"batch","marks":[{"span":{"start":"61"},"time":[20,0]},
+{"span":{"start":"62"},"time":[20,0]},
+{"span":{"start":"63"},"time":[20,0]},
+{"span":{"start":"64"},"time":[20,0]},
+{"span":{"start":"65"},"time":[20,0]},
+{"span":{"start":"66"},"time":[20,0]},
+{"span":{"start":"67"},"time":[20,0]},
+{"span":{"start":"68"},"time":[20,0]},
+{"span":{"start":"69"},"time":[41,0]},
+{"span":{"start":"6a"},"time":[41,0]},
+{"span":{"start":"6b"},"time":[41,0]},
+{"span":{"start":"6c"},"time":[41,0]},
+{"span":{"start":"6d"},"time":[41,0]},
+{"span":{"start":"6e"},"time":[41,0]}],"now":[40,0]},
+{"op":"low"}]]"#,
+    ),
+];
+
+/// The bytes of a trace or a log that a row names, or else writes.
+pub(crate) fn named(alloc: Global, text: &str) -> Result<Vec<u8>, AllocError> {
+    for (name, scene) in &SCENES {
+        if *name == text {
+            return trace_of(alloc, HEAD, scene);
+        }
+    }
+    trace_of(alloc, HEAD, text)
 }

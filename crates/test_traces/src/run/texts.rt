@@ -1,5 +1,5 @@
 //! The text of each fault and of each verdict, word for word.
-use crate::rows::{first_other, none};
+use crate::support::*;
 use tsc_check::{CheckFault, Verdict};
 use tsc_run::{RunFault, RunStop};
 use tsc_shared::OpenFault;

@@ -1,917 +1,355 @@
-use crate::rows::{none, text_of};
-use crate::trace::readers::{Told, told, told_of};
-use std::alloc::Global;
+//! What both readers tell of a trace, and what its calls are read as.
+use crate::support::*;
+use crate::trace::readers::{Told, told};
 use tsc_span::Span;
 use tsc_time::{Timestamp, Value};
 use tsc_trace::read_trace;
-use tsc_trace_format::{Call, Trace, TraceFault};
+use tsc_trace_format::{Call, TraceFault};
 
-const NOT_JSON: Told = Err(TraceFault::NotJson);
-
-const CONFIG: Told = Err(TraceFault::Config);
-
-/// Faults of the head.
-const HEAD_SHAPE: Told = Err(TraceFault::Shape(0));
-
-const HEAD_NUMBER: Told = Err(TraceFault::Number(0));
-
-/// Faults of the first call.
-const SHAPE: Told = Err(TraceFault::Shape(1));
-
-const NUMBER: Told = Err(TraceFault::Number(1));
-
-const HEX: Told = Err(TraceFault::Hex(1));
-
-const UUID: Told = Err(TraceFault::Uuid(1));
-
-const SPAN: Told = Err(TraceFault::Span(1));
-
-const TOO_LARGE: Told = Err(TraceFault::TooLarge(1));
-
-/// What stands before a piece and behind it, how many calls stand before it, and how many in all
-/// beside it.
-struct Place {
-    before: &'static str,
-    behind: &'static str,
-    earlier: u64,
-    others: usize,
-}
-
-/// The pieces are all that there is.
-static WHOLE: Place = Place {
-    before: "",
-    behind: "",
-    earlier: 0,
-    others: 0,
-};
-
-static MEMBERS: Place = Place {
-    before: "{",
-    behind: "}",
-    earlier: 0,
-    others: 0,
-};
-
-/// A page is large enough for any span.
-static LISTS: Place = Place {
-    before: r#"{"page_first":132,"page_max":8256,"min_pages":2,"retention":10,"low_water":[5,0],"threads":"#,
-    behind: "}",
-    earlier: 0,
-    others: 0,
-};
-
-static ONLY_CALL: Place = Place {
-    before: r#"{"page_first":132,"page_max":8256,"min_pages":2,"retention":10,"low_water":[5,0],"threads":[["#,
-    behind: "]]}",
-    earlier: 0,
-    others: 0,
-};
-
-static THIRD_CALL: Place = Place {
-    before: r#"{"page_first":132,"page_max":8256,"min_pages":2,"retention":10,"low_water":[5,0],"threads":[[{"op":"low"}],[{"op":"low"},"#,
-    behind: r#",{"op":"low"}]]}"#,
-    earlier: 2,
-    others: 3,
-};
-
-/// The lists of a trace with smaller pages.
-static NARROW_LISTS: Place = Place {
-    before: r#"{"page_first":66,"page_max":264,"min_pages":2,"retention":10,"low_water":[5,0],"threads":"#,
-    behind: "}",
-    earlier: 0,
-    others: 0,
-};
-
-/// A piece of a text, and what is told of that.
-type Piece = (&'static str, Told);
-
-/// The members of a trace.
-static HEADS: [Piece; 35] = [
-    (
-        r#""page_first":132,"page_max":132,"min_pages":2,"retention":10,"low_water":[5],"threads":[[]]"#,
-        HEAD_SHAPE,
-    ),
-    (
-        r#""page_first":132,"page_max":132,"min_pages":2,"retention":10,"low_water":[5,0,0],"threads":[[]]"#,
-        HEAD_SHAPE,
-    ),
-    (
-        r#""page_first":132,"page_max":132,"min_pages":2,"retention":10,"low_water":[5,null],"threads":[[]]"#,
-        HEAD_SHAPE,
-    ),
-    (
-        r#""page_first":"132","page_max":132,"min_pages":2,"retention":10,"low_water":[5,0],"threads":[[]]"#,
-        HEAD_SHAPE,
-    ),
-    (
-        r#""page_first":132,"page_max":[132],"min_pages":2,"retention":10,"low_water":[5,0],"threads":[[]]"#,
-        HEAD_SHAPE,
-    ),
-    (
-        r#""page_first":4294967296,"page_max":132,"min_pages":2,"retention":10,"low_water":[5],"threads":[[]]"#,
-        HEAD_SHAPE,
-    ),
-    (
-        r#""page_first":4294967296,"page_max":132,"min_pages":2,"retention":10,"low_water":[5,0],"threads":[7]"#,
-        HEAD_SHAPE,
-    ),
-    (
-        r#""page_first":4294967296,"page_max":132,"min_pages":2,"retention":10,"low_water":[5,0],"threads":[[]]"#,
-        HEAD_NUMBER,
-    ),
-    (
-        r#""page_first":4294967296,"page_max":132,"min_pages":2,"retention":10,"low_water":[5,0],"threads":[[{}]]"#,
-        HEAD_NUMBER,
-    ),
-    (
-        r#""page_first":132,"page_max":4294967296,"min_pages":2,"retention":10,"low_water":[5,0],"threads":[[]]"#,
-        HEAD_NUMBER,
-    ),
-    (
-        r#""page_first":132,"page_max":132,"min_pages":4294967296,"retention":10,"low_water":[5,0],"threads":[]"#,
-        HEAD_NUMBER,
-    ),
-    (
-        r#""page_first":132,"page_max":132,"min_pages":2,"retention":18446744073709551616,"low_water":[5,0],"threads":[[]]"#,
-        HEAD_NUMBER,
-    ),
-    (
-        r#""page_first":132,"page_max":132,"min_pages":2,"retention":10,"low_water":[9223372036854775808,0],"threads":[[]]"#,
-        HEAD_NUMBER,
-    ),
-    (
-        r#""page_first":132,"page_max":132,"min_pages":2,"retention":10,"low_water":[5,2147483648],"threads":[[]]"#,
-        HEAD_NUMBER,
-    ),
-    (
-        r#""page_first":132,"page_max":132,"min_pages":2,"retention":10,"low_water":[5,4294967296],"threads":[[]]"#,
-        HEAD_NUMBER,
-    ),
-    (
-        r#""page_first":132.0,"page_max":132,"min_pages":2,"retention":10,"low_water":[5,0],"threads":[[]]"#,
-        HEAD_NUMBER,
-    ),
-    (
-        r#""page_first":132,"page_max":132,"min_pages":2,"retention":-0,"low_water":[5,0],"threads":[[]]"#,
-        HEAD_NUMBER,
-    ),
-    (
-        r#""page_first":132,"page_max":132,"min_pages":2,"retention":2e1,"low_water":[5,0],"threads":[[]]"#,
-        HEAD_NUMBER,
-    ),
-    (
-        r#""page_first":63,"page_max":132,"min_pages":2,"retention":10,"low_water":[5,0],"threads":[[]]"#,
-        CONFIG,
-    ),
-    (
-        r#""page_first":200,"page_max":132,"min_pages":2,"retention":10,"low_water":[5,0],"threads":[[]]"#,
-        CONFIG,
-    ),
-    (
-        r#""page_first":132,"page_max":1073741825,"min_pages":2,"retention":10,"low_water":[5,0],"threads":[[]]"#,
-        CONFIG,
-    ),
-    (
-        r#""page_first":132,"page_max":4294967295,"min_pages":2,"retention":10,"low_water":[5,0],"threads":[[]]"#,
-        CONFIG,
-    ),
-    (
-        r#""page_first":132,"page_max":132,"min_pages":65,"retention":10,"low_water":[5,0],"threads":[[]]"#,
-        CONFIG,
-    ),
-    (
-        r#""page_first":132,"page_max":132,"min_pages":2,"retention":18446744073709551615,"low_water":[5,0],"threads":[[]]"#,
-        CONFIG,
-    ),
-    (
-        r#""page_first":63,"page_max":132,"min_pages":2,"retention":10,"low_water":[5,0],"threads":[[{"op":"low","x":1}]]"#,
-        CONFIG,
-    ),
-    (
-        r#""page_first":63,"page_max":63,"min_pages":2,"retention":10,"low_water":[5,0],"threads":[[{"op":"add","span":{"start":"61","end":"62"},"time":[20,0],"now":[20,0]}]]"#,
-        CONFIG,
-    ),
-    (
-        r#""page_first":64,"page_max":1073741824,"min_pages":64,"retention":9223372036854775807,"low_water":[9223372036854775807,2147483647],"threads":[[]]"#,
-        Ok(0),
-    ),
-    (
-        r#""page_first":132,"page_max":132,"min_pages":2,"retention":10,"threads":[[]]"#,
-        HEAD_SHAPE,
-    ),
-    (
-        r#""page_first":132,"min_pages":2,"retention":10,"low_water":[5,0],"threads":[[]]"#,
-        HEAD_SHAPE,
-    ),
-    (
-        r#""page_nodes":4,"min_pages":2,"retention":10,"low_water":[5,0],"threads":[[]]"#,
-        HEAD_SHAPE,
-    ),
-    (
-        r#""page_nodes":4,"page_first":132,"page_max":132,"min_pages":2,"retention":10,"low_water":[5,0],"threads":[[]]"#,
-        HEAD_SHAPE,
-    ),
-    (
-        r#""page_first":132,"page_max":132,"min_pages":2,"retention":10,"low_water":[5,0],"x":1,"threads":[[]]"#,
-        HEAD_SHAPE,
-    ),
-    (
-        r#""page_first":4294967296,"page_max":132,"min_pages":2,"retention":10,"low_water":[5,0],"x":1,"threads":[[]]"#,
-        HEAD_SHAPE,
-    ),
-    (
-        r#""page_first":63,"page_first":66,"page_max":66,"min_pages":2,"retention":10,"low_water":[5,0],"threads":[[]]"#,
-        Ok(0),
-    ),
-    (
-        r#""page_first":66,"page_first":63,"page_max":66,"min_pages":2,"retention":10,"low_water":[5,0],"threads":[[]]"#,
-        CONFIG,
-    ),
+/// The members of a head, each with the value that it has unless a row changes it.
+static HEAD_MEMBERS: [(&str, &str); 6] = [
+    ("page_first", "132"),
+    ("page_max", "132"),
+    ("min_pages", "2"),
+    ("retention", "10"),
+    ("low_water", "[5,0]"),
+    ("threads", "[[]]"),
 ];
 
-/// A call that is the only one of a trace.
-static CALLS: [Piece; 45] = [
-    (r#"{"op":"low","op":"get","span":{"start":"61"}}"#, Ok(1)),
-    ("7", SHAPE),
-    ("{}", SHAPE),
-    (r#"{"op":7}"#, SHAPE),
-    (r#"{"op":"drop"}"#, SHAPE),
-    (r#"{"op":"low","x":1}"#, SHAPE),
-    (r#"{"op":"get"}"#, SHAPE),
-    (r#"{"op":"get","span":{"start":"61"},"now":[1,0]}"#, SHAPE),
-    (r#"{"op":"add","span":{"start":"61"},"time":[20,0]}"#, SHAPE),
-    (
-        r#"{"op":"add","span":{"start":"61"},"time":[20],"now":[20,0]}"#,
-        SHAPE,
-    ),
-    (
-        r#"{"op":"add","span":{"start":"61"},"time":[20,0],"now":[20,0],"owner":7}"#,
-        SHAPE,
-    ),
-    (r#"{"op":"get","span":"61"}"#, SHAPE),
-    (r#"{"op":"get","span":{}}"#, SHAPE),
-    (r#"{"op":"get","span":{"start":61}}"#, SHAPE),
-    (r#"{"op":"get","span":{"start":"61","end":null}}"#, SHAPE),
-    (r#"{"op":"get","span":{"start":"61","to":"62"}}"#, SHAPE),
-    (r#"{"op":"get","span":{"start":"61","ends":"[]"}}"#, SHAPE),
-    (
-        r#"{"op":"add","span":{"start":"61","end":"63","ends":"(("},"time":[20,0],"now":[20,0]}"#,
-        SHAPE,
-    ),
-    (
-        r#"{"op":"get","span":{"start":"61","end":"62","ends":"[["}}"#,
-        SHAPE,
-    ),
-    (
-        r#"{"op":"get","span":{"start":"61","end":"62","ends":"["}}"#,
-        SHAPE,
-    ),
-    (r#"{"op":"get","span":{"start":"61","onward":")"}}"#, SHAPE),
-    (r#"{"op":"get","span":{"start":"61","onward":true}}"#, SHAPE),
-    (
-        r#"{"op":"get","span":{"start":"61","end":"62","onward":"["}}"#,
-        SHAPE,
-    ),
-    (
-        r#"{"op":"get","span":{"start":"61","end":"62","ends":"[]","onward":"["}}"#,
-        SHAPE,
-    ),
-    (
-        r#"{"op":"get","span":{"start":"61","ends":"[]","onward":"["}}"#,
-        SHAPE,
-    ),
-    (
-        r#"{"op":"add","span":{"start":"61"},"time":[20,2147483648],"now":[20,0]}"#,
-        NUMBER,
-    ),
-    (
-        r#"{"op":"add","span":{"start":"61"},"time":[-1,0],"now":[20,0]}"#,
-        NUMBER,
-    ),
-    (
-        r#"{"op":"add","span":{"start":"61"},"time":[1.5,0],"now":[20,0]}"#,
-        NUMBER,
-    ),
-    (
-        r#"{"op":"add","span":{"start":"61"},"time":[9223372036854775807,2147483647],"now":[20,0]}"#,
-        Ok(1),
-    ),
-    (r#"{"op":"get","span":{"start":"6"}}"#, HEX),
-    (r#"{"op":"get","span":{"start":"6g"}}"#, HEX),
-    (r#"{"op":"get","span":{"start":"61","end":"6"}}"#, HEX),
-    (
-        r#"{"op":"add","span":{"start":"61"},"time":[20,0],"now":[20,0],"owner":"xyz"}"#,
-        UUID,
-    ),
-    (
-        r#"{"op":"add","span":{"start":"63","end":"61"},"time":[20,0],"now":[20,0]}"#,
-        SPAN,
-    ),
-    (
-        r#"{"op":"add","span":{"start":"63","end":"61","ends":"[]"},"time":[20,0],"now":[20,0]}"#,
-        SPAN,
-    ),
-    (r#"{"op":"get","span":{"start":"63","end":"61"}}"#, Ok(1)),
-    (
-        r#"{"op":"add","span":{"start":"6"},"time":[-1,0],"now":[20,0]}"#,
-        NUMBER,
-    ),
-    (
-        r#"{"op":"add","span":{"start":"6"},"time":[20,0],"now":[-1,0],"owner":"xyz"}"#,
-        NUMBER,
-    ),
-    (
-        r#"{"op":"add","span":{"start":"63","end":"61"},"time":[20,0],"now":[20,0],"owner":"xyz"}"#,
-        UUID,
-    ),
-    (
-        r#"{"op":"add","span":{"start":"6"},"time":[20,0],"now":[20,0],"owner":"xyz"}"#,
-        HEX,
-    ),
-    (
-        r#"{"op":"add","span":{"start":"6"},"time":[-1,0],"now":[20,0],"owner":7}"#,
-        SHAPE,
-    ),
-    (
-        r#"{"op":"add","span":{"start":"6"},"time":[-1,0],"now":[20]}"#,
-        SHAPE,
-    ),
-    (
-        r#"{"op":"add","span":{"start":"6"},"time":[-1,"x"],"now":[20,0]}"#,
-        SHAPE,
-    ),
-    (
-        r#"{"op":"get","span":{"start":"6","end":"61","ends":"<>"}}"#,
-        SHAPE,
-    ),
-    (r#"{"op":"get","span":{"start":"6","onward":"]"}}"#, SHAPE),
-];
+/// Faults of heads, which count as a call 0. A row names the members that it changes, with a `-`
+/// those that it leaves out, or has a whole trace.
+static HEADS: &str = r#"shape 0|low_water [5]
+shape 0|low_water [5,0,0]
+shape 0|low_water [5,null]
+shape 0|page_first "132"
+shape 0|page_max [132]
+shape 0|page_first 4294967296;low_water [5]
+shape 0|page_first 4294967296;threads [7]
+number 0|page_first 4294967296
+number 0|page_first 4294967296;threads [[{}]]
+number 0|page_max 4294967296
+number 0|min_pages 4294967296;threads []
+number 0|retention 18446744073709551616
+number 0|low_water [9223372036854775808,0]
+number 0|low_water [5,2147483648]
+number 0|low_water [5,4294967296]
+number 0|page_first 132.0
+number 0|retention -0
+number 0|retention 2e1
+config|page_first 63
+config|page_first 200
+config|page_max 1073741825
+config|page_max 4294967295
+config|min_pages 65
+config|retention 18446744073709551615
+config|page_first 63;threads [[{"op":"low","x":1}]]
+config|page_first 63;page_max 63;threads [[{"op":"add","span":{"start":"61","end":"62"},"time":[20,0],"now":[20,0]}]]
+calls 0|page_first 64;page_max 1073741824;min_pages 64;retention 9223372036854775807;low_water [9223372036854775807,2147483647]
+shape 0|low_water -
+shape 0|page_max -
+shape 0|{"page_nodes":4,"min_pages":2,"retention":10,"low_water":[5,0],"threads":[[]]}
+shape 0|{"page_nodes":4,"page_first":132,"page_max":132,"min_pages":2,"retention":10,"low_water":[5,0],"threads":[[]]}
+shape 0|{"page_first":132,"page_max":132,"min_pages":2,"retention":10,"low_water":[5,0],"x":1,"threads":[[]]}
+shape 0|{"page_first":4294967296,"page_max":132,"min_pages":2,"retention":10,"low_water":[5,0],"x":1,"threads":[[]]}
+calls 0|{"page_first":63,"page_first":66,"page_max":66,"min_pages":2,"retention":10,"low_water":[5,0],"threads":[[]]}
+config|{"page_first":66,"page_first":63,"page_max":66,"min_pages":2,"retention":10,"low_water":[5,0],"threads":[[]]}"#;
 
-/// A batch that is the only call of a trace. The least fault of all its marks is told, and of the
-/// moment.
-static BATCHES: [Piece; 28] = [
-    (r#"{"op":"batch","marks":[],"now":[20,0]}"#, Ok(1)),
-    (
-        r#"{"op":"batch","marks":[{"span":{"start":"61"},"time":[20,0]}],"now":[20,0]}"#,
-        Ok(1),
-    ),
-    (
-        r#"{"op":"batch","marks":[{"span":{"start":"61"},"time":[20,0],"owner":null}],"now":[20,0]}"#,
-        Ok(1),
-    ),
-    (r#"{"op":"batch","now":[20,0]}"#, SHAPE),
-    (r#"{"op":"batch","marks":[]}"#, SHAPE),
-    (r#"{"op":"batch","marks":null,"now":[20,0]}"#, SHAPE),
-    (r#"{"op":"batch","marks":{},"now":[20,0]}"#, SHAPE),
-    (r#"{"op":"batch","marks":[],"now":[20]}"#, SHAPE),
-    (
-        r#"{"op":"batch","marks":[],"now":[20,0],"owner":null}"#,
-        SHAPE,
-    ),
-    (
-        r#"{"op":"batch","marks":[],"span":{"start":"61"},"time":[20,0],"now":[20,0]}"#,
-        SHAPE,
-    ),
-    (r#"{"op":"add","marks":[],"now":[20,0]}"#, SHAPE),
-    (r#"{"op":"batch","marks":[7],"now":[20,0]}"#, SHAPE),
-    (
-        r#"{"op":"batch","marks":[{"span":{"start":"61"},"time":[20,0]},null],"now":[20,0]}"#,
-        SHAPE,
-    ),
-    (
-        r#"{"op":"batch","marks":[{"span":{"start":"61"}}],"now":[20,0]}"#,
-        SHAPE,
-    ),
-    (
-        r#"{"op":"batch","marks":[{"time":[20,0]}],"now":[20,0]}"#,
-        SHAPE,
-    ),
-    (
-        r#"{"op":"batch","marks":[{"span":{"start":"61"},"time":[20,0],"now":[20,0]}],"now":[20,0]}"#,
-        SHAPE,
-    ),
-    (
-        r#"{"op":"batch","marks":[{"span":{"start":"61"},"time":[20,0],"owner":7}],"now":[20,0]}"#,
-        SHAPE,
-    ),
-    (
-        r#"{"op":"batch","marks":[{"span":{"start":"61","to":"62"},"time":[20,0]}],"now":[20,0]}"#,
-        SHAPE,
-    ),
-    (
-        r#"{"op":"batch","marks":[{"span":{"start":"61"},"time":[20,0]}],"now":[-1,0]}"#,
-        NUMBER,
-    ),
-    (
-        r#"{"op":"batch","marks":[{"span":{"start":"61"},"time":[20,2147483648]}],"now":[20,0]}"#,
-        NUMBER,
-    ),
-    (
-        r#"{"op":"batch","marks":[{"span":{"start":"6"},"time":[20,0]}],"now":[20,0]}"#,
-        HEX,
-    ),
-    (
-        r#"{"op":"batch","marks":[{"span":{"start":"61"},"time":[20,0],"owner":"xyz"}],"now":[20,0]}"#,
-        UUID,
-    ),
-    (
-        r#"{"op":"batch","marks":[{"span":{"start":"63","end":"61"},"time":[20,0]}],"now":[20,0]}"#,
-        SPAN,
-    ),
-    (
-        r#"{"op":"batch","marks":[{"span":{"start":"6"},"time":[20,0]},{"span":{"start":"61"},"time":[-1,0]}],"now":[20,0]}"#,
-        NUMBER,
-    ),
-    (
-        r#"{"op":"batch","marks":[{"span":{"start":"6"},"time":[20,0]}],"now":[-1,0]}"#,
-        NUMBER,
-    ),
-    (
-        r#"{"op":"batch","marks":[{"span":{"start":"6"},"time":[20,0]},{"span":{"start":"61"},"time":[-1,0]},{}],"now":[20,0]}"#,
-        SHAPE,
-    ),
-    (
-        r#"{"op":"batch","marks":[{"span":{"start":"63","end":"61"},"time":[20,0]},{"span":{"start":"61"},"time":[20,0],"owner":"xyz"}],"now":[20,0]}"#,
-        UUID,
-    ),
-    (
-        r#"{"op":"batch","marks":[{"span":{"start":"61"},"time":[20,0],"owner":"xyz"},{"span":{"start":"6"},"time":[20,0]},{"span":{"start":"63","end":"61"},"time":[20,0]}],"now":[20,0]}"#,
-        HEX,
-    ),
-];
+/// Calls.
+static CALLS: &str = r#"calls 1|{"op":"low","op":"get","span":{"start":"61"}}
+shape 1|7
+shape 1|{}
+shape 1|{"op":7}
+shape 1|{"op":"drop"}
+shape 1|{"op":"low","x":1}
+shape 1|{"op":"get"}
+shape 1|{"op":"get","span":{"start":"61"},"now":[1,0]}
+shape 1|{"op":"add","span":{"start":"61"},"time":[20,0]}
+shape 1|{"op":"add","span":{"start":"61"},"time":[20],"now":[20,0]}
+shape 1|{"op":"add","span":{"start":"61"},"time":[20,0],"now":[20,0],"owner":7}
+shape 1|{"op":"get","span":"61"}
+shape 1|{"op":"get","span":{}}
+shape 1|{"op":"get","span":{"start":61}}
+shape 1|{"op":"get","span":{"start":"61","end":null}}
+shape 1|{"op":"get","span":{"start":"61","to":"62"}}
+shape 1|{"op":"get","span":{"start":"61","ends":"[]"}}
+shape 1|{"op":"add","span":{"start":"61","end":"63","ends":"(("},"time":[20,0],"now":[20,0]}
+shape 1|{"op":"get","span":{"start":"61","end":"62","ends":"[["}}
+shape 1|{"op":"get","span":{"start":"61","end":"62","ends":"["}}
+shape 1|{"op":"get","span":{"start":"61","onward":")"}}
+shape 1|{"op":"get","span":{"start":"61","onward":true}}
+shape 1|{"op":"get","span":{"start":"61","end":"62","onward":"["}}
+shape 1|{"op":"get","span":{"start":"61","end":"62","ends":"[]","onward":"["}}
+shape 1|{"op":"get","span":{"start":"61","ends":"[]","onward":"["}}
+number 1|{"op":"add","span":{"start":"61"},"time":[20,2147483648],"now":[20,0]}
+number 1|{"op":"add","span":{"start":"61"},"time":[-1,0],"now":[20,0]}
+number 1|{"op":"add","span":{"start":"61"},"time":[1.5,0],"now":[20,0]}
+calls 1|{"op":"add","span":{"start":"61"},"time":[9223372036854775807,2147483647],"now":[20,0]}
+hex 1|{"op":"get","span":{"start":"6"}}
+hex 1|{"op":"get","span":{"start":"6g"}}
+hex 1|{"op":"get","span":{"start":"61","end":"6"}}
+uuid 1|{"op":"add","span":{"start":"61"},"time":[20,0],"now":[20,0],"owner":"xyz"}
+span 1|{"op":"add","span":{"start":"63","end":"61"},"time":[20,0],"now":[20,0]}
+span 1|{"op":"add","span":{"start":"63","end":"61","ends":"[]"},"time":[20,0],"now":[20,0]}
+calls 1|{"op":"get","span":{"start":"63","end":"61"}}
+number 1|{"op":"add","span":{"start":"6"},"time":[-1,0],"now":[20,0]}
+number 1|{"op":"add","span":{"start":"6"},"time":[20,0],"now":[-1,0],"owner":"xyz"}
+uuid 1|{"op":"add","span":{"start":"63","end":"61"},"time":[20,0],"now":[20,0],"owner":"xyz"}
+hex 1|{"op":"add","span":{"start":"6"},"time":[20,0],"now":[20,0],"owner":"xyz"}
+shape 1|{"op":"add","span":{"start":"6"},"time":[-1,0],"now":[20,0],"owner":7}
+shape 1|{"op":"add","span":{"start":"6"},"time":[-1,0],"now":[20]}
+shape 1|{"op":"add","span":{"start":"6"},"time":[-1,"x"],"now":[20,0]}
+shape 1|{"op":"get","span":{"start":"6","end":"61","ends":"<>"}}
+shape 1|{"op":"get","span":{"start":"6","onward":"]"}}"#;
 
-/// Lists of calls, which are numbered on through all of them; the first that has a fault decides.
-static THREADS: [Piece; 10] = [
-    ("[[]]", Ok(0)),
-    ("[[],[]]", Ok(0)),
-    (r#"[[{"op":"low"}],[{"op":"low"},{"op":"low"}]]"#, Ok(3)),
-    ("[]", CONFIG),
-    ("{}", HEAD_SHAPE),
-    ("[[],7]", HEAD_SHAPE),
-    ("null", HEAD_SHAPE),
-    (
-        r#"[[{"op":"low"}],[],[{"op":"low"},{"op":"get","span":{"start":"6"}},{"op":"x"}]]"#,
-        Err(TraceFault::Hex(3)),
-    ),
-    (
-        r#"[[{"op":"low"},{"op":"get","span":{"start":"6"}}],[{"op":"x"}]]"#,
-        Err(TraceFault::Hex(2)),
-    ),
-    (r#"[[],[{"op":"x"}]]"#, SHAPE),
-];
+/// Batches. The least fault of all marks is told, and of the moment.
+static BATCHES: &str = r#"calls 1|{"op":"batch","marks":[],"now":[20,0]}
+calls 1|{"op":"batch","marks":[{"span":{"start":"61"},"time":[20,0]}],"now":[20,0]}
+calls 1|{"op":"batch","marks":[{"span":{"start":"61"},"time":[20,0],"owner":null}],"now":[20,0]}
+shape 1|{"op":"batch","now":[20,0]}
+shape 1|{"op":"batch","marks":[]}
+shape 1|{"op":"batch","marks":null,"now":[20,0]}
+shape 1|{"op":"batch","marks":{},"now":[20,0]}
+shape 1|{"op":"batch","marks":[],"now":[20]}
+shape 1|{"op":"batch","marks":[],"now":[20,0],"owner":null}
+shape 1|{"op":"batch","marks":[],"span":{"start":"61"},"time":[20,0],"now":[20,0]}
+shape 1|{"op":"add","marks":[],"now":[20,0]}
+shape 1|{"op":"batch","marks":[7],"now":[20,0]}
+shape 1|{"op":"batch","marks":[{"span":{"start":"61"},"time":[20,0]},null],"now":[20,0]}
+shape 1|{"op":"batch","marks":[{"span":{"start":"61"}}],"now":[20,0]}
+shape 1|{"op":"batch","marks":[{"time":[20,0]}],"now":[20,0]}
+shape 1|{"op":"batch","marks":[{"span":{"start":"61"},"time":[20,0],"now":[20,0]}],"now":[20,0]}
+shape 1|{"op":"batch","marks":[{"span":{"start":"61"},"time":[20,0],"owner":7}],"now":[20,0]}
+shape 1|{"op":"batch","marks":[{"span":{"start":"61","to":"62"},"time":[20,0]}],"now":[20,0]}
+number 1|{"op":"batch","marks":[{"span":{"start":"61"},"time":[20,0]}],"now":[-1,0]}
+number 1|{"op":"batch","marks":[{"span":{"start":"61"},"time":[20,2147483648]}],"now":[20,0]}
+hex 1|{"op":"batch","marks":[{"span":{"start":"6"},"time":[20,0]}],"now":[20,0]}
+uuid 1|{"op":"batch","marks":[{"span":{"start":"61"},"time":[20,0],"owner":"xyz"}],"now":[20,0]}
+span 1|{"op":"batch","marks":[{"span":{"start":"63","end":"61"},"time":[20,0]}],"now":[20,0]}
+number 1|{"op":"batch","marks":[{"span":{"start":"6"},"time":[20,0]},{"span":{"start":"61"},"time":[-1,0]}],"now":[20,0]}
+number 1|{"op":"batch","marks":[{"span":{"start":"6"},"time":[20,0]}],"now":[-1,0]}
+shape 1|{"op":"batch","marks":[{"span":{"start":"6"},"time":[20,0]},{"span":{"start":"61"},"time":[-1,0]},{}],"now":[20,0]}
+uuid 1|{"op":"batch","marks":[{"span":{"start":"63","end":"61"},"time":[20,0]},{"span":{"start":"61"},"time":[20,0],"owner":"xyz"}],"now":[20,0]}
+hex 1|{"op":"batch","marks":[{"span":{"start":"61"},"time":[20,0],"owner":"xyz"},{"span":{"start":"6"},"time":[20,0]},{"span":{"start":"63","end":"61"},"time":[20,0]}],"now":[20,0]}"#;
 
-/// A text as a front, a piece with how often it comes, and a tail; and what is told of it.
-type Long = (&'static str, &'static str, usize, &'static str, Told);
+/// Lists of calls, which are numbered on through all of them. The first that has a fault decides.
+static THREADS: &str = r#"calls 0|[[]]
+calls 0|[[],[]]
+calls 3|[[{"op":"low"}],[{"op":"low"},{"op":"low"}]]
+config|[]
+shape 0|{}
+shape 0|[[],7]
+shape 0|null
+hex 3|[[{"op":"low"}],[],[{"op":"low"},{"op":"get","span":{"start":"6"}},{"op":"x"}]]
+hex 2|[[{"op":"low"},{"op":"get","span":{"start":"6"}}],[{"op":"x"}]]
+shape 1|[[],[{"op":"x"}]]"#;
 
-static LONG_TRACES: [Long; 16] = [
-    ("[", "[],", 63, "[]]", Ok(0)),
-    ("[", "[],", 64, "[]]", CONFIG),
-    ("[", "[],", 64, r#"[{"op":"x"}]]"#, CONFIG),
-    (
-        "[[",
-        r#"{"op":"low"},"#,
-        65_535,
-        r#"{"op":"low"}]]"#,
-        Ok(65_536),
-    ),
-    (
-        "[[",
-        r#"{"op":"low"},"#,
-        65_536,
-        r#"{"op":"low"}]]"#,
-        CONFIG,
-    ),
-    (r#"[[{"op":"x"}],["#, "7,", 65_535, "7]]", CONFIG),
-    (
-        r#"[[{"op":"get","span":{"start":""#,
-        "61",
-        4096,
-        r#""}}]]"#,
-        Ok(1),
-    ),
-    (
-        r#"[[{"op":"get","span":{"start":""#,
-        "61",
-        4097,
-        r#""}}]]"#,
-        SPAN,
-    ),
-    (
-        r#"[[{"op":"add","span":{"start":""#,
-        "61",
-        4096,
-        r#""},"time":[20,0],"now":[20,0]}]]"#,
-        Ok(1),
-    ),
-    (
-        r#"[[{"op":"add","span":{"start":""#,
-        "61",
-        4097,
-        r#""},"time":[20,0],"now":[20,0]}]]"#,
-        SPAN,
-    ),
-    (
-        r#"[[{"op":"get","span":{"start":"61","onward":"[","end":""#,
-        "61",
-        4097,
-        r#""}}]]"#,
-        SHAPE,
-    ),
-    (
-        r#"[[{"op":"batch","now":[20,0],"marks":["#,
-        r#"{"span":{"start":"61"},"time":[20,0]},"#,
-        1023,
-        r#"{"span":{"start":"61"},"time":[20,0]}]}]]"#,
-        Ok(1),
-    ),
-    (
-        r#"[[{"op":"batch","now":[20,0],"marks":["#,
-        r#"{"span":{"start":"61"},"time":[20,0]},"#,
-        1024,
-        r#"{"span":{"start":"61"},"time":[20,0]}]}]]"#,
-        SHAPE,
-    ),
-    (
-        r#"[[{"op":"batch","now":[20,0],"marks":["#,
-        r#"7,"#,
-        1024,
-        r#"7]}]]"#,
-        SHAPE,
-    ),
-    (
-        r#"[[{"op":"batch","now":[-1,0],"marks":["#,
-        r#"{"span":{"start":"61"},"time":[20,0]},"#,
-        1024,
-        r#"{"span":{"start":"61"},"time":[20,0]}]}]]"#,
-        SHAPE,
-    ),
-    (
-        r#"[[{"op":"batch","now":[20,0],"marks":[{"span":{"start":""#,
-        r#"61"#,
-        4097,
-        r#""},"time":[20,0]}]}]]"#,
-        SPAN,
-    ),
-];
+/// Lists at their limits.
+static LONG_TRACES: &str = r#"calls 0|[¦[],×63¦[]]
+config|[¦[],×64¦[]]
+config|[¦[],×64¦[{"op":"x"}]]
+calls 65536|[[¦{"op":"low"},×65535¦{"op":"low"}]]
+config|[[¦{"op":"low"},×65536¦{"op":"low"}]]
+config|[[{"op":"x"}],[¦7,×65535¦7]]
+calls 1|[[{"op":"get","span":{"start":"¦61×4096¦"}}]]
+span 1|[[{"op":"get","span":{"start":"¦61×4097¦"}}]]
+calls 1|[[{"op":"add","span":{"start":"¦61×4096¦"},"time":[20,0],"now":[20,0]}]]
+span 1|[[{"op":"add","span":{"start":"¦61×4097¦"},"time":[20,0],"now":[20,0]}]]
+shape 1|[[{"op":"get","span":{"start":"61","onward":"[","end":"¦61×4097¦"}}]]
+calls 1|[[{"op":"batch","now":[20,0],"marks":[¦{"span":{"start":"61"},"time":[20,0]},×1023¦{"span":{"start":"61"},"time":[20,0]}]}]]
+shape 1|[[{"op":"batch","now":[20,0],"marks":[¦{"span":{"start":"61"},"time":[20,0]},×1024¦{"span":{"start":"61"},"time":[20,0]}]}]]
+shape 1|[[{"op":"batch","now":[20,0],"marks":[¦7,×1024¦7]}]]
+shape 1|[[{"op":"batch","now":[-1,0],"marks":[¦{"span":{"start":"61"},"time":[20,0]},×1024¦{"span":{"start":"61"},"time":[20,0]}]}]]
+span 1|[[{"op":"batch","now":[20,0],"marks":[{"span":{"start":"¦61×4097¦"},"time":[20,0]}]}]]"#;
 
 /// Calls that cost as much as the largest of small pages, or more. What else is wrong with a call
 /// comes first.
-static LARGE_SPANS: [Long; 16] = [
-    (
-        r#"[[{"op":"add","span":{"start":""#,
-        "61",
-        232,
-        r#""},"time":[20,0],"now":[20,0]}]]"#,
-        Ok(1),
-    ),
-    (
-        r#"[[{"op":"add","span":{"start":""#,
-        "61",
-        233,
-        r#""},"time":[20,0],"now":[20,0]}]]"#,
-        TOO_LARGE,
-    ),
-    (
-        r#"[[{"op":"add","span":{"start":""#,
-        "61",
-        233,
-        r#""},"time":[5,0],"now":[20,0]}]]"#,
-        TOO_LARGE,
-    ),
-    (
-        r#"[[{"op":"low"},{"op":"add","span":{"start":""#,
-        "61",
-        233,
-        r#""},"time":[20,0],"now":[20,0]},{"op":"x"}]]"#,
-        Err(TraceFault::TooLarge(2)),
-    ),
-    (
-        r#"[[{"op":"add","span":{"start":"61","end":""#,
-        "61",
-        199,
-        r#""},"time":[20,0],"now":[20,0]}]]"#,
-        Ok(1),
-    ),
-    (
-        r#"[[{"op":"add","span":{"start":"61","end":""#,
-        "61",
-        200,
-        r#""},"time":[20,0],"now":[20,0]}]]"#,
-        TOO_LARGE,
-    ),
-    (
-        r#"[[{"op":"add","span":{"start":"61","onward":"(","end":""#,
-        "61",
-        233,
-        r#""},"time":[20,0],"now":[20,0]}]]"#,
-        SHAPE,
-    ),
-    (
-        r#"[[{"op":"add","span":{"start":""#,
-        "61",
-        233,
-        r#""},"time":[-1,0],"now":[20,0]}]]"#,
-        NUMBER,
-    ),
-    (
-        r#"[[{"op":"add","span":{"end":"6","start":""#,
-        "61",
-        233,
-        r#""},"time":[20,0],"now":[20,0]}]]"#,
-        HEX,
-    ),
-    (
-        r#"[[{"op":"add","span":{"start":""#,
-        "61",
-        233,
-        r#""},"time":[20,0],"now":[20,0],"owner":"xyz"}]]"#,
-        UUID,
-    ),
-    (
-        r#"[[{"op":"get","span":{"start":""#,
-        "61",
-        233,
-        r#""}}]]"#,
-        Ok(1),
-    ),
-    (
-        r#"[[{"op":"batch","now":[20,0],"marks":[{"span":{"start":"61"},"time":[20,0]},{"span":{"start":""#,
-        r#"61"#,
-        232,
-        r#""},"time":[20,0]}]}]]"#,
-        Ok(1),
-    ),
-    (
-        r#"[[{"op":"batch","now":[20,0],"marks":[{"span":{"start":"61"},"time":[20,0]},{"span":{"start":""#,
-        r#"61"#,
-        233,
-        r#""},"time":[20,0]}]}]]"#,
-        TOO_LARGE,
-    ),
-    (
-        r#"[[{"op":"batch","now":[20,0],"marks":[{"span":{"start":""#,
-        r#"61"#,
-        233,
-        r#""},"time":[5,0]},{"span":{"start":"61"},"time":[20,0]}]}]]"#,
-        TOO_LARGE,
-    ),
-    (
-        r#"[[{"op":"batch","now":[20,0],"marks":[{"span":{"start":""#,
-        r#"61"#,
-        233,
-        r#""},"time":[20,0]},{"span":{"start":"6"},"time":[20,0]}]}]]"#,
-        HEX,
-    ),
-    (
-        r#"[[{"op":"low"},{"op":"batch","now":[20,0],"marks":[{"span":{"start":""#,
-        r#"61"#,
-        233,
-        r#""},"time":[20,0]}]},{"op":"x"}]]"#,
-        Err(TraceFault::TooLarge(2)),
-    ),
-];
+static LARGE_SPANS: &str =
+    r#"calls 1|[[{"op":"add","span":{"start":"¦61×232¦"},"time":[20,0],"now":[20,0]}]]
+large 1|[[{"op":"add","span":{"start":"¦61×233¦"},"time":[20,0],"now":[20,0]}]]
+large 1|[[{"op":"add","span":{"start":"¦61×233¦"},"time":[5,0],"now":[20,0]}]]
+large 2|[[{"op":"low"},{"op":"add","span":{"start":"¦61×233¦"},"time":[20,0],"now":[20,0]},{"op":"x"}]]
+calls 1|[[{"op":"add","span":{"start":"61","end":"¦61×199¦"},"time":[20,0],"now":[20,0]}]]
+large 1|[[{"op":"add","span":{"start":"61","end":"¦61×200¦"},"time":[20,0],"now":[20,0]}]]
+shape 1|[[{"op":"add","span":{"start":"61","onward":"(","end":"¦61×233¦"},"time":[20,0],"now":[20,0]}]]
+number 1|[[{"op":"add","span":{"start":"¦61×233¦"},"time":[-1,0],"now":[20,0]}]]
+hex 1|[[{"op":"add","span":{"end":"6","start":"¦61×233¦"},"time":[20,0],"now":[20,0]}]]
+uuid 1|[[{"op":"add","span":{"start":"¦61×233¦"},"time":[20,0],"now":[20,0],"owner":"xyz"}]]
+calls 1|[[{"op":"get","span":{"start":"¦61×233¦"}}]]
+calls 1|[[{"op":"batch","now":[20,0],"marks":[{"span":{"start":"61"},"time":[20,0]},{"span":{"start":"¦61×232¦"},"time":[20,0]}]}]]
+large 1|[[{"op":"batch","now":[20,0],"marks":[{"span":{"start":"61"},"time":[20,0]},{"span":{"start":"¦61×233¦"},"time":[20,0]}]}]]
+large 1|[[{"op":"batch","now":[20,0],"marks":[{"span":{"start":"¦61×233¦"},"time":[5,0]},{"span":{"start":"61"},"time":[20,0]}]}]]
+hex 1|[[{"op":"batch","now":[20,0],"marks":[{"span":{"start":"¦61×233¦"},"time":[20,0]},{"span":{"start":"6"},"time":[20,0]}]}]]
+large 2|[[{"op":"low"},{"op":"batch","now":[20,0],"marks":[{"span":{"start":"¦61×233¦"},"time":[20,0]}]},{"op":"x"}]]"#;
 
 /// Texts that are no JSON.
-static NO_JSON: [Piece; 4] = [
-    ("", NOT_JSON),
-    ("1e999", NOT_JSON),
-    (r#"{"page_first":132"#, NOT_JSON),
-    ("{} {}", NOT_JSON),
-];
+static NO_JSON: &str = r#"json|
+json|1e999
+json|{"page_first":132
+json|{} {}
+json|[×200
+json|{"threads":"ÿ"}"#;
 
-static LONG_NO_JSON: [Long; 1] = [("", "[", 200, "", NOT_JSON)];
+/// Where the texts of rows stand: what is before and behind them, how many calls are before theirs,
+/// and how many beside theirs in all.
+type Frame = (&'static str, &'static str, u64, usize);
 
-/// The same of what stands behind some calls, of which there are more in all.
-fn later(told: Told, place: &Place) -> Told {
-    let fault = match told {
-        Ok(calls) => return Ok(calls.saturating_add(place.others)),
-        Err(fault) => fault,
-    };
-    Err(match fault {
-        TraceFault::Shape(call) => TraceFault::Shape(call.saturating_add(place.earlier)),
-        TraceFault::Number(call) => TraceFault::Number(call.saturating_add(place.earlier)),
-        TraceFault::Hex(call) => TraceFault::Hex(call.saturating_add(place.earlier)),
-        TraceFault::Uuid(call) => TraceFault::Uuid(call.saturating_add(place.earlier)),
-        TraceFault::Span(call) => TraceFault::Span(call.saturating_add(place.earlier)),
-        TraceFault::TooLarge(call) => TraceFault::TooLarge(call.saturating_add(place.earlier)),
-        TraceFault::NotJson | TraceFault::Config | TraceFault::NoMemory => fault,
+/// The texts are all there is.
+const WHOLE: Frame = ("", "", 0, 0);
+
+const LISTS: Frame = (WIDE, "}", 0, 0);
+
+/// What a row wants to be told in a frame: how many calls there are, or the fault and its call.
+fn wanted(frame: Frame, want: &str) -> Told {
+    let (kind, number) = want.split_once(' ').unwrap_or((want, "0"));
+    let number: u64 = number.parse().unwrap_or(u64::MAX);
+    let call = number.saturating_add(frame.2);
+    Err(match kind {
+        "calls" => return Ok((number as usize).saturating_add(frame.3)),
+        "shape" => TraceFault::Shape(call),
+        "number" => TraceFault::Number(call),
+        "hex" => TraceFault::Hex(call),
+        "uuid" => TraceFault::Uuid(call),
+        "span" => TraceFault::Span(call),
+        "large" => TraceFault::TooLarge(call),
+        "config" => TraceFault::Config,
+        _ => TraceFault::NotJson,
     })
 }
 
-/// The number of the first piece, from 0, of which something else is told at a place.
-fn wrong_piece(alloc: Global, place: &Place, pieces: &[Piece]) -> Option<usize> {
-    for (i, (piece, want)) in pieces.iter().enumerate() {
-        let parts = [(place.before, 1), (*piece, 1), (place.behind, 1)];
-        if told_of(alloc, &parts) != Some(later(*want, place)) {
-            return Some(i);
+/// Reads texts in a frame.
+fn reads_within(frame: Frame, alloc: Global, row: Row) -> Holds {
+    let whole = format!(in alloc; "{}¦{}¦{}", frame.0, row.of, frame.1)?;
+    let bytes = trace_of(alloc, WIDE, whole.as_str())?;
+    Ok(told(alloc, &bytes)? == Some(wanted(frame, row.want)))
+}
+
+/// The value that some changes give a member.
+fn changed<'c>(changes: &'c str, member: &str) -> Option<&'c str> {
+    for change in changes.split(';') {
+        if let Some((name, value)) = change.split_once(' ')
+            && name == member
+        {
+            return Some(value);
         }
     }
     None
 }
 
-/// The same of long pieces.
-fn wrong_long(alloc: Global, place: &Place, pieces: &[Long]) -> Option<usize> {
-    for (i, (front, piece, times, tail, want)) in pieces.iter().enumerate() {
-        let parts = [
-            (place.before, 1),
-            (*front, 1),
-            (*piece, *times),
-            (*tail, 1),
-            (place.behind, 1),
-        ];
-        if told_of(alloc, &parts) != Some(*want) {
-            return Some(i);
+/// The head with some changes.
+fn head_with(alloc: Global, changes: &str) -> Result<String, AllocError> {
+    let mut head = String::new(alloc);
+    for (member, usual) in &HEAD_MEMBERS {
+        let value = changed(changes, member).unwrap_or(usual);
+        if value != "-" {
+            let before = if head.is_empty() { "{" } else { "," };
+            head = format!(in alloc; "{head}{before}\"{member}\":{value}")?;
         }
     }
-    None
+    head.push_str("}")?;
+    Ok(head)
+}
+
+/// Reads heads.
+fn reads_heads(alloc: Global, row: Row) -> Holds {
+    let wanted = Some(wanted(WHOLE, row.want));
+    if row.of.starts_with('{') {
+        return Ok(told(alloc, row.of.as_bytes())? == wanted);
+    }
+    let head = head_with(alloc, row.of)?;
+    Ok(told(alloc, head.as_bytes())? == wanted)
 }
 
 #[test]
-fn tells_what_decides_in_the_head(rt: HostRuntime) {
-    none(&rt, wrong_piece(rt.alloc(), &MEMBERS, &HEADS));
-    none(&rt, wrong_piece(rt.alloc(), &WHOLE, &NO_JSON));
-    none(&rt, wrong_long(rt.alloc(), &WHOLE, &LONG_NO_JSON));
-    let no_text = told(rt.alloc(), b"{\"threads\":\"\xff\"}");
-    assert!(rt; no_text == Some(NOT_JSON));
+fn tells_what_decides_in_the_head(rt: HostRuntime) -> Result<(), Fail> {
+    all_hold!(rt, HEADS, reads_heads());
+    all_hold!(rt, NO_JSON, reads_within(WHOLE));
+    Ok(())
 }
 
 #[test]
-fn tells_what_decides_in_calls(rt: HostRuntime) {
-    none(&rt, wrong_piece(rt.alloc(), &LISTS, &THREADS));
-    none(&rt, wrong_piece(rt.alloc(), &ONLY_CALL, &CALLS));
-    none(&rt, wrong_piece(rt.alloc(), &ONLY_CALL, &BATCHES));
-    none(&rt, wrong_piece(rt.alloc(), &THIRD_CALL, &CALLS));
-    none(&rt, wrong_piece(rt.alloc(), &THIRD_CALL, &BATCHES));
+fn tells_what_decides_in_calls(rt: HostRuntime) -> Result<(), Fail> {
+    all_hold!(rt, THREADS, reads_within(LISTS));
+    let third = (
+        r#"[[{"op":"low"}],[{"op":"low"},"#,
+        r#",{"op":"low"}]]"#,
+        2,
+        3,
+    );
+    for frame in [("[[", "]]", 0, 0), third] {
+        all_hold!(rt, CALLS, reads_within(frame));
+        all_hold!(rt, BATCHES, reads_within(frame));
+    }
+    Ok(())
 }
 
 #[test]
-fn tells_what_decides_in_long_traces(rt: HostRuntime) {
-    none(&rt, wrong_long(rt.alloc(), &LISTS, &LONG_TRACES));
-    none(&rt, wrong_long(rt.alloc(), &NARROW_LISTS, &LARGE_SPANS));
+fn tells_what_decides_in_long_traces(rt: HostRuntime) -> Result<(), Fail> {
+    all_hold!(rt, LONG_TRACES, reads_within(LISTS));
+    all_hold!(rt, LARGE_SPANS, reads_within((NARROW, "}", 0, 0)));
+    Ok(())
 }
 
-/// What a call is read as.
-enum Want {
-    /// A lookup, whose span covers those of the keys `a`, `b`, `c` and `d`.
-    Covers([bool; 4]),
-    /// An Add at 20 with the moment 30, of this owner.
-    Adds(Option<u128>),
-}
+/// Calls, and what each is read as: a lookup of some of the keys `a`, `b`, `c` and `d`, or an Add.
+static CALLS_READ: &str = r#"covers b|{"op":"get","span":{"start":"62"}}
+covers ab|{"op":"get","span":{"start":"61","end":"63"}}
+covers b|{"op":"get","span":{"start":"62","end":""}}
+covers |{"op":"get","span":{"start":"63","end":"61"}}
+covers abc|{"op":"get","span":{"start":"61","end":"63","ends":"[]"}}
+covers ab|{"op":"get","span":{"start":"61","end":"63","ends":"[)"}}
+covers bc|{"op":"get","span":{"start":"61","end":"63","ends":"(]"}}
+covers b|{"op":"get","span":{"start":"61","end":"63","ends":"()"}}
+covers b|{"op":"get","span":{"start":"62","end":"62","ends":"[)"}}
+covers |{"op":"get","span":{"start":"62","end":"62","ends":"()"}}
+covers |{"op":"get","span":{"start":"63","end":"61","ends":"[]"}}
+covers bcd|{"op":"get","span":{"start":"62","onward":"["}}
+covers cd|{"op":"get","span":{"start":"62","onward":"("}}
+covers abcd|{"op":"get","span":{"start":"","onward":"["}}
+adds 20.1 at 30.2 for nobody|{"op":"add","span":{"start":"61"},"time":[20,1],"now":[30,2]}
+adds 20.1 at 30.2 for nobody|{"op":"add","span":{"start":"61"},"time":[20,1],"now":[30,2],"owner":null}
+adds 20.1 at 30.2 for nobody|{"op":"add","span":{"start":"61"},"time":[20,1],"now":[30,2],"owner":"00000000-0000-0000-0000-000000000000"}
+adds 20.1 at 30.2 for 00112233-4455-6677-8899-aabbccddeeff|{"op":"add","span":{"start":"61"},"time":[20,1],"now":[30,2],"owner":"00112233-4455-6677-8899-AABBCCDDEEFF"}
+adds 20.1 at 30.2 for 00112233-4455-6677-8899-aabbccddeeff|{"op":"add","span":{"start":"61"},"time":[20,1],"now":[30,2],"owner":"00112233445566778899aabbccddeeff"}
+adds 20.1 at 30.2 for 00112233-4455-6677-8899-aabbccddeeff|{"op":"add","span":{"start":"61"},"time":[20,1],"now":[30,2],"owner":"{00112233-4455-6677-8899-aabbccddeeff}"}
+adds 20.1 at 30.2 for 00112233-4455-6677-8899-aabbccddeeff|{"op":"add","span":{"start":"61"},"time":[20,1],"now":[30,2],"owner":"urn:uuid:00112233-4455-6677-8899-aabbccddeeff"}"#;
 
-const OWNER: u128 = 0x0011_2233_4455_6677_8899_aabb_ccdd_eeff;
-
-/// Calls, and what each is read as.
-static READ: [(&str, Want); 21] = [
-    (
-        r#"{"op":"get","span":{"start":"62"}}"#,
-        Want::Covers([false, true, false, false]),
-    ),
-    (
-        r#"{"op":"get","span":{"start":"61","end":"63"}}"#,
-        Want::Covers([true, true, false, false]),
-    ),
-    (
-        r#"{"op":"get","span":{"start":"62","end":""}}"#,
-        Want::Covers([false, true, false, false]),
-    ),
-    (
-        r#"{"op":"get","span":{"start":"63","end":"61"}}"#,
-        Want::Covers([false, false, false, false]),
-    ),
-    (
-        r#"{"op":"get","span":{"start":"61","end":"63","ends":"[]"}}"#,
-        Want::Covers([true, true, true, false]),
-    ),
-    (
-        r#"{"op":"get","span":{"start":"61","end":"63","ends":"[)"}}"#,
-        Want::Covers([true, true, false, false]),
-    ),
-    (
-        r#"{"op":"get","span":{"start":"61","end":"63","ends":"(]"}}"#,
-        Want::Covers([false, true, true, false]),
-    ),
-    (
-        r#"{"op":"get","span":{"start":"61","end":"63","ends":"()"}}"#,
-        Want::Covers([false, true, false, false]),
-    ),
-    (
-        r#"{"op":"get","span":{"start":"62","end":"62","ends":"[)"}}"#,
-        Want::Covers([false, true, false, false]),
-    ),
-    (
-        r#"{"op":"get","span":{"start":"62","end":"62","ends":"()"}}"#,
-        Want::Covers([false, false, false, false]),
-    ),
-    (
-        r#"{"op":"get","span":{"start":"63","end":"61","ends":"[]"}}"#,
-        Want::Covers([false, false, false, false]),
-    ),
-    (
-        r#"{"op":"get","span":{"start":"62","onward":"["}}"#,
-        Want::Covers([false, true, true, true]),
-    ),
-    (
-        r#"{"op":"get","span":{"start":"62","onward":"("}}"#,
-        Want::Covers([false, false, true, true]),
-    ),
-    (
-        r#"{"op":"get","span":{"start":"","onward":"["}}"#,
-        Want::Covers([true, true, true, true]),
-    ),
-    (
-        r#"{"op":"add","span":{"start":"61"},"time":[20,1],"now":[30,2]}"#,
-        Want::Adds(None),
-    ),
-    (
-        r#"{"op":"add","span":{"start":"61"},"time":[20,1],"now":[30,2],"owner":null}"#,
-        Want::Adds(None),
-    ),
-    (
-        r#"{"op":"add","span":{"start":"61"},"time":[20,1],"now":[30,2],"owner":"00000000-0000-0000-0000-000000000000"}"#,
-        Want::Adds(None),
-    ),
-    (
-        r#"{"op":"add","span":{"start":"61"},"time":[20,1],"now":[30,2],"owner":"00112233-4455-6677-8899-AABBCCDDEEFF"}"#,
-        Want::Adds(Some(OWNER)),
-    ),
-    (
-        r#"{"op":"add","span":{"start":"61"},"time":[20,1],"now":[30,2],"owner":"00112233445566778899aabbccddeeff"}"#,
-        Want::Adds(Some(OWNER)),
-    ),
-    (
-        r#"{"op":"add","span":{"start":"61"},"time":[20,1],"now":[30,2],"owner":"{00112233-4455-6677-8899-aabbccddeeff}"}"#,
-        Want::Adds(Some(OWNER)),
-    ),
-    (
-        r#"{"op":"add","span":{"start":"61"},"time":[20,1],"now":[30,2],"owner":"urn:uuid:00112233-4455-6677-8899-aabbccddeeff"}"#,
-        Want::Adds(Some(OWNER)),
-    ),
-];
-
-static KEYS: [&[u8]; 4] = [b"a", b"b", b"c", b"d"];
-
-/// Whether a span covers those of the keys that it has to.
-fn covers(span: &Span, want: &[bool; 4]) -> bool {
-    for (key, want) in KEYS.iter().zip(want) {
-        if span.covers(key) != *want {
-            return false;
+/// What a lookup covers.
+fn text_of_lookup(alloc: Global, span: &Span) -> Result<String, AllocError> {
+    let mut text = String::from_str(alloc, "covers ")?;
+    for key in ["a", "b", "c", "d"] {
+        if span.covers(key.as_bytes()) {
+            text.push_str(key)?;
         }
     }
-    true
+    Ok(text)
 }
 
-/// Whether an Add has its times and this owner.
-fn adds(value: &Value, now: Timestamp, want: Option<u128>) -> bool {
-    let owner = match value.owner() {
-        Some(owner) => Some(owner.as_u128()),
-        None => None,
-    };
-    value.time().wall() == 20 && now.wall() == 30 && owner == want
-}
-
-/// Whether a call is what it has to be.
-fn is_call(call: &Call, want: &Want) -> bool {
-    match (call, want) {
-        (Call::Get { span }, Want::Covers(keys)) => covers(span, keys),
-        (Call::Add { value, now, .. }, Want::Adds(owner)) => adds(value, *now, *owner),
-        _ => false,
+/// What an Add adds, at which moment and for whom.
+fn text_of_add(alloc: Global, value: &Value, now: Timestamp) -> Result<String, AllocError> {
+    let (wall, logical) = (value.time().wall(), value.time().logical());
+    let times = format!(in alloc; "adds {wall}.{logical} at {}.{}", now.wall(), now.logical())?;
+    match value.owner() {
+        Some(owner) => format!(in alloc; "{times} for {owner}"),
+        None => format!(in alloc; "{times} for nobody"),
     }
 }
 
-/// Whether the first list of a trace begins with such a call.
-fn begins_with(trace: &Trace, want: &Want) -> bool {
+/// Reads a call that is the only one of a trace.
+fn reads_calls(alloc: Global, row: Row) -> Holds {
+    let lists = format!(in alloc; "[[{}]]", row.of)?;
+    let trace = read_trace(alloc, &trace_of(alloc, WIDE, lists.as_str())?)?;
     let Some(calls) = trace.threads.list(0) else {
-        return false;
+        return Ok(false);
     };
-    match calls.first() {
-        Some(call) => is_call(call, want),
-        None => false,
-    }
-}
-
-/// Whether a call that is a trace's only one is read so.
-fn is_read(alloc: Global, call: &str, want: &Want) -> bool {
-    let parts = [(ONLY_CALL.before, 1), (call, 1), (ONLY_CALL.behind, 1)];
-    let Ok(text) = text_of(alloc, &parts) else {
-        return false;
+    let text = match calls.first() {
+        Some(Call::Get { span }) => text_of_lookup(alloc, span)?,
+        Some(Call::Add { value, now, .. }) => text_of_add(alloc, value, *now)?,
+        _ => return Ok(false),
     };
-    match read_trace(alloc, &text) {
-        Ok(trace) => begins_with(&trace, want),
-        Err(_) => false,
-    }
-}
-
-/// The number of the first call, from 0, that is read as something else.
-fn wrong_reading(alloc: Global, rows: &[(&str, Want)]) -> Option<usize> {
-    for (i, (call, want)) in rows.iter().enumerate() {
-        if !is_read(alloc, call, want) {
-            return Some(i);
-        }
-    }
-    None
+    Ok(text.as_str() == row.want)
 }
 
 #[test]
-fn reads_spans_and_owners(rt: HostRuntime) {
-    none(&rt, wrong_reading(rt.alloc(), &READ));
+fn reads_spans_and_owners(rt: HostRuntime) -> Result<(), Fail> {
+    all_hold!(rt, CALLS_READ, reads_calls());
+    Ok(())
 }

@@ -1,14 +1,12 @@
-use crate::rows::unfolded;
-use std::alloc::Global;
-use tsc_trace::{Log, LogFault, log_text, read_log};
+use crate::support::*;
+use tsc_trace::{LogFault, log_text, read_log};
 
-/// Texts, a row a line: how many lines are read, or the number of the first that is no line of a
-/// log, or that there are too many; and behind the bar the text, as `unfolded` has it. A `#` begins
-/// a remark.
+/// Texts: how many lines are read, or the number of the first that is no line of a log, or that
+/// there are too many.
 static TEXTS: &str = "# No lines.
 reads 0|
 # One list of six calls.
-reads 6|0 0 add 0 1 0 0¶0 1 get 1 20.0 11111111-1111-4111-8111-111111111111¶0 2 get 1 5.0 none¶0 3 add 1 1 0 0¶0 4 get 2 20.0 none¶0 5 low 2 5.0¶
+reads 6|0 0 add 0 1 0 0¶0 1 get 1 20.0 ¹¶0 2 get 1 5.0 none¶0 3 add 1 1 0 0¶0 4 get 2 20.0 none¶0 5 low 2 5.0¶
 # A line without its line feed.
 1|0 0 low 0 5.0
 2|0 0 low 0 5.0¶0 1 low 0 5.0
@@ -110,58 +108,25 @@ long|0 0 low 0 5.0¶×65537
 65536|0 0 low 0 5.0¶×65535¦x
 1|x¶¦0 0 low 0 5.0¶×65536";
 
-/// What a row wants to be read.
-fn wanted(words: &str) -> Result<usize, LogFault> {
-    if words == "long" {
-        return Err(LogFault::Length);
-    }
-    match words.strip_prefix("reads ") {
-        Some(lines) => Ok(lines.parse().unwrap_or(usize::MAX)),
-        None => Err(LogFault::Text(words.parse().unwrap_or(0))),
-    }
-}
-
-/// Whether a log has so many lines, and is written as this text.
-fn is_written(alloc: Global, log: &Log, text: &[u8], lines: usize) -> bool {
-    match log_text(alloc, log) {
-        Ok(written) => log.lines.slice().len() == lines && written.as_slice() == text,
-        Err(_) => false,
-    }
-}
-
-/// Whether so many lines are read from a text, and written as it stands, or it is refused so.
-fn is_read(alloc: Global, text: &[u8], want: &Result<usize, LogFault>) -> bool {
-    match read_log(alloc, text) {
-        Ok(log) => match want {
-            Ok(lines) => is_written(alloc, &log, text, *lines),
-            Err(_) => false,
-        },
-        Err(fault) => *want == Err(fault),
-    }
-}
-
-/// Whether what stands behind a row's bar is read as what stands before it says.
-fn holds(alloc: Global, row: &str) -> bool {
-    let Some((words, text)) = row.split_once('|') else {
-        return row.starts_with('#');
+/// Reads logs, and writes them again.
+fn reads_logs(alloc: Global, row: Row) -> Holds {
+    let text = bytes_of(alloc, row.of)?;
+    let log = match read_log(alloc, &text) {
+        Ok(log) => log,
+        Err(LogFault::Text(line)) => return Ok(row.want.parse().unwrap_or(0) == line),
+        Err(fault) => return Ok(row.want == "long" && fault == LogFault::Length),
     };
-    match unfolded(alloc, text) {
-        Ok(text) => is_read(alloc, &text, &wanted(words)),
-        Err(_) => false,
-    }
-}
-
-/// The first row that doesn't hold.
-fn first_wrong(alloc: Global, rows: &'static str) -> Option<&'static str> {
-    for row in rows.lines() {
-        if !holds(alloc, row) {
-            return Some(row);
-        }
-    }
-    None
+    let written = log_text(alloc, &log)?;
+    let lines = log.lines.slice().len();
+    let is_counted = match row.want.strip_prefix("reads ") {
+        Some(count) => count.parse().unwrap_or(usize::MAX) == lines,
+        None => false,
+    };
+    Ok(is_counted && written.as_slice() == text.as_slice())
 }
 
 #[test]
-fn reads_texts(rt: HostRuntime) {
-    assert_eq!(rt; first_wrong(rt.alloc(), TEXTS), None);
+fn reads_texts(rt: HostRuntime) -> Result<(), Fail> {
+    all_hold!(rt, TEXTS, reads_logs());
+    Ok(())
 }

@@ -1,131 +1,67 @@
 //! Objects with their members in each order.
 
-use crate::trace::readers::{OnePass, read_once};
-use std::alloc::{AllocError, Global};
+use crate::support::*;
+use crate::trace::readers::read_once;
 
-/// What stands before an object and behind it, its members, and in how many orders they can stand.
-struct Object {
-    before: &'static str,
-    members: &'static [&'static str],
-    behind: &'static str,
-    orders: usize,
-}
-
-/// A head, an Add, a batch, a mark, a lookup, and a span of each.
-static OBJECTS: [Object; 7] = [
-    Object {
-        before: "",
-        members: &[
-            r#""page_first":66"#,
-            r#""page_max":264"#,
-            r#""min_pages":2"#,
-            r#""retention":10"#,
-            r#""low_water":[5,0]"#,
-            r#""threads":[[{"op":"low"}],[{"op":"batch","marks":[],"now":[1,0]}]]"#,
-        ],
-        behind: "",
-        orders: 720,
-    },
-    Object {
-        before: r#"{"page_first":66,"page_max":264,"min_pages":2,"retention":10,"low_water":[5,0],"threads":[["#,
-        members: &[
-            r#""op":"add""#,
-            r#""span":{"start":"61"}"#,
-            r#""time":[20,1]"#,
-            r#""owner":"11111111-1111-4111-8111-111111111111""#,
-            r#""now":[21,2]"#,
-        ],
-        behind: "]]}",
-        orders: 120,
-    },
-    Object {
-        before: r#"{"page_first":66,"page_max":264,"min_pages":2,"retention":10,"low_water":[5,0],"threads":[["#,
-        members: &[
-            r#""op":"batch""#,
-            r#""marks":[{"span":{"start":"61"},"time":[20,1]},{"span":{"start":"62"},"time":[21,0],"owner":null}]"#,
-            r#""now":[21,2]"#,
-        ],
-        behind: "]]}",
-        orders: 6,
-    },
-    Object {
-        before: r#"{"page_first":66,"page_max":264,"min_pages":2,"retention":10,"low_water":[5,0],"threads":[[{"op":"batch","marks":["#,
-        members: &[
-            r#""span":{"start":"61","end":"63"}"#,
-            r#""time":[20,1]"#,
-            r#""owner":"22222222-2222-4222-8222-222222222222""#,
-        ],
-        behind: r#"],"now":[21,2]}]]}"#,
-        orders: 6,
-    },
-    Object {
-        before: r#"{"page_first":66,"page_max":264,"min_pages":2,"retention":10,"low_water":[5,0],"threads":[["#,
-        members: &[r#""op":"get""#, r#""span":{"start":"61","onward":"("}"#],
-        behind: "]]}",
-        orders: 2,
-    },
-    Object {
-        before: r#"{"page_first":66,"page_max":264,"min_pages":2,"retention":10,"low_water":[5,0],"threads":[[{"op":"get","span":"#,
-        members: &[r#""start":"61""#, r#""end":"63""#, r#""ends":"(]""#],
-        behind: "}]]}",
-        orders: 6,
-    },
-    Object {
-        before: r#"{"page_first":66,"page_max":264,"min_pages":2,"retention":10,"low_water":[5,0],"threads":[[{"op":"add","time":[20,1],"now":[21,2],"span":"#,
-        members: &[r#""start":"61""#, r#""onward":"[""#],
-        behind: "}]]}",
-        orders: 2,
-    },
-];
+/// A head, an Add, a batch, a mark, a lookup, and a span of each: in how many orders their members
+/// can stand, the place of the object, as `◊`, and its members.
+static OBJECTS: &str =
+    r#"720|◊|"page_first":66;"page_max":264;"min_pages":2;"retention":10;"low_water":[5,0];"threads":[[{"op":"low"}],[{"op":"batch","marks":[],"now":[1,0]}]]
+120|[[◊]]|"op":"add";"span":{"start":"61"};"time":[20,1];"owner":"¹";"now":[21,2]
+6|[[◊]]|"op":"batch";"marks":[{"span":{"start":"61"},"time":[20,1]},{"span":{"start":"62"},"time":[21,0],"owner":null}];"now":[21,2]
+6|[[{"op":"batch","marks":[◊],"now":[21,2]}]]|"span":{"start":"61","end":"63"};"time":[20,1];"owner":"²"
+2|[[◊]]|"op":"get";"span":{"start":"61","onward":"("}
+6|[[{"op":"get","span":◊}]]|"start":"61";"end":"63";"ends":"(]"
+2|[[{"op":"add","time":[20,1],"now":[21,2],"span":◊}]]|"start":"61";"onward":"[""#;
 
 /// The members in the order that a number stands for: each is put at a place among those before it,
 /// which is a digit of the number.
-fn in_order<'m>(
+fn in_order(
     alloc: Global,
-    members: &[&'m str],
+    members: &'static str,
     number: usize,
-) -> Result<Vec<&'m str>, AllocError> {
+) -> Result<Vec<&'static str>, AllocError> {
     let mut order = Vec::new(alloc);
     let mut left = number;
-    for (i, member) in members.iter().enumerate() {
+    for (i, member) in members.split(';').enumerate() {
         let places = i.saturating_add(1);
         let place = (left % places).min(order.len());
-        order.insert(place, *member)?;
+        order.insert(place, member)?;
         left /= places;
     }
     Ok(order)
 }
 
-/// The object with its members in such an order.
-fn text_of(alloc: Global, object: &Object, number: usize) -> Result<String, AllocError> {
-    let mut text = String::from_str(alloc, object.before)?;
+/// The text of an object with its members in such an order, in its place.
+fn text_of(alloc: Global, row: Row, number: usize) -> Result<String, AllocError> {
+    let (before, behind) = row.field(0).split_once('◊').unwrap_or(("", ""));
+    let mut text = String::from_str(alloc, before)?;
     let mut front = "{";
-    for member in &in_order(alloc, object.members, number)? {
+    for member in &in_order(alloc, row.field(1), number)? {
         text.push_str(front)?;
         text.push_str(member)?;
         front = ",";
     }
     text.push_str("}")?;
-    text.push_str(object.behind)?;
+    text.push_str(behind)?;
     Ok(text)
 }
 
-/// In how many orders the object is read in one pass, before the first in which it isn't.
-fn orders_read(alloc: Global, object: &Object) -> usize {
-    for number in 0..object.orders {
-        match text_of(alloc, object, number) {
-            Ok(text) if read_once(alloc, text.as_bytes()) == OnePass::Same => {}
-            _ => return number,
+/// Reads an object in one pass with its members in each order.
+fn reads_in_each_order(alloc: Global, row: Row) -> Holds {
+    let orders = row.want.parse().unwrap_or(0);
+    for number in 0..orders {
+        let text = text_of(alloc, row, number)?;
+        let bytes = trace_of(alloc, NARROW, text.as_str())?;
+        if read_once(alloc, &bytes)? != Some(true) {
+            return Ok(false);
         }
     }
-    object.orders
+    Ok(orders > 0)
 }
 
 #[test]
-fn reads_members_in_each_order_in_one_pass(rt: HostRuntime) {
-    let mut read: usize = 0;
-    for object in &OBJECTS {
-        read = read.saturating_add(orders_read(rt.alloc(), object));
-    }
-    assert_eq!(rt; read, 862);
+fn reads_members_in_each_order_in_one_pass(rt: HostRuntime) -> Result<(), Fail> {
+    all_hold!(rt, OBJECTS, reads_in_each_order());
+    Ok(())
 }

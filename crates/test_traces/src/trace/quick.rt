@@ -3,84 +3,48 @@
 //! Each table of pieces is tried at each of some places. What is to be told of a text stands in the
 //! tables of `json`.
 
-use crate::rows::{Part, none, text_of};
-use crate::trace::readers::{Told, told, told_of};
-use std::alloc::{AllocError, Global};
-use std::test::*;
+use crate::support::*;
+use crate::trace::readers::told;
 
-/// What stands before a piece, and what behind it.
-type Place = (&'static str, &'static str);
-
-/// The number of the first place, from 0, at which the readers tell different things of a piece.
-fn first_apart(alloc: Global, places: &[Place], pieces: &[&str]) -> Option<usize> {
-    for (i, (before, behind)) in places.iter().enumerate() {
+/// The number of the first place, from 0, at which the readers tell different things of a piece. A
+/// piece stands at the `◊` of a place, and lists get a head.
+fn first_apart(
+    alloc: Global,
+    places: &[&str],
+    pieces: &[&str],
+) -> Result<Option<usize>, AllocError> {
+    for (i, place) in places.iter().enumerate() {
+        let Some((before, behind)) = place.split_once('◊') else {
+            return Ok(Some(i));
+        };
+        let is_list = before.strip_prefix("[[").is_some();
+        let (head, end) = if is_list { (WIDE, "}") } else { ("", "") };
         for piece in pieces {
-            if told_of(alloc, &[(*before, 1), (*piece, 1), (*behind, 1)]).is_none() {
-                return Some(i);
+            let text = format!(in alloc; "{head}{before}{piece}{behind}{end}")?;
+            if told(alloc, text.as_bytes())?.is_none() {
+                return Ok(Some(i));
             }
         }
     }
-    None
+    Ok(None)
 }
 
 /// Where a number stands, once as each of those that a trace has.
-static NUMBER_PLACES: [Place; 14] = [
-    (
-        r#"{"page_first":"#,
-        r#","page_max":8256,"min_pages":2,"retention":10,"low_water":[5,0],"threads":[[]]}"#,
-    ),
-    (
-        r#"{"page_first":132,"page_max":"#,
-        r#","min_pages":2,"retention":10,"low_water":[5,0],"threads":[[]]}"#,
-    ),
-    (
-        r#"{"page_first":132,"page_max":8256,"min_pages":"#,
-        r#","retention":10,"low_water":[5,0],"threads":[[]]}"#,
-    ),
-    (
-        r#"{"page_first":132,"page_max":8256,"min_pages":2,"retention":"#,
-        r#","low_water":[5,0],"threads":[[]]}"#,
-    ),
-    (
-        r#"{"page_first":132,"page_max":8256,"min_pages":2,"retention":10,"low_water":["#,
-        r#",0],"threads":[[]]}"#,
-    ),
-    (
-        r#"{"page_first":132,"page_max":8256,"min_pages":2,"retention":10,"low_water":[5,"#,
-        r#"],"threads":[[]]}"#,
-    ),
-    (
-        r#"{"page_first":132,"page_max":8256,"min_pages":2,"retention":10,"low_water":[5,0],"threads":[[{"op":"add","span":{"start":"61"},"time":["#,
-        r#",0],"now":[20,0]}]]}"#,
-    ),
-    (
-        r#"{"page_first":132,"page_max":8256,"min_pages":2,"retention":10,"low_water":[5,0],"threads":[[{"op":"add","span":{"start":"61"},"time":[20,"#,
-        r#"],"now":[20,0]}]]}"#,
-    ),
-    (
-        r#"{"page_first":132,"page_max":8256,"min_pages":2,"retention":10,"low_water":[5,0],"threads":[[{"op":"add","span":{"start":"61"},"time":[20,0],"now":["#,
-        r#",0]}]]}"#,
-    ),
-    (
-        r#"{"page_first":132,"page_max":8256,"min_pages":2,"retention":10,"low_water":[5,0],"threads":[[{"op":"add","span":{"start":"61"},"time":[20,0],"now":[20,"#,
-        r#"]}]]}"#,
-    ),
-    (
-        r#"{"page_first":132,"page_max":8256,"min_pages":2,"retention":10,"low_water":[5,0],"threads":[[],[{"op":"batch","marks":[{"span":{"start":"61"},"time":["#,
-        r#",0]}],"now":[20,0]}]]}"#,
-    ),
-    (
-        r#"{"page_first":132,"page_max":8256,"min_pages":2,"retention":10,"low_water":[5,0],"threads":[[],[{"op":"batch","marks":[{"span":{"start":"61"},"time":[20,"#,
-        r#"]}],"now":[20,0]}]]}"#,
-    ),
-    (
-        r#"{"page_first":132,"page_max":8256,"min_pages":2,"retention":10,"low_water":[5,0],"threads":[[],[{"op":"batch","marks":[],"now":["#,
-        r#",0]}]]}"#,
-    ),
-    (
-        r#"{"page_first":132,"page_max":8256,"min_pages":2,"retention":10,"low_water":[5,0],"threads":[[],[{"op":"batch","marks":[],"now":[20,"#,
-        r#"]}]]}"#,
-    ),
+static NUMBER_PLACES: [&str; 14] = [
+    r#"{"page_first":◊,"page_max":8256,"min_pages":2,"retention":10,"low_water":[5,0],"threads":[[]]}"#,
+    r#"{"page_first":132,"page_max":◊,"min_pages":2,"retention":10,"low_water":[5,0],"threads":[[]]}"#,
+    r#"{"page_first":132,"page_max":8256,"min_pages":◊,"retention":10,"low_water":[5,0],"threads":[[]]}"#,
+    r#"{"page_first":132,"page_max":8256,"min_pages":2,"retention":◊,"low_water":[5,0],"threads":[[]]}"#,
+    r#"{"page_first":132,"page_max":8256,"min_pages":2,"retention":10,"low_water":[◊,0],"threads":[[]]}"#,
+    r#"{"page_first":132,"page_max":8256,"min_pages":2,"retention":10,"low_water":[5,◊],"threads":[[]]}"#,
+    r#"[[{"op":"add","span":{"start":"61"},"time":[◊,0],"now":[20,0]}]]"#,
+    r#"[[{"op":"add","span":{"start":"61"},"time":[20,◊],"now":[20,0]}]]"#,
+    r#"[[{"op":"add","span":{"start":"61"},"time":[20,0],"now":[◊,0]}]]"#,
+    r#"[[{"op":"add","span":{"start":"61"},"time":[20,0],"now":[20,◊]}]]"#,
+    r#"[[],[{"op":"batch","marks":[{"span":{"start":"61"},"time":[◊,0]}],"now":[20,0]}]]"#,
+    r#"[[],[{"op":"batch","marks":[{"span":{"start":"61"},"time":[20,◊]}],"now":[20,0]}]]"#,
+    r#"[[],[{"op":"batch","marks":[],"now":[◊,0]}]]"#,
+    r#"[[],[{"op":"batch","marks":[],"now":[20,◊]}]]"#,
 ];
 
 /// Numbers as JSON writes them and as it doesn't, and what else may stand there.
@@ -135,67 +99,22 @@ static NUMBERS: [&str; 47] = [
 ];
 
 /// Where a text stands, once as each of those that a trace has.
-static TEXT_PLACES: [Place; 15] = [
-    (
-        r#"{"page_first":132,"page_max":8256,"min_pages":2,"retention":10,"low_water":[5,0],"threads":[[{"op":"#,
-        "}]]}",
-    ),
-    (
-        r#"{"page_first":132,"page_max":8256,"min_pages":2,"retention":10,"low_water":[5,0],"threads":[[{"op":"#,
-        r#","span":{"start":"61"}}]]}"#,
-    ),
-    (
-        r#"{"page_first":132,"page_max":8256,"min_pages":2,"retention":10,"low_water":[5,0],"threads":[[{"op":"#,
-        r#","span":{"start":"61"},"time":[20,0],"now":[20,0]}]]}"#,
-    ),
-    (
-        r#"{"page_first":132,"page_max":8256,"min_pages":2,"retention":10,"low_water":[5,0],"threads":[[{"op":"#,
-        r#","marks":[],"now":[20,0]}]]}"#,
-    ),
-    (
-        r#"{"page_first":132,"page_max":8256,"min_pages":2,"retention":10,"low_water":[5,0],"threads":[[{"op":"add","time":[20,0],"now":[20,0],"span":{"start":"#,
-        "}}]]}",
-    ),
-    (
-        r#"{"page_first":132,"page_max":8256,"min_pages":2,"retention":10,"low_water":[5,0],"threads":[[{"op":"get","span":{"start":"#,
-        r#","end":"62"}}]]}"#,
-    ),
-    (
-        r#"{"page_first":132,"page_max":8256,"min_pages":2,"retention":10,"low_water":[5,0],"threads":[[{"op":"add","time":[20,0],"now":[20,0],"span":{"start":"61","end":"#,
-        "}}]]}",
-    ),
-    (
-        r#"{"page_first":132,"page_max":8256,"min_pages":2,"retention":10,"low_water":[5,0],"threads":[[{"op":"get","span":{"start":"61","end":"#,
-        "}}]]}",
-    ),
-    (
-        r#"{"page_first":132,"page_max":8256,"min_pages":2,"retention":10,"low_water":[5,0],"threads":[[{"op":"add","time":[20,0],"now":[20,0],"span":{"start":"61","end":"63","ends":"#,
-        "}}]]}",
-    ),
-    (
-        r#"{"page_first":132,"page_max":8256,"min_pages":2,"retention":10,"low_water":[5,0],"threads":[[{"op":"get","span":{"start":"63","end":"61","ends":"#,
-        "}}]]}",
-    ),
-    (
-        r#"{"page_first":132,"page_max":8256,"min_pages":2,"retention":10,"low_water":[5,0],"threads":[[{"op":"get","span":{"start":"61","onward":"#,
-        "}}]]}",
-    ),
-    (
-        r#"{"page_first":132,"page_max":8256,"min_pages":2,"retention":10,"low_water":[5,0],"threads":[[{"op":"add","span":{"start":"61"},"time":[20,0],"now":[20,0],"owner":"#,
-        "}]]}",
-    ),
-    (
-        r#"{"page_first":132,"page_max":8256,"min_pages":2,"retention":10,"low_water":[5,0],"threads":[[],[{"op":"batch","now":[20,0],"marks":[{"time":[20,0],"span":{"start":"#,
-        "}}]}]]}",
-    ),
-    (
-        r#"{"page_first":132,"page_max":8256,"min_pages":2,"retention":10,"low_water":[5,0],"threads":[[],[{"op":"batch","now":[20,0],"marks":[{"time":[20,0],"span":{"start":"61","onward":"#,
-        "}}]}]]}",
-    ),
-    (
-        r#"{"page_first":132,"page_max":8256,"min_pages":2,"retention":10,"low_water":[5,0],"threads":[[],[{"op":"batch","now":[20,0],"marks":[{"span":{"start":"61"},"time":[20,0],"owner":"#,
-        "}]}]]}",
-    ),
+static TEXT_PLACES: [&str; 15] = [
+    r#"[[{"op":◊}]]"#,
+    r#"[[{"op":◊,"span":{"start":"61"}}]]"#,
+    r#"[[{"op":◊,"span":{"start":"61"},"time":[20,0],"now":[20,0]}]]"#,
+    r#"[[{"op":◊,"marks":[],"now":[20,0]}]]"#,
+    r#"[[{"op":"add","time":[20,0],"now":[20,0],"span":{"start":◊}}]]"#,
+    r#"[[{"op":"get","span":{"start":◊,"end":"62"}}]]"#,
+    r#"[[{"op":"add","time":[20,0],"now":[20,0],"span":{"start":"61","end":◊}}]]"#,
+    r#"[[{"op":"get","span":{"start":"61","end":◊}}]]"#,
+    r#"[[{"op":"add","time":[20,0],"now":[20,0],"span":{"start":"61","end":"63","ends":◊}}]]"#,
+    r#"[[{"op":"get","span":{"start":"63","end":"61","ends":◊}}]]"#,
+    r#"[[{"op":"get","span":{"start":"61","onward":◊}}]]"#,
+    r#"[[{"op":"add","span":{"start":"61"},"time":[20,0],"now":[20,0],"owner":◊}]]"#,
+    r#"[[],[{"op":"batch","now":[20,0],"marks":[{"time":[20,0],"span":{"start":◊}}]}]]"#,
+    r#"[[],[{"op":"batch","now":[20,0],"marks":[{"time":[20,0],"span":{"start":"61","onward":◊}}]}]]"#,
+    r#"[[],[{"op":"batch","now":[20,0],"marks":[{"span":{"start":"61"},"time":[20,0],"owner":◊}]}]]"#,
 ];
 
 /// Texts as JSON writes them and as it doesn't, and what else may stand there.
@@ -251,59 +170,20 @@ static TEXTS: [&str; 48] = [
 ];
 
 /// Where one more member may stand.
-static MEMBER_PLACES: [Place; 13] = [
-    (
-        "{",
-        r#","page_first":132,"page_max":8256,"min_pages":2,"retention":10,"low_water":[5,0],"threads":[[]]}"#,
-    ),
-    (
-        r#"{"page_first":132,"page_max":8256,"min_pages":2,"retention":10,"low_water":[5,0],"threads":[[{"op":"low"}]],"#,
-        "}",
-    ),
-    (
-        r#"{"page_first":132,"page_max":8256,"min_pages":2,"retention":10,"low_water":[5,0],"threads":[[{"op":"low","#,
-        "}]]}",
-    ),
-    (
-        r#"{"page_first":132,"page_max":8256,"min_pages":2,"retention":10,"low_water":[5,0],"threads":[[{"#,
-        r#","op":"get","span":{"start":"61"}}]]}"#,
-    ),
-    (
-        r#"{"page_first":132,"page_max":8256,"min_pages":2,"retention":10,"low_water":[5,0],"threads":[[{"op":"get","span":{"start":"61"},"#,
-        "}]]}",
-    ),
-    (
-        r#"{"page_first":132,"page_max":8256,"min_pages":2,"retention":10,"low_water":[5,0],"threads":[[{"#,
-        r#","op":"add","span":{"start":"61"},"time":[20,0],"now":[20,0]}]]}"#,
-    ),
-    (
-        r#"{"page_first":132,"page_max":8256,"min_pages":2,"retention":10,"low_water":[5,0],"threads":[[{"op":"add","span":{"start":"61"},"time":[20,0],"now":[20,0],"#,
-        "}]]}",
-    ),
-    (
-        r#"{"page_first":132,"page_max":8256,"min_pages":2,"retention":10,"low_water":[5,0],"threads":[[{"op":"get","span":{"#,
-        r#","start":"61"}}]]}"#,
-    ),
-    (
-        r#"{"page_first":132,"page_max":8256,"min_pages":2,"retention":10,"low_water":[5,0],"threads":[[{"op":"add","span":{"start":"61","end":"63","#,
-        r#"},"time":[20,0],"now":[20,0]}]]}"#,
-    ),
-    (
-        r#"{"page_first":132,"page_max":8256,"min_pages":2,"retention":10,"low_water":[5,0],"threads":[[{"#,
-        r#","op":"batch","marks":[],"now":[20,0]}]]}"#,
-    ),
-    (
-        r#"{"page_first":132,"page_max":8256,"min_pages":2,"retention":10,"low_water":[5,0],"threads":[[{"op":"batch","marks":[],"now":[20,0],"#,
-        "}]]}",
-    ),
-    (
-        r#"{"page_first":132,"page_max":8256,"min_pages":2,"retention":10,"low_water":[5,0],"threads":[[],[{"op":"batch","now":[20,0],"marks":[{"#,
-        r#","span":{"start":"61"},"time":[20,0]}]}]]}"#,
-    ),
-    (
-        r#"{"page_first":132,"page_max":8256,"min_pages":2,"retention":10,"low_water":[5,0],"threads":[[],[{"op":"batch","now":[20,0],"marks":[{"span":{"start":"61"},"time":[20,0],"owner":null,"#,
-        "}]}]]}",
-    ),
+static MEMBER_PLACES: [&str; 13] = [
+    r#"{◊,"page_first":132,"page_max":8256,"min_pages":2,"retention":10,"low_water":[5,0],"threads":[[]]}"#,
+    r#"{"page_first":132,"page_max":8256,"min_pages":2,"retention":10,"low_water":[5,0],"threads":[[{"op":"low"}]],◊}"#,
+    r#"[[{"op":"low",◊}]]"#,
+    r#"[[{◊,"op":"get","span":{"start":"61"}}]]"#,
+    r#"[[{"op":"get","span":{"start":"61"},◊}]]"#,
+    r#"[[{◊,"op":"add","span":{"start":"61"},"time":[20,0],"now":[20,0]}]]"#,
+    r#"[[{"op":"add","span":{"start":"61"},"time":[20,0],"now":[20,0],◊}]]"#,
+    r#"[[{"op":"get","span":{◊,"start":"61"}}]]"#,
+    r#"[[{"op":"add","span":{"start":"61","end":"63",◊},"time":[20,0],"now":[20,0]}]]"#,
+    r#"[[{◊,"op":"batch","marks":[],"now":[20,0]}]]"#,
+    r#"[[{"op":"batch","marks":[],"now":[20,0],◊}]]"#,
+    r#"[[],[{"op":"batch","now":[20,0],"marks":[{◊,"span":{"start":"61"},"time":[20,0]}]}]]"#,
+    r#"[[],[{"op":"batch","now":[20,0],"marks":[{"span":{"start":"61"},"time":[20,0],"owner":null,◊}]}]]"#,
 ];
 
 /// Members: of one place or another, that repeat one or change it, unknown, or written otherwise.
@@ -379,47 +259,32 @@ static ORDERS: [&str; 14] = [
 
 /// Where a call stands: alone, before others and behind them, and before one with a fault and
 /// behind one.
-static CALL_PLACES: [Place; 5] = [
-    (
-        r#"{"page_first":132,"page_max":8256,"min_pages":2,"retention":10,"low_water":[5,0],"threads":[["#,
-        "]]}",
-    ),
-    (
-        r#"{"threads":[[{"op":"low"}],[],["#,
-        r#",{"op":"low"}]],"page_first":132,"page_max":8256,"min_pages":2,"retention":10,"low_water":[5,0]}"#,
-    ),
-    (
-        r#"{"threads":[["#,
-        r#",{"op":"x"}]],"page_first":132,"page_max":8256,"min_pages":2,"retention":10,"low_water":[5,0]}"#,
-    ),
-    (
-        r#"{"page_first":132,"page_max":8256,"min_pages":2,"retention":10,"low_water":[5,0],"threads":[[{"op":"get","span":{"start":"6"}},"#,
-        "]]}",
-    ),
-    (
-        r#"{"threads":[["#,
-        r#"]],"page_first":132,"page_max":64,"min_pages":2,"retention":10,"low_water":[5,0]}"#,
-    ),
+static CALL_PLACES: [&str; 5] = [
+    "[[◊]]",
+    r#"{"threads":[[{"op":"low"}],[],[◊,{"op":"low"}]],"page_first":132,"page_max":8256,"min_pages":2,"retention":10,"low_water":[5,0]}"#,
+    r#"{"threads":[[◊,{"op":"x"}]],"page_first":132,"page_max":8256,"min_pages":2,"retention":10,"low_water":[5,0]}"#,
+    r#"[[{"op":"get","span":{"start":"6"}},◊]]"#,
+    r#"{"threads":[[◊]],"page_first":132,"page_max":64,"min_pages":2,"retention":10,"low_water":[5,0]}"#,
 ];
 
 /// What may stand around a trace.
-static AROUND: [Place; 16] = [
-    ("", ""),
-    (" \t\r\n", "\n\r\t "),
-    ("\u{feff}", ""),
-    ("", "\u{feff}"),
-    ("", " {}"),
-    ("", "x"),
-    ("", "}"),
-    ("", ","),
-    ("[", "]"),
-    ("{\"x\":", "}"),
-    ("\u{0}", ""),
-    ("", "\u{0}"),
-    ("/**/", ""),
-    ("", "//"),
-    ("{", ""),
-    ("\"", "\""),
+static AROUND: [&str; 16] = [
+    "◊",
+    " \t\r\n◊\n\r\t ",
+    "\u{feff}◊",
+    "◊\u{feff}",
+    "◊ {}",
+    "◊x",
+    "◊}",
+    "◊,",
+    "[◊]",
+    r#"{"x":◊}"#,
+    "\u{0}◊",
+    "◊\u{0}",
+    "/**/◊",
+    "◊//",
+    "{◊",
+    r#""◊""#,
 ];
 
 /// A trace that has a bit of each kind.
@@ -427,12 +292,13 @@ const SAMPLE: &str =
     r#"{"page_first":132,"page_max":8256,"min_pages":2,"retention":10,"low_water":[5,0],"threads":[[{"op":"add","span":{"start":"61","end":"6F"},"time":[20,1],"owner":"11111111-1111-4111-8111-11111111111A","now":[21,2]},{"op":"get","span":{"start":"62","end":"61","ends":"(]"}}],[],[{"op":"batch","marks":[{"span":{"start":"","onward":"("},"time":[9,0],"owner":null}],"now":[20,0]},{"op":"low"}]]}"#;
 
 #[test]
-fn both_readers_tell_the_same_of_pieces(rt: HostRuntime) {
-    none(&rt, first_apart(rt.alloc(), &NUMBER_PLACES, &NUMBERS));
-    none(&rt, first_apart(rt.alloc(), &TEXT_PLACES, &TEXTS));
-    none(&rt, first_apart(rt.alloc(), &MEMBER_PLACES, &MEMBERS));
-    none(&rt, first_apart(rt.alloc(), &CALL_PLACES, &ORDERS));
-    none(&rt, first_apart(rt.alloc(), &AROUND, &[SAMPLE]));
+fn both_readers_tell_the_same_of_pieces(rt: HostRuntime) -> Result<(), Fail> {
+    none(&rt, first_apart(rt.alloc(), &NUMBER_PLACES, &NUMBERS)?);
+    none(&rt, first_apart(rt.alloc(), &TEXT_PLACES, &TEXTS)?);
+    none(&rt, first_apart(rt.alloc(), &MEMBER_PLACES, &MEMBERS)?);
+    none(&rt, first_apart(rt.alloc(), &CALL_PLACES, &ORDERS)?);
+    none(&rt, first_apart(rt.alloc(), &AROUND, &[SAMPLE])?);
+    Ok(())
 }
 
 /// Bytes that are put in the place of another.
@@ -447,120 +313,59 @@ fn changed(alloc: Global, bytes: &[u8], at: usize, other: &[u8]) -> Result<Vec<u
     Ok(all)
 }
 
-/// What both readers tell of them then.
-fn told_when_changed(alloc: Global, bytes: &[u8], at: usize, other: &[u8]) -> Option<Told> {
-    match changed(alloc, bytes, at, other) {
-        Ok(all) => told(alloc, &all),
-        Err(_) => None,
-    }
-}
-
-/// The first place in these bytes at which a change makes the readers tell different things, or the
-/// first that cuts them so.
-fn first_apart_when_changed(alloc: Global, bytes: &[u8], others: &[&[u8]]) -> Option<usize> {
-    for at in 0..bytes.len() {
-        if told(alloc, &bytes[..at]).is_none() {
-            return Some(at);
-        }
-        for other in others {
-            if told_when_changed(alloc, bytes, at, other).is_none() {
-                return Some(at);
-            }
-        }
-    }
-    None
-}
-
 #[test]
-fn both_readers_tell_the_same_of_changed_bytes(rt: HostRuntime) {
-    none(
-        &rt,
-        first_apart_when_changed(rt.alloc(), SAMPLE.as_bytes(), &BYTES),
-    );
+fn both_readers_tell_the_same_of_changed_bytes(rt: HostRuntime) -> Result<(), Fail> {
+    let bytes = SAMPLE.as_bytes();
+    for at in 0..bytes.len() {
+        assert!(rt; told(rt.alloc(), &bytes[..at])?.is_some(), "cut at {at}");
+        for other in &BYTES {
+            let all = changed(rt.alloc(), bytes, at, other)?;
+            assert!(rt; told(rt.alloc(), &all)?.is_some(), "changed at {at}");
+        }
+    }
+    Ok(())
 }
 
 /// Texts with as many lists, one in another.
-static NESTED: [&[Part]; 10] = [
-    &[("[", 126), ("]", 126)],
-    &[("[", 127), ("]", 127)],
-    &[("[", 128), ("]", 128)],
-    &[("[", 129), ("]", 129)],
-    &[(r#"{"x":"#, 1), ("[", 126), ("]", 126), ("}", 1)],
-    &[(r#"{"x":"#, 1), ("[", 127), ("]", 127), ("}", 1)],
-    &[
-        (
-            r#"{"page_first":132,"page_max":8256,"min_pages":2,"retention":10,"low_water":[5,0],"threads":"#,
-            1,
-        ),
-        ("[", 126),
-        ("]", 126),
-        ("}", 1),
-    ],
-    &[
-        (
-            r#"{"page_first":132,"page_max":8256,"min_pages":2,"retention":10,"low_water":[5,0],"threads":"#,
-            1,
-        ),
-        ("[", 127),
-        ("]", 127),
-        ("}", 1),
-    ],
-    &[
-        (
-            r#"{"page_first":132,"page_max":8256,"min_pages":2,"retention":10,"low_water":[5,0],"threads":[[{"op":"low","x":"#,
-            1,
-        ),
-        ("[", 124),
-        ("]", 124),
-        ("}]]}", 1),
-    ],
-    &[
-        (
-            r#"{"page_first":132,"page_max":8256,"min_pages":2,"retention":10,"low_water":[5,0],"threads":[[{"op":"low","x":"#,
-            1,
-        ),
-        ("[", 125),
-        ("]", 125),
-        ("}]]}", 1),
-    ],
+static NESTED: [&str; 10] = [
+    "[×126¦]×126",
+    "[×127¦]×127",
+    "[×128¦]×128",
+    "[×129¦]×129",
+    r#"{"x":¦[×126¦]×126¦}"#,
+    r#"{"x":¦[×127¦]×127¦}"#,
+    r#"{"page_first":132,"page_max":8256,"min_pages":2,"retention":10,"low_water":[5,0],"threads":¦[×126¦]×126¦}"#,
+    r#"{"page_first":132,"page_max":8256,"min_pages":2,"retention":10,"low_water":[5,0],"threads":¦[×127¦]×127¦}"#,
+    r#"[[{"op":"low","x":¦[×124¦]×124¦}]]"#,
+    r#"[[{"op":"low","x":¦[×125¦]×125¦}]]"#,
 ];
 
 /// A trace, and texts with a fault in the head, in the last call, and in what JSON is.
-static FEW: [&[Part]; 4] = [
-    &[(SAMPLE, 1)],
-    &[(
-        r#"{"page_first":132,"page_max":8256,"min_pages":2,"retention":10,"low_water":[5],"threads":[[{"op":"low"}]]}"#,
-        1,
-    )],
-    &[(
-        r#"{"page_first":132,"page_max":8256,"min_pages":2,"retention":10,"low_water":[5,0],"threads":[[{"op":"low"},{"op":"get","span":{"start":"6"}}]]}"#,
-        1,
-    )],
-    &[(
-        r#"{"page_first":132,"page_max":8256,"min_pages":2,"retention":10,"low_water":[5,0],"threads":[[{"op":"low"}]]"#,
-        1,
-    )],
+static FEW: [&str; 4] = [
+    SAMPLE,
+    r#"{"page_first":132,"page_max":8256,"min_pages":2,"retention":10,"low_water":[5],"threads":[[{"op":"low"}]]}"#,
+    r#"[[{"op":"low"},{"op":"get","span":{"start":"6"}}]]"#,
+    r#"{"page_first":132,"page_max":8256,"min_pages":2,"retention":10,"low_water":[5,0],"threads":[[{"op":"low"}]]"#,
 ];
 
-/// The number of the first text, from 0, of which the readers tell different things.
-fn first_text_apart(alloc: Global, texts: &[&[Part]]) -> Result<Option<usize>, AllocError> {
-    for (i, parts) in texts.iter().enumerate() {
-        if told(alloc, &text_of(alloc, parts)?).is_none() {
-            return Ok(Some(i));
-        }
-    }
-    Ok(None)
+/// Whether the readers tell the same of a text.
+fn is_told_alike(alloc: Global, text: &str) -> Holds {
+    Ok(told(alloc, &trace_of(alloc, WIDE, text)?)?.is_some())
 }
 
 #[test]
 fn both_readers_tell_the_same_of_nested_lists(rt: HostRuntime) -> Result<(), Fail> {
-    none(&rt, first_text_apart(rt.alloc(), &NESTED)?);
+    for text in &NESTED {
+        assert!(rt; is_told_alike(rt.alloc(), text)?, "{text}");
+    }
     Ok(())
 }
 
 /// For `scripts/refuse-each-growth`.
 #[test]
 fn a_refused_growth_changes_no_answer(rt: HostRuntime) -> Result<(), Fail> {
-    none(&rt, first_text_apart(rt.alloc(), &FEW)?);
+    for text in &FEW {
+        assert!(rt; is_told_alike(rt.alloc(), text)?, "{text}");
+    }
     Ok(())
 }

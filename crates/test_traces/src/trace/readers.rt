@@ -1,9 +1,8 @@
 //! The two readers of traces, and whether they tell the same.
 
-use crate::rows::text_of;
-use std::alloc::Global;
+use crate::support::*;
 use tsc_trace_fast::quick_trace;
-use tsc_trace_format::{Call, Marks, Trace, TraceFault};
+use tsc_trace_format::{Trace, TraceFault};
 
 /// What reading tells: how many calls there are, or the fault.
 pub(crate) type Told = Result<usize, TraceFault>;
@@ -25,127 +24,47 @@ fn read_by_values(alloc: Global, bytes: &[u8]) -> Result<Trace, TraceFault> {
     }
 }
 
-/// What both readers tell of these bytes, or none where they differ.
-pub(crate) fn told(alloc: Global, bytes: &[u8]) -> Option<Told> {
-    told_by_both(&read_quickly(alloc, bytes), &read_by_values(alloc, bytes))
+/// Whether two traces have the same configuration and calls, which their texts show.
+fn are_same(alloc: Global, first: &Trace, second: &Trace) -> Result<bool, AllocError> {
+    let text = format!(in alloc; "{first:?}")?;
+    Ok(format!(in alloc; "{second:?}")?.as_str() == text.as_str())
 }
 
-/// What both readers tell of a text of these parts, or none where they differ.
-pub(crate) fn told_of(alloc: Global, parts: &[(&str, usize)]) -> Option<Told> {
-    match text_of(alloc, parts) {
-        Ok(text) => told(alloc, &text),
-        Err(_) => None,
+/// How many calls two traces have, or none where they differ.
+fn calls_of(alloc: Global, first: &Trace, second: &Trace) -> Result<Option<Told>, AllocError> {
+    if !are_same(alloc, first, second)? {
+        return Ok(None);
     }
-}
-
-/// What is told by two readers, or none where that differs.
-fn told_by_both(
-    first: &Result<Trace, TraceFault>,
-    second: &Result<Trace, TraceFault>,
-) -> Option<Told> {
-    match first {
-        Ok(trace) => match second {
-            Ok(other) if is_same_trace(trace, other) => Some(Ok(count_calls(trace))),
-            _ => None,
-        },
-        Err(fault) => match second {
-            Err(other) if fault == other => Some(Err(*fault)),
-            _ => None,
-        },
-    }
-}
-
-/// What comes of a text in one pass.
-#[derive(Clone, Copy, Debug, PartialEq, Eq)]
-pub(crate) enum OnePass {
-    /// Nothing.
-    None,
-    /// The trace that the reader of JSON values gives.
-    Same,
-    /// Another trace.
-    Other,
-}
-
-pub(crate) fn read_once(alloc: Global, bytes: &[u8]) -> OnePass {
-    let Some(trace) = quick_trace(alloc, bytes) else {
-        return OnePass::None;
-    };
-    match tsc_trace_format::read_trace(alloc, bytes) {
-        Ok(wanted) if is_same_trace(&trace, &wanted) => OnePass::Same,
-        _ => OnePass::Other,
-    }
-}
-
-/// How many calls a trace has.
-fn count_calls(trace: &Trace) -> usize {
     let mut calls: usize = 0;
-    for list in trace.threads.slice() {
+    for list in first.threads.slice() {
         calls = calls.saturating_add(list.len());
     }
-    calls
+    Ok(Some(Ok(calls)))
 }
 
-/// Whether two traces are the same.
-fn is_same_trace(first: &Trace, second: &Trace) -> bool {
-    let (lists, others) = (first.threads.slice(), second.threads.slice());
-    if first.config != second.config || lists.len() != others.len() {
-        return false;
-    }
-    for (list, other) in lists.iter().zip(others.iter()) {
-        if !are_same_calls(list.as_slice(), other.as_slice()) {
-            return false;
+/// What both readers tell of these bytes, or none where they differ.
+pub(crate) fn told(alloc: Global, bytes: &[u8]) -> Result<Option<Told>, AllocError> {
+    match (read_quickly(alloc, bytes), read_by_values(alloc, bytes)) {
+        (Ok(first), Ok(second)) => calls_of(alloc, &first, &second),
+        (Err(first), Err(second)) => {
+            if first == second {
+                Ok(Some(Err(first)))
+            } else {
+                Ok(None)
+            }
         }
-    }
-    true
-}
-
-/// Whether two lists have the same calls.
-fn are_same_calls(first: &[Call], second: &[Call]) -> bool {
-    if first.len() != second.len() {
-        return false;
-    }
-    for (call, other) in first.iter().zip(second.iter()) {
-        if !is_same_call(call, other) {
-            return false;
-        }
-    }
-    true
-}
-
-/// Whether two calls are the same.
-fn is_same_call(first: &Call, second: &Call) -> bool {
-    match (first, second) {
-        (
-            Call::Add { span, value, now },
-            Call::Add {
-                span: other_span,
-                value: other_value,
-                now: other_now,
-            },
-        ) => span == other_span && value == other_value && now == other_now,
-        (
-            Call::Batch { marks, now },
-            Call::Batch {
-                marks: other_marks,
-                now: other_now,
-            },
-        ) => now == other_now && are_same_marks(marks, other_marks),
-        (Call::Get { span }, Call::Get { span: other_span }) => span == other_span,
-        (Call::Low, Call::Low) => true,
-        _ => false,
+        _ => Ok(None),
     }
 }
 
-/// Whether two batches have the same marks.
-fn are_same_marks(first: &Marks, second: &Marks) -> bool {
-    let (marks, others) = (first.slice(), second.slice());
-    if marks.len() != others.len() {
-        return false;
+/// Whether a text that is read in one pass gives the trace that the reader of JSON values gives.
+pub(crate) fn read_once(alloc: Global, bytes: &[u8]) -> Result<Option<bool>, AllocError> {
+    match (
+        quick_trace(alloc, bytes),
+        tsc_trace_format::read_trace(alloc, bytes),
+    ) {
+        (Some(trace), Ok(wanted)) => Ok(Some(are_same(alloc, &trace, &wanted)?)),
+        (Some(_), Err(_)) => Ok(Some(false)),
+        (None, _) => Ok(None),
     }
-    for (mark, other) in marks.iter().zip(others.iter()) {
-        if mark.span != other.span || mark.value != other.value {
-            return false;
-        }
-    }
-    true
 }

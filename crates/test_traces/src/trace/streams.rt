@@ -1,218 +1,137 @@
 //! Readers and writers whose calls are counted, and whole inputs and outputs.
-use crate::rows::none;
-use std::alloc::{AllocError, Global};
+use crate::support::streams::{calls_of, new_writer, reader_of, written};
+use crate::support::*;
 use std::io;
 use std::io::Read;
-use tsc_stream::fault_injection::{FaultPlan, FaultyStream};
-use tsc_stream::{
-    AnyStreamFault, InputFault, Limited, Sink, Source, StreamFault, WriteFailed, read_input,
-    write_output,
-};
+use tsc_stream::fault_injection::FaultyStream;
+use tsc_stream::{AnyStreamFault, Limited, Sink, Source, StreamFault, read_input, write_output};
 
-/// How often a reader is read at the most, and a writer written to.
-const MOST_TURNS: u32 = 33_554_432;
+/// After how many calls reading `abc` ends, and how; how its calls go; and how many there may be.
+static READINGS: &str = "4 abc|1 never|33554432
+2 abc|9 never|33554432
+8 abc|1 in turn|33554432
+1 read failed|1 0|33554432
+2 read failed|1 1|33554432
+3 read failed|1 2|33554432
+4 read failed|1 3|33554432
+4 abc|1 4|33554432
+0 read failed|1 never|0
+3 read failed|1 never|3
+4 abc|1 never|4
+1000 read failed|1 always|1000
+7 read failed|1 in turn|7";
 
-/// How many bytes a call moves, what goes wrong, how many calls there may be, how reading `abc`
-/// ends, and after how many calls.
-type Reading = (usize, FaultPlan, u32, Option<InputFault>, u64);
+/// The same of writing `abc`, with what is written of it.
+static WRITINGS: &str = "3 abc|1 never|33554432
+1 abc|9 never|33554432
+1 |0 never|33554432
+6 abc|1 in turn|33554432
+1 |1 0|33554432
+2 a|1 1|33554432
+3 ab|1 2|33554432
+0 |1 never|0
+2 ab|1 never|2
+3 abc|1 never|3
+1000 |1 always|1000";
 
-/// Three reads of a byte, and one that meets the end.
-static READINGS: [Reading; 13] = [
-    (1, FaultPlan::Never, MOST_TURNS, None, 4),
-    (9, FaultPlan::Never, MOST_TURNS, None, 2),
-    (1, FaultPlan::InterruptedNowAndThen, MOST_TURNS, None, 8),
-    (
-        1,
-        FaultPlan::FailsAt(0),
-        MOST_TURNS,
-        Some(InputFault::Read),
-        1,
-    ),
-    (
-        1,
-        FaultPlan::FailsAt(1),
-        MOST_TURNS,
-        Some(InputFault::Read),
-        2,
-    ),
-    (
-        1,
-        FaultPlan::FailsAt(2),
-        MOST_TURNS,
-        Some(InputFault::Read),
-        3,
-    ),
-    (
-        1,
-        FaultPlan::FailsAt(3),
-        MOST_TURNS,
-        Some(InputFault::Read),
-        4,
-    ),
-    (1, FaultPlan::FailsAt(4), MOST_TURNS, None, 4),
-    (1, FaultPlan::Never, 0, Some(InputFault::Read), 0),
-    (1, FaultPlan::Never, 3, Some(InputFault::Read), 3),
-    (1, FaultPlan::Never, 4, None, 4),
-    (
-        1,
-        FaultPlan::AlwaysInterrupted,
-        1000,
-        Some(InputFault::Read),
-        1000,
-    ),
-    (
-        1,
-        FaultPlan::InterruptedNowAndThen,
-        7,
-        Some(InputFault::Read),
-        7,
-    ),
-];
+/// How many calls the one inside has met, how they go, and what three reads of `a` give. A failure
+/// is final, and so is the end.
+static READS: &str = "2|1 never|1 0 0
+1|1 0|failed failed failed
+3|1 in turn|interrupted 1 interrupted";
 
-/// How many bytes a call moves, what goes wrong, how many calls there may be, what is written of
-/// `abc`, and after how many calls.
-type Writing = (usize, FaultPlan, u32, &'static [u8], u64);
+/// The same of writes.
+static WRITES: &str = "3|1 never|1 1 1
+2|1 1|1 failed failed
+3|1 in turn|interrupted 1 interrupted";
 
-/// Three writes of a byte.
-static WRITINGS: [Writing; 11] = [
-    (1, FaultPlan::Never, MOST_TURNS, b"abc", 3),
-    (9, FaultPlan::Never, MOST_TURNS, b"abc", 1),
-    (0, FaultPlan::Never, MOST_TURNS, b"", 1),
-    (1, FaultPlan::InterruptedNowAndThen, MOST_TURNS, b"abc", 6),
-    (1, FaultPlan::FailsAt(0), MOST_TURNS, b"", 1),
-    (1, FaultPlan::FailsAt(1), MOST_TURNS, b"a", 2),
-    (1, FaultPlan::FailsAt(2), MOST_TURNS, b"ab", 3),
-    (1, FaultPlan::Never, 0, b"", 0),
-    (1, FaultPlan::Never, 2, b"ab", 2),
-    (1, FaultPlan::Never, 3, b"abc", 3),
-    (1, FaultPlan::AlwaysInterrupted, 1000, b"", 1000),
-];
+/// What is read of so many spaces: how many, or the fault.
+static SPACES: &str = "16777216|16777216
+input too long|16777217
+input too long|18446744073709551615";
 
-/// The number of the first reading, from 0, that ends otherwise.
-fn wrong_reading(alloc: Global, rows: &[Reading]) -> Option<usize> {
-    for (i, (step, mishap, turns, fault, calls)) in rows.iter().enumerate() {
-        let mut reader = Limited::with_turns(
-            FaultyStream::new(&b"abc"[..], *step, *mishap),
-            *turns,
-        );
-        let ends = match read_input(alloc, &mut reader) {
-            Ok(input) => fault.is_none() && input.as_slice() == b"abc".as_slice(),
-            Err(told) => *fault == Some(told),
-        };
-        if !ends || reader.into_inner().calls != *calls {
-            return Some(i);
-        }
-    }
-    None
+/// How many bytes a call moves of a long input and output, all of which are moved.
+static STEPS: &str = "200000|7 in turn
+200000|65536 in turn
+200000|1000000 in turn";
+
+/// Reads `abc`.
+fn reads_all(alloc: Global, row: Row) -> Holds {
+    let (calls, end) = row.want.split_once(' ').unwrap_or(("", ""));
+    let (step, plan) = calls_of(row.field(0));
+    let faulty = FaultyStream::new(&b"abc"[..], step, plan);
+    let mut reader = Limited::with_turns(faulty, row.field(1).parse().unwrap_or(0));
+    let ends = match read_input(alloc, &mut reader) {
+        Ok(input) => input.as_slice() == end.as_bytes(),
+        Err(fault) => format!(in alloc; "{fault}")?.as_str() == end,
+    };
+    Ok(ends && reader.into_inner().calls == calls.parse().unwrap_or(u64::MAX))
 }
 
-/// The number of the first writing, from 0, that ends otherwise.
-fn wrong_writing(alloc: Global, rows: &[Writing]) -> Option<usize> {
-    for (i, (step, mishap, turns, front, calls)) in rows.iter().enumerate() {
-        let mut writer = Limited::with_turns(
-            FaultyStream::new(Vec::new(alloc), *step, *mishap),
-            *turns,
-        );
-        let wanted = if front.len() == 3 {
-            Ok(())
-        } else {
-            Err(WriteFailed)
-        };
-        let ends = write_output(&mut writer, b"abc") == wanted;
-        let faulty = writer.into_inner();
-        if !ends || faulty.inner.as_slice() != *front || faulty.calls != *calls {
-            return Some(i);
-        }
-    }
-    None
+/// Writes `abc`.
+fn writes_all(alloc: Global, row: Row) -> Holds {
+    let (calls, front) = row.want.split_once(' ').unwrap_or(("", ""));
+    let (step, plan) = calls_of(row.field(0));
+    let faulty = FaultyStream::new(Vec::new(alloc), step, plan);
+    let mut writer = Limited::with_turns(faulty, row.field(1).parse().unwrap_or(0));
+    let ends = write_output(&mut writer, b"abc").is_ok() == (front == "abc");
+    let faulty = writer.into_inner();
+    let is_front = faulty.inner.as_slice() == front.as_bytes();
+    Ok(ends && is_front && faulty.calls == calls.parse().unwrap_or(u64::MAX))
 }
 
-/// Which calls go wrong, what three calls give, and how many of them the one inside has met.
-type Calls = (FaultPlan, &'static [Result<usize, StreamFault>], u64);
-
-/// Reads of one byte, and then of the end. A failure is final, and so is the end.
-static READS: [Calls; 3] = [
-    (FaultPlan::Never, &[Ok(1), Ok(0), Ok(0)], 2),
-    (
-        FaultPlan::FailsAt(0),
-        &[
-            Err(StreamFault::Failed),
-            Err(StreamFault::Failed),
-            Err(StreamFault::Failed),
-        ],
-        1,
-    ),
-    (
-        FaultPlan::InterruptedNowAndThen,
-        &[
-            Err(StreamFault::Interrupted),
-            Ok(1),
-            Err(StreamFault::Interrupted),
-        ],
-        3,
-    ),
-];
-
-/// Writes of a byte.
-static WRITES: [Calls; 3] = [
-    (FaultPlan::Never, &[Ok(1), Ok(1), Ok(1)], 3),
-    (
-        FaultPlan::FailsAt(1),
-        &[Ok(1), Err(StreamFault::Failed), Err(StreamFault::Failed)],
-        2,
-    ),
-    (
-        FaultPlan::InterruptedNowAndThen,
-        &[
-            Err(StreamFault::Interrupted),
-            Ok(1),
-            Err(StreamFault::Interrupted),
-        ],
-        3,
-    ),
-];
-
-/// Whether three reads give this.
-fn reads<R: Source>(reader: &mut R, gave: &[Result<usize, StreamFault>]) -> bool {
-    let mut room = [0; 4];
-    for want in gave {
-        if reader.read(&mut room) != *want {
-            return false;
-        }
+/// Whether a call gives what a word says.
+fn is_result(gave: Result<usize, StreamFault>, word: &str) -> bool {
+    match gave {
+        Ok(moved) => word.parse().unwrap_or(usize::MAX) == moved,
+        Err(StreamFault::Failed) => word == "failed",
+        Err(StreamFault::Interrupted) => word == "interrupted",
     }
-    true
 }
 
-/// Whether three writes do.
-fn writes<W: Sink>(writer: &mut W, gave: &[Result<usize, StreamFault>]) -> bool {
-    for want in gave {
-        if writer.write(b"abc") != *want {
-            return false;
+/// Reads `a`, call by call.
+fn reads_by_calls(_alloc: Global, row: Row) -> Holds {
+    let mut reader = reader_of(b"a", calls_of(row.field(0)));
+    for word in row.field(1).split(' ') {
+        if !is_result(reader.read(&mut [0; 4]), word) {
+            return Ok(false);
         }
     }
-    true
+    Ok(reader.into_inner().calls == row.want.parse().unwrap_or(u64::MAX))
 }
 
-/// The number of the first row of reads, from 0, that give something else.
-fn wrong_reads(rows: &[Calls]) -> Option<usize> {
-    for (i, (mishap, gave, calls)) in rows.iter().enumerate() {
-        let mut reader = Limited::new(FaultyStream::new(&b"a"[..], 1, *mishap));
-        if !reads(&mut reader, gave) || reader.into_inner().calls != *calls {
-            return Some(i);
+/// Writes `abc`, call by call.
+fn writes_by_calls(alloc: Global, row: Row) -> Holds {
+    let mut writer = new_writer(alloc, calls_of(row.field(0)));
+    for word in row.field(1).split(' ') {
+        if !is_result(writer.write(b"abc"), word) {
+            return Ok(false);
         }
     }
-    None
+    Ok(writer.into_inner().calls == row.want.parse().unwrap_or(u64::MAX))
 }
 
-/// The number of the first row of writes, from 0, that give something else.
-fn wrong_writes(alloc: Global, rows: &[Calls]) -> Option<usize> {
-    for (i, (mishap, gave, calls)) in rows.iter().enumerate() {
-        let mut writer = Limited::new(FaultyStream::new(Vec::new(alloc), 1, *mishap));
-        if !writes(&mut writer, gave) || writer.into_inner().calls != *calls {
-            return Some(i);
-        }
-    }
-    None
+/// Reads spaces.
+fn reads_spaces(alloc: Global, row: Row) -> Holds {
+    let count = row.of.parse().unwrap_or(0);
+    let mut reader = Limited::new(AnyStreamFault(io::repeat(b' ').take(count)));
+    let told = match read_input(alloc, &mut reader) {
+        Ok(input) => format!(in alloc; "{}", input.len())?,
+        Err(fault) => format!(in alloc; "{fault}")?,
+    };
+    Ok(told.as_str() == row.want)
+}
+
+/// Reads and writes long bytes.
+fn moves_long(bytes: &[u8], alloc: Global, row: Row) -> Holds {
+    let mut reader = reader_of(bytes, calls_of(row.of));
+    let mut writer = new_writer(alloc, calls_of(row.of));
+    let Ok(input) = read_input(alloc, &mut reader) else {
+        return Ok(false);
+    };
+    let is_moved = input.as_slice() == bytes && write_output(&mut writer, bytes).is_ok();
+    let is_long = bytes.len() == row.want.parse().unwrap_or(0);
+    Ok(is_moved && is_long && written(writer).as_slice() == bytes)
 }
 
 /// Bytes that do not repeat soon.
@@ -224,65 +143,14 @@ fn pattern(alloc: Global, len: u32) -> Result<Vec<u8>, AllocError> {
     Ok(bytes)
 }
 
-/// Whether bytes come whole out of a reader that moves so many a call.
-fn is_read(alloc: Global, bytes: &[u8], step: usize) -> bool {
-    let mut reader = Limited::new(FaultyStream::new(bytes, step, FaultPlan::InterruptedNowAndThen));
-    match read_input(alloc, &mut reader) {
-        Ok(input) => input.as_slice() == bytes,
-        Err(_) => false,
-    }
-}
-
-/// Whether they go whole into such a writer.
-fn is_written(alloc: Global, bytes: &[u8], step: usize) -> bool {
-    let mut writer = Limited::new(FaultyStream::new(
-        Vec::new(alloc),
-        step,
-        FaultPlan::InterruptedNowAndThen,
-    ));
-    write_output(&mut writer, bytes).is_ok() && writer.into_inner().inner.as_slice() == bytes
-}
-
-/// The first of some numbers of bytes a call, from 0, for which long bytes are not moved whole.
-fn wrong_step(alloc: Global, bytes: &[u8], steps: &[usize]) -> Option<usize> {
-    for (i, step) in steps.iter().enumerate() {
-        if !is_read(alloc, bytes, *step) || !is_written(alloc, bytes, *step) {
-            return Some(i);
-        }
-    }
-    None
-}
-
-/// How many spaces a reader has, and how many are read.
-static SPACES: [(u64, Result<usize, InputFault>); 3] = [
-    (16_777_216, Ok(16_777_216)),
-    (16_777_217, Err(InputFault::TooLong)),
-    (u64::MAX, Err(InputFault::TooLong)),
-];
-
-/// The number of the first row of spaces, from 0, whose reading ends otherwise.
-fn wrong_spaces(alloc: Global, rows: &[(u64, Result<usize, InputFault>)]) -> Option<usize> {
-    for (i, (count, want)) in rows.iter().enumerate() {
-        let mut reader = Limited::new(AnyStreamFault(io::repeat(b' ').take(*count)));
-        let read = match read_input(alloc, &mut reader) {
-            Ok(input) => Ok(input.len()),
-            Err(fault) => Err(fault),
-        };
-        if read != *want {
-            return Some(i);
-        }
-    }
-    None
-}
-
 #[test]
-fn reading_and_writing(rt: HostRuntime) -> Result<(), AllocError> {
-    none(&rt, wrong_reading(rt.alloc(), &READINGS));
-    none(&rt, wrong_writing(rt.alloc(), &WRITINGS));
-    none(&rt, wrong_reads(&READS));
-    none(&rt, wrong_writes(rt.alloc(), &WRITES));
-    none(&rt, wrong_spaces(rt.alloc(), &SPACES));
+fn reading_and_writing(rt: HostRuntime) -> Result<(), Fail> {
+    all_hold!(rt, READINGS, reads_all());
+    all_hold!(rt, WRITINGS, writes_all());
+    all_hold!(rt, READS, reads_by_calls());
+    all_hold!(rt, WRITES, writes_by_calls());
+    all_hold!(rt, SPACES, reads_spaces());
     let bytes = pattern(rt.alloc(), 200_000)?;
-    none(&rt, wrong_step(rt.alloc(), &bytes, &[7, 65_536, 1_000_000]));
+    all_hold!(rt, STEPS, moves_long(&bytes));
     Ok(())
 }

@@ -1,19 +1,21 @@
 //! The text of each fault, word for word.
-use crate::rows::{first_other, none};
+use crate::support::*;
 use tsc_stream::{InputFault, WriteFailed};
-use tsc_trace::{LogFault, OutFault, ReplayFault, TraceFault};
+use tsc_trace::ReplayFault::Trace;
+use tsc_trace::TraceFault::{Config, Hex, NotJson, Number, Shape, Span, TooLarge, Uuid};
+use tsc_trace::{LogFault, ReplayFault, TraceFault, WriteLogFault};
 
 static TRACE_FAULTS: [(TraceFault, &str); 9] = [
-    (TraceFault::NotJson, "not JSON"),
-    (TraceFault::Shape(0), "a wrong shape at call 0"),
-    (TraceFault::Number(1), "a number out of range at call 1"),
-    (TraceFault::Hex(23), "wrong hexadecimal digits at call 23"),
-    (TraceFault::Uuid(4), "a wrong UUID at call 4"),
-    (TraceFault::Span(5), "a wrong span at call 5"),
-    (TraceFault::Config, "a wrong configuration"),
+    (NotJson, "not JSON"),
+    (Shape(0), "a wrong shape at call 0"),
+    (Number(1), "a number out of range at call 1"),
+    (Hex(23), "wrong hexadecimal digits at call 23"),
+    (Uuid(4), "a wrong UUID at call 4"),
+    (Span(5), "a wrong span at call 5"),
+    (Config, "a wrong configuration"),
     (TraceFault::NoMemory, "out of memory"),
     (
-        TraceFault::TooLarge(65_536),
+        TooLarge(65_536),
         "a span too large for a page at call 65536",
     ),
 ];
@@ -24,9 +26,9 @@ static LOG_FAULTS: [(LogFault, &str); 3] = [
     (LogFault::NoMemory, "out of memory"),
 ];
 
-static OUT_FAULTS: [(OutFault, &str); 2] = [
-    (OutFault::Write, "write failed"),
-    (OutFault::NoMemory, "out of memory"),
+static OUT_FAULTS: [(WriteLogFault, &str); 2] = [
+    (WriteLogFault::Write, "write failed"),
+    (WriteLogFault::NoMemory, "out of memory"),
 ];
 
 static INPUT_FAULTS: [(InputFault, &str); 3] = [
@@ -38,37 +40,16 @@ static INPUT_FAULTS: [(InputFault, &str); 3] = [
 static REPLAY_FAULTS: [(ReplayFault, &str); 13] = [
     (ReplayFault::Read, "read failed"),
     (ReplayFault::TooLong, "input too long"),
+    (Trace(NotJson), "trace refused: fault 1"),
+    (Trace(Shape(0)), "trace refused: fault 2 at call 0"),
+    (Trace(Number(1)), "trace refused: fault 3 at call 1"),
+    (Trace(Hex(23)), "trace refused: fault 4 at call 23"),
+    (Trace(Uuid(4)), "trace refused: fault 5 at call 4"),
+    (Trace(Span(5)), "trace refused: fault 6 at call 5"),
+    (Trace(Config), "trace refused: fault 7"),
+    (Trace(TraceFault::NoMemory), "out of memory"),
     (
-        ReplayFault::Trace(TraceFault::NotJson),
-        "trace refused: fault 1",
-    ),
-    (
-        ReplayFault::Trace(TraceFault::Shape(0)),
-        "trace refused: fault 2 at call 0",
-    ),
-    (
-        ReplayFault::Trace(TraceFault::Number(1)),
-        "trace refused: fault 3 at call 1",
-    ),
-    (
-        ReplayFault::Trace(TraceFault::Hex(23)),
-        "trace refused: fault 4 at call 23",
-    ),
-    (
-        ReplayFault::Trace(TraceFault::Uuid(4)),
-        "trace refused: fault 5 at call 4",
-    ),
-    (
-        ReplayFault::Trace(TraceFault::Span(5)),
-        "trace refused: fault 6 at call 5",
-    ),
-    (
-        ReplayFault::Trace(TraceFault::Config),
-        "trace refused: fault 7",
-    ),
-    (ReplayFault::Trace(TraceFault::NoMemory), "out of memory"),
-    (
-        ReplayFault::Trace(TraceFault::TooLarge(65_536)),
+        Trace(TooLarge(65_536)),
         "trace refused: fault 9 at call 65536",
     ),
     (ReplayFault::Write, "write failed"),
