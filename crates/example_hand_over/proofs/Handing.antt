@@ -8,7 +8,7 @@ use Rattle.tsc_cache.specs.State.{CacheState, opening, step, step_all, look}
 use Rattle.tsc_cache.proofs.FloorJoints.{above_each}
 use Rattle.tsc_cache.proofs.Histories.{state_from-append, kept_up, clear_below}
 use Rattle.tsc_cache.proofs.StatesSeen.{answers_look}
-use Rattle.timestamp_cache.specs.Words.{Time, Owner, OwnedTime, IsAtMost, Interval, Settings, state_of, entry_of_mark, CacheView, StandsForState, cache_answer}
+use Rattle.timestamp_cache.specs.Words.{Time, Owner, OwnedTime, IsAtMost, Interval, Settings, state_of, entry_of_mark, CacheView, RepresentsState, cache_answer}
 use Rattle.timestamp_cache.specs.Clear.{IsClearOf, IsClearOfAnswers}
 use Rattle.timestamp_cache.specs.Earliest.{TellsEarliest}
 use Rattle.timestamp_cache.specs.HandOver.{Summary, summary_answer, IsWithin, TellsOf, marks_told, TakesOver}
@@ -17,12 +17,12 @@ use Rattle.example_hand_over.specs.FormerReads.{AnswersOneMore, TellsOfCache, An
 
 -- what an Add of a read makes of each state it makes of each history
 pub one_more : (old new : CacheView) (span : Interval) (read : OwnedTime) (now : Time)
-    → ((settings : Settings) (s : CacheState) → StandsForState old settings s →
-    StandsForState new settings
+    → ((settings : Settings) (s : CacheState) → RepresentsState old settings s →
+    RepresentsState new settings
     (step settings s (record { span = span; value = read }) now).state)
     → AnswersOneMore old new span read now
 one_more old new span read now adds settings h seat number has =
-    subst (StandsForState new settings)
+    subst (RepresentsState new settings)
     (sym (state_from-append settings (opening settings) h
     (entry_of_mark seat number (record { span = span; value = read }) now ∷ [])))
     (adds settings (state_of settings h) has)
@@ -36,10 +36,10 @@ told_above s told inner tells w =
 
 -- So whoever takes the summary over with a new cache answers no less.
 pub no_less : (former old new : CacheView) (own : Settings) (told : Summary) (range : Interval)
-    (now : Time) → StandsForState old own (opening own)
-    → ((settings : Settings) (s : CacheState) → StandsForState old settings s →
-    StandsForState new settings (step_all settings s (marks_told told) now).state)
-    → ((settings : Settings) (s : CacheState) → StandsForState old settings s →
+    (now : Time) → RepresentsState old own (opening own)
+    → ((settings : Settings) (s : CacheState) → RepresentsState old settings s →
+    RepresentsState new settings (step_all settings s (marks_told told) now).state)
+    → ((settings : Settings) (s : CacheState) → RepresentsState old settings s →
     TakesOver s (step_all settings s (marks_told told) now).state told)
     → told.span ≡ range → TellsOfCache former told → AnswersNoLess former new range
 no_less former old new own told range now opened stands takes same tells settings s inner has w =

@@ -1,6 +1,6 @@
 -- The reads that a former holder of a lease answered, and what the next one owes them.
 use Rattle.std.specs.Prelude.{ℕ, [], ◌∷◌, ◌++◌}
-use Rattle.timestamp_cache.specs.Words.{Time, Owner, OwnedTime, owner_of, IsAtMost, Interval, nothing, Settings, CacheState, look, History, state_of, entry_of_mark, CacheView, StandsForState, cache_answer}
+use Rattle.timestamp_cache.specs.Words.{Time, Owner, OwnedTime, owner_of, IsAtMost, Interval, nothing, Settings, CacheState, look, History, state_of, entry_of_mark, CacheView, RepresentsState, cache_answer}
 use Rattle.timestamp_cache.specs.Clear.{IsClearOfReads}
 use Rattle.timestamp_cache.specs.HandOver.{Summary, IsWithin, TellsOf}
 
@@ -10,7 +10,7 @@ read_of at by = record { time = at; owner = owner_of by }
 
 -- A holder's cache has the reads of a history: it stands for the state that they leave.
 abbrev pub HasReads : CacheView → Settings → History → Type 0
-HasReads cache settings h = StandsForState cache settings (state_of settings h)
+HasReads cache settings h = RepresentsState cache settings (state_of settings h)
 
 -- One more read is answered: whatever reads the cache had, it has those and that one at their end.
 abbrev pub AnswersOneMore : CacheView → CacheView → Interval → OwnedTime → Time → Type 0
@@ -21,14 +21,15 @@ AnswersOneMore old new span read now = (settings : Settings) (h : History) (seat
 
 -- A summary tells of whatever state a cache stands for.
 abbrev pub TellsOfCache : CacheView → Summary → Type 0
-TellsOfCache cache told = (settings : Settings) (s : CacheState) → StandsForState cache settings s →
+TellsOfCache cache told = (settings : Settings) (s : CacheState) →
+    RepresentsState cache settings s →
     TellsOf s told
 
 -- To each span within the range the next holder answers no less than the former one did, whatever
 -- state that one's cache stood for.
 abbrev pub AnswersNoLess : CacheView → CacheView → Interval → Type 0
 AnswersNoLess former next range = (settings : Settings) (s : CacheState) (inner : Interval) →
-    StandsForState former settings s → IsWithin inner range
+    RepresentsState former settings s → IsWithin inner range
     → IsAtMost (look s inner) (cache_answer next inner)
 
 -- A write within the range is clear of each read on its span that the former holder answered,

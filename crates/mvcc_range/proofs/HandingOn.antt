@@ -4,7 +4,7 @@ use Rattle.std.specs.Prelude.{◌↔◌, Result, Ok, Err, IsErrOf}
 use Rattle.tsc_time.proofs.RatchetOrder.{IsAtMost-transitive}
 use Rattle.tsc_cache.specs.State.{opening, step_all}
 use Rattle.tsc_cache.proofs.StatesSeen.{answers_look}
-use Rattle.timestamp_cache.specs.Words.{Time, IsAtMost, Interval, point, Settings, CacheState, look, Entry, CacheView, StandsForState}
+use Rattle.timestamp_cache.specs.Words.{Time, IsAtMost, Interval, point, Settings, CacheState, look, Entry, CacheView, RepresentsState}
 use Rattle.timestamp_cache.specs.HandOver.{
   Summary,
   summary_answer,
@@ -18,15 +18,15 @@ use Rattle.mvcc_range.specs.Steps.{TakesOver}
 
 pub taken : (old made new : CacheView) (span : Interval) (config : Settings) (most : ℕ)
     (told : Summary) (now : Time) → Summarizes old span most told
-    → StandsForState made config (opening config)
-    → ((settings : Settings) (s : CacheState) → StandsForState made settings s
-    → StandsForState new settings (step_all settings s (marks_told told) now).state)
-    → ((settings : Settings) (s : CacheState) → StandsForState made settings s
+    → RepresentsState made config (opening config)
+    → ((settings : Settings) (s : CacheState) → RepresentsState made settings s
+    → RepresentsState new settings (step_all settings s (marks_told told) now).state)
+    → ((settings : Settings) (s : CacheState) → RepresentsState made settings s
     → Learns s (step_all settings s (marks_told told) now).state told) → TakesOver span old new
 taken old made new span config most told now sums opened stands learns =
     let e : Entry = record { seat = 0; number = 0; marks = marks_told told; now = now } in
     let next : CacheState = (step_all config (opening config) (marks_told told) now).state in
-    let is : StandsForState new config next = stands config (opening config) opened in
+    let is : RepresentsState new config next = stands config (opening config) opened in
     record {
       settings = config;
       history = e ∷ [];

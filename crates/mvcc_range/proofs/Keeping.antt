@@ -16,7 +16,7 @@ use Rattle.tsc_cache.proofs.Histories.{clear_below}
 use Rattle.tsc_cache.specs.CacheView.{StandsAfterAll}
 use Rattle.timestamp_cache.proofs.Rising.{answers_rise, stands_longer}
 use Rattle.tsc_cache.proofs.StatesSeen.{answers_look}
-use Rattle.timestamp_cache.specs.Words.{Time, is_before, Owner, OwnedTime, owner_of, IsAtMost, KeyBytes, Interval, point, Mark, Settings, CacheView, StandsForState, History, state_of, cache_answer}
+use Rattle.timestamp_cache.specs.Words.{Time, is_before, Owner, OwnedTime, owner_of, IsAtMost, KeyBytes, Interval, point, Mark, Settings, CacheView, RepresentsState, History, state_of, cache_answer}
 use Rattle.timestamp_cache.specs.Clear.{IsClearOf}
 use Rattle.uuid.specs.Parts.{is_nil_bytes}
 use Rattle.mvcc_versions.specs.Versions.{
@@ -122,7 +122,7 @@ pub record Keeps (range : RangeView) (answered : List Answered)
     (committed : List Transaction) : Type 0 where
   pub settings : Settings
   pub history : History
-  pub stands : StandsForState range.cache settings (state_of settings history)
+  pub stands : RepresentsState range.cache settings (state_of settings history)
   pub agrees : (k : KeyBytes) → AgreesFrom range.threshold (chain_of range.chains k)
       (all_laid committed k)
   pub newest : (k : KeyBytes) → AreNewestFirst (chain_of range.chains k)
@@ -157,7 +157,7 @@ more h ms now = h ++ (record { seat = 0; number = 0; marks = ms; now = now }) �
 
 -- A cache to which more is added answers no less.
 no_less : (span : Interval) (old new : CacheView) (settings : Settings) (h : History)
-    (ms : List Mark) (now : Time) → StandsForState old settings (state_of settings h)
+    (ms : List Mark) (now : Time) → RepresentsState old settings (state_of settings h)
     → StandsAfterAll old new ms now → AnswersNoLess span old new
 no_less span old new settings h ms now was adds k s =
     answers_rise.no_less old new settings h ms now (point k) was adds
@@ -165,7 +165,7 @@ no_less span old new settings h ms now was adds k s =
 -- and the reads that were added are guarded
 guards_added : (span : Interval) (old new : CacheView) (settings : Settings) (h : History)
     (at : Time) (by : Owner) (reads all : List Read) (now : Time)
-    → ((r : Read) → IsIn reads r → IsIn all r) → StandsForState old settings (state_of settings h)
+    → ((r : Read) → IsIn reads r → IsIn all r) → RepresentsState old settings (state_of settings h)
     → StandsAfterAll old new (map (mark_of at by) all) now
     → AllByRecursion (λ (r : Read). IsGuarded span new at by r) reads
 guards_added span old new settings h at by [] all now among was adds = tt
@@ -462,7 +462,7 @@ keeps_same old new answered committed k same =
     record {
       settings = k.settings;
       history = k.history;
-      stands = subst (λ (v : CacheView). StandsForState v k.settings
+      stands = subst (λ (v : CacheView). RepresentsState v k.settings
           (state_of k.settings k.history)) (sym same.cache) k.stands;
       agrees = agrees_there old new committed same.threshold same.chains k.agrees;
       newest = λ key. subst AreNewestFirst (sym (same.chains key)) (k.newest key);
@@ -535,7 +535,7 @@ keeps_collecting : (old new : RangeView) (answered : List Answered) (committed :
 keeps_collecting old new answered committed before k c = record {
   settings = k.settings;
   history = k.history;
-  stands = subst (λ (v : CacheView). StandsForState v k.settings (state_of k.settings k.history))
+  stands = subst (λ (v : CacheView). RepresentsState v k.settings (state_of k.settings k.history))
       (sym c.cache) k.stands;
   agrees = λ key. subst (λ (vs : List Version). AgreesFrom new.threshold vs
       (all_laid committed key)) (sym (c.chains key))

@@ -19,7 +19,7 @@ use Rattle.timestamp_cache.specs.Words.{
   Mark,
   Settings,
   CacheView,
-  StandsForState,
+  RepresentsState,
   CacheState,
   look,
   History,
@@ -63,7 +63,7 @@ pub record IsOpened (range : RangeView) : Type 0 where
   pub settings : Settings
   pub threshold : range.threshold ≡ zero_time
   pub chains : range.chains ≡ []
-  pub cache : StandsForState range.cache settings (opening settings)
+  pub cache : RepresentsState range.cache settings (opening settings)
 
 -- A range is as before: its span, its cache, its threshold, and the versions of each key.
 pub record IsSame (old new : RangeView) : Type 0 where
@@ -127,9 +127,9 @@ pub record Commits (old new : RangeView) (t : Transaction) (now : Time) : Type 0
 pub record TakesOver (span : Interval) (old new : CacheView) : Type 0 where
   pub settings : Settings
   pub history : History
-  pub cache : StandsForState new settings (state_of settings history)
+  pub cache : RepresentsState new settings (state_of settings history)
   pub no_less : (others : Settings) (s : CacheState) (k : KeyBytes) → covers span k ≡ true
-      → StandsForState old others s → IsAtMost (look s (point k)) (cache_answer new (point k))
+      → RepresentsState old others s → IsAtMost (look s (point k)) (cache_answer new (point k))
 
 -- A range is handed on to a new lease: its versions stay, and its new cache takes over from the old
 -- one.

@@ -9,7 +9,7 @@ use Rattle.tsc_time.proofs.TimeOrder.{is_before-tells, is_before-itself, is_befo
 use Rattle.tsc_span.specs.Span.{Interval}
 use Rattle.tsc_cache.specs.Settings.{Settings}
 use Rattle.tsc_cache.specs.History.{History, state_of}
-use Rattle.tsc_cache.specs.CacheView.{CacheView, StandsForState, cache_answer}
+use Rattle.tsc_cache.specs.CacheView.{CacheView, RepresentsState, cache_answer}
 use Rattle.tsc_cache.proofs.StatesSeen.{answers_look}
 use Rattle.tsc_cache.proofs.Histories.{no_write_below_a_read}
 use Rattle.timestamp_cache.specs.Clear.{IsClearOf, IsClearOfReads, IsClearOfAllReads, IsClearOfAnswers}
@@ -251,7 +251,7 @@ first_all cache spans i by from at past so_far = record {
 -- What is clear of an answer is clear of each read of whatever history the cache stands for.
 pub clear_of_reads : (cache : CacheView) (span : Interval) (by : Owner) (at : Time) →
     IsClearOf (cache_answer cache span) by at
-    → (settings : Settings) (h : History) → StandsForState cache settings (state_of settings h) →
+    → (settings : Settings) (h : History) → RepresentsState cache settings (state_of settings h) →
     IsClearOfReads h span by at
 clear_of_reads cache span by at clear settings h stands =
     no_write_below_a_read settings h span by at
@@ -260,7 +260,7 @@ clear_of_reads cache span by at clear settings h stands =
 
 pub clear_of_all_reads : (cache : CacheView) (spans : List Interval) (by : Owner) (at : Time) →
     IsClearOfAnswers cache spans by at
-    → (settings : Settings) (h : History) → StandsForState cache settings (state_of settings h) →
+    → (settings : Settings) (h : History) → RepresentsState cache settings (state_of settings h) →
     IsClearOfAllReads h spans by at
 clear_of_all_reads cache spans by at clear settings h stands k d below =
     clear_of_reads cache (get_or spans k d) by at (clear k d below) settings h stands

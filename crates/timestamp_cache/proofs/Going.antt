@@ -11,7 +11,7 @@ use Rattle.tsc_span.proofs.Overlaps.{is_below-opposite, no_lower-transitive}
 use Rattle.tsc_page_nodes.specs.Page.{Mark}
 use Rattle.tsc_cache.specs.Settings.{Settings}
 use Rattle.tsc_cache.specs.State.{CacheState, look}
-use Rattle.tsc_cache.specs.CacheView.{CacheView, StandsForState}
+use Rattle.tsc_cache.specs.CacheView.{CacheView, RepresentsState}
 use Rattle.tsc_cache.specs.Keys.{keys_seen}
 use Rattle.tsc_cache.proofs.MarkLists.{all_marks, look-is}
 use Rattle.timestamp_cache.specs.HandOver.{Summary, IsWithin, Summarizes}
@@ -29,7 +29,7 @@ pub record IsUnderWay (cache : CacheView) (of : Interval) (from to at : Cut) (mo
   pub upto : is_below to at ≡ false
   pub brief : IsBrief cache.floor most told
   pub within : (m : Mark) → Contains told.marks m → IsWithin m.span (between from at)
-  pub tells : (settings : Settings) (s : CacheState) → StandsForState cache settings s →
+  pub tells : (settings : Settings) (s : CacheState) → RepresentsState cache settings s →
       Tells (all_marks s.pages) from at told
 
 -- nothing is told yet
@@ -89,7 +89,7 @@ within_more most told from at end v rises begun so_far =
 pub under_way_more : (cache : CacheView) (of : Interval) (from to at end : Cut) (most : ℕ)
     (told next : Summary) (v : OwnedTime) → IsUnderWay cache of from to at most told →
     IsStretch (keys_seen cache.pages) at to end
-    → ((settings : Settings) (s : CacheState) → StandsForState cache settings s →
+    → ((settings : Settings) (s : CacheState) → RepresentsState cache settings s →
     v ≡ look s (between at end)) → next ≡ told_more most told (between at end) v
     → IsUnderWay cache of from to end most next
 under_way_more cache of from to at end most told next v so_far stretch answer is =

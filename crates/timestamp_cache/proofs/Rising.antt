@@ -26,7 +26,7 @@ use Rattle.tsc_cache.specs.Settings.{Settings}
 use Rattle.tsc_cache.specs.State.{look}
 use Rattle.tsc_cache.specs.declared.history.Entry.{Entry}
 use Rattle.tsc_cache.specs.History.{History, state_of}
-use Rattle.tsc_cache.specs.CacheView.{CacheView, StandsForState, StandsAfterAll, cache_answer}
+use Rattle.tsc_cache.specs.CacheView.{CacheView, RepresentsState, StandsAfterAll, cache_answer}
 use Rattle.tsc_cache.proofs.FloorJoints.{above_each}
 use Rattle.tsc_cache.proofs.Histories.{state_of-push, kept_up, rising}
 use Rattle.tsc_cache.proofs.StatesSeen.{answers_look}
@@ -41,19 +41,19 @@ entry_of ms now = record { seat = 0; number = 0; marks = ms; now = now }
 
 -- a cache to which more is added stands for a history with one entry more
 pub stands_longer : (old new : CacheView) (settings : Settings) (h : History) (ms : List Mark)
-    (now : Time) → StandsForState old settings (state_of settings h)
+    (now : Time) → RepresentsState old settings (state_of settings h)
     → StandsAfterAll old new ms now
-    → StandsForState new settings (state_of settings (h
+    → RepresentsState new settings (state_of settings (h
     ++ (record { seat = 0; number = 0; marks = ms; now = now }) ∷ []))
 stands_longer old new settings h ms now was adds =
-    subst (StandsForState new settings) (sym (state_of-push settings h (entry_of ms now)))
+    subst (RepresentsState new settings) (sym (state_of-push settings h (entry_of ms now)))
     (adds settings (state_of settings h) was)
 
 pub answers_rise : AnswersRise
 answers_rise = record {
   no_less = λ old new settings h ms now span was adds. let longer : History = h ++ entry_of ms now
       ∷ [] in
-      let is : StandsForState new settings (state_of settings longer) =
+      let is : RepresentsState new settings (state_of settings longer) =
       stands_longer old new settings h ms now was adds in
       let rises : IsAtMost (look (state_of settings h) span) (look (state_of settings longer) span)
       = rising.answers settings h longer span (entry_of ms now ∷ [], refl) in
@@ -63,7 +63,7 @@ answers_rise = record {
       (sym (answers_look new settings (state_of settings longer) span is)) rises);
   kept = λ old new settings h ms now m span was adds own over. let longer : History = h
       ++ entry_of ms now ∷ [] in
-      let is : StandsForState new settings (state_of settings longer) =
+      let is : RepresentsState new settings (state_of settings longer) =
       stands_longer old new settings h ms now was adds in
       subst (IsAtMost m.value) (sym (answers_look new settings (state_of settings longer) span is))
       (kept_up settings longer (entry_of ms now) m span (Contains-push h (entry_of ms now)) own

@@ -16,7 +16,7 @@ use Rattle.tsc_span.proofs.Overlaps.{is_below-opposite, no_lower-transitive, is_
 use Rattle.tsc_page_nodes.specs.Page.{Mark, PageMarks, marked_keys}
 use Rattle.tsc_page_nodes.specs.PageView.{PageView, is_in}
 use Rattle.tsc_page_nodes.specs.KeysAbove.{lies_above, IsLeastAbove}
-use Rattle.tsc_cache.specs.CacheView.{EachStandsFor}
+use Rattle.tsc_cache.specs.CacheView.{EachRepresents}
 use Rattle.tsc_cache.specs.Keys.{keys_on, keys_seen}
 use Rattle.tsc_cache.proofs.MarkLists.{all_marks}
 use Rattle.timestamp_cache.specs.Stretches.{is_after, stretch_end, IsBeside, IsStretch}
@@ -143,7 +143,7 @@ in_right k ks ms h = list_any-append (bytes_eq k) ks ms ∙
     elim (cases_Bool (is_in k ks)) [ inl g ↦ rw g refl | inr g ↦ rw g h ]
 
 -- an end key of a state's pages can be seen
-pub key_seen : (k : KeyBytes) (vs : List PageView) (ps : List PageMarks) → EachStandsFor vs ps →
+pub key_seen : (k : KeyBytes) (vs : List PageView) (ps : List PageMarks) → EachRepresents vs ps →
     is_in k (keys_on ps) ≡ true → is_in k (keys_seen vs) ≡ true
 key_seen k [] [] stand h = h
 key_seen k [] (p ∷ ps) stand h = absurd stand
@@ -206,7 +206,7 @@ second_key a b k e = rw e (by (key_of_cut a))
 
 -- so no mark of a state that the pages stand for has a cut within a stretch
 pub marks_beside : (vs : List PageView) (ps : List PageMarks) (at to end : Cut) →
-    EachStandsFor vs ps → IsStretch (keys_seen vs) at to end → (m : Mark) →
+    EachRepresents vs ps → IsStretch (keys_seen vs) at to end → (m : Mark) →
     Contains (all_marks ps) m → AreBeside at end m.span
 marks_beside vs ps at to end stand stretch m c =
     of_span m.span (λ k h. key_seen k vs ps stand

@@ -9,7 +9,7 @@ use Rattle.tsc_span.specs.Span.{Interval, nothing, between, is_below}
 use Rattle.tsc_page_nodes.specs.Page.{Mark, values_on}
 use Rattle.tsc_cache.specs.Settings.{Settings}
 use Rattle.tsc_cache.specs.State.{CacheState, look}
-use Rattle.tsc_cache.specs.CacheView.{CacheView, StandsForState}
+use Rattle.tsc_cache.specs.CacheView.{CacheView, RepresentsState}
 use Rattle.tsc_cache.specs.Batch.{all_fit, is_any_kept}
 use Rattle.tsc_cache.specs.declared.added.Added.{Added}
 use Rattle.tsc_cache.specs.declared.fault.CacheFault.{CacheFault}
@@ -52,7 +52,7 @@ pub record Summarizes (cache : CacheView) (of : Interval) (most : ℕ) (told : S
   pub marks : (m : Mark) → Contains told.marks m → IsWithin m.span of ×
       (is_before cache.floor m.value.time ≡ true)
   -- the summary tells of whatever state the cache stands for
-  pub answers : (settings : Settings) (s : CacheState) → StandsForState cache settings s →
+  pub answers : (settings : Settings) (s : CacheState) → RepresentsState cache settings s →
       TellsOf s told
 
 -- what is added where a summary is applied: its whole span at its floor, without an owner, and then
@@ -71,8 +71,8 @@ pub record TakesOver (old new : CacheState) (told : Summary) : Type 0 where
       is_before new.floor (look new inner).time ≡ true →
       look new inner ≡ joint (look old inner) (summary_answer told inner ∷ [])
 
--- A summary is refused by a cache if one of its spans is too large for it, and else only for want
--- of memory, and never where none of its marks would be kept.
+-- A cache refuses a summary as too large if one of its spans is, and else only for want of memory.
+-- It never wants memory where none of the marks would be kept.
 pub record RefusesOnlyFor (cache : CacheView) (told : Summary) (did : Result Added CacheFault) :
     Type 0 where
   pub too_large : IsErrOf did TooLarge ↔ (all_fit cache.settings (marks_told told) ≡ false)

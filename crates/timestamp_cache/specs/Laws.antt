@@ -8,7 +8,7 @@ use Rattle.tsc_span.specs.Span.{KeyBytes, Interval, point, overlaps, covers}
 use Rattle.tsc_page_nodes.specs.Page.{Mark}
 use Rattle.tsc_cache.specs.Settings.{Settings}
 use Rattle.tsc_cache.specs.State.{CacheState, step_all, look}
-use Rattle.tsc_cache.specs.CacheView.{CacheView, StandsForState, StandsAfterAll, cache_answer}
+use Rattle.tsc_cache.specs.CacheView.{CacheView, RepresentsState, StandsAfterAll, cache_answer}
 use Rattle.tsc_cache.specs.declared.history.Entry.{Entry}
 use Rattle.tsc_cache.specs.History.{History, state_from, state_of, BeginsWith}
 use Rattle.tsc_shared.specs.declared.answers.Receipt.{Receipt}
@@ -48,7 +48,7 @@ pub record ReadsAreCarried : Type 0 where
 -- cache's answers holds of a lookup in such a state.
 abbrev pub AnswersAreLookedUp : Type 0
 AnswersAreLookedUp = (cache : CacheView) (settings : Settings) (s : CacheState) (span : Interval) →
-    StandsForState cache settings s → cache_answer cache span ≡ look s span
+    RepresentsState cache settings s → cache_answer cache span ≡ look s span
 
 -- A time is no earlier than the moment of any entry less the retention, where there is such a time.
 abbrev pub IsRetained : Settings → History → Time → Type 0
@@ -90,10 +90,10 @@ ReadsAreHandedOn = (settings others : Settings) (h later : History) (s : CacheSt
 -- mark that is added is at most what is answered on its span then.
 pub record AnswersRise : Type 0 where
   pub no_less : (old new : CacheView) (settings : Settings) (h : History) (ms : List Mark)
-      (now : Time) (span : Interval) → StandsForState old settings (state_of settings h)
+      (now : Time) (span : Interval) → RepresentsState old settings (state_of settings h)
       → StandsAfterAll old new ms now → IsAtMost (cache_answer old span) (cache_answer new span)
   pub kept : (old new : CacheView) (settings : Settings) (h : History) (ms : List Mark)
-      (now : Time) (m : Mark) (span : Interval) → StandsForState old settings (state_of settings h)
+      (now : Time) (m : Mark) (span : Interval) → RepresentsState old settings (state_of settings h)
       → StandsAfterAll old new ms now → Contains ms m → overlaps m.span span ≡ true
       → IsAtMost m.value (cache_answer new span)
 
@@ -112,8 +112,8 @@ pub record SummariesTellNoLess : Type 0 where
 -- A cache to which marks are added stands for the history before with one entry more.
 abbrev pub AddsAreEntries : Type 0
 AddsAreEntries = (old new : CacheView) (settings : Settings) (h : History) (ms : List Mark)
-    (now : Time) → StandsForState old settings (state_of settings h)
-    → StandsAfterAll old new ms now → StandsForState new settings
+    (now : Time) → RepresentsState old settings (state_of settings h)
+    → StandsAfterAll old new ms now → RepresentsState new settings
     (state_of settings (h ++ record { seat = 0; number = 0; marks = ms; now = now } ∷ []))
 
 -- What is clear of a read is clear of each that is at most that.

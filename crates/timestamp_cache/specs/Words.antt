@@ -9,5 +9,5 @@ pub use Rattle.tsc_cache.specs.Settings.{Settings}
 pub use Rattle.tsc_cache.specs.State.{CacheState, opening, look}
 pub use Rattle.tsc_cache.specs.History.{History, state_of, entry_of_mark, BeginsWith}
 pub use Rattle.tsc_cache.specs.declared.history.Entry.{Entry}
-pub use Rattle.tsc_cache.specs.CacheView.{CacheView, StandsForState, StandsAfter, StandsAfterAll, cache_answer}
+pub use Rattle.tsc_cache.specs.CacheView.{CacheView, RepresentsState, StandsAfter, StandsAfterAll, cache_answer}
 pub use Rattle.tsc_shared.specs.Seats.{SharedView, SeatView, FrontView}

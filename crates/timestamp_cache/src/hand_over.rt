@@ -5,7 +5,7 @@ ghost use Rattle.tsc_span.specs.Cuts.{cut_of};
 ghost use Rattle.tsc_cache.specs.Settings.{Settings, fits};
 ghost use Rattle.tsc_cache.specs.State.{CacheState, step_all};
 ghost use Rattle.tsc_cache.specs.Batch.{all_fit, is_any_kept, AddsAll};
-ghost use Rattle.tsc_cache.specs.CacheView.{StandsForState};
+ghost use Rattle.tsc_cache.specs.CacheView.{RepresentsState};
 ghost use Rattle.tsc_cache.specs.Keys.{keys_seen};
 ghost use Rattle.timestamp_cache.specs.HandOver.{marks_told, RefusesOnlyFor, Summarizes, TakesOver};
 ghost use Rattle.timestamp_cache.specs.Stretches.{is_after, stretch_end, IsStretch, told_more};
@@ -138,14 +138,14 @@ impl ReadSummary {
 /// `pkg/kv/kvserver/replica_tscache.go`.
 pub fn apply(cache: &mut Cache, summary: &ReadSummary, now: Timestamp) -> Result<Added, CacheFault>
     ensures stands { OnOk result ((settings : Settings) (s : CacheState) →
-        StandsForState cache.old settings s
-        → StandsForState cache.new settings
+        RepresentsState cache.old settings s
+        → RepresentsState cache.new settings
         (step_all settings s (marks_told summary.now) now).state) }
     ensures takes_over { OnOk result
-        ((settings : Settings) (s : CacheState) → StandsForState cache.old settings s
+        ((settings : Settings) (s : CacheState) → RepresentsState cache.old settings s
         → TakesOver s (step_all settings s (marks_told summary.now) now).state summary.now) }
     ensures added { IfOk result (λ added. (settings : Settings) (s : CacheState) →
-        StandsForState cache.old settings s
+        RepresentsState cache.old settings s
         → added ≡ (step_all settings s (marks_told summary.now) now).added) }
     ensures seen { IfOk result (λ added. AddsAll cache.old cache.new (marks_told summary.now) now
         added) }

@@ -13,9 +13,9 @@ pub use tsc_cache::laws::{
 pub use tsc_span::laws::{all_covers_each_key, covers_as_it_overlaps};
 pub use tsc_time::laws::least_upper_bound;
 
-/// A cache answers to each span what each state answers that it stands for. So what
-/// [`may_write`](crate::may_write) and [`earliest_write`](crate::earliest_write) promise of a
-/// cache's answers holds of what a lookup in such a state answers, on every span.
+/// A cache answers each span as each state does that it represents. So the promises of
+/// [`may_write`](crate::may_write) and [`earliest_write`](crate::earliest_write) hold of lookups in
+/// such a state, on every span.
 pub fn answers_are_looked_up()
     ensures { AnswersAreLookedUp }
 {}

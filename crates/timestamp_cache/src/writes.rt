@@ -1,7 +1,7 @@
 ghost use Rattle.std.specs.Prelude.{◌≡◌, ◌↔◌, IsTrue, IsOk, IfOk, IfSome};
 ghost use Rattle.tsc_cache.specs.Settings.{Settings};
 ghost use Rattle.tsc_cache.specs.History.{History, state_of};
-ghost use Rattle.tsc_cache.specs.CacheView.{StandsForState, cache_answer};
+ghost use Rattle.tsc_cache.specs.CacheView.{RepresentsState, cache_answer};
 ghost use Rattle.timestamp_cache.specs.Clear.{IsClearOf, IsClearOfReads, IsClearOfAnswers, IsClearOfAllReads, AsksAt, AsksEarliestAt, AsksOfAllAt};
 ghost use Rattle.timestamp_cache.specs.Earliest.{TellsEarliest};
 
@@ -21,7 +21,7 @@ use uuid::Uuid;
 pub fn may_write(cache: &Cache, span: &Span, at: Timestamp, by: Uuid) -> bool
     ensures value { IsTrue result ↔ IsClearOf (cache_answer cache.now span.now) by at }
     ensures reads { IsTrue result → (settings : Settings) (h : History) →
-        StandsForState cache.now settings (state_of settings h) → IsClearOfReads h span.now by at }
+        RepresentsState cache.now settings (state_of settings h) → IsClearOfReads h span.now by at }
 {
     is_clear_of(cache.get_max(span), at, by)
 }
@@ -54,7 +54,7 @@ pub fn may_write_at(
 pub fn earliest_write(cache: &Cache, spans: &[Span], at: Timestamp, by: Uuid) -> Option<Timestamp>
     ensures earliest { TellsEarliest (λ t. IsClearOfAnswers cache.now spans.now by t) at result }
     ensures reads { IfSome result (λ t. (settings : Settings) (h : History) →
-        StandsForState cache.now settings (state_of settings h) →
+        RepresentsState cache.now settings (state_of settings h) →
         IsClearOfAllReads h spans.now by t) }
 {
     let mut time = at;

@@ -10,7 +10,7 @@ use Rattle.tsc_page_nodes.specs.PageView.{PageView}
 use Rattle.tsc_cache.specs.declared.added.Added.{Added}
 use Rattle.tsc_cache.specs.Settings.{Settings, fits}
 use Rattle.tsc_cache.specs.State.{CacheState, Stepped, is_kept, not_kept, added_with, step, step_all}
-use Rattle.tsc_cache.specs.CacheView.{CacheView, StandsForState, Adds, MarksFront, front_has_room_for}
+use Rattle.tsc_cache.specs.CacheView.{CacheView, RepresentsState, Adds, MarksFront, front_has_room_for}
 use Rattle.tsc_cache.specs.Batch.{all_fit, is_any_kept, AddsAll}
 use Rattle.tsc_cache.specs.History.{IsMadeMark, CanBeAdded}
 use Rattle.tsc_cache.specs.Laws.{OneMarkIsAnAdd, ListsJoin}
@@ -106,11 +106,11 @@ settings_stay old new (m ∷ ms) now added all = settings_stay all.0 new ms now 
 -- whatever state it stood for, it stands for the one after all of the marks
 pub adds_all_stands : (old new : CacheView) (ms : List Mark) (now : Time) (added : Added) →
     AddsAll old new ms now added → (settings : Settings) (s : CacheState) →
-    StandsForState old settings s
-    → StandsForState new settings (step_all settings s ms now).state ×
+    RepresentsState old settings s
+    → RepresentsState new settings (step_all settings s ms now).state ×
     (added ≡ (step_all settings s ms now).added)
 adds_all_stands old new [] now added all settings s stands =
-    (subst (λ (v : CacheView). StandsForState v settings s) (sym all.0) stands, all.1)
+    (subst (λ (v : CacheView). RepresentsState v settings s) (sym all.0) stands, all.1)
 adds_all_stands old new (m ∷ ms) now added all settings s stands =
     let first = adds_stands old all.0 m now all.1 all.3 settings s stands in
     let others = adds_all_stands all.0 new ms now all.2 all.4 settings (step settings s m now).state

@@ -8,7 +8,7 @@ use Rattle.tsc_page_nodes.proofs.Standing.{same_count, same_bytes}
 use Rattle.tsc_cache.specs.declared.figures.Figures.{Figures}
 use Rattle.tsc_cache.specs.Settings.{Settings}
 use Rattle.tsc_cache.specs.State.{CacheState}
-use Rattle.tsc_cache.specs.CacheView.{CacheView, EachStandsFor, StandsForState}
+use Rattle.tsc_cache.specs.CacheView.{CacheView, EachRepresents, RepresentsState}
 use Rattle.tsc_cache.specs.Counts.{up_to_end, nodes_on, bytes_on, figures_of, nodes_seen, bytes_seen, figures_with, figures_seen}
 use Rattle.tsc_cache.proofs.StatesSeen.{as_many}
 
@@ -94,7 +94,7 @@ counting-end f pages [] floor rotations g none all = all.figures_are ∙
 counting-end f pages (a ∷ rest) floor rotations g none all = absurd (omega (arith, none))
 
 -- pages that stand for others have as many keys
-pub same_nodes : (vs : List PageView) (ps : List PageMarks) → EachStandsFor vs ps →
+pub same_nodes : (vs : List PageView) (ps : List PageMarks) → EachRepresents vs ps →
     nodes_seen vs ≡ nodes_on ps
 same_nodes [] [] each = refl
 same_nodes [] (p ∷ ps) each = absurd each
@@ -105,7 +105,7 @@ same_nodes (v ∷ vs) (p ∷ ps) each =
     ∙ sym (sum_by-cons (λ (q : PageMarks). count_distinct (marked_keys q.marks)) p ps)
 
 -- and they cost as much
-pub same_costs : (vs : List PageView) (ps : List PageMarks) → EachStandsFor vs ps →
+pub same_costs : (vs : List PageView) (ps : List PageMarks) → EachRepresents vs ps →
     bytes_seen vs ≡ bytes_on ps
 same_costs [] [] each = refl
 same_costs [] (p ∷ ps) each = absurd each
@@ -117,7 +117,7 @@ same_costs (v ∷ vs) (p ∷ ps) each =
 
 -- a cache has the figures of each state that it stands for
 pub same_figures : (v : CacheView) (settings : Settings) (s : CacheState) →
-    StandsForState v settings s → figures_seen v ≡ figures_of s
+    RepresentsState v settings s → figures_seen v ≡ figures_of s
 same_figures v settings s stands =
     (λ i. record {
       pages = as_many v.pages s.pages stands.pages i;

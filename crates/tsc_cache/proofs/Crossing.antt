@@ -5,13 +5,13 @@ use Rattle.std.proofs.Crossing.{crosses}
 use Rattle.tsc_time.specs.contracts.timestamp.Timestamp.{the_row as timestamp}
 use Rattle.tsc_time.specs.contracts.value.Value.{the_row as value}
 use Rattle.tsc_span.specs.contracts.key.Key.{the_row as key}
-use Rattle.tsc_page_nodes.specs.contracts.number.KeyPrefix.{the_row as key_number}
-use Rattle.tsc_page_nodes.specs.contracts.number.PrefixedKey.{the_row as numbered_key}
+use Rattle.tsc_page_nodes.specs.contracts.prefix.KeyPrefix.{the_row as key_prefix}
+use Rattle.tsc_page_nodes.specs.contracts.prefix.PrefixedKey.{the_row as prefixed_key}
 use Rattle.tsc_page_nodes.specs.contracts.nodes.Values.{the_row as values}
 use Rattle.tsc_page_nodes.specs.contracts.nodes.Nodes.{the_row as nodes}
-use Rattle.tsc_page_tree.specs.contracts.summary.Summary.{the_row as summary}
+use Rattle.tsc_page_tree.specs.contracts.aggregate.Aggregate.{the_row as aggregate}
 use Rattle.tsc_page_tree.specs.contracts.leaf.Leaf.{the_row as leaf}
-use Rattle.tsc_page_tree.specs.contracts.fork.Fork.{the_row as fork}
+use Rattle.tsc_page_tree.specs.contracts.branch.Branch.{the_row as branch}
 use Rattle.tsc_page.specs.contracts.root.Root.{the_row as root}
 use Rattle.tsc_page.specs.contracts.tree.Tree.{the_row as tree}
 use Rattle.tsc_page.specs.contracts.page.Page.{the_row as page}
@@ -44,17 +44,17 @@ key_sends = search (sendable, crosses) depth 20
 key_syncs : IsSync key
 key_syncs = search (sendable, crosses) depth 20
 
-key_number_sends : IsSend key_number
-key_number_sends = search (sendable, crosses) depth 20
+key_prefix_sends : IsSend key_prefix
+key_prefix_sends = search (sendable, crosses) depth 20
 
-key_number_syncs : IsSync key_number
-key_number_syncs = search (sendable, crosses) depth 20
+key_prefix_syncs : IsSync key_prefix
+key_prefix_syncs = search (sendable, crosses) depth 20
 
-numbered_key_sends : IsSend numbered_key
-numbered_key_sends = search (sendable, crosses, key_number_sends, key_sends, key_syncs) depth 20
+prefixed_key_sends : IsSend prefixed_key
+prefixed_key_sends = search (sendable, crosses, key_prefix_sends, key_sends, key_syncs) depth 20
 
-numbered_key_syncs : IsSync numbered_key
-numbered_key_syncs = search (sendable, crosses, key_number_syncs, key_sends, key_syncs) depth 20
+prefixed_key_syncs : IsSync prefixed_key
+prefixed_key_syncs = search (sendable, crosses, key_prefix_syncs, key_sends, key_syncs) depth 20
 
 values_send : IsSend values
 values_send = search (sendable, crosses, value_sends) depth 20
@@ -63,18 +63,18 @@ values_sync : IsSync values
 values_sync = search (sendable, crosses, value_syncs) depth 20
 
 nodes_send : IsSend nodes
-nodes_send = search (sendable, crosses, numbered_key_sends, numbered_key_syncs, values_send)
+nodes_send = search (sendable, crosses, prefixed_key_sends, prefixed_key_syncs, values_send)
     depth 20
 
 nodes_sync : IsSync nodes
-nodes_sync = search (sendable, crosses, numbered_key_sends, numbered_key_syncs, values_sync)
+nodes_sync = search (sendable, crosses, prefixed_key_sends, prefixed_key_syncs, values_sync)
     depth 20
 
-summary_sends : IsSend summary
-summary_sends = search (sendable, crosses, key_number_sends, value_sends) depth 20
+aggregate_sends : IsSend aggregate
+aggregate_sends = search (sendable, crosses, key_prefix_sends, value_sends) depth 20
 
-summary_syncs : IsSync summary
-summary_syncs = search (sendable, crosses, key_number_syncs, value_syncs) depth 20
+aggregate_syncs : IsSync aggregate
+aggregate_syncs = search (sendable, crosses, key_prefix_syncs, value_syncs) depth 20
 
 leaf_sends : IsSend leaf
 leaf_sends = search (
@@ -82,7 +82,7 @@ leaf_sends = search (
   crosses,
   declared_send,
   as_row_send,
-  summary_sends,
+  aggregate_sends,
   nodes_send,
   nodes_sync,
 ) depth 20
@@ -93,75 +93,75 @@ leaf_syncs = search (
   crosses,
   declared_sync,
   as_row_sync,
-  summary_syncs,
+  aggregate_syncs,
   nodes_send,
   nodes_sync,
 ) depth 20
 
-fork_sends : IsSend (fork leaf)
-fork_sends = search (
+branch_sends : IsSend (branch leaf)
+branch_sends = search (
   sendable,
   crosses,
   declared_send,
   as_row_send,
-  summary_sends,
+  aggregate_sends,
   leaf_sends,
   leaf_syncs,
 ) depth 20
 
-fork_syncs : IsSync (fork leaf)
-fork_syncs = search (
+branch_syncs : IsSync (branch leaf)
+branch_syncs = search (
   sendable,
   crosses,
   declared_sync,
   as_row_sync,
-  summary_syncs,
+  aggregate_syncs,
   leaf_sends,
   leaf_syncs,
 ) depth 20
 
-fork_of_forks_sends : IsSend (fork (fork leaf))
-fork_of_forks_sends = search (
+branch_of_branches_sends : IsSend (branch (branch leaf))
+branch_of_branches_sends = search (
   sendable,
   crosses,
   declared_send,
   as_row_send,
-  summary_sends,
-  fork_sends,
-  fork_syncs,
+  aggregate_sends,
+  branch_sends,
+  branch_syncs,
 ) depth 20
 
-fork_of_forks_syncs : IsSync (fork (fork leaf))
-fork_of_forks_syncs = search (
+branch_of_branches_syncs : IsSync (branch (branch leaf))
+branch_of_branches_syncs = search (
   sendable,
   crosses,
   declared_sync,
   as_row_sync,
-  summary_syncs,
-  fork_sends,
-  fork_syncs,
+  aggregate_syncs,
+  branch_sends,
+  branch_syncs,
 ) depth 20
 
-high_fork_sends : IsSend (fork (fork (fork leaf)))
-high_fork_sends = search (
+high_branch_sends : IsSend (branch (branch (branch leaf)))
+high_branch_sends = search (
   sendable,
   crosses,
   declared_send,
   as_row_send,
-  summary_sends,
-  fork_of_forks_sends,
-  fork_of_forks_syncs,
+  aggregate_sends,
+  branch_of_branches_sends,
+  branch_of_branches_syncs,
 ) depth 20
 
-high_fork_syncs : IsSync (fork (fork (fork leaf)))
-high_fork_syncs = search (
+high_branch_syncs : IsSync (branch (branch (branch leaf)))
+high_branch_syncs = search (
   sendable,
   crosses,
   declared_sync,
   as_row_sync,
-  summary_syncs,
-  fork_of_forks_sends,
-  fork_of_forks_syncs,
+  aggregate_syncs,
+  branch_of_branches_sends,
+  branch_of_branches_syncs,
 ) depth 20
 
 root_sends : IsSend root
@@ -172,12 +172,12 @@ root_sends = search (
   as_row_send,
   leaf_sends,
   leaf_syncs,
-  fork_sends,
-  fork_syncs,
-  fork_of_forks_sends,
-  fork_of_forks_syncs,
-  high_fork_sends,
-  high_fork_syncs,
+  branch_sends,
+  branch_syncs,
+  branch_of_branches_sends,
+  branch_of_branches_syncs,
+  high_branch_sends,
+  high_branch_syncs,
 ) depth 20
 
 root_syncs : IsSync root
@@ -188,12 +188,12 @@ root_syncs = search (
   as_row_sync,
   leaf_sends,
   leaf_syncs,
-  fork_sends,
-  fork_syncs,
-  fork_of_forks_sends,
-  fork_of_forks_syncs,
-  high_fork_sends,
-  high_fork_syncs,
+  branch_sends,
+  branch_syncs,
+  branch_of_branches_sends,
+  branch_of_branches_syncs,
+  high_branch_sends,
+  high_branch_syncs,
 ) depth 20
 
 tree_sends : IsSend tree

@@ -10,7 +10,7 @@ use Rattle.tsc_page_nodes.specs.Page.{PageMarks, marked_keys}
 use Rattle.tsc_page_nodes.specs.PageView.{PageView, is_in}
 use Rattle.tsc_page_nodes.specs.KeysAbove.{IsLeastAbove}
 use Rattle.tsc_page_nodes.proofs.CutOrder.{Le-from_Lt, Le-chain}
-use Rattle.tsc_cache.specs.CacheView.{EachStandsFor}
+use Rattle.tsc_cache.specs.CacheView.{EachRepresents}
 use Rattle.tsc_cache.specs.Keys.{keys_on, keys_seen, lesser}
 
 -- a key of two lists is in one of them
@@ -115,7 +115,7 @@ asking-end f pages [] c told none all =
 asking-end f pages (a ∷ rest) c told none all = absurd (omega (arith, none))
 
 -- pages that stand for others have the same keys
-pub same_keys : (vs : List PageView) (ps : List PageMarks) → EachStandsFor vs ps → (k : KeyBytes) →
+pub same_keys : (vs : List PageView) (ps : List PageMarks) → EachRepresents vs ps → (k : KeyBytes) →
     is_in k (keys_seen vs) ≡ is_in k (keys_on ps)
 same_keys [] [] each k = refl
 same_keys [] (p ∷ ps) each k = absurd each

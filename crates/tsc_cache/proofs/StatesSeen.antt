@@ -16,7 +16,7 @@ use Rattle.tsc_time.proofs.JointLemmas.{joint-above, joint-least, joint-append}
 use Rattle.tsc_time.proofs.RatchetOrder.{IsAtMost-antisymmetric, IsAtMost-transitive}
 use Rattle.tsc_span.specs.Span.{Interval, overlaps, end_keys, span_cost}
 use Rattle.tsc_page_nodes.specs.Page.{Mark, PageMarks, empty_page, with_mark, top, values_on, marked_keys}
-use Rattle.tsc_page_nodes.specs.PageView.{PageView, StandsFor, NoAnswerAboveTop, answer, is_in}
+use Rattle.tsc_page_nodes.specs.PageView.{PageView, Represents, NoAnswerAboveTop, answer, is_in}
 use Rattle.tsc_page_nodes.proofs.Standing.{same_room, top_with}
 use Rattle.tsc_page_nodes.proofs.Lookups.{values_on-more}
 use Rattle.tsc_cache.specs.declared.added.Added.{Added}
@@ -24,7 +24,7 @@ use Rattle.tsc_cache.specs.Settings.{Settings}
 use Rattle.tsc_cache.specs.State.{CacheState, is_kept, kept_without_rotation, kept_after_rotation, saturating_inc, front_has_room, marked, on_front, front_top, front_size, next_size, new_front, evict, rotate, step, look, Eviction}
 use Rattle.tsc_cache.specs.Eviction.{highest, Evicts}
 use Rattle.tsc_cache.specs.Lookup.{latest_on, LooksIntoPages}
-use Rattle.tsc_cache.specs.CacheView.{CacheView, EachStandsFor, StandsForState, IsMarked, MarksFront, RotatesWith, Adds, cache_answer, front_has_room_for, front_view_top, front_view_size, front_marked, latest_answer, LooksIntoViews}
+use Rattle.tsc_cache.specs.CacheView.{CacheView, EachRepresents, RepresentsState, IsMarked, MarksFront, RotatesWith, Adds, cache_answer, front_has_room_for, front_view_top, front_view_size, front_marked, latest_answer, LooksIntoViews}
 use Rattle.tsc_cache.specs.Stacks.{HaveTopsUpTo, AreStacked, pages_answer, Drops}
 use Rattle.tsc_cache.proofs.Lookings.{none_before_zero}
 use Rattle.tsc_cache.proofs.FloorJoints.{above_floor, above_each, least_above, at_most_unowned}
@@ -36,7 +36,7 @@ use Rattle.tsc_cache.proofs.Evictions.{evict-is}
 
 -- a page that has one more mark stands for the list with it
 pub marked_stands : (old new : PageView) (m : Mark) (p : PageMarks) → IsMarked old new m →
-    StandsFor old p → StandsFor new (with_mark p m)
+    Represents old p → Represents new (with_mark p m)
 marked_stands old new m p marked stands = record {
   size = marked.size ∙ stands.size;
   top = marked.top ∙ ap (λ t. later t m.value.time) stands.top ∙ sym (top_with p m);
@@ -66,7 +66,7 @@ no_later : (v : OwnedTime) (t : Time) → IsAtMost v (unowned t) → is_before t
 no_later v t below = grind (arith, is_before-tells)
 
 -- no answer of a page that stands for a list is later than its top
-pub stands-up_to_top : (v : PageView) (p : PageMarks) → StandsFor v p → NoAnswerAboveTop v
+pub stands-up_to_top : (v : PageView) (p : PageMarks) → Represents v p → NoAnswerAboveTop v
 stands-up_to_top v p stands s =
     subst (λ (t : Time). is_before t (answer v s).time ≡ false) (sym stands.top)
     (subst (λ (w : OwnedTime). is_before (top p) w.time ≡ false) (sym (stands.answers s))
@@ -79,7 +79,7 @@ stands-up_to_top v p stands s =
 -- ---- the pages of a cache
 
 -- as many pages as the state has
-pub as_many : (vs : List PageView) (ps : List PageMarks) → EachStandsFor vs ps →
+pub as_many : (vs : List PageView) (ps : List PageMarks) → EachRepresents vs ps →
     length vs ≡ length ps
 as_many [] [] stands = refl
 as_many [] (p ∷ ps) stands = absurd stands
@@ -87,13 +87,13 @@ as_many (v ∷ vs) [] stands = absurd stands
 as_many (v ∷ vs) (p ∷ ps) stands = ap suc (as_many vs ps stands.1)
 
 pub same_front_room : (s : CacheState) (vs : List PageView) (span : Interval) →
-    EachStandsFor vs s.pages → front_has_room_for vs span ≡ front_has_room s span
+    EachRepresents vs s.pages → front_has_room_for vs span ≡ front_has_room s span
 same_front_room s vs span stands = by vs s.pages stands
   where
     room_of : List PageMarks → Bool
     room_of ps = front_has_room (record { floor = zero_time; pages = ps; rotations = 0 }) span
 
-    by : (ws : List PageView) (ps : List PageMarks) → EachStandsFor ws ps →
+    by : (ws : List PageView) (ps : List PageMarks) → EachRepresents ws ps →
         front_has_room_for ws span ≡
         front_has_room (record { floor = s.floor; pages = ps; rotations = s.rotations }) span
     by [] [] h = refl
@@ -101,21 +101,21 @@ same_front_room s vs span stands = by vs s.pages stands
     by (w ∷ ws) [] h = absurd h
     by (w ∷ ws) (p ∷ ps) h = same_room w p span h.0
 
-same_front_top : (vs : List PageView) (ps : List PageMarks) → EachStandsFor vs ps →
+same_front_top : (vs : List PageView) (ps : List PageMarks) → EachRepresents vs ps →
     front_view_top vs ≡ front_top ps
 same_front_top [] [] h = refl
 same_front_top [] (p ∷ ps) h = absurd h
 same_front_top (v ∷ vs) [] h = absurd h
 same_front_top (v ∷ vs) (p ∷ ps) h = h.0.top
 
-same_front_size : (vs : List PageView) (ps : List PageMarks) → EachStandsFor vs ps →
+same_front_size : (vs : List PageView) (ps : List PageMarks) → EachRepresents vs ps →
     front_view_size vs ≡ front_size ps
 same_front_size [] [] h = refl
 same_front_size [] (p ∷ ps) h = absurd h
 same_front_size (v ∷ vs) [] h = absurd h
 same_front_size (v ∷ vs) (p ∷ ps) h = h.0.size
 
-same_tops : (vs : List PageView) (ps : List PageMarks) → EachStandsFor vs ps →
+same_tops : (vs : List PageView) (ps : List PageMarks) → EachRepresents vs ps →
     map (λ v. v.top) vs ≡ map top ps
 same_tops [] [] h = refl
 same_tops [] (p ∷ ps) h = absurd h
@@ -128,10 +128,10 @@ record PartedPages (vs ws : List PageView) (pages : List PageMarks) : Type 0 whe
   newer : List PageMarks
   older : List PageMarks
   parts : pages ≡ newer ++ older
-  first : EachStandsFor vs newer
-  second : EachStandsFor ws older
+  first : EachRepresents vs newer
+  second : EachRepresents ws older
 
-parted_pages : (vs ws : List PageView) (pages : List PageMarks) → EachStandsFor (vs ++ ws) pages →
+parted_pages : (vs ws : List PageView) (pages : List PageMarks) → EachRepresents (vs ++ ws) pages →
     PartedPages vs ws pages
 parted_pages [] ws pages h = record {
   newer = [];
@@ -154,10 +154,10 @@ record PartedViews (vs : List PageView) (ps qs : List PageMarks) : Type 0 where
   newer : List PageView
   older : List PageView
   parts : vs ≡ newer ++ older
-  first : EachStandsFor newer ps
-  second : EachStandsFor older qs
+  first : EachRepresents newer ps
+  second : EachRepresents older qs
 
-parted_views : (vs : List PageView) (ps qs : List PageMarks) → EachStandsFor vs (ps ++ qs) →
+parted_views : (vs : List PageView) (ps qs : List PageMarks) → EachRepresents vs (ps ++ qs) →
     PartedViews vs ps qs
 parted_views vs [] qs h = record { newer = []; older = vs; parts = refl; first = tt; second = h }
 parted_views [] (p ∷ ps) qs h = absurd h
@@ -171,23 +171,23 @@ parted_views (v ∷ vs) (p ∷ ps) qs h = let rest = parted_views vs ps qs h.1 i
 
 -- ---- an Add
 
-in_place_pages : (vs ws : List PageView) (ps : List PageMarks) (m : Mark) → EachStandsFor vs ps →
-    MarksFront vs ws m → EachStandsFor ws (on_front ps m)
+in_place_pages : (vs ws : List PageView) (ps : List PageMarks) (m : Mark) → EachRepresents vs ps →
+    MarksFront vs ws m → EachRepresents ws (on_front ps m)
 in_place_pages [] ws ps m h marks = absurd marks
 in_place_pages (v ∷ vs) [] ps m h marks = absurd marks
 in_place_pages (v ∷ vs) (w ∷ ws) [] m h marks = absurd h
 in_place_pages (v ∷ vs) (w ∷ ws) (p ∷ ps) m h marks =
-    (marked_stands v w m p marks.0 h.0, subst (λ us. EachStandsFor us ps) (sym marks.1) h.1)
+    (marked_stands v w m p marks.0 h.0, subst (λ us. EachRepresents us ps) (sym marks.1) h.1)
 
 -- a rotation leads to the state after the rotation
 rotated_stands : (old new : CacheView) (m : Mark) (now : Time) (evicted : ℕ) (settings : Settings)
     (s : CacheState) → new.settings ≡ old.settings → RotatesWith old new m now evicted →
-    StandsForState old settings s
-    → StandsForState new settings (marked (rotate settings s m.span now).state m) ×
+    RepresentsState old settings s
+    → RepresentsState new settings (marked (rotate settings s m.span now).state m) ×
     (evicted ≡ (rotate settings s m.span now).evicted)
 rotated_stands old new m now evicted settings s same turn stands =
     let ps = parted_pages turn.stay turn.dropped s.pages
-    (subst (λ vs. EachStandsFor vs s.pages) turn.parts stands.pages) in
+    (subst (λ vs. EachRepresents vs s.pages) turn.parts stands.pages) in
     let stay_tops = same_tops turn.stay ps.newer ps.first in
     let drop_tops = same_tops turn.dropped ps.older ps.second in
     let evicts : Evicts settings now (map top ps.newer) (map top ps.older) =
@@ -218,11 +218,11 @@ rotated_stands old new m now evicted settings s same turn stands =
         floor = turn.floor ∙ ap (λ f. highest f (map (λ (p : PageView). p.top) turn.dropped))
             stands.floor ∙ ap (highest s.floor) drop_tops ∙
             sym (ap (λ (e : Eviction). e.floor) out);
-        pages = subst (λ qs. EachStandsFor new.pages
+        pages = subst (λ qs. EachRepresents new.pages
             (with_mark (new_front settings s.pages m.span) m ∷ qs)) (sym kept)
-            (subst (λ vs. EachStandsFor vs
+            (subst (λ vs. EachRepresents vs
             (with_mark (new_front settings s.pages m.span) m ∷ ps.newer)) (sym turn.pages) (
-              subst (λ q. StandsFor turn.front q) front turn.marked,
+              subst (λ q. Represents turn.front q) front turn.marked,
               ps.first,
             ));
         rotations = turn.rotations ∙ ap saturating_inc stands.rotations;
@@ -235,14 +235,14 @@ rotated_stands old new m now evicted settings s same turn stands =
 -- for
 pub adds_stands : (old new : CacheView) (m : Mark) (now : Time) (added : Added) →
     Adds old new m now added → (settings : Settings) (s : CacheState) →
-    StandsForState old settings s
-    → StandsForState new settings (step settings s m now).state ×
+    RepresentsState old settings s
+    → RepresentsState new settings (step settings s m now).state ×
     (added ≡ (step settings s m now).added)
 adds_stands old new m now added adds settings s stands =
     elim (cases_Bool (is_kept s.floor m)) [
       | inr h ↦
           let none = adds.not_kept (ap (λ f. is_kept f m) stands.floor ∙ h) in
-          rw h (subst (λ v. StandsForState v settings s) (sym none.0) stands, none.1)
+          rw h (subst (λ v. RepresentsState v settings s) (sym none.0) stands, none.1)
       | inl h ↦
           let kept : is_kept old.floor m ≡ true = ap (λ f. is_kept f m) stands.floor ∙ h in
           let room_is = same_front_room s old.pages m.span stands.pages in
@@ -292,7 +292,7 @@ values_to span ps = flat_map (λ p. values_on span p.marks) ps
 
 -- what all values are at most, all answers are
 answers_below : (span : Interval) (u : OwnedTime) (vs : List PageView) (ps : List PageMarks) →
-    EachStandsFor vs ps → IsAtMost (unowned zero_time) u
+    EachRepresents vs ps → IsAtMost (unowned zero_time) u
     → ((w : OwnedTime) → IsIn (values_to span ps) w → IsAtMost w u) → (a : OwnedTime) →
     IsIn (answers_to span vs) a → IsAtMost a u
 answers_below span u [] ps h low each a i = absurd i
@@ -308,7 +308,7 @@ answers_below span u (v ∷ vs) (p ∷ ps) h low each a (inr i) =
 
 -- and back
 values_below : (span : Interval) (u : OwnedTime) (vs : List PageView) (ps : List PageMarks) →
-    EachStandsFor vs ps
+    EachRepresents vs ps
     → ((a : OwnedTime) → IsIn (answers_to span vs) a → IsAtMost a u) → (w : OwnedTime) →
     IsIn (values_to span ps) w → IsAtMost w u
 values_below span u [] [] h each w i = absurd i
@@ -326,7 +326,7 @@ values_below span u (v ∷ vs) (p ∷ ps) h each w i =
 
 -- above any floor pages answer together what their values come to
 pub same_answers : (floor : Time) (span : Interval) (vs : List PageView) (ps : List PageMarks) →
-    EachStandsFor vs ps → joint_above floor (answers_to span vs) ≡ joint_above floor
+    EachRepresents vs ps → joint_above floor (answers_to span vs) ≡ joint_above floor
     (values_to span ps)
 same_answers floor span vs ps h =
     let left : OwnedTime = joint_above floor (answers_to span vs) in
@@ -348,7 +348,7 @@ same_answers floor span vs ps h =
 
 -- so a cache answers what its state does
 pub answers_look : (v : CacheView) (settings : Settings) (s : CacheState) (span : Interval) →
-    StandsForState v settings s → cache_answer v span ≡ look s span
+    RepresentsState v settings s → cache_answer v span ≡ look s span
 answers_look v settings s span stands =
     ap (λ t. joint_above t (answers_to span v.pages)) stands.floor ∙
     same_answers s.floor span v.pages s.pages stands.pages
@@ -387,10 +387,10 @@ floor_last floor span vs =
 
 -- as many pages of the state are looked into
 pub looks_into_pages : (span : Interval) (vs : List PageView) (ps : List PageMarks) (count : ℕ) →
-    EachStandsFor vs ps → LooksIntoViews span vs count → LooksIntoPages span ps count
+    EachRepresents vs ps → LooksIntoViews span vs count → LooksIntoPages span ps count
 looks_into_pages span vs ps count h looks =
     let parts = parted_pages looks.into looks.past ps
-    (subst (λ ws. EachStandsFor ws ps) looks.parts h) in
+    (subst (λ ws. EachRepresents ws ps) looks.parts h) in
     record {
       into = parts.newer;
       past = parts.older;
@@ -404,19 +404,20 @@ looks_into_pages span vs ps count h looks =
           (same_answers zero_time span looks.into parts.newer parts.first));
     }
   where
-    goes_on : (ws : List PageView) (qs : List PageMarks) → EachStandsFor ws qs
+    goes_on : (ws : List PageView) (qs : List PageMarks) → EachRepresents ws qs
         → ((newer : List PageView) (page : PageView) (others : List PageView) →
         ws ≡ newer ++ page ∷ others → is_before page.top (latest_answer span newer) ≡ false)
         → (newer : List PageMarks) (page : PageMarks) (others : List PageMarks) →
         qs ≡ newer ++ page ∷ others → is_before (top page) (latest_on span newer) ≡ false
     goes_on ws qs g on newer page others e =
-        by (parted_views ws newer (page ∷ others) (subst (λ rs. EachStandsFor ws rs) e g))
+        by (parted_views ws newer (page ∷ others) (subst (λ rs. EachRepresents ws rs) e g))
       where
         by : PartedViews ws newer (page ∷ others) →
             is_before (top page) (latest_on span newer) ≡ false
         by parts = one parts.older parts.second parts.parts
           where
-            one : (us : List PageView) → EachStandsFor us (page ∷ others) → ws ≡ parts.newer ++ us →
+            one : (us : List PageView) → EachRepresents us (page ∷ others) →
+                ws ≡ parts.newer ++ us →
                 is_before (top page) (latest_on span newer) ≡ false
             one [] k f = absurd k
             one (u ∷ us) k f =
@@ -426,15 +427,15 @@ looks_into_pages span vs ps count h looks =
                 (subst (λ t. is_before t (latest_answer span parts.newer) ≡ false) k.0.top
                 (on parts.newer u us f))
 
-    stops : (ws : List PageView) (qs : List PageMarks) → EachStandsFor ws qs
+    stops : (ws : List PageView) (qs : List PageMarks) → EachRepresents ws qs
         → ((page : PageView) (others : List PageView) → ws ≡ page ∷ others →
         is_before page.top (latest_answer span looks.into) ≡ true)
         → (page : PageMarks) (others : List PageMarks) → qs ≡ page ∷ others
         → (into : List PageMarks) → latest_answer span looks.into ≡ latest_on span into →
         is_before (top page) (latest_on span into) ≡ true
-    stops ws qs g off page others e into same = one ws (subst (λ rs. EachStandsFor ws rs) e g) refl
+    stops ws qs g off page others e into same = one ws (subst (λ rs. EachRepresents ws rs) e g) refl
       where
-        one : (us : List PageView) → EachStandsFor us (page ∷ others) → ws ≡ us →
+        one : (us : List PageView) → EachRepresents us (page ∷ others) → ws ≡ us →
             is_before (top page) (latest_on span into) ≡ true
         one [] k f = absurd k
         one (u ∷ us) k f = subst (λ t. is_before (top page) t ≡ true) same
@@ -501,7 +502,8 @@ marks_stacked (v ∷ vs) (w ∷ ws) m h marks = (
 -- a new page on those that stay is stacked too
 pub rotates_stacked : (size : ℕ) (front : PageView) (stay dropped old : List PageView) (m : Mark) →
     AreStacked old → old ≡ stay ++ dropped →
-    StandsFor front (with_mark (empty_page size (front_view_top old)) m) → AreStacked (front ∷ stay)
+    Represents front (with_mark (empty_page size (front_view_top old)) m) →
+    AreStacked (front ∷ stay)
 rotates_stacked size front stay dropped old m h parts marked =
     let base : Time = front_view_top old in
     let top_is : front.top ≡ later base m.value.time =
@@ -521,22 +523,22 @@ pub front_stands : (settings : Settings) (pages : List PageView) (m : Mark) (pag
     (size cost next : ℕ) (base : Time)
     → next ≡ next_size settings.page_max size cost → size ≡ front_view_size pages →
     cost ≡ span_cost m.span → base ≡ front_view_top pages
-    → StandsFor page (with_mark (empty_page next base) m) →
-    StandsFor page (front_marked settings pages m)
+    → Represents page (with_mark (empty_page next base) m) →
+    Represents page (front_marked settings pages m)
 front_stands settings pages m page size cost next base is former paid low stands =
     let sized : next ≡ next_size settings.page_max (front_view_size pages) (span_cost m.span)
     = is ∙ ap (λ n. next_size settings.page_max n cost) former ∙
     ap (next_size settings.page_max (front_view_size pages)) paid in
-    subst (λ t. StandsFor page (with_mark
+    subst (λ t. Represents page (with_mark
     (empty_page (next_size settings.page_max (front_view_size pages) (span_cost m.span)) t)
     m)) low
-    (subst (λ n. StandsFor page (with_mark (empty_page n base) m)) sized stands)
+    (subst (λ n. Represents page (with_mark (empty_page n base) m)) sized stands)
 
 -- what was dropped behind a new front page
 pub rotates_with : (old new : CacheView) (m : Mark) (now : Time) (raised : Time) (evicted : ℕ)
     (front : PageView) (older : List PageView)
     → Drops old.settings old.floor now old.pages older raised evicted
-    → StandsFor front (front_marked old.settings old.pages m)
+    → Represents front (front_marked old.settings old.pages m)
     → new.pages ≡ front ∷ older → new.floor ≡ raised → new.rotations ≡ saturating_inc old.rotations
     → RotatesWith old new m now evicted
 rotates_with old new m now raised evicted front older drops marked pages floor rotations = record {
@@ -591,7 +593,7 @@ if_ok (Err e) Q P q f = tt
 
 -- whether an Add rotates the pages is what can be seen of the front page
 pub rotates_as_seen : (v : CacheView) (settings : Settings) (s : CacheState) (m : Mark) (now : Time)
-    → StandsForState v settings s
+    → RepresentsState v settings s
     → (is_kept v.floor m && not (front_has_room_for v.pages m.span)) ≡
     (step settings s m now).added.rotated
 rotates_as_seen v settings s m now stands =

@@ -5,7 +5,7 @@ use Rattle.tsc_time.specs.OwnedTime.{OwnedTime}
 use Rattle.tsc_time.specs.Joint.{joint_above}
 use Rattle.tsc_span.specs.Span.{Interval, span_cost}
 use Rattle.tsc_page_nodes.specs.Page.{Mark, PageMarks, empty_page, with_mark}
-use Rattle.tsc_page_nodes.specs.PageView.{PageView, StandsFor, HasKeysWith, AnswersWith, answer, has_room_for}
+use Rattle.tsc_page_nodes.specs.PageView.{PageView, Represents, HasKeysWith, AnswersWith, answer, has_room_for}
 use Rattle.tsc_cache.specs.declared.added.Added.{Added}
 use Rattle.tsc_cache.specs.Settings.{Settings}
 use Rattle.tsc_cache.specs.State.{CacheState, step, step_all, is_kept, not_kept, kept_without_rotation, kept_after_rotation, saturating_inc, next_size}
@@ -21,39 +21,40 @@ pub record CacheView : Type 0 where
   pub rotations : ℕ
 
 -- each page stands for the one at its place
-abbrev pub EachStandsFor : List PageView → List PageMarks → Type 0
-EachStandsFor [] [] = Unit {0}
-EachStandsFor [] (p ∷ ps) = ⊥
-EachStandsFor (v ∷ vs) [] = ⊥
-EachStandsFor (v ∷ vs) (p ∷ ps) = StandsFor v p × EachStandsFor vs ps
+abbrev pub EachRepresents : List PageView → List PageMarks → Type 0
+EachRepresents [] [] = Unit {0}
+EachRepresents [] (p ∷ ps) = ⊥
+EachRepresents (v ∷ vs) [] = ⊥
+EachRepresents (v ∷ vs) (p ∷ ps) = Represents v p × EachRepresents vs ps
 
 -- A cache stands for a state under some settings where it is set up so, floor and count are the
 -- same, and as many pages stand each for the one at its place.
-pub record StandsForState (v : CacheView) (settings : Settings) (s : CacheState) : Type 0 where
+pub record RepresentsState (v : CacheView) (settings : Settings) (s : CacheState) : Type 0 where
   pub set_up : v.settings ≡ settings
   pub floor : v.floor ≡ s.floor
-  pub pages : EachStandsFor v.pages s.pages
+  pub pages : EachRepresents v.pages s.pages
   pub rotations : v.rotations ≡ s.rotations
 
 -- Whatever state a cache stood for, it stands for the one after an Add then.
 abbrev pub StandsAfter : CacheView → CacheView → Mark → Time → Type 0
-StandsAfter old new m now = (settings : Settings) (s : CacheState) → StandsForState old settings s →
-    StandsForState new settings (step settings s m now).state
+StandsAfter old new m now = (settings : Settings) (s : CacheState) →
+    RepresentsState old settings s →
+    RepresentsState new settings (step settings s m now).state
 
 -- this is what an Add did, whatever state the cache stood for before it
 abbrev pub TellsAdded : CacheView → Mark → Time → Added → Type 0
 TellsAdded old m now added = (settings : Settings) (s : CacheState) →
-    StandsForState old settings s → added ≡ (step settings s m now).added
+    RepresentsState old settings s → added ≡ (step settings s m now).added
 
 -- The same of several marks, one after another at a moment.
 abbrev pub StandsAfterAll : CacheView → CacheView → List Mark → Time → Type 0
 StandsAfterAll old new ms now = (settings : Settings) (s : CacheState) →
-    StandsForState old settings s → StandsForState new settings (step_all settings s ms now).state
+    RepresentsState old settings s → RepresentsState new settings (step_all settings s ms now).state
 
 -- what several marks did together is what the states say
 abbrev pub TellsAddedAll : CacheView → List Mark → Time → Added → Type 0
 TellsAddedAll old ms now added = (settings : Settings) (s : CacheState) →
-    StandsForState old settings s → added ≡ (step_all settings s ms now).added
+    RepresentsState old settings s → added ≡ (step_all settings s ms now).added
 
 -- what a cache answers to a span: what its floor and the answer of each page come to together
 abbrev pub cache_answer : CacheView → Interval → OwnedTime
@@ -104,7 +105,7 @@ pub record RotatesWith (old new : CacheView) (m : Mark) (now : Time) (evicted : 
   pub evicts : Evicts old.settings now (map (λ p. p.top) stay) (map (λ p. p.top) dropped)
   pub count : evicted ≡ length dropped
   pub pages : new.pages ≡ front ∷ stay
-  pub marked : StandsFor front (front_marked old.settings old.pages m)
+  pub marked : Represents front (front_marked old.settings old.pages m)
   pub floor : new.floor ≡ highest old.floor (map (λ p. p.top) dropped)
   pub rotations : new.rotations ≡ saturating_inc old.rotations
 

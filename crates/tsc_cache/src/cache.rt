@@ -8,7 +8,7 @@ ghost use Rattle.tsc_cache.specs.Settings.{Settings, fits};
 ghost use Rattle.tsc_cache.specs.State.{CacheState, step, look, is_kept, kept_after_rotation};
 ghost use Rattle.tsc_cache.specs.Lookup.{LooksIntoPages};
 ghost use Rattle.tsc_cache.specs.Keys.{keys_on, keys_seen};
-ghost use Rattle.tsc_cache.specs.CacheView.{StandsForState, StandsAfter, StandsAfterAll, TellsAdded, TellsAddedAll, Adds, AddsWithoutRotation, RotatesWith, would_rotate, cache_answer, LooksIntoViews};
+ghost use Rattle.tsc_cache.specs.CacheView.{RepresentsState, StandsAfter, StandsAfterAll, TellsAdded, TellsAddedAll, Adds, AddsWithoutRotation, RotatesWith, would_rotate, cache_answer, LooksIntoViews};
 ghost use Rattle.tsc_cache.specs.Counts.{figures_of, figures_seen};
 ghost use Rattle.tsc_cache.specs.AddSpans.{named, refusal_of, is_kept_named, RefusesFor, StandsAfterNamed, TellsAddedNamed, AddsNamed};
 ghost use Rattle.tsc_cache.specs.Batch.{all_fit, is_any_kept, AddsAll, AddsSome, LeavesSome};
@@ -146,9 +146,9 @@ impl Cache {
 
     /// As [`add`](TimestampCache::add), of a single key whose bytes lie elsewhere.
     ///
-    /// A key that the front page holds is never copied, and takes no memory where no other cache
-    /// shares the way to it. A new one is copied once, and where a leaf is cut, or the pages
-    /// rotate, once more.
+    /// A key that the front page holds is copied only where another cache holds that page. It takes
+    /// no memory where no other cache shares the way to it. A new key is copied once, and once more
+    /// where a leaf is cut or shared, or where the pages rotate.
     pub fn add_key(
         &mut self,
         key: &KeyRef<'_>,
@@ -217,7 +217,8 @@ impl Cache {
     ///
     /// A refused Add, and one that is not kept, copy no key and take no memory. A single key is
     /// added as by [`add_key`](Cache::add_key). Of a range, a key that the front page holds is
-    /// never copied, and a new one is copied once.
+    /// never copied. A new one is copied once, and once more where a leaf is cut or shared, or
+    /// where the pages rotate.
     pub fn add_between(
         &mut self,
         start: &[u8],
@@ -333,8 +334,9 @@ impl Cache {
     /// does of a span that is too large, and the cache stays as it is then. It stays so too where
     /// memory is refused.
     ///
-    /// It searches the front page once, whether there is room or not. An Add that is not kept takes
-    /// no memory.
+    /// On the front page it searches for a key once where it adds in place. Else it searches for a
+    /// single key up to three times, and for an end key of another span up to twice, until it knows
+    /// whether there is room. An Add that is not kept takes no memory.
     pub fn add_without_rotation(
         &mut self,
         span: &Span,
@@ -448,7 +450,8 @@ impl Cache {
         ensures value { result ≡ cache_answer self.now
             (span_for_lookup start.now (option_map (λ k. k.now) end.entry) ends.exclude_from
             ends.exclude_to) }
-        ensures stands { (settings : Settings) (s : CacheState) → StandsForState self.now settings s
+        ensures stands { (settings : Settings) (s : CacheState) → RepresentsState
+            self.now settings s
             → result ≡ look s (span_for_lookup start.now (option_map (λ k. k.now) end.entry)
             ends.exclude_from ends.exclude_to) }
     {
@@ -459,7 +462,7 @@ impl Cache {
     pub fn get_max_ref(&self, span: &SpanRef<'_>) -> Value
         ensures value { result ≡ cache_answer self.now span.now }
         ensures stands { (settings : Settings) (s : CacheState) →
-            StandsForState self.now settings s → result ≡ look s span.now }
+            RepresentsState self.now settings s → result ≡ look s span.now }
     {
         self.lookup(span).0
     }
@@ -470,10 +473,10 @@ impl Cache {
     pub fn get_max_counted(&self, span: &Span) -> (Value, u64)
         ensures value { result.0 ≡ cache_answer self.now span.now }
         ensures stands { (settings : Settings) (s : CacheState) →
-            StandsForState self.now settings s → result.0 ≡ look s span.now }
+            RepresentsState self.now settings s → result.0 ≡ look s span.now }
         ensures looked { LooksIntoViews span.now self.now.pages result.1 }
         ensures looked_into { (settings : Settings) (s : CacheState) →
-            StandsForState self.now settings s → LooksIntoPages span.now s.pages result.1 }
+            RepresentsState self.now settings s → LooksIntoPages span.now s.pages result.1 }
     {
         self.lookup(&span.borrowed())
     }
@@ -489,7 +492,8 @@ impl Cache {
     pub fn key_above(&self, cut: Cut<'_>) -> Option<&Key>
         ensures value { IsLeastAbove (cut_of cut.entry) (keys_seen self.now.pages)
             (option_map (λ k. k.now) result) }
-        ensures stands { (settings : Settings) (s : CacheState) → StandsForState self.now settings s
+        ensures stands { (settings : Settings) (s : CacheState) → RepresentsState
+            self.now settings s
             → IsLeastAbove (cut_of cut.entry) (keys_on s.pages) (option_map (λ k. k.now) result) }
     {
         self.pages.key_above(cut)
@@ -500,7 +504,7 @@ impl Cache {
     pub fn figures(&self) -> Figures
         ensures value { result ≡ figures_seen self.now }
         ensures stands { (settings : Settings) (s : CacheState) →
-            StandsForState self.now settings s → result ≡ figures_of s }
+            RepresentsState self.now settings s → result ≡ figures_of s }
     {
         self.pages.figures(self.floor, self.rotations)
     }
@@ -510,7 +514,7 @@ impl Cache {
     pub fn would_rotate(&self, span: &Span, value: Value) -> bool
         ensures value { result ≡ would_rotate self.now (record { span = span.now; value = value }) }
         ensures stands { (settings : Settings) (s : CacheState) (now : Time) →
-            StandsForState self.now settings s
+            RepresentsState self.now settings s
             → result ≡ (step settings s (record { span = span.now; value = value })
             now).added.rotated }
     {
@@ -521,10 +525,10 @@ impl Cache {
     fn lookup(&self, span: &SpanRef<'_>) -> (Value, u64)
         ensures value { result.0 ≡ cache_answer self.now span.now }
         ensures stands { (settings : Settings) (s : CacheState) →
-            StandsForState self.now settings s → result.0 ≡ look s span.now }
+            RepresentsState self.now settings s → result.0 ≡ look s span.now }
         ensures looked { LooksIntoViews span.now self.now.pages result.1 }
         ensures looked_into { (settings : Settings) (s : CacheState) →
-            StandsForState self.now settings s → LooksIntoPages span.now s.pages result.1 }
+            RepresentsState self.now settings s → LooksIntoPages span.now s.pages result.1 }
     {
         let (best, looked) = self.pages.lookup(span);
         (ratchet(best, Value::unowned(self.floor)).0, looked)

@@ -196,7 +196,9 @@ impl Pages {
     }
 }
 
-/// Adds to a page in place, at a single key by the way that a page has for one.
+/// Adds to a page that nobody else holds, and says whether that page has room. Without room nothing
+/// changes. A single key takes the page's shorter way first, which adds in place alone. Any Add
+/// that can't be made in place replaces the page's tree.
 fn add_in_place(page: &mut Page, span: &AddSpan<'_>, value: Value) -> Result<bool, NoMemory>
     requires not_empty { is_empty_span span.now ≡ false }
     ensures told { IsMarkTold page.old page.new span.now value result }

@@ -1,7 +1,7 @@
 ghost use Rattle.std.specs.Prelude.{◌≡◌, ◌↔◌, Bool, length, true, false, IsOk, IfOk, IsErrOf, OnOk, OnErr};
 ghost use Rattle.tsc_cache.specs.Settings.{Settings, IsWithinLimits, fits};
 ghost use Rattle.tsc_cache.specs.State.{CacheState, opening, look, is_kept};
-ghost use Rattle.tsc_cache.specs.CacheView.{CacheView, StandsForState, StandsAfter, StandsAfterAll, TellsAdded, TellsAddedAll, Adds, cache_answer};
+ghost use Rattle.tsc_cache.specs.CacheView.{CacheView, RepresentsState, StandsAfter, StandsAfterAll, TellsAdded, TellsAddedAll, Adds, cache_answer};
 ghost use Rattle.tsc_cache.specs.Batch.{all_fit, is_any_kept, AddsAll};
 
 use crate::{Added, CacheFault, Config, Mark};
@@ -25,7 +25,7 @@ pub trait TimestampCache: Drop {
     /// configuration.
     fn new(alloc: Global, config: Config) -> Result<Self, NoMemory>
         ensures stands { IfOk result
-            (λ cache. StandsForState (view cache) config (opening config)) }
+            (λ cache. RepresentsState (view cache) config (opening config)) }
         ensures memory { is_empty_free ≡ true → IsOk result };
 
     /// Adds a span with its value, at the moment `now`: who read what, and when. Where memory is
@@ -70,7 +70,7 @@ pub trait TimestampCache: Drop {
     fn get_max(&self, span: &Span) -> Value
         ensures value { result ≡ cache_answer (view self.now) span.now }
         ensures stands { (settings : Settings) (s : CacheState) →
-            StandsForState (view self.now) settings s → result ≡ look s span.now };
+            RepresentsState (view self.now) settings s → result ≡ look s span.now };
 
     /// Where the floor stands. Whoever has a cache also learns here that its settings are within
     /// their limits.
@@ -78,17 +78,17 @@ pub trait TimestampCache: Drop {
         ensures value { result ≡ (view self.now).floor }
         ensures limits { IsWithinLimits (view self.now).settings }
         ensures stands { (settings : Settings) (s : CacheState) →
-            StandsForState (view self.now) settings s → result ≡ s.floor };
+            RepresentsState (view self.now) settings s → result ≡ s.floor };
 
     /// How many pages there are.
     fn pages(&self) -> usize
         ensures value { result ≡ length (view self.now).pages }
         ensures stands { (settings : Settings) (s : CacheState) →
-            StandsForState (view self.now) settings s → result ≡ length s.pages };
+            RepresentsState (view self.now) settings s → result ≡ length s.pages };
 
     /// How often the pages rotated. The count stays at 2^64 - 1 once it is there.
     fn rotations(&self) -> u64
         ensures value { result ≡ (view self.now).rotations }
         ensures stands { (settings : Settings) (s : CacheState) →
-            StandsForState (view self.now) settings s → result ≡ s.rotations };
+            RepresentsState (view self.now) settings s → result ≡ s.rotations };
 }

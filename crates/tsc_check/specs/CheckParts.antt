@@ -6,7 +6,7 @@ use Rattle.tsc_trace.specs.declared.log.Said.{Said}
 use Rattle.tsc_trace.specs.Sayings.{front_of}
 use Rattle.tsc_cache.specs.State.{CacheState}
 use Rattle.tsc_cache.specs.History.{state_of}
-use Rattle.tsc_cache.specs.CacheView.{CacheView, StandsForState}
+use Rattle.tsc_cache.specs.CacheView.{CacheView, RepresentsState}
 use Rattle.tsc_trace_format.specs.declared.trace.Call.{Call}
 use Rattle.tsc_trace_format.specs.Traces.{Trace}
 use Rattle.tsc_check.specs.Verdict.{PlacedCall, calls_of, is_line_of, is_add, is_add_at, adds_in, reaches_above, is_wrong_place, least, first_adds}
@@ -80,7 +80,7 @@ state_at trace lines front = state_of trace.config (first_adds (calls_of trace) 
 
 -- A cache has made the first Adds of a log, so many of them.
 abbrev pub HasAdded : CacheView → Trace → List Line → ℕ → Type 0
-HasAdded cache trace lines front = StandsForState cache trace.config (state_at trace lines front)
+HasAdded cache trace lines front = RepresentsState cache trace.config (state_at trace lines front)
 
 -- whether the place or the front of a line, by its number, is below a bound
 abbrev pub is_before_front : List Line → ℕ → ℕ → Bool

@@ -2,7 +2,7 @@
 ghost use Rattle.std.specs.Prelude.{◌≡◌, ◌⊎◌, ◌<◌, ◌≤◌, ◌||◌, ℕ, suc, length, true, false, not, Some, IfOk, IfSome, OnOk, option_map, slice_get};
 ghost use Rattle.tsc_cache.specs.Settings.{Settings};
 ghost use Rattle.tsc_cache.specs.History.{History, state_of};
-ghost use Rattle.tsc_cache.specs.CacheView.{StandsForState};
+ghost use Rattle.tsc_cache.specs.CacheView.{RepresentsState};
 ghost use Rattle.tsc_trace_format.specs.Calls.{call_fits, is_same_kind};
 ghost use Rattle.tsc_trace.specs.Log.{said_after, after_call};
 ghost use Rattle.tsc_trace.specs.Sayings.{kind_of_said, told_of};
@@ -26,7 +26,7 @@ fn differ(value: Value, other: Value) -> bool
 /// Whether the answer of a lookup is another than the cache gives.
 fn is_other_value(cache: &Cache, call: &Call, said: Said) -> bool
     ensures { (settings : Settings) (h : History) →
-        StandsForState cache.now settings (state_of settings h) → is_add said ≡ false
+        RepresentsState cache.now settings (state_of settings h) → is_add said ≡ false
         → result ≡ not (is_same_answer said (said_after settings h call.now)) }
 {
     match (call, said) {
@@ -53,12 +53,12 @@ fn is_other_added(said: Said, made: Added) -> bool
 fn is_other_add(cache: &mut Cache, call: &Call, said: Said) -> Result<bool, NoMemory>
     requires { call_fits cache.old.settings call.now ≡ true }
     ensures other { IfOk result (λ other. (settings : Settings) (h : History) →
-        StandsForState cache.old settings (state_of settings h) → is_add said ≡ true
+        RepresentsState cache.old settings (state_of settings h) → is_add said ≡ true
         → is_of_kind call.now said ≡ true →
         other ≡ not (is_same_answer said (said_after settings h call.now))) }
     ensures stands { OnOk result ((settings : Settings) (thread : ℕ) (h : History) →
-        StandsForState cache.old settings (state_of settings h)
-        → StandsForState cache.new settings (state_of settings (after_call thread h call.now))) }
+        RepresentsState cache.old settings (state_of settings h)
+        → RepresentsState cache.new settings (state_of settings (after_call thread h call.now))) }
 {
     match call {
         Call::Add { span, value, now } => {

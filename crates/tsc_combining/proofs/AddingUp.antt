@@ -12,7 +12,7 @@ use Rattle.tsc_page_nodes.specs.Page.{Mark}
 use Rattle.tsc_cache.specs.Settings.{Settings, fits}
 use Rattle.tsc_cache.specs.Batch.{all_fit}
 use Rattle.tsc_cache.specs.State.{step_all}
-use Rattle.tsc_cache.specs.CacheView.{CacheView, StandsForState, StandsAfterAll, TellsAddedAll}
+use Rattle.tsc_cache.specs.CacheView.{CacheView, RepresentsState, StandsAfterAll, TellsAddedAll}
 use Rattle.tsc_cache.specs.declared.added.Added.{Added}
 use Rattle.tsc_cache.specs.declared.history.Entry.{Entry}
 use Rattle.tsc_cache.specs.History.{History, state_of, IsLegal, IsMadeMark}
@@ -38,7 +38,7 @@ use Rattle.tsc_combining.proofs.InPlace.{caught_first}
 -- a cache that has had one Add more
 pub state_push : (t : Setup) (h : History) (e : Entry) (p : UnappliedAdd) (cache : CacheView)
     → e.marks ≡ marks_in p.marks → e.now ≡ p.moment
-    → StandsForState cache t.config
+    → RepresentsState cache t.config
     (step_all t.config (state_of t.config h) (marks_in p.marks) p.moment).state
     → IsState t (h ++ e ∷ []) cache
 state_push t h e p cache marks now stands = rw (state_of-push t.config h e, marks, now) stands

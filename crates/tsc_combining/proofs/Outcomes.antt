@@ -13,7 +13,7 @@ use lib.ListN.{get_elem?}
 use Rattle.tsc_time.specs.declared.memory.NoMemory.{NoMemory}
 use Rattle.tsc_cache.specs.State.{step_all}
 use Rattle.tsc_cache.specs.History.{History, own_count, state_of, BeginsWith, IsLegal}
-use Rattle.tsc_cache.specs.CacheView.{CacheView, StandsForState}
+use Rattle.tsc_cache.specs.CacheView.{CacheView, RepresentsState}
 use Rattle.tsc_cache.specs.declared.added.Added.{Added}
 use Rattle.tsc_cache.proofs.Beginnings.{begins_itself, begins_on}
 use Rattle.tsc_cache.proofs.Histories.{state_of-push}
@@ -181,7 +181,7 @@ pub can_serve : (me : At) (seats : ℕ) (state : WriterState) (add : UnappliedAd
     → HoldsState me seats state → state.length + 1 + room ≤ me.0.setup.limit → items ≡ []
     → served ≡ state.served
     → ((t : Setup) (h : History) (flips : ℕ) → IsAfter t h flips state
-    → StandsForState (arc_value next) t.config
+    → RepresentsState (arc_value next) t.config
     (step_all t.config (state_of t.config h) (marks_in add.marks) add.moment).state)
     → Serves me.0 (own_added me.0 add) room 0 served me items (arc_value next)
 can_serve me seats state add room served items next all h fits none told stands =
@@ -199,7 +199,7 @@ can_serve me seats state add room served items next all h fits none told stands 
         writing = writing;
         made = none;
       };
-      stands = subst (StandsForState (arc_value next) t.config) (sym (state_of-push t.config
+      stands = subst (RepresentsState (arc_value next) t.config) (sym (state_of-push t.config
           p.history e)) (stands t p.history p.flips after);
       new = λ r _. refl;
       few = omega (arith, ap length none);

@@ -12,7 +12,7 @@ use Rattle.tsc_cache.specs.declared.added.Added.{Added}
 use Rattle.tsc_cache.specs.Batch.{all_fit, AddsAll}
 use Rattle.tsc_cache.specs.State.{step_all}
 use Rattle.tsc_cache.specs.History.{History, state_of}
-use Rattle.tsc_cache.specs.CacheView.{CacheView, StandsForState}
+use Rattle.tsc_cache.specs.CacheView.{CacheView, RepresentsState}
 use Rattle.tsc_left_right.specs.declared.table.MarkList.{MarkList}
 use Rattle.tsc_left_right.specs.declared.table.MarkList.TheVariants.{One, Many}
 use Rattle.tsc_left_right.specs.declared.table.UnappliedAdd.{UnappliedAdd}
@@ -46,7 +46,7 @@ pub record AllFit (state : WriterState) (add : UnappliedAdd) : Type 0 where
 abbrev pub StandsAfterAdd : List UnappliedAdd → CacheView → CacheView → UnappliedAdd → Type 0
 StandsAfterAdd late old new add =
     (t : Setup) (h : History) → Lags t h late old
-    → StandsForState new t.config
+    → RepresentsState new t.config
     (step_all t.config (state_of t.config h) (marks_in add.marks) add.moment).state
 
 -- what the last of these Adds did
@@ -75,7 +75,7 @@ pub record HasTaken (late : List UnappliedAdd) (old new : CacheView) (add : Unap
 pub record IsNext (state : WriterState) (add : UnappliedAdd) (next : CacheView) (added : Added)
     : Type 0 where
   pub stands : (t : Setup) (h : History) (flips : ℕ) → IsAfter t h flips state
-      → StandsForState next t.config
+      → RepresentsState next t.config
       (step_all t.config (state_of t.config h) (marks_in add.marks) add.moment).state
   pub tells : (t : Setup) (h : History) (flips : ℕ) → IsAfter t h flips state
       → added ≡ (step_all t.config (state_of t.config h) (marks_in add.marks) add.moment).added

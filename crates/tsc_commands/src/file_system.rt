@@ -1,4 +1,4 @@
-//! Places where the program finds files by their names.
+//! File systems, in which the program finds files by their names.
 ghost use Rattle.std.specs.Prelude.{ℕ, List};
 ghost use Rattle.tsc_commands.specs.FileSystem.{IsOpening, Opening};
 

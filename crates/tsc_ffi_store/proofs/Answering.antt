@@ -7,7 +7,7 @@ use Rattle.tsc_page_nodes.specs.Page.{Mark}
 use Rattle.tsc_cache.specs.declared.added.Added.{Added}
 use Rattle.tsc_cache.specs.Settings.{Settings}
 use Rattle.tsc_cache.specs.State.{CacheState, step_all}
-use Rattle.tsc_cache.specs.CacheView.{CacheView, StandsForState}
+use Rattle.tsc_cache.specs.CacheView.{CacheView, RepresentsState}
 use Rattle.tsc_cache.specs.Batch.{AddsAll}
 use Rattle.tsc_shared.specs.declared.answers.Answer.{Answer}
 use Rattle.tsc_shared.specs.Seats.{SeatView}
@@ -20,9 +20,9 @@ use Rattle.tsc_ffi_store.specs.SeatCalls.{SeatLooks}
 pub adds_all_in : (cache after : CacheView) (asked : AskedBatch) (marks : List Mark) (now : Time)
     (added told : Added) → AreMarks asked.keys asked.marks marks → now ≡ asked.moment → added ≡ told
     → AddsAll cache after marks now added
-    → ((settings : Settings) (s : CacheState) → StandsForState cache settings s →
-    StandsForState after settings (step_all settings s marks now).state)
-    → ((settings : Settings) (s : CacheState) → StandsForState cache settings s →
+    → ((settings : Settings) (s : CacheState) → RepresentsState cache settings s →
+    RepresentsState after settings (step_all settings s marks now).state)
+    → ((settings : Settings) (s : CacheState) → RepresentsState cache settings s →
     added ≡ (step_all settings s marks now).added)
     → AddsAllIn cache after asked told
 adds_all_in cache after asked marks now added told are moment tells adds stands says = record {
@@ -30,7 +30,7 @@ adds_all_in cache after asked marks now added told are moment tells adds stands 
   asked_for = are;
   adds = subst (λ (a : Added). AddsAll cache after marks asked.moment a) tells
       (subst (λ (t : Time). AddsAll cache after marks t added) moment adds);
-  stands = λ settings s is. subst (λ (t : Time). StandsForState after settings
+  stands = λ settings s is. subst (λ (t : Time). RepresentsState after settings
       (step_all settings s marks t).state) moment (stands settings s is);
   tells = λ settings s is. sym tells ∙ says settings s is ∙
       ap (λ (t : Time). (step_all settings s marks t).added) moment;

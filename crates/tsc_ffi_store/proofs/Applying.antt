@@ -5,7 +5,7 @@ use Rattle.tsc_time.specs.Time.{Time}
 use Rattle.tsc_cache.specs.declared.added.Added.{Added}
 use Rattle.tsc_cache.specs.Settings.{Settings}
 use Rattle.tsc_cache.specs.State.{CacheState, step_all}
-use Rattle.tsc_cache.specs.CacheView.{CacheView, StandsForState}
+use Rattle.tsc_cache.specs.CacheView.{CacheView, RepresentsState}
 use Rattle.tsc_cache.specs.Batch.{AddsAll}
 use Rattle.timestamp_cache.specs.HandOver.{Summary, marks_told, TakesOver}
 use Rattle.timestamp_cache.specs.SummaryReading.{summary_of}
@@ -13,15 +13,17 @@ use Rattle.tsc_ffi_store.specs.Summaries.{AskedApply, AppliesIn}
 
 -- what the cache says of each state that it stands for
 abbrev pub Does : CacheView → CacheView → Summary → Time → Type 0
-Does cache after told now = (settings : Settings) (s : CacheState) → StandsForState cache settings s
-    → StandsForState after settings (step_all settings s (marks_told told) now).state
+Does cache after told now = (settings : Settings) (s : CacheState) →
+    RepresentsState cache settings s
+    → RepresentsState after settings (step_all settings s (marks_told told) now).state
 
 abbrev pub Says : CacheView → Summary → Time → Added → Type 0
-Says cache told now added = (settings : Settings) (s : CacheState) → StandsForState cache settings s
+Says cache told now added = (settings : Settings) (s : CacheState) →
+    RepresentsState cache settings s
     → added ≡ (step_all settings s (marks_told told) now).added
 
 abbrev pub Takes : CacheView → Summary → Time → Type 0
-Takes cache told now = (settings : Settings) (s : CacheState) → StandsForState cache settings s
+Takes cache told now = (settings : Settings) (s : CacheState) → RepresentsState cache settings s
     → TakesOver s (step_all settings s (marks_told told) now).state told
 
 pub applies_in : (cache after : CacheView) (asked : AskedApply) (told : Summary) (now : Time)

@@ -6,7 +6,7 @@ use Rattle.tsc_time.specs.Time.{Time}
 use Rattle.tsc_cache.specs.Settings.{Settings}
 use Rattle.tsc_cache.specs.State.{step_all}
 use Rattle.tsc_cache.specs.History.{History, state_of}
-use Rattle.tsc_cache.specs.CacheView.{CacheView, StandsForState}
+use Rattle.tsc_cache.specs.CacheView.{CacheView, RepresentsState}
 use Rattle.tsc_cache.proofs.Histories.{state_of-push}
 use Rattle.tsc_ffi_store.specs.declared.store.Slot.{Slot}
 use Rattle.tsc_ffi_store.specs.CacheCalls.{Opens}
@@ -26,16 +26,16 @@ the_same {X} {a} {b} e f = ap (or_else a) (sym e ∙ f)
 pushed : (old new : Option CacheView) (cache after : CacheView) (settings : Settings) (h : History)
     (marks : List Mark) (now : Time)
     → HoldsHistory old settings h → old ≡ Some cache → new ≡ Some after
-    → (StandsForState cache settings (state_of settings h) →
-    StandsForState after settings (step_all settings (state_of settings h) marks now).state)
+    → (RepresentsState cache settings (state_of settings h) →
+    RepresentsState after settings (step_all settings (state_of settings h) marks now).state)
     → HoldsHistory new settings (h ++ next_entry h marks now ∷ [])
 pushed old new cache after settings h marks now k was is stands =
     record {
       cache = after;
       holds = is;
-      stands = subst (StandsForState after settings)
+      stands = subst (RepresentsState after settings)
           (sym (state_of-push settings h (next_entry h marks now)))
-          (stands (subst (λ (c : CacheView). StandsForState c settings (state_of settings h))
+          (stands (subst (λ (c : CacheView). RepresentsState c settings (state_of settings h))
           (the_same k.holds was) k.stands));
     }
 
@@ -67,6 +67,6 @@ answers_all_added handle before opened slots settings h asked v o up l =
       looked.span,
       looked.asked_for,
       looked.stands settings (state_of settings h)
-          (subst (λ (c : CacheView). StandsForState c settings (state_of settings h))
+          (subst (λ (c : CacheView). RepresentsState c settings (state_of settings h))
           (the_same k.holds l.holds) k.stands),
     )

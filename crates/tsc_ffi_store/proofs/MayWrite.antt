@@ -5,7 +5,7 @@ use Rattle.tsc_time.specs.Time.{Time, is_in_range}
 use Rattle.tsc_time.proofs.TimeOrder.{is_before-itself, same_from_neither_before}
 use Rattle.tsc_cache.specs.Settings.{Settings}
 use Rattle.tsc_cache.specs.History.{History, state_of}
-use Rattle.tsc_cache.specs.CacheView.{CacheView, StandsForState}
+use Rattle.tsc_cache.specs.CacheView.{CacheView, RepresentsState}
 use Rattle.timestamp_cache.specs.Clear.{IsClearOfAnswers, IsClearOfAllReads}
 use Rattle.timestamp_cache.specs.Earliest.{TellsEarliest}
 use Rattle.tsc_ffi_store.specs.Writes.{AskedWrite, TellsWrite, TellsMayWrite}
@@ -28,7 +28,7 @@ told_at P from (Some at) range tells holds =
 
 reads_at : (cache : CacheView) (asked : AskedWrite) (told : Option Time)
     → (tells : TellsWrite cache asked told) → told ≡ Some asked.time
-    → (settings : Settings) (h : History) → StandsForState cache settings (state_of settings h)
+    → (settings : Settings) (h : History) → RepresentsState cache settings (state_of settings h)
     → IsClearOfAllReads h tells.spans asked.by asked.time
 reads_at cache asked None tells is = absurd (let never : None ≡ Some asked.time = is in cc)
 reads_at cache asked (Some at) tells is =

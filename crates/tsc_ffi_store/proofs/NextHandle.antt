@@ -1,7 +1,7 @@
 -- One slot more behind all that there are has the handle of how many there were.
 use Rattle.std.proofs.Common.{◌≡◌, refl, ap, ℕ, zero, suc, List, [], ◌∷◌, ◌++◌, length, length-append}
 use Rattle.std.specs.Prelude.{◌≢◌, Some, None, slice_get}
-use Rattle.tsc_cache.specs.CacheView.{CacheView, StandsForState}
+use Rattle.tsc_cache.specs.CacheView.{CacheView, RepresentsState}
 use Rattle.tsc_cache.specs.Settings.{Settings}
 use Rattle.tsc_cache.specs.State.{opening}
 use Rattle.tsc_ffi_store.specs.declared.store.Slot.{Slot}
@@ -26,7 +26,7 @@ as_before (x ∷ items) e (suc other) ne = as_before items e other (λ same. ne 
 
 pub opens_next : (items more : List Slot) (n : ℕ) (cache : CacheView) (settings : Settings) →
     n ≡ length items → more ≡ items ++ Own cache ∷ [] →
-    StandsForState cache settings (opening settings)
+    RepresentsState cache settings (opening settings)
     → Opens (cache_at items n) (cache_at more n) settings
 opens_next items more n cache settings handle laid stands = rw (handle, laid) record {
   cache = cache;

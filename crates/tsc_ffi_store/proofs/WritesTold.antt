@@ -11,7 +11,7 @@ use Rattle.tsc_time.proofs.TimeOrder.{is_before-itself}
 use Rattle.tsc_span.specs.Span.{Interval}
 use Rattle.tsc_cache.specs.Settings.{Settings}
 use Rattle.tsc_cache.specs.History.{History, state_of}
-use Rattle.tsc_cache.specs.CacheView.{CacheView, StandsForState, cache_answer}
+use Rattle.tsc_cache.specs.CacheView.{CacheView, RepresentsState, cache_answer}
 use Rattle.tsc_shared.specs.Seats.{SeatView, IsSeat}
 use Rattle.timestamp_cache.specs.Clear.{IsClearOf, IsClearOfAnswers, IsClearOfAllReads}
 use Rattle.timestamp_cache.specs.Clear.{AsksInTurn, all_asked, none_told, one_told}
@@ -126,7 +126,7 @@ none_left cache by (Some at) range = record {
 
 reads_of : (cache : CacheView) (spans : List Interval) (by : Owner) (from : Time)
     (told : Option Time) → TellsEarliest (λ t. IsClearOfAnswers cache spans by t) from told
-    → IfSome told (λ t. (settings : Settings) (h : History) → StandsForState cache settings
+    → IfSome told (λ t. (settings : Settings) (h : History) → RepresentsState cache settings
     (state_of settings h) → IsClearOfAllReads h spans by t)
 reads_of cache spans by from None tells = tt
 reads_of cache spans by from (Some at) tells = clear_of_all_reads cache spans by at tells.holds

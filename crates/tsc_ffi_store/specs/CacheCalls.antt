@@ -7,7 +7,7 @@ use Rattle.tsc_page_nodes.specs.Page.{Mark}
 use Rattle.tsc_cache.specs.declared.added.Added.{Added}
 use Rattle.tsc_cache.specs.Settings.{Settings, fits}
 use Rattle.tsc_cache.specs.State.{CacheState, opening, step, step_all, look}
-use Rattle.tsc_cache.specs.CacheView.{CacheView, StandsForState, Adds, cache_answer}
+use Rattle.tsc_cache.specs.CacheView.{CacheView, RepresentsState, Adds, cache_answer}
 use Rattle.tsc_cache.specs.Counts.{figures_of, figures_seen}
 use Rattle.tsc_cache.specs.Batch.{AddsAll, all_fit}
 use Rattle.tsc_ffi_store.specs.declared.ctypes.TscFigures.{TscFigures}
@@ -23,7 +23,7 @@ pub record Opens (old new : Option CacheView) (settings : Settings) : Type 0 whe
   pub cache : CacheView
   pub none : old ≡ None
   pub holds : new ≡ Some cache
-  pub stands : StandsForState cache settings (opening settings)
+  pub stands : RepresentsState cache settings (opening settings)
 
 -- Why no cache was opened.
 abbrev pub RefusesOpen : Refusal → AskedConfig → Type 0
@@ -43,7 +43,7 @@ pub record LooksIn (cache : CacheView) (asked : AskedSpan) (v : OwnedTime) : Typ
   pub span : Interval
   pub asked_for : lookup_span asked ≡ Some span
   pub value : v ≡ cache_answer cache span
-  pub stands : (settings : Settings) (s : CacheState) → StandsForState cache settings s →
+  pub stands : (settings : Settings) (s : CacheState) → RepresentsState cache settings s →
       v ≡ look s span
 
 -- What a lookup in a cache answers.
@@ -55,13 +55,13 @@ pub record AnswersLookup {A : Type 0} (asked : AskedSpan) (v : OwnedTime) (cache
 -- Where the floor of a cache stands.
 pub record StandsAt (cache : CacheView) (floor : Time) : Type 0 where
   pub value : floor ≡ cache.floor
-  pub stands : (settings : Settings) (s : CacheState) → StandsForState cache settings s →
+  pub stands : (settings : Settings) (s : CacheState) → RepresentsState cache settings s →
       floor ≡ s.floor
 
 -- The figures of a cache.
 pub record Counts (cache : CacheView) (figures : TscFigures) : Type 0 where
   pub value : figures ≡ figures_told (figures_seen cache)
-  pub stands : (settings : Settings) (s : CacheState) → StandsForState cache settings s →
+  pub stands : (settings : Settings) (s : CacheState) → RepresentsState cache settings s →
       figures ≡ figures_told (figures_of s)
 
 -- What a call answers that no cache refuses.
@@ -75,10 +75,10 @@ pub record AddsIn (cache after : CacheView) (asked : AskedAdd) (added : Added) :
   pub span : Interval
   pub asked_for : add_span asked.span ≡ Some span
   pub adds : Adds cache after (record { span = span; value = asked.value }) asked.moment added
-  pub stands : (settings : Settings) (s : CacheState) → StandsForState cache settings s
-      → StandsForState after settings
+  pub stands : (settings : Settings) (s : CacheState) → RepresentsState cache settings s
+      → RepresentsState after settings
       (step settings s (record { span = span; value = asked.value }) asked.moment).state
-  pub tells : (settings : Settings) (s : CacheState) → StandsForState cache settings s
+  pub tells : (settings : Settings) (s : CacheState) → RepresentsState cache settings s
       → added ≡ (step settings s (record { span = span; value = asked.value }) asked.moment).added
 
 -- A span that was named costs more than the largest page may have.
@@ -106,9 +106,9 @@ pub record AddsAllIn (cache after : CacheView) (asked : AskedBatch) (added : Add
   pub marks : List Mark
   pub asked_for : AreMarks asked.keys asked.marks marks
   pub adds : AddsAll cache after marks asked.moment added
-  pub stands : (settings : Settings) (s : CacheState) → StandsForState cache settings s →
-      StandsForState after settings (step_all settings s marks asked.moment).state
-  pub tells : (settings : Settings) (s : CacheState) → StandsForState cache settings s →
+  pub stands : (settings : Settings) (s : CacheState) → RepresentsState cache settings s →
+      RepresentsState after settings (step_all settings s marks asked.moment).state
+  pub tells : (settings : Settings) (s : CacheState) → RepresentsState cache settings s →
       added ≡ (step_all settings s marks asked.moment).added
 
 -- The span of a mark that was named costs more than the largest page may have.

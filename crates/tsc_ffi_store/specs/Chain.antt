@@ -10,7 +10,7 @@ use Rattle.tsc_cache.specs.Settings.{Settings}
 use Rattle.tsc_cache.specs.State.{look}
 use Rattle.tsc_cache.specs.declared.history.Entry.{Entry}
 use Rattle.tsc_cache.specs.History.{History, state_of}
-use Rattle.tsc_cache.specs.CacheView.{CacheView, StandsForState}
+use Rattle.tsc_cache.specs.CacheView.{CacheView, RepresentsState}
 use Rattle.tsc_ffi_store.specs.declared.store.Slot.{Slot}
 use Rattle.tsc_ffi_store.specs.Decode.{AskedSpan, AskedAdd, AskedBatch, lookup_span}
 use Rattle.tsc_ffi_store.specs.CacheCalls.{Opens, AnswersLookup, AnswersAdd, AnswersAddAll}
@@ -42,7 +42,7 @@ pub data AddsUp (handle : ℕ) : List Slot → List Slot → History → Type 0 
 pub record HoldsHistory (held : Option CacheView) (settings : Settings) (h : History) : Type 0 where
   pub cache : CacheView
   pub holds : held ≡ Some cache
-  pub stands : StandsForState cache settings (state_of settings h)
+  pub stands : RepresentsState cache settings (state_of settings h)
 
 -- A lookup in what was opened and added to answers what the state of all that was added does.
 abbrev pub AnswersAllAdded : Type 0

@@ -6,7 +6,7 @@ use Rattle.tsc_cache.specs.declared.added.Added.{Added}
 use Rattle.tsc_cache.specs.Settings.{Settings}
 use Rattle.tsc_cache.specs.State.{CacheState, step_all}
 use Rattle.tsc_cache.specs.History.{History, state_of, state_from}
-use Rattle.tsc_cache.specs.CacheView.{CacheView, StandsForState, cache_answer}
+use Rattle.tsc_cache.specs.CacheView.{CacheView, RepresentsState, cache_answer}
 use Rattle.timestamp_cache.specs.Clear.{IsClearOf, IsClearOfReads}
 use Rattle.timestamp_cache.specs.HandOver.{IsWithin, marks_told}
 use Rattle.tsc_ffi_store.specs.Summaries.{AskedSummary, AskedApply, TellsSummary, AppliesIn}
@@ -19,10 +19,10 @@ LeasesGoOn =
     (former next after last : CacheView) (settings others : Settings) (h later : History)
     (s : CacheState) (asked : AskedSummary) (applied : AskedApply) (added : Added)
     (inner : Interval) (by : Owner) (at : Time)
-    → StandsForState former settings (state_of settings h)
+    → RepresentsState former settings (state_of settings h)
     → (told : TellsSummary former asked applied.bytes)
     → (took : AppliesIn next after applied added)
-    → StandsForState last others
+    → RepresentsState last others
     (state_from others (step_all others s (marks_told took.told) applied.moment).state later)
     → IsWithin inner told.span → IsClearOf (cache_answer last inner) by at
     → IsClearOfReads h inner by at

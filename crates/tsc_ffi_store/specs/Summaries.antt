@@ -6,7 +6,7 @@ use Rattle.tsc_cache.specs.declared.added.Added.{Added}
 use Rattle.tsc_cache.specs.Settings.{Settings}
 use Rattle.tsc_cache.specs.State.{CacheState, step_all}
 use Rattle.tsc_cache.specs.Batch.{AddsAll, all_fit}
-use Rattle.tsc_cache.specs.CacheView.{CacheView, StandsForState}
+use Rattle.tsc_cache.specs.CacheView.{CacheView, RepresentsState}
 use Rattle.timestamp_cache.specs.declared.summary_fault.SummaryFault.{SummaryFault}
 use Rattle.timestamp_cache.specs.declared.summary_fault.SummaryFault.TheVariants.{Version, Length}
 use Rattle.timestamp_cache.specs.declared.summary_fault.SummaryFault.TheVariants.{Checksum, Form}
@@ -82,11 +82,11 @@ pub record AppliesIn (cache after : CacheView) (asked : AskedApply) (added : Add
   pub told : Summary
   pub read : summary_of asked.bytes ≡ Ok told
   pub adds : AddsAll cache after (marks_told told) asked.moment added
-  pub stands : (settings : Settings) (s : CacheState) → StandsForState cache settings s
-      → StandsForState after settings (step_all settings s (marks_told told) asked.moment).state
-  pub tells : (settings : Settings) (s : CacheState) → StandsForState cache settings s
+  pub stands : (settings : Settings) (s : CacheState) → RepresentsState cache settings s
+      → RepresentsState after settings (step_all settings s (marks_told told) asked.moment).state
+  pub tells : (settings : Settings) (s : CacheState) → RepresentsState cache settings s
       → added ≡ (step_all settings s (marks_told told) asked.moment).added
-  pub takes_over : (settings : Settings) (s : CacheState) → StandsForState cache settings s
+  pub takes_over : (settings : Settings) (s : CacheState) → RepresentsState cache settings s
       → TakesOver s (step_all settings s (marks_told told) asked.moment).state told
 
 -- why bytes are no summary, and what C is told

@@ -7,7 +7,7 @@ use Rattle.tsc_time.specs.OwnedTime.{Owner}
 use Rattle.tsc_span.specs.Span.{KeyBytes, Interval}
 use Rattle.tsc_cache.specs.Settings.{Settings}
 use Rattle.tsc_cache.specs.History.{History, state_of}
-use Rattle.tsc_cache.specs.CacheView.{CacheView, StandsForState}
+use Rattle.tsc_cache.specs.CacheView.{CacheView, RepresentsState}
 use Rattle.tsc_shared.specs.Seats.{SeatView}
 use Rattle.timestamp_cache.specs.Clear.{IsClearOfAnswers, IsClearOfAllReads, AsksOfAllAt}
 use Rattle.timestamp_cache.specs.Earliest.{TellsEarliest}
@@ -72,7 +72,7 @@ pub record TellsWrite (cache : CacheView) (asked : AskedWrite) (told : Option Ti
   pub asked_for : AreSpans asked.keys asked.spans spans
   pub earliest : TellsEarliest (λ t. IsClearOfAnswers cache spans asked.by t) asked.time told
   pub reads : IfSome told (λ t. (settings : Settings) (h : History)
-      → StandsForState cache settings (state_of settings h) → IsClearOfAllReads h spans asked.by t)
+      → RepresentsState cache settings (state_of settings h) → IsClearOfAllReads h spans asked.by t)
 
 -- A seat asks of some spans, one after another, from when on a write is clear.
 pub record AsksWrite (old new : SeatView) (asked : AskedWrite) (told : Option Time) : Type 0 where
@@ -108,7 +108,7 @@ pub record TellsMayWrite (cache : CacheView) (asked : AskedWrite) (may : Bool) :
   pub asked_for : AreSpans asked.keys asked.spans spans
   pub value : IsTrue may ↔ IsClearOfAnswers cache spans asked.by asked.time
   pub reads : IsTrue may → (settings : Settings) (h : History)
-      → StandsForState cache settings (state_of settings h)
+      → RepresentsState cache settings (state_of settings h)
       → IsClearOfAllReads h spans asked.by asked.time
 
 -- What a cache answers to the question whether a write may be made.

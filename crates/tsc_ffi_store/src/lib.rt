@@ -1,8 +1,8 @@
 //! The store behind a pointer of a program in C: caches, shared caches and their seats, by handles.
 //!
 //! A [`Store`] opens, closes and lends what its handles name. There is a function for each request
-//! of a cache or a seat. It takes what C hands over, as C lays it out ([`SpanArgs`] and its like),
-//! and either does all that is asked, or says by a [`Refusal`] why it did nothing.
+//! of a cache or a seat. It takes what C hands over, as C lays it out ([`SpanArgs`] and its like).
+//! It does all that is asked, or does nothing and returns a [`Refusal`] that says why.
 #![tactic(auto)]
 
 mod buffer;

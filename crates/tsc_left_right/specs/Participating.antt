@@ -9,7 +9,7 @@ use Rattle.atomic_table.specs.Seated.{TableId}
 use Rattle.atomic_table.specs.declared.shared.Seat.{Seat as TableSeat}
 use Rattle.tsc_cache.specs.Settings.{Settings}
 use Rattle.tsc_cache.specs.State.{CacheState}
-use Rattle.tsc_cache.specs.CacheView.{CacheView, StandsForState}
+use Rattle.tsc_cache.specs.CacheView.{CacheView, RepresentsState}
 use Rattle.tsc_cache.specs.History.{History, own_count, BeginsWith, IsLegal}
 use Rattle.tsc_left_right.specs.declared.table.UnappliedAdd.{UnappliedAdd}
 use Rattle.tsc_left_right.specs.declared.table.WriterState.{WriterState}
@@ -167,7 +167,8 @@ IsHandle x = HasHandle x (λ cache length. Unit {0})
 
 -- something holds of each state that a cache stands for
 abbrev pub InEachState : CacheView → (CacheState → Type 0) → Type 0
-InEachState cache P = (settings : Settings) (s : CacheState) → StandsForState cache settings s → P s
+InEachState cache P = (settings : Settings) (s : CacheState) →
+    RepresentsState cache settings s → P s
 
 -- A seat that has its slot of this side in hand, and what lies there.
 pub record IsPinned (me : At) (side : ℕ) (x : Slot) : Type 0 where

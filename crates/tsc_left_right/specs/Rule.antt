@@ -11,7 +11,7 @@ use mathlib.Core.Option as maybe
 use lib.ListN.{get_elem?}
 use Rattle.atomic_table.specs.Table.{State}
 use Rattle.tsc_page_nodes.specs.Page.{Mark}
-use Rattle.tsc_cache.specs.CacheView.{CacheView, StandsForState}
+use Rattle.tsc_cache.specs.CacheView.{CacheView, RepresentsState}
 use Rattle.tsc_cache.specs.State.{step_all}
 use Rattle.tsc_cache.specs.declared.history.Entry.{Entry}
 use Rattle.tsc_cache.specs.History.{History, own_count, state_of, BeginsWith, IsLegal}
@@ -113,7 +113,7 @@ standby_side flips = (flips + 1) % 2
 
 -- a cache stands for the state of a history
 abbrev pub IsState : Setup → History → CacheView → Type 0
-IsState setup h cache = StandsForState cache setup.config (state_of setup.config h)
+IsState setup h cache = RepresentsState cache setup.config (state_of setup.config h)
 
 -- a slot has a handle on such a cache, and says how long the history is
 abbrev pub Shows : Setup → History → Slot → Type 0

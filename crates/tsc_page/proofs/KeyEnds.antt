@@ -6,7 +6,7 @@ use Rattle.std.proofs.lemmas.Bool.{cases_Bool}
 use Rattle.std.proofs.lemmas.Slice.Eq.{bytes_eq-Decides}
 use Rattle.tsc_time.specs.OwnedTime.{OwnedTime}
 use Rattle.tsc_span.specs.Span.{KeyBytes, Cut, before, after}
-use Rattle.tsc_page_nodes.specs.Additions.{Addend}
+use Rattle.tsc_page_nodes.specs.Insertions.{InsertionView}
 use Rattle.tsc_page_tree.specs.KeyAdds.{at_key}
 use Rattle.tsc_page.specs.Roots.{AreEnds}
 

@@ -4,16 +4,17 @@ use Rattle.std.proofs.lemmas.Bool.{le-leb, lt-leb}
 use Rattle.tsc_time.specs.Time.{Time, later}
 use Rattle.tsc_span.specs.Span.{Interval, between, end_keys, key_cost}
 use Rattle.tsc_page_nodes.specs.Page.{with_mark, cost_distinct}
-use Rattle.tsc_page_nodes.specs.PageView.{PageView, StandsFor, NoAnswerAboveTop, is_in, has_room_for}
+use Rattle.tsc_page_nodes.specs.PageView.{PageView, Represents, NoAnswerAboveTop, is_in, has_room_for}
 use Rattle.tsc_page_nodes.specs.PageAdds.{AddsMark}
-use Rattle.tsc_page_nodes.specs.Additions.{Addend}
+use Rattle.tsc_page_nodes.specs.Insertions.{InsertionView}
 use Rattle.tsc_page_nodes.specs.Nodes.{Node, answer_of, node_keys, nodes_cost, page_of}
 use Rattle.tsc_page.specs.Roots.{TreeView, Inserts, IsFullFor}
 use Rattle.tsc_page_nodes.proofs.Costs.{cost-raised}
 use Rattle.tsc_page_nodes.proofs.Standing.{split_weight, added_keys, added_answers, added_covers, added_stands}
 
 -- a tree that is full has no room for the span
-pub no_room : (size : ℕ) (t : Time) (tree : TreeView) (a : Addend) (v : PageView) (s : Interval) →
+pub no_room : (size : ℕ) (t : Time) (tree : TreeView) (a : InsertionView) (v : PageView)
+    (s : Interval) →
     between a.from a.to ≡ s → page_of size t tree.nodes tree.sizes ≡ v → IsFullFor tree a size →
     has_room_for v s ≡ false
 no_room size t tree a v s span view full =
@@ -22,7 +23,7 @@ no_room size t tree a v s span view full =
     span (lt-leb (cost_distinct (node_keys tree.nodes ++ end_keys (between a.from a.to)))
     size full))
 
-module _ (size : ℕ) (t u : Time) (old new : TreeView) (a : Addend)
+module _ (size : ℕ) (t u : Time) (old new : TreeView) (a : InsertionView)
     (inserts : Inserts old new a size) (is : u ≡ later t a.value.time) where
   pub page_adds : AddsMark (page_of size t old.nodes old.sizes) (page_of size u new.nodes new.sizes)
       (between a.from a.to) a.value
@@ -38,7 +39,7 @@ module _ (size : ℕ) (t u : Time) (old new : TreeView) (a : Addend)
       record {
         room = le-leb (cost_distinct (node_keys old.nodes ++ end_keys (between a.from a.to)))
             size few;
-        stands = λ p stood. subst (λ (ns : List Node). StandsFor (page_of size u ns new.sizes)
+        stands = λ p stood. subst (λ (ns : List Node). Represents (page_of size u ns new.sizes)
             (with_mark p (record { span = between a.from a.to; value = a.value }))) (sym raised)
             (added_stands old.nodes mid a.from a.to inserts.order a.value split old.sizes new.sizes
             size t u p stood is);

@@ -13,7 +13,7 @@ use Rattle.tsc_time.specs.Joint.{joint, joint_above, latest}
 use Rattle.tsc_time.proofs.JointLemmas.{joint-append}
 use Rattle.tsc_span.specs.Span.{KeyBytes, Interval, overlaps, end_keys, key_cost}
 use Rattle.tsc_page_nodes.specs.Page.{Mark, PageMarks, with_mark, values_on, marked_keys, count_distinct, cost_distinct}
-use Rattle.tsc_page_nodes.specs.PageView.{StandsFor, is_in, new_weight, is_new_among, view_of}
+use Rattle.tsc_page_nodes.specs.PageView.{Represents, is_in, new_weight, is_new_among, view_of}
 use Rattle.tsc_page_nodes.proofs.DistinctKeys.{has_no_repeats}
 use Rattle.tsc_page_nodes.proofs.Ends.{end_keys_once}
 use Rattle.tsc_page_nodes.proofs.Lookups.{values_on-more}
@@ -78,8 +78,8 @@ answers_push marks m s = ap (joint_above zero_time) (values_on-more s marks m) �
     joined (overlaps m.span s) (values_on s marks) m.value
 
 -- a list that stands for another still does with the same mark on both
-pub push_stands : (q p : PageMarks) (m : Mark) → StandsFor (view_of q) p →
-    StandsFor (view_of (with_mark q m)) (with_mark p m)
+pub push_stands : (q p : PageMarks) (m : Mark) → Represents (view_of q) p →
+    Represents (view_of (with_mark q m)) (with_mark p m)
 push_stands q p m stands = record {
   size = stands.size;
   top = top_with q m ∙ ap (λ t. later t m.value.time) stands.top ∙ sym (top_with p m);

@@ -1,4 +1,4 @@
--- The root of a tree, whichever list of parts it has.
+-- The root of a tree, whichever list of subtrees it has.
 use Rattle.std.proofs.Common.{◌≡◌, ◌∙◌, inl, refl, sym, ap, subst, Bool, true, false, ℕ, ◌+◌, ◌-◌, ◌≤◌, nat_le, List, [], ◌∷◌, ◌++◌, length, Vec, Global, arith}
 use mathlib.Core.Bool.{true≢false}
 use Rattle.std.specs.Result.{IsErr}
@@ -11,19 +11,19 @@ use Rattle.tsc_span.specs.Span.{KeyBytes, Interval, between, end_keys, key_cost}
 use Rattle.std.specs.Option.{option_to_list}
 use Rattle.tsc_page_nodes.specs.Page.{cost_distinct}
 use Rattle.tsc_page_nodes.specs.PageView.{is_in, new_weight}
-use Rattle.tsc_page_nodes.specs.declared.nodes.Grown.{Grown}
+use Rattle.tsc_page_nodes.specs.declared.nodes.Growth.{Growth}
 use Rattle.tsc_page_nodes.specs.Nodes.{Node, IsSorted, IsInOrder, IsSplitAt, GrowsBy, raise_nodes, node_keys, nodes_cost}
-use Rattle.tsc_page_nodes.specs.Additions.{Addend}
+use Rattle.tsc_page_nodes.specs.Insertions.{InsertionView}
 use Rattle.tsc_page_tree.specs.Leaves.{nodes_of}
 use Rattle.tsc_page_tree.specs.Copies.{IsSameAs}
-use Rattle.tsc_page_tree.specs.Pending.{sizes_of, AreSizesOf, AddsSome}
-use Rattle.tsc_page_tree.specs.Trees.{IsLeafCopy, IsForkCopy, IsWholeLeaf, leaf_nodes, leaf_sizes, leaf_copied, fork_copied, AreFewParts}
+use Rattle.tsc_page_tree.specs.Lazy.{sizes_of, AreSizesOf, AddsSome}
+use Rattle.tsc_page_tree.specs.Trees.{IsLeafCopy, IsBranchCopy, IsWholeLeaf, leaf_nodes, leaf_sizes, leaf_copied, branch_copied, AreFewSubtrees}
 use Rattle.tsc_page.specs.Roots.{two_nodes, two_sizes, IsWholeTwo, three_nodes, three_sizes, IsWholeThree, four_nodes, four_sizes, IsWholeFour, root_nodes, root_sizes, IsWholeRoot, IsOrderedRoot, IsCounted, IsKnown, TreeView, AreEnds, Inserts, IsFullFor, IsInsertTold, IsTryTold, IsInsertedTold}
 use Rattle.tsc_page_tree.specs.declared.leaf.Leaf.{Leaf}
-use Rattle.tsc_page_tree.specs.declared.fork.Fork.{Fork}
+use Rattle.tsc_page_tree.specs.declared.branch.Branch.{Branch}
 use Rattle.tsc_page.specs.declared.root.Root.{Root}
 use Rattle.tsc_page.specs.declared.root.Root.TheVariants.{One, Two, Three, Four}
-use Rattle.tsc_page_nodes.specs.KeyAdds.{KeyAddend}
+use Rattle.tsc_page_nodes.specs.KeyAdds.{KeyInsertionView}
 use Rattle.tsc_page_tree.specs.KeyAdds.{at_key}
 use Rattle.tsc_page_nodes.proofs.Ends.{ends_in_order}
 use Rattle.tsc_page_nodes.proofs.CutOrder.{before-after}
@@ -34,24 +34,24 @@ use Rattle.tsc_page_nodes.proofs.Edits.{raise_nodes-sorted, raise_nodes-length}
 use Rattle.tsc_page_nodes.proofs.Standing.{split_weight}
 use Rattle.tsc_page.proofs.Costs.{room_told}
 use Rattle.tsc_page_nodes.proofs.NewKeys.{with_new_splits, splits_chain}
-use Rattle.tsc_page_tree.proofs.PartSizes.{sizes_of_parts}
-use Rattle.tsc_page_tree.proofs.PartLists.{AreSameAs, copies_same, adds_sorted}
-use Rattle.tsc_page_tree.proofs.PartAdds.{not_false}
+use Rattle.tsc_page_tree.proofs.SubtreeSizes.{sizes_of_subtrees}
+use Rattle.tsc_page_tree.proofs.SubtreeLists.{AreSameAs, copies_same, adds_sorted}
+use Rattle.tsc_page_tree.proofs.SubtreeAdds.{not_false}
 
 -- a root has the sizes of its leaves
 pub root_counted : (r : Root) → IsWholeRoot r → AreSizesOf (root_sizes r) (root_nodes r)
-root_counted (One ps) whole = sizes_of_parts leaf_nodes leaf_sizes IsWholeLeaf ps.items
+root_counted (One ps) whole = sizes_of_subtrees leaf_nodes leaf_sizes IsWholeLeaf ps.items
     (λ x w. w.sizes) whole.0
-root_counted (Two ps) whole = sizes_of_parts two_nodes two_sizes IsWholeTwo ps.items
+root_counted (Two ps) whole = sizes_of_subtrees two_nodes two_sizes IsWholeTwo ps.items
     (λ x w. w.sizes) whole.each
-root_counted (Three ps) whole = sizes_of_parts three_nodes three_sizes IsWholeThree ps.items
+root_counted (Three ps) whole = sizes_of_subtrees three_nodes three_sizes IsWholeThree ps.items
     (λ x w. w.sizes) whole.each
-root_counted (Four ps) whole = sizes_of_parts four_nodes four_sizes IsWholeFour ps.items
+root_counted (Four ps) whole = sizes_of_subtrees four_nodes four_sizes IsWholeFour ps.items
     (λ x w. w.sizes) whole.0
 
--- copies of parts, of which there are as many
+-- copies of subtrees, of which there are as many
 few_same : {X : Type 0} (f : X → List Node) (s : X → List ℕ) (Q : X → Type 0) (xs ys : List X) →
-    AreSameAs f s Q xs ys → AreFewParts Q xs → AreFewParts Q ys
+    AreSameAs f s Q xs ys → AreFewSubtrees Q xs → AreFewSubtrees Q ys
 few_same f s Q xs ys same few = record {
   each = same.whole few.each;
   some = omega (arith, same.long, few.some);
@@ -60,9 +60,9 @@ few_same f s Q xs ys same few = record {
 
 -- as many others in the place of those in a list
 pub few_with : {X : Type 0} (Q : X → Type 0) (v : Vec X Global) (xs : List X) →
-    length xs ≡ length v.items → All Q xs → AreFewParts Q v.items →
-    AreFewParts Q (with_items v xs).items
-few_with Q v xs same all few = subst (AreFewParts Q)
+    length xs ≡ length v.items → All Q xs → AreFewSubtrees Q v.items →
+    AreFewSubtrees Q (with_items v xs).items
+few_with Q v xs same all few = subst (AreFewSubtrees Q)
     (sym (with_items_is v xs (omega (arith, same, v.ok.0))))
     (record {
       each = all;
@@ -72,8 +72,8 @@ few_with Q v xs same all few = subst (AreFewParts Q)
 
 -- the same, where that was done
 pub few_on_ok : {X T E : Type 0} (Q : X → Type 0) (v : Vec X Global) (xs : List X) (r : Result T E)
-    → length xs ≡ length v.items → OnOk r (All Q xs) → AreFewParts Q v.items →
-    OnOk r (AreFewParts Q (with_items v xs).items)
+    → length xs ≡ length v.items → OnOk r (All Q xs) → AreFewSubtrees Q v.items →
+    OnOk r (AreFewSubtrees Q (with_items v xs).items)
 few_on_ok Q v xs (Ok x) same all few = few_with Q v xs same all few
 few_on_ok Q v xs (Err e) same all few = tt
 
@@ -91,12 +91,12 @@ copied_one ps qs all =
           λ w. (same.whole w.0, omega (arith, same.long, w.1));
     }
 
-pub copied_two : (ps qs : Vec (Fork Leaf) Global) →
-    AllZip (λ (x y : Fork Leaf). IsForkCopy x y) ps.items qs.items →
+pub copied_two : (ps qs : Vec (Branch Leaf) Global) →
+    AllZip (λ (x y : Branch Leaf). IsBranchCopy x y) ps.items qs.items →
     IsSameAs root_nodes root_sizes IsWholeRoot (Two ps) (Two qs)
 copied_two ps qs all =
-    let same = copies_same two_nodes two_sizes IsWholeTwo (λ (x y : Fork Leaf). IsForkCopy x y)
-    ps.items qs.items (λ x y h. fork_copied leaf_nodes leaf_sizes IsWholeLeaf x y h) all in
+    let same = copies_same two_nodes two_sizes IsWholeTwo (λ (x y : Branch Leaf). IsBranchCopy x y)
+    ps.items qs.items (λ x y h. branch_copied leaf_nodes leaf_sizes IsWholeLeaf x y h) all in
     record {
       nodes = ap (λ (ls : List (List Node)). nodes_of ls) same.nodes;
       sizes = ap (λ (ls : List (List ℕ)). sizes_of ls) same.sizes;
@@ -104,13 +104,13 @@ copied_two ps qs all =
           few_same two_nodes two_sizes IsWholeTwo ps.items qs.items same;
     }
 
-pub copied_three : (ps qs : Vec (Fork (Fork Leaf)) Global) →
-    AllZip (λ (x y : Fork (Fork Leaf)). IsForkCopy x y) ps.items qs.items →
+pub copied_three : (ps qs : Vec (Branch (Branch Leaf)) Global) →
+    AllZip (λ (x y : Branch (Branch Leaf)). IsBranchCopy x y) ps.items qs.items →
     IsSameAs root_nodes root_sizes IsWholeRoot (Three ps) (Three qs)
 copied_three ps qs all =
     let same = copies_same three_nodes three_sizes IsWholeThree
-    (λ (x y : Fork (Fork Leaf)). IsForkCopy x y) ps.items qs.items
-    (λ x y h. fork_copied two_nodes two_sizes IsWholeTwo x y h) all in
+    (λ (x y : Branch (Branch Leaf)). IsBranchCopy x y) ps.items qs.items
+    (λ x y h. branch_copied two_nodes two_sizes IsWholeTwo x y h) all in
     record {
       nodes = ap (λ (ls : List (List Node)). nodes_of ls) same.nodes;
       sizes = ap (λ (ls : List (List ℕ)). sizes_of ls) same.sizes;
@@ -118,13 +118,13 @@ copied_three ps qs all =
           few_same three_nodes three_sizes IsWholeThree ps.items qs.items same;
     }
 
-pub copied_four : (ps qs : Vec (Fork (Fork (Fork Leaf))) Global) →
-    AllZip (λ (x y : Fork (Fork (Fork Leaf))). IsForkCopy x y) ps.items qs.items →
+pub copied_four : (ps qs : Vec (Branch (Branch (Branch Leaf))) Global) →
+    AllZip (λ (x y : Branch (Branch (Branch Leaf))). IsBranchCopy x y) ps.items qs.items →
     IsSameAs root_nodes root_sizes IsWholeRoot (Four ps) (Four qs)
 copied_four ps qs all =
     let same = copies_same four_nodes four_sizes IsWholeFour
-    (λ (x y : Fork (Fork (Fork Leaf))). IsForkCopy x y) ps.items qs.items
-    (λ x y h. fork_copied three_nodes three_sizes IsWholeThree x y h) all in
+    (λ (x y : Branch (Branch (Branch Leaf))). IsBranchCopy x y) ps.items qs.items
+    (λ x y h. branch_copied three_nodes three_sizes IsWholeThree x y h) all in
     record {
       nodes = ap (λ (ls : List (List Node)). nodes_of ls) same.nodes;
       sizes = ap (λ (ls : List (List ℕ)). sizes_of ls) same.sizes;
@@ -173,7 +173,8 @@ pub seen_copy : (r q : Root) (b : ℕ) → IsSameAs root_nodes root_sizes IsWhol
 seen_copy r q b same = seen_same r q b same.nodes same.sizes
 
 -- after an insertion in place
-pub counted_added : (r q : Root) (n b room : ℕ) (more : Grown) (a : Addend) → IsCounted r n b →
+pub counted_added : (r q : Root) (n b room : ℕ) (more : Growth) (a : InsertionView) →
+    IsCounted r n b →
     IsWholeRoot q → IsInOrder a.first a.second →
     AddsSome (root_nodes r) (root_nodes q) a room more →
     IsCounted q (n + more.nodes) (b + more.bytes)
@@ -184,7 +185,8 @@ counted_added r q n b room more a counted whole order adds =
     (omega (arith, counted.bytes, adds.grown.cost))
 
 -- what it makes of the tree
-pub inserts_some : (r q : Root) (n b most : ℕ) (more : Grown) (a : Addend) → IsCounted r n b →
+pub inserts_some : (r q : Root) (n b most : ℕ) (more : Growth) (a : InsertionView) →
+    IsCounted r n b →
     b ≤ most → IsWholeRoot q → AreEnds a →
     AddsSome (root_nodes r) (root_nodes q) a (most - b) more →
     Inserts (seen_of r b) (seen_of q (b + more.bytes)) a most
@@ -200,7 +202,7 @@ inserts_some r q n b most more a counted few whole ends adds =
     }
 
 -- a copy in which nodes are made of two keys, one after the other, and then raised
-pub counted_twice : (r copy upper lower q : Root) (n b : ℕ) (up low : Grown) (s : Interval)
+pub counted_twice : (r copy upper lower q : Root) (n b : ℕ) (up low : Growth) (s : Interval)
     (v : OwnedTime) → IsCounted r n b → IsSameAs root_nodes root_sizes IsWholeRoot r copy →
     IsSorted (root_nodes lower)
     → GrowsBy (root_nodes copy) (root_nodes upper) up →
@@ -229,7 +231,8 @@ counted_twice r copy upper lower q n b up low s v counted same sorted one two wh
       cost-raised s v (root_nodes lower),
     ))
 
-pub inserts_twice : (r copy upper lower q : Root) (n b : ℕ) (up low : Grown) (a : Addend) (most : ℕ)
+pub inserts_twice : (r copy upper lower q : Root) (n b : ℕ) (up low : Growth)
+    (a : InsertionView) (most : ℕ)
     → IsCounted r n b → cost_distinct (node_keys (root_nodes r) ++ end_keys (between a.from a.to)) ≤
     most → AreEnds a
     → IsSameAs root_nodes root_sizes IsWholeRoot r copy →
@@ -286,49 +289,56 @@ counted_kept r q n b counted whole is =
     (counted.bytes ∙ ap nodes_cost (sym is))
 
 -- a call that is refused
-pub refused_try : {E : Type 0} (r : Result Bool E) (old new : TreeView) (a : Addend) (most : ℕ) →
+pub refused_try : {E : Type 0} (r : Result Bool E) (old new : TreeView)
+    (a : InsertionView) (most : ℕ) →
     IsErr r → new ≡ old → IsTryTold old new a most r
 refused_try (Ok d) old new a most is same = absurd (true≢false (sym is))
 refused_try (Err e) old new a most is same = same
 
-pub refused_insert : {E : Type 0} (r : Result Bool E) (old new : TreeView) (a : Addend) (most : ℕ) →
+pub refused_insert : {E : Type 0} (r : Result Bool E) (old new : TreeView)
+    (a : InsertionView) (most : ℕ) →
     IsErr r → new ≡ old → IsInsertTold old new a most r
 refused_insert (Ok d) old new a most is same = absurd (true≢false (sym is))
 refused_insert (Err e) old new a most is same = same
 
 -- what such a call tells, by its answer
-pub was_tried : (E : Type 0) (d : Bool) (old new : TreeView) (a : Addend) (most : ℕ) → d ≡ true →
+pub was_tried : (E : Type 0) (d : Bool) (old new : TreeView) (a : InsertionView)
+    (most : ℕ) → d ≡ true →
     IsTryTold {E = E} old new a most (Ok d) → Inserts old new a most
 was_tried E d old new a most is told =
     subst (λ (b : Bool). IsTryTold {E = E} old new a most (Ok b)) is told
 
-pub was_not : (E : Type 0) (d : Bool) (old new : TreeView) (a : Addend) (most : ℕ) → d ≡ false →
+pub was_not : (E : Type 0) (d : Bool) (old new : TreeView) (a : InsertionView)
+    (most : ℕ) → d ≡ false →
     IsTryTold {E = E} old new a most (Ok d) → new ≡ old
 was_not E d old new a most is told =
     subst (λ (b : Bool). IsTryTold {E = E} old new a most (Ok b)) is told
 
-pub was_inserted : (E : Type 0) (d : Bool) (old new : TreeView) (a : Addend) (most : ℕ) → d ≡ true →
+pub was_inserted : (E : Type 0) (d : Bool) (old new : TreeView) (a : InsertionView)
+    (most : ℕ) → d ≡ true →
     IsInsertTold {E = E} old new a most (Ok d) → Inserts old new a most
 was_inserted E d old new a most is told =
     subst (λ (b : Bool). IsInsertTold {E = E} old new a most (Ok b)) is told
 
-pub was_left : (E : Type 0) (d : Bool) (old new : TreeView) (a : Addend) (most : ℕ) → d ≡ false →
+pub was_left : (E : Type 0) (d : Bool) (old new : TreeView) (a : InsertionView)
+    (most : ℕ) → d ≡ false →
     IsInsertTold {E = E} old new a most (Ok d) → IsFullFor old a most × (new ≡ old)
 was_left E d old new a most is told =
     subst (λ (b : Bool). IsInsertTold {E = E} old new a most (Ok b)) is told
 
-pub was_made : (E : Type 0) (d : Option TreeView) (new old : TreeView) (a : Addend) (most : ℕ) →
+pub was_made : (E : Type 0) (d : Option TreeView) (new old : TreeView)
+    (a : InsertionView) (most : ℕ) →
     d ≡ Some new → IsInsertedTold {E = E} old a most (Ok d) → Inserts old new a most
 was_made E d new old a most is told =
     subst (λ (o : Option TreeView). IsInsertedTold {E = E} old a most (Ok o)) is told
 
-pub was_full : (E : Type 0) (d : Option TreeView) (old : TreeView) (a : Addend) (most : ℕ) →
+pub was_full : (E : Type 0) (d : Option TreeView) (old : TreeView) (a : InsertionView) (most : ℕ) →
     d ≡ None → IsInsertedTold {E = E} old a most (Ok d) → IsFullFor old a most
 was_full E d old a most is told = subst (λ (o : Option TreeView). IsInsertedTold {E = E} old a most
     (Ok o)) is told
 
 -- what is added at a key lies at the key's cuts
-pub key_ends : (a : KeyAddend) → AreEnds (at_key a)
+pub key_ends : (a : KeyInsertionView) → AreEnds (at_key a)
 key_ends a = record {
   order = before-after a.key;
   first = inl refl;

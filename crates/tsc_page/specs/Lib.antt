@@ -6,5 +6,5 @@ pub use Rattle.tsc_page_nodes.specs.Limits
 pub use Rattle.tsc_page_nodes.specs.Page
 pub use Rattle.tsc_page_nodes.specs.PageView
 pub use Rattle.tsc_page_nodes.specs.Nodes
-pub use Rattle.tsc_page_nodes.specs.Numbers
+pub use Rattle.tsc_page_nodes.specs.Prefixes
 pub use Rattle.tsc_page_nodes.specs.KeysAbove

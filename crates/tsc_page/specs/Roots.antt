@@ -5,46 +5,46 @@ use Rattle.tsc_time.specs.OwnedTime.{OwnedTime}
 use Rattle.tsc_span.specs.Span.{Interval, between, is_below, is_empty_span, end_keys}
 use Rattle.tsc_page_nodes.specs.Page.{cost_distinct}
 use Rattle.tsc_page_nodes.specs.Nodes.{Node, IsSorted, node_keys, nodes_cost}
-use Rattle.tsc_page_nodes.specs.Additions.{Addend, LiesAt}
+use Rattle.tsc_page_nodes.specs.Insertions.{InsertionView, LiesAt}
 use Rattle.tsc_page_tree.specs.Leaves.{nodes_of, AddsTo}
-use Rattle.tsc_page_tree.specs.Pending.{sizes_of, AreSizesOf}
-use Rattle.tsc_page_tree.specs.Trees.{leaf_nodes, leaf_sizes, IsWholeLeaf, fork_nodes, fork_sizes, IsWholeFork, AreFewParts}
+use Rattle.tsc_page_tree.specs.Lazy.{sizes_of, AreSizesOf}
+use Rattle.tsc_page_tree.specs.Trees.{leaf_nodes, leaf_sizes, IsWholeLeaf, branch_nodes, branch_sizes, IsWholeBranch, AreFewSubtrees}
 use Rattle.tsc_page_tree.specs.declared.leaf.Leaf.{Leaf}
-use Rattle.tsc_page_tree.specs.declared.fork.Fork.{Fork}
+use Rattle.tsc_page_tree.specs.declared.branch.Branch.{Branch}
 use Rattle.tsc_page.specs.declared.root.Root.{Root}
 use Rattle.tsc_page.specs.declared.root.Root.TheVariants.{One, Two, Three, Four}
 
--- forks of leaves
-abbrev pub two_nodes : Fork Leaf → List Node
-two_nodes = fork_nodes leaf_nodes
+-- branches of leaves
+abbrev pub two_nodes : Branch Leaf → List Node
+two_nodes = branch_nodes leaf_nodes
 
-abbrev pub two_sizes : Fork Leaf → List ℕ
-two_sizes = fork_sizes leaf_sizes
+abbrev pub two_sizes : Branch Leaf → List ℕ
+two_sizes = branch_sizes leaf_sizes
 
-abbrev pub IsWholeTwo : Fork Leaf → Type 0
-IsWholeTwo = IsWholeFork leaf_nodes leaf_sizes IsWholeLeaf
+abbrev pub IsWholeTwo : Branch Leaf → Type 0
+IsWholeTwo = IsWholeBranch leaf_nodes leaf_sizes IsWholeLeaf
 
--- forks of these
-abbrev pub three_nodes : Fork (Fork Leaf) → List Node
-three_nodes = fork_nodes two_nodes
+-- branches of these
+abbrev pub three_nodes : Branch (Branch Leaf) → List Node
+three_nodes = branch_nodes two_nodes
 
-abbrev pub three_sizes : Fork (Fork Leaf) → List ℕ
-three_sizes = fork_sizes two_sizes
+abbrev pub three_sizes : Branch (Branch Leaf) → List ℕ
+three_sizes = branch_sizes two_sizes
 
-abbrev pub IsWholeThree : Fork (Fork Leaf) → Type 0
-IsWholeThree = IsWholeFork two_nodes two_sizes IsWholeTwo
+abbrev pub IsWholeThree : Branch (Branch Leaf) → Type 0
+IsWholeThree = IsWholeBranch two_nodes two_sizes IsWholeTwo
 
--- the nodes of a fork over forks over forks of leaves
-abbrev pub four_nodes : Fork (Fork (Fork Leaf)) → List Node
-four_nodes = fork_nodes three_nodes
+-- the nodes of a branch over branches over branches of leaves
+abbrev pub four_nodes : Branch (Branch (Branch Leaf)) → List Node
+four_nodes = branch_nodes three_nodes
 
-abbrev pub four_sizes : Fork (Fork (Fork Leaf)) → List ℕ
-four_sizes = fork_sizes three_sizes
+abbrev pub four_sizes : Branch (Branch (Branch Leaf)) → List ℕ
+four_sizes = branch_sizes three_sizes
 
-abbrev pub IsWholeFour : Fork (Fork (Fork Leaf)) → Type 0
-IsWholeFour = IsWholeFork three_nodes three_sizes IsWholeThree
+abbrev pub IsWholeFour : Branch (Branch (Branch Leaf)) → Type 0
+IsWholeFour = IsWholeBranch three_nodes three_sizes IsWholeThree
 
--- the nodes of a root's parts
+-- the nodes of a root's subtrees
 abbrev pub root_nodes : Root → List Node
 root_nodes (One ps) = nodes_of (map leaf_nodes ps.items)
 root_nodes (Two ps) = nodes_of (map two_nodes ps.items)
@@ -58,11 +58,11 @@ root_sizes (Two ps) = sizes_of (map two_sizes ps.items)
 root_sizes (Three ps) = sizes_of (map three_sizes ps.items)
 root_sizes (Four ps) = sizes_of (map four_sizes ps.items)
 
--- A root of 1 to 64 parts: leaves may also be none, and the highest parts may be more.
+-- A root of 1 to 64 subtrees: leaves may also be none, and the highest subtrees may be more.
 abbrev pub IsWholeRoot : Root → Type 0
 IsWholeRoot (One ps) = All IsWholeLeaf ps.items × (length ps.items ≤ 64)
-IsWholeRoot (Two ps) = AreFewParts IsWholeTwo ps.items
-IsWholeRoot (Three ps) = AreFewParts IsWholeThree ps.items
+IsWholeRoot (Two ps) = AreFewSubtrees IsWholeTwo ps.items
+IsWholeRoot (Three ps) = AreFewSubtrees IsWholeThree ps.items
 IsWholeRoot (Four ps) = All IsWholeFour ps.items × (1 ≤ length ps.items)
 
 -- A root that is as it has to be, with its nodes in the order of their keys.
@@ -76,7 +76,7 @@ pub record TreeView : Type 0 where
   pub sizes : List ℕ
   pub bytes : ℕ
 
--- Parts in order, how many nodes they have, and what these cost.
+-- Subtrees in order, how many nodes they have, and what these cost.
 pub record IsCounted (r : Root) (n b : ℕ) : Type 0 where
   pub whole : IsWholeRoot r
   pub sorted : IsSorted (root_nodes r)
@@ -91,42 +91,44 @@ pub record IsKnown (t : TreeView) : Type 0 where
   pub bytes : t.bytes ≡ nodes_cost t.nodes
 
 -- Two cuts in order, and the keys at them for which the span between these needs nodes.
-pub record AreEnds (a : Addend) : Type 0 where
+pub record AreEnds (a : InsertionView) : Type 0 where
   pub order : is_below a.from a.to ≡ true
   pub first : LiesAt a.first a.from
   pub second : LiesAt a.second a.to
   pub keys : option_to_list a.first ++ option_to_list a.second ≡ end_keys (between a.from a.to)
 
 -- what is inserted of a span and a value, unless the span is empty
-abbrev pub IsInsertionOf : Interval → OwnedTime → Option Addend → Type 0
+abbrev pub IsInsertionOf : Interval → OwnedTime → Option InsertionView → Type 0
 IsInsertionOf span v (Some a) = (between a.from a.to ≡ span) × (a.value ≡ v)
 IsInsertionOf span v None = is_empty_span span ≡ true
 
 -- What inserting makes of a tree, whose keys then cost no more than so many bytes.
-pub record Inserts (old new : TreeView) (a : Addend) (most : ℕ) : Type 0 where
+pub record Inserts (old new : TreeView) (a : InsertionView) (most : ℕ) : Type 0 where
   pub order : is_below a.from a.to ≡ true
   pub adds : AddsTo old.nodes new.nodes (between a.from a.to) a.value
   pub within : new.bytes ≤ most
   pub known : IsKnown new
 
 -- the keys would cost more
-abbrev pub IsFullFor : TreeView → Addend → ℕ → Type 0
+abbrev pub IsFullFor : TreeView → InsertionView → ℕ → Type 0
 IsFullFor t a most = most < cost_distinct (node_keys t.nodes ++ end_keys (between a.from a.to))
 
 -- what a call tells that inserts where there is room, and else leaves all as it is
-abbrev pub IsInsertTold : {E : Type 0} → (old new : TreeView) → Addend → ℕ → Result Bool E → Type 0
+abbrev pub IsInsertTold : {E : Type 0} → (old new : TreeView) → InsertionView → ℕ →
+    Result Bool E → Type 0
 IsInsertTold old new a most (Ok true) = Inserts old new a most
 IsInsertTold old new a most (Ok false) = IsFullFor old a most × (new ≡ old)
 IsInsertTold old new a most (Err e) = new ≡ old
 
 -- what one tells that may leave all as it is where there is room too
-abbrev pub IsTryTold : {E : Type 0} → (old new : TreeView) → Addend → ℕ → Result Bool E → Type 0
+abbrev pub IsTryTold : {E : Type 0} → (old new : TreeView) → InsertionView → ℕ →
+    Result Bool E → Type 0
 IsTryTold old new a most (Ok true) = Inserts old new a most
 IsTryTold old new a most (Ok false) = new ≡ old
 IsTryTold old new a most (Err e) = new ≡ old
 
 -- and what one tells that makes another tree
-abbrev pub IsInsertedTold : {E : Type 0} → TreeView → Addend → ℕ →
+abbrev pub IsInsertedTold : {E : Type 0} → TreeView → InsertionView → ℕ →
     Result (Option TreeView) E → Type 0
 IsInsertedTold old a most (Ok (Some new)) = Inserts old new a most
 IsInsertedTold old a most (Ok None) = IsFullFor old a most

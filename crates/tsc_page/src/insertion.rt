@@ -23,10 +23,10 @@ pub(crate) struct Insertion<'a> {
 impl<'a> Model for Insertion<'a> {
     ghost use Rattle.std.specs.Prelude.{option_map};
     ghost use Rattle.tsc_span.specs.Cuts.{cut_of};
-    ghost use Rattle.tsc_page_nodes.specs.Additions.{Addend};
+    ghost use Rattle.tsc_page_nodes.specs.Insertions.{InsertionView};
     ghost use Rattle.tsc_page.specs.Roots.{AreEnds};
 
-    ghost Value = { Addend };
+    ghost Value = { InsertionView };
 
     ghost view = { λ a. record {
       first = option_map (λ k. k.now) a.first;

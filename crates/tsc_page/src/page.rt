@@ -7,13 +7,13 @@ ghost use Rattle.tsc_page_nodes.specs.Limits.{least_size, most_size};
 ghost use Rattle.tsc_page_nodes.specs.Page.{PageMarks, top, values_on, marked_keys, count_distinct, has_room};
 ghost use Rattle.tsc_page_nodes.specs.KeysAbove.{IsLeastAbove};
 ghost use Rattle.tsc_page_nodes.specs.PageAdds.{IsMarkTold, IsMarkedTold, TellsTry, TellsMade};
-ghost use Rattle.tsc_page_nodes.specs.PageView.{AreLeafSizes, StandsFor, answer, has_room_for};
+ghost use Rattle.tsc_page_nodes.specs.PageView.{AreLeafSizes, Represents, answer, has_room_for};
 
 use crate::insertion::Insertion;
 use crate::tree::Tree;
 use std::alloc::Global;
 use std::marker::Model;
-use tsc_page_nodes::{IntervalPage, KeyAddition};
+use tsc_page_nodes::{IntervalPage, KeyInsertion};
 use tsc_span::{AddSpan, Cut, Key, KeyRef, Span, SpanRef};
 use tsc_time::{NoMemory, Timestamp, Value};
 
@@ -75,17 +75,17 @@ impl IntervalPage for Page {
     ///
     /// It is made in place where the span lies in one leaf that would not come to have 65 nodes, or
     /// both its end keys have nodes and no copy of the page shares the way to the leaves in which
-    /// it starts and stops. That costs a search in each part on the way and one for each end key, a
-    /// copy of each end key that is new to the page, a move of a leaf's nodes above a new one, and
-    /// a step for each node within the span in the leaves in which it starts and stops, and for
-    /// each part between these. Each list on the way and the leaf are copied first where a copy of
-    /// the page shares them, and so is a leaf's list of keys that gets a new one. Where none does,
-    /// a span whose end keys the page holds already takes no memory. What is pending on the way is
-    /// ratcheted into the parts below it, but for a single key, which needs one search on each
-    /// level and leaves it pending. Any other Add copies the list at the top and the way to each
+    /// it starts and stops. That costs a search in each subtree on the way and one for each end
+    /// key, a copy of each end key that is new to the page, a move of a leaf's nodes above a new
+    /// one, and a step for each node within the span in the leaves in which it starts and stops,
+    /// and for each subtree between these. Each list on the way and the leaf are copied first where
+    /// a copy of the page shares them, and so is a leaf's list of keys that gets a new one. Where
+    /// none does, a span whose end keys the page holds already takes no memory. Lazy values on the
+    /// way are ratcheted into the subtrees below, but for a single key, which needs one search on
+    /// each level and leaves them. Any other Add copies the list at the top and the way to each
     /// leaf that it changes; a leaf that comes to have 65 nodes is cut into its first 32 and its
-    /// last 33, and so is a fork of 65 parts. Where there may be no room for both end keys, each is
-    /// searched for once more.
+    /// last 33, and so is a branch of 65 subtrees. Where there may be no room for both end keys,
+    /// each is searched for once more.
     fn add(&mut self, span: &Span, value: Value) -> Result<(), NoMemory> {
         self.try_add(span, value)?;
         Ok(())
@@ -97,10 +97,10 @@ impl IntervalPage for Page {
     }
 
     /// The joint value of time zero without an owner and of all that was added and overlaps the
-    /// span. It costs a search in each part on the way to the leaves in which the span starts and
-    /// stops, a step for each node within it there, and one for each part between these. A search
-    /// compares keys by their first twenty-four bytes, and reads what is behind these only where
-    /// they are the same.
+    /// span. It costs a search in each subtree on the way to the leaves in which the span starts
+    /// and stops, a step for each node within it there, and one for each subtree between these. A
+    /// search compares keys by their first twenty-four bytes, and reads what is behind these only
+    /// where they are the same.
     fn lookup(&self, span: &Span) -> Value {
         self.lookup_ref(&span.borrowed())
     }
@@ -113,7 +113,7 @@ impl IntervalPage for Page {
         self.tree.len() as u32
     }
 
-    /// The copy shares the leaves, and takes the memory of the list of parts at the top of their
+    /// The copy shares the leaves, and takes the memory of the list of subtrees at the top of their
     /// tree.
     fn try_copy(&self) -> Result<Page, NoMemory> {
         Ok(Page {
@@ -138,8 +138,8 @@ impl Page {
     }
 
     /// As [`try_add`](IntervalPage::try_add), over keys that lie elsewhere. A key that the page
-    /// holds is neither copied nor takes memory, unless a copy of the page shares the way to it; a
-    /// new one is copied once.
+    /// holds is never copied, and takes no memory unless a copy of the page shares the way to it. A
+    /// new one is copied once, and once more where a leaf is cut or shared.
     pub fn add_span(&mut self, span: &AddSpan<'_>, value: Value) -> Result<bool, NoMemory>
         requires not_empty { is_empty_span span.now ≡ false }
         ensures told { IsMarkTold self.old self.new span.now value result }
@@ -183,7 +183,10 @@ impl Page {
         ensures told { TellsTry self.old self.new (record { span = point key.now; value = value })
             result }
     {
-        if !self.tree.add_key(&KeyAddition::new(key, value), self.size)? {
+        if !self
+            .tree
+            .add_key(&KeyInsertion::new(key, value), self.size)?
+        {
             return Ok(false);
         }
         self.top = self.top.max(value.time());
@@ -194,7 +197,7 @@ impl Page {
     pub fn lookup_ref(&self, span: &SpanRef<'_>) -> Value
         ensures value { result ≡ answer self.now span.now }
         ensures below_top { is_before self.now.top result.time ≡ false }
-        ensures stands { (p : PageMarks) → StandsFor self.now p →
+        ensures stands { (p : PageMarks) → Represents self.now p →
             result ≡ joint_above zero_time (values_on span.now p.marks) }
     {
         if let Some(key) = span.key() {
@@ -210,15 +213,16 @@ impl Page {
     /// before it; `None` where none does. With the place right after it as the next cut, the page
     /// tells its end keys one after another in their order.
     ///
-    /// It costs a search in each part on the way to a leaf, and where the cut lies above all keys
-    /// of that leaf one more in the parts next to those. It takes no memory, and copies no key.
+    /// It costs a search in each subtree on the way to a leaf, and where the cut lies above all
+    /// keys of that leaf one more in the subtrees next to those. It takes no memory, and copies no
+    /// key.
     ///
     /// It restates how `sklPage`'s skiplist is gone over from a key on, in CockroachDB's
     /// `pkg/kv/kvserver/tscache/interval_skl.go`.
     pub fn key_above(&self, cut: Cut<'_>) -> Option<&Key>
         ensures value { IsLeastAbove (cut_of cut.entry) self.now.keys
             (option_map (λ k. k.now) result) }
-        ensures stands { (p : PageMarks) → StandsFor self.now p →
+        ensures stands { (p : PageMarks) → Represents self.now p →
             IsLeastAbove (cut_of cut.entry) (marked_keys p.marks) (option_map (λ k. k.now) result) }
     {
         self.tree.key_above(cut)

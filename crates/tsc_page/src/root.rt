@@ -6,31 +6,31 @@ ghost use Rattle.tsc_time.specs.OwnedTime.{unowned};
 ghost use Rattle.tsc_page_nodes.specs.PageView.{is_in};
 ghost use Rattle.tsc_page_nodes.specs.KeysAbove.{first_above};
 ghost use Rattle.tsc_page_nodes.specs.Nodes.{node_in_gap, node_keys, answer_of, raise_nodes};
-ghost use Rattle.tsc_page_tree.specs.Leaves.{AreParts, HasNode, nodes_of};
-ghost use Rattle.tsc_page_tree.specs.Pending.{TellsSize, IsAddTold};
+ghost use Rattle.tsc_page_tree.specs.Leaves.{AreSubtrees, HasNode, nodes_of};
+ghost use Rattle.tsc_page_tree.specs.Lazy.{TellsSize, IsAddTold};
 ghost use Rattle.tsc_page_tree.specs.Copies.{IsSameAs};
 ghost use Rattle.tsc_page_tree.specs.KeyAdds.{IsKeyAddTold};
-ghost use Rattle.tsc_page_tree.specs.Trees.{leaf_nodes, leaf_sizes, IsWholeLeaf, level_nodes, IsWholeLevel, AreFewParts};
+ghost use Rattle.tsc_page_tree.specs.Trees.{leaf_nodes, leaf_sizes, IsWholeLeaf, sibling_nodes, AreWholeSiblings, AreFewSubtrees};
 ghost use Rattle.tsc_page.specs.Roots.{root_nodes, root_sizes, IsWholeRoot, IsOrderedRoot, AreEnds};
 
-use crate::forks;
+use crate::branches;
 use crate::insertion::Insertion;
 use std::alloc::Global;
-use tsc_page_nodes::{Addition, Grown, KeyAddition, Nodes, PrefixedCut, SearchKey};
-use tsc_page_tree::fork::{self, Fork, Level};
-use tsc_page_tree::{Leaf, parts};
+use tsc_page_nodes::{Growth, KeyInsertion, Nodes, PrefixedCut, PrefixedInsertion, SearchKey};
+use tsc_page_tree::branch::{self, Branch, Siblings};
+use tsc_page_tree::{Leaf, subtrees};
 use tsc_span::{Cut, Key, KeyRef};
 use tsc_time::{NoMemory, Value};
 
-/// The top of a tree: a list of parts, which are as high as it takes to have 64 of them at the
-/// most. Only that of the highest kind has no bound. A part has at least 32 of the next kind, so
+/// The top of a tree: a list of subtrees, which are as high as it takes to have 64 of them at the
+/// most. Only that of the highest kind has no bound. A subtree has at least 32 of the next kind, so
 /// the greatest page fills it with some 30.
 #[derive(Debug, Drop)]
 pub(crate) enum Root {
     One(Vec<Leaf>),
-    Two(Vec<Fork<Leaf>>),
-    Three(Vec<Fork<Fork<Leaf>>>),
-    Four(Vec<Fork<Fork<Fork<Leaf>>>>),
+    Two(Vec<Branch<Leaf>>),
+    Three(Vec<Branch<Branch<Leaf>>>),
+    Four(Vec<Branch<Branch<Branch<Leaf>>>>),
 }
 
 impl Root {
@@ -48,10 +48,10 @@ impl Root {
         ensures { TellsSize (root_sizes self.now) place result }
     {
         match self {
-            Root::One(parts) => parts::leaf_len(parts, place),
-            Root::Two(parts) => forks::leaf_len(parts, place),
-            Root::Three(parts) => forks::leaf_len(parts, place),
-            Root::Four(parts) => forks::leaf_len(parts, place),
+            Root::One(subtrees) => subtrees::leaf_len(subtrees, place),
+            Root::Two(subtrees) => branches::leaf_len(subtrees, place),
+            Root::Three(subtrees) => branches::leaf_len(subtrees, place),
+            Root::Four(subtrees) => branches::leaf_len(subtrees, place),
         }
     }
 
@@ -61,10 +61,10 @@ impl Root {
         ensures { result ≡ not (is_in key.now (node_keys (root_nodes self.now))) }
     {
         match self {
-            Root::One(parts) => parts::is_new(parts, key),
-            Root::Two(parts) => forks::is_new(parts, key),
-            Root::Three(parts) => forks::is_new(parts, key),
-            Root::Four(parts) => forks::is_new(parts, key),
+            Root::One(subtrees) => subtrees::is_new(subtrees, key),
+            Root::Two(subtrees) => branches::is_new(subtrees, key),
+            Root::Three(subtrees) => branches::is_new(subtrees, key),
+            Root::Four(subtrees) => branches::is_new(subtrees, key),
         }
     }
 
@@ -75,10 +75,10 @@ impl Root {
             (node_keys (root_nodes self.now)) }
     {
         match self {
-            Root::One(parts) => parts::key_above(parts, cut),
-            Root::Two(parts) => forks::key_above(parts, cut),
-            Root::Three(parts) => forks::key_above(parts, cut),
-            Root::Four(parts) => forks::key_above(parts, cut),
+            Root::One(subtrees) => subtrees::key_above(subtrees, cut),
+            Root::Two(subtrees) => branches::key_above(subtrees, cut),
+            Root::Three(subtrees) => branches::key_above(subtrees, cut),
+            Root::Four(subtrees) => branches::key_above(subtrees, cut),
         }
     }
 
@@ -89,10 +89,10 @@ impl Root {
         ensures { result ≡ answer_of (root_nodes self.now) (between from.now to.now) }
     {
         match self {
-            Root::One(parts) => parts::join_between(parts, from, to),
-            Root::Two(parts) => forks::join_between(parts, from, to),
-            Root::Three(parts) => forks::join_between(parts, from, to),
-            Root::Four(parts) => forks::join_between(parts, from, to),
+            Root::One(subtrees) => subtrees::join_between(subtrees, from, to),
+            Root::Two(subtrees) => branches::join_between(subtrees, from, to),
+            Root::Three(subtrees) => branches::join_between(subtrees, from, to),
+            Root::Four(subtrees) => branches::join_between(subtrees, from, to),
         }
     }
 
@@ -102,10 +102,10 @@ impl Root {
         ensures { result ≡ answer_of (root_nodes self.now) (point key.now) }
     {
         match self {
-            Root::One(parts) => parts::value_at(parts, key),
-            Root::Two(parts) => forks::value_at(parts, key),
-            Root::Three(parts) => forks::value_at(parts, key),
-            Root::Four(parts) => forks::value_at(parts, key),
+            Root::One(subtrees) => subtrees::value_at(subtrees, key),
+            Root::Two(subtrees) => branches::value_at(subtrees, key),
+            Root::Three(subtrees) => branches::value_at(subtrees, key),
+            Root::Four(subtrees) => branches::value_at(subtrees, key),
         }
     }
 
@@ -114,37 +114,37 @@ impl Root {
         ensures { IfOk result (λ copy. IsSameAs root_nodes root_sizes IsWholeRoot self.now copy) }
     {
         match self {
-            Root::One(parts) => Ok(Root::One(parts.clone()?)),
-            Root::Two(parts) => Ok(Root::Two(parts.clone()?)),
-            Root::Three(parts) => Ok(Root::Three(parts.clone()?)),
-            Root::Four(parts) => Ok(Root::Four(parts.clone()?)),
+            Root::One(subtrees) => Ok(Root::One(subtrees.clone()?)),
+            Root::Two(subtrees) => Ok(Root::Two(subtrees.clone()?)),
+            Root::Three(subtrees) => Ok(Root::Three(subtrees.clone()?)),
+            Root::Four(subtrees) => Ok(Root::Four(subtrees.clone()?)),
         }
     }
 
-    /// The root with a node of a key, where it has none. Where the parts would then be more than a
-    /// fork has, they come into two forks, of which the root then is.
+    /// The root with a node of a key, where it has none. Where the subtrees would then be more than
+    /// a branch has, they come into two branches, of which the root then is.
     pub(crate) fn with_node(self, key: &KeyRef<'_>) -> Result<Root, NoMemory>
         requires root { IsOrderedRoot self }
         ensures made { IfOk result (λ root. HasNode (root_nodes self) (root_nodes root) key.now) }
         ensures whole { IfOk result IsWholeRoot }
     {
         match self {
-            Root::One(parts) => match leaves_with_node(parts, key)? {
-                Level::Parts(parts) => Ok(Root::One(parts)),
-                Level::Forks(forks) => Ok(Root::Two(forks)),
+            Root::One(subtrees) => match leaves_with_node(subtrees, key)? {
+                Siblings::Subtrees(subtrees) => Ok(Root::One(subtrees)),
+                Siblings::Branches(branches) => Ok(Root::Two(branches)),
             },
-            Root::Two(parts) => match fork::with_node(parts, key)? {
-                Level::Parts(parts) => Ok(Root::Two(parts)),
-                Level::Forks(forks) => Ok(Root::Three(forks)),
+            Root::Two(subtrees) => match branch::with_node(subtrees, key)? {
+                Siblings::Subtrees(subtrees) => Ok(Root::Two(subtrees)),
+                Siblings::Branches(branches) => Ok(Root::Three(branches)),
             },
-            Root::Three(parts) => match fork::with_node(parts, key)? {
-                Level::Parts(parts) => Ok(Root::Three(parts)),
-                Level::Forks(forks) => Ok(Root::Four(forks)),
+            Root::Three(subtrees) => match branch::with_node(subtrees, key)? {
+                Siblings::Subtrees(subtrees) => Ok(Root::Three(subtrees)),
+                Siblings::Branches(branches) => Ok(Root::Four(branches)),
             },
-            Root::Four(mut parts) => {
-                let alloc = *parts.allocator();
-                parts::make_node(&mut parts, alloc, key)?;
-                Ok(Root::Four(parts))
+            Root::Four(mut subtrees) => {
+                let alloc = *subtrees.allocator();
+                subtrees::make_node(&mut subtrees, alloc, key)?;
+                Ok(Root::Four(subtrees))
             }
         }
     }
@@ -165,20 +165,20 @@ impl Root {
         ensures whole { OnOk result (IsWholeRoot self.new) }
     {
         match self {
-            Root::One(parts) => parts::raise_between(parts, from, to, value),
-            Root::Two(parts) => forks::raise_between(parts, from, to, value),
-            Root::Three(parts) => forks::raise_between(parts, from, to, value),
-            Root::Four(parts) => forks::raise_between(parts, from, to, value),
+            Root::One(subtrees) => subtrees::raise_between(subtrees, from, to, value),
+            Root::Two(subtrees) => branches::raise_between(subtrees, from, to, value),
+            Root::Three(subtrees) => branches::raise_between(subtrees, from, to, value),
+            Root::Four(subtrees) => branches::raise_between(subtrees, from, to, value),
         }
     }
 
-    /// Inserts in place: at a single key as [`parts::Part::add_key`] tells, and else as
-    /// [`parts::Part::add_within`].
+    /// Inserts in place: at a single key as [`subtrees::Subtree::add_key`] tells, and else as
+    /// [`subtrees::Subtree::add_within`].
     pub(crate) fn insert(
         &mut self,
         add: &Insertion<'_>,
         room: u32,
-    ) -> Result<Option<Grown>, NoMemory>
+    ) -> Result<Option<Growth>, NoMemory>
         requires root { IsOrderedRoot self.old }
         ensures told { IsAddTold (root_nodes self.old) (root_nodes self.new) (root_sizes self.old)
             (root_sizes self.new) add.now room result }
@@ -187,11 +187,11 @@ impl Root {
     {
         match (add.first, add.second, add.from, add.to) {
             (Some(key), None, Cut::Before(_), Cut::After(_)) => {
-                self.add_key(&KeyAddition::new(key, add.value), room)
+                self.add_key(&KeyInsertion::new(key, add.value), room)
             }
             _ => {
                 let (from, to) = (&PrefixedCut::new(add.from), &PrefixedCut::new(add.to));
-                let bounds = Addition {
+                let bounds = PrefixedInsertion {
                     first: add.first,
                     second: add.second,
                     from,
@@ -203,69 +203,74 @@ impl Root {
         }
     }
 
-    /// Adds at a single key in place, as [`parts::Part::add_key`] tells.
-    fn add_key(&mut self, add: &KeyAddition<'_>, room: u32) -> Result<Option<Grown>, NoMemory>
+    /// Adds at a single key in place, as [`subtrees::Subtree::add_key`] tells.
+    fn add_key(&mut self, add: &KeyInsertion<'_>, room: u32) -> Result<Option<Growth>, NoMemory>
         requires root { IsOrderedRoot self.old }
         ensures told { IsKeyAddTold (root_nodes self.old) (root_nodes self.new)
             (root_sizes self.old) (root_sizes self.new) add.now room result }
         ensures whole { IsWholeRoot self.new }
     {
         match self {
-            Root::One(parts) => parts::add_key(parts, add, room),
-            Root::Two(parts) => forks::add_key(parts, add, room),
-            Root::Three(parts) => forks::add_key(parts, add, room),
-            Root::Four(parts) => forks::add_key(parts, add, room),
+            Root::One(subtrees) => subtrees::add_key(subtrees, add, room),
+            Root::Two(subtrees) => branches::add_key(subtrees, add, room),
+            Root::Three(subtrees) => branches::add_key(subtrees, add, room),
+            Root::Four(subtrees) => branches::add_key(subtrees, add, room),
         }
     }
 
-    /// The same for a key whose bytes lie elsewhere. Its body stands here once more, so that either
-    /// is compiled into the one call that it has, which takes a tenth off an Add of a known key.
+    /// Does the same as [`add_key`](Root::add_key), for a caller that has a key and no
+    /// [`Insertion`]. The body stands here once more, so that either is compiled into the one call
+    /// that it has, which takes a tenth off an Add of a known key.
     pub(crate) fn add_borrowed_key(
         &mut self,
-        add: &KeyAddition<'_>,
+        add: &KeyInsertion<'_>,
         room: u32,
-    ) -> Result<Option<Grown>, NoMemory>
+    ) -> Result<Option<Growth>, NoMemory>
         requires root { IsOrderedRoot self.old }
         ensures told { IsKeyAddTold (root_nodes self.old) (root_nodes self.new)
             (root_sizes self.old) (root_sizes self.new) add.now room result }
         ensures whole { IsWholeRoot self.new }
     {
         match self {
-            Root::One(parts) => parts::add_key(parts, add, room),
-            Root::Two(parts) => forks::add_key(parts, add, room),
-            Root::Three(parts) => forks::add_key(parts, add, room),
-            Root::Four(parts) => forks::add_key(parts, add, room),
+            Root::One(subtrees) => subtrees::add_key(subtrees, add, room),
+            Root::Two(subtrees) => branches::add_key(subtrees, add, room),
+            Root::Three(subtrees) => branches::add_key(subtrees, add, room),
+            Root::Four(subtrees) => branches::add_key(subtrees, add, room),
         }
     }
 
-    /// Adds in place, as [`parts::Part::add_within`] tells.
-    fn add_within(&mut self, add: &Addition<'_>, room: u32) -> Result<Option<Grown>, NoMemory>
+    /// Adds in place, as [`subtrees::Subtree::add_within`] tells.
+    fn add_within(
+        &mut self,
+        add: &PrefixedInsertion<'_>,
+        room: u32,
+    ) -> Result<Option<Growth>, NoMemory>
         requires root { IsOrderedRoot self.old }
         ensures told { IsAddTold (root_nodes self.old) (root_nodes self.new) (root_sizes self.old)
             (root_sizes self.new) add.now room result }
         ensures whole { IsWholeRoot self.new }
     {
         match self {
-            Root::One(parts) => parts::add_within(parts, add, room),
-            Root::Two(parts) => forks::add_within(parts, add, room),
-            Root::Three(parts) => forks::add_within(parts, add, room),
-            Root::Four(parts) => forks::add_within(parts, add, room),
+            Root::One(subtrees) => subtrees::add_within(subtrees, add, room),
+            Root::Two(subtrees) => branches::add_within(subtrees, add, room),
+            Root::Three(subtrees) => branches::add_within(subtrees, add, room),
+            Root::Four(subtrees) => branches::add_within(subtrees, add, room),
         }
     }
 }
 
 /// Makes a node of a key among leaves, of which it may be the first, where it has none.
-fn leaves_with_node(leaves: Vec<Leaf>, key: &KeyRef<'_>) -> Result<Level<Leaf>, NoMemory>
-    requires parts { AreParts leaf_nodes IsWholeLeaf leaves.items }
+fn leaves_with_node(leaves: Vec<Leaf>, key: &KeyRef<'_>) -> Result<Siblings<Leaf>, NoMemory>
+    requires subtrees { AreSubtrees leaf_nodes IsWholeLeaf leaves.items }
     requires few { length leaves.items ≤ 64 }
-    ensures made { IfOk result (λ level. HasNode (nodes_of (map leaf_nodes leaves.items))
-        (level_nodes leaf_nodes level) key.now) }
-    ensures whole { IfOk result (IsWholeLevel leaf_nodes leaf_sizes IsWholeLeaf) }
+    ensures made { IfOk result (λ siblings. HasNode (nodes_of (map leaf_nodes leaves.items))
+        (sibling_nodes leaf_nodes siblings) key.now) }
+    ensures whole { IfOk result (AreWholeSiblings leaf_nodes leaf_sizes IsWholeLeaf) }
 {
     if leaves.len() == 0 {
-        Ok(Level::Parts(first_leaf(*leaves.allocator(), key)?))
+        Ok(Siblings::Subtrees(first_leaf(*leaves.allocator(), key)?))
     } else {
-        fork::with_node(leaves, key)
+        branch::with_node(leaves, key)
     }
 }
 
@@ -273,7 +278,7 @@ fn leaves_with_node(leaves: Vec<Leaf>, key: &KeyRef<'_>) -> Result<Level<Leaf>, 
 fn first_leaf(alloc: Global, key: &KeyRef<'_>) -> Result<Vec<Leaf>, NoMemory>
     ensures nodes { IfOk result (λ leaves. nodes_of (map leaf_nodes leaves.items) ≡
         node_in_gap key.now (unowned zero_time) ∷ []) }
-    ensures whole { IfOk result (λ leaves. AreFewParts IsWholeLeaf leaves.items) }
+    ensures whole { IfOk result (λ leaves. AreFewSubtrees IsWholeLeaf leaves.items) }
 {
     let mut leaves = Vec::with_capacity(alloc, 1)?;
     leaves.push(Leaf::new(alloc, Nodes::of_key(alloc, key)?)?)?;

@@ -12,7 +12,7 @@ use crate::insertion::Insertion;
 use crate::root::Root;
 use std::alloc::Global;
 use std::marker::Model;
-use tsc_page_nodes::{Grown, KeyAddition, PrefixedCut, SearchKey};
+use tsc_page_nodes::{Growth, KeyInsertion, PrefixedCut, SearchKey};
 use tsc_span::{Cut, Key, KeyRef};
 use tsc_time::{NoMemory, Value};
 
@@ -212,7 +212,7 @@ impl Tree {
 
     /// Adds at a single key in place, as [`Root::add_borrowed_key`] tells, where there is room.
     /// Says whether it did; else nothing changes, nor where memory is refused.
-    pub(crate) fn add_key(&mut self, add: &KeyAddition<'_>, most: u32) -> Result<bool, NoMemory>
+    pub(crate) fn add_key(&mut self, add: &KeyInsertion<'_>, most: u32) -> Result<bool, NoMemory>
         requires within { self.old.bytes ≤ most }
         requires small { most ≤ most_size }
         ensures told { IsTryTold self.old self.new (at_key add.now) most result }
@@ -231,13 +231,13 @@ impl Tree {
 
 /// A root in which nodes were made, and what came in.
 #[derive(Drop)]
-struct Made {
+struct Inserted {
     root: Root,
-    more: Grown,
+    more: Growth,
 }
 
 /// Makes a node of a key, where there is one and it has none.
-fn with_node(root: Root, key: Option<&KeyRef<'_>>) -> Result<Made, NoMemory>
+fn with_node(root: Root, key: Option<&KeyRef<'_>>) -> Result<Inserted, NoMemory>
     requires root { IsOrderedRoot root }
     ensures split { IfOk result (λ made. IsSplitAt (root_nodes root) (root_nodes made.root)
         (option_to_list (option_map (λ k. k.now) key.entry))) }
@@ -247,16 +247,16 @@ fn with_node(root: Root, key: Option<&KeyRef<'_>>) -> Result<Made, NoMemory>
     ensures few { IfOk result (λ made. (made.more.nodes ≤ 1) × (made.more.bytes ≤ 4128)) }
 {
     match key {
-        Some(key) if root.is_new(key) => Ok(Made {
+        Some(key) if root.is_new(key) => Ok(Inserted {
             root: root.with_node(key)?,
-            more: Grown {
+            more: Growth {
                 nodes: 1,
                 bytes: key.cost(),
             },
         }),
-        _ => Ok(Made {
+        _ => Ok(Inserted {
             root,
-            more: Grown { nodes: 0, bytes: 0 },
+            more: Growth { nodes: 0, bytes: 0 },
         }),
     }
 }

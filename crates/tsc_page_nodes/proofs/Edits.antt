@@ -132,7 +132,7 @@ gap_value-at v (n ∷ ns) (suc i) d h g = let e : suc i - 1 ≡ i =
     there o [] (suc j) l = absurd (omega arith)
     there o (p ∷ os) (suc j) l = there p os j (omega arith)
 
--- a number with none below it
+-- a count with none below it
 pub first_number : (n : ℕ) → (1 ≤ n → ⊥) → 0 ≡ n
 first_number zero h = refl
 first_number (suc n) h = absurd (h (omega arith))

@@ -5,7 +5,7 @@ use Rattle.tsc_time.specs.OwnedTime.{OwnedTime}
 use Rattle.tsc_time.specs.Joint.{joint}
 use Rattle.tsc_span.specs.Span.{KeyBytes, before, after, point, key_cost}
 use Rattle.tsc_page_nodes.specs.declared.nodes.Values.{Values}
-use Rattle.tsc_page_nodes.specs.declared.nodes.Grown.{Grown}
+use Rattle.tsc_page_nodes.specs.declared.nodes.Growth.{Growth}
 use Rattle.tsc_page_nodes.specs.Nodes.{Node, next_cut, node_stretches, paired, IsSorted, StandsAt, FallsAt, with_new, raise_nodes, nodes_cost}
 use Rattle.tsc_page_nodes.specs.KeyAdds.{AddsAtKey}
 use Rattle.tsc_page_nodes.proofs.CutOrder.{Lt, Le, Le-itself, Le-from_Lt, Lt-chain, before-after}
@@ -59,7 +59,7 @@ falls_low (n ∷ ns) k i some falls =
     (falls.low.below zero n (omega (arith, some))))
 
 -- a key that has a node
-pub known_added : (ns new : List Node) (k : KeyBytes) (v : OwnedTime) (i : ℕ) (room : Grown) →
+pub known_added : (ns new : List Node) (k : KeyBytes) (v : OwnedTime) (i : ℕ) (room : Growth) →
     IsSorted ns → StandsAt ns k i → new ≡ raise_nodes (point k) v ns →
     AddsAtKey ns new (record { key = k; value = v }) room (record { nodes = 0; bytes = 0 })
 known_added ns new k v i room sorted at is = record {
@@ -84,7 +84,7 @@ known_added ns new k v i room sorted at is = record {
 }
 
 -- and one that gets one
-pub new_added : (ns new : List Node) (k : KeyBytes) (v : OwnedTime) (i cost : ℕ) (room : Grown) →
+pub new_added : (ns new : List Node) (k : KeyBytes) (v : OwnedTime) (i cost : ℕ) (room : Growth) →
     1 ≤ i → FallsAt ns k i → cost ≡ key_cost k → 1 ≤ room.nodes → cost ≤ room.bytes →
     new ≡ raise_nodes (point k) v (with_new ns (Some (i, k)))
     → AddsAtKey ns new (record { key = k; value = v }) room (record { nodes = 1; bytes = cost })

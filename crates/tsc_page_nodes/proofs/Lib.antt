@@ -1,6 +1,6 @@
 pub mod CutOrder
-pub mod Numbers
-pub mod NumberExamples
+pub mod Prefixes
+pub mod PrefixExamples
 pub mod Answers
 pub mod Splits
 pub mod Raises

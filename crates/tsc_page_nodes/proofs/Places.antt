@@ -12,7 +12,7 @@ use Rattle.tsc_span.specs.Span.{KeyBytes, key_cmp, Cut, before, after, last, bet
 use Rattle.tsc_page_nodes.specs.Nodes.{Node, next_cut, node_stretches, IsSorted, HasKeysBelow, StandsAt, FallsAt, IsFoundAt, IsPlaceOf, LiesFrom, key_above, first_gap, index_of, HoldsKeysOn, HoldsGapsOn}
 use Rattle.tsc_page_nodes.proofs.CutOrder.{Lt, Le, Meet, Lt-or_Le, Lt-not_Le, Lt-chain, Le-chain, Le_Lt-chain, Lt_Le-chain, Le-from_Lt, Le-itself, before-after, after-before, below_last, none_above_last, overlaps-from, overlaps-tells}
 
--- each way that two numbers may stand
+-- each way that two of them may stand
 abbrev pub before_or_past : (a b : ℕ) → (a < b) ⊎ (b ≤ a)
 before_or_past zero zero = inr (omega arith)
 before_or_past zero (suc b) = inl (omega arith)

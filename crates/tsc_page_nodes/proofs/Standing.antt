@@ -20,7 +20,7 @@ use Rattle.tsc_time.proofs.JointLemmas.{joint-append, joint-singleton}
 use Rattle.std.proofs.lemmas.Bool.{cases_Bool}
 use Rattle.tsc_span.specs.Span.{KeyBytes, Cut, before, after, last, Interval, nothing, between, overlaps, end_keys, key_cost}
 use Rattle.tsc_page_nodes.specs.Page.{Mark, PageMarks, with_mark, top, values_on, marked_keys, weigh_distinct, count_distinct, cost_distinct, has_room}
-use Rattle.tsc_page_nodes.specs.PageView.{PageView, StandsFor, NoAnswerAboveTop, answer, is_in, bytes_of, has_room_for, new_weight, is_new_among}
+use Rattle.tsc_page_nodes.specs.PageView.{PageView, Represents, NoAnswerAboveTop, answer, is_in, bytes_of, has_room_for, new_weight, is_new_among}
 use Rattle.tsc_page_nodes.specs.Nodes.{Node, next_cut, node_stretches, node_keys, IsSorted, IsSplitAt, raise_nodes, answer_of, page_of}
 use Rattle.tsc_page_nodes.proofs.CutOrder.{Lt, Lt-not_Le, Le-chain, Le-from_Lt, before-after}
 use Rattle.tsc_page_nodes.proofs.DistinctKeys.{weigh_distinct-same, count_distinct-same, weigh_distinct-push, weigh_distinct-no_repeats, count_distinct-no_repeats, has_no_repeats, is_in-push}
@@ -158,7 +158,7 @@ pub count_before : (ks : List KeyBytes) (o p : Option KeyBytes) →
 count_before ks o p once = weigh_before (λ k. 1) ks o p once ∙ rw (new_one ks o, new_one ks p) refl
 
 -- lists of the same keys leave the same room
-pub same_room : (v : PageView) (p : PageMarks) (span : Interval) → StandsFor v p →
+pub same_room : (v : PageView) (p : PageMarks) (span : Interval) → Represents v p →
     has_room_for v span ≡ has_room p span
 same_room v p span stands =
     ap (λ n. nat_le n v.size) (weigh_distinct-same key_cost (v.keys ++ end_keys span)
@@ -168,11 +168,11 @@ same_room v p span stands =
     sym (list_any-append (bytes_eq k) (marked_keys p.marks) (end_keys span))))
     ∙ ap (nat_le (cost_distinct (marked_keys p.marks ++ end_keys span))) stands.size
 
-pub same_count : (v : PageView) (p : PageMarks) → StandsFor v p →
+pub same_count : (v : PageView) (p : PageMarks) → Represents v p →
     count_distinct v.keys ≡ count_distinct (marked_keys p.marks)
 same_count v p stands = count_distinct-same v.keys (marked_keys p.marks) stands.keys
 
-pub same_bytes : (v : PageView) (p : PageMarks) → StandsFor v p →
+pub same_bytes : (v : PageView) (p : PageMarks) → Represents v p →
     bytes_of v ≡ cost_distinct (marked_keys p.marks)
 same_bytes v p stands = weigh_distinct-same key_cost v.keys (marked_keys p.marks) stands.keys
 
@@ -309,9 +309,9 @@ module _ (old mid : List Node) (f t : Cut) (up : Lt f t) (value : OwnedTime)
 
   -- the page then stands for the list with the mark
   pub added_stands : (sizes more : List ℕ) (size : ℕ) (before_it after_it : Time) (p : PageMarks)
-      → StandsFor (page_of size before_it old sizes) p
+      → Represents (page_of size before_it old sizes) p
       → after_it ≡ later before_it value.time
-      → StandsFor (page_of size after_it (raise_nodes (between f t) value mid) more)
+      → Represents (page_of size after_it (raise_nodes (between f t) value mid) more)
       (with_mark p (record { span = between f t; value = value }))
   added_stands sizes more size before_it after_it p stands is = record {
     size = stands.size;

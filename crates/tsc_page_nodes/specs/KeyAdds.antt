@@ -2,25 +2,26 @@
 use Rattle.std.specs.Prelude.{◌≡◌, ◌≤◌, List, false, Option, Some, None, Result, Ok, Err}
 use Rattle.tsc_time.specs.OwnedTime.{OwnedTime}
 use Rattle.tsc_span.specs.Span.{KeyBytes, before, point, is_below}
-use Rattle.tsc_page_nodes.specs.declared.nodes.Grown.{Grown}
+use Rattle.tsc_page_nodes.specs.declared.nodes.Growth.{Growth}
 use Rattle.tsc_page_nodes.specs.Nodes.{Node, next_cut, node_stretches, AddsNodes, GrowsBy}
 
 -- A key, and the value that is added there.
-pub record KeyAddend : Type 0 where
+pub record KeyInsertionView : Type 0 where
   pub key : KeyBytes
   pub value : OwnedTime
 
 -- What adding at a key that isn't below them makes of nodes, with what comes in, for which there is
 -- room.
-pub record AddsAtKey (old new : List Node) (a : KeyAddend) (room more : Grown) : Type 0 where
+pub record AddsAtKey (old new : List Node) (a : KeyInsertionView) (room more : Growth) :
+    Type 0 where
   pub low : is_below (before a.key) (next_cut (node_stretches old)) ≡ false
   pub adds : AddsNodes old new (Some a.key) None (point a.key) a.value
   pub grown : GrowsBy old new more
   pub within : (more.nodes ≤ room.nodes) × (more.bytes ≤ room.bytes)
 
 -- what a call tells that does so, or leaves all as it is
-abbrev pub IsKeyTold : {E : Type 0} → (old new : List Node) → KeyAddend → Grown →
-    Result (Option Grown) E → Type 0
+abbrev pub IsKeyTold : {E : Type 0} → (old new : List Node) → KeyInsertionView → Growth →
+    Result (Option Growth) E → Type 0
 IsKeyTold old new a room (Ok (Some more)) = AddsAtKey old new a room more
 IsKeyTold old new a room (Ok None) = new ≡ old
 IsKeyTold old new a room (Err e) = new ≡ old

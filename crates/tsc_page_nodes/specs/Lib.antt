@@ -3,10 +3,10 @@ pub mod Page
 pub mod PageView
 pub mod PageAdds
 pub mod Nodes
-pub mod Numbers
+pub mod Prefixes
 pub mod Words
 pub mod KeyAdds
-pub mod Additions
+pub mod Insertions
 pub mod KeysAbove
 pub use Rattle.tsc_time.specs.Time
 pub use Rattle.tsc_time.specs.Joint

@@ -8,7 +8,7 @@ use Rattle.tsc_time.specs.Joint.{joint, joint_above}
 use Rattle.tsc_span.specs.Span.{KeyBytes, Cut, before, after, last, Interval, between, overlaps, is_below, key_cost, cost_of}
 use Rattle.tsc_page_nodes.specs.Page.{Mark, values_on}
 use Rattle.tsc_page_nodes.specs.declared.nodes.Values.{Values}
-use Rattle.tsc_page_nodes.specs.declared.nodes.Grown.{Grown}
+use Rattle.tsc_page_nodes.specs.declared.nodes.Growth.{Growth}
 use Rattle.tsc_page_nodes.specs.PageView.{PageView, is_in, is_new_among}
 
 -- a key with its value, and the value of the open gap up to the next node
@@ -260,7 +260,7 @@ abbrev pub nodes_cost : List Node → ℕ
 nodes_cost nodes = cost_of (node_keys nodes)
 
 -- Nodes that are more by so many, and cost so much more.
-pub record GrowsBy (old new : List Node) (more : Grown) : Type 0 where
+pub record GrowsBy (old new : List Node) (more : Growth) : Type 0 where
   pub count : length new ≡ length old + more.nodes
   pub cost : nodes_cost new ≡ nodes_cost old + more.bytes
 

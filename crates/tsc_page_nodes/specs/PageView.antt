@@ -37,7 +37,7 @@ is_in k ks = list_any (bytes_eq k) ks
 -- A page stands for a size, a base and a list of marks where whoever asks finds no difference:
 -- neither in the size, nor in the top, nor in which keys are end keys, nor in what any span is
 -- answered.
-pub record StandsFor (v : PageView) (p : PageMarks) : Type 0 where
+pub record Represents (v : PageView) (p : PageMarks) : Type 0 where
   pub size : v.size ≡ p.size
   pub top : v.top ≡ top p
   pub keys : (k : KeyBytes) → is_in k v.keys ≡ is_in k (marked_keys p.marks)
@@ -45,7 +45,7 @@ pub record StandsFor (v : PageView) (p : PageMarks) : Type 0 where
 
 -- Whatever list of marks a page stood for, it stands for that list with one more mark then.
 abbrev pub StandsWith : PageView → PageView → Mark → Type 0
-StandsWith old new m = (p : PageMarks) → StandsFor old p → StandsFor new (with_mark p m)
+StandsWith old new m = (p : PageMarks) → Represents old p → Represents new (with_mark p m)
 
 -- the end keys are those that there were, and those of a span
 abbrev pub HasKeysWith : PageView → PageView → Interval → Type 0

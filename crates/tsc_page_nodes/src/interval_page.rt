@@ -5,7 +5,7 @@ ghost use Rattle.tsc_span.specs.Span.{Interval, is_empty_span, span_cost};
 ghost use Rattle.tsc_page_nodes.specs.Limits.{least_size, most_size};
 ghost use Rattle.tsc_page_nodes.specs.Page.{PageMarks, empty_page, top, values_on, marked_keys, count_distinct, cost_distinct, has_room};
 ghost use Rattle.tsc_page_nodes.specs.PageAdds.{TellsMark, TellsTry};
-ghost use Rattle.tsc_page_nodes.specs.PageView.{PageView, StandsFor, NoAnswerAboveTop, answer, bytes_of, has_room_for};
+ghost use Rattle.tsc_page_nodes.specs.PageView.{PageView, Represents, NoAnswerAboveTop, answer, bytes_of, has_room_for};
 
 use std::alloc::Global;
 use tsc_span::Span;
@@ -24,7 +24,7 @@ pub trait IntervalPage: Drop {
     fn new(alloc: Global, size: u32, base: Timestamp) -> Result<Self, NoMemory>
         requires at_least { least_size ≤ size }
         requires at_most { size ≤ most_size }
-        ensures stands { IfOk result (λ page. StandsFor (view page) (empty_page size base)) }
+        ensures stands { IfOk result (λ page. Represents (view page) (empty_page size base)) }
         ensures room { IfOk result
             (λ page. (span : Interval) →
             has_room_for (view page) span ≡ nat_le (span_cost span) size) }
@@ -33,7 +33,7 @@ pub trait IntervalPage: Drop {
     /// How many bytes the page may have.
     fn size(&self) -> u32
         ensures value { result ≡ (view self.now).size }
-        ensures stands { (p : PageMarks) → StandsFor (view self.now) p → result ≡ p.size }
+        ensures stands { (p : PageMarks) → Represents (view self.now) p → result ≡ p.size }
         ensures least { least_size ≤ result }
         ensures most { result ≤ most_size };
 
@@ -41,7 +41,7 @@ pub trait IntervalPage: Drop {
     /// bytes as it has, and 32 more.
     fn bytes(&self) -> u32
         ensures value { result ≡ bytes_of (view self.now) }
-        ensures stands { (p : PageMarks) → StandsFor (view self.now) p →
+        ensures stands { (p : PageMarks) → Represents (view self.now) p →
             result ≡ cost_distinct (marked_keys p.marks) }
         ensures most { result ≤ (view self.now).size };
 
@@ -49,7 +49,7 @@ pub trait IntervalPage: Drop {
     /// span, each of them once, cost no more than the page's size.
     fn room(&self, span: &Span) -> bool
         ensures value { result ≡ has_room_for (view self.now) span.now }
-        ensures stands { (p : PageMarks) → StandsFor (view self.now) p →
+        ensures stands { (p : PageMarks) → Represents (view self.now) p →
             result ≡ has_room p span.now };
 
     /// Adds a span with its value. The span is not empty, and the page has room for it. Where
@@ -73,25 +73,25 @@ pub trait IntervalPage: Drop {
     fn lookup(&self, span: &Span) -> Value
         ensures value { result ≡ answer (view self.now) span.now }
         ensures below_top { is_before (view self.now).top result.time ≡ false }
-        ensures stands { (p : PageMarks) → StandsFor (view self.now) p →
+        ensures stands { (p : PageMarks) → Represents (view self.now) p →
             result ≡ joint_above zero_time (values_on span.now p.marks) };
 
     /// The greatest of the base and of the times that were added. No answer to a lookup is later.
     fn top(&self) -> Timestamp
         ensures value { result ≡ (view self.now).top }
         ensures covers { NoAnswerAboveTop (view self.now) }
-        ensures stands { (p : PageMarks) → StandsFor (view self.now) p → result ≡ top p };
+        ensures stands { (p : PageMarks) → Represents (view self.now) p → result ≡ top p };
 
     /// How many different end keys the page holds.
     fn nodes(&self) -> u32
         ensures value { result ≡ count_distinct (view self.now).keys }
-        ensures stands { (p : PageMarks) → StandsFor (view self.now) p →
+        ensures stands { (p : PageMarks) → Represents (view self.now) p →
             result ≡ count_distinct (marked_keys p.marks) }
         ensures few { 32 * result ≤ (view self.now).size };
 
     /// A copy of the page.
     fn try_copy(&self) -> Result<Self, NoMemory>
         ensures value { IfOk result (λ copy. view copy ≡ view self.now) }
-        ensures stands { IfOk result (λ copy. (p : PageMarks) → StandsFor (view self.now) p →
-            StandsFor (view copy) p) };
+        ensures stands { IfOk result (λ copy. (p : PageMarks) → Represents (view self.now) p →
+            Represents (view copy) p) };
 }

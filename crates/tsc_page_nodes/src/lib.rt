@@ -4,8 +4,8 @@
 //! and the value that holds in the open gap between its key and that of the next node. [`Nodes`]
 //! keeps nodes in the order of their keys: it makes nodes of keys, ratchets a value into the keys
 //! and gaps between two cuts, and joins the values of those that lie there. A [`PrefixedCut`] is a
-//! cut beside the number that the first bytes of its key make, so that most keys are compared by
-//! numbers.
+//! cut beside the prefix that the first bytes of its key make, so that most keys are compared by
+//! prefixes.
 //!
 //! It restates, of CockroachDB's `pkg/kv/kvserver/tscache/interval_skl.go`, what a `sklPage` does
 //! with the nodes of its skiplist: `addNode` makes a node, with the value of the gap in which it
@@ -13,16 +13,16 @@
 //! meets. The page itself is `Page` of `tsc_page`, which keeps such nodes in leaves.
 #![tactic(auto)]
 
-mod addition;
+mod insertion;
 mod interval_page;
 pub mod laws;
 mod nodes;
-mod number;
+mod prefix;
 
-pub use addition::{Addition, KeyAddition, SearchKey};
+pub use insertion::{KeyInsertion, PrefixedInsertion, SearchKey};
 pub use interval_page::IntervalPage;
-pub use nodes::{Grown, Nodes};
-pub use number::{KeyPrefix, PrefixedCut, PrefixedKey};
+pub use nodes::{Growth, Nodes};
+pub use prefix::{KeyPrefix, PrefixedCut, PrefixedKey};
 
 /// How many bytes a page may have at the least.
 pub const LEAST_SIZE: u32 = 64;

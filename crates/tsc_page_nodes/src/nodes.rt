@@ -6,15 +6,15 @@ ghost use Rattle.tsc_time.specs.OwnedTime.{unowned};
 ghost use Rattle.tsc_time.specs.Joint.{joint};
 ghost use Rattle.tsc_span.specs.Span.{is_below, between, point};
 ghost use Rattle.tsc_span.specs.Cuts.{cut_of};
-ghost use Rattle.tsc_page_nodes.specs.Numbers.{IsCutNumber};
+ghost use Rattle.tsc_page_nodes.specs.Prefixes.{IsCutPrefix};
 ghost use Rattle.tsc_page_nodes.specs.PageView.{is_new_among};
 ghost use Rattle.tsc_page_nodes.specs.KeyAdds.{IsKeyTold};
-ghost use Rattle.tsc_page_nodes.specs.Additions.{IsTold, AreReady, HaveRoom};
+ghost use Rattle.tsc_page_nodes.specs.Insertions.{IsTold, AreReady, HaveRoom};
 ghost use Rattle.tsc_page_nodes.specs.KeysAbove.{first_above};
 ghost use Rattle.tsc_page_nodes.specs.Nodes.{paired, IsSorted, FitsAt, FallsAt, IsFoundAt, IsPlaceOf, IsPlaceTold, BothStandWhereTold, HasKeysBelow, StandsAt, LiesFrom, index_of, key_above, first_gap, IsNewKey, FitsIn, with_new, IsInOrder, HasNodes, MakesNodes, new_count, found_cost, new_cost, HoldsKeysOn, HoldsGapsOn, node_keys, answer_of, raise_nodes, node_in_gap, gap_value, next_cut, node_stretches};
 
-use crate::addition::{Addition, KeyAddition, SearchKey};
-use crate::number::{KeyPrefix, NumberedBytes, PrefixedCut, PrefixedKey};
+use crate::insertion::{KeyInsertion, PrefixedInsertion, SearchKey};
+use crate::prefix::{KeyPrefix, PrefixedBytes, PrefixedCut, PrefixedKey};
 use std::alloc::{AllocError, Global};
 use std::cmp::Ordering;
 use std::marker::Model;
@@ -31,7 +31,7 @@ const STRIDE: usize = 8;
 
 /// How much nodes grow: how many come in, and what their keys cost together.
 #[derive(Clone, Copy, Debug)]
-pub struct Grown {
+pub struct Growth {
     /// How many nodes come in.
     pub nodes: usize,
     /// What their keys cost together.
@@ -102,7 +102,7 @@ impl Nodes {
     }
 
     /// Whether a cut lies below where the nodes begin, which where there are none is the last cut.
-    /// It compares numbers, and bytes only where these are the same.
+    /// It compares prefixes, and bytes only where these are the same.
     pub fn starts_above(&self, cut: &PrefixedCut<'_>) -> bool
         ensures { result ≡ is_below cut.now (next_cut (node_stretches self.now)) }
     {
@@ -122,14 +122,14 @@ impl Nodes {
         }
     }
 
-    /// The number of where the nodes begin: that of the first twenty-four bytes of their first key,
+    /// The prefix of where the nodes begin: that of the first twenty-four bytes of their first key,
     /// or the greatest one where there are no nodes. It lies beside the key, and is only read.
     #[inline]
-    pub fn start_number(&self) -> KeyPrefix
-        ensures { IsCutNumber result (next_cut (node_stretches self.now)) }
+    pub fn start_prefix(&self) -> KeyPrefix
+        ensures { IsCutPrefix result (next_cut (node_stretches self.now)) }
     {
         match self.keys.first() {
-            Some(first) => first.number(),
+            Some(first) => first.prefix(),
             None => KeyPrefix::greatest(),
         }
     }
@@ -138,7 +138,7 @@ impl Nodes {
     pub fn find(&self, key: &KeyRef<'_>) -> Result<usize, usize>
         ensures { IsFoundAt self.now key.now result }
     {
-        self.lists().find(&NumberedBytes::new(key.bytes()))
+        self.lists().find(&PrefixedBytes::new(key.bytes()))
     }
 
     /// The least key above a cut. It costs a search, and takes no memory.
@@ -194,16 +194,16 @@ impl Nodes {
         requires order { is_below from.now to.now ≡ true }
         ensures { self.new ≡ raise_nodes (between from.now to.now) value self.old }
     {
-        self.raise_near(from, to, (None, None), value);
+        self.raise_hinted(from, to, (None, None), value);
     }
 
     /// The same, where the keys of the cuts may stand at places that are told: a look at such a
     /// place takes the place of a search.
-    pub fn raise_near(
+    pub fn raise_hinted(
         &mut self,
         from: &PrefixedCut<'_>,
         to: &PrefixedCut<'_>,
-        near: (Option<usize>, Option<usize>),
+        hint: (Option<usize>, Option<usize>),
         value: Value,
     )
         requires order { is_below from.now to.now ≡ true }
@@ -214,7 +214,7 @@ impl Nodes {
             &mut self.values,
             from,
             to,
-            near,
+            hint,
             value,
         );
     }
@@ -236,22 +236,22 @@ impl Nodes {
             (λ new. HasNodes self.now (option_map (λ k. k.now) first.entry)
             (option_map (λ k. k.now) second.entry)
             → new_count new.first new.second ≡ 0) }
-        ensures near { IfOk result
+        ensures hint { IfOk result
             (λ new. IsInOrder (option_map (λ k. k.now) first.entry)
             (option_map (λ k. k.now) second.entry)
             → BothStandWhereTold (with_new (with_new self.now new.second) new.first)
             (option_map (λ k. k.now) first.entry) (option_map (λ k. k.now) second.entry)
-            new.near) }
+            new.hint) }
     {
         let alloc = *self.values.allocator();
         let lists = self.lists();
         let (low, first) = lists.new_key(alloc, first)?;
         let (high, second) = lists.new_key(alloc, second)?;
-        let near = (low, moved(high, first.is_some()));
+        let hint = (low, moved(high, first.is_some()));
         Ok(NewKeys {
             first,
             second,
-            near,
+            hint,
         })
     }
 
@@ -286,7 +286,11 @@ impl Nodes {
     /// than `room`, or where something would and others hold the list of keys too, nothing changes,
     /// and `None` says so; nor where memory is refused. Where both keys have nodes no memory is
     /// asked for.
-    pub fn add_owned(&mut self, add: &Addition<'_>, room: Grown) -> Result<Option<Grown>, NoMemory>
+    pub fn insert_in_place(
+        &mut self,
+        add: &PrefixedInsertion<'_>,
+        room: Growth,
+    ) -> Result<Option<Growth>, NoMemory>
         ensures told { IsTold self.old self.new add.now room result }
     {
         let new = self.new_keys(add.first, add.second)?;
@@ -295,8 +299,8 @@ impl Nodes {
             return Ok(None);
         }
         if made.nodes == 0 {
-            self.raise_near(add.from, add.to, new.near, add.value);
-            return Ok(Some(Grown { nodes: 0, bytes: 0 }));
+            self.raise_hinted(add.from, add.to, new.hint, add.value);
+            return Ok(Some(Growth { nodes: 0, bytes: 0 }));
         }
         let Some(keys) = Arc::get_mut(&mut self.keys) else {
             return Ok(None)
@@ -311,13 +315,17 @@ impl Nodes {
     /// is new and what comes in would be more than `room`, or others hold the list of keys too,
     /// nothing changes, and `None` says so; nor where memory is refused. It costs a search, and for
     /// a new key its copy and a move of what stands above it.
-    pub fn add_key(&mut self, add: &KeyAddition<'_>, room: Grown) -> Result<Option<Grown>, NoMemory>
+    pub fn add_key(
+        &mut self,
+        add: &KeyInsertion<'_>,
+        room: Growth,
+    ) -> Result<Option<Growth>, NoMemory>
         ensures told { IsKeyTold self.old self.new add.now room result }
     {
         match self.lists().find(add.search().bytes()) {
             Ok(place) => {
                 self.values[place].value.raise(&add.value());
-                Ok(Some(Grown { nodes: 0, bytes: 0 }))
+                Ok(Some(Growth { nodes: 0, bytes: 0 }))
             }
             Err(place) => self.insert_key(place, add, room),
         }
@@ -327,13 +335,13 @@ impl Nodes {
     fn insert_key(
         &mut self,
         place: usize,
-        add: &KeyAddition<'_>,
-        room: Grown,
-    ) -> Result<Option<Grown>, NoMemory>
+        add: &KeyInsertion<'_>,
+        room: Growth,
+    ) -> Result<Option<Growth>, NoMemory>
         requires falls { FallsAt self.old add.now.key place }
         ensures told { IsKeyTold self.old self.new add.now room result }
     {
-        let more = Grown {
+        let more = Growth {
             nodes: 1,
             bytes: add.cost(),
         };
@@ -403,7 +411,7 @@ impl<'a> Lists<'a> {
     /// Where a key stands, or else the place for it. It looks at every eighth key, and from the
     /// last of these that isn't above on at one after another. No look has to wait for what another
     /// one reads, as in a binary search, so the processor reads ahead.
-    fn find(&self, key: &NumberedBytes<'_>) -> Result<usize, usize>
+    fn find(&self, key: &PrefixedBytes<'_>) -> Result<usize, usize>
         ensures { IsFoundAt self.now key.now result }
     {
         self.find_from(self.stride_before(key), key)
@@ -411,7 +419,7 @@ impl<'a> Lists<'a> {
 
     /// The last of every eighth place, from the first one on, before which all keys lie below a
     /// key.
-    fn stride_before(&self, key: &NumberedBytes<'_>) -> usize
+    fn stride_before(&self, key: &PrefixedBytes<'_>) -> usize
         ensures { HasKeysBelow self.now key.now result }
     {
         let mut low = 0;
@@ -427,7 +435,7 @@ impl<'a> Lists<'a> {
 
     /// The same as `find`, by a look at one key after another from a place on, before which all are
     /// below.
-    fn find_from(&self, place: usize, key: &NumberedBytes<'_>) -> Result<usize, usize>
+    fn find_from(&self, place: usize, key: &PrefixedBytes<'_>) -> Result<usize, usize>
         requires low { HasKeysBelow self.now key.now place }
         ensures { IsFoundAt self.now key.now result }
     {
@@ -442,7 +450,7 @@ impl<'a> Lists<'a> {
     }
 
     /// Whether a key stands at a place.
-    fn stands_at(&self, place: usize, key: &NumberedBytes<'_>) -> bool
+    fn stands_at(&self, place: usize, key: &PrefixedBytes<'_>) -> bool
         ensures { IsTrue result ↔ StandsAt self.now key.now place }
     {
         match self.keys.get(place) {
@@ -453,13 +461,13 @@ impl<'a> Lists<'a> {
 
     /// Where a cut lies: where its key does, or behind all. The key may stand at a place that is
     /// told.
-    fn place_of(&self, cut: &PrefixedCut<'_>, near: Option<usize>) -> Result<usize, usize>
+    fn place_of(&self, cut: &PrefixedCut<'_>, hint: Option<usize>) -> Result<usize, usize>
         ensures { IsPlaceOf self.now cut.now result }
     {
         let Some(key) = cut.key() else {
             return Err(self.keys.len())
         };
-        match near {
+        match hint {
             Some(place) if self.stands_at(place, &key) => Ok(place),
             _ => self.find(&key),
         }
@@ -471,14 +479,14 @@ impl<'a> Lists<'a> {
         &self,
         cut: &PrefixedCut<'_>,
         place: usize,
-        near: Option<usize>,
+        hint: Option<usize>,
     ) -> Result<usize, usize>
         requires low { LiesFrom self.now cut.now place }
         ensures { IsPlaceOf self.now cut.now result }
     {
         match cut.key() {
-            Some(key) if near.is_none() => self.find_from(place, &key),
-            _ => self.place_of(cut, near),
+            Some(key) if hint.is_none() => self.find_from(place, &key),
+            _ => self.place_of(cut, hint),
         }
     }
 
@@ -503,15 +511,16 @@ impl<'a> Lists<'a> {
         &self,
         from: &PrefixedCut<'_>,
         to: &PrefixedCut<'_>,
-        near: (Option<usize>, Option<usize>),
+        hint: (Option<usize>, Option<usize>),
     ) -> (Range<usize>, Range<usize>)
         requires order { is_below from.now to.now ≡ true }
         ensures keys { HoldsKeysOn self.now (between from.now to.now) result.0.start result.0.end }
         ensures gaps { HoldsGapsOn self.now (between from.now to.now) result.1.start result.1.end }
     {
+        // A field is read so that the proof has the invariant: the keys are in order.
         let _keys = self.keys;
-        let low = self.place_of(from, near.0);
-        let high = self.place_from(to, index_of(low), near.1);
+        let low = self.place_of(from, hint.0);
+        let high = self.place_from(to, index_of(low), hint.1);
         let keys = self.key_above(low, from.cut())..self.key_above(high, to.cut());
         (keys, first_gap(low)..index_of(high))
     }
@@ -530,11 +539,12 @@ impl<'a> Lists<'a> {
         ensures place { IfOk result
             (λ found. IsPlaceTold self.now (option_map (λ k. k.now) key.entry) found.1 found.0) }
     {
+        // A field is read so that the proof has the invariant: the keys are in order.
         let _keys = self.keys;
         let Some(key) = key else {
             return Ok((None, None))
         };
-        match self.find(&NumberedBytes::new(key.bytes())) {
+        match self.find(&PrefixedBytes::new(key.bytes())) {
             Ok(place) => Ok((Some(place), None)),
             Err(place) => {
                 let copy = PrefixedKey::copy_of(alloc, key)?;
@@ -618,7 +628,7 @@ fn raise_values(
     values: &mut Vec<Values>,
     from: &PrefixedCut<'_>,
     to: &PrefixedCut<'_>,
-    near: (Option<usize>, Option<usize>),
+    hint: (Option<usize>, Option<usize>),
     value: Value,
 )
     requires same { length keys.now ≡ length values.old.items }
@@ -632,7 +642,7 @@ fn raise_values(
         keys,
         values: values.as_slice(),
     };
-    let (raised_keys, raised_gaps) = lists.places_between(from, to, near);
+    let (raised_keys, raised_gaps) = lists.places_between(from, to, hint);
     for place in raised_keys {
         values[place].value.raise(&value);
     }
@@ -649,7 +659,7 @@ fn insert_between(
     keys: &mut Vec<PrefixedKey>,
     values: &mut Vec<Values>,
     new: NewKeys,
-    add: &Addition<'_>,
+    add: &PrefixedInsertion<'_>,
 )
     requires same { length keys.old.items ≡ length values.old.items }
     requires ready { AreReady (paired keys.old.items values.old.items) new.first new.second }
@@ -666,7 +676,7 @@ fn insert_between(
         values,
         add.from,
         add.to,
-        new.near,
+        new.hint,
         add.value,
     );
 }
@@ -677,7 +687,7 @@ fn insert(
     keys: &mut Vec<PrefixedKey>,
     values: &mut Vec<Values>,
     place: usize,
-    add: &KeyAddition<'_>,
+    add: &KeyInsertion<'_>,
 ) -> Result<(), NoMemory>
     requires same { length keys.old.items ≡ length values.old.items }
     requires sorted { IsSorted (paired keys.old.items values.old.items) }
@@ -735,7 +745,7 @@ struct NewKeys {
     /// The greater key, with its place before the smaller one has a node.
     second: Option<(usize, PrefixedKey)>,
     /// Where both keys stand once they have nodes.
-    near: (Option<usize>, Option<usize>),
+    hint: (Option<usize>, Option<usize>),
 }
 
 impl NewKeys {
@@ -747,11 +757,11 @@ impl NewKeys {
     }
 
     /// How many there are, and what they cost together.
-    fn grown(&self) -> Grown
+    fn grown(&self) -> Growth
         ensures nodes { result.nodes ≡ new_count self.now.first self.now.second }
         ensures bytes { result.bytes ≡ new_cost self.now.first self.now.second }
     {
-        Grown {
+        Growth {
             nodes: self.len(),
             bytes: found_cost(&self.first) + found_cost(&self.second),
         }

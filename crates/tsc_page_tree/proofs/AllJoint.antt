@@ -10,7 +10,7 @@ use Rattle.tsc_time.proofs.RatchetOrder.{IsAtMost-itself, IsAtMost-transitive}
 use Rattle.tsc_span.specs.Span.{KeyBytes, Cut, before, after, last, Interval, between, overlaps, is_below}
 use Rattle.tsc_page_nodes.specs.Nodes.{Node, answer_of, node_stretches, IsSorted, IsInOrder, IsSplitAt, AddsNodes, with_new, raise_nodes}
 use Rattle.tsc_page_tree.specs.Leaves.{nodes_of, start_of, HasNode}
-use Rattle.tsc_page_tree.specs.Pending.{everything, with_pending, seen_with, all_joint}
+use Rattle.tsc_page_tree.specs.Lazy.{everything, with_lazy, seen_with, all_joint}
 use Rattle.tsc_page_nodes.proofs.CutOrder.{Lt, Le, Lt-or_Le, Lt-not_Le, Le-from_Lt, Lt-chain, Le_Lt-chain, before-after, below_last, none_above_last, overlaps-from}
 use Rattle.tsc_page_nodes.proofs.Cuts.{lowest}
 use Rattle.tsc_page_nodes.proofs.Edits.{raise_nodes-start, raise_nodes-sorted}
@@ -73,7 +73,7 @@ seen_from f ns sorted low = same_seen (Meets (between f last) (node_stretches ns
 pub all_joint_is : (ns : List Node) → IsSorted ns → IsJointOf (HasValue ns) (all_joint ns)
 all_joint_is ns sorted = seen_from (before []) ns sorted (lowest (start_of ns))
 
--- no part of a span answers more than all
+-- no subtree of a span answers more than all
 pub answer_below_all : (s : Interval) (ns : List Node) → IsSorted ns →
     IsAtMost (answer_of ns s) (all_joint ns)
 answer_below_all s ns sorted = (answer_is s ns).least (all_joint ns)
@@ -209,10 +209,10 @@ pub all_joint_whole : (v : OwnedTime) (ns : List Node) → IsSorted ns → 1 ≤
 all_joint_whole v ns sorted some =
     all_joint_raised (before []) last v ns sorted refl (starts_below_last ns some)
 
-pub all_joint_pending : (p : Option OwnedTime) (ns : List Node) → IsSorted ns → 1 ≤ length ns →
-    all_joint (with_pending p ns) ≡ seen_with p true (all_joint ns)
-all_joint_pending None ns sorted some = refl
-all_joint_pending (Some v) ns sorted some = all_joint_whole v ns sorted some
+pub all_joint_lazy : (p : Option OwnedTime) (ns : List Node) → IsSorted ns → 1 ≤ length ns →
+    all_joint (with_lazy p ns) ≡ seen_with p true (all_joint ns)
+all_joint_lazy None ns sorted some = refl
+all_joint_lazy (Some v) ns sorted some = all_joint_whole v ns sorted some
 
 -- of two lists
 has_either : (xs ys : List Node) (w : OwnedTime) → HasValue (xs ++ ys) w →
@@ -266,13 +266,13 @@ pub joint_at_end : (all : List Node) (best : OwnedTime) → JointSoFar all [] be
     best ≡ all_joint all
 joint_at_end all best so_far = sym (zero_last best so_far.zero_below) ∙ so_far.whole
 
--- one part more
-pub joint_of_part : {X : Type 0} (f : X → List Node) (xs : List X) (i : ℕ) (x : X)
+-- one subtree more
+pub joint_of_subtree : {X : Type 0} (f : X → List Node) (xs : List X) (i : ℕ) (x : X)
     (best w : OwnedTime) → IsSorted (nodes_of (map f xs)) → i < length xs → x ≡ get_or xs i x →
     w ≡ all_joint (f x)
     → JointSoFar (nodes_of (map f xs)) (nodes_of (drop i (map f xs))) best →
     JointSoFar (nodes_of (map f xs)) (nodes_of (drop (i + 1) (map f xs))) (joint best (w ∷ []))
-joint_of_part f xs i x best w sorted inside at is so_far =
+joint_of_subtree f xs i x best w sorted inside at is so_far =
     let ls : List (List Node) = map f xs in
     let next : suc i ≡ i + 1 = omega arith in
     let here = leaf_first ls i [] (omega (arith, inside, length-map xs f)) in
@@ -285,11 +285,11 @@ joint_of_part f xs i x best w sorted inside at is so_far =
     (subst IsSorted here (sorted_from ls i sorted))
     (subst (λ (ns : List Node). JointSoFar (nodes_of ls) ns best) here so_far)))
 
--- and no part left
-pub joint_of_parts : {X : Type 0} (f : X → List Node) (xs : List X) (i : ℕ) (best : OwnedTime) →
+-- and no subtree left
+pub joint_of_subtrees : {X : Type 0} (f : X → List Node) (xs : List X) (i : ℕ) (best : OwnedTime) →
     length xs ≤ i → JointSoFar (nodes_of (map f xs)) (nodes_of (drop i (map f xs))) best →
     best ≡ all_joint (nodes_of (map f xs))
-joint_of_parts f xs i best past so_far =
+joint_of_subtrees f xs i best past so_far =
     joint_at_end (nodes_of (map f xs)) best
     (subst (λ (ls : List (List Node)). JointSoFar (nodes_of (map f xs)) (nodes_of ls) best)
     (drop_all i (map f xs) (omega (arith, past, length-map xs f))) so_far)

@@ -1,4 +1,4 @@
--- A value that is added at a single key, below what is pending and among parts.
+-- A value that is added at a single key, below the lazy value and among subtrees.
 use Rattle.std.proofs.Common.{◌≡◌, ◌∙◌, refl, sym, ap, subst, true, ℕ, zero, suc, ◌+◌, ◌<◌, ◌≤◌, List, [], ◌∷◌, length, map, drop, get_or, set, arith}
 use Rattle.std.specs.Prelude.{Option, Some, None, Result, Ok, Err}
 use Rattle.std.specs.List.{insert}
@@ -10,12 +10,12 @@ use Rattle.tsc_time.specs.Time.{zero_time}
 use Rattle.tsc_time.specs.OwnedTime.{OwnedTime, unowned}
 use Rattle.tsc_time.specs.Joint.{joint}
 use Rattle.tsc_span.specs.Span.{KeyBytes, Cut, before, after, last, point, is_below}
-use Rattle.tsc_page_nodes.specs.Numbers.{IsCutNumber}
-use Rattle.tsc_page_nodes.specs.declared.nodes.Grown.{Grown}
+use Rattle.tsc_page_nodes.specs.Prefixes.{IsCutPrefix}
+use Rattle.tsc_page_nodes.specs.declared.nodes.Growth.{Growth}
 use Rattle.tsc_page_nodes.specs.Nodes.{Node, IsSorted, FitsAt, IsNewKey, AddsNodes, with_new, node_in_gap, gap_value, raise_nodes, nodes_cost}
-use Rattle.tsc_page_nodes.specs.KeyAdds.{KeyAddend, IsKeyTold}
+use Rattle.tsc_page_nodes.specs.KeyAdds.{KeyInsertionView, IsKeyTold}
 use Rattle.tsc_page_tree.specs.Leaves.{nodes_of, AreSome, start_of, IsLeafAt}
-use Rattle.tsc_page_tree.specs.Pending.{everything, with_pending, IsToldOf, sizes_of, IsAddTold, joint_after}
+use Rattle.tsc_page_tree.specs.Lazy.{everything, with_lazy, IsToldOf, sizes_of, IsAddTold, joint_after}
 use Rattle.tsc_page_tree.specs.KeyAdds.{at_key, AddsKey, IsKeyAddTold}
 use Rattle.tsc_page_nodes.proofs.CutOrder.{Lt, Le, Lt-not_Le, Le-chain, Le_Lt-chain, Le-from_Lt, before-after}
 use Rattle.tsc_page_nodes.proofs.Costs.{cost-raised}
@@ -23,10 +23,10 @@ use Rattle.tsc_page_nodes.proofs.Edits.{raise_nodes-start}
 use Rattle.tsc_page_nodes.proofs.NewKeys.{with_new_splits}
 use Rattle.tsc_page_tree.proofs.LeafKeys.{wholly_below}
 use Rattle.tsc_page_tree.proofs.LeafAdds.{same_some, start_with}
-use Rattle.tsc_page_tree.proofs.LeafLists.{starts_rise, start_at, ends_high, part_read}
-use Rattle.tsc_page_tree.proofs.Pending.{raised_node, raise_all, raise_pending, pending-start, pending-length, pending-is_in, sorted_without}
+use Rattle.tsc_page_tree.proofs.LeafLists.{starts_rise, start_at, ends_high, subtree_read}
+use Rattle.tsc_page_tree.proofs.Lazy.{raised_node, raise_all, raise_lazy, lazy-start, lazy-length, lazy-is_in, sorted_without}
 use Rattle.tsc_page_tree.proofs.AllJoint.{all_joint_added}
-use Rattle.tsc_page_tree.proofs.PartAdds.{told_in_part}
+use Rattle.tsc_page_tree.proofs.SubtreeAdds.{told_in_subtree}
 
 -- a raised list has the gap before a place raised, where there is one
 gap_raised_at : (v w u : OwnedTime) (ns : List Node) (i : ℕ) → 1 ≤ i → i ≤ length ns →
@@ -62,14 +62,14 @@ falls_behind k ns zero low fits = absurd
     (Le-from_Lt (before k) (after k) (before-after k))))
 falls_behind k ns (suc i) low fits = omega arith
 
--- such a key is as new below what is pending, and its node has that too
-new_pending : (p : Option OwnedTime) (ns : List Node) (k : KeyBytes) (g : Option (ℕ × KeyBytes)) →
+-- such a key is as new below the lazy value, and its node has that too
+new_lazy : (p : Option OwnedTime) (ns : List Node) (k : KeyBytes) (g : Option (ℕ × KeyBytes)) →
     IsSorted ns → Le (start_of ns) (before k) → IsNewKey ns (Some k) g
-    → IsNewKey (with_pending p ns) (Some k) g ×
-    (with_pending p (with_new ns g) ≡ with_new (with_pending p ns) g)
-new_pending None ns k g sorted low new = (new, refl)
-new_pending (Some v) ns k None sorted low new = (pending-is_in (Some v) k ns ∙ new, refl)
-new_pending (Some v) ns k (Some f) sorted low new =
+    → IsNewKey (with_lazy p ns) (Some k) g ×
+    (with_lazy p (with_new ns g) ≡ with_new (with_lazy p ns) g)
+new_lazy None ns k g sorted low new = (new, refl)
+new_lazy (Some v) ns k None sorted low new = (lazy-is_in (Some v) k ns ∙ new, refl)
+new_lazy (Some v) ns k (Some f) sorted low new =
     let i : ℕ = f.0 in
     let w : OwnedTime = gap_value (unowned zero_time) ns i in
     let x : Node = node_in_gap f.1 w in
@@ -80,7 +80,7 @@ new_pending (Some v) ns k (Some f) sorted low new =
       (
         new.0,
         fits_raised k v (before []) ns i new.1,
-        omega (arith, new.2, pending-length (Some v) ns),
+        omega (arith, new.2, lazy-length (Some v) ns),
       ),
       raise_all v (insert ns i x) mid ∙ insert_raised v x ns i new.2
           ∙ ap (λ (u : OwnedTime). insert (map (raised_node v) ns) i (node_in_gap f.1 u))
@@ -89,63 +89,64 @@ new_pending (Some v) ns k (Some f) sorted low new =
           (node_in_gap f.1 (gap_value (unowned zero_time) ms i))) (sym all),
     )
 
--- what is pending changes no costs
-pending_cost : (p : Option OwnedTime) (ns : List Node) →
-    nodes_cost (with_pending p ns) ≡ nodes_cost ns
-pending_cost None ns = refl
-pending_cost (Some v) ns = cost-raised everything v ns
+-- the lazy value changes no costs
+lazy_cost : (p : Option OwnedTime) (ns : List Node) →
+    nodes_cost (with_lazy p ns) ≡ nodes_cost ns
+lazy_cost None ns = refl
+lazy_cost (Some v) ns = cost-raised everything v ns
 
--- What is made of nodes at a key is made of them below what is pending.
-nodes_pending : (p : Option OwnedTime) (old new : List Node) (k : KeyBytes) (v : OwnedTime) →
+-- What is made of nodes at a key is made of them below the lazy value.
+nodes_lazy : (p : Option OwnedTime) (old new : List Node) (k : KeyBytes) (v : OwnedTime) →
     IsSorted old → Le (start_of old) (before k) → AddsNodes old new (Some k) None (point k) v →
-    AddsNodes (with_pending p old) (with_pending p new) (Some k) None (point k) v
-nodes_pending p old new k v sorted low adds =
+    AddsNodes (with_lazy p old) (with_lazy p new) (Some k) None (point k) v
+nodes_lazy p old new k v sorted low adds =
     by adds.made.upper adds.made.has_upper adds.made.has_lower adds.made.nodes
   where
     by : (u : Option (ℕ × KeyBytes)) → IsNewKey old None u → IsNewKey old (Some k) adds.made.lower →
         adds.mid ≡ with_new (with_new old u) adds.made.lower →
-        AddsNodes (with_pending p old) (with_pending p new) (Some k) None (point k) v
+        AddsNodes (with_lazy p old) (with_lazy p new) (Some k) None (point k) v
     by (Some f) none lower nodes = absurd none
     by None none lower nodes =
-        let below = new_pending p old k adds.made.lower sorted low lower in
+        let below = new_lazy p old k adds.made.lower sorted low lower in
         record {
-          mid = with_pending p adds.mid;
+          mid = with_lazy p adds.mid;
           made = record {
             lower = adds.made.lower;
             upper = None;
             has_upper = tt;
             has_lower = below.0;
-            nodes = ap (with_pending p) nodes ∙ below.1;
+            nodes = ap (with_lazy p) nodes ∙ below.1;
           };
-          raised = ap (with_pending p) adds.raised ∙ raise_pending p (point k) v adds.mid;
+          raised = ap (with_lazy p) adds.raised ∙ raise_lazy p (point k) v adds.mid;
         }
 
-pub adds_pending : (p : Option OwnedTime) (old new : List Node) (a : KeyAddend) (room : ℕ)
-    (more : Grown) → IsSorted old → AddsKey old new a room more →
-    AddsKey (with_pending p old) (with_pending p new) a room more
-adds_pending p old new a room more sorted adds = record {
-  low = subst (λ (c : Cut). Le c (before a.key)) (sym (pending-start p old)) adds.low;
+pub adds_lazy : (p : Option OwnedTime) (old new : List Node) (a : KeyInsertionView) (room : ℕ)
+    (more : Growth) → IsSorted old → AddsKey old new a room more →
+    AddsKey (with_lazy p old) (with_lazy p new) a room more
+adds_lazy p old new a room more sorted adds = record {
+  low = subst (λ (c : Cut). Le c (before a.key)) (sym (lazy-start p old)) adds.low;
   some = record {
-    adds = nodes_pending p old new a.key a.value sorted adds.low adds.some.adds;
+    adds = nodes_lazy p old new a.key a.value sorted adds.low adds.some.adds;
     grown = record {
-      count = omega (arith, pending-length p old, pending-length p new, adds.some.grown.count);
-      cost = omega (arith, pending_cost p old, pending_cost p new, adds.some.grown.cost);
+      count = omega (arith, lazy-length p old, lazy-length p new, adds.some.grown.count);
+      cost = omega (arith, lazy_cost p old, lazy_cost p new, adds.some.grown.cost);
     };
     within = adds.some.within;
   };
 }
 
-pub told_pending : {E : Type 0} (p : Option OwnedTime) (old new : List Node) (was now : List ℕ)
-    (a : KeyAddend) (room : ℕ) (r : Result (Option Grown) E) → IsSorted old →
+pub told_lazy : {E : Type 0} (p : Option OwnedTime) (old new : List Node) (was now : List ℕ)
+    (a : KeyInsertionView) (room : ℕ) (r : Result (Option Growth) E) → IsSorted old →
     IsKeyAddTold old new was now a room r →
-    IsKeyAddTold (with_pending p old) (with_pending p new) was now a room r
-told_pending p old new was now a room (Ok (Some more)) sorted told =
-    adds_pending p old new a room more sorted told
-told_pending p old new was now a room (Ok None) sorted told = (ap (with_pending p) told.0, told.1)
-told_pending p old new was now a room (Err e) sorted told = (ap (with_pending p) told.0, told.1)
+    IsKeyAddTold (with_lazy p old) (with_lazy p new) was now a room r
+told_lazy p old new was now a room (Ok (Some more)) sorted told =
+    adds_lazy p old new a room more sorted told
+told_lazy p old new was now a room (Ok None) sorted told = (ap (with_lazy p) told.0, told.1)
+told_lazy p old new was now a room (Err e) sorted told = (ap (with_lazy p) told.0, told.1)
 
 -- where nodes begin that key isn't below them before
-start_kept : (old new : List Node) (a : KeyAddend) (room : ℕ) (more : Grown) → 1 ≤ length old →
+start_kept : (old new : List Node) (a : KeyInsertionView) (room : ℕ) (more : Growth) →
+    1 ≤ length old →
     AddsKey old new a room more → start_of new ≡ start_of old
 start_kept old new a room more some adds =
     by adds.some.adds.made.upper adds.some.adds.made.has_upper adds.some.adds.made.has_lower
@@ -165,22 +166,23 @@ start_kept old new a room more some adds =
         adds.low) some lower
 
 -- What is told of nodes, once an Add at a key below was made.
-pub told_key : {E : Type 0} (r : Result (Option Grown) E) (n : ℕ) (all : OwnedTime)
-    (p : Option OwnedTime) (old new : List Node) (was now : List ℕ) (a : KeyAddend) (room : ℕ) →
-    IsSorted (with_pending p old) → IsKeyAddTold old new was now a room r → IsToldOf n all p old
+pub told_key : {E : Type 0} (r : Result (Option Growth) E) (n : ℕ) (all : OwnedTime)
+    (p : Option OwnedTime) (old new : List Node) (was now : List ℕ)
+    (a : KeyInsertionView) (room : ℕ) →
+    IsSorted (with_lazy p old) → IsKeyAddTold old new was now a room r → IsToldOf n all p old
     → IsToldOf n (joint_after r true a.value all) p new
 told_key (Ok (Some more)) n all p old new was now a room sorted adds told =
     let starts = start_kept old new a room more told.some adds in
-    let above = adds_pending p old new a room more (sorted_without p old sorted) adds in
-    let reached : is_below (start_of (with_pending p new)) (after a.key) ≡ true =
-    Le_Lt-chain (start_of (with_pending p new)) (before a.key) (after a.key)
-    (subst (λ (c : Cut). Le c (before a.key)) (sym (pending-start p new ∙ starts)) adds.low)
+    let above = adds_lazy p old new a room more (sorted_without p old sorted) adds in
+    let reached : is_below (start_of (with_lazy p new)) (after a.key) ≡ true =
+    Le_Lt-chain (start_of (with_lazy p new)) (before a.key) (after a.key)
+    (subst (λ (c : Cut). Le c (before a.key)) (sym (lazy-start p new ∙ starts)) adds.low)
     (before-after a.key) in
-    let joined = all_joint_added (with_pending p old) (with_pending p new) (Some a.key) None
+    let joined = all_joint_added (with_lazy p old) (with_lazy p new) (Some a.key) None
     (before a.key) (after a.key) a.value sorted tt (before-after a.key) above.some.adds in
     record {
       some = omega (arith, told.some, adds.some.grown.count);
-      start = subst (IsCutNumber n) (sym starts) told.start;
+      start = subst (IsCutPrefix n) (sym starts) told.start;
       joint = ap (λ (w : OwnedTime). joint w (a.value ∷ [])) told.joint ∙
           sym (rw reached at joined);
     }
@@ -190,8 +192,9 @@ told_key (Err e) n all p old new was now a room sorted left told =
     subst (IsToldOf n all p) (sym left.0) told
 
 -- what an Add to nodes tells, of a leaf of them
-pub told_leaf : {E : Type 0} (r : Result (Option Grown) E) (old new : List Node) (a : KeyAddend)
-    (room : Grown) → IsKeyTold old new a room r →
+pub told_leaf : {E : Type 0} (r : Result (Option Growth) E) (old new : List Node)
+    (a : KeyInsertionView)
+    (room : Growth) → IsKeyTold old new a room r →
     IsKeyAddTold old new (length old ∷ []) (length new ∷ []) a room.bytes r
 told_leaf (Ok (Some more)) old new a room told =
     record {
@@ -203,8 +206,9 @@ told_leaf (Ok None) old new a room same = (same, ap (λ (ns : List Node). length
 told_leaf (Err e) old new a room same = (same, ap (λ (ns : List Node). length ns ∷ []) same)
 
 -- which has no more than fit
-pub few_in_leaf : {E : Type 0} (r : Result (Option Grown) E) (old new : List Node) (a : KeyAddend)
-    (room : Grown) → 1 ≤ length old → length old ≤ 64 → room.nodes + length old ≤ 64 →
+pub few_in_leaf : {E : Type 0} (r : Result (Option Growth) E) (old new : List Node)
+    (a : KeyInsertionView)
+    (room : Growth) → 1 ≤ length old → length old ≤ 64 → room.nodes + length old ≤ 64 →
     IsKeyTold old new a room r → (1 ≤ length new) × (length new ≤ 64)
 few_in_leaf (Ok (Some more)) old new a room some few fits told =
     (omega (arith, some, told.grown.count), omega (arith, fits, told.grown.count, told.within.0))
@@ -214,22 +218,22 @@ few_in_leaf (Err e) old new a room some few fits same =
     (omega (arith, some, ap length same), omega (arith, few, ap length same))
 
 -- what adds at a key adds within its cuts
-pub told_within : {E : Type 0} (r : Result (Option Grown) E) (old new : List Node)
-    (was now : List ℕ) (a : KeyAddend) (room : ℕ) → IsKeyAddTold old new was now a room r →
+pub told_within : {E : Type 0} (r : Result (Option Growth) E) (old new : List Node)
+    (was now : List ℕ) (a : KeyInsertionView) (room : ℕ) → IsKeyAddTold old new was now a room r →
     IsAddTold old new was now (at_key a) room r
 told_within (Ok (Some more)) old new was now a room told = told.some
 told_within (Ok None) old new was now a room told = told
 told_within (Err e) old new was now a room told = told
 
 -- what such a call tells where it is refused
-pub refused_key : {E : Type 0} (r : Result (Option Grown) E) (old new : List Node)
-    (was now : List ℕ) (a : KeyAddend) (room : ℕ) → IsErr r → new ≡ old → now ≡ was →
+pub refused_key : {E : Type 0} (r : Result (Option Growth) E) (old new : List Node)
+    (was now : List ℕ) (a : KeyInsertionView) (room : ℕ) → IsErr r → new ≡ old → now ≡ was →
     IsKeyAddTold old new was now a room r
 refused_key (Ok d) old new was now a room is nodes sizes = absurd (true≢false (sym is))
 refused_key (Err e) old new was now a room is nodes sizes = (nodes, sizes)
 
--- An Add at a key to the part in which it falls.
-module _ {X : Type 0} (f : X → List Node) (xs : List X) (p : ℕ) (d y : X) (a : KeyAddend)
+-- An Add at a key to the subtree in which it falls.
+module _ {X : Type 0} (f : X → List Node) (xs : List X) (p : ℕ) (d y : X) (a : KeyInsertionView)
     (some : AreSome (map f xs)) (sorted : IsSorted (nodes_of (map f xs))) (inside : p < length xs)
     (at : IsLeafAt (map f xs) (before a.key) p) where
   abbrev behind : List Node
@@ -242,11 +246,11 @@ module _ {X : Type 0} (f : X → List Node) (xs : List X) (p : ℕ) (d y : X) (a
       below_last_key : (k : KeyBytes) → Lt (before k) last
       below_last_key k = refl
 
-  within : (E : Type 0) (s : X → List ℕ) (r : Result (Option Grown) E) (room : ℕ) →
+  within : (E : Type 0) (s : X → List ℕ) (r : Result (Option Growth) E) (room : ℕ) →
       IsAddTold (f (get_or xs p d)) (f y) (s (get_or xs p d)) (s y) (at_key a) room r
       → IsAddTold (nodes_of (map f xs)) (nodes_of (map f (set xs p y))) (sizes_of (map s xs))
       (sizes_of (map s (set xs p y))) (at_key a) room r
-  within E s r room told = told_in_part f xs p d y (at_key a) some sorted inside at
+  within E s r room told = told_in_subtree f xs p d y (at_key a) some sorted inside at
       (before-after a.key) (inl refl) tt tt (Le-from_Lt (after a.key) (start_of behind) below) s r
       room below told
 
@@ -258,16 +262,16 @@ module _ {X : Type 0} (f : X → List Node) (xs : List X) (p : ℕ) (d y : X) (a
       let rise = starts_rise ls some sorted 0 p [] (omega arith) here in
       let first : start_of (nodes_of ls) ≡ start_of (get_or ls 0 []) =
       start_at ls some 0 [] (omega (arith, here)) in
-      let read : f (get_or xs p d) ≡ get_or ls p [] = part_read f xs p d inside in
+      let read : f (get_or xs p d) ≡ get_or ls p [] = subtree_read f xs p d inside in
       subst (λ (c : Cut). Le c (before a.key)) (sym first)
       (Le-chain (start_of (get_or ls 0 [])) (start_of (get_or ls p [])) (before a.key) rise
       (subst (λ (ns : List Node). Le (start_of ns) (before a.key)) read low))
 
-  pub key_in_part : {E : Type 0} (s : X → List ℕ) (r : Result (Option Grown) E) (room : ℕ) →
+  pub key_in_subtree : {E : Type 0} (s : X → List ℕ) (r : Result (Option Growth) E) (room : ℕ) →
       IsKeyAddTold (f (get_or xs p d)) (f y) (s (get_or xs p d)) (s y) a room r
       → IsKeyAddTold (nodes_of (map f xs)) (nodes_of (map f (set xs p y))) (sizes_of (map s xs))
       (sizes_of (map s (set xs p y))) a room r
-  key_in_part {E} s (Ok (Some more)) room told =
+  key_in_subtree {E} s (Ok (Some more)) room told =
       record { low = low_of_all told.low; some = within E s (Ok (Some more)) room told.some }
-  key_in_part {E} s (Ok None) room told = within E s (Ok None) room told
-  key_in_part {E} s (Err e) room told = within E s (Err e) room told
+  key_in_subtree {E} s (Ok None) room told = within E s (Ok None) room told
+  key_in_subtree {E} s (Err e) room told = within E s (Err e) room told

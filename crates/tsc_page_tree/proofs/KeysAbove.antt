@@ -1,4 +1,4 @@
--- The least key above a cut, among parts one after another.
+-- The least key above a cut, among subtrees one after another.
 use Rattle.std.proofs.Common.{◌≡◌, inl, inr, ◌∙◌, refl, sym, ap, subst, ℕ, zero, suc, ◌≤◌, ◌-◌, List, [], ◌∷◌, ◌++◌, length, take, drop, get_or, arith}
 use Rattle.std.proofs.lemmas.Bool.{cases_Bool}
 use Rattle.std.specs.Prelude.{Option, Some, None}
@@ -50,7 +50,7 @@ or_none : (o : Option KeyBytes) → or_next o None ≡ o
 or_none None = refl
 or_none (Some k) = refl
 
--- the nodes behind a part, of which the next part tells
+-- the nodes behind a subtree, of which the next subtree tells
 told_behind : (ls : List (List Node)) (c : Cut) (p : ℕ) → AreSome ls → IsLeafAt ls c p →
     node_above c (nodes_of (drop (suc p) ls)) ≡ node_above c (get_or ls (suc p) [])
 told_behind ls c p sizes at = elim (before_or_past (suc p) (length ls)) [
@@ -74,12 +74,12 @@ told_behind ls c p sizes at = elim (before_or_past (suc p) (length ls)) [
     none_there (m ∷ ms) zero h = absurd (omega arith)
     none_there (m ∷ ms) (suc i) h = none_there ms i (omega arith)
 
--- the part in which a cut falls tells, or else the next one
-pub above_in_part : (ls : List (List Node)) (c : Cut) (p : ℕ) → AreSome ls →
+-- the subtree in which a cut falls tells, or else the next one
+pub above_in_subtree : (ls : List (List Node)) (c : Cut) (p : ℕ) → AreSome ls →
     IsSorted (nodes_of ls) → IsLeafAt ls c p
     → node_above c (nodes_of ls) ≡ or_next (node_above c (get_or ls p []))
     (node_above c (get_or ls (suc p) []))
-above_in_part ls c p sizes sorted at = elim (before_or_past p (length ls)) [
+above_in_subtree ls c p sizes sorted at = elim (before_or_past p (length ls)) [
   | inl h ↦
       ap (node_above c) (parted_at ls p)
       ∙ above-append c (nodes_of (take p ls)) (nodes_of (drop p ls))
@@ -112,7 +112,7 @@ pub found_next : (o first second : Option KeyBytes) → o ≡ or_next first seco
     (r : Option KeyBytes) → r ≡ second → r ≡ o
 found_next o first second is none r next = next ∙ ap (λ f. or_next f second) none ∙ sym is
 
--- what a part tells, by another word for its place
+-- what a subtree tells, by another word for its place
 pub at_place : (c : Cut) (ls : List (List Node)) {i : ℕ} (j : ℕ) (r : Option KeyBytes) →
     r ≡ node_above c (get_or ls i []) → i ≡ j → r ≡ node_above c (get_or ls j [])
 at_place c ls j r told is = told ∙ ap (λ (k : ℕ). node_above c (get_or ls k [])) is

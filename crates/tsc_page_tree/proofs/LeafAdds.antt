@@ -19,7 +19,7 @@ use Rattle.tsc_span.specs.Span.{KeyBytes, key_cmp, Cut, before, after, last, Int
 use Rattle.tsc_span.proofs.CutOrder.{key_cmp_back}
 use Rattle.tsc_page_nodes.specs.PageView.{AreLeafSizes, is_in}
 use Rattle.tsc_page_nodes.specs.Nodes.{Node, node_keys, IsSorted, FitsAt, IsNewKey, IsInOrder, IsSplitAt, MakesNodes, AddsNodes, with_new, node_in_gap, gap_value, raise_nodes}
-use Rattle.tsc_page_nodes.specs.Additions.{LiesAt}
+use Rattle.tsc_page_nodes.specs.Insertions.{LiesAt}
 use Rattle.tsc_page_tree.specs.Leaves.{nodes_of, leaf_sizes, AreLeaves, AreSome, start_of, AddsTo, key_below}
 use Rattle.tsc_page_nodes.proofs.CutOrder.{Lt, Le, Lt-or_Le, Lt-not_Le, Le-chain, Le-from_Lt, Lt-from_Le_sides, none_above_last, before-after}
 use Rattle.tsc_page_nodes.proofs.Edits.{raise_nodes-length, raise_nodes-sorted}

@@ -162,50 +162,51 @@ absent_behind : (k : KeyBytes) (ys : List Node) → IsSorted ys → Lt (after k)
     is_in k (node_keys ys) ≡ false
 absent_behind k ys sorted high = FitsAt-absent k ys 0 (before []) sorted (lowest (before k), high)
 
--- whether a key has a node is told by the part in which it falls
-pub known_in_part : (k : KeyBytes) (xs part ys : List Node) → IsSorted (xs ++ (part ++ ys)) →
-    1 ≤ length part → (xs ≡ []) ⊎ Le (start_of part) (before k) → Lt (after k) (start_of ys)
-    → is_in k (node_keys (xs ++ (part ++ ys))) ≡ is_in k (node_keys part)
-known_in_part k xs part ys sorted some low high =
-    is_in-append k xs (part ++ ys)
-    ∙ ap (λ b. b || is_in k (node_keys (part ++ ys))) none
-    ∙ is_in-append k part ys
-    ∙ ap (λ b. is_in k (node_keys part) || b)
-    (absent_behind k ys (sorted_right part ys (sorted_right xs (part ++ ys) sorted)) high)
-    ∙ or_false (is_in k (node_keys part))
+-- whether a key has a node is told by the subtree in which it falls
+pub known_in_subtree : (k : KeyBytes) (xs subtree ys : List Node) →
+    IsSorted (xs ++ (subtree ++ ys)) →
+    1 ≤ length subtree → (xs ≡ []) ⊎ Le (start_of subtree) (before k) → Lt (after k) (start_of ys)
+    → is_in k (node_keys (xs ++ (subtree ++ ys))) ≡ is_in k (node_keys subtree)
+known_in_subtree k xs subtree ys sorted some low high =
+    is_in-append k xs (subtree ++ ys)
+    ∙ ap (λ b. b || is_in k (node_keys (subtree ++ ys))) none
+    ∙ is_in-append k subtree ys
+    ∙ ap (λ b. is_in k (node_keys subtree) || b)
+    (absent_behind k ys (sorted_right subtree ys (sorted_right xs (subtree ++ ys) sorted)) high)
+    ∙ or_false (is_in k (node_keys subtree))
   where
     or_false : (b : Bool) → (b || false) ≡ b
     or_false true = refl
     or_false false = refl
 
-    start : (part : List Node) → 1 ≤ length part → start_of (part ++ ys) ≡ start_of part
+    start : (subtree : List Node) → 1 ≤ length subtree → start_of (subtree ++ ys) ≡ start_of subtree
     start [] h = absurd (omega arith)
     start (n ∷ ns) h = refl
 
     none : is_in k (node_keys xs) ≡ false
     none = elim low [
       | inl e ↦ ap (λ (ns : List Node). is_in k (node_keys ns)) e
-      | inr l ↦ absent_before k xs (part ++ ys) sorted
-          (subst (λ (c : Cut). Le c (before k)) (sym (start part some)) l)
+      | inr l ↦ absent_before k xs (subtree ++ ys) sorted
+          (subst (λ (c : Cut). Le c (before k)) (sym (start subtree some)) l)
     ]
 
--- a node made in a part is one among all nodes
-pub made_in_part : (k : KeyBytes) (xs part new ys : List Node) → 1 ≤ length part →
-    (xs ≡ []) ⊎ Le (start_of part) (before k) → Lt (after k) (start_of ys)
-    → HasNode part new k → HasNode (xs ++ (part ++ ys)) (xs ++ (new ++ ys)) k
-made_in_part k xs part new ys some low high made = by made.found made.at made.nodes
+-- a node made in a subtree is one among all nodes
+pub made_in_subtree : (k : KeyBytes) (xs subtree new ys : List Node) → 1 ≤ length subtree →
+    (xs ≡ []) ⊎ Le (start_of subtree) (before k) → Lt (after k) (start_of ys)
+    → HasNode subtree new k → HasNode (xs ++ (subtree ++ ys)) (xs ++ (new ++ ys)) k
+made_in_subtree k xs subtree new ys some low high made = by made.found made.at made.nodes
   where
-    by : (f : Option (ℕ × KeyBytes)) → IsNewKey part (Some k) f → new ≡ with_new part f →
-        HasNode (xs ++ (part ++ ys)) (xs ++ (new ++ ys)) k
+    by : (f : Option (ℕ × KeyBytes)) → IsNewKey subtree (Some k) f → new ≡ with_new subtree f →
+        HasNode (xs ++ (subtree ++ ys)) (xs ++ (new ++ ys)) k
     by None at is = record {
       found = None;
-      at = known_within k xs part ys at;
+      at = known_within k xs subtree ys at;
       nodes = ap (λ (ns : List Node). xs ++ (ns ++ ys)) is;
     }
     by (Some f) at is =
-        let there = placed k xs part ys f.0 some low high at.2 at.1 in
-        let same : with_new part (Some f) ≡ with_new part (Some (f.0, k)) =
-        ap (λ (q : KeyBytes). with_new part (Some (f.0, q))) at.0 in
+        let there = placed k xs subtree ys f.0 some low high at.2 at.1 in
+        let same : with_new subtree (Some f) ≡ with_new subtree (Some (f.0, k)) =
+        ap (λ (q : KeyBytes). with_new subtree (Some (f.0, q))) at.0 in
         record {
           found = Some (shift xs f.0, k);
           at = (refl, there.fits, there.bound);

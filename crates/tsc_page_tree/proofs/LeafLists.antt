@@ -6,7 +6,7 @@ use Rattle.std.proofs.lemmas.List.{append_assoc}
 use Rattle.tsc_span.specs.Span.{Cut, before, after, last}
 use Rattle.tsc_page_nodes.specs.PageView.{AreLeafSizes}
 use Rattle.tsc_page_nodes.specs.Nodes.{Node, IsSorted}
-use Rattle.tsc_page_tree.specs.Leaves.{nodes_of, AreSome, AreParts, IsPart, start_of, IsLeafAt}
+use Rattle.tsc_page_tree.specs.Leaves.{nodes_of, AreSome, AreSubtrees, IsSubtree, start_of, IsLeafAt}
 use Rattle.tsc_page_nodes.proofs.CutOrder.{Lt, Le, Le-from_Lt, Le-itself, Lt-chain, Le-chain, Le_Lt-chain, before-after}
 use Rattle.tsc_page_nodes.proofs.Cuts.{lowest}
 use Rattle.tsc_page_nodes.proofs.Places.{before_or_past}
@@ -166,7 +166,7 @@ stands_around ls p c sizes sorted inside below at = record {
     whole = parted_at ls p ∙ ap (λ (ns : List Node). nodes_of (take p ls) ++ ns)
         (leaf_first ls p [] inside)
 
--- parts that are whole have nodes
+-- subtrees that are whole have nodes
 pub all_some : {X : Type 0} (f : X → List Node) (Q : X → Type 0) (xs : List X) →
     ((x : X) → Q x → 1 ≤ length (f x)) → All Q xs → AreSome (map f xs)
 all_some f Q [] some all = tt
@@ -175,12 +175,12 @@ all_some f Q (x ∷ xs) some all = (
   all_some f Q xs some (λ i d h. all (suc i) d (omega arith)),
 )
 
--- a part, wherever it is read
-pub part_read : {X : Type 0} (f : X → List Node) (xs : List X) (i : ℕ) (d : X) → i < length xs →
+-- a subtree, wherever it is read
+pub subtree_read : {X : Type 0} (f : X → List Node) (xs : List X) (i : ℕ) (d : X) → i < length xs →
     f (get_or xs i d) ≡ get_or (map f xs) i []
-part_read f [] i d h = absurd (omega arith)
-part_read f (x ∷ xs) zero d h = refl
-part_read f (x ∷ xs) (suc i) d h = part_read f xs i d (omega arith)
+subtree_read f [] i d h = absurd (omega arith)
+subtree_read f (x ∷ xs) zero d h = refl
+subtree_read f (x ∷ xs) (suc i) d h = subtree_read f xs i d (omega arith)
 
 -- what holds of all holds of them with another in a place
 pub all_set : {X : Type 0} (Q : X → Type 0) (xs : List X) (p : ℕ) (y : X) → All Q xs → Q y →
@@ -203,23 +203,26 @@ all_insert Q (x ∷ xs) (suc p) y few all at (suc i) d h =
     all_insert Q xs p y (omega (arith, few)) (λ j e g. all (suc j) e (omega arith)) at i d
     (omega (arith, h))
 
--- each of parts in order is in order
-pub part_sorted : {X : Type 0} (f : X → List Node) (Q : X → Type 0) (xs : List X) (p : ℕ) (d : X) →
-    p < length xs → AreParts f Q xs → IsSorted (f (get_or xs p d))
-part_sorted f Q [] p d inside parts = absurd (omega (arith, inside))
-part_sorted f Q (x ∷ xs) zero d inside parts = sorted_left (f x) (nodes_of (map f xs)) parts.sorted
-part_sorted f Q (x ∷ xs) (suc p) d inside parts =
-    part_sorted f Q xs p d (omega (arith, inside))
+-- each of subtrees in order is in order
+pub subtree_sorted : {X : Type 0} (f : X → List Node) (Q : X → Type 0) (xs : List X)
+    (p : ℕ) (d : X) →
+    p < length xs → AreSubtrees f Q xs → IsSorted (f (get_or xs p d))
+subtree_sorted f Q [] p d inside subtrees = absurd (omega (arith, inside))
+subtree_sorted f Q (x ∷ xs) zero d inside subtrees = sorted_left (f x) (nodes_of (map f xs))
+    subtrees.sorted
+subtree_sorted f Q (x ∷ xs) (suc p) d inside subtrees =
+    subtree_sorted f Q xs p d (omega (arith, inside))
     (record {
-      whole = λ i e h. parts.whole (suc i) e (omega (arith, h));
-      sorted = sorted_right (f x) (nodes_of (map f xs)) parts.sorted;
+      whole = λ i e h. subtrees.whole (suc i) e (omega (arith, h));
+      sorted = sorted_right (f x) (nodes_of (map f xs)) subtrees.sorted;
     })
 
-pub is_part : {X : Type 0} (f : X → List Node) (Q : X → Type 0) (xs : List X) (p : ℕ) (d : X) →
-    p < length xs → AreParts f Q xs → IsPart f Q (get_or xs p d)
-is_part f Q xs p d inside parts =
-    record { whole = parts.whole p d inside; sorted = part_sorted f Q xs p d inside parts }
+pub is_subtree : {X : Type 0} (f : X → List Node) (Q : X → Type 0) (xs : List X) (p : ℕ) (d : X) →
+    p < length xs → AreSubtrees f Q xs → IsSubtree f Q (get_or xs p d)
+is_subtree f Q xs p d inside subtrees =
+    record { whole = subtrees.whole p d inside; sorted = subtree_sorted f Q xs p d inside subtrees }
 
-pub read_part : {X : Type 0} (f : X → List Node) (Q : X → Type 0) (xs : List X) (p : ℕ) (x : X) →
-    p < length xs → x ≡ get_or xs p x → AreParts f Q xs → IsPart f Q x
-read_part f Q xs p x inside is parts = subst (IsPart f Q) (sym is) (is_part f Q xs p x inside parts)
+pub read_subtree : {X : Type 0} (f : X → List Node) (Q : X → Type 0) (xs : List X) (p : ℕ) (x : X) →
+    p < length xs → x ≡ get_or xs p x → AreSubtrees f Q xs → IsSubtree f Q x
+read_subtree f Q xs p x inside is subtrees = subst (IsSubtree f Q) (sym is) (is_subtree f Q xs p x
+    inside subtrees)

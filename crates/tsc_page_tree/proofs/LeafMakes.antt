@@ -1,25 +1,26 @@
--- A node made in a part, of which what lies behind may be cut off.
+-- A node made in a subtree, of which what lies behind may be cut off.
 use Rattle.std.proofs.Common.{◌≡◌, ◌∙◌, refl, sym, ap, subst, ℕ, zero, suc, ◌<◌, List, [], ◌∷◌, ◌++◌, length, map, take, drop, get_or, set, arith}
 use Rattle.std.specs.List.{insert}
 use Rattle.std.proofs.lemmas.List.{append_assoc, length-map, map-set}
 use Rattle.tsc_span.specs.Span.{KeyBytes, before}
 use Rattle.tsc_page_nodes.specs.Nodes.{Node, IsSorted}
 use Rattle.tsc_page_tree.specs.Leaves.{nodes_of, AreSome, IsLeafAt, HasNode}
-use Rattle.tsc_page_tree.proofs.LeafLists.{StandsAround, stands_around, leaf_set, part_read}
-use Rattle.tsc_page_tree.proofs.LeafKeys.{wholly_below, made_in_part}
+use Rattle.tsc_page_tree.proofs.LeafLists.{StandsAround, stands_around, leaf_set, subtree_read}
+use Rattle.tsc_page_tree.proofs.LeafKeys.{wholly_below, made_in_subtree}
 
 pub append_nil : (ns : List Node) → ns ++ [] ≡ ns
 append_nil [] = refl
 append_nil (n ∷ ns) = ap (λ (ms : List Node). n ∷ ms) (append_nil ns)
 
--- a part in another's place, and one behind it
-part_cut : (ls : List (List Node)) (p : ℕ) (a u : List Node) → p < length ls →
+-- a subtree in another's place, and one behind it
+subtree_cut : (ls : List (List Node)) (p : ℕ) (a u : List Node) → p < length ls →
     nodes_of (insert (set ls p a) (suc p) u) ≡ nodes_of (take p ls) ++
     ((a ++ (u ++ [])) ++ nodes_of (drop (suc p) ls))
-part_cut [] p a u h = absurd (omega arith)
-part_cut (m ∷ ls) zero a u h = sym (append_assoc a u (nodes_of ls)) ∙
+subtree_cut [] p a u h = absurd (omega arith)
+subtree_cut (m ∷ ls) zero a u h = sym (append_assoc a u (nodes_of ls)) ∙
     ap (λ (ns : List Node). (a ++ ns) ++ nodes_of ls) (sym (append_nil u))
-part_cut (m ∷ ls) (suc p) a u h = ap (λ (ns : List Node). m ++ ns) (part_cut ls p a u (omega arith))
+subtree_cut (m ∷ ls) (suc p) a u h = ap (λ (ns : List Node). m ++ ns) (subtree_cut ls p a u
+    (omega arith))
     ∙ sym (append_assoc m (nodes_of (take p ls)) ((a ++ (u ++ [])) ++ nodes_of (drop (suc p) ls)))
 
 pub map_insert : {X : Type 0} (f : X → List Node) (xs : List X) (i : ℕ) (x : X) →
@@ -42,9 +43,9 @@ module _ {X : Type 0} (f : X → List Node) (xs : List X) (p : ℕ) (d y : X) (k
       HasNode (nodes_of ls) (nodes_of (take p ls) ++ (new ++ nodes_of (drop (suc p) ls))) k
   made_among new made = subst (λ (ns : List Node). HasNode ns
       (nodes_of (take p ls) ++ (new ++ nodes_of (drop (suc p) ls))) k) (sym around.whole)
-      (made_in_part k (nodes_of (take p ls)) (get_or ls p []) new (nodes_of (drop (suc p) ls))
+      (made_in_subtree k (nodes_of (take p ls)) (get_or ls p []) new (nodes_of (drop (suc p) ls))
       around.some around.low (wholly_below k (nodes_of (drop (suc p) ls)) around.high)
-      (subst (λ (l : List Node). HasNode l new k) (part_read f xs p d inside) made))
+      (subst (λ (l : List Node). HasNode l new k) (subtree_read f xs p d inside) made))
 
   pub made_whole : HasNode (f (get_or xs p d)) (f y ++ []) k →
       HasNode (nodes_of ls) (nodes_of (map f (set xs p y))) k
@@ -61,5 +62,5 @@ module _ {X : Type 0} (f : X → List Node) (xs : List X) (p : ℕ) (d y : X) (k
       (sym (ap (λ (ms : List (List Node)). nodes_of ms)
       (map_insert f (set xs p y) (suc p) u ∙
       ap (λ (ms : List (List Node)). insert ms (suc p) (f u)) (map-set f xs p y)) ∙
-      part_cut ls p (f y) (f u) (omega (arith, inside, length-map xs f))))
+      subtree_cut ls p (f y) (f u) (omega (arith, inside, length-map xs f))))
       (made_among (f y ++ (f u ++ [])) made)

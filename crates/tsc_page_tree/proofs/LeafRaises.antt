@@ -9,7 +9,7 @@ use Rattle.tsc_page_nodes.proofs.CutOrder.{Lt, Le, Le_Lt-chain}
 use Rattle.tsc_page_nodes.proofs.Cuts.{lowest}
 use Rattle.tsc_page_nodes.proofs.Edits.{raise_nodes-length}
 use Rattle.tsc_page_tree.proofs.Joins.{raises_left, raises_right, raises_both, up_to_last}
-use Rattle.tsc_page_tree.proofs.LeafLists.{parted_at, leaf_first, leaf_set, sorted_from, starts_low, ends_high, lowest_below, part_read}
+use Rattle.tsc_page_tree.proofs.LeafLists.{parted_at, leaf_first, leaf_set, sorted_from, starts_low, ends_high, lowest_below, subtree_read}
 
 -- The leaves before a place are raised, and those from there on are as before.
 pub record RaisesSoFar (old now : List (List Node)) (from to low : Cut) (v : OwnedTime) (p : ℕ) :
@@ -169,10 +169,10 @@ raises_end old now from to low v p h so_far =
     none_left zero (l ∷ ls) g = absurd (omega arith)
     none_left (suc q) (l ∷ ls) g = none_left q ls (omega arith)
 
--- another part in a place, which is the one there raised
-pub raised_part : {X : Type 0} (f : X → List Node) (xs : List X) (p : ℕ) (d y : X) (s : Interval)
+-- another subtree in a place, which is the one there raised
+pub raised_subtree : {X : Type 0} (f : X → List Node) (xs : List X) (p : ℕ) (d y : X) (s : Interval)
     (v : OwnedTime) → p < length xs → f y ≡ raise_nodes s v (f (get_or xs p d)) →
     map f (set xs p y) ≡ set (map f xs) p (raise_nodes s v (get_or (map f xs) p []))
-raised_part f xs p d y s v inside is = map-set f xs p y ∙
+raised_subtree f xs p d y s v inside is = map-set f xs p y ∙
     ap (λ (l : List Node). set (map f xs) p l)
-    (is ∙ ap (raise_nodes s v) (part_read f xs p d inside))
+    (is ∙ ap (raise_nodes s v) (subtree_read f xs p d inside))

@@ -1,4 +1,4 @@
--- Parts of two lists, of which a span starts in one and stops in the other.
+-- Subtrees of two lists, of which a span starts in one and stops in the other.
 use Rattle.std.proofs.Common.{◌≡◌, inl, inr, ◌∙◌, sym, ap, subst, Bool, true, false, cond, ℕ, suc, ◌<◌, List, [], ◌∷◌, length, drop, get_or, arith}
 use mathlib.Core.Bool.{true≢false}
 use Rattle.std.specs.Prelude.{Option, Some, None}
@@ -6,10 +6,10 @@ use Rattle.tsc_time.specs.OwnedTime.{OwnedTime}
 use Rattle.tsc_time.specs.Joint.{joint}
 use Rattle.tsc_span.specs.Span.{KeyBytes, Cut, before, last, between, is_below}
 use Rattle.tsc_page_nodes.specs.Nodes.{Node, IsSorted, raise_nodes}
-use Rattle.tsc_page_nodes.specs.Numbers.{IsCutNumber}
-use Rattle.tsc_page_nodes.specs.Additions.{Addend}
+use Rattle.tsc_page_nodes.specs.Prefixes.{IsCutPrefix}
+use Rattle.tsc_page_nodes.specs.Insertions.{InsertionView}
 use Rattle.tsc_page_tree.specs.Leaves.{nodes_of, start_of, AreSome}
-use Rattle.tsc_page_tree.specs.Pending.{with_pending, all_joint, IsToldOf}
+use Rattle.tsc_page_tree.specs.Lazy.{with_lazy, all_joint, IsToldOf}
 use Rattle.tsc_page_tree.specs.Across.{HasKey, IsAcrossTold}
 use Rattle.tsc_page_nodes.proofs.CutOrder.{Lt, Le, Lt-not_Le, Le_Lt-chain, none_above_last}
 use Rattle.tsc_page_nodes.proofs.Cuts.{lowest}
@@ -18,14 +18,14 @@ use Rattle.std.proofs.lemmas.Bool.{cases_Bool}
 use Rattle.tsc_page_tree.proofs.Joins.{up_to_last}
 use Rattle.tsc_page_tree.proofs.LeafLists.{starts_rise, start_at, start_past}
 use Rattle.tsc_page_nodes.proofs.Places.{before_or_past}
-use Rattle.tsc_page_tree.proofs.Pending.{raise_pending, pending-start, pending-is_in}
+use Rattle.tsc_page_tree.proofs.Lazy.{raise_lazy, lazy-start, lazy-is_in}
 use Rattle.tsc_page_tree.proofs.AllJoint.{all_joint_kept, starts_below_last}
 use Rattle.tsc_page_tree.proofs.Told.{told_some}
-use Rattle.tsc_page_tree.proofs.PartAcross.{told_reached}
+use Rattle.tsc_page_tree.proofs.SubtreeAcross.{told_reached}
 
--- what is told of nodes that are raised below what is pending
+-- what is told of nodes that are raised below the lazy value
 pub told_raised_below : (n : ℕ) (all v : OwnedTime) (p : Option OwnedTime) (f t : Cut)
-    (ns : List Node) (b : Bool) → IsSorted (with_pending p ns) → Lt f t →
+    (ns : List Node) (b : Bool) → IsSorted (with_lazy p ns) → Lt f t →
     b ≡ is_below (start_of (raise_nodes (between f t) v ns)) t → IsToldOf n all p ns
     → IsToldOf n (cond b (joint all (v ∷ [])) all) p (raise_nodes (between f t) v ns)
 told_raised_below n all v p f t ns b sorted up reached told =
@@ -33,59 +33,59 @@ told_raised_below n all v p f t ns b sorted up reached told =
       | inl h ↦ subst (λ (q : Bool). IsToldOf n (cond q (joint all (v ∷ [])) all) p
           (raise_nodes (between f t) v ns)) (sym (same ∙ h))
           (told_reached n all v p f t ns sorted up
-          (subst (λ (c : Cut). Lt c t) (sym (pending-start p ns)) h) told)
+          (subst (λ (c : Cut). Lt c t) (sym (lazy-start p ns)) h) told)
       | inr h ↦ subst (λ (q : Bool). IsToldOf n (cond q (joint all (v ∷ [])) all) p
           (raise_nodes (between f t) v ns)) (sym (same ∙ h)) (record {
             some = omega (arith, told.some, raise_nodes-length (between f t) v ns);
-            start = subst (IsCutNumber n) (sym (raise_nodes-start (between f t) v ns)) told.start;
+            start = subst (IsCutPrefix n) (sym (raise_nodes-start (between f t) v ns)) told.start;
             joint = told.joint ∙ sym (ap (λ (ms : List Node). all_joint ms)
-                (raise_pending p (between f t) v ns) ∙
-                all_joint_kept f t v (with_pending p ns) sorted
-                (subst (λ (c : Cut). Le t c) (sym (pending-start p ns)) h));
+                (raise_lazy p (between f t) v ns) ∙
+                all_joint_kept f t v (with_lazy p ns) sorted
+                (subst (λ (c : Cut). Le t c) (sym (lazy-start p ns)) h));
           })
     ]
   where
     same : b ≡ is_below (start_of ns) t
     same = reached ∙ ap (λ (c : Cut). is_below c t) (raise_nodes-start (between f t) v ns)
 
--- a key has a node whatever is pending
-pub has_pending : (o : Option KeyBytes) (p : Option OwnedTime) (ns : List Node) → HasKey o ns →
-    HasKey o (with_pending p ns)
-has_pending None p ns has = tt
-has_pending (Some k) p ns has = pending-is_in p k ns ∙ has
+-- a key has a node whatever the lazy value is
+pub has_lazy : (o : Option KeyBytes) (p : Option OwnedTime) (ns : List Node) → HasKey o ns →
+    HasKey o (with_lazy p ns)
+has_lazy None p ns has = tt
+has_lazy (Some k) p ns has = lazy-is_in p k ns ∙ has
 
--- what is raised across stays so below what is pending
-pub across_pending : (b : Bool) (low new_low high new_high : List Node) (a : Addend)
+-- what is raised across stays so below the lazy value
+pub across_lazy : (b : Bool) (low new_low high new_high : List Node) (a : InsertionView)
     (p q : Option OwnedTime) → IsAcrossTold low new_low high new_high a b →
-    IsAcrossTold (with_pending p low) (with_pending p new_low) (with_pending q high)
-    (with_pending q new_high) a b
-across_pending true low new_low high new_high a p q told = record {
-  first = has_pending a.first p low told.first;
-  second = has_pending a.second q high told.second;
-  raised_low = ap (with_pending p) told.raised_low ∙
-      raise_pending p (between a.from last) a.value low;
-  raised_high = ap (with_pending q) told.raised_high ∙
-      raise_pending q (between (before []) a.to) a.value high;
+    IsAcrossTold (with_lazy p low) (with_lazy p new_low) (with_lazy q high)
+    (with_lazy q new_high) a b
+across_lazy true low new_low high new_high a p q told = record {
+  first = has_lazy a.first p low told.first;
+  second = has_lazy a.second q high told.second;
+  raised_low = ap (with_lazy p) told.raised_low ∙
+      raise_lazy p (between a.from last) a.value low;
+  raised_high = ap (with_lazy q) told.raised_high ∙
+      raise_lazy q (between (before []) a.to) a.value high;
 }
-across_pending false low new_low high new_high a p q told =
-    (ap (with_pending p) told.0, ap (with_pending q) told.1)
+across_lazy false low new_low high new_high a p q told =
+    (ap (with_lazy p) told.0, ap (with_lazy q) told.1)
 
 -- and what is told of the lower one
 pub told_across_low : (b : Bool) (n : ℕ) (all : OwnedTime) (low new_low high new_high : List Node)
-    (a : Addend) (p : Option OwnedTime) → IsSorted (with_pending p low) → Lt a.from a.to →
+    (a : InsertionView) (p : Option OwnedTime) → IsSorted (with_lazy p low) → Lt a.from a.to →
     IsAcrossTold low new_low high new_high a b → IsToldOf n all p low
     → IsToldOf n (cond b (joint all (a.value ∷ [])) all) p new_low
 told_across_low true n all low new_low high new_high a p sorted up across told =
     subst (λ (ns : List Node). IsToldOf n (joint all (a.value ∷ [])) p ns) (sym across.raised_low)
     (told_reached n all a.value p a.from last low sorted (up_to_last a.from a.to up)
-    (starts_below_last (with_pending p low) (told_some n all p low told)) told)
+    (starts_below_last (with_lazy p low) (told_some n all p low told)) told)
 told_across_low false n all low new_low high new_high a p sorted up across told =
     subst (λ (ns : List Node). IsToldOf n all p ns) (sym across.0) told
 
 -- and of the upper one
 pub told_across_high : (b : Bool) (n : ℕ) (all : OwnedTime) (low new_low high new_high : List Node)
-    (a : Addend) (p : Option OwnedTime) → IsSorted (with_pending p high) → Lt a.from a.to →
-    Lt (start_of (with_pending p high)) a.to → IsAcrossTold low new_low high new_high a b →
+    (a : InsertionView) (p : Option OwnedTime) → IsSorted (with_lazy p high) → Lt a.from a.to →
+    Lt (start_of (with_lazy p high)) a.to → IsAcrossTold low new_low high new_high a b →
     IsToldOf n all p high
     → IsToldOf n (cond b (joint all (a.value ∷ [])) all) p new_high
 told_across_high true n all low new_low high new_high a p sorted up reaches across told =
@@ -96,7 +96,7 @@ told_across_high false n all low new_low high new_high a p sorted up reaches acr
     subst (λ (ns : List Node). IsToldOf n all p ns) (sym across.1) told
 
 -- what both become holds as many nodes
-pub long_across : (b : Bool) (low new_low high new_high : List Node) (a : Addend) →
+pub long_across : (b : Bool) (low new_low high new_high : List Node) (a : InsertionView) →
     IsAcrossTold low new_low high new_high a b → (length new_low ≡ length low) ×
     (length new_high ≡ length high)
 long_across true low new_low high new_high a across = (
@@ -105,7 +105,7 @@ long_across true low new_low high new_high a across = (
 )
 long_across false low new_low high new_high a across = (ap length across.0, ap length across.1)
 
--- the last part that is reached comes behind one that the span goes on beyond
+-- the last subtree that is reached comes behind one that the span goes on beyond
 pub later_reached : (ls : List (List Node)) (t : Cut) (p q : ℕ) → AreSome ls →
     IsSorted (nodes_of ls) → is_below (start_of (nodes_of (drop (suc p) ls))) t ≡ true →
     is_below (start_of (nodes_of (drop (suc q) ls))) t ≡ false → p < q

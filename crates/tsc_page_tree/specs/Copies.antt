@@ -1,23 +1,23 @@
--- What parts have in common with their copies, and with what they are once values were raised in
+-- What subtrees have in common with their copies, and with what they are once values were raised in
 -- them.
 use Rattle.std.specs.Prelude.{◌≡◌, ℕ, List, length, map}
 use Rattle.std.specs.List.{All}
 use Rattle.tsc_page_nodes.specs.Nodes.{Node}
 
--- A part stands for the same as another one.
+-- A subtree stands for the same as another one.
 pub record IsSameAs {P : Type 0} (nodes_in : P → List Node) (sizes_in : P → List ℕ)
     (IsWhole : P → Type 0) (p q : P) : Type 0 where
   pub nodes : nodes_in q ≡ nodes_in p
   pub sizes : sizes_in q ≡ sizes_in p
   pub whole : IsWhole p → IsWhole q
 
--- A part is whole, and its leaves have as many nodes as before.
+-- A subtree is whole, and its leaves have as many nodes as before.
 pub record KeepsSizes {P : Type 0} (sizes_in : P → List ℕ) (IsWhole : P → Type 0) (old new : P) :
     Type 0 where
   pub sizes : sizes_in new ≡ sizes_in old
   pub whole : IsWhole new
 
--- Parts are whole and as many as before, and so are the nodes of each leaf.
+-- Subtrees are whole and as many as before, and so are the nodes of each leaf.
 pub record AllKeepSizes {P : Type 0} (sizes_in : P → List ℕ) (IsWhole : P → Type 0)
     (old new : List P) : Type 0 where
   pub sizes : map sizes_in new ≡ map sizes_in old

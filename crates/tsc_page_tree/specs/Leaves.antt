@@ -20,21 +20,24 @@ abbrev pub AreSome : List (List Node) → Type 0
 AreSome [] = Unit {0}
 AreSome (l ∷ ls) = (1 ≤ length l) × AreSome ls
 
--- Parts that are as they have to be, one by one and in the order of their keys.
-pub record AreParts {X : Type 0} (nodes : X → List Node) (IsWhole : X → Type 0) (xs : List X) : Type
+-- Subtrees that are as they have to be, one by one and in the order of their keys.
+pub record AreSubtrees {X : Type 0} (nodes : X → List Node) (IsWhole : X → Type 0) (xs : List X) :
+    Type
     0 where
   pub whole : All IsWhole xs
   pub sorted : IsSorted (nodes_of (map nodes xs))
 
--- A part that is as it has to be, with its nodes in the order of their keys.
-pub record IsPart {X : Type 0} (nodes : X → List Node) (IsWhole : X → Type 0) (x : X) : Type 0 where
+-- A subtree that is as it has to be, with its nodes in the order of their keys.
+pub record IsSubtree {X : Type 0} (nodes : X → List Node) (IsWhole : X → Type 0) (x : X) :
+    Type 0 where
   pub whole : IsWhole x
   pub sorted : IsSorted (nodes x)
 
--- Parts in order, of which there are some.
-pub record AreSomeParts {X : Type 0} (nodes : X → List Node) (IsWhole : X → Type 0) (xs : List X) :
+-- Subtrees in order, of which there are some.
+pub record AreSomeSubtrees {X : Type 0} (nodes : X → List Node) (IsWhole : X → Type 0)
+    (xs : List X) :
     Type 0 where
-  pub parts : AreParts nodes IsWhole xs
+  pub subtrees : AreSubtrees nodes IsWhole xs
   pub some : 1 ≤ length xs
 
 -- how many nodes a leaf has
@@ -63,7 +66,7 @@ pub record IsLeafAt (ls : List (List Node)) (c : Cut) (p : ℕ) : Type 0 where
   pub low : 1 ≤ p → is_below c (start_of (slice_index_or ls p [])) ≡ false
   pub high : suc p < length ls → is_below c (start_of (slice_index_or ls (suc p) [])) ≡ true
 
--- What starts at a cut, in the part at a place, and stops at another cut behind that part.
+-- What starts at a cut, in the subtree at a place, and stops at another cut behind that subtree.
 pub record GoesBeyond {X : Type 0} (nodes : X → List Node) (xs : List X) (from to : Cut) (p : ℕ) :
     Type 0 where
   pub bound : p < length xs

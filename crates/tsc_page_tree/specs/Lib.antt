@@ -1,5 +1,5 @@
 pub mod Leaves
-pub mod Pending
+pub mod Lazy
 pub mod Copies
 pub mod Across
 pub mod Trees
@@ -10,5 +10,5 @@ pub use Rattle.tsc_span.specs.Span
 pub use Rattle.tsc_page_nodes.specs.Page
 pub use Rattle.tsc_page_nodes.specs.PageView
 pub use Rattle.tsc_page_nodes.specs.Nodes
-pub use Rattle.tsc_page_nodes.specs.Numbers
+pub use Rattle.tsc_page_nodes.specs.Prefixes
 pub use Rattle.tsc_page_nodes.specs.KeysAbove

@@ -1,31 +1,37 @@
 ghost use Rattle.std.specs.Prelude.{◌≡◌, ◌≤◌, map, length, true, if◌then◌else◌};
 ghost use Rattle.tsc_span.specs.Span.{is_below};
-ghost use Rattle.tsc_page_nodes.specs.Additions.{before_second};
-ghost use Rattle.tsc_page_tree.specs.Leaves.{AreParts, AreSomeParts, GoesBeyond, IsPart, nodes_of, start_of};
+ghost use Rattle.tsc_page_nodes.specs.Insertions.{before_second};
+ghost use Rattle.tsc_page_tree.specs.Leaves.{AreSubtrees, AreSomeSubtrees, GoesBeyond, IsSubtree, nodes_of, start_of};
 ghost use Rattle.tsc_page_tree.specs.Copies.{KeepsSizes, AllKeepSizes};
 ghost use Rattle.tsc_page_tree.specs.Across.{IsAcrossTold, IsLastReached, RaisesOver};
 
-use crate::parts::{Part, part_at, raise_all, stops_at_next};
-use tsc_page_nodes::{Addition, PrefixedCut};
+use crate::subtrees::{Subtree, raise_all, stops_at_next, subtree_at};
+use tsc_page_nodes::{PrefixedCut, PrefixedInsertion};
 
-/// The last part that a span reaches which stops at a cut, or the first one.
-fn last_reached<P: Part>(parts: &[P], to: &PrefixedCut<'_>) -> usize
-    requires parts { AreParts P.nodes P.IsWhole parts.now }
-    requires some { 1 ≤ length parts.now }
-    ensures { IsLastReached (map P.nodes parts.now) to.now result }
+/// The last subtree that a span reaches which stops at a cut, or the first one.
+fn last_reached<P: Subtree>(subtrees: &[P], to: &PrefixedCut<'_>) -> usize
+    requires subtrees { AreSubtrees P.nodes P.IsWhole subtrees.now }
+    requires some { 1 ≤ length subtrees.now }
+    ensures { IsLastReached (map P.nodes subtrees.now) to.now result }
 {
-    let place = part_at(parts, to);
-    if place > 0 && !parts[place].starts_below(to) {
+    let place = subtree_at(subtrees, to);
+    if place > 0 && !subtrees[place].starts_below(to) {
         place - 1
     } else {
         place
     }
 }
 
-/// Raises over two parts, where what stops right behind the second one keeps its end key from it.
-fn raise_ends<P: Part>(low: &mut P, high: &mut P, add: &Addition<'_>, stops: bool) -> bool
-    requires low { IsPart P.nodes P.IsWhole low.old }
-    requires high { IsPart P.nodes P.IsWhole high.old }
+/// Raises over two subtrees, where what stops right behind the second one keeps its end key from
+/// it.
+fn raise_ends<P: Subtree>(
+    low: &mut P,
+    high: &mut P,
+    add: &PrefixedInsertion<'_>,
+    stops: bool,
+) -> bool
+    requires low { IsSubtree P.nodes P.IsWhole low.old }
+    requires high { IsSubtree P.nodes P.IsWhole high.old }
     requires reaches { is_below (start_of (P.nodes high.old)) add.now.to ≡ true }
     ensures told { IsAcrossTold (P.nodes low.old) (P.nodes low.new) (P.nodes high.old)
         (P.nodes high.new) (if stops then before_second add.now else add.now) result }
@@ -39,19 +45,23 @@ fn raise_ends<P: Part>(low: &mut P, high: &mut P, add: &Addition<'_>, stops: boo
     }
 }
 
-/// Ratchets a value in place over two lists of parts: from the part of the first one in which the
-/// span starts up to that of the second one in which it stops. Says whether it did, as
-/// [`Part::raise_across`]; else nothing changes.
-pub(crate) fn raise_two<P: Part>(low: &mut [P], high: &mut [P], add: &Addition<'_>) -> bool
-    requires low { AreSomeParts P.nodes P.IsWhole low.old }
-    requires high { AreSomeParts P.nodes P.IsWhole high.old }
+/// Ratchets a value in place over two lists of subtrees: from the subtree of the first one in which
+/// the span starts up to that of the second one in which it stops. Says whether it did, as
+/// [`Subtree::raise_across`]; else nothing changes.
+pub(crate) fn raise_two<P: Subtree>(
+    low: &mut [P],
+    high: &mut [P],
+    add: &PrefixedInsertion<'_>,
+) -> bool
+    requires low { AreSomeSubtrees P.nodes P.IsWhole low.old }
+    requires high { AreSomeSubtrees P.nodes P.IsWhole high.old }
     requires reaches { is_below (start_of (nodes_of (map P.nodes high.old))) add.now.to ≡ true }
     ensures told { IsAcrossTold (nodes_of (map P.nodes low.old)) (nodes_of (map P.nodes low.new))
         (nodes_of (map P.nodes high.old)) (nodes_of (map P.nodes high.new)) add.now result }
     ensures low { AllKeepSizes P.sizes P.IsWhole low.old low.new }
     ensures high { AllKeepSizes P.sizes P.IsWhole high.old high.new }
 {
-    let first = part_at(low, add.from);
+    let first = subtree_at(low, add.from);
     let last = last_reached(high, add.to);
     let stops = stops_at_next(high, last, add.to);
     let (below, mid) = low.split_at_mut(first + 1);
@@ -64,18 +74,23 @@ pub(crate) fn raise_two<P: Part>(low: &mut [P], high: &mut [P], add: &Addition<'
     true
 }
 
-/// Ratchets a value in place over several parts of one list, from the one in which the span starts.
-/// Says whether it did, as [`Part::raise_across`]; else nothing changes.
-pub(crate) fn raise_over<P: Part>(parts: &mut [P], first: usize, add: &Addition<'_>) -> bool
-    requires parts { AreParts P.nodes P.IsWhole parts.old }
-    requires goes { GoesBeyond P.nodes parts.old add.now.from add.now.to first }
-    ensures told { RaisesOver (nodes_of (map P.nodes parts.old)) (nodes_of (map P.nodes parts.new))
+/// Ratchets a value in place over several subtrees of one list, from the one in which the span
+/// starts. Says whether it did, as [`Subtree::raise_across`]; else nothing changes.
+pub(crate) fn raise_over<P: Subtree>(
+    subtrees: &mut [P],
+    first: usize,
+    add: &PrefixedInsertion<'_>,
+) -> bool
+    requires subtrees { AreSubtrees P.nodes P.IsWhole subtrees.old }
+    requires goes { GoesBeyond P.nodes subtrees.old add.now.from add.now.to first }
+    ensures told { RaisesOver (nodes_of (map P.nodes subtrees.old))
+        (nodes_of (map P.nodes subtrees.new))
         add.now result }
-    ensures kept { AllKeepSizes P.sizes P.IsWhole parts.old parts.new }
+    ensures kept { AllKeepSizes P.sizes P.IsWhole subtrees.old subtrees.new }
 {
-    let last = last_reached(parts, add.to);
-    let stops = stops_at_next(parts, last, add.to);
-    let (below, rest) = parts.split_at_mut(first + 1);
+    let last = last_reached(subtrees, add.to);
+    let stops = stops_at_next(subtrees, last, add.to);
+    let (below, rest) = subtrees.split_at_mut(first + 1);
     let (mid, above) = rest.split_at_mut(last - first - 1);
     if !raise_ends(&mut below[first], &mut above[0], add, stops) {
         return false;

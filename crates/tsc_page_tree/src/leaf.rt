@@ -2,15 +2,17 @@ ghost use Rattle.std.specs.Prelude.{◌≡◌, ◌≤◌, ◌++◌, length, true
 ghost use Rattle.tsc_span.specs.Span.{last, is_below, between};
 ghost use Rattle.tsc_page_nodes.specs.Nodes.{IsSorted, raise_nodes};
 ghost use Rattle.tsc_page_tree.specs.Leaves.{IsLeaf, HasNode};
-ghost use Rattle.tsc_page_tree.specs.Pending.{with_pending, all_joint};
+ghost use Rattle.tsc_page_tree.specs.Lazy.{with_lazy, all_joint};
 ghost use Rattle.tsc_page_tree.specs.Across.{HasKey};
 ghost use Rattle.tsc_page_tree.specs.Trees.{nodes_in, leaf_nodes, leaf_sizes, leaf_copied, IsWholeLeaf, IsLeafCopy, IsTold};
 
-use crate::parts::Part;
-use crate::summary::Summary;
+use crate::aggregate::Aggregate;
+use crate::subtrees::Subtree;
 use std::alloc::{AllocError, Global};
 use std::sync::Arc;
-use tsc_page_nodes::{Addition, Grown, KeyAddition, KeyPrefix, Nodes, PrefixedCut, SearchKey};
+use tsc_page_nodes::{
+    Growth, KeyInsertion, KeyPrefix, Nodes, PrefixedCut, PrefixedInsertion, SearchKey,
+};
 use tsc_span::{Cut, Key, KeyRef};
 use tsc_time::{NoMemory, Value};
 
@@ -21,19 +23,19 @@ const LEAF_NODES: usize = 64;
 /// hold them.
 #[derive(Debug, Drop)]
 pub struct Leaf {
-    pub(crate) summary: Summary,
+    pub(crate) aggregate: Aggregate,
     pub(crate) nodes: Arc<Nodes>,
 }
 
 impl Leaf {
-    /// A leaf of nodes, over which nothing is pending.
+    /// A leaf of nodes, without a lazy value.
     pub fn new(alloc: Global, nodes: Nodes) -> Result<Leaf, NoMemory>
         requires leaf { IsLeaf nodes }
         ensures nodes { IfOk result (λ leaf. leaf_nodes leaf ≡ nodes) }
         ensures whole { IfOk result IsWholeLeaf }
     {
         Ok(Leaf {
-            summary: summary_of(&nodes),
+            aggregate: aggregate_of(&nodes),
             nodes: Arc::new(alloc, nodes)?,
         })
     }
@@ -45,13 +47,13 @@ impl Clone for Leaf {
 
     fn clone(&self) -> Result<Leaf, AllocError> {
         Ok(Leaf {
-            summary: self.summary,
+            aggregate: self.aggregate,
             nodes: Arc::try_clone(&self.nodes)?,
         })
     }
 }
 
-impl Part for Leaf {
+impl Subtree for Leaf {
     ghost nodes = { leaf_nodes };
 
     ghost sizes = { leaf_sizes };
@@ -59,37 +61,37 @@ impl Part for Leaf {
     ghost IsWhole = { IsWholeLeaf };
 
     fn starts_above(&self, cut: &PrefixedCut<'_>) -> bool {
-        match cut.is_below_number(&self.summary.start) {
+        match cut.is_below_prefix(&self.aggregate.start) {
             Some(below) => below,
             None => self.nodes.starts_above(cut),
         }
     }
 
     fn starts_below(&self, cut: &PrefixedCut<'_>) -> bool {
-        match cut.is_above_number(&self.summary.start) {
+        match cut.is_above_prefix(&self.aggregate.start) {
             Some(above) => above,
             None => self.nodes.starts_below(cut),
         }
     }
 
-    fn start_number(&self) -> KeyPrefix {
-        self.summary.start
+    fn start_prefix(&self) -> KeyPrefix {
+        self.aggregate.start
     }
 
     fn joint(&self) -> Value {
-        self.summary.joint
+        self.aggregate.joint
     }
 
     fn join_between(&self, from: &PrefixedCut<'_>, to: &PrefixedCut<'_>) -> Value {
         let below = self.nodes.join_between(from, to);
-        self.summary.seen(below, self.starts_below(to))
+        self.aggregate.seen(below, self.starts_below(to))
     }
 
     fn value_at(&self, key: &SearchKey<'_>) -> Value {
         let below = self.nodes.value_at(key);
-        match self.summary.pending {
+        match self.aggregate.lazy {
             None => below,
-            Some(_) => self.summary.seen(below, self.starts_below(&key.past())),
+            Some(_) => self.aggregate.seen(below, self.starts_below(&key.past())),
         }
     }
 
@@ -109,56 +111,60 @@ impl Part for Leaf {
     }
 
     fn raise_whole(&mut self, value: Value) {
-        self.summary.raise(value);
+        self.aggregate.raise(value);
     }
 
     fn raise_between(&mut self, from: Cut<'_>, to: Cut<'_>, value: Value) -> Result<(), NoMemory> {
         let (from, to) = (PrefixedCut::new(from), PrefixedCut::new(to));
         let nodes = Arc::make_mut(&mut self.nodes)?;
         nodes.raise_between(&from, &to, value);
-        self.summary.reach(nodes.starts_below(&to), value);
+        self.aggregate.reach(nodes.starts_below(&to), value);
         Ok(())
     }
 
     fn make_node(&mut self, alloc: Global, key: &KeyRef<'_>) -> Result<Option<Leaf>, NoMemory> {
         let nodes = Arc::make_mut(&mut self.nodes)?;
-        push_down(nodes, &self.summary);
+        push_down(nodes, &self.aggregate);
         let upper = grow(nodes, key)?;
-        self.summary = summary_with(nodes, &self.summary, upper.is_some());
+        self.aggregate = aggregate_with(nodes, &self.aggregate, upper.is_some());
         match upper {
             Some(upper) => Ok(Some(Leaf::new(alloc, upper)?)),
             None => Ok(None),
         }
     }
 
-    fn add_within(&mut self, add: &Addition<'_>, room: u32) -> Result<Option<Grown>, NoMemory> {
+    fn add_within(
+        &mut self,
+        add: &PrefixedInsertion<'_>,
+        room: u32,
+    ) -> Result<Option<Growth>, NoMemory> {
         let nodes = Arc::make_mut(&mut self.nodes)?;
-        push_down(nodes, &self.summary);
-        self.summary.pending = None;
-        let room = Grown {
+        push_down(nodes, &self.aggregate);
+        self.aggregate.lazy = None;
+        let room = Growth {
             nodes: LEAF_NODES - nodes.len(),
             bytes: room,
         };
-        let made = nodes.add_owned(add, room);
+        let made = nodes.insert_in_place(add, room);
         let reached = nodes.starts_below(add.to);
-        self.summary
-            .heed(&made, nodes.start_number(), reached, add.value);
+        self.aggregate
+            .heed(&made, nodes.start_prefix(), reached, add.value);
         made
     }
 
-    fn add_key(&mut self, add: &KeyAddition<'_>, room: u32) -> Result<Option<Grown>, NoMemory> {
+    fn add_key(&mut self, add: &KeyInsertion<'_>, room: u32) -> Result<Option<Growth>, NoMemory> {
         let nodes = Arc::make_mut(&mut self.nodes)?;
-        let room = Grown {
+        let room = Growth {
             nodes: LEAF_NODES - nodes.len(),
             bytes: room,
         };
         let made = nodes.add_key(add, room);
-        let start = self.summary.start;
-        self.summary.heed(&made, start, true, add.value());
+        let start = self.aggregate.start;
+        self.aggregate.heed(&made, start, true, add.value());
         made
     }
 
-    fn raise_across(low: &mut Leaf, high: &mut Leaf, add: &Addition<'_>) -> bool {
+    fn raise_across(low: &mut Leaf, high: &mut Leaf, add: &PrefixedInsertion<'_>) -> bool {
         let Some(below) = Arc::get_mut(&mut low.nodes) else {
             return false
         };
@@ -171,14 +177,14 @@ impl Part for Leaf {
         let Some(stop) = known_place(above, add.second) else {
             return false
         };
-        raise_above(below, &mut low.summary, add.from, start, add.value);
-        above.raise_near(
+        raise_above(below, &mut low.aggregate, add.from, start, add.value);
+        above.raise_hinted(
             &PrefixedCut::new(Cut::Before(&[])),
             add.to,
             (None, stop),
             add.value,
         );
-        high.summary.reach(true, add.value);
+        high.aggregate.reach(true, add.value);
         true
     }
 
@@ -189,73 +195,73 @@ impl Part for Leaf {
     ghost copied = { leaf_copied };
 }
 
-/// What is known of nodes over which nothing is pending.
-fn summary_of(nodes: &Nodes) -> Summary
+/// What is known of nodes without a lazy value.
+fn aggregate_of(nodes: &Nodes) -> Aggregate
     requires some { 1 ≤ length nodes.now }
     ensures told { IsTold result nodes.now }
-    ensures pending { result.pending ≡ None }
+    ensures lazy { result.lazy ≡ None }
 {
     let least = PrefixedCut::new(Cut::Before(&[]));
     let last = PrefixedCut::new(Cut::Last);
-    Summary {
-        start: nodes.start_number(),
+    Aggregate {
+        start: nodes.start_prefix(),
         joint: nodes.join_between(&least, &last),
-        pending: None,
+        lazy: None,
     }
 }
 
-/// What is known of nodes over which nothing is pending, by what was known before one of them was
+/// What is known of nodes without a lazy value, by what was known before one of them was
 /// made. A new node has the value of the gap in which it falls, so the joint value stays, unless
 /// nodes were cut off.
-fn summary_with(nodes: &Nodes, before: &Summary, cut: bool) -> Summary
+fn aggregate_with(nodes: &Nodes, before: &Aggregate, cut: bool) -> Aggregate
     requires some { 1 ≤ length nodes.now }
     requires kept { cut ≡ false → before.now.joint ≡ all_joint nodes.now }
     ensures told { IsTold result nodes.now }
-    ensures pending { result.pending ≡ None }
+    ensures lazy { result.lazy ≡ None }
 {
     if cut {
-        return summary_of(nodes);
+        return aggregate_of(nodes);
     }
-    Summary {
-        start: nodes.start_number(),
+    Aggregate {
+        start: nodes.start_prefix(),
         joint: before.joint,
-        pending: None,
+        lazy: None,
     }
 }
 
-/// Ratchets what is pending into nodes.
-fn push_down(nodes: &mut Nodes, summary: &Summary)
-    ensures { nodes.new ≡ with_pending summary.now.pending nodes.old }
+/// Ratchets the lazy value into nodes.
+fn push_down(nodes: &mut Nodes, aggregate: &Aggregate)
+    ensures { nodes.new ≡ with_lazy aggregate.now.lazy nodes.old }
 {
-    if let Some(pending) = summary.pending {
+    if let Some(lazy) = aggregate.lazy {
         let least = PrefixedCut::new(Cut::Before(&[]));
         let last = PrefixedCut::new(Cut::Last);
-        nodes.raise_between(&least, &last, pending);
+        nodes.raise_between(&least, &last, lazy);
     }
 }
 
-/// Ratchets a value into what lies above a cut, of nodes of which a summary tells. The key of the
+/// Ratchets a value into what lies above a cut, of nodes of which a aggregate tells. The key of the
 /// cut may stand at a place that is told. Where all of them lie above it they aren't looked into.
 fn raise_above(
     nodes: &mut Nodes,
-    summary: &mut Summary,
+    aggregate: &mut Aggregate,
     from: &PrefixedCut<'_>,
-    near: Option<usize>,
+    hint: Option<usize>,
     value: Value,
 )
-    requires told { IsTold summary.old nodes.old }
-    requires sorted { IsSorted (with_pending summary.old.pending nodes.old) }
+    requires told { IsTold aggregate.old nodes.old }
+    requires sorted { IsSorted (with_lazy aggregate.old.lazy nodes.old) }
     requires order { is_below from.now last ≡ true }
-    ensures raised { with_pending summary.new.pending nodes.new ≡
-        raise_nodes (between from.now last) value (with_pending summary.old.pending nodes.old) }
-    ensures told { IsTold summary.new nodes.new }
+    ensures raised { with_lazy aggregate.new.lazy nodes.new ≡
+        raise_nodes (between from.now last) value (with_lazy aggregate.old.lazy nodes.old) }
+    ensures told { IsTold aggregate.new nodes.new }
     ensures len { length nodes.new ≡ length nodes.old }
 {
     if nodes.starts_below(from) {
-        nodes.raise_near(from, &PrefixedCut::new(Cut::Last), (near, None), value);
-        summary.reach(true, value);
+        nodes.raise_hinted(from, &PrefixedCut::new(Cut::Last), (hint, None), value);
+        aggregate.reach(true, value);
     } else {
-        summary.raise(value);
+        aggregate.raise(value);
     }
 }
 

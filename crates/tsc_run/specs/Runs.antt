@@ -50,8 +50,8 @@ pub record CanRun (shared : SharedView) (seat : SeatView) (list : List Call) : T
   pub calls : length list ≤ most_calls
   pub fits : EachFits shared.config list
 
--- Lists can run at these seats of a cache: the seats are new, one for each list, and all lists
--- together are no longer than a list may be, and fit the cache.
+-- Lists can run at these seats of a cache. The seats are new, one for each list. All lists together
+-- are no longer than a list may be, and fit the cache.
 pub record CanRunAll (shared : SharedView) (at : List SeatView) (lists : List (Vec Call Global)) :
     Type 0 where
   pub seats : at ≡ new_seats shared 0 (length lists)

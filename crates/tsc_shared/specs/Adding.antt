@@ -32,9 +32,9 @@ GivesUp tries DeskBusy = HasEnd tries
 GivesUp tries SeatInside = HasEnd tries
 GivesUp tries (Refused fault) = Unit {0}
 
--- What the Add of a copy answers after so many tries, and whether the gate was told of it: it is
--- accepted, or refused for one of the reasons, but not as too large. Without a try the lock is told
--- as busy.
+-- What the Add of a copy answers after some tries, and whether it reaches the gate. It is accepted,
+-- or refused for one of the reasons, but not as too large. Without a try it reports that the lock
+-- is busy.
 pub record AnswersCopy (copied : Result UnappliedAdd NoMemory) (tries : Option ℕ)
     (old new : SeatView) (told : Bool) (result : Result Receipt TryAddFault) : Type 0 where
   pub told_is : told ≡ is_ok result

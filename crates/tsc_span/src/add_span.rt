@@ -133,7 +133,8 @@ impl<'a> AddSpan<'a> {
         }
     }
 
-    /// The key of a span that was made as a [single one](AddSpan::point).
+    /// The key of a span that was made as a [single one](AddSpan::point), or as a
+    /// [range](AddSpan::range) from a key to itself.
     pub fn key(&self) -> Option<&KeyRef<'a>>
         ensures { IfSome result (λ key. self.now ≡ point key.now) }
     {

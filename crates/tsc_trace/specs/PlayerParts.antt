@@ -1,14 +1,14 @@
 -- Where a replay under way stands, and what calls make of it.
 use Rattle.std.specs.Prelude.{◌≡◌, ◌≤◌, ◌+◌, List, length}
 use Rattle.tsc_cache.specs.Settings.{Settings}
-use Rattle.tsc_cache.specs.CacheView.{StandsForState}
+use Rattle.tsc_cache.specs.CacheView.{RepresentsState}
 use Rattle.tsc_trace_format.specs.declared.trace.Call.{Call}
 use Rattle.tsc_trace.specs.Play.{Standing, next_all}
 use Rattle.tsc_trace.specs.declared.player.Player.{Player}
 
 -- its cache stands for the state, and it has made as many Adds
 pub record StandsAt (p : Player) (settings : Settings) (at : Standing) : Type 0 where
-  pub state : StandsForState p.cache settings at.state
+  pub state : RepresentsState p.cache settings at.state
   pub adds : p.adds ≡ at.adds
 
 -- A replay has made some calls: from wherever it stood it stands where they lead, each counts as at

@@ -10,7 +10,7 @@ use Rattle.tsc_trace_format.specs.declared.read.TraceFault.TheVariants as trace_
 use Rattle.tsc_stream.specs.declared.input.InputFault.{InputFault}
 use Rattle.tsc_stream.specs.declared.input.InputFault.TheVariants as input_fault
 use Rattle.tsc_trace.specs.declared.replays.WriteLogFault.{WriteLogFault}
-use Rattle.tsc_trace.specs.declared.replays.WriteLogFault.TheVariants as out_fault
+use Rattle.tsc_trace.specs.declared.replays.WriteLogFault.TheVariants as write_log_fault
 use Rattle.tsc_trace.specs.declared.replays.ReplayFault.{ReplayFault}
 use Rattle.tsc_trace.specs.declared.replays.ReplayFault.TheVariants.{Read, TooLong, Trace as Refused, Write, NoMemory}
 
@@ -20,8 +20,8 @@ replay_text trace = log_text (log_of trace)
 
 -- why a text was not written: a write failed, or memory was wanting before the first write
 abbrev pub StopsWriting : WriteLogFault → KnownWriter → KnownWriter → List ℕ → Type 0
-StopsWriting out_fault.Write old new text = CouldNotWrite old new text
-StopsWriting out_fault.NoMemory old new text = new ≡ old
+StopsWriting write_log_fault.Write old new text = CouldNotWrite old new text
+StopsWriting write_log_fault.NoMemory old new text = new ≡ old
 
 -- A reader told its end, and all that it had is a trace.
 pub record HasReadTrace (reader reader' : KnownReader) (trace : Trace) : Type 0 where
@@ -111,8 +111,8 @@ fault_of_trace (trace_fault.TooLarge call) = Refused (trace_fault.TooLarge call)
 
 -- how a fault of an output ends a replay
 abbrev pub fault_of_output : WriteLogFault → ReplayFault
-fault_of_output out_fault.Write = Write
-fault_of_output out_fault.NoMemory = NoMemory
+fault_of_output write_log_fault.Write = Write
+fault_of_output write_log_fault.NoMemory = NoMemory
 
 -- the text of a fault
 abbrev pub fault_text : ReplayFault → List ℕ

@@ -2,7 +2,7 @@ ghost use Rattle.std.specs.Prelude.{◌≡◌, ◌++◌, ◌∷◌, [], ◌+◌,
 ghost use Rattle.tsc_cache.specs.Settings.{Settings, fits};
 ghost use Rattle.tsc_cache.specs.Batch.{all_fit};
 ghost use Rattle.tsc_cache.specs.State.{CacheState};
-ghost use Rattle.tsc_cache.specs.CacheView.{StandsForState};
+ghost use Rattle.tsc_cache.specs.CacheView.{RepresentsState};
 ghost use Rattle.tsc_trace_format.specs.Calls.{call_fits, one_mark, several_marks};
 ghost use Rattle.tsc_trace_format.specs.Traces.{EachFits};
 ghost use Rattle.tsc_trace_format.specs.Limits.{most_calls};
@@ -27,11 +27,12 @@ pub fn add_fitting(
 ) -> Result<Added, NoMemory>
     requires { fits cache.old.settings span.now ≡ true }
     ensures added { IfOk result (λ added. (settings : Settings) (s : CacheState) →
-        StandsForState cache.old settings s
+        RepresentsState cache.old settings s
         → added ≡ (made settings s (one_mark span.now value now)).added) }
     ensures stands { OnOk result ((settings : Settings) (s : CacheState) →
-        StandsForState cache.old settings s
-        → StandsForState cache.new settings (made settings s (one_mark span.now value now)).state) }
+        RepresentsState cache.old settings s
+        → RepresentsState cache.new settings (made settings s (one_mark span.now value
+        now)).state) }
     ensures settings { OnOk result (cache.new.settings ≡ cache.old.settings) }
     ensures unchanged { OnErr result (cache.new ≡ cache.old) }
 {
@@ -47,11 +48,12 @@ pub fn add_fitting(
 pub fn add_all_fitting(cache: &mut Cache, marks: &[Mark], now: Timestamp) -> Result<Added, NoMemory>
     requires { all_fit cache.old.settings marks.now ≡ true }
     ensures added { IfOk result (λ added. (settings : Settings) (s : CacheState) →
-        StandsForState cache.old settings s
+        RepresentsState cache.old settings s
         → added ≡ (made settings s (several_marks marks.now now)).added) }
     ensures stands { OnOk result ((settings : Settings) (s : CacheState) →
-        StandsForState cache.old settings s
-        → StandsForState cache.new settings (made settings s (several_marks marks.now now)).state) }
+        RepresentsState cache.old settings s
+        → RepresentsState cache.new settings (made settings s (several_marks marks.now
+        now)).state) }
     ensures settings { OnOk result (cache.new.settings ≡ cache.old.settings) }
     ensures unchanged { OnErr result (cache.new ≡ cache.old) }
 {

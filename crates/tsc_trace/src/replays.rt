@@ -3,7 +3,7 @@ ghost use Rattle.std.specs.Prelude.{◌≡◌, ◌++◌, Some, IfOk, IfErr, OnOk
 ghost use Rattle.tsc_trace.specs.LogText.{log_text};
 ghost use Rattle.tsc_trace.specs.Replay.{Done, HasReadTrace, StopsReadingTrace, StopsReplay, StopsWriting, fault_of_input, fault_of_output, fault_of_trace, fault_text, replay_text};
 ghost use Rattle.tsc_stream.specs.Stream.{CouldNotWrite, HasWritten};
-ghost use Rattle.tsc_trace.specs.declared.replays.WriteLogFault.TheVariants as out_fault;
+ghost use Rattle.tsc_trace.specs.declared.replays.WriteLogFault.TheVariants as write_log_fault;
 ghost use Rattle.tsc_trace.specs.declared.replays.ReplayFault.TheVariants as replay_fault;
 
 use crate::log::{Log, log_text};
@@ -34,7 +34,7 @@ pub enum WriteLogFault {
 }
 
 impl From<NoMemory> for WriteLogFault {
-    ghost from_gives = { λ _ given. given ≡ out_fault.NoMemory };
+    ghost from_gives = { λ _ given. given ≡ write_log_fault.NoMemory };
 
     fn from(_refused: NoMemory) -> WriteLogFault {
         WriteLogFault::NoMemory
@@ -42,7 +42,7 @@ impl From<NoMemory> for WriteLogFault {
 }
 
 impl From<WriteFailed> for WriteLogFault {
-    ghost from_gives = { λ _ given. given ≡ out_fault.Write };
+    ghost from_gives = { λ _ given. given ≡ write_log_fault.Write };
 
     fn from(_failed: WriteFailed) -> WriteLogFault {
         WriteLogFault::Write

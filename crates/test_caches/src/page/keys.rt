@@ -2,7 +2,7 @@
 use super::steps::{Order, Step, With, play_steps};
 use std::test::Fail;
 
-/// Pages of no leaf, of one, of several, and of so many that forks hold them. It is asked at the
+/// Pages of no leaf, of one, of several, and of so many that branches hold them. It is asked at the
 /// places before and after all numbers up to one behind the last key.
 static ASKED: [Step; 20] = [
     Step::Filled(Order::Rising, 0, With::Fourths, 0),

@@ -4,7 +4,7 @@ use Rattle.tsc_page_nodes.specs.Page.{Mark}
 use Rattle.tsc_cache.specs.declared.added.Added.{Added}
 use Rattle.tsc_cache.specs.Settings.{Settings}
 use Rattle.tsc_cache.specs.State.{CacheState, step_all, not_kept}
-use Rattle.tsc_cache.specs.CacheView.{StandsForState}
+use Rattle.tsc_cache.specs.CacheView.{RepresentsState}
 use Rattle.tsc_cache.specs.Batch.{is_any_kept}
 use Rattle.tsc_cache.proofs.Batches.{none_adds, adds_all_stands}
 use Rattle.timestamp_cache.specs.HandOver.{marks_told}
@@ -40,8 +40,8 @@ pub returns-clause-stands : goal.returns-clause-stands
 returns-clause-stands c =
     let all : c.deref.result.now ≡ marks_told c.args.summary.now = search rules in
     subst (λ (ms : List Mark). OnOk c.add_all.result
-    ((settings : Settings) (s : CacheState) → StandsForState c.args.cache.now settings s →
-    StandsForState c.add_all.new.self settings (step_all settings s ms c.args.now).state)) all
+    ((settings : Settings) (s : CacheState) → RepresentsState c.args.cache.now settings s →
+    RepresentsState c.add_all.new.self settings (step_all settings s ms c.args.now).state)) all
     c.add_all.ensures.stands
 
 pub returns-clause-added : goal.returns-clause-added
@@ -49,6 +49,6 @@ returns-clause-added c =
     let all : c.deref.result.now ≡ marks_told c.args.summary.now = search rules in
     subst (λ (ms : List Mark). IfOk c.add_all.result
     (λ (a : Added). (settings : Settings) (s : CacheState) →
-    StandsForState c.args.cache.now settings s →
+    RepresentsState c.args.cache.now settings s →
     a ≡ (step_all settings s ms c.args.now).added)) all
     c.add_all.ensures.added

@@ -2,7 +2,7 @@
 -- another.
 use Rattle.std.proofs.Common.{◌≡◌, ◌∙◌, sym, ap, subst, length, not, true, Some}
 use Rattle.tsc_cache.specs.History.{state_of}
-use Rattle.tsc_cache.specs.CacheView.{StandsForState}
+use Rattle.tsc_cache.specs.CacheView.{RepresentsState}
 use Rattle.tsc_cache.specs.declared.added.Added.{Added}
 use Rattle.tsc_cache.proofs.Histories.{state_of-push}
 use Rattle.tsc_trace_format.specs.Calls.{one_mark, several_marks}
@@ -31,9 +31,9 @@ pub returns-in_ok-made-in-Add-clause-stands : goal.returns-in_ok-made-in-Add-cla
 returns-in_ok-made-in-Add-clause-stands c = λ settings thread h s.
     let e = entry_after thread h (one_mark c.in-Add.span c.in-Add.value c.in-Add.now) in
     let next = c.in_ok-made-in-Add.ensures.stands settings (state_of settings h) s in
-    subst (λ call. StandsForState c.add_fitting.new.cache settings
+    subst (λ call. RepresentsState c.add_fitting.new.cache settings
     (state_of settings (after_call thread h call))) (sym c.in-Add.is)
-    (subst (StandsForState c.add_fitting.new.cache settings)
+    (subst (RepresentsState c.add_fitting.new.cache settings)
     (sym (state_of-push settings h e)) next)
 
 pub returns-in_ok-made_all-in-Batch-clause-other : goal.returns-in_ok-made_all-in-Batch-clause-other
@@ -57,11 +57,11 @@ pub returns-in_ok-made_all-in-Batch-clause-stands :
     goal.returns-in_ok-made_all-in-Batch-clause-stands
 returns-in_ok-made_all-in-Batch-clause-stands c = λ settings thread h s.
     let a = several_marks c.in-Batch.marks c.in-Batch.now in
-    let next = subst (λ ms. StandsForState c.add_all_fitting.new.cache settings
+    let next = subst (λ ms. RepresentsState c.add_all_fitting.new.cache settings
     (made settings (state_of settings h) (several_marks ms c.in-Batch.now)).state)
     c.slice.ensures
     (c.in_ok-made_all-in-Batch.ensures.stands settings (state_of settings h) s) in
-    subst (λ call. StandsForState c.add_all_fitting.new.cache settings
+    subst (λ call. RepresentsState c.add_all_fitting.new.cache settings
     (state_of settings (after_call thread h call))) (sym c.in-Batch.is)
-    (subst (StandsForState c.add_all_fitting.new.cache settings)
+    (subst (RepresentsState c.add_all_fitting.new.cache settings)
     (sym (state_of-push settings h (entry_after thread h a))) next)

@@ -3,7 +3,7 @@
 use Rattle.std.proofs.Common.{sym, ap, subst, ◌≤◌, suc, length, add-one, arith}
 use Rattle.tsc_cache.specs.Settings.{Settings}
 use Rattle.tsc_cache.specs.State.{opening}
-use Rattle.tsc_cache.specs.CacheView.{StandsForState}
+use Rattle.tsc_cache.specs.CacheView.{RepresentsState}
 use Rattle.tsc_trace_format.specs.Traces.{Trace}
 use Rattle.tsc_check.specs.Verdict.{adds_in, is_wrong_answer}
 use Rattle.tsc_check.specs.CheckParts.{Lowers, state_at, is_before_front}
@@ -17,7 +17,7 @@ loop-front-preserved g c =
     let front = c.loop-front.front in
     let test = is_wrong_answer trace lines in
     record {
-      stands = subst (λ f. StandsForState c.pass.new.cache trace.config (state_at trace lines f))
+      stands = subst (λ f. RepresentsState c.pass.new.cache trace.config (state_at trace lines f))
           (sym (add-one front)) c.in_ok-lowest.ensures.stands;
       lowers = subst (λ f. Lowers test (is_before_front lines f) (length lines)
           c.in_ok-lowest.lowest) (sym (add-one front))
@@ -62,7 +62,7 @@ loop-front-init g c =
     let config = ap (λ (t : Trace). t.config) c.trace.view_is in
     let lines = c.args.lines.now in
     record {
-      stands = subst (λ (s : Settings). StandsForState c.in_ok-cache.cache s (opening s)) config
+      stands = subst (λ (s : Settings). RepresentsState c.in_ok-cache.cache s (opening s)) config
           c.in_ok-cache.ensures.stands;
       lowers = lowers_first (is_wrong_answer c.args.trace.now lines) lines (length lines);
     }

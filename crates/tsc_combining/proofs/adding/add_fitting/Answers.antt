@@ -5,7 +5,7 @@ use Rattle.tsc_page_nodes.specs.Page.{Mark}
 use Rattle.tsc_cache.specs.Settings.{Settings}
 use Rattle.tsc_cache.specs.Batch.{all_fit}
 use Rattle.tsc_cache.specs.State.{CacheState, step_all}
-use Rattle.tsc_cache.specs.CacheView.{StandsForState}
+use Rattle.tsc_cache.specs.CacheView.{RepresentsState}
 use Rattle.tsc_left_right.specs.declared.table.MarkList.{MarkList}
 use Rattle.tsc_left_right.specs.Rule.{marks_in}
 use Rattle.tsc_combining.proofs.AddingUp.{one_fits}
@@ -29,26 +29,26 @@ add_many-requires c = record {
 
 pub returns-in-One-clause-stands : goal.returns-in-One-clause-stands
 returns-in-One-clause-stands c = subst (λ (x : MarkList). OnOk c.add_one.result
-    ((settings : Settings) (s : CacheState) → StandsForState c.args.cache.now settings s →
-    StandsForState c.add_one.new.cache settings
+    ((settings : Settings) (s : CacheState) → RepresentsState c.args.cache.now settings s →
+    RepresentsState c.add_one.new.cache settings
     (step_all settings s (marks_in x) c.args.add.now.moment).state)) (sym c.in-One.is)
     c.add_one.ensures.stands
 
 pub returns-in-One-clause-added : goal.returns-in-One-clause-added
 returns-in-One-clause-added c = subst (λ (x : MarkList). IfOk c.add_one.result
-    (λ added. (settings : Settings) (s : CacheState) → StandsForState c.args.cache.now settings s →
+    (λ added. (settings : Settings) (s : CacheState) → RepresentsState c.args.cache.now settings s →
     added ≡ (step_all settings s (marks_in x) c.args.add.now.moment).added)) (sym c.in-One.is)
     c.add_one.ensures.added
 
 pub returns-in-Many-clause-stands : goal.returns-in-Many-clause-stands
 returns-in-Many-clause-stands c =
     subst (λ (x : MarkList). OnOk c.add_many.result
-    ((settings : Settings) (s : CacheState) → StandsForState c.args.cache.now settings s →
-    StandsForState c.add_many.new.cache settings
+    ((settings : Settings) (s : CacheState) → RepresentsState c.args.cache.now settings s →
+    RepresentsState c.add_many.new.cache settings
     (step_all settings s (marks_in x) c.args.add.now.moment).state)) (sym c.in-Many.is)
     (subst (λ (ms : List Mark). OnOk c.add_many.result
-    ((settings : Settings) (s : CacheState) → StandsForState c.args.cache.now settings s →
-    StandsForState c.add_many.new.cache settings
+    ((settings : Settings) (s : CacheState) → RepresentsState c.args.cache.now settings s →
+    RepresentsState c.add_many.new.cache settings
     (step_all settings s ms c.args.add.now.moment).state)) c.deref.ensures.value
     c.add_many.ensures.stands)
 
@@ -56,10 +56,10 @@ pub returns-in-Many-clause-added : goal.returns-in-Many-clause-added
 returns-in-Many-clause-added c =
     subst (λ (x : MarkList). IfOk c.add_many.result
     (λ added. (settings : Settings) (s : CacheState) →
-    StandsForState c.args.cache.now settings s →
+    RepresentsState c.args.cache.now settings s →
     added ≡ (step_all settings s (marks_in x) c.args.add.now.moment).added)) (sym c.in-Many.is)
     (subst (λ (ms : List Mark). IfOk c.add_many.result
     (λ added. (settings : Settings) (s : CacheState) →
-    StandsForState c.args.cache.now settings s →
+    RepresentsState c.args.cache.now settings s →
     added ≡ (step_all settings s ms c.args.add.now.moment).added)) c.deref.ensures.value
     c.add_many.ensures.added)

@@ -5,7 +5,7 @@ use Rattle.tsc_page_nodes.specs.Page.{Mark}
 use Rattle.tsc_cache.specs.Settings.{Settings}
 use Rattle.tsc_cache.specs.Batch.{all_fit}
 use Rattle.tsc_cache.specs.State.{CacheState, step_all}
-use Rattle.tsc_cache.specs.CacheView.{StandsForState}
+use Rattle.tsc_cache.specs.CacheView.{RepresentsState}
 use Rattle.tsc_left_right.specs.declared.table.MarkList.{MarkList}
 use Rattle.tsc_left_right.specs.Rule.{marks_in}
 use Rattle.tsc_combining.proofs.AddingUp.{one_fits}
@@ -29,13 +29,13 @@ next_many-requires c = record {
 
 pub returns-in-One-clause-stands : goal.returns-in-One-clause-stands
 returns-in-One-clause-stands c = subst (λ (x : MarkList). IfOk c.next_one.result
-    (λ next. (settings : Settings) (s : CacheState) → StandsForState c.args.cache.now settings s →
-    StandsForState next.0 settings (step_all settings s (marks_in x) c.args.add.now.moment).state))
+    (λ next. (settings : Settings) (s : CacheState) → RepresentsState c.args.cache.now settings s →
+    RepresentsState next.0 settings (step_all settings s (marks_in x) c.args.add.now.moment).state))
     (sym c.in-One.is) c.next_one.ensures.stands
 
 pub returns-in-One-clause-added : goal.returns-in-One-clause-added
 returns-in-One-clause-added c = subst (λ (x : MarkList). IfOk c.next_one.result
-    (λ next. (settings : Settings) (s : CacheState) → StandsForState c.args.cache.now settings s →
+    (λ next. (settings : Settings) (s : CacheState) → RepresentsState c.args.cache.now settings s →
     next.1 ≡ (step_all settings s (marks_in x) c.args.add.now.moment).added)) (sym c.in-One.is)
     c.next_one.ensures.added
 
@@ -43,23 +43,23 @@ pub returns-in-Many-clause-stands : goal.returns-in-Many-clause-stands
 returns-in-Many-clause-stands c =
     subst (λ (x : MarkList). IfOk c.next_many.result
     (λ next. (settings : Settings) (s : CacheState) →
-    StandsForState c.args.cache.now settings s →
-    StandsForState next.0 settings
+    RepresentsState c.args.cache.now settings s →
+    RepresentsState next.0 settings
     (step_all settings s (marks_in x) c.args.add.now.moment).state)) (sym c.in-Many.is)
     (subst (λ (ms : List Mark). IfOk c.next_many.result
     (λ next. (settings : Settings) (s : CacheState) →
-    StandsForState c.args.cache.now settings s →
-    StandsForState next.0 settings (step_all settings s ms c.args.add.now.moment).state))
+    RepresentsState c.args.cache.now settings s →
+    RepresentsState next.0 settings (step_all settings s ms c.args.add.now.moment).state))
     c.deref.ensures.value c.next_many.ensures.stands)
 
 pub returns-in-Many-clause-added : goal.returns-in-Many-clause-added
 returns-in-Many-clause-added c =
     subst (λ (x : MarkList). IfOk c.next_many.result
     (λ next. (settings : Settings) (s : CacheState) →
-    StandsForState c.args.cache.now settings s →
+    RepresentsState c.args.cache.now settings s →
     next.1 ≡ (step_all settings s (marks_in x) c.args.add.now.moment).added)) (sym c.in-Many.is)
     (subst (λ (ms : List Mark). IfOk c.next_many.result
     (λ next. (settings : Settings) (s : CacheState) →
-    StandsForState c.args.cache.now settings s →
+    RepresentsState c.args.cache.now settings s →
     next.1 ≡ (step_all settings s ms c.args.add.now.moment).added)) c.deref.ensures.value
     c.next_many.ensures.added)

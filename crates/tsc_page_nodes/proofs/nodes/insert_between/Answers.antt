@@ -2,7 +2,7 @@
 use Rattle.std.proofs.Common.{◌≡◌, ◌∙◌, ap, sym, subst, List, arith}
 use Rattle.tsc_span.specs.Span.{between}
 use Rattle.tsc_page_nodes.specs.Nodes.{Node, IsSorted, FitsIn, paired, with_new, raise_nodes}
-use Rattle.tsc_page_nodes.specs.Additions.{Addend}
+use Rattle.tsc_page_nodes.specs.Insertions.{InsertionView}
 use Rattle.tsc_page_nodes.proofs.nodes.insert_between.Goals as goal
 
 pub split-requires-clause-room : goal.split-requires-clause-room
@@ -39,4 +39,4 @@ returns-clause-added c =
     ap (λ ks. paired ks c.raise_values.new.values.items) (sym c.as_slice.ensures.value) ∙
     c.raise_values.ensures.raised
     ∙ ap (raise_nodes (between c.add.inside.from.now c.add.inside.to.now) c.add.inside.value) before
-    ∙ ap (λ (b : Addend). raise_nodes (between b.from b.to) b.value both) c.add.view_is
+    ∙ ap (λ (b : InsertionView). raise_nodes (between b.from b.to) b.value both) c.add.view_is

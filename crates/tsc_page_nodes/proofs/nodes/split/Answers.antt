@@ -7,7 +7,7 @@ use Rattle.tsc_time.specs.OwnedTime.{OwnedTime, unowned}
 use Rattle.tsc_span.specs.Span.{KeyBytes}
 use Rattle.tsc_page_nodes.specs.declared.nodes.Values.{Values}
 use Rattle.tsc_page_nodes.specs.Nodes.{Node, FitsIn, with_new, node_in_gap, gap_value, paired}
-use Rattle.tsc_page_nodes.specs.Additions.{HaveRoom}
+use Rattle.tsc_page_nodes.specs.Insertions.{HaveRoom}
 use Rattle.tsc_page_nodes.proofs.Places.{some_node}
 use Rattle.tsc_page_nodes.proofs.Edits.{gap_value-at, first_number}
 use Rattle.tsc_page_nodes.proofs.Apart.{paired-length, paired-insert, gap_at}

@@ -1,40 +1,42 @@
--- The first part reached and the last one are raised by themselves, and those between as a whole.
+-- The first subtree reached and the last one are raised by themselves, and those between as a
+-- whole.
 use Rattle.std.proofs.Common.{◌≡◌, ◌∙◌, ◌+◌, ◌<◌, ◌≤◌, sym, ap, subst, Bool, ℕ, suc, List, ◌++◌, map, drop, set, length, arith}
 use mathlib.Core.Bool.{true≢false}
 use Rattle.std.specs.Prelude.{not}
 use Rattle.std.proofs.lemmas.List.{length-map, length-append}
 use Rattle.tsc_span.specs.Span.{Cut, is_below}
 use Rattle.tsc_page_nodes.specs.Nodes.{Node, raise_nodes}
-use Rattle.tsc_page_nodes.specs.Additions.{Addend}
-use Rattle.tsc_page_tree.specs.Leaves.{nodes_of, start_of, AreSome, AreParts, IsLeafAt}
-use Rattle.tsc_page_tree.specs.Pending.{everything, AddsSome, nothing_grown}
+use Rattle.tsc_page_nodes.specs.Insertions.{InsertionView}
+use Rattle.tsc_page_tree.specs.Leaves.{nodes_of, start_of, AreSome, AreSubtrees, IsLeafAt}
+use Rattle.tsc_page_tree.specs.Lazy.{everything, AddsSome, nothing_grown}
 use Rattle.tsc_page_tree.specs.Across.{IsLastReached}
 use Rattle.tsc_page_tree.specs.Copies.{AllKeepSizes}
-use Rattle.tsc_page_tree.proofs.LeafLists.{all_some, is_part}
-use Rattle.tsc_page_nodes.specs.Additions.{IsAddend}
+use Rattle.tsc_page_tree.proofs.LeafLists.{all_some, is_subtree}
+use Rattle.tsc_page_nodes.specs.Insertions.{IsInsertionView}
 use Rattle.tsc_page_tree.proofs.TreeAcross.{later_reached}
-use Rattle.tsc_page_tree.proofs.OverParts.{stays_over, raises_over, stops_over, keep_same, keeps_low, keeps_high, parts_first, parts_second}
+use Rattle.tsc_page_tree.proofs.OverSubtrees.{stays_over, raises_over, stops_over, keep_same, keeps_low, keeps_high, subtrees_first, subtrees_second}
 use Rattle.tsc_page_tree.proofs.across.raise_over.Given.{Over}
 use Rattle.tsc_page_tree.proofs.across.raise_over.Goals.{After-last_reached-last, After-split_at_mut-mid}
 use Rattle.tsc_page_tree.proofs.across.raise_over.Goals as goal
 
--- the part that is reached last comes behind the first
+-- the subtree that is reached last comes behind the first
 behind_first : (g : Over) (c : After-last_reached-last g) →
     c.args.first < c.last_reached-last.result
 behind_first g c =
-    let ls : List (List Node) = map g.P.Part.nodes c.args.parts.now in
+    let ls : List (List Node) = map g.P.Subtree.nodes c.args.subtrees.now in
     let r : ℕ = c.last_reached-last.result in
-    let to : c.add.inside.to.now ≡ c.args.add.now.to = ap (λ (v : Addend). v.to) c.add.view_is in
+    let to : c.add.inside.to.now ≡ c.args.add.now.to = ap (λ (v : InsertionView). v.to)
+    c.add.view_is in
     let reached : IsLastReached ls c.args.add.now.to r =
     subst (λ (x : Cut). IsLastReached ls x r) to c.last_reached-last.ensures in
     later_reached ls c.args.add.now.to c.args.first r
-    (all_some g.P.Part.nodes g.P.Part.IsWhole c.args.parts.now g.met.P.Part.some
-    c.requires.parts.whole) c.requires.parts.sorted c.requires.goes.beyond reached.stops
+    (all_some g.P.Subtree.nodes g.P.Subtree.IsWhole c.args.subtrees.now g.met.P.Subtree.some
+    c.requires.subtrees.whole) c.requires.subtrees.sorted c.requires.goes.beyond reached.stops
 
--- what is known of the parts once they are cut
+-- what is known of the subtrees once they are cut
 module _ (g : Over) (c : After-split_at_mut-mid g) where
   abbrev f : g.row.P.Denot → List Node
-  f = g.P.Part.nodes
+  f = g.P.Subtree.nodes
 
   abbrev bl : List g.row.P.Denot
   bl = c.split_at_mut-below.result.0.now
@@ -45,25 +47,27 @@ module _ (g : Over) (c : After-split_at_mut-mid g) where
   abbrev ab : List g.row.P.Denot
   ab = c.split_at_mut-mid.result.1.now
 
-  abbrev a : Addend
+  abbrev a : InsertionView
   a = c.args.add.now
 
   to : c.add.inside.to.now ≡ a.to
-  to = ap (λ (v : Addend). v.to) c.add.view_is
+  to = ap (λ (v : InsertionView). v.to) c.add.view_is
 
-  reached : IsLastReached (map f c.args.parts.now) a.to c.last_reached-last.result
-  reached = subst (λ (x : Cut). IsLastReached (map f c.args.parts.now) x c.last_reached-last.result)
+  reached : IsLastReached (map f c.args.subtrees.now) a.to c.last_reached-last.result
+  reached = subst (λ (x : Cut). IsLastReached (map f c.args.subtrees.now) x
+      c.last_reached-last.result)
       to c.last_reached-last.ensures
 
   later : c.args.first < c.last_reached-last.result
-  later = later_reached (map f c.args.parts.now) a.to c.args.first c.last_reached-last.result
-      (all_some f g.P.Part.IsWhole c.args.parts.now g.met.P.Part.some c.requires.parts.whole)
-      c.requires.parts.sorted c.requires.goes.beyond reached.stops
+  later = later_reached (map f c.args.subtrees.now) a.to c.args.first c.last_reached-last.result
+      (all_some f g.P.Subtree.IsWhole c.args.subtrees.now g.met.P.Subtree.some
+      c.requires.subtrees.whole)
+      c.requires.subtrees.sorted c.requires.goes.beyond reached.stops
 
-  fits : IsAddend a
-  fits = subst IsAddend c.add.view_is c.add.invariant
+  fits : IsInsertionView a
+  fits = subst IsInsertionView c.add.view_is c.add.invariant
 
-  shape : c.args.parts.now ≡ bl ++ (md ++ ab)
+  shape : c.args.subtrees.now ≡ bl ++ (md ++ ab)
   shape = c.split_at_mut-below.ensures.value ∙
       ap (λ (xs : List g.row.P.Denot). bl ++ xs) c.split_at_mut-mid.ensures.value
 
@@ -86,15 +90,15 @@ module _ (g : Over) (c : After-split_at_mut-mid g) where
     length-append bl (md ++ ab),
     length-append md ab,
     reached.bound,
-    length-map c.args.parts.now f,
+    length-map c.args.subtrees.now f,
     c.requires.goes.bound,
   )
 
-  parts : AreParts f g.P.Part.IsWhole (bl ++ (md ++ ab))
-  parts = subst (AreParts f g.P.Part.IsWhole) shape c.requires.parts
+  subtrees : AreSubtrees f g.P.Subtree.IsWhole (bl ++ (md ++ ab))
+  subtrees = subst (AreSubtrees f g.P.Subtree.IsWhole) shape c.requires.subtrees
 
   some : AreSome (map f (bl ++ (md ++ ab)))
-  some = all_some f g.P.Part.IsWhole (bl ++ (md ++ ab)) g.met.P.Part.some parts.whole
+  some = all_some f g.P.Subtree.IsWhole (bl ++ (md ++ ab)) g.met.P.Subtree.some subtrees.whole
 
   at : IsLeafAt (map f (bl ++ (md ++ ab))) a.from c.args.first
   at = subst (λ (xs : List g.row.P.Denot). IsLeafAt (map f xs) a.from c.args.first) shape
@@ -114,7 +118,7 @@ stops_at_next-stops-requires-clause-bound g c =
     omega (
       arith,
       c.last_reached-last.ensures.bound,
-      length-map c.args.parts.now g.P.Part.nodes,
+      length-map c.args.subtrees.now g.P.Subtree.nodes,
       c.requires.goes.bound,
     )
 
@@ -137,7 +141,7 @@ split_at_mut-mid-requires g c =
       behind_first g (goal.at.split_at_mut-mid-requires g c).After-last_reached-last,
       c.split_at_mut-below.ensures.back_len,
       c.last_reached-last.ensures.bound,
-      length-map c.args.parts.now g.P.Part.nodes,
+      length-map c.args.subtrees.now g.P.Subtree.nodes,
       c.requires.goes.bound,
     )
 
@@ -154,43 +158,43 @@ bounds-above-0 g c =
 pub raise_ends-requires-clause-low : goal.raise_ends-requires-clause-low
 raise_ends-requires-clause-low g c =
     let k = (goal.at.raise_ends-requires-clause-low g c).After-split_at_mut-mid in
-    let f = g.P.Part.nodes in
-    let Q = g.P.Part.IsWhole in
+    let f = g.P.Subtree.nodes in
+    let Q = g.P.Subtree.IsWhole in
     let bl = c.split_at_mut-below.result.0.now in
     let md = c.split_at_mut-mid.result.0.now in
     let ab = c.split_at_mut-mid.result.1.now in
-    is_part f Q bl c.args.first c.index-below-first.result (omega (arith, (long g k)))
-    (parts_first f Q bl (md ++ ab) (parts g k))
+    is_subtree f Q bl c.args.first c.index-below-first.result (omega (arith, (long g k)))
+    (subtrees_first f Q bl (md ++ ab) (subtrees g k))
 
 pub raise_ends-requires-clause-high : goal.raise_ends-requires-clause-high
 raise_ends-requires-clause-high g c =
     let k = (goal.at.raise_ends-requires-clause-high g c).After-split_at_mut-mid in
-    let f = g.P.Part.nodes in
-    let Q = g.P.Part.IsWhole in
+    let f = g.P.Subtree.nodes in
+    let Q = g.P.Subtree.IsWhole in
     let bl = c.split_at_mut-below.result.0.now in
     let md = c.split_at_mut-mid.result.0.now in
     let ab = c.split_at_mut-mid.result.1.now in
-    is_part f Q ab 0 c.index-above-0.result (one g k)
-    (parts_second f Q md ab (parts_second f Q bl (md ++ ab) (parts g k)))
+    is_subtree f Q ab 0 c.index-above-0.result (one g k)
+    (subtrees_second f Q md ab (subtrees_second f Q bl (md ++ ab) (subtrees g k)))
 
 pub raise_ends-requires-clause-reaches : goal.raise_ends-requires-clause-reaches
 raise_ends-requires-clause-reaches g c =
     let k = (goal.at.raise_ends-requires-clause-reaches g c).After-split_at_mut-mid in
-    let f = g.P.Part.nodes in
+    let f = g.P.Subtree.nodes in
     let p : ℕ = c.args.first in
-    let a : Addend = c.args.add.now in
+    let a : InsertionView = c.args.add.now in
     let bl = c.split_at_mut-below.result.0.now in
     let md = c.split_at_mut-mid.result.0.now in
     let ab = c.split_at_mut-mid.result.1.now in
     let d = c.index-below-first.result in
     let e = c.index-above-0.result in
     (stops_over f bl md ab p d d e e (long g k) (one g k) a (some g k) (fits g k) (at g k)
-    (here g k)).part
+    (here g k)).subtree
 
 pub returns-then-not-raise_ends-clause-told : goal.returns-then-not-raise_ends-clause-told
 returns-then-not-raise_ends-clause-told g c =
     let k = (goal.at.returns-then-not-raise_ends-clause-told g c).After-split_at_mut-mid in
-    let f = g.P.Part.nodes in
+    let f = g.P.Subtree.nodes in
     let p : ℕ = c.args.first in
     let bl = c.split_at_mut-below.result.0.now in
     let md = c.split_at_mut-mid.result.0.now in
@@ -209,43 +213,46 @@ returns-then-not-raise_ends-clause-told g c =
 pub returns-then-not-raise_ends-clause-kept : goal.returns-then-not-raise_ends-clause-kept
 returns-then-not-raise_ends-clause-kept g c =
     let k = (goal.at.returns-then-not-raise_ends-clause-kept g c).After-split_at_mut-mid in
-    let f = g.P.Part.nodes in
-    let s = g.P.Part.sizes in
-    let Q = g.P.Part.IsWhole in
+    let f = g.P.Subtree.nodes in
+    let s = g.P.Subtree.sizes in
+    let Q = g.P.Subtree.IsWhole in
     let p : ℕ = c.args.first in
     let bl = c.split_at_mut-below.result.0.now in
     let md = c.split_at_mut-mid.result.0.now in
     let ab = c.split_at_mut-mid.result.1.now in
     let x = c.raise_ends.new.low in
     let y = c.raise_ends.new.high in
-    let rest = parts_second f Q bl (md ++ ab) (parts g k) in
+    let rest = subtrees_second f Q bl (md ++ ab) (subtrees g k) in
     subst (λ (xs : List g.row.P.Denot). AllKeepSizes s Q xs
     (set bl p x ++ (md ++ set ab 0 y))) (sym (shape g k))
     (keeps_low s Q bl (md ++ ab) (md ++ set ab 0 y) p c.index-below-first.result x
-    (long g k) (parts_first f Q bl (md ++ ab) (parts g k)).whole c.raise_ends.ensures.low
+    (long g k) (subtrees_first f Q bl (md ++ ab) (subtrees g k)).whole c.raise_ends.ensures.low
     (keeps_high s Q md md ab c.index-above-0.result y (one g k)
-    (parts_second f Q md ab rest).whole c.raise_ends.ensures.high
-    (keep_same s Q md (parts_first f Q md ab rest).whole)))
+    (subtrees_second f Q md ab rest).whole c.raise_ends.ensures.high
+    (keep_same s Q md (subtrees_first f Q md ab rest).whole)))
 
 pub raise_all-requires : goal.raise_all-requires
 raise_all-requires g c =
     let k = (goal.at.raise_all-requires g c).After-split_at_mut-mid in
-    let f = g.P.Part.nodes in
-    let Q = g.P.Part.IsWhole in
+    let f = g.P.Subtree.nodes in
+    let Q = g.P.Subtree.IsWhole in
     let bl = c.split_at_mut-below.result.0.now in
     let md = c.split_at_mut-mid.result.0.now in
     let ab = c.split_at_mut-mid.result.1.now in
-    record { parts = parts_first f Q md ab (parts_second f Q bl (md ++ ab) (parts g k)) }
+    record {
+      subtrees = subtrees_first f Q md ab (subtrees_second f Q bl (md ++ ab)
+          (subtrees g k));
+    }
 
 pub returns-clause-told : goal.returns-clause-told
 returns-clause-told g c =
     let k = (goal.at.returns-clause-told g c).After-split_at_mut-mid in
-    let f = g.P.Part.nodes in
-    let items = c.args.parts.now in
+    let f = g.P.Subtree.nodes in
+    let items = c.args.subtrees.now in
     let ls : List (List Node) = map f items in
     let p : ℕ = c.args.first in
     let r : ℕ = c.last_reached-last.result in
-    let a : Addend = c.args.add.now in
+    let a : InsertionView = c.args.add.now in
     let bl = c.split_at_mut-below.result.0.now in
     let md = c.split_at_mut-mid.result.0.now in
     let ab = c.split_at_mut-mid.result.1.now in
@@ -253,7 +260,7 @@ returns-clause-told g c =
     let e = c.index-above-0.result in
     let x = c.raise_ends.new.low in
     let y = c.raise_ends.new.high in
-    let mn = c.raise_all.new.parts in
+    let mn = c.raise_all.new.subtrees in
     let stop : Bool = c.stops_at_next-stops.result in
     let is : stop ≡ not (is_below a.to
     (start_of (nodes_of (drop (suc (length bl + length md)) (map f (bl ++ (md ++ ab))))))) =
@@ -265,34 +272,36 @@ returns-clause-told g c =
     (shape g k) in
     let wholly : nodes_of (map f mn) ≡ raise_nodes everything a.value (nodes_of (map f md)) =
     c.raise_all.ensures.raised ∙
-    ap (λ (v : Addend). raise_nodes everything v.value (nodes_of (map f md))) c.add.view_is in
+    ap (λ (v : InsertionView). raise_nodes everything v.value (nodes_of (map f md)))
+    c.add.view_is in
     record {
       raised = λ h. subst (λ (xs : List g.row.P.Denot). AddsSome (nodes_of (map f xs))
           (nodes_of (map f (set bl p x ++ (mn ++ set ab 0 y)))) a 0 nothing_grown) (sym (shape g k))
           (raises_over f bl md ab p d x e y (long g k) (one g k) a (some g k) (fits g k) (at g k)
-          (here g k) mn stop (parts g k).sorted is c.if-not-raise_ends.ensures.told wholly);
+          (here g k) mn stop (subtrees g k).sorted is c.if-not-raise_ends.ensures.told wholly);
       left = λ h. absurd (true≢false h);
     }
 
 pub returns-clause-kept : goal.returns-clause-kept
 returns-clause-kept g c =
     let k = (goal.at.returns-clause-kept g c).After-split_at_mut-mid in
-    let f = g.P.Part.nodes in
-    let s = g.P.Part.sizes in
-    let Q = g.P.Part.IsWhole in
+    let f = g.P.Subtree.nodes in
+    let s = g.P.Subtree.sizes in
+    let Q = g.P.Subtree.IsWhole in
     let p : ℕ = c.args.first in
     let bl = c.split_at_mut-below.result.0.now in
     let md = c.split_at_mut-mid.result.0.now in
     let ab = c.split_at_mut-mid.result.1.now in
     let x = c.raise_ends.new.low in
     let y = c.raise_ends.new.high in
-    let rest = parts_second f Q bl (md ++ ab) (parts g k) in
+    let rest = subtrees_second f Q bl (md ++ ab) (subtrees g k) in
     subst (λ (xs : List g.row.P.Denot). AllKeepSizes s Q xs
-    (set bl p x ++ (c.raise_all.new.parts ++ set ab 0 y))) (sym (shape g k))
-    (keeps_low s Q bl (md ++ ab) (c.raise_all.new.parts ++ set ab 0 y) p c.index-below-first.result x
-    (long g k) (parts_first f Q bl (md ++ ab) (parts g k)).whole c.raise_ends.ensures.low
-    (keeps_high s Q md c.raise_all.new.parts ab c.index-above-0.result y (one g k)
-    (parts_second f Q md ab rest).whole c.raise_ends.ensures.high
+    (set bl p x ++ (c.raise_all.new.subtrees ++ set ab 0 y))) (sym (shape g k))
+    (keeps_low s Q bl (md ++ ab) (c.raise_all.new.subtrees ++ set ab 0 y) p
+    c.index-below-first.result x
+    (long g k) (subtrees_first f Q bl (md ++ ab) (subtrees g k)).whole c.raise_ends.ensures.low
+    (keeps_high s Q md c.raise_all.new.subtrees ab c.index-above-0.result y (one g k)
+    (subtrees_second f Q md ab rest).whole c.raise_ends.ensures.high
     (record {
       sizes = c.raise_all.ensures.sizes;
       whole = c.raise_all.ensures.whole;

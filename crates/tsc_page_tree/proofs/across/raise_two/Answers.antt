@@ -1,18 +1,18 @@
--- The first list is raised from the part of the lower cut on, and the second up to that of the
+-- The first list is raised from the subtree of the lower cut on, and the second up to that of the
 -- upper one.
 use Rattle.std.proofs.Common.{◌≡◌, ◌∙◌, ◌≤◌, sym, ap, subst, Bool, true, ℕ, suc, List, ◌++◌, map, drop, set, length, arith}
 use Rattle.std.specs.Prelude.{not}
 use Rattle.std.proofs.lemmas.List.{length-map, length-append}
 use Rattle.tsc_span.specs.Span.{Cut, is_below}
 use Rattle.tsc_page_nodes.specs.Nodes.{Node, raise_nodes}
-use Rattle.tsc_page_nodes.specs.Additions.{Addend}
-use Rattle.tsc_page_tree.specs.Leaves.{nodes_of, start_of, AreSome, AreParts, IsLeafAt}
-use Rattle.tsc_page_tree.specs.Pending.{everything}
+use Rattle.tsc_page_nodes.specs.Insertions.{InsertionView}
+use Rattle.tsc_page_tree.specs.Leaves.{nodes_of, start_of, AreSome, AreSubtrees, IsLeafAt}
+use Rattle.tsc_page_tree.specs.Lazy.{everything}
 use Rattle.tsc_page_tree.specs.Across.{AreRaisedAcross, IsLastReached}
-use Rattle.tsc_page_tree.proofs.LeafLists.{all_some, is_part}
-use Rattle.tsc_page_nodes.specs.Additions.{IsAddend}
+use Rattle.tsc_page_tree.proofs.LeafLists.{all_some, is_subtree}
+use Rattle.tsc_page_nodes.specs.Insertions.{IsInsertionView}
 use Rattle.tsc_page_tree.specs.Copies.{AllKeepSizes}
-use Rattle.tsc_page_tree.proofs.OverParts.{stays_low, stays_high, raises_two, stops_two, keep_same, keeps_low, keeps_high, parts_first, parts_second}
+use Rattle.tsc_page_tree.proofs.OverSubtrees.{stays_low, stays_high, raises_two, stops_two, keep_same, keeps_low, keeps_high, subtrees_first, subtrees_second}
 use Rattle.tsc_page_tree.proofs.across.raise_two.Given.{Over}
 use Rattle.tsc_page_tree.proofs.across.raise_two.Goals.{After-split_at_mut-others}
 use Rattle.tsc_page_tree.proofs.across.raise_two.Goals as goal
@@ -20,7 +20,7 @@ use Rattle.tsc_page_tree.proofs.across.raise_two.Goals as goal
 -- what is known of both lists once they are cut
 module _ (g : Over) (c : After-split_at_mut-others g) where
   abbrev f : g.row.P.Denot → List Node
-  f = g.P.Part.nodes
+  f = g.P.Subtree.nodes
 
   abbrev bl : List g.row.P.Denot
   bl = c.split_at_mut-below.result.0.now
@@ -34,14 +34,14 @@ module _ (g : Over) (c : After-split_at_mut-others g) where
   abbrev ab : List g.row.P.Denot
   ab = c.split_at_mut-others.result.1.now
 
-  abbrev a : Addend
+  abbrev a : InsertionView
   a = c.args.add.now
 
   to : c.add.inside.to.now ≡ a.to
-  to = ap (λ (v : Addend). v.to) c.add.view_is
+  to = ap (λ (v : InsertionView). v.to) c.add.view_is
 
-  fits : IsAddend a
-  fits = subst IsAddend c.add.view_is c.add.invariant
+  fits : IsInsertionView a
+  fits = subst IsInsertionView c.add.view_is c.add.invariant
 
   shape_low : c.args.low.now ≡ bl ++ md
   shape_low = c.split_at_mut-below.ensures.value
@@ -53,7 +53,7 @@ module _ (g : Over) (c : After-split_at_mut-others g) where
   reached = subst (λ (z : Cut). IsLastReached (map f c.args.high.now) z c.last_reached-last.result)
       to c.last_reached-last.ensures
 
-  long : length bl ≡ suc c.part_at-first.result
+  long : length bl ≡ suc c.subtree_at-first.result
   long = omega (arith, c.split_at_mut-below.ensures.front_len)
 
   front : length ot ≡ c.last_reached-last.result
@@ -70,24 +70,24 @@ module _ (g : Over) (c : After-split_at_mut-others g) where
     c.requires.high.some,
   )
 
-  parts_low : AreParts f g.P.Part.IsWhole (bl ++ md)
-  parts_low = subst (AreParts f g.P.Part.IsWhole) shape_low c.requires.low.parts
+  subtrees_low : AreSubtrees f g.P.Subtree.IsWhole (bl ++ md)
+  subtrees_low = subst (AreSubtrees f g.P.Subtree.IsWhole) shape_low c.requires.low.subtrees
 
-  parts_high : AreParts f g.P.Part.IsWhole (ot ++ ab)
-  parts_high = subst (AreParts f g.P.Part.IsWhole) shape_high c.requires.high.parts
+  subtrees_high : AreSubtrees f g.P.Subtree.IsWhole (ot ++ ab)
+  subtrees_high = subst (AreSubtrees f g.P.Subtree.IsWhole) shape_high c.requires.high.subtrees
 
   some_low : AreSome (map f (bl ++ md))
-  some_low = all_some f g.P.Part.IsWhole (bl ++ md) g.met.P.Part.some parts_low.whole
+  some_low = all_some f g.P.Subtree.IsWhole (bl ++ md) g.met.P.Subtree.some subtrees_low.whole
 
   some_high : AreSome (map f (ot ++ ab))
-  some_high = all_some f g.P.Part.IsWhole (ot ++ ab) g.met.P.Part.some parts_high.whole
+  some_high = all_some f g.P.Subtree.IsWhole (ot ++ ab) g.met.P.Subtree.some subtrees_high.whole
 
-  at : IsLeafAt (map f (bl ++ md)) a.from c.part_at-first.result
+  at : IsLeafAt (map f (bl ++ md)) a.from c.subtree_at-first.result
   at =
-      subst (λ (z : Cut). IsLeafAt (map f (bl ++ md)) z c.part_at-first.result)
-      (ap (λ (v : Addend). v.from) c.add.view_is)
+      subst (λ (z : Cut). IsLeafAt (map f (bl ++ md)) z c.subtree_at-first.result)
+      (ap (λ (v : InsertionView). v.from) c.add.view_is)
       (subst (λ (xs : List g.row.P.Denot). IsLeafAt (map f xs) c.add.inside.from.now
-      c.part_at-first.result) shape_low c.part_at-first.ensures)
+      c.subtree_at-first.result) shape_low c.subtree_at-first.ensures)
 
   reaches : is_below (start_of (nodes_of (map f (ot ++ ab)))) a.to ≡ true
   reaches = subst (λ (xs : List g.row.P.Denot). is_below (start_of (nodes_of (map f xs))) a.to ≡
@@ -105,29 +105,30 @@ bounds-above-0 g c = let some = one g (goal.at.bounds-above-0 g c).After-split_a
 pub raise_ends-requires-clause-low : goal.raise_ends-requires-clause-low
 raise_ends-requires-clause-low g c =
     let k = (goal.at.raise_ends-requires-clause-low g c).After-split_at_mut-others in
-    let f = g.P.Part.nodes in
-    let Q = g.P.Part.IsWhole in
-    let p : ℕ = c.part_at-first.result in
+    let f = g.P.Subtree.nodes in
+    let Q = g.P.Subtree.IsWhole in
+    let p : ℕ = c.subtree_at-first.result in
     let bl = c.split_at_mut-below.result.0.now in
     let md = c.split_at_mut-below.result.1.now in
-    is_part f Q bl p c.index-below-first.result (omega (arith, (long g k)))
-    (parts_first f Q bl md (parts_low g k))
+    is_subtree f Q bl p c.index-below-first.result (omega (arith, (long g k)))
+    (subtrees_first f Q bl md (subtrees_low g k))
 
 pub raise_ends-requires-clause-high : goal.raise_ends-requires-clause-high
 raise_ends-requires-clause-high g c =
     let k = (goal.at.raise_ends-requires-clause-high g c).After-split_at_mut-others in
-    let f = g.P.Part.nodes in
-    let Q = g.P.Part.IsWhole in
+    let f = g.P.Subtree.nodes in
+    let Q = g.P.Subtree.IsWhole in
     let ot = c.split_at_mut-others.result.0.now in
     let ab = c.split_at_mut-others.result.1.now in
-    is_part f Q ab 0 c.index-above-0.result (one g k) (parts_second f Q ot ab (parts_high g k))
+    is_subtree f Q ab 0 c.index-above-0.result (one g k) (subtrees_second f Q ot ab
+    (subtrees_high g k))
 
 pub raise_ends-requires-clause-reaches : goal.raise_ends-requires-clause-reaches
 raise_ends-requires-clause-reaches g c =
     let k = (goal.at.raise_ends-requires-clause-reaches g c).After-split_at_mut-others in
-    let f = g.P.Part.nodes in
-    let p : ℕ = c.part_at-first.result in
-    let a : Addend = c.args.add.now in
+    let f = g.P.Subtree.nodes in
+    let p : ℕ = c.subtree_at-first.result in
+    let a : InsertionView = c.args.add.now in
     let bl = c.split_at_mut-below.result.0.now in
     let md = c.split_at_mut-below.result.1.now in
     let ot = c.split_at_mut-others.result.0.now in
@@ -135,13 +136,13 @@ raise_ends-requires-clause-reaches g c =
     let d = c.index-below-first.result in
     let e = c.index-above-0.result in
     (stops_two f bl md ot ab p d d e e (long g k) (one g k) a (some_low g k) (some_high g k)
-    (fits g k) (at g k) (reaches g k) (here g k)).part
+    (fits g k) (at g k) (reaches g k) (here g k)).subtree
 
 pub returns-then-not-raise_ends-clause-told : goal.returns-then-not-raise_ends-clause-told
 returns-then-not-raise_ends-clause-told g c =
     let k = (goal.at.returns-then-not-raise_ends-clause-told g c).After-split_at_mut-others in
-    let f = g.P.Part.nodes in
-    let p : ℕ = c.part_at-first.result in
+    let f = g.P.Subtree.nodes in
+    let p : ℕ = c.subtree_at-first.result in
     let bl = c.split_at_mut-below.result.0.now in
     let md = c.split_at_mut-below.result.1.now in
     let ot = c.split_at_mut-others.result.0.now in
@@ -160,60 +161,60 @@ returns-then-not-raise_ends-clause-told g c =
 pub returns-then-not-raise_ends-clause-low : goal.returns-then-not-raise_ends-clause-low
 returns-then-not-raise_ends-clause-low g c =
     let k = (goal.at.returns-then-not-raise_ends-clause-low g c).After-split_at_mut-others in
-    let f = g.P.Part.nodes in
-    let s = g.P.Part.sizes in
-    let Q = g.P.Part.IsWhole in
-    let p : ℕ = c.part_at-first.result in
+    let f = g.P.Subtree.nodes in
+    let s = g.P.Subtree.sizes in
+    let Q = g.P.Subtree.IsWhole in
+    let p : ℕ = c.subtree_at-first.result in
     let bl = c.split_at_mut-below.result.0.now in
     let md = c.split_at_mut-below.result.1.now in
     let x = c.raise_ends.new.low in
     subst (λ (xs : List g.row.P.Denot). AllKeepSizes s Q xs (set bl p x ++ md))
     (sym (shape_low g k))
     (keeps_low s Q bl md md p c.index-below-first.result x (long g k)
-    (parts_first f Q bl md (parts_low g k)).whole c.raise_ends.ensures.low
-    (keep_same s Q md (parts_second f Q bl md (parts_low g k)).whole))
+    (subtrees_first f Q bl md (subtrees_low g k)).whole c.raise_ends.ensures.low
+    (keep_same s Q md (subtrees_second f Q bl md (subtrees_low g k)).whole))
 
 pub returns-then-not-raise_ends-clause-high : goal.returns-then-not-raise_ends-clause-high
 returns-then-not-raise_ends-clause-high g c =
     let k = (goal.at.returns-then-not-raise_ends-clause-high g c).After-split_at_mut-others in
-    let f = g.P.Part.nodes in
-    let s = g.P.Part.sizes in
-    let Q = g.P.Part.IsWhole in
+    let f = g.P.Subtree.nodes in
+    let s = g.P.Subtree.sizes in
+    let Q = g.P.Subtree.IsWhole in
     let ot = c.split_at_mut-others.result.0.now in
     let ab = c.split_at_mut-others.result.1.now in
     let y = c.raise_ends.new.high in
     subst (λ (xs : List g.row.P.Denot). AllKeepSizes s Q xs (ot ++ set ab 0 y))
     (sym (shape_high g k))
     (keeps_high s Q ot ot ab c.index-above-0.result y (one g k)
-    (parts_second f Q ot ab (parts_high g k)).whole c.raise_ends.ensures.high
-    (keep_same s Q ot (parts_first f Q ot ab (parts_high g k)).whole))
+    (subtrees_second f Q ot ab (subtrees_high g k)).whole c.raise_ends.ensures.high
+    (keep_same s Q ot (subtrees_first f Q ot ab (subtrees_high g k)).whole))
 
 pub raise_all-requires : goal.raise_all-requires
 raise_all-requires g c =
     let k = (goal.at.raise_all-requires g c).After-split_at_mut-others in
-    let f = g.P.Part.nodes in
-    let Q = g.P.Part.IsWhole in
+    let f = g.P.Subtree.nodes in
+    let Q = g.P.Subtree.IsWhole in
     let bl = c.split_at_mut-below.result.0.now in
     let md = c.split_at_mut-below.result.1.now in
-    record { parts = parts_second f Q bl md (parts_low g k) }
+    record { subtrees = subtrees_second f Q bl md (subtrees_low g k) }
 
 pub raise_all-requires-2 : goal.raise_all-requires-2
 raise_all-requires-2 g c =
     let k = (goal.at.raise_all-requires-2 g c).After-split_at_mut-others in
-    let f = g.P.Part.nodes in
-    let Q = g.P.Part.IsWhole in
+    let f = g.P.Subtree.nodes in
+    let Q = g.P.Subtree.IsWhole in
     let ot = c.split_at_mut-others.result.0.now in
     let ab = c.split_at_mut-others.result.1.now in
-    record { parts = parts_first f Q ot ab (parts_high g k) }
+    record { subtrees = subtrees_first f Q ot ab (subtrees_high g k) }
 
 pub returns-clause-told : goal.returns-clause-told
 returns-clause-told g c =
     let k = (goal.at.returns-clause-told g c).After-split_at_mut-others in
-    let f = g.P.Part.nodes in
+    let f = g.P.Subtree.nodes in
     let highs = c.args.high.now in
-    let p : ℕ = c.part_at-first.result in
+    let p : ℕ = c.subtree_at-first.result in
     let r : ℕ = c.last_reached-last.result in
-    let a : Addend = c.args.add.now in
+    let a : InsertionView = c.args.add.now in
     let bl = c.split_at_mut-below.result.0.now in
     let md = c.split_at_mut-below.result.1.now in
     let ot = c.split_at_mut-others.result.0.now in
@@ -222,8 +223,8 @@ returns-clause-told g c =
     let e = c.index-above-0.result in
     let x = c.raise_ends.new.low in
     let y = c.raise_ends.new.high in
-    let mn = c.raise_all.new.parts in
-    let on = c.raise_all-2.new.parts in
+    let mn = c.raise_all.new.subtrees in
+    let on = c.raise_all-2.new.subtrees in
     let stop : Bool = c.stops_at_next-stops.result in
     let is : stop ≡ not (is_below a.to
     (start_of (nodes_of (drop (suc (length ot)) (map f (ot ++ ab)))))) =
@@ -236,10 +237,12 @@ returns-clause-told g c =
     (shape_high g k) in
     let wholly : nodes_of (map f mn) ≡ raise_nodes everything a.value (nodes_of (map f md)) =
     c.raise_all.ensures.raised ∙
-    ap (λ (v : Addend). raise_nodes everything v.value (nodes_of (map f md))) c.add.view_is in
+    ap (λ (v : InsertionView). raise_nodes everything v.value (nodes_of (map f md)))
+    c.add.view_is in
     let others : nodes_of (map f on) ≡ raise_nodes everything a.value (nodes_of (map f ot)) =
     c.raise_all-2.ensures.raised ∙
-    ap (λ (v : Addend). raise_nodes everything v.value (nodes_of (map f ot))) c.add.view_is in
+    ap (λ (v : InsertionView). raise_nodes everything v.value (nodes_of (map f ot)))
+    c.add.view_is in
     subst (λ (xs : List g.row.P.Denot). AreRaisedAcross (nodes_of (map f xs))
     (nodes_of (map f (set bl p x ++ mn))) (nodes_of (map f highs))
     (nodes_of (map f (on ++ set ab 0 y))) a) (sym (shape_low g k))
@@ -247,23 +250,24 @@ returns-clause-told g c =
     (nodes_of (map f (set bl p x ++ mn))) (nodes_of (map f xs))
     (nodes_of (map f (on ++ set ab 0 y))) a) (sym (shape_high g k))
     (raises_two f bl md ot ab p d x e y (long g k) (one g k) a (some_low g k) (some_high g k)
-    (fits g k) (at g k) (reaches g k) (here g k) mn on stop (parts_low g k).sorted
-    (parts_high g k).sorted is c.if-not-raise_ends.ensures.told wholly others))
+    (fits g k) (at g k) (reaches g k) (here g k) mn on stop (subtrees_low g k).sorted
+    (subtrees_high g k).sorted is c.if-not-raise_ends.ensures.told wholly others))
 
 pub returns-clause-low : goal.returns-clause-low
 returns-clause-low g c =
     let k = (goal.at.returns-clause-low g c).After-split_at_mut-others in
-    let f = g.P.Part.nodes in
-    let s = g.P.Part.sizes in
-    let Q = g.P.Part.IsWhole in
-    let p : ℕ = c.part_at-first.result in
+    let f = g.P.Subtree.nodes in
+    let s = g.P.Subtree.sizes in
+    let Q = g.P.Subtree.IsWhole in
+    let p : ℕ = c.subtree_at-first.result in
     let bl = c.split_at_mut-below.result.0.now in
     let md = c.split_at_mut-below.result.1.now in
     let x = c.raise_ends.new.low in
-    subst (λ (xs : List g.row.P.Denot). AllKeepSizes s Q xs (set bl p x ++ c.raise_all.new.parts))
+    subst (λ (xs : List g.row.P.Denot). AllKeepSizes s Q xs
+    (set bl p x ++ c.raise_all.new.subtrees))
     (sym (shape_low g k))
-    (keeps_low s Q bl md c.raise_all.new.parts p c.index-below-first.result x (long g k)
-    (parts_first f Q bl md (parts_low g k)).whole c.raise_ends.ensures.low
+    (keeps_low s Q bl md c.raise_all.new.subtrees p c.index-below-first.result x (long g k)
+    (subtrees_first f Q bl md (subtrees_low g k)).whole c.raise_ends.ensures.low
     (record {
       sizes = c.raise_all.ensures.sizes;
       whole = c.raise_all.ensures.whole;
@@ -273,16 +277,17 @@ returns-clause-low g c =
 pub returns-clause-high : goal.returns-clause-high
 returns-clause-high g c =
     let k = (goal.at.returns-clause-high g c).After-split_at_mut-others in
-    let f = g.P.Part.nodes in
-    let s = g.P.Part.sizes in
-    let Q = g.P.Part.IsWhole in
+    let f = g.P.Subtree.nodes in
+    let s = g.P.Subtree.sizes in
+    let Q = g.P.Subtree.IsWhole in
     let ot = c.split_at_mut-others.result.0.now in
     let ab = c.split_at_mut-others.result.1.now in
     let y = c.raise_ends.new.high in
-    subst (λ (xs : List g.row.P.Denot). AllKeepSizes s Q xs (c.raise_all-2.new.parts ++ set ab 0 y))
+    subst (λ (xs : List g.row.P.Denot). AllKeepSizes s Q xs
+    (c.raise_all-2.new.subtrees ++ set ab 0 y))
     (sym (shape_high g k))
-    (keeps_high s Q ot c.raise_all-2.new.parts ab c.index-above-0.result y (one g k)
-    (parts_second f Q ot ab (parts_high g k)).whole c.raise_ends.ensures.high
+    (keeps_high s Q ot c.raise_all-2.new.subtrees ab c.index-above-0.result y (one g k)
+    (subtrees_second f Q ot ab (subtrees_high g k)).whole c.raise_ends.ensures.high
     (record {
       sizes = c.raise_all-2.ensures.sizes;
       whole = c.raise_all-2.ensures.whole;

@@ -15,10 +15,10 @@ returns-in_ok-cut-clause-made c =
     let makes = c.in_ok-make_node.ensures in
     let made = has_one old new k makes.lower makes.upper makes.has_lower makes.has_upper
     makes.nodes in
-    let parts = ap (λ (ns : List Node). ns ++ c.in_ok-cut.field-0) c.in_ok-cut.ensures.kept ∙
+    let subtrees = ap (λ (ns : List Node). ns ++ c.in_ok-cut.field-0) c.in_ok-cut.ensures.kept ∙
     ap (λ (ns : List Node). take 32 new ++ ns) c.in_ok-cut.ensures.rest ∙
     take-append-drop 32 new in
-    subst (λ (ns : List Node). HasNode old ns k) (sym parts) made
+    subst (λ (ns : List Node). HasNode old ns k) (sym subtrees) made
 
 pub returns-in_ok-cut-clause-leaf : goal.returns-in_ok-cut-clause-leaf
 returns-in_ok-cut-clause-leaf c =

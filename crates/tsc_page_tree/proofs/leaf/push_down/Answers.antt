@@ -1,4 +1,4 @@
--- What is pending is raised everywhere.
+-- The lazy value is raised everywhere.
 use Rattle.std.proofs.Common.{rules}
 use Rattle.tsc_page_tree.proofs.leaf.push_down.Goals as goal
 

@@ -1,4 +1,4 @@
--- Below what is pending, or by it alone where no node lies below the cut.
+-- Below the lazy value, or by it alone where no node lies below the cut.
 use Rattle.std.proofs.Common.{◌≡◌, ◌∙◌, sym, ap, subst, List, length, [], ◌∷◌}
 use Rattle.std.specs.Prelude.{Option}
 use Rattle.tsc_time.specs.OwnedTime.{OwnedTime}
@@ -8,66 +8,67 @@ use Rattle.tsc_page_nodes.specs.Nodes.{Node, raise_nodes}
 use Rattle.tsc_page_nodes.proofs.CutOrder.{Le}
 use Rattle.tsc_page_nodes.proofs.Edits.{raise_nodes-length}
 use Rattle.tsc_page_tree.specs.Leaves.{start_of}
-use Rattle.tsc_page_tree.specs.Pending.{with_pending, IsToldOf}
-use Rattle.tsc_page_tree.proofs.Pending.{raise_pending, raise_merged, raise_all, raise_each, pending-start}
+use Rattle.tsc_page_tree.specs.Lazy.{with_lazy, IsToldOf}
+use Rattle.tsc_page_tree.proofs.Lazy.{raise_lazy, raise_merged, raise_all, raise_each, lazy-start}
 use Rattle.tsc_page_tree.proofs.AllJoint.{starts_below_last}
-use Rattle.tsc_page_tree.proofs.PartAcross.{told_reached}
+use Rattle.tsc_page_tree.proofs.SubtreeAcross.{told_reached}
 use Rattle.tsc_page_tree.proofs.Told.{told_some, told_raised}
 use Rattle.tsc_page_tree.proofs.Wholes.{told_as}
 use Rattle.tsc_page_tree.proofs.leaf.raise_above.Goals as goal
-use Rattle.tsc_page_tree.proofs.leaf.raise_above.Goals.{After-raise_near}
+use Rattle.tsc_page_tree.proofs.leaf.raise_above.Goals.{After-raise_hinted}
 
 -- what the nodes become
-raised_is : (c : After-raise_near) →
-    c.raise_near.new.self ≡ raise_nodes (between c.args.from.now last) c.args.value c.args.nodes.now
-raised_is c = c.raise_near.ensures ∙
+raised_is : (c : After-raise_hinted) →
+    c.raise_hinted.new.self ≡ raise_nodes (between c.args.from.now last) c.args.value
+    c.args.nodes.now
+raised_is c = c.raise_hinted.ensures ∙
     ap (λ (z : Cut). raise_nodes (between c.args.from.now z) c.args.value c.args.nodes.now)
     c.new.ensures
 
 pub returns-then-starts_below-clause-raised : goal.returns-then-starts_below-clause-raised
 returns-then-starts_below-clause-raised c =
-    let p = c.args.summary.now.pending in
-    let is = raised_is (goal.at.returns-then-starts_below-clause-raised c).After-raise_near in
-    ap (λ (o : Option OwnedTime). with_pending o c.raise_near.new.self) c.reach.ensures.pending ∙
-    ap (with_pending p) is ∙ raise_pending p (between c.args.from.now last) c.args.value
+    let p = c.args.aggregate.now.lazy in
+    let is = raised_is (goal.at.returns-then-starts_below-clause-raised c).After-raise_hinted in
+    ap (λ (o : Option OwnedTime). with_lazy o c.raise_hinted.new.self) c.reach.ensures.lazy ∙
+    ap (with_lazy p) is ∙ raise_lazy p (between c.args.from.now last) c.args.value
     c.args.nodes.now
 
 pub returns-then-starts_below-clause-told : goal.returns-then-starts_below-clause-told
 returns-then-starts_below-clause-told c =
-    let s = c.args.summary.now in
+    let s = c.args.aggregate.now in
     let ns : List Node = c.args.nodes.now in
     let v : OwnedTime = c.args.value in
-    let is = raised_is (goal.at.returns-then-starts_below-clause-told c).After-raise_near in
-    let reached = told_reached s.start s.joint v s.pending c.args.from.now last ns c.requires.sorted
-    c.requires.order (starts_below_last (with_pending s.pending ns)
-    (told_some s.start s.joint s.pending ns c.requires.told)) c.requires.told in
-    told_as s.start c.reach.new.self.start _ c.reach.new.self.joint _ c.reach.new.self.pending
-    c.raise_near.new.self c.reach.ensures.start c.reach.ensures.joint c.reach.ensures.pending
-    (subst (λ (ms : List Node). IsToldOf s.start (joint s.joint (v ∷ [])) s.pending ms) (sym is)
+    let is = raised_is (goal.at.returns-then-starts_below-clause-told c).After-raise_hinted in
+    let reached = told_reached s.start s.joint v s.lazy c.args.from.now last ns c.requires.sorted
+    c.requires.order (starts_below_last (with_lazy s.lazy ns)
+    (told_some s.start s.joint s.lazy ns c.requires.told)) c.requires.told in
+    told_as s.start c.reach.new.self.start _ c.reach.new.self.joint _ c.reach.new.self.lazy
+    c.raise_hinted.new.self c.reach.ensures.start c.reach.ensures.joint c.reach.ensures.lazy
+    (subst (λ (ms : List Node). IsToldOf s.start (joint s.joint (v ∷ [])) s.lazy ms) (sym is)
     reached)
 
 pub returns-then-starts_below-clause-len : goal.returns-then-starts_below-clause-len
 returns-then-starts_below-clause-len c =
-    ap length (raised_is (goal.at.returns-then-starts_below-clause-len c).After-raise_near) ∙
+    ap length (raised_is (goal.at.returns-then-starts_below-clause-len c).After-raise_hinted) ∙
     raise_nodes-length (between c.args.from.now last) c.args.value c.args.nodes.now
 
 pub returns-else-starts_below-clause-raised : goal.returns-else-starts_below-clause-raised
 returns-else-starts_below-clause-raised c =
-    let p = c.args.summary.now.pending in
+    let p = c.args.aggregate.now.lazy in
     let ns : List Node = c.args.nodes.now in
     let f : Cut = c.args.from.now in
     let v : OwnedTime = c.args.value in
-    let low : Le f (start_of (with_pending p ns)) =
-    subst (Le f) (sym (pending-start p ns))
+    let low : Le f (start_of (with_lazy p ns)) =
+    subst (Le f) (sym (lazy-start p ns))
     (sym c.starts_below.ensures ∙ c.if-starts_below.false) in
-    ap (λ (o : Option OwnedTime). with_pending o ns) c.raise.ensures.pending ∙ raise_merged p v ns ∙
-    raise_all v (with_pending p ns) c.requires.sorted ∙
-    sym (raise_each f v (with_pending p ns) c.requires.sorted low)
+    ap (λ (o : Option OwnedTime). with_lazy o ns) c.raise.ensures.lazy ∙ raise_merged p v ns ∙
+    raise_all v (with_lazy p ns) c.requires.sorted ∙
+    sym (raise_each f v (with_lazy p ns) c.requires.sorted low)
 
 pub returns-else-starts_below-clause-told : goal.returns-else-starts_below-clause-told
 returns-else-starts_below-clause-told c =
-    let s = c.args.summary.now in
+    let s = c.args.aggregate.now in
     let ns : List Node = c.args.nodes.now in
-    told_as s.start c.raise.new.self.start _ c.raise.new.self.joint _ c.raise.new.self.pending ns
-    c.raise.ensures.start c.raise.ensures.joint c.raise.ensures.pending
-    (told_raised s.start s.joint c.args.value s.pending ns c.requires.sorted c.requires.told)
+    told_as s.start c.raise.new.self.start _ c.raise.new.self.joint _ c.raise.new.self.lazy ns
+    c.raise.ensures.start c.raise.ensures.joint c.raise.ensures.lazy
+    (told_raised s.start s.joint c.args.value s.lazy ns c.requires.sorted c.requires.told)

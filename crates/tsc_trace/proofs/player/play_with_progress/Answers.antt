@@ -3,7 +3,7 @@ use Rattle.std.proofs.Common.{◌≡◌, ◌∙◌, refl, sym, ap, subst, [], �
 use Rattle.std.specs.Prelude.{slice_get}
 use Rattle.tsc_cache.specs.Settings.{Settings}
 use Rattle.tsc_cache.specs.State.{opening}
-use Rattle.tsc_cache.specs.CacheView.{StandsForState}
+use Rattle.tsc_cache.specs.CacheView.{RepresentsState}
 use Rattle.tsc_trace_format.specs.Limits.{most_calls}
 use Rattle.tsc_trace_format.specs.Lists.{fits_trace}
 use Rattle.tsc_trace_format.specs.Traces.{Trace, EachFits, AllFit}
@@ -19,12 +19,12 @@ pub loop-thread-init : goal.loop-thread-init
 loop-thread-init g c =
     let trace = c.args.trace.now in
     let config = ap (λ (t : Trace). t.config) c.trace.view_is in
-    let stands : StandsForState c.in_ok-new.field-0 c.trace.inside.config
+    let stands : RepresentsState c.in_ok-new.field-0 c.trace.inside.config
     (opening c.trace.inside.config) = c.in_ok-new.ensures.stands in
     record {
       at = standing_after trace.config [];
       stands = record {
-        state = subst (λ (s : Settings). StandsForState c.in_ok-new.field-0 s
+        state = subst (λ (s : Settings). RepresentsState c.in_ok-new.field-0 s
             (opening s)) config stands;
         adds = refl;
       };

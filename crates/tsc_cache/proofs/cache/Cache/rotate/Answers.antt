@@ -4,7 +4,7 @@ use Rattle.std.specs.Prelude.{Result, Ok, Err, OnErr}
 use Rattle.tsc_time.specs.declared.memory.NoMemory.{NoMemory}
 use Rattle.tsc_span.specs.Span.{span_cost}
 use Rattle.tsc_page_nodes.specs.Page.{Mark, empty_page}
-use Rattle.tsc_page_nodes.specs.PageView.{PageView, StandsFor}
+use Rattle.tsc_page_nodes.specs.PageView.{PageView, Represents}
 use Rattle.tsc_cache.specs.declared.added.Added.{Added}
 use Rattle.tsc_cache.specs.contracts.cache.Cache.{the_view}
 use Rattle.tsc_cache.specs.State.{saturating_inc, kept_after_rotation}
@@ -38,7 +38,7 @@ invariant_of-self-2 c =
     c.in_ok-front.ensures.stands) in
     rotates_stacked _ (front_of c.evict-floor.new.self) (older_of c.evict-floor.new.self)
     drops.dropped (pages_of c.self.inside.pages) m c.self.invariant drops.parts
-    (subst (λ (p : PageView). StandsFor p
+    (subst (λ (p : PageView). Represents p
     (front_marked c.self.inside.config (pages_of c.self.inside.pages) m)) (sym front_is) marked)
 
 pub returns-clause-rotated : goal.returns-clause-rotated
@@ -62,7 +62,7 @@ returns-clause-rotated c =
     ap (λ (p : PageView). p.top) c.front-former.ensures)
     (put.stands (empty_page c.next_size-size.result c.top.result)
     c.in_ok-front.ensures.stands) in
-    let stands = subst (λ (p : PageView). StandsFor p
+    let stands = subst (λ (p : PageView). Represents p
     (front_marked c.self.inside.config (pages_of c.self.inside.pages) m)) (sym front_is)
     marked in
     let turns : c.saturating_inc-self-inside.result ≡ saturating_inc c.self.inside.rotations =

@@ -1,7 +1,7 @@
 -- Where no mark is kept nothing changes, and else the next version takes the cache's place.
 use Rattle.std.proofs.Common.{◌≡◌, ◌∙◌, sym, ap, subst, false}
 use Rattle.tsc_cache.specs.declared.added.Added.{Added}
-use Rattle.tsc_cache.specs.CacheView.{CacheView, StandsForState}
+use Rattle.tsc_cache.specs.CacheView.{CacheView, RepresentsState}
 use Rattle.tsc_cache.specs.State.{step_all}
 use Rattle.tsc_cache.specs.Batch.{is_any_kept, AddsAll}
 use Rattle.tsc_cache.proofs.Batches.{none_adds, adds_all_stands}
@@ -27,6 +27,6 @@ returns-then-not-is_any_kept-clause-added c settings s stands =
 
 pub returns-clause-stands : goal.returns-clause-stands
 returns-clause-stands c settings s stands =
-    subst (λ (v : CacheView). StandsForState v settings
+    subst (λ (v : CacheView). RepresentsState v settings
     (step_all settings s c.args.marks.now c.args.now).state) (sym c.drop.view_is)
     (c.in_ok-next.ensures.stands settings s stands)

@@ -1,7 +1,7 @@
 -- A new page in front, and the pages behind it that stay.
 use Rattle.std.proofs.Common.{◌≡◌, ◌∙◌, refl, sym, ap, subst}
 use Rattle.tsc_page_nodes.specs.Page.{Mark, empty_page}
-use Rattle.tsc_page_nodes.specs.PageView.{PageView, StandsFor}
+use Rattle.tsc_page_nodes.specs.PageView.{PageView, Represents}
 use Rattle.tsc_cache.specs.declared.added.Added.{Added}
 use Rattle.tsc_cache.specs.contracts.plain.PlainCache.{the_view}
 use Rattle.tsc_cache.specs.State.{saturating_inc, kept_after_rotation}
@@ -26,7 +26,7 @@ returns-clause-rotated c =
     ap (λ (p : PageView). p.top) c.front-former.ensures)
     (c.in_ok-add.ensures.told.stands (empty_page c.next_size-size.result c.top.result)
     c.in_ok-front.ensures.stands) in
-    let stands = subst (λ (p : PageView). StandsFor p
+    let stands = subst (λ (p : PageView). Represents p
     (front_marked c.self.inside.config (plain_pages_of c.self.inside.pages) m)) (sym front_is)
     marked in
     let turns : c.saturating_inc-self-inside.result ≡ saturating_inc c.self.inside.rotations =

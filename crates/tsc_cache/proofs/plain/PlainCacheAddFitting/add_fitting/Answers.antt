@@ -5,7 +5,7 @@ use Rattle.tsc_cache.specs.contracts.plain.PlainCache.{the_view}
 use Rattle.tsc_cache.specs.declared.added.Added.{Added}
 use Rattle.tsc_cache.specs.Settings.{Settings}
 use Rattle.tsc_cache.specs.State.{CacheState, is_kept, step, kept_after_rotation}
-use Rattle.tsc_cache.specs.CacheView.{CacheView, StandsForState, RotatesWith, MarksFront, front_has_room_for}
+use Rattle.tsc_cache.specs.CacheView.{CacheView, RepresentsState, RotatesWith, MarksFront, front_has_room_for}
 use Rattle.tsc_cache.proofs.StatesSeen.{adds_stands, marks_adds, rotates_adds, on_ok, if_ok}
 use Rattle.tsc_cache.proofs.plain.PlainCacheAddFitting.add_fitting.Goals as goal
 
@@ -73,7 +73,7 @@ returns-clause-added c =
     if_ok c.rotate.result (λ (a : Added). RotatesWith c.args.self.now c.rotate.new.self m c.args.now
     a.evicted × (a ≡ kept_after_rotation a.evicted))
     (λ (a : Added). (settings : Settings) (s : CacheState) →
-    StandsForState c.args.self.now settings s → a ≡ (step settings s m c.args.now).added)
+    RepresentsState c.args.self.now settings s → a ≡ (step settings s m c.args.now).added)
     c.rotate.ensures.rotated
     (λ a turned settings s stands.
     (adds_stands c.args.self.now c.rotate.new.self m c.args.now a

@@ -1,7 +1,7 @@
 -- Where no mark is kept nothing changes, and else the copy takes the cache's place.
 use Rattle.std.proofs.Common.{rules, ◌≡◌, ◌∙◌, sym, ap, subst, false}
 use Rattle.tsc_cache.specs.declared.added.Added.{Added}
-use Rattle.tsc_cache.specs.CacheView.{CacheView, StandsForState}
+use Rattle.tsc_cache.specs.CacheView.{CacheView, RepresentsState}
 use Rattle.tsc_cache.specs.Batch.{is_any_kept, AddsAll}
 use Rattle.tsc_cache.proofs.Batches.{none_adds, adds_all_stands}
 use Rattle.tsc_cache.proofs.plain.PlainCacheTimestampCache.add_all.Goals as goal
@@ -33,7 +33,7 @@ pub returns-clause-added : goal.returns-clause-added
 returns-clause-added c settings s stands =
     (adds_all_stands c.in_ok-next.next _ c.args.marks.now c.args.now c.in_ok-added.added
     c.in_ok-added.ensures settings s
-    (subst (λ (v : CacheView). StandsForState v settings s) (sym c.in_ok-next.ensures)
+    (subst (λ (v : CacheView). RepresentsState v settings s) (sym c.in_ok-next.ensures)
     stands)).1
 
 pub returns-in_err-added-clause-unchanged : goal.returns-in_err-added-clause-unchanged

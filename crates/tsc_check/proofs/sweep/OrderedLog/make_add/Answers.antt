@@ -5,7 +5,7 @@ use Rattle.std.proofs.Common.{◌≡◌, sym, subst, refl, length, Some, ap, get
 use Rattle.std.specs.Prelude.{slice_get}
 use Rattle.std.proofs.lemmas.Option.{slice_get_read}
 use Rattle.tsc_cache.specs.History.{state_of}
-use Rattle.tsc_cache.specs.CacheView.{StandsForState}
+use Rattle.tsc_cache.specs.CacheView.{RepresentsState}
 use Rattle.tsc_check.specs.Verdict.{calls_of, first_adds, is_wrong_answer}
 use Rattle.tsc_check.proofs.Sweeping.{add_told, lowers_at, call_there, next_adds}
 use Rattle.tsc_check.proofs.sweep.OrderedLog.make_add.Goals as goal
@@ -22,7 +22,7 @@ returns-in_ok-is_other_add-in-Some-clause-lowers c = λ place adds stands.
     let other = c.in_ok-is_other_add-in-Some.field-0 in
     let told = add_told trace lines c.args.self.now.in_order c.args.i line at c.in-Some.call.now
     (sym c.in-Some.ensures.value) other
-    (λ h. StandsForState c.args.cache.now trace.config (state_of trace.config h))
+    (λ h. RepresentsState c.args.cache.now trace.config (state_of trace.config h))
     (λ h s a k. c.in_ok-is_other_add-in-Some.ensures.other trace.config h s a k) place adds
     stands in
     lowers_at (is_wrong_answer trace lines) c.args.i c.args.least c.lower.result other told
@@ -39,7 +39,7 @@ returns-in_ok-is_other_add-in-Some-clause-stands c = λ place adds stands.
     (ap (get_or lines c.args.i) c.index-self-i.is) in
     let next = next_adds trace lines c.args.self.now.in_order place c.args.i line at adds c.in-Some.call.now
     (sym c.in-Some.ensures.value) in
-    subst (λ g. StandsForState c.is_other_add.new.cache trace.config
+    subst (λ g. RepresentsState c.is_other_add.new.cache trace.config
     (state_of trace.config g)) next.1
     (c.in_ok-is_other_add-in-Some.ensures.stands trace.config next.0
     (first_adds (calls_of trace) lines place) stands)

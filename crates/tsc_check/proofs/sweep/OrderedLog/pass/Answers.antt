@@ -1,10 +1,10 @@
--- Proves the contract of `OrderedLog::pass`. Answers all lines that tell of so many Adds before
--- them, the Add last. (What answers share is stated in each: the facts `c` of each goal have a
--- type of their own.)
+-- Proves the contract of `OrderedLog::pass`: it answers all lines that follow one number of Adds,
+-- the Add last. Each answer states again what they share, since the facts `c` of each goal have a
+-- type of their own.
 use Rattle.std.proofs.Common.{◌≡◌, ◌∙◌, sym, subst, length, Some, None}
 use Rattle.std.proofs.lemmas.Result.{IfOk-weaker, on_ok_weaker}
 use Rattle.tsc_cache.specs.History.{state_of}
-use Rattle.tsc_cache.specs.CacheView.{StandsForState}
+use Rattle.tsc_cache.specs.CacheView.{RepresentsState}
 use Rattle.tsc_check.specs.Verdict.{is_wrong_answer}
 use Rattle.tsc_check.specs.CheckParts.{adds_there, looks_up_there, last_below}
 use Rattle.tsc_check.proofs.Sweeping.{no_more_adds, last_is, lowers_pass, lowers_no_add, only_add, no_add_there}
@@ -77,5 +77,5 @@ returns-in-None-clause-stands g c =
     let at : last_below (adds_there lines front) (length lines) ≡ None =
     sym (c.args.self.now.placed.adds_at front c.index.result.now c.requires.front) ∙
     sym c.index.ensures ∙ c.in-None.is in
-    subst (λ h. StandsForState c.args.cache.now trace.config (state_of trace.config h))
+    subst (λ h. RepresentsState c.args.cache.now trace.config (state_of trace.config h))
     (no_more_adds trace lines front at) c.requires.stands

@@ -3,7 +3,7 @@ use Rattle.std.proofs.Common.{◌∙◌, sym, ap, subst, refl}
 use Rattle.std.specs.Prelude.{Option, slice_get}
 use Rattle.tsc_span.specs.Span.{KeyBytes, Cut, Interval, end_keys, is_empty_span}
 use Rattle.tsc_span.specs.Cuts.{cut_of}
-use Rattle.tsc_page_nodes.specs.Additions.{LiesAt}
+use Rattle.tsc_page_nodes.specs.Insertions.{LiesAt}
 use Rattle.tsc_page_tree.proofs.LeafAdds.{ends_lie}
 use Rattle.tsc_page.proofs.insertion.Insertion.new.Goals as goal
 

@@ -7,7 +7,7 @@ use Rattle.tsc_span.specs.Span.{point}
 use Rattle.tsc_page_nodes.specs.Limits.{least_size, most_size}
 use Rattle.tsc_page_nodes.specs.PageView.{PageView, NoAnswerAboveTop}
 use Rattle.tsc_page_nodes.specs.PageAdds.{AddsMark}
-use Rattle.tsc_page_nodes.specs.KeyAdds.{KeyAddend}
+use Rattle.tsc_page_nodes.specs.KeyAdds.{KeyInsertionView}
 use Rattle.tsc_page_nodes.specs.Nodes.{page_of}
 use Rattle.tsc_page_tree.specs.KeyAdds.{at_key}
 use Rattle.tsc_page.specs.Roots.{TreeView, IsKnown}
@@ -54,7 +54,7 @@ invariant_of-self-2 c =
     c.self.inside.size c.if-not-branch.false c.in_ok-add_key.ensures.told in
     let is = c.max-self-inside.ensures ∙ ap (ord_max time_cmp c.self.inside.top) c.time.ensures ∙
     later-max c.self.inside.top c.args.value.time ∙
-    ap (λ (d : KeyAddend). later c.self.inside.top d.value.time) (sym c.new.ensures) in (
+    ap (λ (d : KeyInsertionView). later c.self.inside.top d.value.time) (sym c.new.ensures) in (
       inserts.known,
       inserts.within,
       c.self.invariant.2,
@@ -69,14 +69,14 @@ returns c =
     c.self.inside.size c.if-not-branch.false c.in_ok-add_key.ensures.told in
     let is = c.max-self-inside.ensures ∙ ap (ord_max time_cmp c.self.inside.top) c.time.ensures ∙
     later-max c.self.inside.top c.args.value.time ∙
-    ap (λ (d : KeyAddend). later c.self.inside.top d.value.time) (sym c.new.ensures) in
+    ap (λ (d : KeyInsertionView). later c.self.inside.top d.value.time) (sym c.new.ensures) in
     let adds = page_adds c.self.inside.size c.self.inside.top c.max-self-inside.result
     c.self.inside.tree c.add_key.new.self (at_key c.new.result) inserts is in
     let new : PageView = page_of c.self.inside.size c.max-self-inside.result
     c.add_key.new.self.nodes c.add_key.new.self.sizes in
     let told : AddsMark c.args.self.now new (point c.args.key.now) c.args.value =
     subst (λ (v : PageView). AddsMark v new (point c.args.key.now) c.args.value) c.self.view_is
-    (subst (λ (d : KeyAddend). AddsMark
+    (subst (λ (d : KeyInsertionView). AddsMark
     ((λ (t : TreeView). page_of c.self.inside.size c.self.inside.top t.nodes t.sizes)
     c.self.inside.tree) new (point d.key) d.value) c.new.ensures adds) in
     record {

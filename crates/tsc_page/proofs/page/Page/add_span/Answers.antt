@@ -10,7 +10,7 @@ use Rattle.tsc_page_nodes.specs.Limits.{least_size, most_size}
 use Rattle.tsc_page_nodes.specs.Page.{cost_distinct}
 use Rattle.tsc_page_nodes.specs.PageView.{PageView, NoAnswerAboveTop, has_room_for}
 use Rattle.tsc_page_nodes.specs.PageAdds.{AddsMark}
-use Rattle.tsc_page_nodes.specs.KeyAdds.{KeyAddend}
+use Rattle.tsc_page_nodes.specs.KeyAdds.{KeyInsertionView}
 use Rattle.tsc_page_nodes.specs.Nodes.{node_keys, page_of}
 use Rattle.tsc_page_tree.specs.KeyAdds.{at_key}
 use Rattle.tsc_page.specs.Roots.{TreeView, IsKnown}

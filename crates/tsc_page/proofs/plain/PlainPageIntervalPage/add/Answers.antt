@@ -4,7 +4,7 @@ use Rattle.tsc_time.specs.Time.{later}
 use Rattle.tsc_time.specs.Joint.{joint}
 use Rattle.tsc_span.specs.Span.{Interval, overlaps, end_keys}
 use Rattle.tsc_page_nodes.specs.Page.{Mark, PageMarks, with_mark, top, marked_keys}
-use Rattle.tsc_page_nodes.specs.PageView.{PageView, StandsFor, answer, is_in, view_of}
+use Rattle.tsc_page_nodes.specs.PageView.{PageView, Represents, answer, is_in, view_of}
 use Rattle.tsc_page_nodes.proofs.Standing.{top_with}
 use Rattle.tsc_page.proofs.PlainMarks.{mark_of, answers_push, in_push, push_stands}
 use Rattle.tsc_page.proofs.plain.PlainPageIntervalPage.add.Goals as goal
@@ -22,10 +22,11 @@ returns c =
     c.in_ok-span.ensures.value in
     record {
       told = record {
-        stands = λ p stands. subst (λ (ms : List Mark). StandsFor
+        stands = λ p stands. subst (λ (ms : List Mark). Represents
             (view_of (record { size = c.self.inside.size; base = c.self.inside.base; marks = ms }))
             (with_mark p m)) (sym pushed)
-            (push_stands q p m (subst (λ (v : PageView). StandsFor v p) (sym c.self.view_is) stands));
+            (push_stands q p m (subst (λ (v : PageView). Represents v p)
+            (sym c.self.view_is) stands));
         size = ap (λ (v : PageView). v.size) c.self.view_is;
         top = ap (λ (ms : List Mark). top (record {
           size = c.self.inside.size;

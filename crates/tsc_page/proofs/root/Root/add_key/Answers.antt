@@ -1,4 +1,4 @@
--- The list has as many parts as before.
+-- The list has as many subtrees as before.
 use Rattle.std.proofs.Common.{◌∙◌, ap, subst, length}
 use Rattle.tsc_page.specs.Roots.{IsWholeTwo, IsWholeThree, IsWholeRoot}
 use Rattle.tsc_page.proofs.TreeLists.{few_with}
@@ -6,12 +6,12 @@ use Rattle.tsc_page.proofs.root.Root.add_key.Goals as goal
 
 pub returns-in-Two-clause-whole : goal.returns-in-Two-clause-whole
 returns-in-Two-clause-whole c =
-    few_with IsWholeTwo c.in-Two.parts c.add_key-in-Two.new.forks
+    few_with IsWholeTwo c.in-Two.subtrees c.add_key-in-Two.new.branches
     (c.add_key-in-Two.ensures.len ∙ ap length c.deref_mut-in-Two.ensures.value)
     c.add_key-in-Two.ensures.whole (subst IsWholeRoot c.in-Two.is c.requires.root.whole)
 
 pub returns-in-Three-clause-whole : goal.returns-in-Three-clause-whole
 returns-in-Three-clause-whole c =
-    few_with IsWholeThree c.in-Three.parts c.add_key-in-Three.new.forks
+    few_with IsWholeThree c.in-Three.subtrees c.add_key-in-Three.new.branches
     (c.add_key-in-Three.ensures.len ∙ ap length c.deref_mut-in-Three.ensures.value)
     c.add_key-in-Three.ensures.whole (subst IsWholeRoot c.in-Three.is c.requires.root.whole)

@@ -1,13 +1,13 @@
--- The numbered cuts are those of the span.
+-- The cuts with their prefixes are those of the span.
 use Rattle.std.proofs.Common.{◌≡◌, ◌∙◌, sym, ap, subst}
 use Rattle.std.specs.Prelude.{Option, option_map}
 use Rattle.tsc_time.specs.OwnedTime.{OwnedTime}
 use Rattle.tsc_span.specs.Span.{KeyBytes, Cut}
 use Rattle.tsc_span.specs.Cuts.{cut_of}
 use Rattle.tsc_page_nodes.proofs.Ends.{ends_in_order}
-use Rattle.tsc_page_nodes.specs.KeyAdds.{KeyAddend}
-use Rattle.tsc_page_nodes.specs.Additions.{Addend}
-use Rattle.tsc_page_tree.specs.Pending.{IsAddTold}
+use Rattle.tsc_page_nodes.specs.KeyAdds.{KeyInsertionView}
+use Rattle.tsc_page_nodes.specs.Insertions.{InsertionView}
+use Rattle.tsc_page_tree.specs.Lazy.{IsAddTold}
 use Rattle.tsc_page_tree.specs.KeyAdds.{IsKeyAddTold}
 use Rattle.tsc_page_tree.proofs.KeyAdds.{told_within}
 use Rattle.tsc_page.specs.Roots.{AreEnds, root_nodes, root_sizes}
@@ -45,14 +45,14 @@ returns-in-Some-None-Before-After-clause-told c =
     let q : Option KeyBytes = option_map (λ k. k.now) c.add.inside.second in
     let old = c.args.self.now in
     let new = c.add_key.new.self in
-    let told = subst (λ (a : KeyAddend). IsKeyAddTold (root_nodes old) (root_nodes new)
+    let told = subst (λ (a : KeyInsertionView). IsKeyAddTold (root_nodes old) (root_nodes new)
     (root_sizes old) (root_sizes new) a c.args.room c.add_key.result) c.new.ensures
     c.add_key.ensures.told in
     let ends = at_ends k i.field-0-2.now i.field-0-3.now v o q (cut_of c.add.inside.from)
     (cut_of c.add.inside.to) (ap (option_map (λ k. k.now)) i.is-0)
     (ap (option_map (λ k. k.now)) i.is-1) (ap cut_of i.is-2) (ap cut_of i.is-3)
     c.add.invariant in
-    subst (λ (a : Addend). IsAddTold (root_nodes old) (root_nodes new) (root_sizes old)
+    subst (λ (a : InsertionView). IsAddTold (root_nodes old) (root_nodes new) (root_sizes old)
     (root_sizes new) a c.args.room c.add_key.result) (ends ∙ c.add.view_is)
     (told_within c.add_key.result (root_nodes old) (root_nodes new) (root_sizes old)
     (root_sizes new) (record { key = k; value = v }) c.args.room told)
@@ -78,7 +78,7 @@ returns-in_default-clause-told c =
       to = z;
       value = v;
     }) c.new-in_default-2.ensures in
-    subst (λ (a : Addend). IsAddTold (root_nodes old) (root_nodes new) (root_sizes old)
+    subst (λ (a : InsertionView). IsAddTold (root_nodes old) (root_nodes new) (root_sizes old)
     (root_sizes new) a c.args.room c.add_within.result) (low ∙ high ∙ c.add.view_is)
     c.add_within.ensures.told
 

@@ -1,7 +1,7 @@
 -- What the root tells of an insertion holds of the tree.
 use Rattle.std.proofs.Common.{◌-◌, ◌+◌, ◌∙◌, ℕ, ap, subst, Ok, arith}
 use Rattle.tsc_time.specs.declared.memory.NoMemory.{NoMemory}
-use Rattle.tsc_page_nodes.specs.Additions.{Addend}
+use Rattle.tsc_page_nodes.specs.Insertions.{InsertionView}
 use Rattle.tsc_page_nodes.proofs.Costs.{node_costs}
 use Rattle.tsc_page_nodes.proofs.Ends.{ends_in_order}
 use Rattle.tsc_page_tree.specs.KeyAdds.{at_key}
@@ -27,7 +27,7 @@ pub overflow_add-self : goal.overflow_add-self
 overflow_add-self c =
     let r = c.self.inside.root in
     let q = c.add_borrowed_key.new.self in
-    let a : Addend = at_key c.args.add.now in
+    let a : InsertionView = at_key c.args.add.now in
     let room : ℕ = c.args.most - c.self.inside.bytes in
     let told = told_within {E = NoMemory} (Ok c.in_ok-grown.field-0) (root_nodes r) (root_nodes q)
     (root_sizes r) (root_sizes q) c.args.add.now room c.in_ok-grown.ensures.told in
@@ -50,7 +50,7 @@ pub overflow_add-self-in-Some : goal.overflow_add-self-in-Some
 overflow_add-self-in-Some c =
     let r = c.self.inside.root in
     let q = c.add_borrowed_key.new.self in
-    let a : Addend = at_key c.args.add.now in
+    let a : InsertionView = at_key c.args.add.now in
     let room : ℕ = c.args.most - c.self.inside.bytes in
     let told = told_within {E = NoMemory} (Ok c.in_ok-grown.field-0) (root_nodes r) (root_nodes q)
     (root_sizes r) (root_sizes q) c.args.add.now room c.in_ok-grown.ensures.told in
@@ -68,7 +68,7 @@ pub invariant_of-self-in-Some : goal.invariant_of-self-in-Some
 invariant_of-self-in-Some c =
     let r = c.self.inside.root in
     let q = c.add_borrowed_key.new.self in
-    let a : Addend = at_key c.args.add.now in
+    let a : InsertionView = at_key c.args.add.now in
     let room : ℕ = c.args.most - c.self.inside.bytes in
     let told = told_within {E = NoMemory} (Ok c.in_ok-grown.field-0) (root_nodes r) (root_nodes q)
     (root_sizes r) (root_sizes q) c.args.add.now room c.in_ok-grown.ensures.told in
@@ -83,7 +83,7 @@ pub returns-in-Some : goal.returns-in-Some
 returns-in-Some c =
     let r = c.self.inside.root in
     let q = c.add_borrowed_key.new.self in
-    let a : Addend = at_key c.args.add.now in
+    let a : InsertionView = at_key c.args.add.now in
     let room : ℕ = c.args.most - c.self.inside.bytes in
     let told = told_within {E = NoMemory} (Ok c.in_ok-grown.field-0) (root_nodes r) (root_nodes q)
     (root_sizes r) (root_sizes q) c.args.add.now room c.in_ok-grown.ensures.told in
@@ -102,7 +102,7 @@ pub invariant_of-self-in-None : goal.invariant_of-self-in-None
 invariant_of-self-in-None c =
     let r = c.self.inside.root in
     let q = c.add_borrowed_key.new.self in
-    let a : Addend = at_key c.args.add.now in
+    let a : InsertionView = at_key c.args.add.now in
     let room : ℕ = c.args.most - c.self.inside.bytes in
     let told = told_within {E = NoMemory} (Ok c.in_ok-grown.field-0) (root_nodes r) (root_nodes q)
     (root_sizes r) (root_sizes q) c.args.add.now room c.in_ok-grown.ensures.told in
@@ -115,7 +115,7 @@ pub returns-in-None : goal.returns-in-None
 returns-in-None c =
     let r = c.self.inside.root in
     let q = c.add_borrowed_key.new.self in
-    let a : Addend = at_key c.args.add.now in
+    let a : InsertionView = at_key c.args.add.now in
     let room : ℕ = c.args.most - c.self.inside.bytes in
     let told = told_within {E = NoMemory} (Ok c.in_ok-grown.field-0) (root_nodes r) (root_nodes q)
     (root_sizes r) (root_sizes q) c.args.add.now room c.in_ok-grown.ensures.told in

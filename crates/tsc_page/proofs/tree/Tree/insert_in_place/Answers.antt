@@ -1,7 +1,7 @@
 -- What the root tells of an insertion holds of the tree.
 use Rattle.std.proofs.Common.{◌-◌, ◌+◌, ◌∙◌, ℕ, ap, subst, Ok, arith}
 use Rattle.tsc_time.specs.declared.memory.NoMemory.{NoMemory}
-use Rattle.tsc_page_nodes.specs.Additions.{Addend}
+use Rattle.tsc_page_nodes.specs.Insertions.{InsertionView}
 use Rattle.tsc_page_nodes.proofs.Costs.{node_costs}
 use Rattle.tsc_page_nodes.proofs.Ends.{ends_in_order}
 use Rattle.tsc_page_tree.specs.KeyAdds.{at_key}
@@ -26,7 +26,7 @@ pub overflow_add-self : goal.overflow_add-self
 overflow_add-self c =
     let r = c.self.inside.root in
     let q = c.insert.new.self in
-    let a : Addend = c.args.add.now in
+    let a : InsertionView = c.args.add.now in
     let room : ℕ = c.args.most - c.self.inside.bytes in
     let told = c.in_ok-more.ensures.told in
     let adds = tells_some NoMemory c.in_ok-more.field-0 c.in-Some.more (root_nodes r) (root_nodes q)
@@ -48,7 +48,7 @@ pub overflow_add-self-in-Some : goal.overflow_add-self-in-Some
 overflow_add-self-in-Some c =
     let r = c.self.inside.root in
     let q = c.insert.new.self in
-    let a : Addend = c.args.add.now in
+    let a : InsertionView = c.args.add.now in
     let room : ℕ = c.args.most - c.self.inside.bytes in
     let told = c.in_ok-more.ensures.told in
     let adds = tells_some NoMemory c.in_ok-more.field-0 c.in-Some.more (root_nodes r) (root_nodes q)
@@ -65,7 +65,7 @@ pub invariant_of-self-in-Some : goal.invariant_of-self-in-Some
 invariant_of-self-in-Some c =
     let r = c.self.inside.root in
     let q = c.insert.new.self in
-    let a : Addend = c.args.add.now in
+    let a : InsertionView = c.args.add.now in
     let room : ℕ = c.args.most - c.self.inside.bytes in
     let told = c.in_ok-more.ensures.told in
     let adds = tells_some NoMemory c.in_ok-more.field-0 c.in-Some.more (root_nodes r) (root_nodes q)
@@ -79,7 +79,7 @@ pub returns-in-Some : goal.returns-in-Some
 returns-in-Some c =
     let r = c.self.inside.root in
     let q = c.insert.new.self in
-    let a : Addend = c.args.add.now in
+    let a : InsertionView = c.args.add.now in
     let room : ℕ = c.args.most - c.self.inside.bytes in
     let told = c.in_ok-more.ensures.told in
     let adds = tells_some NoMemory c.in_ok-more.field-0 c.in-Some.more (root_nodes r) (root_nodes q)
@@ -97,7 +97,7 @@ pub invariant_of-self-in-None : goal.invariant_of-self-in-None
 invariant_of-self-in-None c =
     let r = c.self.inside.root in
     let q = c.insert.new.self in
-    let a : Addend = c.args.add.now in
+    let a : InsertionView = c.args.add.now in
     let room : ℕ = c.args.most - c.self.inside.bytes in
     let told = c.in_ok-more.ensures.told in
     let left = tells_none NoMemory c.in_ok-more.field-0 (root_nodes r) (root_nodes q) (root_sizes r)
@@ -109,7 +109,7 @@ pub returns-in-None : goal.returns-in-None
 returns-in-None c =
     let r = c.self.inside.root in
     let q = c.insert.new.self in
-    let a : Addend = c.args.add.now in
+    let a : InsertionView = c.args.add.now in
     let room : ℕ = c.args.most - c.self.inside.bytes in
     let told = c.in_ok-more.ensures.told in
     let left = tells_none NoMemory c.in_ok-more.field-0 (root_nodes r) (root_nodes q) (root_sizes r)

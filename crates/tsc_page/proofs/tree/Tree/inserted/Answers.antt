@@ -5,7 +5,7 @@ use Rattle.std.proofs.lemmas.Bool.{leb-true, leb-false}
 use Rattle.tsc_span.specs.Span.{KeyBytes, between, end_keys}
 use Rattle.tsc_span.specs.Cuts.{cut_of}
 use Rattle.tsc_page_nodes.specs.Page.{cost_distinct}
-use Rattle.tsc_page_nodes.specs.Additions.{Addend}
+use Rattle.tsc_page_nodes.specs.Insertions.{InsertionView}
 use Rattle.tsc_page_nodes.specs.Nodes.{IsSorted, node_keys}
 use Rattle.tsc_page.specs.Roots.{TreeView, Inserts, IsFullFor, root_nodes}
 use Rattle.tsc_page_nodes.proofs.Costs.{node_costs}
@@ -23,7 +23,7 @@ returns-then-not-has_room c =
     let told = room_told nodes o q all c.args.self.now.bytes c.args.most c.has_room.result
     known.sorted c.add.invariant.keys known.bytes c.has_room.ensures.value in
     record {
-      told = subst (λ (a : Addend). IsFullFor c.args.self.now a c.args.most) c.add.view_is
+      told = subst (λ (a : InsertionView). IsFullFor c.args.self.now a c.args.most) c.add.view_is
           (leb-false (cost_distinct (node_keys nodes ++ end_keys all)) c.args.most
           (sym told ∙ c.if-not-has_room.true));
     }
@@ -31,7 +31,7 @@ returns-then-not-has_room c =
 pub returns : goal.returns
 returns c =
     let r = c.self.inside.root in
-    let a : Addend = record {
+    let a : InsertionView = record {
       first = option_map (λ k. k.now) c.add.inside.first;
       second = option_map (λ k. k.now) c.add.inside.second;
       from = cut_of c.add.inside.from;
@@ -54,7 +54,7 @@ returns c =
     c.in_ok-lower.ensures.grown c.in_ok-raise_between.ensures.whole
     c.in_ok-raise_between.ensures.raised in
     record {
-      told = subst (λ (b : Addend). Inserts c.args.self.now
+      told = subst (λ (b : InsertionView). Inserts c.args.self.now
           (seen_of c.raise_between.new.self
           (c.self.inside.bytes + c.in_ok-upper.upper.more.bytes + c.in_ok-lower.lower.more.bytes)) b
           c.args.most) c.add.view_is

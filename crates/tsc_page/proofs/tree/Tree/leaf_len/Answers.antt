@@ -3,7 +3,7 @@ use Rattle.std.proofs.Common.{◌≡◌, ◌∙◌, sym, ap, ℕ, List, length, 
 use Rattle.std.specs.Prelude.{Option, Result, Ok, Err, slice_get}
 use Rattle.std.specs.Result.{result_ok}
 use Rattle.std.proofs.lemmas.Option.{slice_get_past}
-use Rattle.tsc_page_tree.specs.Pending.{TellsSize}
+use Rattle.tsc_page_tree.specs.Lazy.{TellsSize}
 use Rattle.tsc_page.specs.Roots.{TreeView, root_sizes}
 use Rattle.tsc_page_tree.proofs.Wholes.{few_of_told}
 use Rattle.tsc_page.proofs.tree.Tree.leaf_len.Goals as goal

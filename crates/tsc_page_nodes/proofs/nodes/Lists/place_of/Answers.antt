@@ -1,6 +1,6 @@
 -- The last cut lies behind all keys, which are as many as the nodes.
 use Rattle.std.proofs.Common.{sym, subst}
-use Rattle.tsc_page_nodes.specs.Numbers.{IsKeyAt}
+use Rattle.tsc_page_nodes.specs.Prefixes.{IsKeyAt}
 use Rattle.tsc_page_nodes.proofs.Apart.{long_as}
 use Rattle.tsc_page_nodes.proofs.Searches.{lies_at_key, lies_behind}
 use Rattle.tsc_page_nodes.proofs.nodes.Lists.place_of.Goals as goal
@@ -13,10 +13,10 @@ returns-in_default c =
     lies_behind c.args.self.now c.args.cut.now _
     (subst (IsKeyAt c.args.cut.now) c.in_default.is c.key.ensures) (sym long)
 
-pub returns-in-Some-near : goal.returns-in-Some-near
-returns-in-Some-near c = lies_at_key c.args.self.now c.args.cut.now c.in-Some.key _
+pub returns-in-Some-hint : goal.returns-in-Some-hint
+returns-in-Some-hint c = lies_at_key c.args.self.now c.args.cut.now c.in-Some.key _
     c.in-Some.ensures (c.stands_at.ensures.0 c.if-stands_at.true)
 
-pub returns-in_default-near : goal.returns-in_default-near
-returns-in_default-near c = lies_at_key c.args.self.now c.args.cut.now c.in-Some.key c.find.result
+pub returns-in_default-hint : goal.returns-in_default-hint
+returns-in_default-hint c = lies_at_key c.args.self.now c.args.cut.now c.in-Some.key c.find.result
     c.in-Some.ensures c.find.ensures

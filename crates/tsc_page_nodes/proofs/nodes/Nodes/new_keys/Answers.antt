@@ -22,8 +22,8 @@ returns-clause-known c known =
     c.in_ok-high.ensures.value) known.1 in
     rw (one, two) refl
 
-pub returns-clause-near : goal.returns-clause-near
-returns-clause-near c order =
+pub returns-clause-hint : goal.returns-clause-hint
+returns-clause-hint c order =
     let nodes : List Node = c.args.self.now in
     let first : Option KeyBytes = option_map (λ k. k.now) c.args.first in
     let second : Option KeyBytes = option_map (λ k. k.now) c.args.second in

@@ -1,9 +1,0 @@
--- The number is kept.
-use Rattle.std.specs.Arc.{arc_value}
-use Rattle.tsc_page_tree.proofs.Told.{told_start}
-use Rattle.tsc_page_tree.proofs.leaf.LeafPart.start_number.Goals as goal
-
-pub returns : goal.returns
-returns c =
-    let s = c.args.self.now.summary in
-    told_start s.start s.joint s.pending (arc_value c.args.self.now.nodes) c.requires.whole.told

@@ -1,0 +1,9 @@
+-- Proves the loop invariants of `subtree_at`. The place of the subtree in which a cut falls.
+use Rattle.std.proofs.Common.{◌≤◌, ◌-◌, map}
+use Rattle.tsc_page_tree.specs.Leaves.{IsNotAbove}
+use Rattle.tsc_page_tree.proofs.subtrees.subtree_at.Given as goal
+
+-- the subtree before the next one doesn't begin above the cut
+abbrev pub invariant-loop-next : goal.invariant-loop-next
+invariant-loop-next g l = (1 ≤ l.next) × IsNotAbove (map g.P.Subtree.nodes l.subtrees)
+    l.cut (l.next - 1)

@@ -1,0 +1,566 @@
+ghost use Rattle.std.specs.Prelude.{◌≡◌, ℕ, List, ◌≤◌, ◌<◌, ◌+◌, ◌++◌, ◌∷◌, [], ◌||◌, suc, map, length, drop, slice_index_or, option_map, option_to_list, OnOk, IfOk, IfSome, not, true, false};
+ghost use Rattle.std.specs.List.{All};
+ghost use Rattle.tsc_time.specs.Joint.{joint};
+ghost use Rattle.tsc_span.specs.Span.{before, last, is_below, between, point};
+ghost use Rattle.tsc_span.specs.Cuts.{cut_of};
+ghost use Rattle.tsc_page_nodes.specs.Prefixes.{IsCutPrefix};
+ghost use Rattle.tsc_page_nodes.specs.PageView.{is_in};
+ghost use Rattle.tsc_page_nodes.specs.KeysAbove.{first_above};
+ghost use Rattle.tsc_page_nodes.specs.Nodes.{Node, node_keys, answer_of, raise_nodes};
+ghost use Rattle.tsc_page_tree.specs.Leaves.{AreSubtrees, GoesBeyond, HasNode, IsLeafAt, IsNotAbove, IsSubtree, nodes_of, start_of};
+ghost use Rattle.tsc_page_tree.specs.Lazy.{everything, all_joint, sizes_of, AreSizesOf, TellsSize, IsAddTold};
+ghost use Rattle.tsc_page_tree.specs.Copies.{IsSameAs, KeepsSizes};
+ghost use Rattle.tsc_page_tree.specs.Across.{IsAcrossTold};
+ghost use Rattle.tsc_page_tree.specs.KeyAdds.{IsKeyAddTold};
+
+use crate::across;
+use std::alloc::Global;
+use tsc_page_nodes::{Growth, KeyInsertion, KeyPrefix, PrefixedCut, PrefixedInsertion, SearchKey};
+use tsc_span::{Cut, Key, KeyRef};
+use tsc_time::{NoMemory, Timestamp, Value, ratchet};
+
+/// How far the subtrees stand from one another that a search looks at first.
+const STRIDE: usize = 8;
+
+/// Nodes that stand in a list with others of their kind, one after another.
+pub trait Subtree: Clone + Drop {
+    ghost nodes: { Self → List Node };
+
+    ghost sizes: { Self → List ℕ };
+
+    ghost IsWhole: { Self → Type 0 };
+
+    /// Whether a cut lies below where the subtree begins.
+    fn starts_above(&self, cut: &PrefixedCut<'_>) -> bool
+        requires whole { IsWhole self.now }
+        ensures { result ≡ is_below cut.now (start_of (nodes self.now)) };
+
+    /// Whether a cut lies above where the subtree begins.
+    fn starts_below(&self, cut: &PrefixedCut<'_>) -> bool
+        requires whole { IsWhole self.now }
+        ensures { result ≡ is_below (start_of (nodes self.now)) cut.now };
+
+    /// The prefix of where the subtree begins.
+    fn start_prefix(&self) -> KeyPrefix
+        requires whole { IsWhole self.now }
+        ensures { IsCutPrefix result (start_of (nodes self.now)) };
+
+    /// The joint value of all keys and gaps.
+    fn joint(&self) -> Value
+        requires whole { IsWhole self.now }
+        ensures { result ≡ all_joint (nodes self.now) };
+
+    /// The joint value of the keys and gaps between two cuts.
+    fn join_between(&self, from: &PrefixedCut<'_>, to: &PrefixedCut<'_>) -> Value
+        requires subtree { IsSubtree nodes IsWhole self.now }
+        requires order { is_below from.now to.now ≡ true }
+        ensures { result ≡ answer_of (nodes self.now) (between from.now to.now) };
+
+    /// The joint value of what overlaps a key.
+    fn value_at(&self, key: &SearchKey<'_>) -> Value
+        requires subtree { IsSubtree nodes IsWhole self.now }
+        ensures { result ≡ answer_of (nodes self.now) (point key.now) };
+
+    /// Whether this is a key that has no node.
+    fn is_new(&self, key: &KeyRef<'_>) -> bool
+        requires subtree { IsSubtree nodes IsWhole self.now }
+        ensures { result ≡ not (is_in key.now (node_keys (nodes self.now))) };
+
+    /// The least key above a cut. It takes no memory.
+    fn key_above(&self, cut: &PrefixedCut<'_>) -> Option<&Key>
+        requires subtree { IsSubtree nodes IsWhole self.now }
+        ensures { option_map (λ k. k.now) result ≡ first_above cut.now
+            (node_keys (nodes self.now)) };
+
+    /// How many nodes a leaf has; `Err` tells how many places behind the last leaf this is.
+    fn leaf_len(&self, place: usize) -> Result<usize, usize>
+        ensures { TellsSize (sizes self.now) place result };
+
+    /// Ratchets a value into all keys and gaps. It takes no memory, and looks into nothing.
+    fn raise_whole(&mut self, value: Value)
+        requires subtree { IsSubtree nodes IsWhole self.old }
+        ensures raised { nodes self.new ≡ raise_nodes everything value (nodes self.old) }
+        ensures sizes { sizes self.new ≡ sizes self.old }
+        ensures whole { IsWhole self.new };
+
+    /// Ratchets a value into the keys and gaps between two cuts, and changes nothing that others
+    /// hold. Where memory is refused nothing is known of the subtree.
+    fn raise_between(&mut self, from: Cut<'_>, to: Cut<'_>, value: Value) -> Result<(), NoMemory>
+        requires subtree { IsSubtree nodes IsWhole self.old }
+        requires order { is_below (cut_of from) (cut_of to) ≡ true }
+        ensures raised { OnOk result
+            (nodes self.new ≡ raise_nodes (between (cut_of from.entry) (cut_of to.entry)) value
+            (nodes self.old)) }
+        ensures whole { OnOk result (IsWhole self.new) };
+
+    /// Makes a node of a key, where it has none, and changes nothing that others hold. Where the
+    /// subtree grows too long it is cut, and tells the subtree behind. Where memory is refused
+    /// nothing is known of the subtree.
+    fn make_node(&mut self, alloc: Global, key: &KeyRef<'_>) -> Result<Option<Self>, NoMemory>
+        requires subtree { IsSubtree nodes IsWhole self.old }
+        ensures made { IfOk result
+            (λ upper. HasNode (nodes self.old)
+            (nodes self.new ++ nodes_of (map nodes (option_to_list upper))) key.now) }
+        ensures whole { OnOk result (IsWhole self.new) }
+        ensures upper { IfOk result (λ upper. IfSome upper IsWhole) };
+
+    /// Adds in place, and tells what came in: where the span lies in one leaf, which need not be
+    /// cut, and what comes in costs no more than `room`; or where both end keys have nodes, and
+    /// nobody else holds a way to the leaves in which the span starts and stops. Else nothing
+    /// changes, nor where memory is refused. What others hold on the way down is copied first, as
+    /// far as one subtree has all of the span, and stays as it is for them.
+    fn add_within(
+        &mut self,
+        add: &PrefixedInsertion<'_>,
+        room: u32,
+    ) -> Result<Option<Growth>, NoMemory>
+        requires subtree { IsSubtree nodes IsWhole self.old }
+        ensures told { IsAddTold (nodes self.old) (nodes self.new) (sizes self.old) (sizes self.new)
+            add.now room result }
+        ensures whole { IsWhole self.new };
+
+    /// Adds at a single key in place, and tells what came in: where the key doesn't lie below the
+    /// subtree, and a leaf that gets a node of it need not be cut, has a list of keys of its own,
+    /// and costs no more than `room` with it. Else nothing changes, nor where memory is refused.
+    /// Lazy values on the way stay. What others hold on the way down is copied first.
+    fn add_key(&mut self, add: &KeyInsertion<'_>, room: u32) -> Result<Option<Growth>, NoMemory>
+        requires subtree { IsSubtree nodes IsWhole self.old }
+        ensures told { IsKeyAddTold (nodes self.old) (nodes self.new) (sizes self.old)
+            (sizes self.new) add.now room result }
+        ensures whole { IsWhole self.new };
+
+    /// Ratchets a value in place into what lies above the lower cut in one subtree, and below the
+    /// upper one in a subtree behind it, and says whether it did: where each end key has a node
+    /// there, and nobody else holds a way to the leaves in which the span starts and stops. Else
+    /// nothing changes. It takes no memory.
+    fn raise_across(low: &mut Self, high: &mut Self, add: &PrefixedInsertion<'_>) -> bool
+        requires low { IsSubtree nodes IsWhole low.old }
+        requires high { IsSubtree nodes IsWhole high.old }
+        requires reaches { is_below (start_of (nodes high.old)) add.now.to ≡ true }
+        ensures told { IsAcrossTold (nodes low.old) (nodes low.new) (nodes high.old)
+            (nodes high.new) add.now result }
+        ensures low { KeepsSizes sizes IsWhole low.old low.new }
+        ensures high { KeepsSizes sizes IsWhole high.old high.new };
+
+    ghost some: { (p : Self) → IsWhole p → 1 ≤ length (nodes p) };
+
+    ghost counted: { (p : Self) → IsWhole p → AreSizesOf (sizes p) (nodes p) };
+
+    ghost copied: { (p q : Self) → Self.is_clone p q → IsSameAs nodes sizes IsWhole p q };
+}
+
+/// The place of the subtree in which a cut falls. It looks at every eighth subtree, and from the
+/// last of these that doesn't begin above the cut on at one after another. No look has to wait for
+/// what another one reads, as in a binary search, so the processor reads ahead.
+pub(crate) fn subtree_at<P: Subtree>(subtrees: &[P], cut: &PrefixedCut<'_>) -> usize
+    requires whole { All P.IsWhole subtrees.now }
+    ensures { IsLeafAt (map P.nodes subtrees.now) cut.now result }
+{
+    for next in stride_at(subtrees, cut) + 1..subtrees.len() {
+        if subtrees[next].starts_above(cut) {
+            return next - 1;
+        }
+    }
+    subtrees.len().saturating_sub(1)
+}
+
+/// The last of every eighth place, from the first one on, at which no subtree begins above a cut.
+fn stride_at<P: Subtree>(subtrees: &[P], cut: &PrefixedCut<'_>) -> usize
+    requires whole { All P.IsWhole subtrees.now }
+    ensures { IsNotAbove (map P.nodes subtrees.now) cut.now result }
+{
+    let mut low = 0;
+    let mut place = 0;
+    while subtrees.len() - place > STRIDE {
+        place += STRIDE;
+        if !subtrees[place].starts_above(cut) {
+            low = place;
+        }
+    }
+    low
+}
+
+/// Whether a cut lies below where subtrees begin.
+pub(crate) fn first_starts_above<P: Subtree>(subtrees: &[P], cut: &PrefixedCut<'_>) -> bool
+    requires whole { All P.IsWhole subtrees.now }
+    ensures { result ≡ is_below cut.now (start_of (nodes_of (map P.nodes subtrees.now))) }
+{
+    match subtrees.first() {
+        Some(first) => first.starts_above(cut),
+        None => cut.is_below_last(),
+    }
+}
+
+/// Whether a cut lies above where subtrees begin.
+pub(crate) fn first_starts_below<P: Subtree>(subtrees: &[P], cut: &PrefixedCut<'_>) -> bool
+    requires whole { All P.IsWhole subtrees.now }
+    ensures { result ≡ is_below (start_of (nodes_of (map P.nodes subtrees.now))) cut.now }
+{
+    match subtrees.first() {
+        Some(first) => first.starts_below(cut),
+        None => false,
+    }
+}
+
+/// Whether what stops at a cut goes on beyond a subtree.
+fn goes_on<P: Subtree>(subtrees: &[P], place: usize, to: &PrefixedCut<'_>) -> bool
+    requires whole { All P.IsWhole subtrees.now }
+    requires bound { place < length subtrees.now }
+    ensures { result ≡ is_below (start_of (nodes_of (drop (suc place) (map P.nodes subtrees.now))))
+        to.now }
+{
+    match subtrees.get(place + 1) {
+        Some(next) => next.starts_below(to),
+        None => false,
+    }
+}
+
+/// The joint value of the keys and gaps of subtrees between two cuts, which mostly is that of one
+/// subtree.
+pub fn join_between<P: Subtree>(
+    subtrees: &[P],
+    from: &PrefixedCut<'_>,
+    to: &PrefixedCut<'_>,
+) -> Value
+    requires subtrees { AreSubtrees P.nodes P.IsWhole subtrees.now }
+    requires order { is_below from.now to.now ≡ true }
+    ensures { result ≡ answer_of (nodes_of (map P.nodes subtrees.now)) (between from.now to.now) }
+{
+    let place = subtree_at(subtrees, from);
+    if place >= subtrees.len() {
+        return Value::unowned(Timestamp::ZERO);
+    }
+    if goes_on(subtrees, place, to) {
+        joint_beyond(subtrees, place, from, to)
+    } else {
+        subtrees[place].join_between(from, to)
+    }
+}
+
+/// The same, where the span goes on beyond the subtree in which it starts. The subtrees at its ends
+/// come last, and are looked into only where they can change what all others answer.
+fn joint_beyond<P: Subtree>(
+    subtrees: &[P],
+    first: usize,
+    from: &PrefixedCut<'_>,
+    to: &PrefixedCut<'_>,
+) -> Value
+    requires subtrees { AreSubtrees P.nodes P.IsWhole subtrees.now }
+    requires order { is_below from.now to.now ≡ true }
+    requires goes { GoesBeyond P.nodes subtrees.now from.now to.now first }
+    ensures { result ≡ answer_of (nodes_of (map P.nodes subtrees.now)) (between from.now to.now) }
+{
+    let last = PrefixedCut::new(Cut::Last);
+    let best = joint_below(subtrees, first + 1, to);
+    joined(best, &subtrees[first], from, &last)
+}
+
+/// The joint value of the keys and gaps below a cut of the subtrees from a place on.
+fn joint_below<P: Subtree>(subtrees: &[P], start: usize, to: &PrefixedCut<'_>) -> Value
+    requires subtrees { AreSubtrees P.nodes P.IsWhole subtrees.now }
+    requires order { is_below (before []) to.now ≡ true }
+    ensures { result ≡ answer_of (nodes_of (drop start (map P.nodes subtrees.now)))
+        (between (before []) to.now) }
+{
+    let least = PrefixedCut::new(Cut::Before(&[]));
+    let mut best = Value::unowned(Timestamp::ZERO);
+    for place in start..subtrees.len() {
+        if !goes_on(subtrees, place, to) {
+            return joined(best, &subtrees[place], &least, to);
+        }
+        best.raise(&subtrees[place].joint());
+    }
+    best
+}
+
+/// Joins the keys and gaps of a subtree between two cuts into the best so far. The subtree is
+/// looked into only where the joint value of all its keys and gaps would change that.
+fn joined<P: Subtree>(
+    best: Value,
+    subtree: &P,
+    from: &PrefixedCut<'_>,
+    to: &PrefixedCut<'_>,
+) -> Value
+    requires subtree { IsSubtree P.nodes P.IsWhole subtree.now }
+    requires order { is_below from.now to.now ≡ true }
+    ensures { result ≡ joint best (answer_of (P.nodes subtree.now) (between from.now to.now) ∷ []) }
+{
+    if changes(best, subtree.joint()) {
+        ratchet(best, seen_of(subtree, from, to)).0
+    } else {
+        best
+    }
+}
+
+/// Whether a value changes the best so far.
+fn changes(best: Value, value: Value) -> bool
+    ensures { result ≡ false → joint best (value ∷ []) ≡ best }
+{
+    ratchet(best, value).1
+}
+
+/// The joint value of the keys and gaps of a subtree between two cuts. Where these leave nothing
+/// out the subtree isn't looked into.
+fn seen_of<P: Subtree>(subtree: &P, from: &PrefixedCut<'_>, to: &PrefixedCut<'_>) -> Value
+    requires subtree { IsSubtree P.nodes P.IsWhole subtree.now }
+    requires order { is_below from.now to.now ≡ true }
+    ensures { result ≡ answer_of (P.nodes subtree.now) (between from.now to.now) }
+{
+    if leaves_out(subtree, from, to) {
+        subtree.join_between(from, to)
+    } else {
+        subtree.joint()
+    }
+}
+
+/// Whether some of a subtree may lie outside of two cuts.
+fn leaves_out<P: Subtree>(subtree: &P, from: &PrefixedCut<'_>, to: &PrefixedCut<'_>) -> bool
+    requires whole { P.IsWhole subtree.now }
+    ensures { result ≡ (is_below to.now last || is_below
+        (start_of (P.nodes subtree.now)) from.now) }
+{
+    to.is_below_last() || subtree.starts_below(from)
+}
+
+/// The joint value of what overlaps a key in subtrees, which is that of the subtree in which it
+/// falls.
+pub fn value_at<P: Subtree>(subtrees: &[P], key: &SearchKey<'_>) -> Value
+    requires subtrees { AreSubtrees P.nodes P.IsWhole subtrees.now }
+    ensures { result ≡ answer_of (nodes_of (map P.nodes subtrees.now)) (point key.now) }
+{
+    match subtrees.get(subtree_at(subtrees, key.at())) {
+        Some(subtree) => subtree.value_at(key),
+        None => Value::unowned(Timestamp::ZERO),
+    }
+}
+
+/// Whether this is a key that has no node in subtrees.
+pub fn is_new<P: Subtree>(subtrees: &[P], key: &KeyRef<'_>) -> bool
+    requires subtrees { AreSubtrees P.nodes P.IsWhole subtrees.now }
+    ensures { result ≡ not (is_in key.now (node_keys (nodes_of (map P.nodes subtrees.now)))) }
+{
+    let cut = PrefixedCut::new(Cut::Before(key.bytes()));
+    match subtrees.get(subtree_at(subtrees, &cut)) {
+        Some(subtree) => subtree.is_new(key),
+        None => true,
+    }
+}
+
+/// The least key of subtrees above a cut: that of the subtree in which the cut falls, or else the
+/// first one of the next subtree.
+pub fn key_above<'a, P: Subtree>(subtrees: &'a [P], cut: &PrefixedCut<'_>) -> Option<&'a Key>
+    requires subtrees { AreSubtrees P.nodes P.IsWhole subtrees.now }
+    ensures { option_map (λ k. k.now) result ≡ first_above cut.now
+        (node_keys (nodes_of (map P.nodes subtrees.now))) }
+{
+    let place = subtree_at(subtrees, cut);
+    match key_in(subtrees, place, cut) {
+        Some(key) => Some(key),
+        None => key_in(subtrees, place + 1, cut),
+    }
+}
+
+/// The least key above a cut in the subtree at a place, where there is one.
+fn key_in<'a, P: Subtree>(subtrees: &'a [P], place: usize, cut: &PrefixedCut<'_>) -> Option<&'a Key>
+    requires subtrees { AreSubtrees P.nodes P.IsWhole subtrees.now }
+    ensures { option_map (λ k. k.now) result ≡ first_above cut.now
+        (node_keys (slice_index_or (map P.nodes subtrees.now) place [])) }
+{
+    match subtrees.get(place) {
+        Some(subtree) => subtree.key_above(cut),
+        None => None,
+    }
+}
+
+/// Ratchets a value into the keys and gaps of subtrees between two cuts. Where memory is refused,
+/// some may be raised and others not.
+pub fn raise_between<P: Subtree>(
+    subtrees: &mut [P],
+    from: Cut<'_>,
+    to: Cut<'_>,
+    value: Value,
+) -> Result<(), NoMemory>
+    requires subtrees { AreSubtrees P.nodes P.IsWhole subtrees.old }
+    requires order { is_below (cut_of from) (cut_of to) ≡ true }
+    ensures raised { OnOk result (nodes_of (map P.nodes subtrees.new) ≡
+        raise_nodes (between (cut_of from.entry) (cut_of to.entry)) value
+        (nodes_of (map P.nodes subtrees.old))) }
+    ensures whole { OnOk result (All P.IsWhole subtrees.new) }
+    ensures len { length subtrees.new ≡ length subtrees.old }
+{
+    let end = PrefixedCut::new(to);
+    let first = subtree_at(subtrees, &PrefixedCut::new(from));
+    if first >= subtrees.len() {
+        return Ok(());
+    }
+    if goes_on(subtrees, first, &end) {
+        raise_beyond(subtrees, first, from, &end, value)
+    } else {
+        subtrees[first].raise_between(from, to, value)
+    }
+}
+
+/// The same, where the span goes on beyond the subtree in which it starts. The subtrees that lie
+/// wholly within it are not looked into.
+fn raise_beyond<P: Subtree>(
+    subtrees: &mut [P],
+    first: usize,
+    from: Cut<'_>,
+    to: &PrefixedCut<'_>,
+    value: Value,
+) -> Result<(), NoMemory>
+    requires subtrees { AreSubtrees P.nodes P.IsWhole subtrees.old }
+    requires order { is_below (cut_of from) to.now ≡ true }
+    requires goes { GoesBeyond P.nodes subtrees.old (cut_of from) to.now first }
+    ensures raised { OnOk result (nodes_of (map P.nodes subtrees.new) ≡
+        raise_nodes (between (cut_of from.entry) to.now) value
+        (nodes_of (map P.nodes subtrees.old))) }
+    ensures whole { OnOk result (All P.IsWhole subtrees.new) }
+    ensures len { length subtrees.new ≡ length subtrees.old }
+{
+    subtrees[first].raise_between(from, Cut::Last, value)?;
+    for place in first + 1..subtrees.len() {
+        if !goes_on(subtrees, place, to) {
+            return subtrees[place].raise_between(Cut::Before(&[]), to.cut(), value);
+        }
+        subtrees[place].raise_whole(value);
+    }
+    Ok(())
+}
+
+/// Ratchets a value into all keys and gaps of subtrees.
+pub(crate) fn raise_all<P: Subtree>(subtrees: &mut [P], value: Value)
+    requires subtrees { AreSubtrees P.nodes P.IsWhole subtrees.old }
+    ensures raised { nodes_of (map P.nodes subtrees.new) ≡ raise_nodes everything value
+        (nodes_of (map P.nodes subtrees.old)) }
+    ensures sizes { map P.sizes subtrees.new ≡ map P.sizes subtrees.old }
+    ensures whole { All P.IsWhole subtrees.new }
+    ensures len { length subtrees.new ≡ length subtrees.old }
+{
+    for place in 0..subtrees.len() {
+        subtrees[place].raise_whole(value);
+    }
+}
+
+/// Makes a node of a key, where it has none, in the subtree in which it falls.
+pub fn make_node<P: Subtree>(
+    subtrees: &mut Vec<P>,
+    alloc: Global,
+    key: &KeyRef<'_>,
+) -> Result<(), NoMemory>
+    requires subtrees { AreSubtrees P.nodes P.IsWhole subtrees.old.items }
+    requires some { 1 ≤ length subtrees.old.items }
+    ensures made { OnOk result (HasNode (nodes_of (map P.nodes subtrees.old.items))
+        (nodes_of (map P.nodes subtrees.new.items)) key.now) }
+    ensures whole { OnOk result (All P.IsWhole subtrees.new.items) }
+    ensures few { OnOk result ((length subtrees.old.items ≤ length subtrees.new.items) ×
+        (length subtrees.new.items ≤ length subtrees.old.items + 1)) }
+{
+    let cut = PrefixedCut::new(Cut::Before(key.bytes()));
+    let place = subtree_at(subtrees, &cut);
+    if let Some(upper) = subtrees[place].make_node(alloc, key)? {
+        subtrees.insert(place + 1, upper)?;
+    }
+    Ok(())
+}
+
+/// The prefix of where subtrees begin.
+pub(crate) fn start_prefix<P: Subtree>(subtrees: &[P]) -> KeyPrefix
+    requires whole { All P.IsWhole subtrees.now }
+    ensures { IsCutPrefix result (start_of (nodes_of (map P.nodes subtrees.now))) }
+{
+    match subtrees.first() {
+        Some(first) => first.start_prefix(),
+        None => KeyPrefix::greatest(),
+    }
+}
+
+/// The joint value of all keys and gaps of subtrees.
+pub(crate) fn joint<P: Subtree>(subtrees: &[P]) -> Value
+    requires subtrees { AreSubtrees P.nodes P.IsWhole subtrees.now }
+    ensures { result ≡ all_joint (nodes_of (map P.nodes subtrees.now)) }
+{
+    let mut best = Value::unowned(Timestamp::ZERO);
+    for subtree in subtrees {
+        best.raise(&subtree.joint());
+    }
+    best
+}
+
+/// How many nodes a leaf has among those of subtrees; `Err` tells how many places behind the last
+/// leaf this is.
+pub fn leaf_len<P: Subtree>(subtrees: &[P], place: usize) -> Result<usize, usize>
+    ensures { TellsSize (sizes_of (map P.sizes subtrees.now)) place result }
+{
+    let mut place = place;
+    for subtree in subtrees {
+        match subtree.leaf_len(place) {
+            Ok(len) => return Ok(len),
+            Err(rest) => place = rest,
+        }
+    }
+    Err(place)
+}
+
+/// Adds in place to the subtree in which the span lies, or over several subtrees where the end keys
+/// have nodes.
+pub fn add_within<P: Subtree>(
+    subtrees: &mut [P],
+    add: &PrefixedInsertion<'_>,
+    room: u32,
+) -> Result<Option<Growth>, NoMemory>
+    requires subtrees { AreSubtrees P.nodes P.IsWhole subtrees.old }
+    ensures told { IsAddTold (nodes_of (map P.nodes subtrees.old))
+        (nodes_of (map P.nodes subtrees.new))
+        (sizes_of (map P.sizes subtrees.old)) (sizes_of (map P.sizes subtrees.new)) add.now
+        room result }
+    ensures whole { All P.IsWhole subtrees.new }
+    ensures len { length subtrees.new ≡ length subtrees.old }
+{
+    let place = subtree_at(subtrees, add.from);
+    if place >= subtrees.len() {
+        return Ok(None);
+    }
+    if goes_on(subtrees, place, add.to) {
+        let nothing = Growth { nodes: 0, bytes: 0 };
+        return Ok(across::raise_over(subtrees, place, add).then_some(nothing));
+    }
+    if stops_at_next(subtrees, place, add.to) {
+        subtrees[place].add_within(&add.before_second(), room)
+    } else {
+        subtrees[place].add_within(add, room)
+    }
+}
+
+/// Adds at a single key in place, to the subtree in which it falls.
+pub fn add_key<P: Subtree>(
+    subtrees: &mut [P],
+    add: &KeyInsertion<'_>,
+    room: u32,
+) -> Result<Option<Growth>, NoMemory>
+    requires subtrees { AreSubtrees P.nodes P.IsWhole subtrees.old }
+    ensures told { IsKeyAddTold (nodes_of (map P.nodes subtrees.old))
+        (nodes_of (map P.nodes subtrees.new)) (sizes_of (map P.sizes subtrees.old))
+        (sizes_of (map P.sizes subtrees.new)) add.now room result }
+    ensures whole { All P.IsWhole subtrees.new }
+    ensures len { length subtrees.new ≡ length subtrees.old }
+{
+    let place = subtree_at(subtrees, add.search().at());
+    if place >= subtrees.len() {
+        return Ok(None);
+    }
+    subtrees[place].add_key(add, room)
+}
+
+/// Whether what doesn't go on beyond a subtree stops right where the next one begins.
+pub(crate) fn stops_at_next<P: Subtree>(subtrees: &[P], place: usize, to: &PrefixedCut<'_>) -> bool
+    requires whole { All P.IsWhole subtrees.now }
+    requires bound { place < length subtrees.now }
+    ensures { result ≡ not (is_below to.now
+        (start_of (nodes_of (drop (suc place) (map P.nodes subtrees.now))))) }
+{
+    match subtrees.get(place + 1) {
+        Some(next) => !next.starts_above(to),
+        None => !to.is_below_last(),
+    }
+}
